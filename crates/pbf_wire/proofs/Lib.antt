@@ -1,0 +1,14 @@
+pub mod Varints
+pub mod Spellings
+pub mod Shortest
+pub mod Items
+pub mod Cutting
+pub mod Columns
+pub mod Written
+pub mod SumLemmas
+pub mod PackedLemmas
+pub mod WritingLemmas
+pub mod CountLemmas
+pub mod LeastLemmas
+pub mod PlaceLemmas
+pub mod MessageLemmas

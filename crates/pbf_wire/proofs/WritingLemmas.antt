@@ -1,0 +1,70 @@
+-- A message is written slot by slot.
+use Rattle.std.proofs.Common.{◌≡◌, ℕ, zero, suc, ◌+◌, ◌*◌, ◌/◌, ◌%◌, ◌<◌, true, false, cond, ltb, List, [], ◌∷◌, ◌++◌, length, Some, refl, sym, ap, ◌∙◌, arith, length-append, append_assoc}
+use Rattle.std.specs.List.{flat_map}
+use Rattle.std.proofs.lemmas.List.{append-nil}
+use Rattle.std.proofs.lemmas.Grind.{flat_map-append}
+use Rattle.pbf_wire.specs.Varint.{shortest, spelled_within}
+use Rattle.pbf_wire.specs.Columns.{packed}
+use Rattle.pbf_wire.specs.Writing.{spelling}
+use Rattle.pbf_wire.specs.Message.{Slot, Scalar, Column, Each, parts_of, slot_bytes, message}
+
+spelled_positive : (n v : ℕ) → 0 < length (spelled_within n v)
+unfolding spelled_within
+spelled_positive zero v = omega arith
+spelled_positive (suc n) v =
+    elim (ltb v 128) as (λ b. 0 < length (cond b (v ∷ []) ((v % 128 + 128) ∷ spelled_within n (v / 128)))) [ true ↦ omega arith | false ↦ omega arith ]
+
+-- each spelling takes a byte
+pub shortest_positive : (v : ℕ) → 0 < length (shortest v)
+unfolding shortest
+shortest_positive v = spelled_positive 9 v
+
+pub scalar_bytes : (number value : ℕ) → slot_bytes (Scalar number (Some value)) ≡ shortest (number * 8) ++ shortest value
+unfolding slot_bytes
+scalar_bytes number value = append-nil _
+
+pub each_bytes : (number : ℕ) (bytes : List ℕ) → slot_bytes (Each number (bytes ∷ [])) ≡ shortest (number * 8 + 2) ++ (shortest (length bytes) ++ bytes)
+unfolding slot_bytes
+each_bytes number bytes = append-nil _
+
+pub number_put : (number value : ℕ) (old tagged new : List ℕ) → tagged ≡ old ++ shortest (number * 8) → new ≡ tagged ++ shortest value → new ≡ old ++ slot_bytes (Scalar number (Some value))
+number_put number value old tagged new e f = rw (scalar_bytes number value, f, e) (append_assoc old (shortest (number * 8)) (shortest value))
+
+pub bytes_put : (number : ℕ) (bytes old tagged sized new : List ℕ) → tagged ≡ old ++ shortest (number * 8 + 2) → sized ≡ tagged ++ shortest (length bytes) → new ≡ sized ++ bytes → new ≡ old ++ slot_bytes (Each number (bytes ∷ []))
+bytes_put number bytes old tagged sized new e f g = rw (each_bytes number bytes, g, f, e) (simp append_assoc)
+
+-- a column that is empty has no bytes
+pub column_empty : (number : ℕ) (values : List ℕ) → length (packed values) ≡ 0 → slot_bytes (Column number values) ≡ []
+unfolding slot_bytes
+column_empty number [] e = refl
+column_empty number (v ∷ vs) e = absurd (omega (arith, length-append (shortest v) (packed vs), shortest_positive v))
+
+pub column_bytes : (number : ℕ) (values : List ℕ) → 0 < length (packed values) → slot_bytes (Column number values) ≡ slot_bytes (Each number (packed values ∷ []))
+unfolding slot_bytes
+column_bytes number [] h = absurd (omega arith)
+column_bytes number (v ∷ vs) h = refl
+
+pub one_column : (number : ℕ) (old new column values : List ℕ) → column ≡ packed values → 0 < length column → new ≡ old ++ slot_bytes (Each number (column ∷ [])) → new ≡ old ++ slot_bytes (Column number values)
+one_column number old new column values e h is =
+    is ∙ ap (λ (w : List ℕ). old ++ w) (ap (λ (c : List ℕ). slot_bytes (Each number (c ∷ []))) e ∙ sym (column_bytes number values (omega (arith, ap (λ (c : List ℕ). length c) e))))
+
+pub no_column : (number : ℕ) (old column values : List ℕ) → column ≡ packed values → length column ≡ 0 → old ≡ old ++ slot_bytes (Column number values)
+no_column number old column values e h = sym (ap (λ (w : List ℕ). old ++ w) (column_empty number values (sym (ap (λ (c : List ℕ). length c) e) ∙ h)) ∙ append-nil old)
+
+-- ---- for those who write a whole message
+
+pub message_first : (s : Slot) (slots : List Slot) → message (s ∷ slots) ≡ slot_bytes s ++ message slots
+unfolding message slot_bytes
+message_first s slots = flat_map-append spelling (parts_of s) (flat_map parts_of slots)
+
+pub message_none : message [] ≡ []
+unfolding message
+message_none = refl
+
+-- one more slot is written
+pub one_more : (s : Slot) (slots : List Slot) (old new all : List ℕ) → new ≡ old ++ slot_bytes s → all ≡ new ++ message slots → all ≡ old ++ message (s ∷ slots)
+one_more s slots old new all e h =
+    h ∙ ap (λ (w : List ℕ). w ++ message slots) e ∙ append_assoc old (slot_bytes s) (message slots) ∙ ap (λ (w : List ℕ). old ++ w) (sym (message_first s slots))
+
+pub all_written : (all : List ℕ) → all ≡ all ++ message []
+all_written all = sym (ap (λ (w : List ℕ). all ++ w) message_none ∙ append-nil all)

@@ -1,0 +1,13 @@
+use Rattle.std.proofs.Common.{◌≡◌, None}
+use Rattle.std.specs.List.{last_or}
+use Rattle.pbf_wire.specs.Occurrence.{items, found}
+use Rattle.pbf_wire.specs.Reading.{numbers}
+use Rattle.pbf_wire.specs.Cursors.{fields_left}
+use Rattle.pbf_wire.proofs.reading.last_number.Given as goal
+
+abbrev pub invariant-loop-item : goal.invariant-loop-item
+invariant-loop-item l = record {
+  can : (goal.iterator-loop-item).can_next l.item-iterator;
+  ends : (goal.iterator-loop-item).is_finite l.item-iterator;
+  so_far : last_or l.last (numbers l.number (found (fields_left l.item-iterator))) ≡ last_or None (numbers l.number (found (items l.at l.message)));
+}

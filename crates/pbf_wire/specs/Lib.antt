@@ -1,0 +1,15 @@
+pub mod Reasons
+pub mod Least
+pub mod Varint
+pub mod Occurrence
+pub mod Payload
+pub mod Fields
+pub mod Reading
+pub mod Columns
+pub mod Cursors
+pub mod Wire
+pub mod Signed
+pub mod Sums
+pub mod Packed
+pub mod Writing
+pub mod Message

@@ -1,0 +1,118 @@
+//! A column: the numbers of all occurrences of one field, packed or single, joined.
+
+ghost use Rattle.std.specs.Prelude.{◌≡◌, ◌∷◌, [], MatchOption, ⊤};
+ghost use Rattle.pbf_wire.specs.Columns.{entries, read_entries};
+
+use crate::field::Payload;
+use crate::fields::Fields;
+use crate::varint::first_varint;
+
+/// The first number of a packed occurrence, and the bytes after it.
+fn first_entry(packed: &[u8]) -> Option<(u64, &[u8])>
+    ensures { MatchOption result (read_entries (entries packed.now) ≡ [])
+        (λ found. read_entries (entries packed.now) ≡ found.0 ∷ read_entries (entries found.1.now)) }
+{
+    match first_varint(packed) {
+        Ok((value, length)) => Some((value, &packed[length..])),
+        Err(_) => None,
+    }
+}
+
+/// A cursor over a column: it gives the numbers of all occurrences of one field in order, and tells where the occurrence
+/// of the last one stands. It takes no memory, and a copy of it goes on by itself.
+#[derive(Clone, Copy, Debug)]
+pub struct Column<'a> {
+    fields: Fields<'a>,
+    number: u64,
+    /// What is left of the packed occurrence that was begun, and its place.
+    packed: &'a [u8],
+    packed_place: u64,
+    place: u64,
+}
+
+impl<'a> Column<'a> {
+    ghost use Rattle.std.specs.Prelude.{◌+◌, ◌≤◌, ◌^◌, length};
+    ghost use Rattle.pbf_wire.specs.Occurrence.{items, found};
+    ghost use Rattle.pbf_wire.specs.Columns.{joined};
+    ghost use Rattle.pbf_wire.specs.Cursors.{column_left, place_of};
+
+    /// The column that the field of this number is, in a message whose first byte stands at `at` in the file.
+    #[tactic(auto, unfolding(crate::specs::Cursors::column_left))]
+    pub fn new(message: &'a [u8], at: u64, number: u64) -> Self
+        requires { at + length message.now ≤ 2 ^ 63 }
+        ensures left { column_left result ≡ joined number (found (items at message.now)) }
+        ensures place { place_of result ≡ at }
+    {
+        Column {
+            fields: Fields::new(message, at),
+            number,
+            packed: &[],
+            packed_place: at,
+            place: at,
+        }
+    }
+
+    /// Where the occurrence of the last number given stands in the file; the message's place before the first.
+    pub fn place(&self) -> u64
+        ensures { result ≡ place_of self.now }
+    {
+        self.place
+    }
+
+    /// The next number, by what is left of the packed occurrence that was begun, and then by the fields after it.
+    #[tactic(auto, unfolding(crate::specs::Cursors::column_left, crate::specs::Occurrence::items_past))]
+    fn advance(&mut self) -> Option<u64>
+        ensures { MatchOption result ((column_left self.old ≡ []) × (column_left self.new ≡ []) × (place_of self.new ≡ place_of self.old))
+            (λ value. column_left self.old ≡ (value, place_of self.new) ∷ column_left self.new) }
+    {
+        loop {
+            if let Some((value, rest)) = first_entry(self.packed) {
+                self.packed = rest;
+                self.place = self.packed_place;
+                return Some(value);
+            }
+            let field = match self.fields.next() {
+                Some(Ok(field)) => field,
+                Some(Err(_)) => {
+                    self.fields = Fields::new(&[], 0);
+                    return None;
+                }
+                None => return None,
+            };
+            if field.number == self.number {
+                match field.payload {
+                    Payload::Number(value) => {
+                        self.place = field.offset;
+                        return Some(value);
+                    }
+                    Payload::Bytes(bytes, _) => {
+                        self.packed = bytes;
+                        self.packed_place = field.offset;
+                    }
+                    _ => {}
+                }
+            }
+        }
+    }
+}
+
+impl<'a> Iterator for Column<'a> {
+    ghost use Rattle.std.specs.Iterator.{YieldsFirst, item_count, MakesProgress};
+    ghost use Rattle.pbf_wire.specs.Cursors.{column_left, numbers_left, place_of};
+
+    type Item = u64;
+
+    ghost next_gives = { YieldsFirst numbers_left };
+
+    ghost remaining = { item_count numbers_left };
+
+    /// The next number. After a wire fault of the message, or of a packed occurrence, no more of it is read.
+    fn next(&mut self) -> Option<u64>
+        ensures steps { YieldsFirst numbers_left self.old result self.new }
+        ensures goes { MakesProgress (λ _. ⊤) (item_count numbers_left) self.old result self.new }
+        ensures placed { MatchOption result ((column_left self.old ≡ []) × (column_left self.new ≡ []) × (place_of self.new ≡ place_of self.old))
+            (λ value. column_left self.old ≡ (value, place_of self.new) ∷ column_left self.new) }
+    {
+        self.advance()
+    }
+}

@@ -1,0 +1,68 @@
+//! A column of plain numbers that is being written.
+
+ghost use Rattle.std.specs.Prelude.{◌≡◌, ◌∷◌, ◌++◌, [], length, OnOk, OnErr};
+ghost use Rattle.pbf_wire.specs.Columns.{packed};
+
+use crate::varint::put_varint;
+use std::alloc::{AllocError, Global};
+use std::marker::Model;
+
+/// A packed column, encoded as it is pushed to: it holds bytes alone. Contracts see it as the list of its numbers.
+#[derive(Debug, Drop)]
+pub struct ColumnOut {
+    bytes: Vec<u8>,
+}
+
+impl Model for ColumnOut {
+    ghost use Rattle.std.specs.Prelude.{ℕ, List};
+    ghost use Rattle.pbf_wire.specs.Packed.{numbers_of, IsPacked};
+
+    ghost Value = { List ℕ };
+
+    ghost view = { λ c. numbers_of c.bytes.items };
+
+    ghost invariant = { λ c. IsPacked c.bytes.items (numbers_of c.bytes.items) };
+}
+
+impl ColumnOut {
+    /// A column without numbers, which takes no memory yet.
+    #[tactic(auto, unfolding(crate::specs::Columns::entries_past))]
+    pub fn new(alloc: Global) -> Self
+        ensures { result ≡ [] }
+    {
+        ColumnOut {
+            bytes: Vec::new(alloc),
+        }
+    }
+
+    /// Takes all numbers out and keeps the room.
+    #[tactic(auto, unfolding(crate::specs::Columns::entries_past))]
+    pub fn clear(&mut self)
+        ensures { self.new ≡ [] }
+    {
+        self.bytes.clear();
+    }
+
+    /// Adds a number at the end. An `Err` leaves the column as it was.
+    pub fn push(&mut self, number: u64) -> Result<(), AllocError>
+        ensures ok { OnOk result (self.new ≡ self.old ++ number ∷ []) }
+        ensures err { OnErr result (self.new ≡ self.old) }
+    {
+        put_varint(&mut self.bytes, number)?;
+        Ok(())
+    }
+
+    /// The packed column, each number in its shortest spelling.
+    pub fn bytes(&self) -> &[u8]
+        ensures { result.now ≡ packed self.now }
+    {
+        &self.bytes
+    }
+
+    /// The length of those bytes.
+    pub fn held(&self) -> u64
+        ensures { result ≡ length (packed self.now) }
+    {
+        self.bytes.len() as u64
+    }
+}

@@ -1,0 +1,77 @@
+//! A column of differences that is being written.
+
+ghost use Rattle.std.specs.Prelude.{◌≡◌, ◌∷◌, ◌++◌, ◌^◌, [], pos, length, OnOk, OnErr};
+ghost use Rattle.pbf_wire.specs.Columns.{packed};
+ghost use Rattle.pbf_wire.specs.Signed.{IsWithin};
+ghost use Rattle.pbf_wire.specs.Sums.{deltas};
+
+use crate::signed::zigzag;
+use crate::varint::put_varint;
+use std::alloc::{AllocError, Global};
+use std::marker::Model;
+
+/// A packed column of deltas (`sint64`), encoded as it is pushed to: it holds bytes and the last value. Contracts see it as
+/// the list of its values.
+#[derive(Debug, Drop)]
+pub struct DeltaOut {
+    bytes: Vec<u8>,
+    last: i64,
+}
+
+impl Model for DeltaOut {
+    ghost use Rattle.std.specs.Prelude.{ℤ, List};
+    ghost use Rattle.pbf_wire.specs.Packed.{values_of, HoldsDeltas};
+
+    ghost Value = { List ℤ };
+
+    ghost view = { λ d. values_of d.bytes.items };
+
+    ghost invariant = { λ d. HoldsDeltas d.bytes.items d.last (values_of d.bytes.items) };
+}
+
+impl DeltaOut {
+    /// A column without values, which takes no memory yet.
+    #[tactic(auto, unfolding(crate::specs::Columns::entries_past))]
+    pub fn new(alloc: Global) -> Self
+        ensures { result ≡ [] }
+    {
+        DeltaOut {
+            bytes: Vec::new(alloc),
+            last: 0,
+        }
+    }
+
+    /// Takes all values out and keeps the room.
+    #[tactic(auto, unfolding(crate::specs::Columns::entries_past))]
+    pub fn clear(&mut self)
+        ensures { self.new ≡ [] }
+    {
+        self.bytes.clear();
+        self.last = 0;
+    }
+
+    /// Adds a value at the end: its difference to the value before, of the first to 0. An `Err` leaves the column as it was.
+    pub fn push(&mut self, value: i64) -> Result<(), AllocError>
+        requires { IsWithin (pos (2 ^ 62)) value }
+        ensures ok { OnOk result (self.new ≡ self.old ++ value ∷ []) }
+        ensures err { OnErr result (self.new ≡ self.old) }
+    {
+        put_varint(&mut self.bytes, zigzag(value - self.last))?;
+        self.last = value;
+        Ok(())
+    }
+
+    /// The packed column: of each value the shortest spelling of the zigzag of its difference to the one before.
+    pub fn bytes(&self) -> &[u8]
+        ensures { result.now ≡ packed (deltas self.now) }
+    {
+        &self.bytes
+    }
+
+    /// The length of those bytes.
+    pub fn held(&self) -> u64
+        ensures { result ≡ length (packed (deltas self.now)) }
+    {
+        self.bytes.len() as u64
+    }
+}

@@ -1,0 +1,130 @@
+//! The fields of a message, one after the other.
+
+ghost use Rattle.std.specs.Prelude.{◌≡◌, ◌+◌, ◌≤◌, ◌<◌, ◌^◌, IfOk, length};
+ghost use Rattle.pbf_wire.specs.Occurrence.{body_at, occurrence_at};
+ghost use Rattle.pbf_wire.specs.Payload.{content, end_of};
+ghost use Rattle.pbf_wire.specs.Fields.{occurrence, seen};
+
+use crate::fault::{Fault, Reason};
+use crate::field::{Field, Payload};
+use crate::varint::first_varint;
+
+/// What stands behind a tag of this wire type, and its length.
+#[tactic(auto, unfolding(crate::specs::Occurrence::body_at))]
+fn payload_at(bytes: &[u8], kind: u64, at: u64) -> Result<(Payload<'_>, usize), Reason>
+    requires { at + length bytes.now ≤ 2 ^ 63 }
+    ensures exact { seen content result ≡ body_at kind at bytes.now }
+    ensures taken { IfOk result (λ found. (found.1 ≤ length bytes.now) × (end_of found.0 ≤ 2 ^ 63)) }
+{
+    match kind {
+        0 => {
+            let (value, length) = first_varint(bytes)?;
+            Ok((Payload::Number(value), length))
+        }
+        1 => {
+            if bytes.len() < 8 {
+                return Err(Reason::FixedCut);
+            }
+            Ok((Payload::Eight(&bytes[..8]), 8))
+        }
+        2 => {
+            let (size, length) = first_varint(bytes)?;
+            let rest = &bytes[length..];
+            if (rest.len() as u64) < size {
+                return Err(Reason::LengthPast);
+            }
+            let size = size as usize;
+            Ok((
+                Payload::Bytes(&rest[..size], at + length as u64),
+                length + size,
+            ))
+        }
+        5 => {
+            if bytes.len() < 4 {
+                return Err(Reason::FixedCut);
+            }
+            Ok((Payload::Four(&bytes[..4]), 4))
+        }
+        3 | 4 => Err(Reason::Group),
+        _ => Err(Reason::WireType),
+    }
+}
+
+/// The field at the front of the bytes, and its length.
+#[tactic(auto, unfolding(crate::specs::Occurrence::occurrence_at))]
+fn field_at(bytes: &[u8], at: u64) -> Result<(Field<'_>, usize), Reason>
+    requires { at + length bytes.now ≤ 2 ^ 63 }
+    ensures exact { seen occurrence result ≡ occurrence_at at bytes.now }
+    ensures taken { IfOk result (λ found. (0 < found.1) × (found.1 ≤ length bytes.now)) }
+{
+    let (tag, length) = first_varint(bytes)?;
+    if tag > u64::from(u32::MAX) {
+        return Err(Reason::TagLarge);
+    }
+    let number = tag / 8;
+    if number == 0 {
+        return Err(Reason::NumberZero);
+    }
+    let (payload, size) = payload_at(&bytes[length..], tag % 8, at + length as u64)?;
+    Ok((
+        Field {
+            offset: at,
+            number,
+            payload,
+        },
+        length + size,
+    ))
+}
+
+/// The fields of a message, in order: an iterator over the bytes, which takes no memory. A fault ends it: after an `Err`
+/// there are no more items.
+#[derive(Clone, Copy, Debug)]
+pub struct Fields<'a> {
+    rest: &'a [u8],
+    at: u64,
+    ghost fits: { at + length rest.now ≤ 2 ^ 63 },
+}
+
+impl<'a> Fields<'a> {
+    ghost use Rattle.pbf_wire.specs.Occurrence.{items};
+    ghost use Rattle.pbf_wire.specs.Cursors.{fields_left};
+
+    /// The fields of a message whose first byte stands at `at` in the file.
+    #[tactic(auto, unfolding(crate::specs::Cursors::fields_left))]
+    pub fn new(message: &'a [u8], at: u64) -> Self
+        requires { at + length message.now ≤ 2 ^ 63 }
+        ensures { fields_left result ≡ items at message.now }
+    {
+        Fields { rest: message, at }
+    }
+}
+
+impl<'a> Iterator for Fields<'a> {
+    ghost use Rattle.std.specs.Iterator.{YieldsFirstBy, item_count};
+    ghost use Rattle.pbf_wire.specs.Fields.{item};
+    ghost use Rattle.pbf_wire.specs.Cursors.{fields_left};
+
+    type Item = Result<Field<'a>, Fault>;
+
+    ghost next_gives = { YieldsFirstBy item fields_left };
+
+    ghost remaining = { item_count fields_left };
+
+    fn next(&mut self) -> Option<Result<Field<'a>, Fault>> {
+        if self.rest.is_empty() {
+            return None;
+        }
+        let offset = self.at;
+        match field_at(self.rest, offset) {
+            Ok((field, length)) => {
+                self.rest = &self.rest[length..];
+                self.at += length as u64;
+                Some(Ok(field))
+            }
+            Err(reason) => {
+                self.rest = &[];
+                Some(Err(Fault { offset, reason }))
+            }
+        }
+    }
+}

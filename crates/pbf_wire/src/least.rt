@@ -1,0 +1,37 @@
+//! The lesser of two faults.
+
+ghost use Rattle.std.specs.Prelude.{◌≡◌};
+ghost use Rattle.pbf_wire.specs.Least.{rank, is_less, lesser};
+
+use crate::fault::Fault;
+
+/// Whether the first fault comes before the second: by offset, then by the reason's number, then by the field of `Missing`.
+pub fn comes_before(one: Fault, other: Fault) -> bool
+    ensures { result ≡ is_less (rank one) (rank other) }
+{
+    if one.offset != other.offset {
+        return one.offset < other.offset;
+    }
+    let (first, second) = (one.reason.number(), other.reason.number());
+    if first != second {
+        return first < second;
+    }
+    one.reason.missing_field() < other.reason.missing_field()
+}
+
+/// The lesser of two faults, where there are any; of two that are alike the first.
+pub fn lesser(one: Option<Fault>, other: Option<Fault>) -> Option<Fault>
+    ensures { result ≡ lesser one other }
+{
+    match (one, other) {
+        (None, _) => other,
+        (Some(_), None) => one,
+        (Some(first), Some(second)) => {
+            if comes_before(second, first) {
+                other
+            } else {
+                one
+            }
+        }
+    }
+}

@@ -1,0 +1,36 @@
+//! The protobuf wire encoding, read and written: varints, fields, columns, running sums. It knows nothing of OpenStreetMap,
+//! but for the list of reasons for which a file is refused.
+#![tactic(auto)]
+
+mod column;
+mod column_out;
+mod count;
+mod delta_out;
+mod fault;
+mod field;
+mod fields;
+mod judge;
+mod kind;
+pub mod laws;
+mod least;
+mod reading;
+mod signed;
+mod sum;
+mod varint;
+mod writing;
+
+pub use column::Column;
+pub use column_out::ColumnOut;
+pub use count::{count_ends, end_mask};
+pub use delta_out::DeltaOut;
+pub use fault::{Fault, ReadFault, Reason};
+pub use field::{Field, Payload};
+pub use fields::Fields;
+pub use judge::{judge_payload, judge_wire, kind_of};
+pub use kind::Kind;
+pub use least::{comes_before, lesser};
+pub use reading::{last_field, last_number};
+pub use signed::{low_i32, low_i64, low_sint32, low_u32, sign_extended, unzigzag, zigzag};
+pub use sum::Sum;
+pub use varint::{get_varint, put_varint, varint_len};
+pub use writing::{put_bytes, put_column, put_number};

@@ -1,0 +1,72 @@
+//! Numbers of seven bits a byte.
+
+ghost use Rattle.std.specs.Prelude.{◌≡◌, ◌≤◌, ◌<◌, ◌^◌, ℕ, IfOk, OnOk, OnErr, Result, Ok, Err, ◌↔◌, ◌++◌, List, length, take, drop, slice_range};
+ghost use Rattle.pbf_wire.specs.Varint.{IsVarint, IsCut, IsLong, varint_at, moved_by, shortest};
+
+use crate::fault::Reason;
+use std::alloc::AllocError;
+
+/// The number that the bytes begin with, and how many bytes it takes.
+pub(crate) fn first_varint(bytes: &[u8]) -> Result<(u64, usize), Reason>
+    ensures exact { result ≡ varint_at bytes.now }
+    ensures taken { IfOk result (λ found. (0 < found.1) × (found.1 ≤ length bytes.now)) }
+{
+    let mut value = 0;
+    for (i, &byte) in bytes.iter().enumerate() {
+        if i == 9 && byte > 1 {
+            return Err(Reason::VarintLong);
+        }
+        value |= u64::from(byte & 127) << (7 * i);
+        if byte < 128 {
+            return Ok((value, i + 1));
+        }
+    }
+    Err(Reason::VarintCut)
+}
+
+/// The number that is spelled from `at` on, and the index after it.
+pub fn get_varint(bytes: &[u8], at: usize) -> Result<(u64, usize), Reason>
+    requires { at ≤ length bytes.now }
+    ensures found { IfOk result (λ found. (at < found.1) × (found.1 ≤ length bytes.now) × IsVarint found.0 (slice_range bytes.now at found.1)) }
+    ensures only { (v k : ℕ) → at ≤ k → k ≤ length bytes.now → IsVarint v (slice_range bytes.now at k) → result ≡ Ok (v, k) }
+    ensures cut { result ≡ Err Reason.VarintCut ↔ IsCut (drop at bytes.now) }
+    ensures long { result ≡ Err Reason.VarintLong ↔ IsLong (drop at bytes.now) }
+    ensures exact { result ≡ moved_by at (varint_at (drop at bytes.now)) }
+{
+    let (value, length) = first_varint(&bytes[at..])?;
+    Ok((value, at + length))
+}
+
+/// The shortest spelling, at the front of the array, and its length.
+fn shortest_spelling(value: u64) -> ([u8; 10], usize)
+    ensures within { result.1 ≤ 10 }
+    ensures spelling { take result.1 result.0 ≡ shortest value }
+{
+    let mut spelling = [0; 10];
+    let mut length = 0;
+    let mut rest = value;
+    while rest >= 128 {
+        spelling[length] = (rest % 128) as u8 + 128;
+        rest >>= 7;
+        length += 1;
+    }
+    spelling[length] = rest as u8;
+    (spelling, length + 1)
+}
+
+/// Appends the shortest spelling. An `Err` changes nothing.
+pub fn put_varint(out: &mut Vec<u8>, value: u64) -> Result<(), AllocError>
+    ensures ok { OnOk result (out.new.items ≡ out.old.items ++ shortest value) }
+    ensures err { OnErr result (out.new.items ≡ out.old.items) }
+{
+    let (spelling, length) = shortest_spelling(value);
+    out.extend_from_slice(&spelling[..length])?;
+    Ok(())
+}
+
+/// How many bytes the shortest spelling takes.
+pub fn varint_len(value: u64) -> usize
+    ensures { result ≡ length (shortest value) }
+{
+    shortest_spelling(value).1
+}

@@ -1,0 +1,43 @@
+//! Fields, written: each call appends one field in its shortest form.
+//!
+//! A message in written form is the list of its slots in ascending order of their numbers. After an `Err` the output has no
+//! stated content.
+
+ghost use Rattle.std.specs.Prelude.{◌≡◌, ◌^◌, ◌<◌, ◌++◌, [], ◌∷◌, ℕ, List, Some, OnOk};
+ghost use Rattle.pbf_wire.specs.Columns.{packed};
+ghost use Rattle.pbf_wire.specs.Message.{Scalar, Column, Each, slot_bytes};
+
+use crate::varint::put_varint;
+use std::alloc::AllocError;
+
+/// Appends a field that holds a number (wire type 0).
+pub fn put_number(out: &mut Vec<u8>, number: u64, value: u64) -> Result<(), AllocError>
+    requires { number < 2 ^ 29 }
+    ensures { OnOk result (out.new.items ≡ out.old.items ++ slot_bytes (Scalar number (Some value))) }
+{
+    put_varint(out, number * 8)?;
+    put_varint(out, value)?;
+    Ok(())
+}
+
+/// Appends a field that holds a text or an embedded message (wire type 2).
+pub fn put_bytes(out: &mut Vec<u8>, number: u64, bytes: &[u8]) -> Result<(), AllocError>
+    requires { number < 2 ^ 29 }
+    ensures { OnOk result (out.new.items ≡ out.old.items ++ slot_bytes (Each number (bytes.now ∷ []))) }
+{
+    put_varint(out, number * 8 + 2)?;
+    put_varint(out, bytes.len() as u64)?;
+    out.extend_from_slice(bytes)?;
+    Ok(())
+}
+
+/// Appends a packed column, as `ColumnOut::bytes` and `DeltaOut::bytes` give it; nothing where it is empty.
+pub fn put_column(out: &mut Vec<u8>, number: u64, column: &[u8]) -> Result<(), AllocError>
+    requires { number < 2 ^ 29 }
+    ensures { (values : List ℕ) → column.now ≡ packed values → OnOk result (out.new.items ≡ out.old.items ++ slot_bytes (Column number values)) }
+{
+    if !column.is_empty() {
+        put_bytes(out, number, column)?;
+    }
+    Ok(())
+}
