@@ -16,6 +16,8 @@ mod least;
 mod reading;
 mod signed;
 mod sum;
+#[cfg(test)]
+mod tests;
 mod varint;
 mod writing;
 
