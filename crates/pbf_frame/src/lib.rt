@@ -1,0 +1,15 @@
+//! The frames of an OpenStreetMap PBF file, read from a device that supplies bytes and written to one that takes them.
+#![tactic(auto)]
+
+mod device;
+pub mod laws;
+mod memory;
+mod std_device;
+mod stop;
+mod transfer;
+
+pub use device::{Drain, Feed};
+pub use memory::{Pieces, Sink};
+pub use std_device::{FromRead, ToWrite};
+pub use stop::{DrainFault, FeedFault, Stop};
+pub use transfer::write_all;
