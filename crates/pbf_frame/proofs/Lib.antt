@@ -1,1 +1,2 @@
 pub mod KnownBytes
+pub mod Parts
