@@ -1,2 +1,4 @@
 pub mod KnownBytes
 pub mod Parts
+pub mod FrontLemmas
+pub mod FrameLemmas

@@ -69,9 +69,9 @@ header_faults at header =
     let datasize = last_of DATASIZE (found (items at header)) in
     missing at TYPE type ++ missing at DATASIZE datasize ++ size_faults datasize
 
+abbrev pub head_says : ℕ → List ℕ → Head
+head_says at header = record { kind = kind_of (name_of at header); size = or_nothing (size_of (last_of DATASIZE (found (items at header)))) }
+
 -- what a header says of its frame, or its first fault: of its wire form, then of its fields
 unfoldable pub head_of : ℕ → List ℕ → Result Head Fault
-head_of at header =
-    unless (wire HEADER_KINDS (items at header))
-    (unless (least (header_faults at header))
-    (Ok (record { kind = kind_of (name_of at header); size = or_nothing (size_of (last_of DATASIZE (found (items at header)))) })))
+head_of at header = unless (wire HEADER_KINDS (items at header)) (unless (least (header_faults at header)) (Ok (head_says at header)))

@@ -25,6 +25,9 @@ pub(crate) const HEADER_KINDS: [(u64, Kind); 3] = [
     (DATASIZE, Kind::Number),
 ];
 
+/// The length from which on a BlobHeader is refused.
+pub(crate) const HEADER_LIMIT: u32 = 65_536;
+
 /// The largest `datasize`: the longest raw data, with room for its tag, its length and `raw_size`.
 pub(crate) const LARGEST_SIZE: u32 = 33_555_455;
 

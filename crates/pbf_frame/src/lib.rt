@@ -8,6 +8,7 @@ mod frame;
 mod header;
 pub mod laws;
 mod memory;
+mod reading;
 mod std_device;
 mod stop;
 mod transfer;
