@@ -75,7 +75,7 @@ module _ (h : Bool) (p : ℕ) (bytes : List ℕ) where
 -- ---- what a header says
 
 -- where nothing is wrong, what follows is given
-unless_ok : {A : Type 0} (o : Option Fault) (later : Result A Fault) (x : A) → unless o later ≡ Ok x → (o ≡ None) × (later ≡ Ok x)
+pub unless_ok : {A : Type 0} (o : Option Fault) (later : Result A Fault) (x : A) → unless o later ≡ Ok x → (o ≡ None) × (later ≡ Ok x)
 unless_ok None later x e = (refl, e)
 unless_ok {A} (Some f) later x e = absurd (never f x e) where
   never : {A : Type 0} (f : Fault) (x : A) → ◌≡◌ {A = Result A Fault} (Err f) (Ok x) → ⊥

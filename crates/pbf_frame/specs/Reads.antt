@@ -1,5 +1,5 @@
 -- What a call that reads from a feed gives.
-use Rattle.std.specs.Prelude.{◌≡◌, ◌<◌, ℕ, Bool, true, List, [], Option, Some, None, Result, Ok, Err, take, drop, length}
+use Rattle.std.specs.Prelude.{◌≡◌, ◌<◌, ◌≤◌, ◌+◌, ◌^◌, ℕ, Bool, true, List, [], Option, Some, None, Result, Ok, Err, take, drop, length}
 use Rattle.pbf_wire.specs.declared.fault.Fault.{Fault}
 use Rattle.pbf_frame.specs.declared.frame.FrameKind.{FrameKind}
 use Rattle.pbf_frame.specs.declared.frame.FrameKind.TheVariants as kind
@@ -88,6 +88,10 @@ pub record IsSeen (header blob : List ℕ) (seen : Seen) (f : FrameSpec) : Type 
   pub kind_is : seen.kind ≡ frame_kind f
   pub size_is : seen.size ≡ length f.blob
   pub holds : Holds (frame_kind f) (blob_at f) f.blob blob
+
+-- it lies within the limit of a file
+abbrev pub IsPlaced : Seen → Type 0
+IsPlaced seen = (seen.offset ≤ 2 ^ 62) × (seen.blob_at + seen.size ≤ 2 ^ 62)
 
 -- a frame was read, whose bytes are gone
 pub record GaveFrame (had_header : Bool) (place : ℕ) (header blob : List ℕ) (seen : Seen) (old new : Option (List ℕ)) : Type 0 where

@@ -1,6 +1,6 @@
 //! The Blob of a frame: its payload, and why it is refused.
 
-ghost use Rattle.std.specs.Prelude.{◌≡◌, ◌+◌, ◌≤◌, ◌^◌, List, length};
+ghost use Rattle.std.specs.Prelude.{◌≡◌, ◌+◌, ◌<◌, ◌≤◌, ◌^◌, List, None, length};
 ghost use Rattle.std.specs.Option.{option_map};
 ghost use Rattle.pbf_wire.specs.declared.fault.Fault.{Fault};
 ghost use Rattle.pbf_wire.specs.Fields.{occurrence};
@@ -104,14 +104,27 @@ pub(crate) fn judge_blob(blob: &[u8], at: u64) -> Option<Fault>
     judge_raw(at, last_field(blob, at, RAW), judge_compressions(blob, at))
 }
 
+/// Where the text of a field begins, and `at` where it is absent.
+fn text_place(field: Option<Field<'_>>, at: u64) -> u64
+    requires { at ≤ 2 ^ 63 }
+    ensures place { result ≡ raw_at at (option_map occurrence field.entry) }
+    ensures fits { result + length (text_of (option_map occurrence field.entry)) ≤ 2 ^ 63 }
+{
+    match field {
+        Some(Field { payload: Payload::Bytes(_, place), .. }) => place,
+        _ => at,
+    }
+}
+
+#[tactic(auto, using(crate::proofs::BlobLemmas::payload_short))]
 /// The payload, and where its first byte stands in the file.
 pub(crate) fn payload_in(blob: &[u8], at: u64) -> (&[u8], u64)
     requires { at + length blob.now ≤ 2 ^ 63 }
     ensures bytes { result.0.now ≡ raw_of at blob.now }
     ensures place { result.1 ≡ raw_at at (last_of RAW (found (items at blob.now))) }
+    ensures fits { result.1 + length result.0.now ≤ 2 ^ 63 }
+    ensures short { blob_fault at blob.now ≡ None → length result.0.now < RAW_LIMIT }
 {
-    match last_field(blob, at, RAW) {
-        Some(Field { payload: Payload::Bytes(bytes, place), .. }) => (bytes, place),
-        _ => (&[], at),
-    }
+    let raw = last_field(blob, at, RAW);
+    (text_of(raw), text_place(raw, at))
 }

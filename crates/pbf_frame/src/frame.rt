@@ -1,6 +1,7 @@
 //! Frames: what they are, and what a reader lends of one.
 
-ghost use Rattle.std.specs.Prelude.{◌≡◌, ◌+◌, ◌≤◌, ◌^◌, nat_le, if◌then◌else◌, Some, None};
+ghost use Rattle.std.specs.Prelude.{◌≡◌, ◌+◌, ◌<◌, ◌≤◌, ◌^◌, length, nat_le, if◌then◌else◌, Some, None};
+ghost use Rattle.pbf_frame.specs.declared.blob.TheConstants.{RAW_LIMIT};
 
 /// What a frame is, by the type in its BlobHeader.
 #[derive(Clone, Copy, Debug, PartialEq, Eq)]
@@ -14,7 +15,7 @@ pub enum FrameKind {
 }
 
 /// A frame, lent by its reader until the next call.
-#[derive(Clone, Copy, Debug, PartialEq, Eq)]
+#[derive(Clone, Copy, Debug)]
 pub struct Frame<'a> {
     /// Where in the file it begins.
     pub offset: u64,
@@ -25,8 +26,10 @@ pub struct Frame<'a> {
     pub size: u32,
     /// Where in the file the payload begins; for `Other` where the blob begins.
     pub payload_at: u64,
-    /// The raw data of the blob, below 33,554,432 bytes; empty for `Other`.
+    /// The raw data of the blob; empty for `Other`.
     pub payload: &'a [u8],
+    ghost short: { length payload.now < RAW_LIMIT },
+    ghost fits: { payload_at + length payload.now ≤ 2 ^ 63 },
 }
 
 /// Where a frame ends that begins at `offset` and whose BlobHeader and Blob have these lengths; `None` behind byte 2^62.

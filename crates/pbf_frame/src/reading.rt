@@ -8,7 +8,8 @@ ghost use Rattle.pbf_frame.specs.Faults.{fault};
 ghost use Rattle.pbf_frame.specs.Frames.{order_faults, prefix_at, bytes_at, header_of, known_blob_of};
 ghost use Rattle.pbf_frame.specs.Header.{head_of};
 ghost use Rattle.pbf_frame.specs.declared.header.TheConstants.{LARGEST_SIZE};
-ghost use Rattle.pbf_frame.specs.Reads.{Gives, IsReaderStop, IsFillStop, IsSkipStop, Reads, Skips, GaveBlob, RefusedBlob, GaveFrame, GaveEnd, RefusedFrame};
+ghost use Rattle.pbf_frame.specs.Reads.{Gives, IsReaderStop, IsFillStop, IsSkipStop, Reads, Skips, GaveBlob, RefusedBlob, GaveFrame, GaveEnd, RefusedFrame, IsPlaced};
+ghost use Rattle.pbf_frame.specs.Sound.{IsSound};
 ghost use Rattle.pbf_frame.specs.Blob.{blob_fault};
 
 use crate::blob::judge_blob;
@@ -206,6 +207,7 @@ fn read_known_blob<F: Feed>(
 fn read_blob<F: Feed>(feed: &mut F, blob: &mut Vec<u8>, head: Head, at: u64) -> Result<(), Stop>
     requires in_range { at + head.size ≤ 2 ^ 63 }
     ensures gave { OnOk result (GaveBlob head.kind head.size at blob.new.items (F.remaining feed.old) (F.remaining feed.new)) }
+    ensures sound { OnOk result (IsSound head.kind at blob.new.items) }
     ensures refused { IfErr result (RefusedBlob head.kind head.size at (F.remaining feed.old)) }
     ensures held { vec_len blob.new ≤ max head.size (vec_len blob.old) }
     ensures lender { F.lender feed.new ≡ F.lender feed.old }
@@ -248,7 +250,8 @@ pub(crate) fn read_frame<F: Feed>(
     ensures gave { IfOk result (λ o. IfSome o (λ seen. GaveFrame had_header place header.new.items blob.new.items seen (F.remaining feed.old) (F.remaining feed.new))) }
     ensures ended { IfOk result (λ o. IfNone o (GaveEnd had_header place (F.remaining feed.old) (F.remaining feed.new))) }
     ensures refused { IfErr result (RefusedFrame had_header place (F.remaining feed.old)) }
-    ensures later { IfOk result (λ o. IfSome o (λ seen. (place < seen.blob_at) × (seen.blob_at + seen.size ≤ 2 ^ 62))) }
+    ensures later { IfOk result (λ o. IfSome o (λ seen. (place < seen.blob_at) × IsPlaced seen)) }
+    ensures sound { IfOk result (λ o. IfSome o (λ seen. IsSound seen.kind seen.blob_at blob.new.items)) }
     ensures header_held { vec_len header.new ≤ max 65535 (vec_len header.old) }
     ensures blob_held { vec_len blob.new ≤ max LARGEST_SIZE (vec_len blob.old) }
     ensures lender { F.lender feed.new ≡ F.lender feed.old }
