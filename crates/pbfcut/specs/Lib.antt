@@ -1,1 +1,3 @@
 pub mod Quoted
+pub mod Blobs
+pub mod Listing
