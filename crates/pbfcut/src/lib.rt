@@ -4,5 +4,7 @@
 mod blobs;
 mod number;
 mod quoted;
+#[cfg(test)]
+mod tests;
 
 pub use blobs::list_blobs;

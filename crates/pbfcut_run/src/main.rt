@@ -1,0 +1,101 @@
+//! The program: reads its words, opens the file, runs the engine and tells how it ended.
+#![tactic(auto)]
+
+use pbf_frame::{FromRead, Stop, ToWrite};
+use pbfcut::list_blobs;
+use std::env;
+use std::fs::File;
+use std::io::{BufWriter, Write};
+use std::process::ExitCode;
+use std::rt::Env;
+
+/// The length of the buffer in front of standard output.
+const OUTPUT_BUFFER: usize = 65_536;
+
+/// Why the program ends otherwise than well.
+#[derive(Drop)]
+enum Ending {
+    /// The words are no command.
+    Words,
+    /// IN can't be opened.
+    CannotOpen,
+    /// There is no memory for the words or a buffer.
+    Memory,
+    /// The engine stopped.
+    Stopped(Stop),
+}
+
+impl Ending {
+    /// The exit status.
+    fn status(&self) -> u8 {
+        match self {
+            Ending::Stopped(Stop::Refused(_)) => 1,
+            Ending::Words => 2,
+            Ending::CannotOpen | Ending::Stopped(Stop::Read | Stop::Write) => 3,
+            Ending::Memory | Ending::Stopped(Stop::Memory) => 4,
+            Ending::Stopped(Stop::Changed(_)) => 5,
+        }
+    }
+}
+
+/// Prints the ending's line on standard error. Where that can't be written, nothing more can be told.
+fn tell(rt: &HostRuntime, ending: &Ending) {
+    let _ = match ending {
+        Ending::Words => eprintln!(rt; "usage: pbfcut blobs IN"),
+        Ending::CannotOpen => eprintln!(rt; "pbfcut: cannot open"),
+        Ending::Memory => eprintln!(rt; "pbfcut: out of memory"),
+        Ending::Stopped(stop) => eprintln!(rt; "pbfcut: {stop}"),
+    };
+}
+
+/// The words behind the program's name.
+fn words(rt: &(impl Env + AllocGlobal)) -> Result<Vec<String>, Ending> {
+    let Ok(args) = env::args(rt) else {
+        return Err(Ending::Memory);
+    };
+    let mut words = Vec::new(rt.alloc());
+    for word in args.skip(1) {
+        if words.push(word).is_err() {
+            return Err(Ending::Memory);
+        }
+    }
+    Ok(words)
+}
+
+/// `blobs IN`: the lines go to standard output through a buffer. They are written also where the file is refused; a line
+/// that can't be written is told in place of a later refusal, since it came first.
+fn blobs(rt: &HostRuntime, input: &str) -> Result<(), Ending> {
+    let Ok(file) = File::open(rt, input) else {
+        return Err(Ending::CannotOpen);
+    };
+    let Ok(mut output) = BufWriter::with_capacity(rt.alloc(), OUTPUT_BUFFER, rt.stdout()) else {
+        return Err(Ending::Memory);
+    };
+    let mut feed = FromRead::new(file);
+    let outcome = list_blobs(rt.alloc(), &mut feed, &mut ToWrite::new(&mut output));
+    if output.flush().is_err() {
+        return Err(Ending::Stopped(Stop::Write));
+    }
+    match outcome {
+        Ok(_) => Ok(()),
+        Err(stop) => Err(Ending::Stopped(stop)),
+    }
+}
+
+fn work(rt: &HostRuntime) -> Result<(), Ending> {
+    let words = words(rt)?;
+    match words.as_slice() {
+        [command, input] if command.as_str() == "blobs" => blobs(rt, input.as_str()),
+        _ => Err(Ending::Words),
+    }
+}
+
+fn main(rt: HostRuntime) -> ExitCode {
+    match work(&rt) {
+        Ok(()) => ExitCode::SUCCESS,
+        Err(ending) => {
+            tell(&rt, &ending);
+            ExitCode::from(ending.status())
+        }
+    }
+}
