@@ -1,7 +1,7 @@
 -- Columns of differences and their sums.
-use Rattle.std.specs.Prelude.{ℕ, ℤ, pos, ◌+◌, ◌+ℤ◌, ◌-ℤ◌, List, [], ◌∷◌, length, map, take}
+use Rattle.std.specs.Prelude.{ℕ, ℤ, pos, ◌+◌, ◌+ℤ◌, ◌-ℤ◌, if◌then◌else◌, List, [], ◌∷◌, length, map, take}
 use Rattle.std.specs.List.{range_with_len}
-use Rattle.pbf_wire.specs.Signed.{zigzag}
+use Rattle.pbf_wire.specs.Signed.{zigzag, is_within}
 
 -- a running sum and its limit
 pub record Total : Type 0 where
@@ -25,6 +25,11 @@ sums entries = map (sum_at entries) (range_with_len 0 (length entries))
 abbrev pub sums_from : ℤ → List ℤ → List ℤ
 sums_from start [] = []
 sums_from start (d ∷ ds) = (start +ℤ d) ∷ sums_from (start +ℤ d) ds
+
+-- the same, up to the first that isn't strictly between -limit and limit
+abbrev pub sums_within : ℤ → ℤ → List ℤ → List ℤ
+sums_within limit start [] = []
+sums_within limit start (d ∷ ds) = if is_within limit (start +ℤ d) then (start +ℤ d) ∷ sums_within limit (start +ℤ d) ds else []
 
 -- each value less the one before, and the first less a start
 abbrev pub differences : ℤ → List ℤ → List ℤ
