@@ -1,9 +1,9 @@
 -- What the cursors over a message have still to give.
-use Rattle.std.specs.Prelude.{ℕ, ℤ, Bool, List, ◌++◌, map, if◌then◌else◌}
+use Rattle.std.specs.Prelude.{ℕ, ℤ, List, ◌++◌, map}
 use Rattle.pbf_wire.specs.declared.fields.Fields.{Fields}
 use Rattle.pbf_wire.specs.declared.column.Column.{Column}
 use Rattle.pbf_wire.specs.declared.sums.Sums.{Sums}
-use Rattle.pbf_wire.specs.Signed.{unzigzag, low_sint32}
+use Rattle.pbf_wire.specs.Signed.{delta_in}
 use Rattle.pbf_wire.specs.Sums.{sums_within}
 use Rattle.pbf_wire.specs.Occurrence.{Item, items, found}
 use Rattle.pbf_wire.specs.Columns.{entries, read_entries, placed, joined}
@@ -24,10 +24,6 @@ numbers_left column = map (λ p. p.0) (column_left column)
 abbrev pub place_of : Column → ℕ
 place_of column = column.place
 
--- the entries of a delta column: all 64 bits of the numbers, or their low 32 bits
-abbrev pub deltas_in : Bool → List ℕ → List ℤ
-deltas_in narrow numbers = if narrow then map low_sint32 numbers else map unzigzag numbers
-
 -- the values of a delta column that are left
 abbrev pub sums_left : Sums → List ℤ
-sums_left sums = sums_within sums.sum.limit sums.sum.total (deltas_in sums.narrow (numbers_left sums.entries))
+sums_left sums = sums_within sums.limit sums.total (map (delta_in sums.narrow) (numbers_left sums.entries))

@@ -13,6 +13,10 @@ unzigzag v = if v % 2 == 0 then pos (v / 2) else negsuc (v / 2)
 abbrev pub low_sint32 : ℕ → ℤ
 low_sint32 v = unzigzag (v % 2 ^ 32)
 
+-- an entry of a delta column: all 64 bits of the number, or its low 32 bits
+abbrev pub delta_in : Bool → ℕ → ℤ
+delta_in narrow number = if narrow then low_sint32 number else unzigzag number
+
 -- two's complement in 32 bits, of the low 32 bits
 abbrev pub low_i32 : ℕ → ℤ
 low_i32 v = if nat_lt (v % 2 ^ 32) (2 ^ 31) then pos (v % 2 ^ 32) else negsuc (2 ^ 32 - 1 - v % 2 ^ 32)

@@ -1,21 +1,38 @@
 //! The values of a delta column.
 
+ghost use Rattle.std.specs.Prelude.{◌≡◌, ◌≤ℤ◌, pos};
+ghost use Rattle.pbf_wire.specs.Signed.{delta_in};
+
 use crate::column::Column;
 use crate::signed::{low_sint32, unzigzag};
-use crate::sum::Sum;
+use crate::sum::added;
+
+/// The entry that a number of the column means.
+fn delta_in(narrow: bool, number: u64) -> i64
+    ensures { result ≡ delta_in narrow number }
+{
+    if narrow {
+        i64::from(low_sint32(number))
+    } else {
+        unzigzag(number)
+    }
+}
 
 /// A cursor over the values of a delta column: the running sums of its entries, up to the first that isn't strictly between
 /// `-limit` and `limit`. It takes no memory, and a copy of it goes on by itself.
 #[derive(Clone, Copy, Debug)]
 pub struct Sums<'a> {
     entries: Column<'a>,
-    sum: Sum,
+    /// The last value given, 0 before the first.
+    total: i64,
+    limit: i64,
     /// Whether the entries are `sint32`, of which the low 32 bits count.
     narrow: bool,
+    ghost positive: { pos 1 ≤ℤ limit },
 }
 
 impl<'a> Sums<'a> {
-    ghost use Rattle.std.specs.Prelude.{◌≡◌, ◌≤ℤ◌, pos, map};
+    ghost use Rattle.std.specs.Prelude.{map};
     ghost use Rattle.pbf_wire.specs.Signed.{unzigzag, low_sint32};
     ghost use Rattle.pbf_wire.specs.Sums.{sums_within};
     ghost use Rattle.pbf_wire.specs.Cursors.{numbers_left, sums_left};
@@ -27,7 +44,8 @@ impl<'a> Sums<'a> {
     {
         Sums {
             entries,
-            sum: Sum::new(limit),
+            total: 0,
+            limit,
             narrow: false,
         }
     }
@@ -39,7 +57,8 @@ impl<'a> Sums<'a> {
     {
         Sums {
             entries,
-            sum: Sum::new(limit),
+            total: 0,
+            limit,
             narrow: true,
         }
     }
@@ -58,13 +77,9 @@ impl<'a> Iterator for Sums<'a> {
     fn next(&mut self) -> Option<i64> {
         let mut entries = self.entries;
         let number = entries.next()?;
-        let delta = if self.narrow {
-            i64::from(low_sint32(number))
-        } else {
-            unzigzag(number)
-        };
-        let sum = self.sum.add(delta)?;
+        let total = added(self.total, delta_in(self.narrow, number), self.limit)?;
         self.entries = entries;
-        Some(sum)
+        self.total = total;
+        Some(total)
     }
 }

@@ -1,0 +1,4 @@
+pub mod Scale
+pub mod Entity
+pub mod Sources
+pub mod Views

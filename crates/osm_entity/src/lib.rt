@@ -1,0 +1,19 @@
+//! OpenStreetMap's entities: nodes, ways and relations, as views over a block's bytes or over owned ones, their weight and
+//! ranges, and the box of an extract.
+#![tactic(auto)]
+
+mod locations;
+mod member;
+mod meta;
+mod node;
+mod refs;
+mod scale;
+mod tags;
+
+pub use locations::{Locations, NanoLocations, OwnedLocations, SummedLocations};
+pub use member::{ColumnMembers, Member, MemberKind, MemberRef, Members, OwnedMembers};
+pub use meta::{Meta, MetaRef};
+pub use node::{Node, NodeRef};
+pub use refs::{OwnedRefs, Refs};
+pub use scale::Scale;
+pub use tags::{OwnedTags, PairedTags, RunTags, Tag, Tags};
