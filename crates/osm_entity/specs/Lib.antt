@@ -2,3 +2,5 @@ pub mod Scale
 pub mod Entity
 pub mod Sources
 pub mod Views
+pub mod Weight
+pub mod Ranges

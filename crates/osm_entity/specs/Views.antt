@@ -5,8 +5,14 @@ use Rattle.osm_entity.specs.declared.meta.Meta.{Meta}
 use Rattle.osm_entity.specs.declared.meta.MetaRef.{MetaRef}
 use Rattle.osm_entity.specs.declared.node.Node.{Node}
 use Rattle.osm_entity.specs.declared.node.NodeRef.{NodeRef}
-use Rattle.osm_entity.specs.Entity.{MetaSpec, NodeSpec}
-use Rattle.osm_entity.specs.Sources.{owned_tag, tags_left}
+use Rattle.osm_entity.specs.declared.way.Way.{Way}
+use Rattle.osm_entity.specs.declared.way.WayRef.{WayRef}
+use Rattle.osm_entity.specs.declared.relation.Relation.{Relation}
+use Rattle.osm_entity.specs.declared.relation.RelationRef.{RelationRef}
+use Rattle.osm_entity.specs.declared.entity.EntityRef.{EntityRef}
+use Rattle.osm_entity.specs.declared.entity.EntityRef.TheVariants as kinds
+use Rattle.osm_entity.specs.Entity.{MetaSpec, NodeSpec, WaySpec, RelationSpec, EntitySpec, node, way, relation}
+use Rattle.osm_entity.specs.Sources.{owned_tag, owned_member, tags_left, refs_left, locations_left, members_left}
 
 -- ---- views
 
@@ -30,6 +36,30 @@ node_of view = record {
   scale = view.scale;
 }
 
+abbrev pub way_of : WayRef → WaySpec
+way_of view = record {
+  id = view.id;
+  meta = meta_of view.meta;
+  tags = tags_left view.tags;
+  refs = refs_left view.refs;
+  locations = locations_left view.locations;
+  scale = view.scale;
+}
+
+abbrev pub relation_of : RelationRef → RelationSpec
+relation_of view = record {
+  id = view.id;
+  meta = meta_of view.meta;
+  tags = tags_left view.tags;
+  members = members_left view.members;
+  scale = view.scale;
+}
+
+abbrev pub entity_of : EntityRef → EntitySpec
+entity_of (kinds.Node view) = node (node_of view)
+entity_of (kinds.Way view) = way (way_of view)
+entity_of (kinds.Relation view) = relation (relation_of view)
+
 -- ---- owned entities
 
 abbrev pub owned_meta : Meta → MetaSpec
@@ -49,5 +79,24 @@ owned_node owned = record {
   lon = owned.lon;
   meta = owned_meta owned.meta;
   tags = map owned_tag owned.tags.items;
+  scale = owned.scale;
+}
+
+abbrev pub owned_way : Way → WaySpec
+owned_way owned = record {
+  id = owned.id;
+  meta = owned_meta owned.meta;
+  tags = map owned_tag owned.tags.items;
+  refs = owned.refs.items;
+  locations = owned.locations.items;
+  scale = owned.scale;
+}
+
+abbrev pub owned_relation : Relation → RelationSpec
+owned_relation owned = record {
+  id = owned.id;
+  meta = owned_meta owned.meta;
+  tags = map owned_tag owned.tags.items;
+  members = map owned_member owned.members.items;
   scale = owned.scale;
 }

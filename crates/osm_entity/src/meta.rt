@@ -1,11 +1,14 @@
 //! Who changed an entity, and when.
 
-ghost use Rattle.std.specs.Prelude.{◌≡◌, IfOk};
+ghost use Rattle.std.specs.Prelude.{◌≡◌, ◌↔◌, IsTrue, IfOk};
 ghost use Rattle.std.specs.Option.{option_map};
 ghost use Rattle.osm_entity.specs.Scale.{millis};
+ghost use Rattle.osm_entity.specs.Weight.{text_weight};
+ghost use Rattle.osm_entity.specs.Ranges.{IsStored, IsUid, IfPresent, MetaFits};
 ghost use Rattle.osm_entity.specs.Views.{meta_of, owned_meta};
 
 use crate::scale::Scale;
+use crate::weight::id_fits;
 use std::alloc::{AllocError, Global};
 
 /// The metadata of an owned entity. A field that the entity doesn't have is `None`.
@@ -55,6 +58,23 @@ impl<'a> MetaRef<'a> {
         self.timestamp.map(|timestamp| scale.millis(timestamp))
     }
 
+    /// The length of the user's text.
+    pub(crate) fn user_weight(&self) -> u64
+        ensures { result ≡ text_weight (meta_of self.now).user }
+    {
+        match self.user {
+            Some(user) => user.len() as u64,
+            None => 0,
+        }
+    }
+
+    /// Whether the numbers that are present are in their ranges.
+    pub(crate) fn fits(&self) -> bool
+        ensures { IsTrue result ↔ MetaFits (meta_of self.now) }
+    {
+        stored_fits(self.timestamp) && stored_fits(self.changeset) && uid_fits(self.uid)
+    }
+
     /// The same metadata with a user of its own.
     pub fn to_owned(&self, alloc: Global) -> Result<Meta, AllocError>
         ensures { IfOk result (λ owned. owned_meta owned ≡ meta_of self.now) }
@@ -71,5 +91,25 @@ impl<'a> MetaRef<'a> {
             user,
             visible: self.visible,
         })
+    }
+}
+
+/// Whether a time or a changeset is absent or in its range.
+fn stored_fits(number: Option<i64>) -> bool
+    ensures { IsTrue result ↔ IfPresent IsStored number }
+{
+    match number {
+        Some(number) => id_fits(number),
+        None => true,
+    }
+}
+
+/// Whether a uid is absent or in its range.
+fn uid_fits(uid: Option<i32>) -> bool
+    ensures { IsTrue result ↔ IfPresent IsUid uid }
+{
+    match uid {
+        Some(uid) => uid.unsigned_abs() < 1 << 30,
+        None => true,
     }
 }

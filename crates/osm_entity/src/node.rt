@@ -1,14 +1,17 @@
 //! Nodes.
 
-ghost use Rattle.std.specs.Prelude.{◌≡◌, IfOk};
+ghost use Rattle.std.specs.Prelude.{◌≡◌, ◌↔◌, ◌-◌, ◌^◌, min, IsTrue, IfOk};
 ghost use Rattle.std.specs.Option.{option_map};
 ghost use Rattle.osm_entity.specs.Scale.{nano_lat, nano_lon, millis};
 ghost use Rattle.osm_entity.specs.Sources.{tags_left};
+ghost use Rattle.osm_entity.specs.Weight.{node_weight};
+ghost use Rattle.osm_entity.specs.Ranges.{NodeFits};
 ghost use Rattle.osm_entity.specs.Views.{meta_of, node_of, owned_node};
 
 use crate::meta::{Meta, MetaRef};
 use crate::scale::Scale;
 use crate::tags::{OwnedTags, Tag, Tags, owned_tags};
+use crate::weight::{HIGHEST_WEIGHT, id_fits, tags_weight};
 use std::alloc::{AllocError, Global};
 
 /// A node that owns its texts.
@@ -126,6 +129,27 @@ impl<'a> NodeRef<'a> {
         ensures { result ≡ option_map (millis (node_of self.now).scale) (node_of self.now).meta.timestamp }
     {
         self.meta.millis(self.scale)
+    }
+
+    /// What the node counts for in a block, or the greatest number where it is more.
+    pub fn weight(&self) -> u64
+        ensures { result ≡ min (node_weight (node_of self.now)) (2 ^ 64 - 1) }
+    {
+        tags_weight(self.tags)
+            .saturating_add(self.meta.user_weight())
+            .saturating_add(160)
+    }
+
+    /// Whether all stored numbers are in their ranges, the weight is within its limit, and both granularities are at least 1.
+    pub fn fits(&self) -> bool
+        ensures { IsTrue result ↔ NodeFits (node_of self.now) }
+    {
+        id_fits(self.id)
+            && id_fits(self.lat)
+            && id_fits(self.lon)
+            && self.meta.fits()
+            && self.scale.fits()
+            && self.weight() <= HIGHEST_WEIGHT
     }
 
     /// The same node with texts of its own.
