@@ -1,6 +1,6 @@
 //! Ways.
 
-ghost use Rattle.std.specs.Prelude.{◌≡◌, ◌↔◌, ◌-◌, ◌^◌, min, map, IsTrue, IfOk};
+ghost use Rattle.std.specs.Prelude.{◌≡◌, ◌↔◌, ◌-◌, ◌^◌, min, map, length, IsTrue, IfOk};
 ghost use Rattle.std.specs.Option.{option_map};
 ghost use Rattle.osm_entity.specs.Scale.{millis};
 ghost use Rattle.osm_entity.specs.Entity.{nano_location};
@@ -184,14 +184,10 @@ impl<'a> WayRef<'a> {
     }
 }
 
-/// Whether there are no locations, or as many as refs.
-fn located(refs: Refs<'_>, locations: Locations<'_>) -> bool
-    ensures { IsTrue result ↔ AreLocated (refs_left refs.entry) (locations_left locations.entry) }
+/// Whether there are as many locations as refs.
+fn as_many(refs: Refs<'_>, locations: Locations<'_>) -> bool
+    ensures { IsTrue result ↔ (length (locations_left locations.entry) ≡ length (refs_left refs.entry)) }
 {
-    let mut rest = locations;
-    if rest.next().is_none() {
-        return true;
-    }
     let mut rest = locations;
     for _reference in refs {
         if rest.next().is_none() {
@@ -199,4 +195,12 @@ fn located(refs: Refs<'_>, locations: Locations<'_>) -> bool
         }
     }
     rest.next().is_none()
+}
+
+/// Whether there are no locations, or as many as refs.
+fn located(refs: Refs<'_>, locations: Locations<'_>) -> bool
+    ensures { IsTrue result ↔ AreLocated (refs_left refs.entry) (locations_left locations.entry) }
+{
+    let mut rest = locations;
+    rest.next().is_none() || as_many(refs, locations)
 }
