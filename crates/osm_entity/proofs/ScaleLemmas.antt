@@ -1,5 +1,5 @@
 -- Products of stored numbers.
-use Rattle.std.proofs.Common.{◌≡◌, ℕ, ◌*◌, ◌^◌, ◌≤◌, ◌<◌, ℤ, FitsSigned, arith}
+use Rattle.std.proofs.Common.{◌^◌, ◌≤◌, ℤ, FitsSigned, arith}
 use Rattle.std.specs.Prelude.{nat_abs, ◌*ℤ◌}
 use Rattle.std.specs.Int.{w32, w64}
 use Rattle.std.proofs.lemmas.Int.{ints, unsigned_abs-mul}

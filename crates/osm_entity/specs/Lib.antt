@@ -4,3 +4,6 @@ pub mod Sources
 pub mod Views
 pub mod Weight
 pub mod Ranges
+pub mod BoundingBox
+pub mod Degrees
+pub mod BoxText

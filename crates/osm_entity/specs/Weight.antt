@@ -1,7 +1,7 @@
 -- What an entity counts for in a block: 160, 32 for each tag, ref, location and member, and the lengths of all its texts,
 -- repeats counted.
 use Rattle.std.specs.Prelude.{ℕ, ◌+◌, ◌*◌, List, [], ◌∷◌, length, Option, Some, None}
-use Rattle.osm_entity.specs.Entity.{TagSpec, MetaSpec, MemberSpec, NodeSpec, WaySpec, RelationSpec, EntitySpec, node, way, relation}
+use Rattle.osm_entity.specs.Entity.{TagSpec, MemberSpec, NodeSpec, WaySpec, RelationSpec, EntitySpec, node, way, relation}
 
 abbrev pub tags_weight : List TagSpec → ℕ
 tags_weight [] = 0

@@ -2,6 +2,8 @@
 //! ranges, and the box of an extract.
 #![tactic(auto)]
 
+mod bounding_box;
+mod degrees;
 mod entity;
 mod locations;
 mod member;
@@ -14,6 +16,7 @@ mod tags;
 mod way;
 mod weight;
 
+pub use bounding_box::{BoundingBox, BoxFault};
 pub use entity::EntityRef;
 pub use locations::{Locations, NanoLocations, OwnedLocations, SummedLocations};
 pub use member::{ColumnMembers, Member, MemberKind, MemberRef, Members, OwnedMembers};

@@ -108,7 +108,12 @@ impl<'a> ColumnMembers<'a> {
     ghost use Rattle.osm_entity.specs.Sources.{column_members, column_members_left};
 
     /// As many members as all three columns have numbers for. A number that the table has no text for gives an empty role.
-    pub fn new(kinds: Column<'a>, ids: Sums<'a>, roles: Column<'a>, table: &'a Table<'a>) -> ColumnMembers<'a>
+    pub fn new(
+        kinds: Column<'a>,
+        ids: Sums<'a>,
+        roles: Column<'a>,
+        table: &'a Table<'a>,
+    ) -> ColumnMembers<'a>
         ensures { column_members_left result ≡ column_members table.now (numbers_left kinds.entry) (sums_left ids.entry) (numbers_left roles.entry) }
     {
         ColumnMembers {

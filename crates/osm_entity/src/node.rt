@@ -55,7 +55,14 @@ pub struct NodeRef<'a> {
 
 impl<'a> NodeRef<'a> {
     /// The node of these parts.
-    pub fn new(id: i64, lat: i64, lon: i64, meta: MetaRef<'a>, tags: Tags<'a>, scale: Scale) -> NodeRef<'a>
+    pub fn new(
+        id: i64,
+        lat: i64,
+        lon: i64,
+        meta: MetaRef<'a>,
+        tags: Tags<'a>,
+        scale: Scale,
+    ) -> NodeRef<'a>
         ensures { node_of result ≡ record { id = id; lat = lat; lon = lon; meta = meta_of meta.entry; tags = tags_left tags.entry; scale = scale } }
     {
         NodeRef {

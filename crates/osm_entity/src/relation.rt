@@ -60,11 +60,11 @@ impl<'a> RelationRef<'a> {
         scale: Scale,
     ) -> RelationRef<'a>
         ensures { relation_of result ≡ record {
-            id = id;
-            meta = meta_of meta.entry;
-            tags = tags_left tags.entry;
-            members = members_left members.entry;
-            scale = scale;
+          id = id;
+          meta = meta_of meta.entry;
+          tags = tags_left tags.entry;
+          members = members_left members.entry;
+          scale = scale;
         } }
     {
         RelationRef {

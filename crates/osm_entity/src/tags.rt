@@ -177,10 +177,7 @@ pub(crate) fn owned_tags(alloc: Global, tags: Tags<'_>) -> Result<Vec<Tag>, Allo
 {
     let mut owned = Vec::new(alloc);
     for (key, value) in tags {
-        owned.push((
-            Vec::from_slice(alloc, key)?,
-            Vec::from_slice(alloc, value)?,
-        ))?;
+        owned.push((Vec::from_slice(alloc, key)?, Vec::from_slice(alloc, value)?))?;
     }
     Ok(owned)
 }

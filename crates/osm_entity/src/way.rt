@@ -70,12 +70,12 @@ impl<'a> WayRef<'a> {
         scale: Scale,
     ) -> WayRef<'a>
         ensures { way_of result ≡ record {
-            id = id;
-            meta = meta_of meta.entry;
-            tags = tags_left tags.entry;
-            refs = refs_left refs.entry;
-            locations = locations_left locations.entry;
-            scale = scale;
+          id = id;
+          meta = meta_of meta.entry;
+          tags = tags_left tags.entry;
+          refs = refs_left refs.entry;
+          locations = locations_left locations.entry;
+          scale = scale;
         } }
     {
         WayRef {
