@@ -17,9 +17,9 @@ box_of_edges left bottom right top =
     else (if int_lt top bottom then Err BottomOverTop
     else Ok (record { left = left; bottom = bottom; right = right; top = top }))))
 
+abbrev pub is_between : ℤ → ℤ → ℤ → Bool
+is_between least number most = int_le least number && int_le number most
+
 -- a place in nanodegrees is in the box, edges included
-pub record IsInside (area : BoundingBox) (lat lon : ℤ) : Type 0 where
-  pub left : area.left ≤ℤ lon
-  pub right : lon ≤ℤ area.right
-  pub bottom : area.bottom ≤ℤ lat
-  pub top : lat ≤ℤ area.top
+abbrev pub is_inside : BoundingBox → ℤ → ℤ → Bool
+is_inside area lat lon = is_between area.bottom lat area.top && is_between area.left lon area.right

@@ -1,7 +1,7 @@
 //! The box of an extract.
 
 ghost use Rattle.std.specs.Prelude.{◌≡◌, ◌↔◌, ◌≤ℤ◌, pos, IsTrue};
-ghost use Rattle.osm_entity.specs.BoundingBox.{box_of_edges, is_within as is_within_limit, IsInside};
+ghost use Rattle.osm_entity.specs.BoundingBox.{box_of_edges, is_within as is_within_limit, is_between, is_inside};
 ghost use Rattle.osm_entity.specs.Degrees.{box_of_text};
 
 use crate::degrees::{Parts, degrees};
@@ -105,20 +105,20 @@ impl BoundingBox {
     }
 
     fn spans_lat(&self, lat: i128) -> bool
-        ensures { IsTrue result ↔ ((self.now.bottom ≤ℤ lat) × (lat ≤ℤ self.now.top)) }
+        ensures { result ≡ is_between self.now.bottom lat self.now.top }
     {
         i128::from(self.bottom) <= lat && lat <= i128::from(self.top)
     }
 
     fn spans_lon(&self, lon: i128) -> bool
-        ensures { IsTrue result ↔ ((self.now.left ≤ℤ lon) × (lon ≤ℤ self.now.right)) }
+        ensures { result ≡ is_between self.now.left lon self.now.right }
     {
         i128::from(self.left) <= lon && lon <= i128::from(self.right)
     }
 
     /// Whether the place, in nanodegrees, is in the box or on one of its edges.
     pub fn contains(&self, lat: i128, lon: i128) -> bool
-        ensures { IsTrue result ↔ IsInside self.now lat lon }
+        ensures { result ≡ is_inside self.now lat lon }
     {
         self.spans_lat(lat) && self.spans_lon(lon)
     }

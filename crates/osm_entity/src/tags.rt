@@ -11,18 +11,11 @@ use std::alloc::{AllocError, Global};
 /// A key and its value.
 pub type Tag = (Vec<u8>, Vec<u8>);
 
-/// The text of a number; empty where the table has none.
-fn text_of<'a>(table: &'a Table<'a>, number: u32) -> &'a [u8]
-    ensures { result.now ≡ text table.now number }
-{
-    table.get(number as usize).unwrap_or(&[])
-}
-
 /// The text that a stored number names, of which the low 32 bits count; empty where the table has none.
 pub(crate) fn named<'a>(table: &'a Table<'a>, number: u64) -> &'a [u8]
     ensures { result.now ≡ named table.now number }
 {
-    text_of(table, low_u32(number))
+    table.text(low_u32(number) as usize)
 }
 
 /// The tags of an owned entity that are still to come.
@@ -91,13 +84,13 @@ impl<'a> Iterator for RunTags<'a> {
     #[tactic(auto, using(crate::proofs::TagLemmas::run_steps))]
     fn next(&mut self) -> Option<(&'a [u8], &'a [u8])> {
         let mut numbers = self.numbers;
-        let key = low_u32(numbers.next()?);
+        let key = low_u32(numbers.next()?) as usize;
         if key == 0 {
             return None;
         }
-        let value = low_u32(numbers.next()?);
+        let value = low_u32(numbers.next()?) as usize;
         self.numbers = numbers;
-        Some((text_of(self.table, key), text_of(self.table, value)))
+        Some((self.table.text(key), self.table.text(value)))
     }
 }
 

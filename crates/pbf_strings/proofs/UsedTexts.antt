@@ -8,7 +8,7 @@ use Rattle.std.proofs.lemmas.Slice.Eq.{bytes_eq-Decides}
 use Rattle.std.specs.Prelude.{slice_get}
 use Rattle.std.proofs.lemmas.List.Recursion.{is_position_or_len}
 use Rattle.std.proofs.lemmas.Option.{cond_some}
-use Rattle.pbf_strings.specs.TableOut.{with_text, place_in, index_in, table_of}
+use Rattle.pbf_strings.specs.TableOut.{has_text, with_text, place_in, index_in, table_of}
 
 pub same_text : (text : List ℕ) → bytes_eq text text ≡ true
 same_text text = nat_list_eq_equiv.refl text
@@ -39,6 +39,10 @@ module _ {K : Type 0} (items : K → List ℕ) where
 
       by_key : map items (cond (list_any (λ k. bytes_eq (items key) (items k)) keys) keys (keys ++ key ∷ [])) ≡ with_text (map items keys) (items key)
       by_key = by _ ∙ ap (λ b. cond b (map items keys) (map items keys ++ items key ∷ [])) (sym (any_map (items key) keys))
+
+  -- a text that is not found is not among them
+  pub not_missing : (text : List ℕ) (keys : List K) → list_any (λ key. bytes_eq text (items key)) keys ≡ false → has_text (map items keys) text ≡ true → ⊥
+  not_missing text keys e h = let f = sym e ∙ (sym (any_map text keys) ∙ h) in cc
 
   pub place_is : (text : List ℕ) (keys : List K) → position_or_len (λ key. bytes_eq text (items key)) keys ≡ place_in (map items keys) text
   place_is text keys = sym (is_position_or_len (λ ks. place_in (map items ks) text) (λ key. bytes_eq text (items key)) refl (λ k ks. refl) keys)

@@ -1,12 +1,16 @@
 -- A string table that is being written: its texts in order of first use.
-use Rattle.std.specs.Prelude.{ℕ, ◌+◌, List, [], ◌∷◌, ◌++◌, if◌then◌else◌, length}
+use Rattle.std.specs.Prelude.{ℕ, Bool, ◌+◌, List, [], ◌∷◌, ◌++◌, if◌then◌else◌, length}
 use Rattle.std.specs.List.{list_any}
 use Rattle.std.specs.Str.{bytes_eq}
 use Rattle.pbf_wire.specs.Message.{Each, message}
 
+-- the text is among them
+abbrev pub has_text : List (List ℕ) → List ℕ → Bool
+has_text texts text = list_any (bytes_eq text) texts
+
 -- the texts after one more is used
 abbrev pub with_text : List (List ℕ) → List ℕ → List (List ℕ)
-with_text texts text = if list_any (bytes_eq text) texts then texts else texts ++ text ∷ []
+with_text texts text = if has_text texts text then texts else texts ++ text ∷ []
 
 -- the place of the first text that is this one, or how many texts there are
 abbrev pub place_in : List (List ℕ) → List ℕ → ℕ

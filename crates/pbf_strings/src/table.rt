@@ -7,7 +7,7 @@ ghost use Rattle.pbf_wire.specs.declared.fault.ReadFault.TheVariants.{Refused};
 ghost use Rattle.pbf_wire.specs.Occurrence.{items};
 ghost use Rattle.pbf_wire.specs.Payload.{content};
 ghost use Rattle.pbf_wire.specs.Reading.{bytes_in};
-ghost use Rattle.pbf_strings.specs.Texts.{texts, first_text, text_at, count_fault, table_fault};
+ghost use Rattle.pbf_strings.specs.Texts.{text, texts, first_text, text_at, count_fault, table_fault};
 ghost use Rattle.pbf_wire.specs.Wire.{judged};
 
 use pbf_wire::{Fault, Fields, Kind, Payload, ReadFault, Reason, judge_wire};
@@ -169,6 +169,13 @@ impl<'a> Table<'a> {
     {
         let place = *self.places.get(index)?;
         Some(text_at(self.message, place as usize))
+    }
+
+    /// The text of an index, counted from 0, or the empty text where there is none. Takes no memory.
+    pub fn text(&self, index: usize) -> &'a [u8]
+        ensures { result.now ≡ text self.now index }
+    {
+        self.get(index).unwrap_or(&[])
     }
 
     /// How many bytes the table holds: four for each text.

@@ -1,9 +1,9 @@
 //! A table that is written: its texts in order of first use.
 
-ghost use Rattle.std.specs.Prelude.{◌≡◌, ◌<◌, ◌≤◌, ◌-◌, ◌^◌, ◌↔◌, min, ◌++◌, [], length, map, Some, IsTrue, IfOk, OnOk, OnErr, slice_get};
+ghost use Rattle.std.specs.Prelude.{◌≡◌, ◌<◌, ◌≤◌, ◌-◌, ◌^◌, ◌↔◌, min, ◌++◌, [], length, map, Some, true, IsTrue, IsOk, IfOk, OnOk, OnErr, slice_get};
 ghost use Rattle.std.specs.List.{sum_by};
 ghost use Rattle.pbf_wire.specs.Message.{Each, slot_bytes};
-ghost use Rattle.pbf_strings.specs.TableOut.{with_text, index_in, text_held, table_of, table_message};
+ghost use Rattle.pbf_strings.specs.TableOut.{has_text, with_text, index_in, text_held, table_of, table_message};
 
 use crate::table::TEXT;
 use indexmap::IndexSet;
@@ -67,6 +67,7 @@ impl<S: BuildHasher> TableOut<S> {
         ensures texts { OnOk result (self.new ≡ with_text self.old text.now) }
         ensures index { IfOk result (λ index. index ≡ index_in self.new text.now) }
         ensures named { IfOk result (λ index. slice_get (table_of self.new) index ≡ Some text.now) }
+        ensures known { has_text self.old text.now ≡ true → IsOk result }
         ensures err { OnErr result (self.new ≡ self.old) }
     {
         let index = match self.texts.get_index_of(text) {

@@ -2,7 +2,7 @@ use Rattle.std.proofs.Common.{◌≡◌, ◌+◌, ap, sym, ◌∙◌, true, is_s
 use Rattle.std.specs.List.{list_any}
 use Rattle.std.specs.Str.{bytes_eq}
 use Rattle.pbf_strings.specs.TableOut.{with_text, place_in, index_in}
-use Rattle.pbf_strings.proofs.UsedTexts.{kept, added, place_found, place_is, place_with, text_named}
+use Rattle.pbf_strings.proofs.UsedTexts.{kept, added, not_missing, place_found, place_is, place_with, text_named}
 use Rattle.pbf_strings.proofs.table_out.TableOut.index_of.Goals as goal
 use Rattle.pbf_strings.proofs.table_out.TableOut.index_of.Goals.{in-Some, in-None+in_ok-text-in-None+in_ok-index-in-None}
 
@@ -38,3 +38,11 @@ returns-clause-named g c =
     let texts : c.match-get_index_of.self ≡ with_text old text = returns-clause-texts g c in
     let index : c.match-get_index_of.index + 1 ≡ index_in c.match-get_index_of.self text = returns-clause-index g c in
     rw (index, texts) (text_named old text)
+
+pub returns-in_err-text-in-None-clause-known : goal.returns-in_err-text-in-None-clause-known
+returns-in_err-text-in-None-clause-known g c = λ h.
+    absurd (not_missing (λ k. k.items) c.args.text.now c.self.inside.texts.keys (sym c.get_index_of.ensures.found ∙ ap is_some c.in-None.is) (rw (← c.self.view_is) at h))
+
+pub returns-in_err-index-in-None-clause-known : goal.returns-in_err-index-in-None-clause-known
+returns-in_err-index-in-None-clause-known g c = λ h.
+    absurd (not_missing (λ k. k.items) c.args.text.now c.self.inside.texts.keys (sym c.get_index_of.ensures.found ∙ ap is_some c.in-None.is) (rw (← c.self.view_is) at h))
