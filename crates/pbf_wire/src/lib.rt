@@ -17,6 +17,8 @@ mod reading;
 mod signed;
 mod sum;
 mod sums;
+#[cfg(test)]
+mod tests;
 mod varint;
 mod writing;
 

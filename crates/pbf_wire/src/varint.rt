@@ -1,10 +1,13 @@
-//! Numbers of seven bits a byte.
+//! Varints: numbers of 64 bits, seven bits a byte, the lowest first. The top bit is set on every byte but the last.
 
 ghost use Rattle.std.specs.Prelude.{◌≡◌, ◌≤◌, ◌<◌, ◌^◌, ℕ, IfOk, OnOk, OnErr, Result, Ok, Err, ◌↔◌, ◌++◌, List, length, take, drop, slice_range};
 ghost use Rattle.pbf_wire.specs.Varint.{IsVarint, IsCut, IsLong, varint_at, moved_by, shortest};
 
 use crate::fault::Reason;
 use std::alloc::AllocError;
+
+/// The most bytes that a varint takes.
+const MAX_LENGTH: usize = 10;
 
 /// The number that the bytes begin with, and how many bytes it takes.
 pub(crate) fn first_varint(bytes: &[u8]) -> Result<(u64, usize), Reason>
@@ -24,13 +27,22 @@ pub(crate) fn first_varint(bytes: &[u8]) -> Result<(u64, usize), Reason>
     Err(Reason::VarintCut)
 }
 
-/// The number that is spelled from `at` on, and the index after it.
+/// The number that is spelled from the index `at` on, and the index after it.
+///
+/// Spellings that are longer than needed are read. The errors are `VarintCut`, where the bytes end inside the varint, and
+/// `VarintLong`, where ten bytes have the top bit set or the tenth is above 1, so that the number would not fit 64 bits.
 pub fn get_varint(bytes: &[u8], at: usize) -> Result<(u64, usize), Reason>
     requires { at ≤ length bytes.now }
+
+    // A number is answered exactly where the bytes are a spelling of it.
     ensures found { IfOk result (λ found. (at < found.1) × (found.1 ≤ length bytes.now) × IsVarint found.0 (slice_range bytes.now at found.1)) }
     ensures only { (v k : ℕ) → at ≤ k → k ≤ length bytes.now → IsVarint v (slice_range bytes.now at k) → result ≡ Ok (v, k) }
+
+    // Each error comes exactly where its definition holds.
     ensures cut { result ≡ Err Reason.VarintCut ↔ IsCut (drop at bytes.now) }
     ensures long { result ≡ Err Reason.VarintLong ↔ IsLong (drop at bytes.now) }
+
+    // The same by computing.
     ensures exact { result ≡ moved_by at (varint_at (drop at bytes.now)) }
 {
     let (value, length) = first_varint(&bytes[at..])?;
@@ -38,11 +50,11 @@ pub fn get_varint(bytes: &[u8], at: usize) -> Result<(u64, usize), Reason>
 }
 
 /// The shortest spelling, at the front of the array, and its length.
-fn shortest_spelling(value: u64) -> ([u8; 10], usize)
+fn shortest_spelling(value: u64) -> ([u8; MAX_LENGTH], usize)
     ensures within { result.1 ≤ 10 }
     ensures spelling { take result.1 result.0 ≡ shortest value }
 {
-    let mut spelling = [0; 10];
+    let mut spelling = [0; MAX_LENGTH];
     let mut length = 0;
     let mut rest = value;
     while rest >= 128 {
@@ -54,7 +66,7 @@ fn shortest_spelling(value: u64) -> ([u8; 10], usize)
     (spelling, length + 1)
 }
 
-/// Appends the shortest spelling. An `Err` changes nothing.
+/// Appends the shortest spelling, of one to ten bytes. An `Err` leaves the output as it was.
 pub fn put_varint(out: &mut Vec<u8>, value: u64) -> Result<(), AllocError>
     ensures ok { OnOk result (out.new.items ≡ out.old.items ++ shortest value) }
     ensures err { OnErr result (out.new.items ≡ out.old.items) }
@@ -64,7 +76,7 @@ pub fn put_varint(out: &mut Vec<u8>, value: u64) -> Result<(), AllocError>
     Ok(())
 }
 
-/// How many bytes the shortest spelling takes.
+/// How many bytes the shortest spelling takes, from one to ten.
 pub fn varint_len(value: u64) -> usize
     ensures { result ≡ length (shortest value) }
 {

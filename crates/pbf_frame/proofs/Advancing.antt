@@ -1,0 +1,144 @@
+-- What `next` of a reader does, from what was read.
+use Rattle.std.proofs.Common.{◌≡◌, ℕ, ◌+◌, ◌<◌, ◌≤◌, ◌||◌, Bool, true, List, length, Option, Some, None, Result, Ok, Err, refl, sym, ap, ◌∙◌, subst, arith}
+use Rattle.std.specs.Prelude.{OnOk}
+use Rattle.std.specs.Borrow.{GName}
+use Rattle.pbf_frame.specs.declared.frame.Frame.{Frame}
+use Rattle.pbf_frame.specs.declared.frame.FrameKind.{FrameKind}
+use Rattle.pbf_frame.specs.declared.reader.FrameReader.{FrameReader}
+use Rattle.pbf_frame.specs.declared.reader.State.{State}
+use Rattle.pbf_frame.specs.declared.reader.State.TheVariants.{Reading, Ended, Stopped}
+use Rattle.pbf_frame.specs.declared.reading.Seen.{Seen}
+use Rattle.pbf_frame.specs.declared.stop.Stop.{Stop}
+use Rattle.pbf_frame.specs.declared.stop.Stop.TheVariants.{Refused, Read, Write, Memory, Changed}
+use Rattle.pbf_frame.specs.Frames.{FrameSpec, is_header, frame_kind, frame_end, blob_at}
+use Rattle.pbf_frame.specs.Verdict.{Verdict, judged_known, with_first_known}
+use Rattle.pbf_frame.specs.Reads.{IsSeen, IsReaderStop, GaveFrame, GaveEnd, RefusedFrame}
+use Rattle.pbf_frame.specs.Next.{Advances, Gave, IsNext, IsLendingNext, IsSeeingNext, Shows, ShowsAnswer, SeesAnswer, verdict}
+use Rattle.pbf_frame.proofs.Judging.{gave_some, gave_none, gave_fault}
+
+reading_ended : (s : State) → s ≡ Reading → s ≡ Ended → ⊥
+reading_ended s a b = cc
+
+reading_stopped : (s : State) (stop : Stop) → s ≡ Reading → s ≡ Stopped stop → ⊥
+reading_stopped s stop a b = cc
+
+ended_stopped : (s : State) (stop : Stop) → s ≡ Ended → s ≡ Stopped stop → ⊥
+ended_stopped s stop a b = cc
+
+same_stop : (s : State) (stop other : Stop) → s ≡ Stopped stop → s ≡ Stopped other → stop ≡ other
+same_stop s stop other a b = cc
+
+-- what a read leaves whatever it answers
+pub record Keeps {F : Type 0} (failures : F → ℕ) (lender : F → List GName) (old new : FrameReader F) : Type 0 where
+  pub reading : old.state ≡ Reading
+  pub same_lender : lender new.feed ≡ lender old.feed
+  pub counts : failures old.feed ≤ failures new.feed
+
+gave_stop : (h : Bool) (p : ℕ) (old : Option (List ℕ)) (new : Option Verdict) (stop : Stop) → RefusedFrame h p old stop → Gave (judged_known h p old) (Err stop) new
+gave_stop h p old new (Refused e) refused = gave_fault h p old e refused
+gave_stop h p old new Read refused = tt
+gave_stop h p old new Write refused = tt
+gave_stop h p old new Memory refused = tt
+gave_stop h p old new (Changed pass) refused = tt
+
+module _ {F : Type 0} {remaining : F → Option (List ℕ)} {failures : F → ℕ} {lender : F → List GName} {carries : F → List ℕ → Type 0} where
+  was_reading : (old new : FrameReader F) (answer : Result (Option FrameSpec) Stop) → old.state ≡ Reading → Advances remaining failures lender carries old answer new → IsNext remaining failures lender carries old answer new
+  was_reading old new answer reading advances = (λ _. advances, λ ended. absurd (reading_ended old.state reading ended), λ stop stopped. absurd (reading_stopped old.state stop reading stopped))
+
+  -- a reader at its end stays there
+  pub sees_end_again : (old : FrameReader F) → old.state ≡ Ended → IsSeeingNext remaining failures lender carries old (Ok None) old
+  sees_end_again old ended = record {
+    answer = Ok None;
+    sees = refl;
+    next = (λ reading. absurd (reading_ended old.state reading ended), λ _. (refl, refl), λ stop stopped. absurd (ended_stopped old.state stop ended stopped))
+    }
+
+  -- a spent reader stays spent
+  pub sees_stop_again : (old : FrameReader F) (stop : Stop) → old.state ≡ Stopped stop → IsSeeingNext remaining failures lender carries old (Err stop) old
+  sees_stop_again old stop stopped = record {
+    answer = Err stop;
+    sees = refl;
+    next = (λ reading. absurd (reading_stopped old.state stop reading stopped), λ ended. absurd (ended_stopped old.state stop ended stopped), λ other is. (ap Err (same_stop old.state stop other stopped is), refl))
+    }
+
+  pub sees_frame : (old new : FrameReader F) (result : Result (Option Seen) Stop) (seen : Seen) → result ≡ Ok (Some seen) → Keeps failures lender old new → ((b : List ℕ) → carries old.feed b → carries new.feed b)
+      → GaveFrame old.had_header old.place new.header.items new.blob.items seen (remaining old.feed) (remaining new.feed)
+      → new.state ≡ old.state → new.place ≡ seen.blob_at + seen.size → old.place < seen.blob_at → new.had_header ≡ (old.had_header || is_header seen.kind)
+      → IsSeeingNext remaining failures lender carries old result new
+  sees_frame old new result seen is keeps carried gave state place later had =
+      let f = gave.frame in
+      let gives = gave_some old.had_header old.place (remaining old.feed) (remaining new.feed) f gave.given gave.untold in
+      let had_is : new.had_header ≡ (old.had_header || is_header (frame_kind f)) = had ∙ ap (λ (k : FrameKind). old.had_header || is_header k) gave.is_seen.kind_is in
+      let end_is : new.place ≡ frame_end f = place ∙ ap (λ (n : ℕ). n + seen.size) gave.is_seen.place ∙ ap (λ (n : ℕ). blob_at f + n) gave.is_seen.size_is in
+      subst (λ (r : Result (Option Seen) Stop). IsSeeingNext remaining failures lender carries old r new) (sym is) record {
+        answer = Ok (Some f);
+        sees = gave.is_seen;
+        next = was_reading old new (Ok (Some f)) keeps.reading record {
+          gave = gives.0 ∙ ap (λ (b : Bool). with_first_known f (judged_known b (frame_end f) (remaining new.feed))) (sym had_is) ∙ ap (λ (n : ℕ). with_first_known f (judged_known new.had_header n (remaining new.feed))) (sym end_is);
+          went = gives.1;
+          answers = (state ∙ keeps.reading, gave.offset, end_is, omega (arith, place, later), had_is);
+          ended = tt;
+          same_lender = keeps.same_lender;
+          still_carries = carried;
+          counts = keeps.counts;
+          stops = tt
+          }
+        }
+
+  pub sees_end : (old new : FrameReader F) (result : Result (Option Seen) Stop) → result ≡ Ok None → Keeps failures lender old new → ((b : List ℕ) → carries old.feed b → carries new.feed b)
+      → GaveEnd old.had_header old.place (remaining old.feed) (remaining new.feed) → new.state ≡ Ended → new.place ≡ old.place
+      → IsSeeingNext remaining failures lender carries old result new
+  sees_end old new result is keeps carried gave state place =
+      let gives = gave_none old.had_header old.place (remaining old.feed) (remaining new.feed) gave.given gave.untold in
+      subst (λ (r : Result (Option Seen) Stop). IsSeeingNext remaining failures lender carries old r new) (sym is) record {
+        answer = Ok None;
+        sees = refl;
+        next = was_reading old new (Ok None) keeps.reading record {
+          gave = gives.0;
+          went = gives.1;
+          answers = (state, place, gave.header_given);
+          ended = gave.end;
+          same_lender = keeps.same_lender;
+          still_carries = carried;
+          counts = keeps.counts;
+          stops = tt
+          }
+        }
+
+  pub sees_stop : (old new : FrameReader F) (result : Result (Option Seen) Stop) (stop : Stop) → result ≡ Err stop → Keeps failures lender old new
+      → RefusedFrame old.had_header old.place (remaining old.feed) stop → IsReaderStop (failures old.feed) (failures new.feed) stop → new.state ≡ Stopped stop → new.place ≡ old.place
+      → IsSeeingNext remaining failures lender carries old result new
+  sees_stop old new result stop is keeps refused cause state place =
+      subst (λ (r : Result (Option Seen) Stop). IsSeeingNext remaining failures lender carries old r new) (sym is) record {
+        answer = Err stop;
+        sees = refl;
+        next = was_reading old new (Err stop) keeps.reading record {
+          gave = gave_stop old.had_header old.place (remaining old.feed) (verdict remaining new) stop refused;
+          went = tt;
+          answers = (state, place);
+          ended = tt;
+          same_lender = keeps.same_lender;
+          still_carries = tt;
+          counts = keeps.counts;
+          stops = cause
+          }
+        }
+
+  -- ---- what is lent is what lies in the buffers
+
+  pub lends_err : (old new : FrameReader F) (r : Result (Option Seen) Stop) (result : Result (Option Frame) Stop) (stop : Stop) → r ≡ Err stop → result ≡ Err stop → IsSeeingNext remaining failures lender carries old r new → IsLendingNext remaining failures lender carries old result new
+  lends_err old new r result stop e is next =
+      let answer_is : next.answer ≡ Err stop = subst (λ (x : Result (Option Seen) Stop). SeesAnswer new.header.items new.blob.items x next.answer) e next.sees in
+      record { answer = next.answer; shows = subst (λ (x : Result (Option Frame) Stop). ShowsAnswer x next.answer) (sym is) answer_is; next = next.next }
+
+  pub lends_none : (old new : FrameReader F) (r : Result (Option Seen) Stop) → r ≡ Ok None → IsSeeingNext remaining failures lender carries old r new → IsLendingNext remaining failures lender carries old (Ok None) new
+  lends_none old new r e next = record { answer = next.answer; shows = subst (λ (x : Result (Option Seen) Stop). SeesAnswer new.header.items new.blob.items x next.answer) e next.sees; next = next.next }
+
+  pub lends_some : (old new : FrameReader F) (r : Result (Option Seen) Stop) (seen : Seen) (frame : Frame) → r ≡ Ok (Some seen) → ((f : FrameSpec) → IsSeen new.header.items new.blob.items seen f → Shows frame f) → IsSeeingNext remaining failures lender carries old r new → IsLendingNext remaining failures lender carries old (Ok (Some frame)) new
+  lends_some old new r seen frame e shows next =
+      let sees = subst (λ (x : Result (Option Seen) Stop). SeesAnswer new.header.items new.blob.items x next.answer) e next.sees in
+      record { answer = next.answer; shows = shown next.answer sees; next = next.next } where
+    shown : (answer : Result (Option FrameSpec) Stop) → SeesAnswer new.header.items new.blob.items (Ok (Some seen)) answer → ShowsAnswer (Ok (Some frame)) answer
+    shown (Ok (Some f)) sees = shows f sees
+    shown (Ok None) sees = absurd sees
+    shown (Err stop) sees = absurd sees

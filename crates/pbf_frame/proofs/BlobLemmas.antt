@@ -1,0 +1,41 @@
+-- What a blob without a fault holds.
+use Rattle.std.proofs.Common.{◌≡◌, ℕ, ◌<◌, ◌≤◌, Bool, true, false, if◌then◌else◌, nat_le, List, [], ◌∷◌, ◌++◌, Option, Some, None, length, refl, ap, arith}
+use Rattle.std.proofs.lemmas.Bool.Decides.{nat_tests}
+use Rattle.pbf_wire.specs.declared.fault.Fault.{Fault}
+use Rattle.pbf_wire.specs.declared.fault.Reason.TheVariants.{RawLong}
+use Rattle.pbf_wire.specs.Least.{least, lesser}
+use Rattle.pbf_wire.specs.Occurrence.{Occurrence, items, found}
+use Rattle.pbf_wire.specs.Reading.{last_of}
+use Rattle.pbf_wire.specs.Wire.{wire}
+use Rattle.pbf_frame.specs.declared.blob.TheConstants.{RAW, BLOB_KINDS, RAW_LIMIT}
+use Rattle.pbf_frame.specs.Faults.{fault, fault_where, earlier}
+use Rattle.pbf_frame.specs.Header.{text_in, text_of}
+use Rattle.pbf_frame.specs.Blob.{compressed, raw_faults, blob_faults, blob_fault, raw_of}
+
+-- only an empty list has no least
+pub least_none : (fs : List Fault) → least fs ≡ None → fs ≡ []
+least_none [] e = refl
+least_none (f ∷ fs) e = absurd (never f (least fs) e) where
+  chosen : (b : Bool) (f g : Fault) → (if b then Some g else Some f) ≡ None → ⊥
+  chosen true f g e = cc
+  chosen false f g e = cc
+  never : (f : Fault) (rest : Option Fault) → lesser (Some f) rest ≡ None → ⊥
+  never f None e = cc
+  never f (Some g) e = chosen _ f g e
+
+pub earlier_none : (one other : Option Fault) → earlier one other ≡ None → (one ≡ None) × (other ≡ None)
+earlier_none None other e = (refl, e)
+earlier_none (Some f) other e = absurd (never f e) where
+  never : (f : Fault) → Some f ≡ None → ⊥
+  never f e = cc
+
+raw_short : (at : ℕ) (last : Option Occurrence) (others : List Fault) → raw_faults at last others ≡ [] → length (text_of last) < RAW_LIMIT
+raw_short at None others e = omega arith
+raw_short at (Some o) others e = cases (nat_le RAW_LIMIT (length (text_in o.content))) refl e where
+  cases : (b : Bool) → nat_le RAW_LIMIT (length (text_in o.content)) ≡ b → fault_where b o.place RawLong ++ others ≡ [] → length (text_in o.content) < RAW_LIMIT
+  cases true is e = (let bad : ⊥ = cc in absurd bad)
+  cases false is e = grind (arith, nat_tests)
+
+pub payload_short : (at : ℕ) (blob : List ℕ) → blob_fault at blob ≡ None → length (raw_of at blob) < RAW_LIMIT
+unfolding blob_fault
+payload_short at blob e = raw_short at (last_of RAW (found (items at blob))) (compressed (found (items at blob))) (least_none (blob_faults at blob) (earlier_none (wire BLOB_KINDS (items at blob)) _ e).1)

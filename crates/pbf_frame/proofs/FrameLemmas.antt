@@ -1,0 +1,159 @@
+-- A frame read part by part is the next frame of the bytes.
+use Rattle.std.proofs.Common.{◌≡◌, ℕ, ◌+◌, Bool, true, List, ◌++◌, Option, Some, None, Result, Ok, Err, length, refl, sym, ap, ◌∙◌, subst, arith}
+use Rattle.pbf_wire.specs.declared.fault.Fault.{Fault}
+use Rattle.pbf_frame.specs.declared.frame.FrameKind.{FrameKind}
+use Rattle.pbf_frame.specs.declared.header.Head.{Head}
+use Rattle.pbf_frame.specs.declared.reading.Seen.{Seen}
+use Rattle.pbf_frame.specs.declared.stop.Stop.{Stop}
+use Rattle.pbf_frame.specs.declared.stop.Stop.TheVariants.{Refused, Read, Write, Memory, Changed}
+use Rattle.pbf_frame.specs.Devices.{IsAtEnd}
+use Rattle.pbf_wire.specs.Least.{least}
+use Rattle.pbf_wire.specs.Occurrence.{items, found}
+use Rattle.pbf_wire.specs.Reading.{last_of}
+use Rattle.pbf_wire.specs.Wire.{wire}
+use Rattle.pbf_frame.specs.declared.header.TheConstants.{DATASIZE, HEADER_KINDS}
+use Rattle.pbf_frame.specs.Faults.{unless, ◌>>=◌}
+use Rattle.pbf_frame.specs.Header.{head_of, head_says, header_faults, name_of, kind_of, size_of, or_nothing}
+use Rattle.pbf_frame.specs.Frames.{FrameSpec, prefix_at, header_of, blob_of, frame_of, after_prefix, next_of}
+use Rattle.pbf_frame.specs.Reads.{Gives, GaveBlob, RefusedBlob, GaveFrame, GaveEnd, RefusedFrame, Holds}
+
+-- ---- what follows each part
+
+abbrev pub ReadFrame : Type 0
+ReadFrame = Result (FrameSpec × List ℕ) Fault
+
+abbrev pub after_blob : ℕ → List ℕ → (List ℕ × Head) × List ℕ → List ℕ × List ℕ → ReadFrame
+after_blob p prefix front blob = Ok (record { offset = p; prefix = prefix; header = front.0.0; blob = blob.0 }, blob.1)
+
+abbrev pub after_header : ℕ → List ℕ → (List ℕ × Head) × List ℕ → ReadFrame
+after_header p prefix front = blob_of front.0.1.kind front.0.1.size (p + 4 + length front.0.0) front.1 >>= after_blob p prefix front
+
+abbrev pub as_some : FrameSpec × List ℕ → Result (Option FrameSpec × List ℕ) Fault
+as_some read = Ok (Some read.0, read.1)
+
+pub frame_steps : (h : Bool) (p : ℕ) (prefix bytes : List ℕ) → frame_of h p prefix bytes ≡ (header_of h p prefix bytes >>= after_header p prefix)
+unfolding frame_of
+frame_steps h p prefix bytes = refl
+
+pub next_steps : (h : Bool) (p : ℕ) (bytes : List ℕ) → next_of h p bytes ≡ (prefix_at h p bytes >>= after_prefix h p)
+unfolding next_of
+next_steps h p bytes = refl
+
+pub after_some : (h : Bool) (p : ℕ) (prefix bytes : List ℕ) → after_prefix h p (Some prefix, bytes) ≡ (frame_of h p prefix bytes >>= as_some)
+unfolding after_prefix
+after_some h p prefix bytes = refl
+
+pub after_none : (h : Bool) (p : ℕ) (bytes : List ℕ) → after_prefix h p (None, bytes) ≡ Ok (None, bytes)
+unfolding after_prefix
+after_none h p bytes = refl
+
+-- ---- the next frame from its parts
+
+module _ (h : Bool) (p : ℕ) (bytes : List ℕ) where
+  prefix_refused : (e : Fault) → prefix_at h p bytes ≡ Err e → next_of h p bytes ≡ Err e
+  prefix_refused e is = next_steps h p bytes ∙ ap (λ r. r >>= after_prefix h p) is
+
+  prefix_none : (rest : List ℕ) → prefix_at h p bytes ≡ Ok (None, rest) → next_of h p bytes ≡ Ok (None, rest)
+  prefix_none rest is = next_steps h p bytes ∙ ap (λ r. r >>= after_prefix h p) is ∙ after_none h p rest
+
+  prefix_some : (prefix rest : List ℕ) → prefix_at h p bytes ≡ Ok (Some prefix, rest) → next_of h p bytes ≡ (header_of h p prefix rest >>= after_header p prefix >>= as_some)
+  prefix_some prefix rest is = next_steps h p bytes ∙ ap (λ r. r >>= after_prefix h p) is ∙ after_some h p prefix rest ∙ ap (λ r. r >>= as_some) (frame_steps h p prefix rest)
+
+  header_refused : (prefix rest : List ℕ) (e : Fault) → prefix_at h p bytes ≡ Ok (Some prefix, rest) → header_of h p prefix rest ≡ Err e → next_of h p bytes ≡ Err e
+  header_refused prefix rest e is then = prefix_some prefix rest is ∙ ap (λ r. r >>= after_header p prefix >>= as_some) then
+
+  header_some : (prefix rest header left : List ℕ) (head : Head) → prefix_at h p bytes ≡ Ok (Some prefix, rest) → header_of h p prefix rest ≡ Ok ((header, head), left) → next_of h p bytes ≡ (blob_of head.kind head.size (p + 4 + length header) left >>= after_blob p prefix ((header, head), left) >>= as_some)
+  header_some prefix rest header left head is then = prefix_some prefix rest is ∙ ap (λ r. r >>= after_header p prefix >>= as_some) then
+
+  blob_refused : (prefix rest header left : List ℕ) (head : Head) (e : Fault) → prefix_at h p bytes ≡ Ok (Some prefix, rest) → header_of h p prefix rest ≡ Ok ((header, head), left) → blob_of head.kind head.size (p + 4 + length header) left ≡ Err e → next_of h p bytes ≡ Err e
+  blob_refused prefix rest header left head e is then lastly = header_some prefix rest header left head is then ∙ ap (λ r. r >>= after_blob p prefix ((header, head), left) >>= as_some) lastly
+
+  blob_some : (prefix rest header left blob last : List ℕ) (head : Head) → prefix_at h p bytes ≡ Ok (Some prefix, rest) → header_of h p prefix rest ≡ Ok ((header, head), left) → blob_of head.kind head.size (p + 4 + length header) left ≡ Ok (blob, last)
+      → next_of h p bytes ≡ Ok (Some (record { offset = p; prefix = prefix; header = header; blob = blob }), last)
+  blob_some prefix rest header left blob last head is then lastly = header_some prefix rest header left head is then ∙ ap (λ r. r >>= after_blob p prefix ((header, head), left) >>= as_some) lastly
+
+-- ---- what a header says
+
+-- where nothing is wrong, what follows is given
+pub unless_ok : {A : Type 0} (o : Option Fault) (later : Result A Fault) (x : A) → unless o later ≡ Ok x → (o ≡ None) × (later ≡ Ok x)
+unless_ok None later x e = (refl, e)
+unless_ok {A} (Some f) later x e = absurd (never f x e) where
+  never : {A : Type 0} (f : Fault) (x : A) → ◌≡◌ {A = Result A Fault} (Err f) (Ok x) → ⊥
+  never f x e = cc
+
+pub head_parts : (at : ℕ) (header : List ℕ) (head : Head) → head_of at header ≡ Ok head
+    → (wire HEADER_KINDS (items at header) ≡ None) × (least (header_faults at header) ≡ None) × (head.kind ≡ kind_of (name_of at header)) × (head.size ≡ or_nothing (size_of (last_of DATASIZE (found (items at header)))))
+unfolding head_of
+head_parts at header head e =
+    let (wired, e1) = unless_ok (wire HEADER_KINDS (items at header)) _ head e in
+    let (sound, e2) = unless_ok (least (header_faults at header)) _ head e1 in
+    let same : head_says at header ≡ head = cc in
+    (wired, sound, sym (ap (λ (x : Head). x.kind) same), sym (ap (λ (x : Head). x.size) same))
+
+-- ---- the same of a feed that may not tell its bytes
+
+abbrev GivesPrefix : Bool → ℕ → Option (List ℕ) → Option (List ℕ) → Result (Option (List ℕ)) Stop → Type 0
+GivesPrefix h p old new result = Gives (λ (o : Option (List ℕ)). o) old new result (prefix_at h p)
+
+pub prefix_given : (h : Bool) (p : ℕ) (o to old new : Option (List ℕ)) → o ≡ to → GivesPrefix h p old new (Ok o) → GivesPrefix h p old new (Ok to)
+prefix_given h p o to old new is given = subst (λ (x : Option (List ℕ)). GivesPrefix h p old new (Ok x)) is given
+
+abbrev GivesHeader : Bool → ℕ → List ℕ → List ℕ → Option (List ℕ) → Option (List ℕ) → Result Head Stop → Type 0
+GivesHeader h p prefix header old new result = Gives (λ (head : Head). (header, head)) old new result (header_of h p prefix)
+
+module _ (h : Bool) (p : ℕ) where
+  pub refused_prefix : (old new : Option (List ℕ)) (stop : Stop) → GivesPrefix h p old new (Err stop) → RefusedFrame h p old stop
+  refused_prefix old new (Refused e) given = λ bytes is. prefix_refused h p bytes e (given bytes is)
+  refused_prefix old new Read given = tt
+  refused_prefix old new Write given = tt
+  refused_prefix old new Memory given = tt
+  refused_prefix old new (Changed pass) given = tt
+
+  pub gave_end : (old new : Option (List ℕ)) → GivesPrefix h p old new (Ok None) → (old ≡ None → new ≡ None) → IsAtEnd new → h ≡ true → GaveEnd h p old new
+  gave_end old new given untold ended had = record {
+    given = λ bytes is. let (rest, gives, left) = given bytes is in (rest, prefix_none h p bytes rest gives, left);
+    untold = untold;
+    end = ended;
+    header_given = had
+    }
+
+  pub refused_header : (prefix header : List ℕ) (old mid new : Option (List ℕ)) (stop : Stop) → GivesPrefix h p old mid (Ok (Some prefix)) → GivesHeader h p prefix header mid new (Err stop) → RefusedFrame h p old stop
+  refused_header prefix header old mid new (Refused e) given then = λ bytes is. let (rest, gives, left) = given bytes is in header_refused h p bytes prefix rest e gives (then rest left)
+  refused_header prefix header old mid new Read given then = tt
+  refused_header prefix header old mid new Write given then = tt
+  refused_header prefix header old mid new Memory given then = tt
+  refused_header prefix header old mid new (Changed pass) given then = tt
+
+  pub refused_blob : (prefix header : List ℕ) (head : Head) (old mid next : Option (List ℕ)) (stop : Stop) → GivesPrefix h p old mid (Ok (Some prefix)) → GivesHeader h p prefix header mid next (Ok head) → RefusedBlob head.kind head.size (p + 4 + length header) next stop → RefusedFrame h p old stop
+  refused_blob prefix header head old mid next (Refused e) given then lastly = λ bytes is.
+      let (rest, gives, left) = given bytes is in
+      let (more, gives_more, left_more) = then rest left in
+      blob_refused h p bytes prefix rest header more head e gives gives_more (lastly more left_more)
+  refused_blob prefix header head old mid next Read given then lastly = tt
+  refused_blob prefix header head old mid next Write given then lastly = tt
+  refused_blob prefix header head old mid next Memory given then lastly = tt
+  refused_blob prefix header head old mid next (Changed pass) given then lastly = tt
+
+  pub gave_frame : (prefix header held : List ℕ) (head : Head) (seen : Seen) (old mid next new : Option (List ℕ)) → GivesPrefix h p old mid (Ok (Some prefix)) → (old ≡ None → mid ≡ None) → GivesHeader h p prefix header mid next (Ok head) → (mid ≡ None → next ≡ None)
+      → head_of (p + 4) header ≡ Ok head → GaveBlob head.kind head.size (p + 4 + length header) held next new
+      → seen.offset ≡ p → seen.kind ≡ head.kind → seen.size ≡ head.size → seen.blob_at ≡ p + 4 + length header → GaveFrame h p header held seen old new
+  gave_frame prefix header held head seen old mid next new given untold then untold_then says lastly offset kind size at =
+      let kind_is : head.kind ≡ kind_of (name_of (p + 4) header) = (head_parts (p + 4) header head says).2 in
+      record {
+        frame = record { offset = p; prefix = prefix; header = header; blob = lastly.blob };
+        is_seen = record {
+          offset = offset;
+          header_is = refl;
+          place = at;
+          kind_is = kind ∙ kind_is;
+          size_is = size ∙ sym lastly.long;
+          holds = subst (λ (k : FrameKind). Holds k (p + 4 + length header) lastly.blob held) kind_is lastly.holds
+        };
+        offset = refl;
+        given = λ bytes is.
+          let (rest, gives, left) = given bytes is in
+          let (more, gives_more, left_more) = then rest left in
+          let (last, gives_last, left_last) = lastly.given more left_more in
+          (last, blob_some h p bytes prefix rest header more lastly.blob last head gives gives_more gives_last, left_last);
+        untold = λ none. lastly.untold (untold_then (untold none))
+      }

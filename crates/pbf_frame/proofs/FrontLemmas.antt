@@ -1,0 +1,67 @@
+-- What the functions on lists give where the code's tests passed.
+use Rattle.std.proofs.Common.{◌≡◌, ℕ, ◌+◌, ◌<◌, ◌≤◌, List, [], ◌++◌, Option, Some, None, Ok, Err, length, take, drop, refl, sym, ap, ◌∙◌, subst, append_assoc, length-append, arith}
+use Rattle.std.proofs.lemmas.Bool.Decides.{nat_tests}
+use Rattle.std.proofs.lemmas.List.{length-take-le, take_all, take_at, drop_at}
+use Rattle.pbf_wire.specs.declared.fault.Fault.{Fault}
+use Rattle.pbf_wire.specs.declared.fault.Reason.TheVariants.{BlobCut}
+use Rattle.pbf_frame.specs.declared.frame.FrameKind.{FrameKind}
+use Rattle.pbf_frame.specs.declared.frame.FrameKind.TheVariants as kind
+use Rattle.pbf_frame.specs.declared.stop.Stop.{Stop}
+use Rattle.pbf_frame.specs.declared.stop.Stop.TheVariants.{Refused, Read, Write, Memory, Changed}
+use Rattle.pbf_frame.specs.Devices.{prepend}
+use Rattle.pbf_frame.specs.Faults.{fault}
+use Rattle.pbf_frame.specs.Frames.{bytes_at, blob_of}
+use Rattle.pbf_frame.specs.Reads.{Skips, GaveBlob, RefusedBlob, IsSkipStop, IsShort}
+use Rattle.pbf_frame.proofs.KnownBytes.{prepend_more}
+
+pub bytes_at_ok : (cut : Fault) (n : ℕ) (read bytes : List ℕ) → read ≡ take n bytes → n ≤ length read → bytes_at cut n bytes ≡ Ok (read, drop n bytes)
+unfolding bytes_at
+bytes_at_ok cut n read bytes is long = rw (← is) (grind (arith, nat_tests))
+
+-- where the bytes begin with these
+pub bytes_at_front : (cut : Fault) (n : ℕ) (read rest : List ℕ) → length read ≡ n → bytes_at cut n (read ++ rest) ≡ Ok (read, rest)
+bytes_at_front cut n read rest long =
+    bytes_at_ok cut n read (read ++ rest) (sym (take_at read rest n long)) (omega (arith, long)) ∙ ap (λ (l : List ℕ). Ok (read, l)) (drop_at read rest n long)
+
+-- where there are fewer
+pub bytes_at_short : (cut : Fault) (n : ℕ) (bytes : List ℕ) → length bytes < n → bytes_at cut n bytes ≡ Err cut
+unfolding bytes_at
+bytes_at_short cut n bytes short = rw (take_all n bytes (omega arith)) (grind (arith, nat_tests))
+
+-- more bytes are skipped
+pub skips_more : (before now after : Option (List ℕ)) (a m n : ℕ) (ys : List ℕ) → Skips before now a → now ≡ prepend ys after → length ys ≡ m → a + m ≡ n → Skips before after n
+skips_more before now after a m n ys so_far gone long total = record {
+  skipped = so_far.skipped ++ ys;
+  long = length-append so_far.skipped ys ∙ (let e : length so_far.skipped + length ys ≡ n = omega (arith, so_far.long, long, total) in e);
+  gone = prepend_more before now after so_far.skipped ys so_far.gone gone
+  }
+
+
+known_parts : (new : Option (List ℕ)) (b bytes : List ℕ) → Some bytes ≡ prepend b new → (rest : List ℕ) × (bytes ≡ b ++ rest) × (new ≡ Some rest)
+known_parts None b bytes e = (let bad : ⊥ = cc in absurd bad)
+known_parts (Some rest) b bytes e = (rest, (let same : bytes ≡ b ++ rest = cc in same), refl)
+
+still_untold : (old new : Option (List ℕ)) (b : List ℕ) → old ≡ prepend b new → old ≡ None → new ≡ None
+still_untold old None b e none = refl
+still_untold old (Some rest) b e none = (let bad : ⊥ = cc in absurd bad)
+
+pub gave_skipped : (k : FrameKind) (size at : ℕ) (held : List ℕ) (old new : Option (List ℕ)) → k ≡ kind.Other → Skips old new size → held ≡ [] → GaveBlob k size at held old new
+gave_skipped k size at held old new other skips empty = subst (λ (x : FrameKind). GaveBlob x size at held old new) (sym other) record {
+  blob = skips.skipped;
+  long = skips.long;
+  holds = empty;
+  given = λ bytes is.
+    let (rest, parts, left) = known_parts new skips.skipped bytes (sym is ∙ skips.gone) in
+    (rest, ap (λ (l : List ℕ). bytes_at (fault at BlobCut) size l) parts ∙ bytes_at_front (fault at BlobCut) size skips.skipped rest skips.long, left);
+  untold = still_untold old new skips.skipped skips.gone
+  }
+
+refused_other : (size at : ℕ) (old : Option (List ℕ)) (before now : ℕ) (stop : Stop) → IsSkipStop old size (fault at BlobCut) before now stop → RefusedBlob kind.Other size at old stop
+refused_other size at old before now (Refused e) is = λ bytes known. bytes_at_short (fault at BlobCut) size bytes (is.1 bytes known) ∙ ap Err (sym is.0)
+refused_other size at old before now Read is = tt
+refused_other size at old before now Write is = tt
+refused_other size at old before now Memory is = tt
+refused_other size at old before now (Changed pass) is = tt
+
+pub refused_skip : (k : FrameKind) (size at : ℕ) (old : Option (List ℕ)) (before now : ℕ) (stop : Stop) → k ≡ kind.Other → IsSkipStop old size (fault at BlobCut) before now stop → RefusedBlob k size at old stop
+refused_skip k size at old before now stop other is = subst (λ (x : FrameKind). RefusedBlob x size at old stop) (sym other) (refused_other size at old before now stop is)

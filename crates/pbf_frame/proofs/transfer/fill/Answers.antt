@@ -1,0 +1,21 @@
+use Rattle.std.proofs.Common.{ℕ, List, ◌+◌, ◌≤◌, ◌≡◌, ◌-◌, length, take, drop, sym, ◌∙◌, ap, arith, length-append}
+use Rattle.std.proofs.lemmas.List.{length-drop, take_rest, length-take-le}
+use Rattle.pbf_frame.specs.Devices.{prepend}
+use Rattle.pbf_frame.proofs.KnownBytes.{prepend_more, take_read, length_read}
+use Rattle.pbf_frame.proofs.transfer.fill.Goals as goal
+
+pub loop-done-preserved : goal.loop-done-preserved
+loop-done-preserved g c =
+    let buf = c.loop-done.buf in
+    let done = c.loop-done.done in
+    let so_far = c.loop-done.invariant in
+    let left = rw (take_rest buf done, length-drop done buf) at c.in_ok-count.ensures.bound in
+    let long = rw (take_rest buf done, length-drop done buf) at c.read.auto.buf in
+    let same = length_read done buf c.read.new.buf so_far.within long in
+    record {
+      within = omega (arith, left, same, so_far.within);
+      bytes = prepend_more _ _ _ _ _ so_far.bytes c.in_ok-count.ensures.bytes ∙ ap (λ (xs : List ℕ). prepend xs (g.F.Feed.remaining c.read.new.self)) (sym (take_read done c.in_ok-count.count buf c.read.new.buf so_far.within long (omega (arith, left, long))));
+      carries = λ b before. c.in_ok-count.ensures.carries b (so_far.carries b before);
+      counts = omega (arith, c.read.ensures.counts);
+      lender = c.read.ensures.lender ∙ so_far.lender
+    }

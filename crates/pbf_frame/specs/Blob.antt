@@ -1,0 +1,59 @@
+-- The Blob: the bytes that it holds.
+use Rattle.std.specs.Prelude.{ℕ, ◌==◌, Bool, nat_le, List, [], ◌∷◌, ◌++◌, length, Option, Some, None, Result, Ok, if◌then◌else◌}
+use Rattle.std.specs.List.{flat_map}
+use Rattle.pbf_wire.specs.declared.fault.Fault.{Fault}
+use Rattle.pbf_wire.specs.declared.fault.Reason.{Reason}
+use Rattle.pbf_wire.specs.declared.fault.Reason.TheVariants.{NoRaw, RawLong, Zlib, Lzma, Bzip2, Lz4, Zstd}
+use Rattle.pbf_wire.specs.Least.{least}
+use Rattle.pbf_wire.specs.Occurrence.{Content, Number, Eight, Four, Bytes, Occurrence, items, found}
+use Rattle.pbf_wire.specs.Reading.{last_of}
+use Rattle.pbf_wire.specs.Wire.{wire}
+use Rattle.pbf_frame.specs.declared.blob.TheConstants.{RAW, ZLIB_DATA, LZMA_DATA, BZIP2_DATA, LZ4_DATA, ZSTD_DATA, BLOB_KINDS, RAW_LIMIT}
+use Rattle.pbf_frame.specs.Faults.{fault, fault_where, earlier}
+use Rattle.pbf_frame.specs.Header.{text_in, text_of}
+
+-- why data under this field number isn't read
+abbrev pub compression_of : ℕ → Option Reason
+compression_of number =
+    if number == ZLIB_DATA then Some Zlib
+    else (if number == LZMA_DATA then Some Lzma
+    else (if number == BZIP2_DATA then Some Bzip2
+    else (if number == LZ4_DATA then Some Lz4
+    else (if number == ZSTD_DATA then Some Zstd else None))))
+
+abbrev pub reason_faults : ℕ → Option Reason → List Fault
+reason_faults place None = []
+reason_faults place (Some reason) = fault place reason ∷ []
+
+-- each occurrence of compressed data
+abbrev pub compressed : List Occurrence → List Fault
+compressed os = flat_map (λ (o : Occurrence). reason_faults o.place (compression_of o.number)) os
+
+-- the raw data is too long, or there is no data at all
+abbrev pub raw_faults : ℕ → Option Occurrence → List Fault → List Fault
+raw_faults at (Some o) others = fault_where (nat_le RAW_LIMIT (length (text_in o.content))) o.place RawLong ++ others
+raw_faults at None [] = fault at NoRaw ∷ []
+raw_faults at None (f ∷ others) = f ∷ others
+
+-- what is wrong with the fields of a blob
+abbrev pub blob_faults : ℕ → List ℕ → List Fault
+blob_faults at blob = raw_faults at (last_of RAW (found (items at blob))) (compressed (found (items at blob)))
+
+-- the first fault of a blob: of its wire form, then of its fields
+unfoldable pub blob_fault : ℕ → List ℕ → Option Fault
+blob_fault at blob = earlier (wire BLOB_KINDS (items at blob)) (least (blob_faults at blob))
+
+-- the payload
+abbrev pub raw_of : ℕ → List ℕ → List ℕ
+raw_of at blob = text_of (last_of RAW (found (items at blob)))
+
+abbrev pub place_in : ℕ → Content → ℕ
+place_in at (Number v) = at
+place_in at (Eight bytes) = at
+place_in at (Four bytes) = at
+place_in at (Bytes bytes begin) = begin
+
+-- where its first byte stands
+abbrev pub raw_at : ℕ → Option Occurrence → ℕ
+raw_at at None = at
+raw_at at (Some o) = place_in at o.content

@@ -1,0 +1,28 @@
+-- Faults, and judging by phases: each phase over its whole message before the next.
+use Rattle.std.specs.Prelude.{ℕ, Bool, true, false, List, [], ◌∷◌, Option, Some, None, Result, Ok, Err}
+use Rattle.pbf_wire.specs.declared.fault.Fault.{Fault}
+use Rattle.pbf_wire.specs.declared.fault.Reason.{Reason}
+
+abbrev pub fault : ℕ → Reason → Fault
+fault offset reason = record { offset = offset; reason = reason }
+
+-- the fault, where the test holds
+abbrev pub fault_where : Bool → ℕ → Reason → List Fault
+fault_where true offset reason = fault offset reason ∷ []
+fault_where false offset reason = []
+
+-- the fault of an earlier phase, and if there is none that of a later one
+abbrev pub earlier : Option Fault → Option Fault → Option Fault
+earlier None later = later
+earlier (Some f) later = Some f
+
+-- what follows, where nothing is wrong so far
+abbrev pub unless : {A : Type 0} → Option Fault → Result A Fault → Result A Fault
+unless None later = later
+unless (Some f) later = Err f
+
+-- what follows the first step, where that gave something
+infixl 10 ◌>>=◌
+abbrev pub ◌>>=◌ : {A B : Type 0} → Result A Fault → (A → Result B Fault) → Result B Fault
+(Ok x) >>= f = f x
+(Err e) >>= f = Err e

@@ -1,0 +1,77 @@
+-- The BlobHeader: the type of its frame and the size of its blob.
+use Rattle.std.specs.Prelude.{ℕ, ℤ, pos, negsuc, nat_le, ◌+◌, List, [], ◌∷◌, ◌++◌, Option, Some, None, Result, Ok, Err, if◌then◌else◌, is_none, codes, nat_eq, not}
+use Rattle.std.specs.Cmp.Lexicographic.{pointwise}
+use Rattle.pbf_wire.specs.declared.fault.Fault.{Fault}
+use Rattle.pbf_wire.specs.declared.fault.Reason.TheVariants.{Missing, DataSize}
+use Rattle.pbf_wire.specs.Least.{least}
+use Rattle.pbf_wire.specs.Occurrence.{Content, Number, Eight, Four, Bytes, Occurrence, items, found}
+use Rattle.pbf_wire.specs.Reading.{last_of}
+use Rattle.pbf_wire.specs.Signed.{low_i32}
+use Rattle.pbf_wire.specs.Wire.{wire}
+use Rattle.pbf_frame.specs.declared.frame.FrameKind.{FrameKind}
+use Rattle.pbf_frame.specs.declared.frame.FrameKind.TheVariants as kind
+use Rattle.pbf_frame.specs.declared.header.Head.{Head}
+use Rattle.pbf_frame.specs.declared.header.TheConstants.{TYPE, DATASIZE, HEADER_KINDS, LARGEST_SIZE}
+use Rattle.pbf_frame.specs.Faults.{fault, fault_where, unless}
+
+-- the text that an occurrence holds
+abbrev pub text_in : Content → List ℕ
+text_in (Number v) = []
+text_in (Eight bytes) = []
+text_in (Four bytes) = []
+text_in (Bytes bytes at) = bytes
+
+abbrev pub text_of : Option Occurrence → List ℕ
+text_of None = []
+text_of (Some o) = text_in o.content
+
+-- the number that an occurrence holds, as an int32
+abbrev pub number_in : Content → ℤ
+number_in (Number v) = low_i32 v
+number_in (Eight bytes) = pos 0
+number_in (Four bytes) = pos 0
+number_in (Bytes bytes at) = pos 0
+
+-- a size of a blob, where it may be one
+abbrev pub size_within : ℤ → Option ℕ
+size_within (pos n) = if nat_le n LARGEST_SIZE then Some n else None
+size_within (negsuc n) = None
+
+abbrev pub size_of : Option Occurrence → Option ℕ
+size_of None = None
+size_of (Some o) = size_within (number_in o.content)
+
+abbrev pub or_nothing : Option ℕ → ℕ
+or_nothing None = 0
+or_nothing (Some n) = n
+
+-- the type of the frame whose header stands at this place
+abbrev pub name_of : ℕ → List ℕ → List ℕ
+name_of at header = text_of (last_of TYPE (found (items at header)))
+
+abbrev pub kind_of : List ℕ → FrameKind
+kind_of name =
+    if pointwise nat_eq name (codes "OSMHeader") then kind.Header
+    else (if pointwise nat_eq name (codes "OSMData") then kind.Data else kind.Other)
+
+-- a required field that is absent
+abbrev pub missing : ℕ → ℕ → Option Occurrence → List Fault
+missing at field last = fault_where (is_none last) at (Missing field)
+
+abbrev pub size_faults : Option Occurrence → List Fault
+size_faults None = []
+size_faults (Some o) = fault_where (is_none (size_within (number_in o.content))) o.place DataSize
+
+-- what is wrong with the fields of a header
+abbrev pub header_faults : ℕ → List ℕ → List Fault
+header_faults at header =
+    let type = last_of TYPE (found (items at header)) in
+    let datasize = last_of DATASIZE (found (items at header)) in
+    missing at TYPE type ++ missing at DATASIZE datasize ++ size_faults datasize
+
+abbrev pub head_says : ℕ → List ℕ → Head
+head_says at header = record { kind = kind_of (name_of at header); size = or_nothing (size_of (last_of DATASIZE (found (items at header)))) }
+
+-- what a header says of its frame, or its first fault: of its wire form, then of its fields
+unfoldable pub head_of : ℕ → List ℕ → Result Head Fault
+head_of at header = unless (wire HEADER_KINDS (items at header)) (unless (least (header_faults at header)) (Ok (head_says at header)))

@@ -1,0 +1,116 @@
+-- What a call that reads from a feed gives.
+use Rattle.std.specs.Prelude.{◌≡◌, ◌<◌, ◌≤◌, ◌+◌, ◌^◌, ℕ, Bool, true, List, [], Option, Some, None, Result, Ok, Err, take, drop, length}
+use Rattle.pbf_wire.specs.declared.fault.Fault.{Fault}
+use Rattle.pbf_frame.specs.declared.frame.FrameKind.{FrameKind}
+use Rattle.pbf_frame.specs.declared.frame.FrameKind.TheVariants as kind
+use Rattle.pbf_frame.specs.declared.reading.Seen.{Seen}
+use Rattle.pbf_frame.specs.declared.stop.Stop.{Stop}
+use Rattle.pbf_frame.specs.declared.stop.Stop.TheVariants.{Refused, Read, Write, Memory, Changed}
+use Rattle.pbf_frame.specs.Devices.{HasRisen, IsAtEnd, prepend}
+use Rattle.pbf_frame.specs.Blob.{blob_fault}
+use Rattle.pbf_frame.specs.Frames.{FrameSpec, blob_at, frame_kind, blob_of, next_of}
+
+-- what was read is the first n bytes, or all where there are fewer, and the others are left
+pub record Reads (old new : Option (List ℕ)) (n : ℕ) (read : List ℕ) : Type 0 where
+  pub front : (bytes : List ℕ) → old ≡ Some bytes → (read ≡ take n bytes) × (new ≡ Some (drop n bytes))
+  pub untold : old ≡ None → new ≡ None
+
+-- where the feed tells its bytes, the value seen by view is what f gives of them, and the feed is left at the bytes after it
+abbrev pub Gives : {X A : Type 0} → (X → A) → Option (List ℕ) → Option (List ℕ) → Result X Stop → (List ℕ → Result (A × List ℕ) Fault) → Type 0
+Gives view old new (Ok x) f = (bytes : List ℕ) → old ≡ Some bytes → (rest : List ℕ) × (f bytes ≡ Ok (view x, rest)) × (new ≡ Some rest)
+Gives view old new (Err (Refused e)) f = (bytes : List ℕ) → old ≡ Some bytes → f bytes ≡ Err e
+Gives view old new (Err Read) f = Unit {0}
+Gives view old new (Err Write) f = Unit {0}
+Gives view old new (Err Memory) f = Unit {0}
+Gives view old new (Err (Changed pass)) f = Unit {0}
+
+-- a call that only reads bytes stops for a failed read, or for want of memory
+abbrev pub IsFillStop : ℕ → ℕ → Stop → Type 0
+IsFillStop old new (Refused f) = ⊥
+IsFillStop old new Read = HasRisen old new
+IsFillStop old new Write = ⊥
+IsFillStop old new Memory = Unit {0}
+IsFillStop old new (Changed pass) = ⊥
+
+-- a reader's stop names the feed only where its count of failures rose, and never a drain
+abbrev pub IsReaderStop : ℕ → ℕ → Stop → Type 0
+IsReaderStop old new (Refused f) = Unit {0}
+IsReaderStop old new Read = HasRisen old new
+IsReaderStop old new Write = ⊥
+IsReaderStop old new Memory = Unit {0}
+IsReaderStop old new (Changed pass) = ⊥
+
+-- this many bytes are gone
+pub record Skips (old new : Option (List ℕ)) (count : ℕ) : Type 0 where
+  pub skipped : List ℕ
+  pub long : length skipped ≡ count
+  pub gone : old ≡ prepend skipped new
+
+-- what the blob buffer has of a blob without a fault: all, but nothing of one of another type
+abbrev pub Holds : FrameKind → ℕ → List ℕ → List ℕ → Type 0
+Holds kind.Header at blob held = (held ≡ blob) × (blob_fault at blob ≡ None)
+Holds kind.Data at blob held = (held ≡ blob) × (blob_fault at blob ≡ None)
+Holds kind.Other at blob held = held ≡ []
+
+-- a blob that was read
+pub record GaveBlob (kind : FrameKind) (size at : ℕ) (held : List ℕ) (old new : Option (List ℕ)) : Type 0 where
+  pub blob : List ℕ
+  pub long : length blob ≡ size
+  pub holds : Holds kind at blob held
+  pub given : (bytes : List ℕ) → old ≡ Some bytes → (rest : List ℕ) × (blob_of kind size at bytes ≡ Ok (blob, rest)) × (new ≡ Some rest)
+  pub untold : old ≡ None → new ≡ None
+
+-- a blob of a known frame was refused
+abbrev pub RefusedBlob : FrameKind → ℕ → ℕ → Option (List ℕ) → Stop → Type 0
+RefusedBlob kind size at old (Refused e) = (bytes : List ℕ) → old ≡ Some bytes → blob_of kind size at bytes ≡ Err e
+RefusedBlob kind size at old Read = Unit {0}
+RefusedBlob kind size at old Write = Unit {0}
+RefusedBlob kind size at old Memory = Unit {0}
+RefusedBlob kind size at old (Changed pass) = Unit {0}
+
+-- of the known bytes fewer than this many are left
+abbrev pub IsShort : Option (List ℕ) → ℕ → Type 0
+IsShort known count = (bytes : List ℕ) → known ≡ Some bytes → length bytes < count
+
+-- a skipping call stops for a failed read, or, with this fault, where fewer bytes are left
+abbrev pub IsSkipStop : Option (List ℕ) → ℕ → Fault → ℕ → ℕ → Stop → Type 0
+IsSkipStop known count cut old new (Refused e) = (e ≡ cut) × IsShort known count
+IsSkipStop known count cut old new Read = HasRisen old new
+IsSkipStop known count cut old new Write = ⊥
+IsSkipStop known count cut old new Memory = ⊥
+IsSkipStop known count cut old new (Changed pass) = ⊥
+
+-- this frame of the file lies in the reader's buffers
+pub record IsSeen (header blob : List ℕ) (seen : Seen) (f : FrameSpec) : Type 0 where
+  pub offset : seen.offset ≡ f.offset
+  pub header_is : f.header ≡ header
+  pub place : seen.blob_at ≡ blob_at f
+  pub kind_is : seen.kind ≡ frame_kind f
+  pub size_is : seen.size ≡ length f.blob
+  pub holds : Holds (frame_kind f) (blob_at f) f.blob blob
+
+-- it lies within the limit of a file
+abbrev pub IsPlaced : Seen → Type 0
+IsPlaced seen = (seen.offset ≤ 2 ^ 62) × (seen.blob_at + seen.size ≤ 2 ^ 62)
+
+-- a frame was read, whose bytes are gone
+pub record GaveFrame (had_header : Bool) (place : ℕ) (header blob : List ℕ) (seen : Seen) (old new : Option (List ℕ)) : Type 0 where
+  pub frame : FrameSpec
+  pub is_seen : IsSeen header blob seen frame
+  pub offset : frame.offset ≡ place
+  pub given : (bytes : List ℕ) → old ≡ Some bytes → (rest : List ℕ) × (next_of had_header place bytes ≡ Ok (Some frame, rest)) × (new ≡ Some rest)
+  pub untold : old ≡ None → new ≡ None
+
+-- the end was met
+pub record GaveEnd (had_header : Bool) (place : ℕ) (old new : Option (List ℕ)) : Type 0 where
+  pub given : (bytes : List ℕ) → old ≡ Some bytes → (rest : List ℕ) × (next_of had_header place bytes ≡ Ok (None, rest)) × (new ≡ Some rest)
+  pub untold : old ≡ None → new ≡ None
+  pub end : IsAtEnd new
+  pub header_given : had_header ≡ true
+
+abbrev pub RefusedFrame : Bool → ℕ → Option (List ℕ) → Stop → Type 0
+RefusedFrame had_header place old (Refused e) = (bytes : List ℕ) → old ≡ Some bytes → next_of had_header place bytes ≡ Err e
+RefusedFrame had_header place old Read = Unit {0}
+RefusedFrame had_header place old Write = Unit {0}
+RefusedFrame had_header place old Memory = Unit {0}
+RefusedFrame had_header place old (Changed pass) = Unit {0}

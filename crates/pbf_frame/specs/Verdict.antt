@@ -1,0 +1,55 @@
+-- The verdict on a file: its frames before the first faulty one, and the fault, if any.
+use Rattle.std.specs.Prelude.{◌≡◌, ℕ, zero, suc, ◌+◌, List, [], ◌∷◌, ◌++◌, length, Bool, ◌||◌, Option, Some, None, Result, Ok, Err, IfSome}
+use Rattle.std.specs.Option.{option_map}
+use Rattle.pbf_wire.specs.declared.fault.Fault.{Fault}
+use Rattle.pbf_frame.specs.Frames.{FrameSpec, next_of, is_header, frame_kind, frame_end, frame_bytes}
+
+abbrev pub Verdict : Type 0
+Verdict = List FrameSpec × Option Fault
+
+-- a frame before the others
+abbrev pub with_first : FrameSpec → Verdict → Verdict
+with_first f verdict = (f ∷ verdict.0, verdict.1)
+
+-- the verdict, where the next frame is known and these are the verdicts on what follows
+abbrev pub judged_after : (Bool → ℕ → List ℕ → Verdict) → Bool → Result (Option FrameSpec × List ℕ) Fault → Verdict
+judged_after later had_header (Err e) = ([], Some e)
+judged_after later had_header (Ok (None, rest)) = ([], None)
+judged_after later had_header (Ok (Some f, rest)) = with_first f (later (had_header || is_header (frame_kind f)) (frame_end f) rest)
+
+-- the frames from a place on, with fuel for each of them
+unfoldable pub judged_within : ℕ → Bool → ℕ → List ℕ → Verdict
+judged_within zero had_header place bytes = ([], None)
+judged_within (suc fuel) had_header place bytes = judged_after (judged_within fuel) had_header (next_of had_header place bytes)
+
+-- the verdict on bytes that stand at this place, where a header frame came before or not
+unfoldable pub judged : Bool → ℕ → List ℕ → Verdict
+judged had_header place bytes = judged_within (length bytes + 1) had_header place bytes
+
+-- the same of bytes that may not be known
+abbrev pub judged_known : Bool → ℕ → Option (List ℕ) → Option Verdict
+judged_known had_header place known = option_map (judged had_header place) known
+
+abbrev pub with_first_known : FrameSpec → Option Verdict → Option Verdict
+with_first_known f known = option_map (with_first f) known
+
+-- a verdict that is known is this one
+abbrev pub Says : Option Verdict → Verdict → Type 0
+Says known verdict = IfSome known (λ v. v ≡ verdict)
+
+-- the frames done, and then those of the verdict
+abbrev pub with_all : List FrameSpec → Verdict → Verdict
+with_all done verdict = (done ++ verdict.0, verdict.1)
+
+-- the first verdict is that the frames done come, and then those of the second
+abbrev pub Gone : Option Verdict → List FrameSpec → Option Verdict → Type 0
+Gone first done rest = first ≡ option_map (with_all done) rest
+
+-- the spellings of frames, joined
+abbrev pub joined : List FrameSpec → List ℕ
+joined [] = []
+joined (f ∷ fs) = frame_bytes f ++ joined fs
+
+-- the spellings of the frames before the fault, joined, begin the bytes, and on what follows no frame stands
+abbrev pub IsLongestFront : List ℕ → Verdict → Type 0
+IsLongestFront bytes verdict = (rest : List ℕ) × (had_header : Bool) × (place : ℕ) × (bytes ≡ joined verdict.0 ++ rest) × (judged had_header place rest ≡ ([], verdict.1))

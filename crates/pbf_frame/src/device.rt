@@ -1,0 +1,81 @@
+//! What supplies bytes, and what takes them.
+
+ghost use Rattle.std.specs.Prelude.{◌≡◌, ◌<◌, ◌≤◌, ℕ, List, [], ◌∷◌, length, take, Option, IfOk, OnOk, OnErr};
+ghost use Rattle.pbf_frame.specs.Devices.{prepend, append, IsAtEnd, HasRisen};
+ghost use Rattle.std.specs.Borrow.{GName};
+
+use crate::stop::{DrainFault, FeedFault};
+
+/// A device that supplies bytes.
+pub trait Feed {
+    /// The bytes still to supply, where the device tells them.
+    ghost remaining: { Self → Option (List ℕ) };
+
+    /// How often a read has failed, which stays at the greatest `u64`.
+    ghost failures: { Self → ℕ };
+
+    /// The references that it goes through, from the outermost on.
+    ghost lender: { Self → List GName } = { λ _. [] };
+
+    /// What it carries from its start to its end; a read keeps it.
+    ghost carries: { Self → List ℕ → Type 0 } = { λ _ _. Unit {0} };
+
+    /// Any number of bytes, none only at the end. After a failure nothing is said of the bytes
+    /// still to supply.
+    fn read(&mut self, buf: &mut [u8]) -> Result<usize, FeedFault>
+        ensures bound { IfOk result (λ n. n ≤ length buf.old) }
+        ensures bytes { IfOk result (λ n. remaining self.old ≡ prepend (take n buf.new) (remaining self.new)) }
+        ensures end { IfOk result (λ n. n ≡ 0 → 0 < length buf.old → IsAtEnd (remaining self.old)) }
+        ensures carries { OnOk result ((b : List ℕ) → carries self.old b → carries self.new b) }
+        ensures counts { failures self.old ≤ failures self.new }
+        ensures failed { OnErr result (HasRisen (failures self.old) (failures self.new)) }
+        ensures lender { lender self.new ≡ lender self.old };
+}
+
+impl<F: Feed> Feed for &mut F {
+    ghost remaining = { λ r. F.remaining r.now };
+
+    ghost failures = { λ r. F.failures r.now };
+
+    ghost lender = { λ r. r.ghost_name ∷ F.lender r.now };
+
+    ghost carries = { λ r b. F.carries r.now b };
+
+    fn read(&mut self, buf: &mut [u8]) -> Result<usize, FeedFault> {
+        Feed::read(&mut **self, buf)
+    }
+}
+
+/// A device that takes bytes.
+pub trait Drain {
+    /// The bytes taken, where the device tells them.
+    ghost taken: { Self → Option (List ℕ) };
+
+    /// How often a write has failed, which stays at the greatest `u64`.
+    ghost failures: { Self → ℕ };
+
+    /// The references that it goes through, from the outermost on.
+    ghost lender: { Self → List GName } = { λ _. [] };
+
+    /// Takes a front of the bytes, at least one of them if there are any, or fails and takes none.
+    fn write(&mut self, bytes: &[u8]) -> Result<usize, DrainFault>
+        ensures bound { IfOk result (λ n. n ≤ length bytes.now) }
+        ensures some { IfOk result (λ n. 0 < length bytes.now → 0 < n) }
+        ensures bytes { IfOk result (λ n. taken self.new ≡ append (taken self.old) (take n bytes.now)) }
+        ensures none { OnErr result (taken self.new ≡ taken self.old) }
+        ensures counts { failures self.old ≤ failures self.new }
+        ensures failed { OnErr result (HasRisen (failures self.old) (failures self.new)) }
+        ensures lender { lender self.new ≡ lender self.old };
+}
+
+impl<D: Drain> Drain for &mut D {
+    ghost taken = { λ r. D.taken r.now };
+
+    ghost failures = { λ r. D.failures r.now };
+
+    ghost lender = { λ r. r.ghost_name ∷ D.lender r.now };
+
+    fn write(&mut self, bytes: &[u8]) -> Result<usize, DrainFault> {
+        Drain::write(&mut **self, bytes)
+    }
+}

@@ -1,0 +1,133 @@
+//! The BlobHeader of a frame: its type and the size of its blob.
+
+ghost use Rattle.std.specs.Prelude.{◌≡◌, ◌+◌, ◌≤◌, ◌^◌, length, IfOk};
+ghost use Rattle.std.specs.Option.{option_map};
+ghost use Rattle.pbf_wire.specs.Fields.{occurrence};
+ghost use Rattle.pbf_wire.specs.Least.{least};
+ghost use Rattle.pbf_wire.specs.Occurrence.{items, found};
+ghost use Rattle.pbf_wire.specs.Payload.{content};
+ghost use Rattle.pbf_wire.specs.Reading.{last_of};
+ghost use Rattle.pbf_frame.specs.Header.{text_of, number_in, size_within, size_of, or_nothing, kind_of, missing, size_faults, header_faults, head_of};
+
+use crate::fault::fault_where;
+use crate::frame::FrameKind;
+use pbf_wire::{Fault, Field, Kind, Payload, Reason, judge_wire, last_field, lesser, low_i32};
+
+// The fields of a BlobHeader.
+pub(crate) const TYPE: u64 = 1;
+pub(crate) const INDEXDATA: u64 = 2;
+pub(crate) const DATASIZE: u64 = 3;
+
+/// How the fields of a BlobHeader are stored.
+pub(crate) const HEADER_KINDS: [(u64, Kind); 3] = [
+    (TYPE, Kind::Bytes),
+    (INDEXDATA, Kind::Bytes),
+    (DATASIZE, Kind::Number),
+];
+
+/// The length from which on a BlobHeader is refused.
+pub(crate) const HEADER_LIMIT: u32 = 65_536;
+
+/// The largest `datasize`: the longest raw data, with room for its tag, its length and `raw_size`.
+pub(crate) const LARGEST_SIZE: u32 = 33_555_455;
+
+/// What a BlobHeader says of its frame.
+#[derive(Clone, Copy, Debug, PartialEq, Eq)]
+pub(crate) struct Head {
+    pub(crate) kind: FrameKind,
+    pub(crate) size: u32,
+}
+
+/// The text of a field, and no bytes where it is absent.
+pub(crate) fn text_of(field: Option<Field<'_>>) -> &[u8]
+    ensures { result.now ≡ text_of (option_map occurrence field.entry) }
+{
+    match field {
+        Some(Field { payload: Payload::Bytes(text, _), .. }) => text,
+        _ => &[],
+    }
+}
+
+/// The size that `datasize` names, where a blob may have it.
+fn size_in(payload: Payload<'_>) -> Option<u32>
+    ensures { result ≡ size_within (number_in (content payload.entry)) }
+{
+    let Payload::Number(value) = payload else {
+        return Some(0);
+    };
+    let size = low_i32(value);
+    if size < 0 {
+        return None;
+    }
+    let size = size.unsigned_abs();
+    if size <= LARGEST_SIZE { Some(size) } else { None }
+}
+
+/// The size of the blob by the last `datasize`, and 0 where it is none.
+fn size_in_header(header: &[u8], at: u64) -> u32
+    requires { at + length header.now ≤ 2 ^ 63 }
+    ensures size { result ≡ or_nothing (size_of (last_of DATASIZE (found (items at header.now)))) }
+    ensures small { result ≤ LARGEST_SIZE }
+{
+    let Some(datasize) = last_field(header, at, DATASIZE) else {
+        return 0;
+    };
+    size_in(datasize.payload).unwrap_or(0)
+}
+
+fn kind_of(name: &[u8]) -> FrameKind
+    ensures { result ≡ kind_of name.now }
+{
+    if name == b"OSMHeader".as_slice() {
+        FrameKind::Header
+    } else if name == b"OSMData".as_slice() {
+        FrameKind::Data
+    } else {
+        FrameKind::Other
+    }
+}
+
+fn judge_size(datasize: Option<Field<'_>>) -> Option<Fault>
+    ensures { result ≡ least (size_faults (option_map occurrence datasize.entry)) }
+{
+    let field = datasize?;
+    fault_where(size_in(field.payload).is_none(), field.offset, Reason::DataSize)
+}
+
+/// Whether a required field, of which this is the last, is absent.
+fn judge_missing(at: u64, number: u64, last: Option<Field<'_>>) -> Option<Fault>
+    ensures { result ≡ least (missing at number (option_map occurrence last.entry)) }
+{
+    fault_where(last.is_none(), at, Reason::Missing(number))
+}
+
+/// The least fault of the fields of a header without wire faults.
+#[tactic(auto, using(crate::proofs::Parts::lesser_parts))]
+fn judge_fields(header: &[u8], at: u64) -> Option<Fault>
+    requires { at + length header.now ≤ 2 ^ 63 }
+    ensures { result ≡ least (header_faults at header.now) }
+{
+    let name = last_field(header, at, TYPE);
+    let datasize = last_field(header, at, DATASIZE);
+    let absent = lesser(
+        judge_missing(at, TYPE, name),
+        judge_missing(at, DATASIZE, datasize),
+    );
+    lesser(absent, judge_size(datasize))
+}
+
+/// What a header says of its frame, or its first fault. Its first byte stands at `at` in the file.
+#[tactic(auto, unfolding(crate::specs::Header::head_of))]
+pub(crate) fn read_head(header: &[u8], at: u64) -> Result<Head, Fault>
+    requires { at + length header.now ≤ 2 ^ 63 }
+    ensures exact { result ≡ head_of at header.now }
+    ensures small { IfOk result (λ head. head.size ≤ LARGEST_SIZE) }
+{
+    judge_wire(header, at, &HEADER_KINDS)?;
+    if let Some(fault) = judge_fields(header, at) {
+        return Err(fault);
+    }
+    let kind = kind_of(text_of(last_field(header, at, TYPE)));
+    let size = size_in_header(header, at);
+    Ok(Head { kind, size })
+}

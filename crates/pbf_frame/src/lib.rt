@@ -1,0 +1,23 @@
+//! The frames of an OpenStreetMap PBF file, read from a device that supplies bytes and written to one that takes them.
+#![tactic(auto)]
+
+mod blob;
+mod device;
+mod fault;
+mod frame;
+mod header;
+pub mod laws;
+mod memory;
+mod reader;
+mod reading;
+mod std_device;
+mod stop;
+mod transfer;
+
+pub use frame::{Frame, FrameKind, frame_end};
+pub use device::{Drain, Feed};
+pub use memory::{Pieces, Sink};
+pub use reader::FrameReader;
+pub use std_device::{FromRead, ToWrite};
+pub use stop::{DrainFault, FeedFault, Stop};
+pub use transfer::write_all;

@@ -1,0 +1,158 @@
+//! The frames of the bytes that a feed supplies.
+
+ghost use Rattle.std.specs.Prelude.{ℕ, List, ◌≡◌, ◌+◌, ◌<◌, ◌≤◌, ◌^◌, length, IfOk, IfSome, false, vec_len};
+ghost use Rattle.pbf_frame.specs.declared.header.TheConstants.{HEADER_LIMIT, LARGEST_SIZE};
+
+use crate::blob::payload_in;
+use crate::device::Feed;
+use crate::frame::{Frame, FrameKind};
+use crate::header::{TYPE, text_of};
+use crate::reading::{Seen, read_frame};
+use crate::stop::Stop;
+use pbf_wire::last_field;
+use std::alloc::Global;
+
+/// Whether a reader goes on.
+#[derive(Clone, Copy, Debug, PartialEq, Eq)]
+enum State {
+    Reading,
+    Ended,
+    Stopped(Stop),
+}
+
+/// Gives the frames of the bytes that a feed supplies, one after another, however the feed cuts them.
+///
+/// It owns two buffers, for a BlobHeader and for a Blob, and holds the bytes of one frame at a time.
+#[derive(Drop)]
+pub struct FrameReader<F> {
+    /// The feed, at the bytes after the last frame given.
+    pub feed: F,
+    header: Vec<u8>,
+    blob: Vec<u8>,
+    place: u64,
+    had_header: bool,
+    state: State,
+    ghost in_range: { place ≤ 2 ^ 62 },
+    ghost header_held: { vec_len header < HEADER_LIMIT },
+    ghost blob_held: { vec_len blob ≤ LARGEST_SIZE },
+}
+
+impl<F: Feed> FrameReader<F> {
+    ghost use Rattle.std.specs.Borrow.{sem, follows_so};
+    ghost use Rattle.std.specs.Prelude.{⊤};
+    ghost use mathlib.Core.Option.{none};
+    ghost use Rattle.pbf_frame.specs.contracts.reader.FrameReader.{the_row};
+    ghost use Rattle.pbf_frame.specs.Frames.{FrameSpec};
+    ghost use Rattle.pbf_frame.specs.Verdict.{judged_known};
+    ghost use Rattle.pbf_frame.specs.Reads.{IsSeen, IsPlaced};
+    ghost use Rattle.pbf_frame.specs.Sound.{IsSound};
+    ghost use Rattle.pbf_frame.specs.Next.{IsSeeingNext, IsLendingNext, IsReading, Shows, place_of, had_header_of, held_by, verdict};
+
+    /// A reader at the start of a file. It takes no memory before the first frame.
+    pub fn new(alloc: Global, feed: F) -> Self
+        ensures feed { result.feed ≡ feed }
+        ensures lender { F.lender result.feed ≡ F.lender feed }
+        ensures reading { IsReading result }
+        ensures place { place_of result ≡ 0 }
+        ensures had_header { had_header_of result ≡ false }
+        ensures held { held_by result ≡ 0 }
+        ensures verdict { verdict F.remaining result ≡ judged_known false 0 (F.remaining feed) }
+    {
+        FrameReader {
+            feed,
+            header: Vec::new(alloc),
+            blob: Vec::new(alloc),
+            place: 0,
+            had_header: false,
+            state: State::Reading,
+        }
+    }
+
+    // The next frame, whose bytes are left in the buffers.
+    fn advance(&mut self) -> Result<Option<Seen>, Stop>
+        ensures next { IsSeeingNext F.remaining F.failures F.lender F.carries self.old result self.new }
+        ensures placed { IfOk result (λ o. IfSome o IsPlaced) }
+        ensures sound { IfOk result (λ o. IfSome o (λ seen. IsSound seen.kind seen.blob_at self.new.blob.items)) }
+    {
+        match self.state {
+            State::Ended => return Ok(None),
+            State::Stopped(stop) => return Err(stop),
+            State::Reading => {}
+        }
+        let read = read_frame(
+            &mut self.feed,
+            &mut self.header,
+            &mut self.blob,
+            self.had_header,
+            self.place,
+        );
+        match read {
+            Ok(Some(seen)) => {
+                self.place = seen.blob_at + u64::from(seen.size);
+                self.had_header = self.had_header || seen.kind == FrameKind::Header;
+            }
+            Ok(None) => self.state = State::Ended,
+            Err(stop) => self.state = State::Stopped(stop),
+        }
+        read
+    }
+
+    /// The next frame, lent until the next call; `None` at the end of an input that had its header.
+    ///
+    /// `Refused` names the least fault of the frame. After a stop the reader is spent: it answers the same stop again and
+    /// touches no device. `None` stays `None`.
+    pub fn next(&mut self) -> Result<Option<Frame<'_>>, Stop>
+        ensures* after { sem 𝓛 (follows_so (the_row F.row) (the_row F.row) self.entry.ghost_name none (λ _ _. ⊤)
+            (λ new. IsLendingNext F.remaining F.failures F.lender F.carries self.old result new)) }
+    {
+        let Some(seen) = self.advance()? else {
+            return Ok(None);
+        };
+        Ok(Some(self.lend(seen)))
+    }
+
+    // The frame whose bytes are left in the buffers.
+    fn lend(&self, seen: Seen) -> Frame<'_>
+        requires placed { IsPlaced seen }
+        requires sound { IsSound seen.kind seen.blob_at self.now.blob.items }
+        ensures { (f : FrameSpec) → IsSeen self.now.header.items self.now.blob.items seen f → Shows result f }
+    {
+        let name = text_of(last_field(&self.header, seen.offset + 4, TYPE));
+        let (payload, payload_at) = match seen.kind {
+            FrameKind::Header | FrameKind::Data => payload_in(&self.blob, seen.blob_at),
+            FrameKind::Other => (b"".as_slice(), seen.blob_at),
+        };
+        Frame {
+            offset: seen.offset,
+            kind: seen.kind,
+            name,
+            size: seen.size,
+            payload_at,
+            payload,
+        }
+    }
+
+    /// The end of the last frame given, and 0 before the first.
+    pub fn place(&self) -> u64
+        ensures value { result ≡ place_of self.now }
+        ensures in_range { result ≤ 2 ^ 62 }
+    {
+        self.place
+    }
+
+    /// The feed, at the bytes after the last frame given. After a stop nothing is said of where it stands.
+    pub fn into_feed(self) -> F
+        ensures feed { result ≡ self.feed }
+        ensures lender { F.lender result ≡ F.lender self.feed }
+    {
+        self.feed
+    }
+
+    /// The bytes held: the lengths of the two buffers.
+    pub fn held(&self) -> u64
+        ensures value { result ≡ held_by self.now }
+        ensures bound { result ≤ 33620990 }
+    {
+        self.header.len() as u64 + self.blob.len() as u64
+    }
+}

@@ -1,0 +1,274 @@
+//! The parts of a frame, read from a feed.
+
+ghost use Rattle.std.specs.Prelude.{ℕ, List, None, Ok, true, ◌≡◌, ◌+◌, ◌<◌, ◌≤◌, ◌^◌, length, IfOk, OnOk, IfErr, IfSome, IfNone, vec_len, max};
+ghost use Rattle.byteorder.specs.Endian.{big_number};
+ghost use Rattle.pbf_wire.specs.Least.{least};
+ghost use Rattle.pbf_frame.specs.Devices.{HasRisen, IsAtEnd};
+ghost use Rattle.pbf_frame.specs.Faults.{fault};
+ghost use Rattle.pbf_frame.specs.Frames.{order_faults, prefix_at, bytes_at, header_of, known_blob_of};
+ghost use Rattle.pbf_frame.specs.Header.{head_of};
+ghost use Rattle.pbf_frame.specs.declared.header.TheConstants.{LARGEST_SIZE};
+ghost use Rattle.pbf_frame.specs.Reads.{Gives, IsReaderStop, IsFillStop, IsSkipStop, Reads, Skips, GaveBlob, RefusedBlob, GaveFrame, GaveEnd, RefusedFrame, IsPlaced};
+ghost use Rattle.pbf_frame.specs.Sound.{IsSound};
+ghost use Rattle.pbf_frame.specs.Blob.{blob_fault};
+
+use crate::blob::judge_blob;
+use crate::device::Feed;
+use crate::fault::fault_where;
+use crate::frame::FrameKind;
+use crate::header::{HEADER_LIMIT, Head, read_head};
+use crate::stop::Stop;
+use crate::transfer::fill;
+use byteorder::{BigEndian, ByteOrder};
+use pbf_wire::{Fault, Reason, lesser};
+
+// How many bytes of a blob of another type are read past at a time.
+const PIECE: usize = 8192;
+
+fn refused(offset: u64, reason: Reason) -> Stop
+    ensures { result ≡ Stop.Refused (fault offset reason) }
+{
+    Stop::Refused(Fault { offset, reason })
+}
+
+// Makes the vector the next bytes of the feed, this many, or fewer only at the end of the feed.
+fn fill_vec<F: Feed>(feed: &mut F, buf: &mut Vec<u8>, count: usize) -> Result<(), Stop>
+    ensures reads { OnOk result (Reads (F.remaining feed.old) (F.remaining feed.new) count buf.new.items) }
+    ensures bound { OnOk result (vec_len buf.new ≤ count) }
+    ensures end { OnOk result (vec_len buf.new < count → IsAtEnd (F.remaining feed.new)) }
+    ensures held { vec_len buf.new ≤ max count (vec_len buf.old) }
+    ensures lender { F.lender feed.new ≡ F.lender feed.old }
+    ensures carries { OnOk result ((b : List ℕ) → F.carries feed.old b → F.carries feed.new b) }
+    ensures counts { F.failures feed.old ≤ F.failures feed.new }
+    ensures stops { IfErr result (IsFillStop (F.failures feed.old) (F.failures feed.new)) }
+{
+    buf.resize(count, 0)?;
+    let read = fill(feed, buf)?;
+    buf.truncate(read);
+    Ok(())
+}
+
+// The four bytes before the next frame's header, or nothing at the end.
+#[tactic(auto, unfolding(crate::specs::Frames::prefix_at))]
+fn read_prefix<F: Feed>(
+    feed: &mut F,
+    had_header: bool,
+    place: u64,
+) -> Result<Option<[u8; 4]>, Stop>
+    ensures given { Gives (λ o. o) (F.remaining feed.old) (F.remaining feed.new) result (prefix_at had_header place) }
+    ensures small { IfOk result (λ o. IfSome o (λ prefix. big_number 4 prefix < HEADER_LIMIT)) }
+    ensures ended { IfOk result (λ o. IfNone o (IsAtEnd (F.remaining feed.new))) }
+    ensures header_given { IfOk result (λ o. IfNone o (had_header ≡ true)) }
+    ensures untold { OnOk result (F.remaining feed.old ≡ None → F.remaining feed.new ≡ None) }
+    ensures lender { F.lender feed.new ≡ F.lender feed.old }
+    ensures carries { OnOk result ((b : List ℕ) → F.carries feed.old b → F.carries feed.new b) }
+    ensures counts { F.failures feed.old ≤ F.failures feed.new }
+    ensures stops { IfErr result (IsReaderStop (F.failures feed.old) (F.failures feed.new)) }
+{
+    let mut prefix = [0; 4];
+    let read = fill(feed, &mut prefix)?;
+    if read == 0 {
+        return if had_header {
+            Ok(None)
+        } else {
+            Err(refused(place, Reason::NoHeader))
+        };
+    }
+    if read < 4 {
+        return Err(refused(place, Reason::PrefixCut));
+    }
+    if BigEndian::read_u32(&prefix) >= HEADER_LIMIT {
+        return Err(refused(place, Reason::HeaderLong));
+    }
+    Ok(Some(prefix))
+}
+
+// This many bytes.
+#[tactic(auto, unfolding(crate::specs::Frames::bytes_at))]
+fn read_bytes<F: Feed>(feed: &mut F, buf: &mut Vec<u8>, count: u32, cut: Fault) -> Result<(), Stop>
+    ensures given { Gives (λ _. buf.new.items) (F.remaining feed.old) (F.remaining feed.new) result (bytes_at cut count) }
+    ensures held { vec_len buf.new ≤ max count (vec_len buf.old) }
+    ensures len { OnOk result (vec_len buf.new ≡ count) }
+    ensures untold { OnOk result (F.remaining feed.old ≡ None → F.remaining feed.new ≡ None) }
+    ensures lender { F.lender feed.new ≡ F.lender feed.old }
+    ensures carries { OnOk result ((b : List ℕ) → F.carries feed.old b → F.carries feed.new b) }
+    ensures counts { F.failures feed.old ≤ F.failures feed.new }
+    ensures stops { IfErr result (IsReaderStop (F.failures feed.old) (F.failures feed.new)) }
+{
+    fill_vec(feed, buf, count as usize)?;
+    if buf.len() < count as usize {
+        return Err(Stop::Refused(cut));
+    }
+    Ok(())
+}
+
+// Whether a frame of this kind may stand here and end here.
+#[tactic(auto, using(crate::proofs::Parts::lesser_parts))]
+fn judge_order(had_header: bool, place: u64, kind: FrameKind, end: u64) -> Option<Fault>
+    ensures { result ≡ least (order_faults had_header place kind end) }
+{
+    let second = had_header && kind == FrameKind::Header;
+    let first = !had_header && kind == FrameKind::Data;
+    let order = lesser(
+        fault_where(second, place, Reason::SecondHeader),
+        fault_where(first, place, Reason::DataFirst),
+    );
+    lesser(order, fault_where(end > 1 << 62, place, Reason::FileLong))
+}
+
+// The header behind a prefix, and what it says.
+#[tactic(auto, unfolding(crate::specs::Frames::header_of))]
+fn read_header<F: Feed>(
+    feed: &mut F,
+    header: &mut Vec<u8>,
+    had_header: bool,
+    place: u64,
+    prefix: &[u8],
+) -> Result<Head, Stop>
+    requires in_range { place ≤ 2 ^ 62 }
+    requires whole { 4 ≤ length prefix.now }
+    requires small { big_number 4 prefix.now < HEADER_LIMIT }
+    ensures given { Gives (λ head. (header.new.items, head)) (F.remaining feed.old) (F.remaining feed.new) result (header_of had_header place prefix.now) }
+    ensures head { IfOk result (λ head. head_of (place + 4) header.new.items ≡ Ok head) }
+    ensures small { IfOk result (λ head. head.size ≤ LARGEST_SIZE) }
+    ensures end { IfOk result (λ head. place + 4 + vec_len header.new + head.size ≤ 2 ^ 62) }
+    ensures held { vec_len header.new ≤ max 65535 (vec_len header.old) }
+    ensures untold { OnOk result (F.remaining feed.old ≡ None → F.remaining feed.new ≡ None) }
+    ensures lender { F.lender feed.new ≡ F.lender feed.old }
+    ensures carries { OnOk result ((b : List ℕ) → F.carries feed.old b → F.carries feed.new b) }
+    ensures counts { F.failures feed.old ≤ F.failures feed.new }
+    ensures stops { IfErr result (IsReaderStop (F.failures feed.old) (F.failures feed.new)) }
+{
+    let cut = Fault {
+        offset: place,
+        reason: Reason::HeaderCut,
+    };
+    read_bytes(feed, header, BigEndian::read_u32(prefix), cut)?;
+    let head = read_head(header, place + 4)?;
+    let end = place + 4 + header.len() as u64 + u64::from(head.size);
+    if let Some(fault) = judge_order(had_header, place, head.kind, end) {
+        return Err(Stop::Refused(fault));
+    }
+    Ok(head)
+}
+
+// Reads past this many bytes, in pieces of the room's length.
+fn skip<F: Feed>(feed: &mut F, count: u32, room: &mut [u8], cut: Fault) -> Result<(), Stop>
+    requires { 0 < length room.old }
+    ensures skips { OnOk result (Skips (F.remaining feed.old) (F.remaining feed.new) count) }
+    ensures lender { F.lender feed.new ≡ F.lender feed.old }
+    ensures carries { OnOk result ((b : List ℕ) → F.carries feed.old b → F.carries feed.new b) }
+    ensures counts { F.failures feed.old ≤ F.failures feed.new }
+    ensures stops { IfErr result (IsSkipStop (F.remaining feed.old) count cut (F.failures feed.old) (F.failures feed.new)) }
+{
+    let mut left = count as usize;
+    while left > 0 {
+        let piece = left.min(room.len());
+        let read = fill(feed, &mut room[..piece])?;
+        if read < piece {
+            return Err(Stop::Refused(cut));
+        }
+        left -= piece;
+    }
+    Ok(())
+}
+
+// The blob of a header or of data.
+#[tactic(auto, unfolding(crate::specs::Frames::known_blob_of))]
+fn read_known_blob<F: Feed>(
+    feed: &mut F,
+    blob: &mut Vec<u8>,
+    size: u32,
+    at: u64,
+) -> Result<(), Stop>
+    requires in_range { at + size ≤ 2 ^ 63 }
+    ensures given { Gives (λ _. blob.new.items) (F.remaining feed.old) (F.remaining feed.new) result (known_blob_of size at) }
+    ensures sound { OnOk result (blob_fault at blob.new.items ≡ None) }
+    ensures long { OnOk result (vec_len blob.new ≡ size) }
+    ensures held { vec_len blob.new ≤ max size (vec_len blob.old) }
+    ensures untold { OnOk result (F.remaining feed.old ≡ None → F.remaining feed.new ≡ None) }
+    ensures lender { F.lender feed.new ≡ F.lender feed.old }
+    ensures carries { OnOk result ((b : List ℕ) → F.carries feed.old b → F.carries feed.new b) }
+    ensures counts { F.failures feed.old ≤ F.failures feed.new }
+    ensures stops { IfErr result (IsReaderStop (F.failures feed.old) (F.failures feed.new)) }
+{
+    let cut = Fault {
+        offset: at,
+        reason: Reason::BlobCut,
+    };
+    read_bytes(feed, blob, size, cut)?;
+    if let Some(fault) = judge_blob(blob, at) {
+        return Err(Stop::Refused(fault));
+    }
+    Ok(())
+}
+
+// The blob behind a header; one of another type is read past.
+fn read_blob<F: Feed>(feed: &mut F, blob: &mut Vec<u8>, head: Head, at: u64) -> Result<(), Stop>
+    requires in_range { at + head.size ≤ 2 ^ 63 }
+    ensures gave { OnOk result (GaveBlob head.kind head.size at blob.new.items (F.remaining feed.old) (F.remaining feed.new)) }
+    ensures sound { OnOk result (IsSound head.kind at blob.new.items) }
+    ensures refused { IfErr result (RefusedBlob head.kind head.size at (F.remaining feed.old)) }
+    ensures held { vec_len blob.new ≤ max head.size (vec_len blob.old) }
+    ensures lender { F.lender feed.new ≡ F.lender feed.old }
+    ensures carries { OnOk result ((b : List ℕ) → F.carries feed.old b → F.carries feed.new b) }
+    ensures counts { F.failures feed.old ≤ F.failures feed.new }
+    ensures stops { IfErr result (IsReaderStop (F.failures feed.old) (F.failures feed.new)) }
+{
+    match head.kind {
+        FrameKind::Header | FrameKind::Data => read_known_blob(feed, blob, head.size, at),
+        FrameKind::Other => {
+            blob.clear();
+            let cut = Fault {
+                offset: at,
+                reason: Reason::BlobCut,
+            };
+            skip(feed, head.size, &mut [0; PIECE], cut)?;
+            Ok(())
+        }
+    }
+}
+
+/// A frame whose bytes lie in the reader's buffers.
+#[derive(Clone, Copy, Debug, PartialEq, Eq)]
+pub(crate) struct Seen {
+    pub(crate) offset: u64,
+    pub(crate) kind: FrameKind,
+    pub(crate) size: u32,
+    pub(crate) blob_at: u64,
+}
+
+// The next frame, or nothing at the end.
+pub(crate) fn read_frame<F: Feed>(
+    feed: &mut F,
+    header: &mut Vec<u8>,
+    blob: &mut Vec<u8>,
+    had_header: bool,
+    place: u64,
+) -> Result<Option<Seen>, Stop>
+    requires in_range { place ≤ 2 ^ 62 }
+    ensures gave { IfOk result (λ o. IfSome o (λ seen. GaveFrame had_header place header.new.items blob.new.items seen (F.remaining feed.old) (F.remaining feed.new))) }
+    ensures ended { IfOk result (λ o. IfNone o (GaveEnd had_header place (F.remaining feed.old) (F.remaining feed.new))) }
+    ensures refused { IfErr result (RefusedFrame had_header place (F.remaining feed.old)) }
+    ensures later { IfOk result (λ o. IfSome o (λ seen. (place < seen.blob_at) × IsPlaced seen)) }
+    ensures sound { IfOk result (λ o. IfSome o (λ seen. IsSound seen.kind seen.blob_at blob.new.items)) }
+    ensures header_held { vec_len header.new ≤ max 65535 (vec_len header.old) }
+    ensures blob_held { vec_len blob.new ≤ max LARGEST_SIZE (vec_len blob.old) }
+    ensures lender { F.lender feed.new ≡ F.lender feed.old }
+    ensures carries { OnOk result ((b : List ℕ) → F.carries feed.old b → F.carries feed.new b) }
+    ensures counts { F.failures feed.old ≤ F.failures feed.new }
+    ensures stops { IfErr result (IsReaderStop (F.failures feed.old) (F.failures feed.new)) }
+{
+    let Some(prefix) = read_prefix(feed, had_header, place)? else {
+        return Ok(None);
+    };
+    let head = read_header(feed, header, had_header, place, &prefix)?;
+    let blob_at = place + 4 + header.len() as u64;
+    read_blob(feed, blob, head, blob_at)?;
+    Ok(Some(Seen {
+        offset: place,
+        kind: head.kind,
+        size: head.size,
+        blob_at,
+    }))
+}

@@ -1,0 +1,42 @@
+//! Loops over a device, however it cuts the bytes.
+
+ghost use Rattle.std.specs.Prelude.{◌≡◌, ◌<◌, ◌≤◌, ℕ, List, length, take, IfOk, OnOk, OnErr};
+ghost use Rattle.pbf_frame.specs.Devices.{prepend, append, IsAtEnd, HasRisen, IsFront};
+
+use crate::{Drain, DrainFault, Feed, FeedFault};
+
+/// Fills the buffer, or less of it only at the end of the feed.
+pub fn fill<F: Feed>(feed: &mut F, buf: &mut [u8]) -> Result<usize, FeedFault>
+    ensures bound { IfOk result (λ n. n ≤ length buf.old) }
+    ensures bytes { IfOk result (λ n. F.remaining feed.old ≡ prepend (take n buf.new) (F.remaining feed.new)) }
+    ensures end { IfOk result (λ n. n < length buf.old → IsAtEnd (F.remaining feed.new)) }
+    ensures carries { OnOk result ((b : List ℕ) → F.carries feed.old b → F.carries feed.new b) }
+    ensures counts { F.failures feed.old ≤ F.failures feed.new }
+    ensures failed { OnErr result (HasRisen (F.failures feed.old) (F.failures feed.new)) }
+    ensures lender { F.lender feed.new ≡ F.lender feed.old }
+{
+    let mut done = 0;
+    while done < buf.len() {
+        let count = feed.read(&mut buf[done..])?;
+        if count == 0 {
+            break;
+        }
+        done += count;
+    }
+    Ok(done)
+}
+
+/// Writes all of the bytes, or a beginning of them.
+pub fn write_all<D: Drain>(drain: &mut D, bytes: &[u8]) -> Result<(), DrainFault>
+    ensures ok { OnOk result (D.taken drain.new ≡ append (D.taken drain.old) bytes.now) }
+    ensures front { IsFront (D.taken drain.old) (D.taken drain.new) bytes.now }
+    ensures counts { D.failures drain.old ≤ D.failures drain.new }
+    ensures failed { OnErr result (HasRisen (D.failures drain.old) (D.failures drain.new)) }
+    ensures lender { D.lender drain.new ≡ D.lender drain.old }
+{
+    let mut done = 0;
+    while done < bytes.len() {
+        done += drain.write(&bytes[done..])?;
+    }
+    Ok(())
+}
