@@ -13,6 +13,8 @@ mod refs;
 mod relation;
 mod scale;
 mod tags;
+#[cfg(test)]
+mod tests;
 mod way;
 mod weight;
 
