@@ -79,17 +79,25 @@ impl<'a> MetaRef<'a> {
     pub fn to_owned(&self, alloc: Global) -> Result<Meta, AllocError>
         ensures { IfOk result (λ owned. owned_meta owned ≡ meta_of self.now) }
     {
-        let user = match self.user {
+        let MetaRef {
+            version,
+            timestamp,
+            changeset,
+            uid,
+            user: lent,
+            visible,
+        } = *self;
+        let user = match lent {
             Some(user) => Some(Vec::from_slice(alloc, user)?),
             None => None,
         };
         Ok(Meta {
-            version: self.version,
-            timestamp: self.timestamp,
-            changeset: self.changeset,
-            uid: self.uid,
+            version,
+            timestamp,
+            changeset,
+            uid,
             user,
-            visible: self.visible,
+            visible,
         })
     }
 }

@@ -175,7 +175,10 @@ fn a_dense_node(rt: HostRuntime) -> Result<(), Fail> {
         assert_eq!(rt; view.meta().visible, None);
         assert_eq!(rt; view.scale(), SCALE);
         let mut tags = entity.tags();
-        assert_eq!(rt; tags.next(), Some((b"highway".as_slice(), b"stop".as_slice())));
+        assert_eq!(rt;
+            tags.next(),
+            Some((b"highway".as_slice(), b"stop".as_slice()))
+        );
         assert_eq!(rt; tags.next(), None);
         assert_eq!(rt; (view.weight(), entity.weight()), (206, 206));
         assert!(rt; view.fits() && entity.fits());
@@ -197,11 +200,17 @@ fn a_way_with_locations(rt: HostRuntime) -> Result<(), Fail> {
     let way = WayRef::new(7, NO_META, tags, Refs::Summed(sums(8)), places, SCALE);
     let owned = way.to_owned(rt.alloc())?;
     assert_eq!(rt; owned.refs.as_slice(), [1, 2, 3].as_slice());
-    assert_eq!(rt; owned.locations.as_slice(), [(1, 1), (-1, 1), (1, 1)].as_slice());
+    assert_eq!(rt;
+        owned.locations.as_slice(),
+        [(1, 1), (-1, 1), (1, 1)].as_slice()
+    );
     for view in [way, owned.view()] {
         let entity = EntityRef::Way(view);
         let nanos: Vec<(i128, i128)> = view.nano_locations().collect(rt.alloc())?;
-        assert_eq!(rt; nanos.as_slice(), [(100, 100), (-100, 100), (100, 100)].as_slice());
+        assert_eq!(rt;
+            nanos.as_slice(),
+            [(100, 100), (-100, 100), (100, 100)].as_slice()
+        );
         assert_eq!(rt; (view.id(), entity.id()), (7, 7));
         assert_eq!(rt; (view.weight(), entity.weight()), (352, 352));
         assert_eq!(rt; (view.millis(), view.tags().next()), (None, None));
@@ -231,7 +240,10 @@ fn a_relation_of_two_members(rt: HostRuntime) -> Result<(), Fail> {
     for view in [relation, owned.view()] {
         let entity = EntityRef::Relation(view);
         let mut tags = entity.tags();
-        assert_eq!(rt; tags.next(), Some((b"highway".as_slice(), b"stop".as_slice())));
+        assert_eq!(rt;
+            tags.next(),
+            Some((b"highway".as_slice(), b"stop".as_slice()))
+        );
         let mut members = view.members();
         let Some(first) = members.next() else {
             panic!(rt; "the first member is lost");
