@@ -1,5 +1,5 @@
 -- Signed numbers, differences and sums undo each other.
-use Rattle.std.proofs.Common.{◌≡◌, ℕ, zero, suc, ◌+◌, ◌-◌, ◌*◌, ◌/◌, ◌%◌, ◌^◌, ◌<◌, ◌≤◌, true, false, ltb, eqb, ℤ, pos, negsuc, ◌+ℤ◌, ◌-ℤ◌, List, [], ◌∷◌, length, map, refl, sym, ap, ap₂, ◌∙◌, arith}
+use Rattle.std.proofs.Common.{◌≡◌, Bool, cond, Option, Some, None, ℕ, zero, suc, ◌+◌, ◌-◌, ◌*◌, ◌/◌, ◌%◌, ◌^◌, ◌<◌, ◌≤◌, true, false, ltb, eqb, ℤ, pos, negsuc, ◌+ℤ◌, ◌-ℤ◌, List, [], ◌∷◌, length, map, refl, sym, ap, ap₂, subst, ◌∙◌, arith, rules}
 use Rattle.std.specs.Prelude.{◌<ℤ◌, ◌≤ℤ◌, neg_ℤ}
 use Rattle.std.specs.List.{range_with_len, AllByRecursion}
 use Rattle.std.proofs.Math.Nat.{pow-suc}
@@ -7,8 +7,8 @@ use Rattle.std.proofs.lemmas.Int.{ints}
 use Rattle.std.proofs.lemmas.Bool.{le-ltb}
 use Rattle.std.proofs.lemmas.Bool.Decides.{nat_tests}
 use Rattle.pbf_wire.specs.Varint.{shortest, spelled_within}
-use Rattle.pbf_wire.specs.Signed.{zigzag, unzigzag, low_i32, low_i64, sign_extended, IsWithin}
-use Rattle.pbf_wire.specs.Sums.{sum_at, sums, sums_from, differences, deltas}
+use Rattle.pbf_wire.specs.Signed.{zigzag, unzigzag, low_i32, low_i64, sign_extended, IsWithin, is_within}
+use Rattle.pbf_wire.specs.Sums.{sum_at, sums, sums_from, sums_within, added, differences, deltas}
 
 -- ---- one number
 
@@ -143,3 +143,35 @@ running_sums ds = by_index (pos 0) ds ∙ same_map (λ i. pos 0 +ℤ sum_at ds i
 
 pub sums_of_deltas : (values : List ℤ) → sums (map unzigzag (deltas values)) ≡ values
 sums_of_deltas values = sym (running_sums (map unzigzag (deltas values))) ∙ sums_undo_deltas values
+
+-- ---- sums that are all in range
+
+pub within_true : (limit n : ℤ) → IsWithin limit n → is_within limit n ≡ true
+within_true limit n h = search (rules, h.above, h.below)
+
+added_within : (limit total number : ℤ) → IsWithin limit (total +ℤ number) → added limit total number ≡ Some (total +ℤ number)
+unfolding added
+added_within limit total number h = rw (within_true limit (total +ℤ number) h) refl
+
+within_is : (limit n : ℤ) → is_within limit n ≡ true → IsWithin limit n
+within_is limit n h = record { above = search rules; below = search rules }
+
+pub added_out : (limit total number : ℤ) → ¬ IsWithin limit (total +ℤ number) → added limit total number ≡ None
+unfolding added
+added_out limit total number h = by (is_within limit (total +ℤ number)) refl
+  where
+    by : (b : Bool) → is_within limit (total +ℤ number) ≡ b → cond b (Some (total +ℤ number)) None ≡ None
+    by true e = absurd (h (within_is limit (total +ℤ number) e))
+    by false e = refl
+
+abbrev then_more : ℤ → List ℤ → Option ℤ → List ℤ
+then_more limit ds sum = elim sum [ None ↦ [] | Some sum ↦ sum ∷ sums_within limit sum ds ]
+
+all_within : (limit start : ℤ) (ds : List ℤ) → AllByRecursion (IsWithin limit) (sums_from start ds) → sums_within limit start ds ≡ sums_from start ds
+all_within limit start [] h = refl
+all_within limit start (d ∷ ds) h =
+    ap (then_more limit ds) (added_within limit start d h.0) ∙ ap (λ (zs : List ℤ). (start +ℤ d) ∷ zs) (all_within limit (start +ℤ d) ds h.1)
+
+pub sums_in_range : (limit : ℤ) (ds : List ℤ) → AllByRecursion (IsWithin limit) (sums ds) → sums_within limit (pos 0) ds ≡ sums ds
+sums_in_range limit ds h =
+    all_within limit (pos 0) ds (subst (λ (zs : List ℤ). AllByRecursion (IsWithin limit) zs) (sym (running_sums ds)) h) ∙ running_sums ds

@@ -1,11 +1,11 @@
 -- A message is written slot by slot.
-use Rattle.std.proofs.Common.{◌≡◌, ℕ, zero, suc, ◌+◌, ◌*◌, ◌/◌, ◌%◌, ◌<◌, true, false, cond, ltb, List, [], ◌∷◌, ◌++◌, length, Some, refl, sym, ap, ◌∙◌, arith, length-append, append_assoc}
+use Rattle.std.proofs.Common.{◌≡◌, ℕ, zero, suc, ◌+◌, ◌*◌, ◌/◌, ◌%◌, ◌<◌, true, false, cond, ltb, List, [], ◌∷◌, ◌++◌, length, map, Some, refl, sym, ap, ◌∙◌, arith, length-append, append_assoc}
 use Rattle.std.specs.List.{flat_map}
-use Rattle.std.proofs.lemmas.List.{append-nil}
+use Rattle.std.proofs.lemmas.List.{append-nil, map-append}
 use Rattle.std.proofs.lemmas.Grind.{flat_map-append}
 use Rattle.pbf_wire.specs.Varint.{shortest, spelled_within}
 use Rattle.pbf_wire.specs.Columns.{packed}
-use Rattle.pbf_wire.specs.Writing.{spelling}
+use Rattle.pbf_wire.specs.Writing.{Part, Whole, spelling}
 use Rattle.pbf_wire.specs.Message.{Slot, Scalar, Column, Each, parts_of, slot_bytes, message}
 
 spelled_positive : (n v : ℕ) → 0 < length (spelled_within n v)
@@ -68,3 +68,17 @@ one_more s slots old new all e h =
 
 pub all_written : (all : List ℕ) → all ≡ all ++ message []
 all_written all = sym (ap (λ (w : List ℕ). all ++ w) message_none ∙ append-nil all)
+
+pub message_one : (s : Slot) → message (s ∷ []) ≡ slot_bytes s
+message_one s = message_first s [] ∙ ap (λ (w : List ℕ). slot_bytes s ++ w) message_none ∙ append-nil (slot_bytes s)
+
+-- ---- messages and texts, one after the other
+
+pub each_none : (number : ℕ) → slot_bytes (Each number []) ≡ []
+unfolding slot_bytes
+each_none number = refl
+
+pub each_joined : (number : ℕ) (ms others : List (List ℕ)) → slot_bytes (Each number (ms ++ others)) ≡ slot_bytes (Each number ms) ++ slot_bytes (Each number others)
+unfolding slot_bytes
+each_joined number ms others =
+    ap (λ (ps : List Part). flat_map spelling ps) (map-append (Whole number) ms others) ∙ flat_map-append spelling (map (Whole number) ms) (map (Whole number) others)

@@ -1,7 +1,10 @@
 -- What the cursors over a message have still to give.
-use Rattle.std.specs.Prelude.{ℕ, List, ◌++◌, map}
+use Rattle.std.specs.Prelude.{ℕ, ℤ, List, ◌++◌, map}
 use Rattle.pbf_wire.specs.declared.fields.Fields.{Fields}
 use Rattle.pbf_wire.specs.declared.column.Column.{Column}
+use Rattle.pbf_wire.specs.declared.sums.Sums.{Sums}
+use Rattle.pbf_wire.specs.Signed.{delta_in}
+use Rattle.pbf_wire.specs.Sums.{sums_within}
 use Rattle.pbf_wire.specs.Occurrence.{Item, items, found}
 use Rattle.pbf_wire.specs.Columns.{entries, read_entries, placed, joined}
 
@@ -20,3 +23,7 @@ numbers_left column = map (λ p. p.0) (column_left column)
 -- the place of the occurrence that held the last number given
 abbrev pub place_of : Column → ℕ
 place_of column = column.place
+
+-- the values of a delta column that are left
+abbrev pub sums_left : Sums → List ℤ
+sums_left sums = sums_within sums.limit sums.total (map (delta_in sums.narrow) (numbers_left sums.entries))

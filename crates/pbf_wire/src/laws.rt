@@ -12,7 +12,7 @@ ghost use Rattle.pbf_wire.specs.Columns.{entries, packed, column};
 ghost use Rattle.pbf_wire.specs.Reading.{last_number, each};
 ghost use Rattle.pbf_wire.specs.Wire.{wire};
 ghost use Rattle.pbf_wire.specs.Signed.{zigzag, unzigzag, low_i32, low_i64, sign_extended, IsWithin};
-ghost use Rattle.pbf_wire.specs.Sums.{sums, sums_from, deltas};
+ghost use Rattle.pbf_wire.specs.Sums.{sums, sums_from, sums_within, deltas};
 ghost use Rattle.pbf_wire.specs.Writing.{occurrences_of};
 ghost use Rattle.pbf_wire.specs.Message.{Slot, parts_of, message, SlotFits, SlotIs, SlotBelow, numbers_at, scalars_at, messages_at};
 
@@ -58,10 +58,11 @@ pub fn signed_numbers_are_read()
 {}
 
 /// A running sum is, at each entry, the sum of that entry and all before it; and the sums of the differences of values are
-/// the values.
+/// the values. Where no sum is out of range, the sums up to the first that is out of range are all sums.
 pub fn sums_undo_differences()
     ensures running { (entries : List ℤ) → sums_from (pos 0) entries ≡ sums entries }
     ensures values { (values : List ℤ) → sums (map unzigzag (deltas values)) ≡ values }
+    ensures within { (limit : ℤ) (entries : List ℤ) → AllByRecursion (IsWithin limit) (sums entries) → sums_within limit (pos 0) entries ≡ sums entries }
     ensures fit { (values : List ℤ) → AllByRecursion (IsWithin (pos (2 ^ 62))) values → AllByRecursion (λ n. n < 2 ^ 64) (deltas values) }
 {}
 

@@ -16,6 +16,7 @@ mod least;
 mod reading;
 mod signed;
 mod sum;
+mod sums;
 #[cfg(test)]
 mod tests;
 mod varint;
@@ -34,5 +35,6 @@ pub use least::{comes_before, lesser};
 pub use reading::{last_field, last_number};
 pub use signed::{low_i32, low_i64, low_sint32, low_u32, sign_extended, unzigzag, zigzag};
 pub use sum::Sum;
+pub use sums::Sums;
 pub use varint::{get_varint, put_varint, varint_len};
 pub use writing::{put_bytes, put_column, put_number};

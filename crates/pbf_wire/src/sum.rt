@@ -2,7 +2,7 @@
 
 ghost use Rattle.std.specs.Prelude.{◌≡◌, pos, ◌+ℤ◌, ◌≤ℤ◌, MatchOption, IfNone};
 ghost use Rattle.pbf_wire.specs.Signed.{IsWithin};
-ghost use Rattle.pbf_wire.specs.Sums.{Total};
+ghost use Rattle.pbf_wire.specs.Sums.{Total, added};
 
 use std::marker::Model;
 
@@ -24,6 +24,21 @@ impl Model for Sum {
     ghost inverse = { λ v. record { total = v.total; limit = v.limit } };
 }
 
+/// The sum of two numbers, if it is strictly between `-limit` and `limit`.
+#[tactic(auto, unfolding(crate::specs::Sums::added))]
+pub(crate) fn added(total: i64, number: i64, limit: i64) -> Option<i64>
+    requires { pos 1 ≤ℤ limit }
+    ensures sum { MatchOption result (¬ IsWithin limit (total +ℤ number)) (λ sum. (sum ≡ total +ℤ number) × IsWithin limit sum) }
+    ensures exact { result ≡ added limit total number }
+{
+    let sum = total.checked_add(number)?;
+    if -limit < sum && sum < limit {
+        Some(sum)
+    } else {
+        None
+    }
+}
+
 impl Sum {
     /// The sum of nothing, which is 0.
     pub fn new(limit: i64) -> Self
@@ -39,10 +54,7 @@ impl Sum {
         ensures limit { self.new.limit ≡ self.old.limit }
         ensures unchanged { IfNone result (self.new ≡ self.old) }
     {
-        let sum = self.total.checked_add(number)?;
-        if sum <= -self.limit || sum >= self.limit {
-            return None;
-        }
+        let sum = added(self.total, number, self.limit)?;
         self.total = sum;
         Some(sum)
     }

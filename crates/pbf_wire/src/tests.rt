@@ -1,7 +1,7 @@
 //! What no clause says: values from the format's own examples, texts, and that each call can succeed.
 
 use crate::{
-    Column, ColumnOut, DeltaOut, Fault, Fields, Kind, Payload, ReadFault, Reason, Sum,
+    Column, ColumnOut, DeltaOut, Fault, Fields, Kind, Payload, ReadFault, Reason, Sum, Sums,
     comes_before, count_ends, end_mask, get_varint, judge_payload, judge_wire, kind_of, last_field,
     last_number, laws, lesser, low_i32, low_i64, low_sint32, low_u32, put_bytes, put_column,
     put_number, put_varint, sign_extended, unzigzag, varint_len, zigzag,
@@ -251,6 +251,20 @@ fn a_refused_push_changes_nothing(rt: HostRuntime) {
         assert_eq!(rt; column.held() == before, added.is_err());
         assert_eq!(rt; deltas.held() == before_deltas, added_delta.is_err());
     }
+}
+
+#[test]
+fn values_of_delta_columns(rt: HostRuntime) -> Result<(), Fail> {
+    let ids = Column::new(&TWO_OCCURRENCES, 44, 1);
+    let all: Vec<i64> = Sums::new(ids, 1 << 62).collect(rt.alloc())?;
+    assert_eq!(rt; all.as_slice(), [10, 11, 15].as_slice());
+    let below_11: Vec<i64> = Sums::new(ids, 11).collect(rt.alloc())?;
+    assert_eq!(rt; below_11.as_slice(), [10].as_slice());
+    // 2^32 + 2, of which a `sint32` takes the 2
+    let wide = Column::new(&[0x08, 0x82, 0x80, 0x80, 0x80, 0x10], 0, 1);
+    assert_eq!(rt; Sums::new(wide, 1 << 62).next(), Some(2_147_483_649));
+    assert_eq!(rt; Sums::narrow(wide, 1 << 62).next(), Some(1));
+    Ok(())
 }
 
 #[test]

@@ -1,0 +1,13 @@
+use Rattle.std.proofs.Common.{◌≡◌, ◌+◌, ◌-◌, ◌^◌, ◌≤◌, min}
+use Rattle.osm_entity.specs.Sources.{members_left}
+use Rattle.osm_entity.specs.Weight.{members_weight}
+use Rattle.osm_entity.proofs.weight.members_weight.Given as goal
+
+-- the weight so far and that of the members that are left is the weight of all
+abbrev pub invariant-loop-member : goal.invariant-loop-member
+invariant-loop-member l = record {
+  can : (goal.iterator-loop-member).can_next l.member-iterator;
+  ends : (goal.iterator-loop-member).is_finite l.member-iterator;
+  fits : l.weight ≤ 2 ^ 64 - 1;
+  so_far : min (l.weight + members_weight (members_left l.member-iterator)) (2 ^ 64 - 1) ≡ min (members_weight (members_left l.fn.members)) (2 ^ 64 - 1);
+}

@@ -1,0 +1,25 @@
+-- A box between four edges.
+use Rattle.std.specs.Prelude.{ℤ, pos, neg_ℤ, ◌≤ℤ◌, Bool, not, ◌&&◌, int_le, int_lt, if◌then◌else◌, Result, Ok, Err}
+use Rattle.osm_entity.specs.declared.bounding_box.BoundingBox.{BoundingBox}
+use Rattle.osm_entity.specs.declared.bounding_box.BoxFault.{BoxFault}
+use Rattle.osm_entity.specs.declared.bounding_box.BoxFault.TheVariants.{Range, LeftOverRight, BottomOverTop}
+
+-- the number is from -limit to limit
+abbrev pub is_within : ℤ → ℤ → Bool
+is_within limit number = int_le (neg_ℤ limit) number && int_le number limit
+
+-- the box of these edges in nanodegrees, or the fault with the least number
+abbrev pub box_of_edges : ℤ → ℤ → ℤ → ℤ → Result BoundingBox BoxFault
+box_of_edges left bottom right top =
+    if not (is_within (pos 180000000000) left && is_within (pos 180000000000) right) then Err Range
+    else (if not (is_within (pos 90000000000) bottom && is_within (pos 90000000000) top) then Err Range
+    else (if int_lt right left then Err LeftOverRight
+    else (if int_lt top bottom then Err BottomOverTop
+    else Ok (record { left = left; bottom = bottom; right = right; top = top }))))
+
+abbrev pub is_between : ℤ → ℤ → ℤ → Bool
+is_between least number most = int_le least number && int_le number most
+
+-- a place in nanodegrees is in the box, edges included
+abbrev pub is_inside : BoundingBox → ℤ → ℤ → Bool
+is_inside area lat lon = is_between area.bottom lat area.top && is_between area.left lon area.right

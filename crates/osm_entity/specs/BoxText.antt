@@ -1,0 +1,11 @@
+-- The parts of a box's text, as bytes.
+use Rattle.osm_entity.specs.Degrees as degrees
+use Rattle.osm_entity.specs.declared.degrees.Parts.{Parts}
+
+abbrev pub texts_of : Parts → degrees.Parts
+texts_of p = record {
+  left = p.left.now;
+  bottom = p.bottom.now;
+  right = p.right.now;
+  top = p.top.now;
+}

@@ -1,0 +1,9 @@
+pub mod Scale
+pub mod Entity
+pub mod Sources
+pub mod Views
+pub mod Weight
+pub mod Ranges
+pub mod BoundingBox
+pub mod Degrees
+pub mod BoxText

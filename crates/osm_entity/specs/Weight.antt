@@ -1,0 +1,30 @@
+-- What an entity counts for in a block: 160, 32 for each tag, ref, location and member, and the lengths of all its texts,
+-- repeats counted.
+use Rattle.std.specs.Prelude.{ℕ, ◌+◌, ◌*◌, List, [], ◌∷◌, length, Option, Some, None}
+use Rattle.osm_entity.specs.Entity.{TagSpec, MemberSpec, NodeSpec, WaySpec, RelationSpec, EntitySpec, node, way, relation}
+
+abbrev pub tags_weight : List TagSpec → ℕ
+tags_weight [] = 0
+tags_weight (tag ∷ tags) = 32 + length tag.0 + length tag.1 + tags_weight tags
+
+abbrev pub members_weight : List MemberSpec → ℕ
+members_weight [] = 0
+members_weight (member ∷ members) = 32 + length member.role + members_weight members
+
+abbrev pub text_weight : Option (List ℕ) → ℕ
+text_weight None = 0
+text_weight (Some text) = length text
+
+abbrev pub node_weight : NodeSpec → ℕ
+node_weight n = 160 + text_weight n.meta.user + tags_weight n.tags
+
+abbrev pub way_weight : WaySpec → ℕ
+way_weight w = 160 + text_weight w.meta.user + tags_weight w.tags + 32 * length w.refs + 32 * length w.locations
+
+abbrev pub relation_weight : RelationSpec → ℕ
+relation_weight r = 160 + text_weight r.meta.user + tags_weight r.tags + members_weight r.members
+
+abbrev pub entity_weight : EntitySpec → ℕ
+entity_weight (node n) = node_weight n
+entity_weight (way w) = way_weight w
+entity_weight (relation r) = relation_weight r

@@ -1,0 +1,125 @@
+//! The box of an extract.
+
+ghost use Rattle.std.specs.Prelude.{◌≡◌, ◌↔◌, ◌≤ℤ◌, pos, IsTrue};
+ghost use Rattle.osm_entity.specs.BoundingBox.{box_of_edges, is_within as is_within_limit, is_between, is_inside};
+ghost use Rattle.osm_entity.specs.Degrees.{box_of_text};
+
+use crate::degrees::{Parts, degrees};
+use thiserror::Error;
+
+/// The greatest longitude, 180 degrees, in nanodegrees.
+const MOST_LON: i64 = 180_000_000_000;
+
+/// The greatest latitude, 90 degrees, in nanodegrees.
+const MOST_LAT: i64 = 90_000_000_000;
+
+/// A box between four edges in nanodegrees. The edges belong to it.
+#[derive(Clone, Copy, Debug, PartialEq, Eq)]
+pub struct BoundingBox {
+    pub left: i64,
+    pub bottom: i64,
+    pub right: i64,
+    pub top: i64,
+}
+
+/// What is wrong with a box. Of several faults the one with the least number is answered. Each is printed by its name.
+#[derive(Clone, Copy, Debug, PartialEq, Eq, Error)]
+pub enum BoxFault {
+    /// 1: there aren't exactly three commas.
+    #[error("Shape")]
+    Shape,
+    /// 2: a part isn't an optional `-`, one to three digits and, by choice, `.` with one to nine digits.
+    #[error("Digit")]
+    Digit,
+    /// 3: a longitude is outside -180 to 180 degrees, or a latitude outside -90 to 90.
+    #[error("Range")]
+    Range,
+    /// 4: the left edge is greater than the right one. No box crosses the antimeridian.
+    #[error("LeftOverRight")]
+    LeftOverRight,
+    /// 5: the bottom edge is greater than the top one.
+    #[error("BottomOverTop")]
+    BottomOverTop,
+}
+
+/// Whether the number is from `-limit` to `limit`.
+fn is_within(limit: i64, number: i64) -> bool
+    requires { pos 0 ≤ℤ limit }
+    ensures { result ≡ is_within_limit limit number }
+{
+    -limit <= number && number <= limit
+}
+
+impl BoundingBox {
+    /// The box of these edges in nanodegrees.
+    ///
+    /// # Errors
+    ///
+    /// `Range`, `LeftOverRight` or `BottomOverTop`, the first of these that holds.
+    pub fn new(left: i64, bottom: i64, right: i64, top: i64) -> Result<BoundingBox, BoxFault>
+        ensures { result ≡ box_of_edges left bottom right top }
+    {
+        if !is_within(MOST_LON, left) || !is_within(MOST_LON, right) {
+            return Err(BoxFault::Range);
+        }
+        if !is_within(MOST_LAT, bottom) || !is_within(MOST_LAT, top) {
+            return Err(BoxFault::Range);
+        }
+        if left > right {
+            return Err(BoxFault::LeftOverRight);
+        }
+        if bottom > top {
+            return Err(BoxFault::BottomOverTop);
+        }
+        Ok(BoundingBox {
+            left,
+            bottom,
+            right,
+            top,
+        })
+    }
+
+    /// The box of a text `left,bottom,right,top` in degrees, such as `-0.5,51.25,0.3,51.7`.
+    ///
+    /// # Errors
+    ///
+    /// The fault with the least number.
+    #[tactic(auto, unfolding(crate::specs::Degrees::box_of_text))]
+    pub fn parse(text: &str) -> Result<BoundingBox, BoxFault>
+        ensures { result ≡ box_of_text text.now }
+    {
+        let Some(parts) = Parts::of(text) else {
+            return Err(BoxFault::Shape);
+        };
+        match (
+            degrees(parts.left),
+            degrees(parts.bottom),
+            degrees(parts.right),
+            degrees(parts.top),
+        ) {
+            (Some(left), Some(bottom), Some(right), Some(top)) => {
+                BoundingBox::new(left, bottom, right, top)
+            }
+            _ => Err(BoxFault::Digit),
+        }
+    }
+
+    fn spans_lat(&self, lat: i128) -> bool
+        ensures { result ≡ is_between self.now.bottom lat self.now.top }
+    {
+        i128::from(self.bottom) <= lat && lat <= i128::from(self.top)
+    }
+
+    fn spans_lon(&self, lon: i128) -> bool
+        ensures { result ≡ is_between self.now.left lon self.now.right }
+    {
+        i128::from(self.left) <= lon && lon <= i128::from(self.right)
+    }
+
+    /// Whether the place, in nanodegrees, is in the box or on one of its edges.
+    pub fn contains(&self, lat: i128, lon: i128) -> bool
+        ensures { result ≡ is_inside self.now lat lon }
+    {
+        self.spans_lat(lat) && self.spans_lon(lon)
+    }
+}

@@ -1,0 +1,32 @@
+//! OpenStreetMap's entities: nodes, ways and relations, as views over a block's bytes or over owned ones, their weight and
+//! ranges, and the box of an extract.
+#![tactic(auto)]
+
+mod bounding_box;
+mod degrees;
+mod entity;
+mod locations;
+mod member;
+mod meta;
+mod node;
+mod refs;
+mod relation;
+mod scale;
+mod tags;
+#[cfg(test)]
+mod tests;
+mod way;
+mod weight;
+
+pub use bounding_box::{BoundingBox, BoxFault};
+pub use entity::EntityRef;
+pub use locations::{Locations, NanoLocations, OwnedLocations, SummedLocations};
+pub use member::{ColumnMembers, Member, MemberKind, MemberRef, Members, OwnedMembers};
+pub use meta::{Meta, MetaRef};
+pub use node::{Node, NodeRef};
+pub use refs::{OwnedRefs, Refs};
+pub use relation::{Relation, RelationRef};
+pub use scale::Scale;
+pub use tags::{OwnedTags, PairedTags, RunTags, Tag, Tags};
+pub use way::{Way, WayRef};
+pub use weight::HIGHEST_WEIGHT;

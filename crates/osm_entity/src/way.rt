@@ -1,0 +1,206 @@
+//! Ways.
+
+ghost use Rattle.std.specs.Prelude.{◌≡◌, ◌↔◌, ◌-◌, ◌^◌, min, map, length, IsTrue, IfOk};
+ghost use Rattle.std.specs.Option.{option_map};
+ghost use Rattle.osm_entity.specs.Scale.{millis};
+ghost use Rattle.osm_entity.specs.Entity.{nano_location};
+ghost use Rattle.osm_entity.specs.Sources.{tags_left, refs_left, locations_left, nano_locations_left};
+ghost use Rattle.osm_entity.specs.Views.{meta_of, way_of, owned_way};
+ghost use Rattle.osm_entity.specs.Weight.{way_weight};
+ghost use Rattle.osm_entity.specs.Ranges.{AreLocated, WayFits};
+
+use crate::locations::{Locations, NanoLocations, OwnedLocations, owned_locations};
+use crate::meta::{Meta, MetaRef};
+use crate::refs::{OwnedRefs, Refs, owned_refs};
+use crate::scale::Scale;
+use crate::tags::{OwnedTags, Tag, Tags, owned_tags};
+use crate::weight::{
+    HIGHEST_WEIGHT, id_fits, locations_fit, locations_weight, refs_fit, refs_weight, tags_weight,
+};
+use std::alloc::{AllocError, Global};
+
+/// A way that owns its texts and lists.
+#[derive(Debug, Drop)]
+pub struct Way {
+    pub id: i64,
+    pub meta: Meta,
+    pub tags: Vec<Tag>,
+    /// The ids of the way's nodes.
+    pub refs: Vec<i64>,
+    /// Where these nodes are, in units that `scale` says: a latitude and a longitude for each ref, or nothing.
+    pub locations: Vec<(i64, i64)>,
+    pub scale: Scale,
+}
+
+impl Way {
+    /// The same way, lent.
+    pub fn view(&self) -> WayRef<'_>
+        ensures { way_of result ≡ owned_way self.now }
+    {
+        WayRef {
+            id: self.id,
+            meta: self.meta.view(),
+            tags: Tags::Owned(OwnedTags::new(&self.tags)),
+            refs: Refs::Owned(OwnedRefs::new(&self.refs)),
+            locations: Locations::Owned(OwnedLocations::new(&self.locations)),
+            scale: self.scale,
+        }
+    }
+}
+
+/// A way, wherever it lies.
+#[derive(Clone, Copy, Debug)]
+pub struct WayRef<'a> {
+    id: i64,
+    meta: MetaRef<'a>,
+    tags: Tags<'a>,
+    refs: Refs<'a>,
+    locations: Locations<'a>,
+    scale: Scale,
+}
+
+impl<'a> WayRef<'a> {
+    /// The way of these parts.
+    pub fn new(
+        id: i64,
+        meta: MetaRef<'a>,
+        tags: Tags<'a>,
+        refs: Refs<'a>,
+        locations: Locations<'a>,
+        scale: Scale,
+    ) -> WayRef<'a>
+        ensures { way_of result ≡ record {
+          id = id;
+          meta = meta_of meta.entry;
+          tags = tags_left tags.entry;
+          refs = refs_left refs.entry;
+          locations = locations_left locations.entry;
+          scale = scale;
+        } }
+    {
+        WayRef {
+            id,
+            meta,
+            tags,
+            refs,
+            locations,
+            scale,
+        }
+    }
+
+    /// The way's id.
+    pub fn id(&self) -> i64
+        ensures { result ≡ (way_of self.now).id }
+    {
+        self.id
+    }
+
+    /// What the stored numbers mean.
+    pub fn scale(&self) -> Scale
+        ensures { result ≡ (way_of self.now).scale }
+    {
+        self.scale
+    }
+
+    /// The metadata.
+    pub fn meta(&self) -> MetaRef<'a>
+        ensures { meta_of result ≡ (way_of self.now).meta }
+    {
+        self.meta
+    }
+
+    /// The tags in order.
+    pub fn tags(&self) -> Tags<'a>
+        ensures { tags_left result ≡ (way_of self.now).tags }
+    {
+        self.tags
+    }
+
+    /// The ids of the way's nodes, in order.
+    pub fn refs(&self) -> Refs<'a>
+        ensures { refs_left result ≡ (way_of self.now).refs }
+    {
+        self.refs
+    }
+
+    /// The stored locations of the way's nodes, in the order of the refs: one for each, or none.
+    pub fn locations(&self) -> Locations<'a>
+        ensures { locations_left result ≡ (way_of self.now).locations }
+    {
+        self.locations
+    }
+
+    /// The locations of the way's nodes in nanodegrees.
+    pub fn nano_locations(&self) -> NanoLocations<'a>
+        ensures { nano_locations_left result ≡ map (nano_location (way_of self.now).scale) (way_of self.now).locations }
+    {
+        NanoLocations::new(self.locations, self.scale)
+    }
+
+    /// The time in milliseconds, from 1970 on.
+    pub fn millis(&self) -> Option<i128>
+        ensures { result ≡ option_map (millis (way_of self.now).scale) (way_of self.now).meta.timestamp }
+    {
+        self.meta.millis(self.scale)
+    }
+
+    /// What the way counts for in a block, or the greatest number where it is more.
+    pub fn weight(&self) -> u64
+        ensures { result ≡ min (way_weight (way_of self.now)) (2 ^ 64 - 1) }
+    {
+        let texts = tags_weight(self.tags).saturating_add(self.meta.user_weight());
+        refs_weight(self.refs)
+            .saturating_add(locations_weight(self.locations))
+            .saturating_add(texts)
+            .saturating_add(160)
+    }
+
+    /// Whether all stored numbers are in their ranges, the weight is within its limit, both granularities are at least 1, and
+    /// there are no locations or as many as refs.
+    pub fn fits(&self) -> bool
+        ensures { IsTrue result ↔ WayFits (way_of self.now) }
+    {
+        id_fits(self.id)
+            && self.meta.fits()
+            && self.scale.fits()
+            && refs_fit(self.refs)
+            && locations_fit(self.locations)
+            && located(self.refs, self.locations)
+            && self.weight() <= HIGHEST_WEIGHT
+    }
+
+    /// The same way with texts and lists of its own.
+    pub fn to_owned(&self, alloc: Global) -> Result<Way, AllocError>
+        ensures { IfOk result (λ owned. owned_way owned ≡ way_of self.now) }
+    {
+        Ok(Way {
+            id: self.id,
+            meta: self.meta.to_owned(alloc)?,
+            tags: owned_tags(alloc, self.tags)?,
+            refs: owned_refs(alloc, self.refs)?,
+            locations: owned_locations(alloc, self.locations)?,
+            scale: self.scale,
+        })
+    }
+}
+
+/// Whether there are as many locations as refs.
+fn as_many(refs: Refs<'_>, locations: Locations<'_>) -> bool
+    ensures { IsTrue result ↔ (length (locations_left locations.entry) ≡ length (refs_left refs.entry)) }
+{
+    let mut rest = locations;
+    for _reference in refs {
+        if rest.next().is_none() {
+            return false;
+        }
+    }
+    rest.next().is_none()
+}
+
+/// Whether there are no locations, or as many as refs.
+fn located(refs: Refs<'_>, locations: Locations<'_>) -> bool
+    ensures { IsTrue result ↔ AreLocated (refs_left refs.entry) (locations_left locations.entry) }
+{
+    let mut rest = locations;
+    rest.next().is_none() || as_many(refs, locations)
+}

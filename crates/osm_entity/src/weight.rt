@@ -1,0 +1,111 @@
+//! What the parts of an entity weigh, and whether they are in their ranges.
+
+ghost use Rattle.std.specs.Prelude.{◌≡◌, ◌↔◌, ◌-◌, ◌*◌, ◌^◌, min, length, IsTrue, pos};
+ghost use Rattle.std.specs.List.{AllByRecursion};
+ghost use Rattle.pbf_wire.specs.Signed.{IsWithin};
+ghost use Rattle.osm_entity.specs.Sources.{tags_left, refs_left, locations_left, members_left};
+ghost use Rattle.osm_entity.specs.Weight.{tags_weight, members_weight};
+ghost use Rattle.osm_entity.specs.Ranges.{IsStored, LocationFits, MemberFits};
+
+use crate::locations::Locations;
+use crate::member::Members;
+use crate::refs::Refs;
+use crate::tags::Tags;
+
+/// The greatest weight that an entity may have.
+pub const HIGHEST_WEIGHT: u64 = 12_000_000;
+
+/// The limit of stored numbers: they are strictly between it and its negative.
+const STORED_LIMIT: u64 = 1 << 62;
+
+/// What the tags weigh: 32 for each, and the lengths of its texts. Where it is more than a `u64` holds, the greatest.
+pub(crate) fn tags_weight(tags: Tags<'_>) -> u64
+    ensures { result ≡ min (tags_weight (tags_left tags.entry)) (2 ^ 64 - 1) }
+{
+    let mut weight: u64 = 0;
+    for (key, value) in tags {
+        weight = weight
+            .saturating_add(32)
+            .saturating_add(key.len() as u64)
+            .saturating_add(value.len() as u64);
+    }
+    weight
+}
+
+/// What the refs weigh: 32 for each.
+pub(crate) fn refs_weight(refs: Refs<'_>) -> u64
+    ensures { result ≡ min (32 * length (refs_left refs.entry)) (2 ^ 64 - 1) }
+{
+    let mut weight: u64 = 0;
+    for _reference in refs {
+        weight = weight.saturating_add(32);
+    }
+    weight
+}
+
+/// What the locations weigh: 32 for each.
+pub(crate) fn locations_weight(locations: Locations<'_>) -> u64
+    ensures { result ≡ min (32 * length (locations_left locations.entry)) (2 ^ 64 - 1) }
+{
+    let mut weight: u64 = 0;
+    for _location in locations {
+        weight = weight.saturating_add(32);
+    }
+    weight
+}
+
+/// What the members weigh: 32 for each, and the length of its role.
+pub(crate) fn members_weight(members: Members<'_>) -> u64
+    ensures { result ≡ min (members_weight (members_left members.entry)) (2 ^ 64 - 1) }
+{
+    let mut weight: u64 = 0;
+    for member in members {
+        weight = weight
+            .saturating_add(32)
+            .saturating_add(member.role.len() as u64);
+    }
+    weight
+}
+
+/// Whether an id or another stored number is in its range.
+pub(crate) fn id_fits(number: i64) -> bool
+    ensures { IsTrue result ↔ IsStored number }
+{
+    number.unsigned_abs() < STORED_LIMIT
+}
+
+/// Whether each ref is in its range.
+pub(crate) fn refs_fit(refs: Refs<'_>) -> bool
+    ensures { IsTrue result ↔ AllByRecursion IsStored (refs_left refs.entry) }
+{
+    for reference in refs {
+        if !id_fits(reference) {
+            return false;
+        }
+    }
+    true
+}
+
+/// Whether both numbers of each location are in their range.
+pub(crate) fn locations_fit(locations: Locations<'_>) -> bool
+    ensures { IsTrue result ↔ AllByRecursion LocationFits (locations_left locations.entry) }
+{
+    for (lat, lon) in locations {
+        if !id_fits(lat) || !id_fits(lon) {
+            return false;
+        }
+    }
+    true
+}
+
+/// Whether the id of each member is in its range.
+pub(crate) fn members_fit(members: Members<'_>) -> bool
+    ensures { IsTrue result ↔ AllByRecursion MemberFits (members_left members.entry) }
+{
+    for member in members {
+        if !id_fits(member.id) {
+            return false;
+        }
+    }
+    true
+}

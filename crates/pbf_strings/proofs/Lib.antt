@@ -1,0 +1,3 @@
+pub mod TextsLemmas
+pub mod UsedTexts
+pub mod WrittenTable

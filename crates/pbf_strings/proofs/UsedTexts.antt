@@ -1,0 +1,83 @@
+-- Texts, and the keys that hold them.
+use Rattle.std.proofs.Common.{◌≡◌, ℕ, suc, arith, ◌+◌, add_comm, List, [], ◌∷◌, ◌++◌, Bool, true, false, cond, ◌||◌, Some, map, refl, sym, ap, ◌∙◌, subst, position}
+use Rattle.std.proofs.lemmas.List.{map-append}
+use Rattle.std.specs.List.{list_any, position_or_len}
+use Rattle.std.specs.Str.{bytes_eq}
+use Rattle.std.specs.Cmp.Lexicographic.{nat_list_eq_equiv}
+use Rattle.std.proofs.lemmas.Slice.Eq.{bytes_eq-Decides}
+use Rattle.std.specs.Prelude.{slice_get}
+use Rattle.std.proofs.lemmas.List.Recursion.{is_position_or_len}
+use Rattle.std.proofs.lemmas.Option.{cond_some}
+use Rattle.pbf_strings.specs.TableOut.{has_text, with_text, place_in, index_in, table_of}
+
+pub same_text : (text : List ℕ) → bytes_eq text text ≡ true
+same_text text = nat_list_eq_equiv.refl text
+
+-- a text that is used keeps its place as it is added
+place_push : (texts : List (List ℕ)) (text : List ℕ) → place_in (texts ++ text ∷ []) text ≡ place_in texts text
+place_push [] text = rw (same_text text) refl
+place_push (first ∷ texts) text = ap (λ n. cond (bytes_eq text first) 0 (1 + n)) (place_push texts text)
+
+pub place_with : (texts : List (List ℕ)) (text : List ℕ) → place_in (with_text texts text) text ≡ place_in texts text
+place_with texts text = elim (list_any (bytes_eq text) texts) as (λ b. place_in (cond b texts (texts ++ text ∷ [])) text ≡ place_in texts text) [ true ↦ refl | false ↦ place_push texts text ]
+
+module _ {K : Type 0} (items : K → List ℕ) where
+  any_map : (text : List ℕ) (keys : List K) → list_any (bytes_eq text) (map items keys) ≡ list_any (λ key. bytes_eq text (items key)) keys
+  any_map text [] = refl
+  any_map text (key ∷ keys) = ap (λ b. bytes_eq text (items key) || b) (any_map text keys)
+
+  pub kept : (text : List ℕ) (keys : List K) → list_any (λ key. bytes_eq text (items key)) keys ≡ true → map items keys ≡ with_text (map items keys) text
+  kept text keys h = sym (ap (λ b. cond b (map items keys) (map items keys ++ text ∷ [])) (any_map text keys ∙ h))
+
+  pub added : (text : List ℕ) (keys : List K) (key : K) → items key ≡ text
+      → map items (cond (list_any (λ k. bytes_eq (items key) (items k)) keys) keys (keys ++ key ∷ [])) ≡ with_text (map items keys) text
+  added text keys key h = subst (λ t. map items (cond (list_any (λ k. bytes_eq (items key) (items k)) keys) keys (keys ++ key ∷ [])) ≡ with_text (map items keys) t) h by_key
+    where
+      by : (b : Bool) → map items (cond b keys (keys ++ key ∷ [])) ≡ cond b (map items keys) (map items keys ++ items key ∷ [])
+      by true = refl
+      by false = map-append items keys (key ∷ [])
+
+      by_key : map items (cond (list_any (λ k. bytes_eq (items key) (items k)) keys) keys (keys ++ key ∷ [])) ≡ with_text (map items keys) (items key)
+      by_key = by _ ∙ ap (λ b. cond b (map items keys) (map items keys ++ items key ∷ [])) (sym (any_map (items key) keys))
+
+  -- a text that is not found is not among them
+  pub not_missing : (text : List ℕ) (keys : List K) → list_any (λ key. bytes_eq text (items key)) keys ≡ false → has_text (map items keys) text ≡ true → ⊥
+  not_missing text keys e h = let f = sym e ∙ (sym (any_map text keys) ∙ h) in cc
+
+  pub place_is : (text : List ℕ) (keys : List K) → position_or_len (λ key. bytes_eq text (items key)) keys ≡ place_in (map items keys) text
+  place_is text keys = sym (is_position_or_len (λ ks. place_in (map items ks) text) (λ key. bytes_eq text (items key)) refl (λ k ks. refl) keys)
+
+  pub place_found : (text : List ℕ) (keys : List K) (place : ℕ) → Some place ≡ position (λ key. bytes_eq text (items key)) keys → place ≡ place_in (map items keys) text
+  place_found text keys place h = sym (cond_some _ _ _ (sym h)).1 ∙ place_is text keys
+
+-- ---- the index of a text names it
+
+any_push : (texts : List (List ℕ)) (text : List ℕ) → list_any (bytes_eq text) (texts ++ text ∷ []) ≡ true
+any_push [] text = rw (same_text text) refl
+any_push (first ∷ texts) text = elim (bytes_eq text first) as (λ b. (b || list_any (bytes_eq text) (texts ++ text ∷ [])) ≡ true) [ true ↦ refl | false ↦ any_push texts text ]
+
+any_with : (texts : List (List ℕ)) (text : List ℕ) → list_any (bytes_eq text) (with_text texts text) ≡ true
+any_with texts text = by (list_any (bytes_eq text) texts) refl
+  where
+    by : (b : Bool) → list_any (bytes_eq text) texts ≡ b → list_any (bytes_eq text) (with_text texts text) ≡ true
+    by true e = rw (e, e) refl
+    by false e = rw e (any_push texts text)
+
+same_if : (one other : List ℕ) → bytes_eq one other ≡ true → one ≡ other
+same_if one other h = (bytes_eq-Decides one other).0 h
+
+at_next : (first : List ℕ) (texts : List (List ℕ)) (n : ℕ) → slice_get (first ∷ texts) (1 + n) ≡ slice_get texts n
+at_next first texts n = let e : 1 + n ≡ suc n = omega arith in ap (λ (k : ℕ). slice_get (first ∷ texts) k) e
+
+found_at : (texts : List (List ℕ)) (text : List ℕ) → list_any (bytes_eq text) texts ≡ true → slice_get texts (place_in texts text) ≡ Some text
+found_at [] text h = absurd cc
+found_at (first ∷ texts) text h = by (bytes_eq text first) refl h (found_at texts text)
+  where
+    by : (b : Bool) → bytes_eq text first ≡ b → (b || list_any (bytes_eq text) texts) ≡ true → (list_any (bytes_eq text) texts ≡ true → slice_get texts (place_in texts text) ≡ Some text) → slice_get (first ∷ texts) (cond b 0 (1 + place_in texts text)) ≡ Some text
+    by true e h more = ap Some (sym (same_if text first e))
+    by false e h more = at_next first texts (place_in texts text) ∙ more h
+
+pub text_named : (texts : List (List ℕ)) (text : List ℕ) → slice_get (table_of (with_text texts text)) (index_in (with_text texts text) text) ≡ Some text
+text_named texts text =
+    ap (λ (n : ℕ). slice_get (table_of (with_text texts text)) n) (add_comm (place_in (with_text texts text) text) 1)
+    ∙ at_next [] (with_text texts text) (place_in (with_text texts text) text) ∙ found_at (with_text texts text) text (any_with texts text)

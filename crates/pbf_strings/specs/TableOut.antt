@@ -1,0 +1,34 @@
+-- A string table that is being written: its texts in order of first use.
+use Rattle.std.specs.Prelude.{ℕ, Bool, ◌+◌, List, [], ◌∷◌, ◌++◌, if◌then◌else◌, length}
+use Rattle.std.specs.List.{list_any}
+use Rattle.std.specs.Str.{bytes_eq}
+use Rattle.pbf_wire.specs.Message.{Each, message}
+
+-- the text is among them
+abbrev pub has_text : List (List ℕ) → List ℕ → Bool
+has_text texts text = list_any (bytes_eq text) texts
+
+-- the texts after one more is used
+abbrev pub with_text : List (List ℕ) → List ℕ → List (List ℕ)
+with_text texts text = if has_text texts text then texts else texts ++ text ∷ []
+
+-- the place of the first text that is this one, or how many texts there are
+abbrev pub place_in : List (List ℕ) → List ℕ → ℕ
+place_in [] text = 0
+place_in (first ∷ texts) text = if bytes_eq text first then 0 else 1 + place_in texts text
+
+-- the index of a text: the empty text that each table begins with has 0
+abbrev pub index_in : List (List ℕ) → List ℕ → ℕ
+index_in texts text = place_in texts text + 1
+
+-- all texts of the table that is written
+abbrev pub table_of : List (List ℕ) → List (List ℕ)
+table_of texts = [] ∷ texts
+
+-- the StringTable that is written
+abbrev pub table_message : List (List ℕ) → List ℕ
+table_message texts = message (Each 1 (table_of texts) ∷ [])
+
+-- what a text takes: its bytes, and four for its entry
+abbrev pub text_held : List ℕ → ℕ
+text_held text = length text + 4

@@ -1,0 +1,188 @@
+//! A table that is read: where each text stands in the message.
+
+ghost use Rattle.std.specs.Prelude.{◌≡◌, ◌+◌, ◌*◌, ◌≤◌, ◌<◌, ◌^◌, ◌↔◌, [], Some, None, Err, IsTrue, unwrap_or, IfOk, OnOk, length, map, slice_get};
+ghost use Rattle.std.specs.Option.{option_map};
+ghost use Rattle.pbf_wire.specs.declared.fault.Fault.{Fault};
+ghost use Rattle.pbf_wire.specs.declared.fault.ReadFault.TheVariants.{Refused};
+ghost use Rattle.pbf_wire.specs.Occurrence.{items};
+ghost use Rattle.pbf_wire.specs.Payload.{content};
+ghost use Rattle.pbf_wire.specs.Reading.{bytes_in};
+ghost use Rattle.pbf_strings.specs.Texts.{text, texts, first_text, text_at, count_fault, table_fault};
+ghost use Rattle.pbf_wire.specs.Wire.{judged};
+
+use pbf_wire::{Fault, Fields, Kind, Payload, ReadFault, Reason, judge_wire};
+use std::alloc::{AllocError, Global};
+use std::marker::Model;
+
+/// The field of a StringTable that holds a text: `s`, repeated bytes.
+pub const TEXT: u64 = 1;
+
+/// The known fields of a StringTable.
+pub const TABLE_KINDS: [(u64, Kind); 1] = [(TEXT, Kind::Bytes)];
+
+/// The most texts of a table.
+pub const MOST_TEXTS: usize = 1_048_576;
+
+/// The text that a payload is; empty where it is none.
+fn text_in(payload: Payload<'_>) -> &[u8]
+    ensures { result.now ≡ unwrap_or (bytes_in (content payload.entry)) [] }
+{
+    match payload {
+        Payload::Bytes(text, _) => text,
+        _ => &[],
+    }
+}
+
+/// The text that the first field holds.
+fn first_text(fields: &[u8], at: u64) -> &[u8]
+    requires { at + length fields.now ≤ 2 ^ 63 }
+    ensures { result.now ≡ first_text (items at fields.now) }
+{
+    match Fields::new(fields, at).next() {
+        Some(Ok(field)) => text_in(field.payload),
+        _ => &[],
+    }
+}
+
+/// The text of the field that begins at `place`.
+#[tactic(auto, using(crate::proofs::TextsLemmas::no_text), unfolding(crate::specs::Texts::text_at))]
+fn text_at(message: &[u8], place: usize) -> &[u8]
+    requires { place + length message.now ≤ 2 ^ 63 }
+    ensures { result.now ≡ text_at message.now place }
+{
+    match message.get(place..) {
+        Some(rest) => first_text(rest, place as u64),
+        None => &[],
+    }
+}
+
+/// How many texts a StringTable has; where it has a wire fault, how many stand before that.
+pub fn text_count(message: &[u8]) -> usize
+    requires { length message.now ≤ 2 ^ 63 }
+    ensures { result ≡ length (texts message.now) }
+{
+    let mut count = 0;
+    for item in Fields::new(message, 0) {
+        let Ok(field) = item else {
+            return count;
+        };
+        if field.number == TEXT {
+            if let Payload::Bytes(..) = field.payload {
+                count += 1;
+            }
+        }
+    }
+    count
+}
+
+/// Where each text of a StringTable stands in the message.
+fn places(alloc: Global, message: &[u8]) -> Result<Vec<u32>, AllocError>
+    requires { length message.now < 33554432 }
+    ensures { IfOk result (λ places. map (text_at message.now) places.items ≡ texts message.now) }
+{
+    let mut places = Vec::new(alloc);
+    for item in Fields::new(message, 0) {
+        let Ok(field) = item else {
+            return Ok(places);
+        };
+        if field.number == TEXT {
+            if let Payload::Bytes(..) = field.payload {
+                places.push(field.offset as u32)?;
+            }
+        }
+    }
+    Ok(places)
+}
+
+/// The texts of a StringTable. It borrows the message and holds the place of each text in it, four bytes a text. Contracts
+/// see it as the list of its texts.
+#[derive(Debug, Drop)]
+pub struct Table<'a> {
+    message: &'a [u8],
+    places: Vec<u32>,
+}
+
+impl<'a> Model for Table<'a> {
+    ghost use Rattle.std.specs.Prelude.{ℕ, List, map};
+    ghost use Rattle.pbf_strings.specs.Texts.{text_at, IsSmall};
+
+    ghost Value = { List (List ℕ) };
+
+    ghost view = { λ t. map (text_at t.message.now) t.places.items };
+
+    ghost invariant = { λ t. IsSmall t.message.now t.places };
+}
+
+impl<'a> Table<'a> {
+    /// Judges the count of the texts alone: `TooManyStrings` at `tag`, the place of the table's field in the file, where there
+    /// are more than [`MOST_TEXTS`]. Takes no memory.
+    pub fn judge_count(message: &[u8], tag: u64) -> Result<(), Fault>
+        requires { length message.now ≤ 2 ^ 63 }
+        ensures { result ≡ judged (count_fault tag message.now) }
+    {
+        if text_count(message) > MOST_TEXTS {
+            return Err(Fault {
+                offset: tag,
+                reason: Reason::TooManyStrings,
+            });
+        }
+        Ok(())
+    }
+
+    /// Reads a StringTable whose first byte stands at `at` in the file, and its field at `tag`.
+    ///
+    /// Refuses the message's first wire fault, or else more than [`MOST_TEXTS`] texts. A refusal comes before memory is
+    /// asked for.
+    pub fn read(alloc: Global, message: &'a [u8], at: u64, tag: u64) -> Result<Table<'a>, ReadFault>
+        requires placed { at + length message.now ≤ 2 ^ 63 }
+        requires tagged { tag ≤ at }
+        requires short { length message.now < 33554432 }
+        ensures texts { IfOk result (λ table. table ≡ texts message.now) }
+        ensures sound { OnOk result (table_fault at tag message.now ≡ None) }
+        ensures refused { (fault : Fault) → result ≡ Err (Refused fault) ↔ table_fault at tag message.now ≡ Some fault }
+    {
+        judge_wire(message, at, &TABLE_KINDS)?;
+        Table::judge_count(message, tag)?;
+        Ok(Table {
+            message,
+            places: places(alloc, message)?,
+        })
+    }
+
+    /// How many texts there are.
+    pub fn len(&self) -> usize
+        ensures { result ≡ length self.now }
+    {
+        self.places.len()
+    }
+
+    /// Whether there is no text.
+    pub fn is_empty(&self) -> bool
+        ensures { IsTrue result ↔ (self.now ≡ []) }
+    {
+        self.places.is_empty()
+    }
+
+    /// The text of an index, counted from 0. Takes no memory.
+    pub fn get(&self, index: usize) -> Option<&'a [u8]>
+        ensures { option_map (λ text. text.now) result ≡ slice_get self.now index }
+    {
+        let place = *self.places.get(index)?;
+        Some(text_at(self.message, place as usize))
+    }
+
+    /// The text of an index, counted from 0, or the empty text where there is none. Takes no memory.
+    pub fn text(&self, index: usize) -> &'a [u8]
+        ensures { result.now ≡ text self.now index }
+    {
+        self.get(index).unwrap_or(&[])
+    }
+
+    /// How many bytes the table holds: four for each text.
+    pub fn held(&self) -> u64
+        ensures value { result ≡ 4 * length self.now }
+        ensures bound { result ≤ 4194304 }
+    {
+        4 * self.places.len() as u64
+    }
+}

@@ -1,0 +1,120 @@
+//! A table that is written: its texts in order of first use.
+
+ghost use Rattle.std.specs.Prelude.{◌≡◌, ◌<◌, ◌≤◌, ◌-◌, ◌^◌, ◌↔◌, min, ◌++◌, [], length, map, Some, true, IsTrue, IsOk, IfOk, OnOk, OnErr, slice_get};
+ghost use Rattle.std.specs.List.{sum_by};
+ghost use Rattle.pbf_wire.specs.Message.{Each, slot_bytes};
+ghost use Rattle.pbf_strings.specs.TableOut.{has_text, with_text, index_in, text_held, table_of, table_message};
+
+use crate::table::TEXT;
+use indexmap::IndexSet;
+use pbf_wire::put_bytes;
+use std::alloc::{AllocError, Global};
+use std::hash::BuildHasher;
+use std::marker::Model;
+
+/// The texts of a block that is being written, in order of first use. The hasher is handed in, as strangers choose the texts.
+/// Contracts see it as the list of the texts. The empty text that every table begins with isn't among them.
+#[derive(Drop)]
+pub struct TableOut<S: BuildHasher> {
+    texts: IndexSet<Vec<u8>, S>,
+    alloc: Global,
+}
+
+impl<S: BuildHasher> Model for TableOut<S> {
+    ghost use Rattle.std.specs.Prelude.{ℕ, List, map};
+
+    ghost Value = { List (List ℕ) };
+
+    ghost view = { λ t. map (λ text. text.items) t.texts.keys };
+}
+
+impl<S: BuildHasher> TableOut<S> {
+    /// A table without texts, which takes no memory yet.
+    pub fn new(alloc: Global, hasher: S) -> TableOut<S>
+        ensures { result ≡ [] }
+    {
+        TableOut {
+            texts: IndexSet::with_hasher(alloc, hasher),
+            alloc,
+        }
+    }
+
+    /// How many texts there are.
+    pub fn len(&self) -> usize
+        ensures { result ≡ length self.now }
+    {
+        self.texts.len()
+    }
+
+    /// Whether there is no text.
+    pub fn is_empty(&self) -> bool
+        ensures { IsTrue result ↔ (self.now ≡ []) }
+    {
+        self.texts.is_empty()
+    }
+
+    /// Takes all texts out, and keeps the hasher and the room.
+    pub fn clear(&mut self)
+        ensures { self.new ≡ [] }
+    {
+        self.texts.truncate(0);
+    }
+
+    /// The index of a text in the written table, from 1; a new text is added behind the others. A text that is there takes no
+    /// memory. An `Err` leaves the texts as they were.
+    pub fn index_of(&mut self, text: &[u8]) -> Result<u32, AllocError>
+        requires { length self.old < 1048575 }
+        ensures texts { OnOk result (self.new ≡ with_text self.old text.now) }
+        ensures index { IfOk result (λ index. index ≡ index_in self.new text.now) }
+        ensures named { IfOk result (λ index. slice_get (table_of self.new) index ≡ Some text.now) }
+        ensures known { has_text self.old text.now ≡ true → IsOk result }
+        ensures err { OnErr result (self.new ≡ self.old) }
+    {
+        let index = match self.texts.get_index_of(text) {
+            Some(index) => index,
+            None => {
+                let text = Vec::from_slice(self.alloc, text)?;
+                self.texts.insert_full(text)?.0
+            }
+        };
+        Ok(index as u32 + 1)
+    }
+
+    /// How many bytes the table holds: the lengths of the texts and four for each, or the greatest number where they are
+    /// more.
+    pub fn held(&self) -> u64
+        ensures { result ≡ min (2 ^ 64 - 1) (sum_by text_held self.now) }
+    {
+        texts_held(self.texts.as_slice())
+    }
+
+    /// Appends the StringTable: the empty text, and then the texts. After an `Err` the output has no stated content.
+    pub fn write(&self, out: &mut Vec<u8>) -> Result<(), AllocError>
+        ensures { OnOk result (out.new.items ≡ out.old.items ++ table_message self.now) }
+    {
+        put_bytes(out, TEXT, &[])?;
+        put_texts(out, self.texts.as_slice())?;
+        Ok(())
+    }
+}
+
+/// Appends each text as a field of a StringTable.
+fn put_texts(out: &mut Vec<u8>, texts: &[Vec<u8>]) -> Result<(), AllocError>
+    ensures { OnOk result (out.new.items ≡ out.old.items ++ slot_bytes (Each 1 (map (λ text. text.items) texts.now))) }
+{
+    for text in texts {
+        put_bytes(out, TEXT, text)?;
+    }
+    Ok(())
+}
+
+/// The lengths of the texts and four for each.
+fn texts_held(texts: &[Vec<u8>]) -> u64
+    ensures { result ≡ min (2 ^ 64 - 1) (sum_by text_held (map (λ text. text.items) texts.now)) }
+{
+    let mut held = 0u64;
+    for text in texts {
+        held = held.saturating_add(text.len() as u64 + 4);
+    }
+    held
+}

@@ -1,0 +1,85 @@
+//! The values of a delta column.
+
+ghost use Rattle.std.specs.Prelude.{◌≡◌, ◌≤ℤ◌, pos};
+ghost use Rattle.pbf_wire.specs.Signed.{delta_in};
+
+use crate::column::Column;
+use crate::signed::{low_sint32, unzigzag};
+use crate::sum::added;
+
+/// The entry that a number of the column means.
+fn delta_in(narrow: bool, number: u64) -> i64
+    ensures { result ≡ delta_in narrow number }
+{
+    if narrow {
+        i64::from(low_sint32(number))
+    } else {
+        unzigzag(number)
+    }
+}
+
+/// A cursor over the values of a delta column: the running sums of its entries, up to the first that isn't strictly between
+/// `-limit` and `limit`. It takes no memory, and a copy of it goes on by itself.
+#[derive(Clone, Copy, Debug)]
+pub struct Sums<'a> {
+    entries: Column<'a>,
+    /// The last value given, 0 before the first.
+    total: i64,
+    limit: i64,
+    /// Whether the entries are `sint32`, of which the low 32 bits count.
+    narrow: bool,
+    ghost positive: { pos 1 ≤ℤ limit },
+}
+
+impl<'a> Sums<'a> {
+    ghost use Rattle.std.specs.Prelude.{map};
+    ghost use Rattle.pbf_wire.specs.Signed.{unzigzag, low_sint32};
+    ghost use Rattle.pbf_wire.specs.Sums.{sums_within};
+    ghost use Rattle.pbf_wire.specs.Cursors.{numbers_left, sums_left};
+
+    /// The values of a column of `sint64`.
+    pub fn new(entries: Column<'a>, limit: i64) -> Self
+        requires { pos 1 ≤ℤ limit }
+        ensures { sums_left result ≡ sums_within limit (pos 0) (map unzigzag (numbers_left entries.entry)) }
+    {
+        Sums {
+            entries,
+            total: 0,
+            limit,
+            narrow: false,
+        }
+    }
+
+    /// The values of a column of `sint32`.
+    pub fn narrow(entries: Column<'a>, limit: i64) -> Self
+        requires { pos 1 ≤ℤ limit }
+        ensures { sums_left result ≡ sums_within limit (pos 0) (map low_sint32 (numbers_left entries.entry)) }
+    {
+        Sums {
+            entries,
+            total: 0,
+            limit,
+            narrow: true,
+        }
+    }
+}
+
+impl<'a> Iterator for Sums<'a> {
+    ghost use Rattle.std.specs.Iterator.{YieldsFirst, item_count};
+    ghost use Rattle.pbf_wire.specs.Cursors.{sums_left};
+
+    type Item = i64;
+
+    ghost next_gives = { YieldsFirst sums_left };
+
+    ghost remaining = { item_count sums_left };
+
+    fn next(&mut self) -> Option<i64> {
+        let mut entries = self.entries;
+        let number = entries.next()?;
+        let total = added(self.total, delta_in(self.narrow, number), self.limit)?;
+        self.entries = entries;
+        self.total = total;
+        Some(total)
+    }
+}
