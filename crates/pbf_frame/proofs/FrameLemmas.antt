@@ -68,7 +68,7 @@ module _ (h : Bool) (p : ℕ) (bytes : List ℕ) where
   blob_refused : (prefix rest header left : List ℕ) (head : Head) (e : Fault) → prefix_at h p bytes ≡ Ok (Some prefix, rest) → header_of h p prefix rest ≡ Ok ((header, head), left) → blob_of head.kind head.size (p + 4 + length header) left ≡ Err e → next_of h p bytes ≡ Err e
   blob_refused prefix rest header left head e is then lastly = header_some prefix rest header left head is then ∙ ap (λ r. r >>= after_blob p prefix ((header, head), left) >>= as_some) lastly
 
-  blob_some : (prefix rest header left blob last : List ℕ) (head : Head) → prefix_at h p bytes ≡ Ok (Some prefix, rest) → header_of h p prefix rest ≡ Ok ((header, head), left) → blob_of head.kind head.size (p + 4 + length header) left ≡ Ok (blob, last)
+  pub blob_some : (prefix rest header left blob last : List ℕ) (head : Head) → prefix_at h p bytes ≡ Ok (Some prefix, rest) → header_of h p prefix rest ≡ Ok ((header, head), left) → blob_of head.kind head.size (p + 4 + length header) left ≡ Ok (blob, last)
       → next_of h p bytes ≡ Ok (Some (record { offset = p; prefix = prefix; header = header; blob = blob }), last)
   blob_some prefix rest header left blob last head is then lastly = header_some prefix rest header left head is then ∙ ap (λ r. r >>= after_blob p prefix ((header, head), left) >>= as_some) lastly
 

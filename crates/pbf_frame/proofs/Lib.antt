@@ -6,3 +6,4 @@ pub mod BlobLemmas
 pub mod Parting
 pub mod Judging
 pub mod Advancing
+pub mod Longest
