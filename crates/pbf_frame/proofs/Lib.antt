@@ -7,3 +7,4 @@ pub mod Parting
 pub mod Judging
 pub mod Advancing
 pub mod Longest
+pub mod Putting

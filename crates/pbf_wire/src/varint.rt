@@ -37,8 +37,8 @@ pub fn get_varint(bytes: &[u8], at: usize) -> Result<(u64, usize), Reason>
     Ok((value, at + length))
 }
 
-/// The shortest spelling, at the front of the array, and its length.
-fn shortest_spelling(value: u64) -> ([u8; 10], usize)
+/// The shortest spelling, at the front of the array, and its length. It takes no memory.
+pub fn shortest_spelling(value: u64) -> ([u8; 10], usize)
     ensures within { result.1 ≤ 10 }
     ensures spelling { take result.1 result.0 ≡ shortest value }
 {
