@@ -1,5 +1,5 @@
 -- A frame read part by part is the next frame of the bytes.
-use Rattle.std.proofs.Common.{◌≡◌, ℕ, ◌+◌, Bool, true, List, ◌++◌, Option, Some, None, Result, Ok, Err, length, refl, sym, ap, ◌∙◌, subst, arith}
+use Rattle.std.proofs.Common.{◌≡◌, ℕ, ◌+◌, Bool, true, List, Option, Some, None, Result, Ok, Err, length, refl, sym, ap, ◌∙◌, subst}
 use Rattle.pbf_wire.specs.declared.fault.Fault.{Fault}
 use Rattle.pbf_frame.specs.declared.frame.FrameKind.{FrameKind}
 use Rattle.pbf_frame.specs.declared.header.Head.{Head}
@@ -114,8 +114,8 @@ module _ (h : Bool) (p : ℕ) where
     given = λ bytes is. let (rest, gives, left) = given bytes is in (rest, prefix_none h p bytes rest gives, left);
     untold = untold;
     end = ended;
-    header_given = had
-    }
+    header_given = had;
+  }
 
   pub refused_header : (prefix header : List ℕ) (old mid new : Option (List ℕ)) (stop : Stop) → GivesPrefix h p old mid (Ok (Some prefix)) → GivesHeader h p prefix header mid new (Err stop) → RefusedFrame h p old stop
   refused_header prefix header old mid new (Refused e) given then = λ bytes is. let (rest, gives, left) = given bytes is in header_refused h p bytes prefix rest e gives (then rest left)
@@ -147,13 +147,13 @@ module _ (h : Bool) (p : ℕ) where
           place = at;
           kind_is = kind ∙ kind_is;
           size_is = size ∙ sym lastly.long;
-          holds = subst (λ (k : FrameKind). Holds k (p + 4 + length header) lastly.blob held) kind_is lastly.holds
+          holds = subst (λ (k : FrameKind). Holds k (p + 4 + length header) lastly.blob held) kind_is lastly.holds;
         };
         offset = refl;
         given = λ bytes is.
-          let (rest, gives, left) = given bytes is in
-          let (more, gives_more, left_more) = then rest left in
-          let (last, gives_last, left_last) = lastly.given more left_more in
-          (last, blob_some h p bytes prefix rest header more lastly.blob last head gives gives_more gives_last, left_last);
-        untold = λ none. lastly.untold (untold_then (untold none))
+            let (rest, gives, left) = given bytes is in
+            let (more, gives_more, left_more) = then rest left in
+            let (last, gives_last, left_last) = lastly.given more left_more in
+            (last, blob_some h p bytes prefix rest header more lastly.blob last head gives gives_more gives_last, left_last);
+        untold = λ none. lastly.untold (untold_then (untold none));
       }

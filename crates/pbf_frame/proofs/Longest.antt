@@ -1,19 +1,16 @@
 -- Frames without faults, and the longest list of them.
-use Rattle.std.proofs.Common.{◌≡◌, ℕ, zero, suc, ◌+◌, ◌<◌, ◌≤◌, ◌||◌, ◌==◌, nat_lt, nat_le, Bool, true, false, cond, List, [], ◌∷◌, ◌++◌, length, take, drop, Option, Some, None, Result, Ok, Err, refl, sym, ap, ◌∙◌, subst, append_assoc, length-append, arith}
+use Rattle.std.proofs.Common.{◌≡◌, ℕ, zero, suc, ◌+◌, ◌<◌, ◌||◌, ◌==◌, nat_lt, nat_le, Bool, false, List, [], ◌∷◌, ◌++◌, length, take, Option, Some, None, Result, Ok, Err, refl, sym, ap, ◌∙◌, subst, append_assoc, length-append, arith}
 use Rattle.std.proofs.lemmas.Bool.Decides.{nat_tests}
 use Rattle.std.proofs.lemmas.List.{take_at, drop_at}
 use Rattle.byteorder.specs.Endian.{big_number}
 use Rattle.pbf_wire.specs.declared.fault.Fault.{Fault}
-use Rattle.pbf_wire.specs.declared.fault.Reason.TheVariants.{PrefixCut, HeaderLong, NoHeader}
 use Rattle.pbf_wire.specs.Least.{least}
 use Rattle.pbf_wire.specs.Occurrence.{Occurrence, items, found}
 use Rattle.pbf_wire.specs.Reading.{last_of}
 use Rattle.pbf_wire.specs.Wire.{wire}
 use Rattle.pbf_frame.specs.declared.frame.FrameKind.{FrameKind}
-use Rattle.pbf_frame.specs.declared.header.Head.{Head}
 use Rattle.pbf_frame.specs.declared.header.TheConstants.{TYPE, DATASIZE, HEADER_LIMIT, HEADER_KINDS}
-use Rattle.pbf_frame.specs.Faults.{fault, unless}
-use Rattle.pbf_frame.specs.Header.{head_of, head_says, header_faults, name_of, kind_of, number_in, size_within, size_of, or_nothing, missing, size_faults}
+use Rattle.pbf_frame.specs.Header.{head_of, head_says, header_faults, number_in, size_within, size_of, or_nothing, missing, size_faults}
 use Rattle.pbf_frame.specs.Frames.{FrameSpec, is_header, header_at, blob_at, frame_kind, frame_bytes, frame_end, prefix_at, order_faults, next_of}
 use Rattle.pbf_frame.specs.Verdict.{Verdict, with_first, with_all, judged_after, judged, joined}
 use Rattle.pbf_frame.specs.Sound.{IsSound, IsFrame, AreFrames, had_after, place_after, EndsAs, IsLongestFront}
@@ -34,6 +31,7 @@ sized at front (Some o) e = cases (size_within (number_in o.content)) refl where
   never : (front : List Fault) (x : Fault) → (front ++ []) ++ x ∷ [] ≡ [] → ⊥
   never [] x e = cc
   never (y ∷ ys) x e = cc
+
   cases : (s : Option ℕ) → size_within (number_in o.content) ≡ s → size_within (number_in o.content) ≡ Some (or_nothing (size_within (number_in o.content)))
   cases (Some n) is = is ∙ ap (λ (m : Option ℕ). Some (or_nothing m)) (sym is)
   cases None is = absurd (never front _ (rw (is) at e))
@@ -52,7 +50,7 @@ frame_at h bytes f rest parts =
       whole = says.1;
       sized = sized (header_at f) (missing (header_at f) TYPE (last_of TYPE (found (items (header_at f) f.header)))) last (least_none (header_faults (header_at f) f.header) says.1) ∙ ap Some (sym size);
       ordered = ap (λ (k : FrameKind). least (order_faults h f.offset k (frame_end f))) (sym says.2) ∙ ap (λ (n : ℕ). least (order_faults h f.offset parts.head.kind (blob_at f + n))) parts.blob_is.long ∙ parts.header_is.ordered;
-      sound = subst (λ (k : FrameKind). IsSound k (blob_at f) f.blob) says.2 parts.blob_is.sound
+      sound = subst (λ (k : FrameKind). IsSound k (blob_at f) f.blob) says.2 parts.blob_is.sound;
     }
 
 pub next_is_frame : (h : Bool) (p : ℕ) (bytes : List ℕ) (f : FrameSpec) (rest : List ℕ) → next_of h p bytes ≡ Ok (Some f, rest) → IsFrame h p f
@@ -82,16 +80,16 @@ next_at h f rest is =
       split = refl;
       long = sym is.spelled;
       says = head_whole (header_at f) f.header f is.wired is.whole;
-      ordered = ap (λ (n : ℕ). least (order_faults h f.offset head.kind (blob_at f + n))) (sym size) ∙ is.ordered
-      } in
+      ordered = ap (λ (n : ℕ). least (order_faults h f.offset head.kind (blob_at f + n))) (sym size) ∙ is.ordered;
+    } in
     let blob : BlobParts head.kind head.size (blob_at f) (f.blob ++ rest) f.blob rest = record { split = refl; long = size; sound = is.sound } in
     ap (λ l. next_of h f.offset l) (regroup f.prefix f.header f.blob rest)
     ∙ blob_some h f.offset (f.prefix ++ left) f.prefix left f.header (f.blob ++ rest) f.blob rest head
-        (prefix_whole h f.offset f.prefix left is.prefix_long (subst (λ (n : ℕ). n < HEADER_LIMIT) (sym is.spelled) is.short))
-        (header_whole h f.offset f.prefix left f.header (f.blob ++ rest) head header)
-        (blob_whole head.kind head.size (blob_at f) (f.blob ++ rest) f.blob rest blob) where
-  regroup : (a b c d : List ℕ) → ((a ++ b) ++ c) ++ d ≡ a ++ (b ++ (c ++ d))
-  regroup a b c d = append_assoc (a ++ b) c d ∙ append_assoc a b (c ++ d)
+    (prefix_whole h f.offset f.prefix left is.prefix_long (subst (λ (n : ℕ). n < HEADER_LIMIT) (sym is.spelled) is.short))
+    (header_whole h f.offset f.prefix left f.header (f.blob ++ rest) head header)
+    (blob_whole head.kind head.size (blob_at f) (f.blob ++ rest) f.blob rest blob) where
+      regroup : (a b c d : List ℕ) → ((a ++ b) ++ c) ++ d ≡ a ++ (b ++ (c ++ d))
+      regroup a b c d = append_assoc (a ++ b) c d ∙ append_assoc a b (c ++ d)
 
 pub frame_is_next : (h : Bool) (p : ℕ) (f : FrameSpec) (rest : List ℕ) → IsFrame h p f → next_of h p (frame_bytes f ++ rest) ≡ Ok (Some f, rest)
 frame_is_next h p f rest is = subst (λ (n : ℕ). next_of h n (frame_bytes f ++ rest) ≡ Ok (Some f, rest)) is.offset (next_at h f rest (subst (λ (n : ℕ). IsFrame h n f) (sym is.offset) is))
@@ -130,8 +128,8 @@ front_step h p bytes later = cases (next_of h p bytes) refl where
         rest = front.rest;
         split = split.0 ∙ ap (λ l. frame_bytes f ++ l) front.split ∙ sym (append_assoc (frame_bytes f) (joined (judged h2 (frame_end f) rest).0) front.rest);
         frames = (next_is_frame h p bytes f rest is, front.frames);
-        ends = front.ends
-        }
+        ends = front.ends;
+      }
 
 front_within : (n : ℕ) (h : Bool) (p : ℕ) (bytes : List ℕ) → length bytes < n → IsFrontOf h p bytes (judged h p bytes)
 front_within zero h p bytes low = absurd (omega (arith, low))
@@ -146,5 +144,5 @@ longest_front h p bytes =
       frames = front.frames;
       ends = front.ends;
       longest = λ fs more are begins.
-        ((judged (had_after h fs) (place_after p fs) more).0, ap (λ (v : Verdict). v.0) (ap (judged h p) begins ∙ frames_then_rest h p fs more are))
+          ((judged (had_after h fs) (place_after p fs) more).0, ap (λ (v : Verdict). v.0) (ap (judged h p) begins ∙ frames_then_rest h p fs more are));
     }

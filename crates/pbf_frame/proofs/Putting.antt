@@ -1,12 +1,12 @@
 -- What is put into the room is the frame in written form.
-use Rattle.std.proofs.Common.{◌≡◌, ℕ, ◌+◌, ◌-◌, ◌*◌, ◌<◌, ◌≤◌, min, List, [], ◌∷◌, ◌++◌, length, take, drop, Option, Some, None, refl, sym, ap, ◌∙◌, subst, append_assoc, length-append, arith}
-use Rattle.std.proofs.lemmas.List.{append-nil, take_at, take_min, take-append-le, length-take-le, length-take}
+use Rattle.std.proofs.Common.{◌≡◌, ℕ, ◌+◌, ◌*◌, min, List, [], ◌∷◌, ◌++◌, length, take, drop, Option, Some, refl, sym, ap, ◌∙◌, append_assoc, length-append, arith}
+use Rattle.std.proofs.lemmas.List.{append-nil, take_at, take_min, take-append-le}
 use Rattle.std.proofs.Math.Seq.{take-append-add}
 use Rattle.byteorder.specs.Endian.{big_bytes}
 use Rattle.byteorder.specs.Numbers.{length-bytes_high_first}
-use Rattle.pbf_wire.specs.Message.{Slot, Scalar, Each, message, slot_bytes}
+use Rattle.pbf_wire.specs.Message.{Scalar, Each, message, slot_bytes}
 use Rattle.pbf_wire.specs.Varint.{shortest}
-use Rattle.pbf_wire.proofs.WritingLemmas.{message_first, message_none, bytes_put, number_put, each_bytes}
+use Rattle.pbf_wire.proofs.WritingLemmas.{message_first, message_none, bytes_put, number_put}
 use Rattle.pbf_frame.specs.declared.blob.TheConstants.{RAW}
 use Rattle.pbf_frame.specs.declared.frame.FrameKind.{FrameKind}
 use Rattle.pbf_frame.specs.declared.header.TheConstants.{TYPE, DATASIZE}
@@ -51,16 +51,16 @@ frame_put k payload header blob e1 e2 e3 is_blob is_header p1 p2 p3 =
 pub front_first : (old new : Option (List ℕ)) (first second whole : List ℕ) → first ++ second ≡ whole → IsFront old new first → IsFront old new whole
 front_first old new first second whole is front = record {
   count = min front.count (length first);
-  taken = front.taken ∙ ap (append old) (sym (take_min front.count first) ∙ sym (take-append-le (min front.count (length first)) first second (omega arith)) ∙ ap (take (min front.count (length first))) is)
-  }
+  taken = front.taken ∙ ap (append old) (sym (take_min front.count first) ∙ sym (take-append-le (min front.count (length first)) first second (omega arith)) ∙ ap (take (min front.count (length first))) is);
+}
 
 -- the first part went out, and of the second a beginning
 pub front_second : (old mid new : Option (List ℕ)) (first second whole : List ℕ) → first ++ second ≡ whole → mid ≡ append old first → IsFront mid new second → IsFront old new whole
 front_second old mid new first second whole is went front = record {
   count = length first + front.count;
   taken = front.taken ∙ ap (λ (k : Option (List ℕ)). append k (take front.count second)) went ∙ append_append old first (take front.count second)
-      ∙ ap (append old) (sym (take-append-add first second front.count) ∙ ap (take (length first + front.count)) is)
-  }
+      ∙ ap (append old) (sym (take-append-add first second front.count) ∙ ap (take (length first + front.count)) is);
+}
 
 -- both parts went out
 pub both_went : (old mid new : Option (List ℕ)) (first second whole : List ℕ) → first ++ second ≡ whole → mid ≡ append old first → new ≡ append mid second → new ≡ append old whole

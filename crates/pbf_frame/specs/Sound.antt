@@ -1,5 +1,5 @@
 -- What a frame without a fault is.
-use Rattle.std.specs.Prelude.{◌≡◌, ℕ, ◌+◌, ◌<◌, List, [], ◌∷◌, ◌++◌, Bool, ◌||◌, Option, Some, None, Result, Ok, Err, length}
+use Rattle.std.specs.Prelude.{◌≡◌, ℕ, ◌<◌, List, [], ◌∷◌, ◌++◌, Bool, ◌||◌, Option, Some, None, Result, Ok, Err, length}
 use Rattle.pbf_wire.specs.declared.fault.Fault.{Fault}
 use Rattle.byteorder.specs.Endian.{big_number}
 use Rattle.pbf_wire.specs.Least.{least}

@@ -1,5 +1,5 @@
 -- A frame in written form: a BlobHeader with its type and `datasize`, and a Blob with raw data alone.
-use Rattle.std.specs.Prelude.{ℕ, List, [], ◌∷◌, ◌++◌, length, Some, codes}
+use Rattle.std.specs.Prelude.{ℕ, List, [], ◌∷◌, length, Some, codes}
 use Rattle.byteorder.specs.Endian.{big_bytes}
 use Rattle.pbf_wire.specs.Message.{Scalar, Each, message}
 use Rattle.pbf_frame.specs.declared.blob.TheConstants.{RAW}

@@ -15,8 +15,8 @@ mod std_device;
 mod stop;
 mod transfer;
 
-pub use frame::{Frame, FrameKind, frame_end};
 pub use device::{Drain, Feed};
+pub use frame::{Frame, FrameKind, frame_end};
 pub use memory::{Pieces, Sink};
 pub use put::put_frame;
 pub use reader::FrameReader;
