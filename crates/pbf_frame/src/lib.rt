@@ -13,6 +13,8 @@ mod reader;
 mod reading;
 mod std_device;
 mod stop;
+#[cfg(test)]
+mod tests;
 mod transfer;
 
 pub use device::{Drain, Feed};
