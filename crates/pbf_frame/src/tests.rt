@@ -58,10 +58,10 @@ const DATA: Shown = Shown {
 struct Run {
     frames: Vec<Shown>,
     end: Option<Stop>,
-    place: u64,
 }
 
-fn read_all<F: Feed + Drop>(alloc: Global, feed: F) -> Result<Run, AllocError> {
+/// Reads to the end, and once more, which has to end alike. Want of memory is an error of its own.
+fn read_all<F: Feed + Drop>(alloc: Global, feed: F) -> Result<Run, Stop> {
     let mut reader = FrameReader::new(alloc, feed);
     let mut frames = Vec::new(alloc);
     let mut end = None;
@@ -75,8 +75,18 @@ fn read_all<F: Feed + Drop>(alloc: Global, feed: F) -> Result<Run, AllocError> {
             }
         }
     }
-    let place = reader.place();
-    Ok(Run { frames, end, place })
+    let again = match reader.next() {
+        Ok(None) => None,
+        Ok(Some(_)) => Some(Stop::Changed(0)),
+        Err(stop) => Some(stop),
+    };
+    if again != end {
+        return Ok(Run { frames, end: again });
+    }
+    if end == Some(Stop::Memory) {
+        return Err(Stop::Memory);
+    }
+    Ok(Run { frames, end })
 }
 
 fn refused(offset: u64, reason: Reason) -> Option<Stop> {
@@ -84,12 +94,7 @@ fn refused(offset: u64, reason: Reason) -> Option<Stop> {
 }
 
 /// Whether the bytes give these frames and this end: whole, one byte a read, and in pieces of 7.
-fn gives(
-    alloc: Global,
-    bytes: &[u8],
-    frames: &[Shown],
-    end: Option<Stop>,
-) -> Result<bool, AllocError> {
+fn gives(alloc: Global, bytes: &[u8], frames: &[Shown], end: Option<Stop>) -> Result<bool, Stop> {
     for length in [0, 1, 7] {
         let got = read_all(alloc, Pieces::new(bytes, &[length], None))?;
         if got.frames.as_slice() != frames || got.end != end {
@@ -296,12 +301,7 @@ fn longest_skipped_blob(rt: HostRuntime) -> Result<(), Fail> {
 }
 
 /// A header frame whose raw data has this length, by its spelling and that of `datasize`.
-fn run_raw(
-    alloc: Global,
-    size: &[u8; 4],
-    spelling: &[u8; 4],
-    length: usize,
-) -> Result<Run, AllocError> {
+fn run_raw(alloc: Global, size: &[u8; 4], spelling: &[u8; 4], length: usize) -> Result<Run, Stop> {
     let mut front = Vec::new(alloc);
     front.extend_from_slice(b"\x00\x00\x00\x10\x0a\x09OSMHeader\x18")?;
     front.extend_from_slice(size)?;
@@ -345,24 +345,27 @@ fn end_of_a_frame(rt: HostRuntime) {
 }
 
 /// Whether a reader whose feed fails at this call stops by it, and stays spent though the feed would go on.
-fn stops_at(alloc: Global, lengths: &[usize], call: u64) -> bool {
+fn stops_at(alloc: Global, lengths: &[usize], call: u64) -> Result<bool, Stop> {
     let mut feed = Pieces::new(&THREE_DENSE_NODES, lengths, Some(call));
     let mut reader = FrameReader::new(alloc, &mut feed);
     for _ in 0..3 {
-        if matches!(reader.next(), Err(Stop::Read)) {
-            return matches!(reader.next(), Err(Stop::Read));
+        match reader.next() {
+            Ok(_) => {}
+            Err(Stop::Read) => return Ok(matches!(reader.next(), Err(Stop::Read))),
+            Err(stop) => return Err(stop),
         }
     }
-    false
+    Ok(false)
 }
 
 #[test]
-fn read_fails_at_each_call(rt: HostRuntime) {
+fn read_fails_at_each_call(rt: HostRuntime) -> Result<(), Fail> {
     for (length, calls) in [(0, 7), (1, 60), (7, 12)] {
         for call in 0..70 {
-            assert_eq!(rt; stops_at(rt.alloc(), &[length], call), call < calls);
+            assert_eq!(rt; stops_at(rt.alloc(), &[length], call)?, call < calls);
         }
     }
+    Ok(())
 }
 
 /// The frame that is written for three dense nodes of which two are kept.
