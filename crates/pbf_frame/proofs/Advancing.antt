@@ -1,6 +1,5 @@
 -- What `next` of a reader does, from what was read.
-use Rattle.std.proofs.Common.{◌≡◌, ℕ, ◌+◌, ◌<◌, ◌≤◌, ◌||◌, Bool, true, List, length, Option, Some, None, Result, Ok, Err, refl, sym, ap, ◌∙◌, subst, arith}
-use Rattle.std.specs.Prelude.{OnOk}
+use Rattle.std.proofs.Common.{◌≡◌, ℕ, ◌+◌, ◌<◌, ◌≤◌, ◌||◌, Bool, List, Option, Some, None, Result, Ok, Err, refl, sym, ap, ◌∙◌, subst, arith}
 use Rattle.std.specs.Borrow.{GName}
 use Rattle.pbf_frame.specs.declared.frame.Frame.{Frame}
 use Rattle.pbf_frame.specs.declared.frame.FrameKind.{FrameKind}
@@ -50,16 +49,16 @@ module _ {F : Type 0} {remaining : F → Option (List ℕ)} {failures : F → �
   sees_end_again old ended = record {
     answer = Ok None;
     sees = refl;
-    next = (λ reading. absurd (reading_ended old.state reading ended), λ _. (refl, refl), λ stop stopped. absurd (ended_stopped old.state stop ended stopped))
-    }
+    next = (λ reading. absurd (reading_ended old.state reading ended), λ _. (refl, refl), λ stop stopped. absurd (ended_stopped old.state stop ended stopped));
+  }
 
   -- a spent reader stays spent
   pub sees_stop_again : (old : FrameReader F) (stop : Stop) → old.state ≡ Stopped stop → IsSeeingNext remaining failures lender carries old (Err stop) old
   sees_stop_again old stop stopped = record {
     answer = Err stop;
     sees = refl;
-    next = (λ reading. absurd (reading_stopped old.state stop reading stopped), λ ended. absurd (ended_stopped old.state stop ended stopped), λ other is. (ap Err (same_stop old.state stop other stopped is), refl))
-    }
+    next = (λ reading. absurd (reading_stopped old.state stop reading stopped), λ ended. absurd (ended_stopped old.state stop ended stopped), λ other is. (ap Err (same_stop old.state stop other stopped is), refl));
+  }
 
   pub sees_frame : (old new : FrameReader F) (result : Result (Option Seen) Stop) (seen : Seen) → result ≡ Ok (Some seen) → Keeps failures lender old new → ((b : List ℕ) → carries old.feed b → carries new.feed b)
       → GaveFrame old.had_header old.place new.header.items new.blob.items seen (remaining old.feed) (remaining new.feed)
@@ -81,9 +80,9 @@ module _ {F : Type 0} {remaining : F → Option (List ℕ)} {failures : F → �
           same_lender = keeps.same_lender;
           still_carries = carried;
           counts = keeps.counts;
-          stops = tt
-          }
-        }
+          stops = tt;
+        };
+      }
 
   pub sees_end : (old new : FrameReader F) (result : Result (Option Seen) Stop) → result ≡ Ok None → Keeps failures lender old new → ((b : List ℕ) → carries old.feed b → carries new.feed b)
       → GaveEnd old.had_header old.place (remaining old.feed) (remaining new.feed) → new.state ≡ Ended → new.place ≡ old.place
@@ -101,9 +100,9 @@ module _ {F : Type 0} {remaining : F → Option (List ℕ)} {failures : F → �
           same_lender = keeps.same_lender;
           still_carries = carried;
           counts = keeps.counts;
-          stops = tt
-          }
-        }
+          stops = tt;
+        };
+      }
 
   pub sees_stop : (old new : FrameReader F) (result : Result (Option Seen) Stop) (stop : Stop) → result ≡ Err stop → Keeps failures lender old new
       → RefusedFrame old.had_header old.place (remaining old.feed) stop → IsReaderStop (failures old.feed) (failures new.feed) stop → new.state ≡ Stopped stop → new.place ≡ old.place
@@ -120,9 +119,9 @@ module _ {F : Type 0} {remaining : F → Option (List ℕ)} {failures : F → �
           same_lender = keeps.same_lender;
           still_carries = tt;
           counts = keeps.counts;
-          stops = cause
-          }
-        }
+          stops = cause;
+        };
+      }
 
   -- ---- what is lent is what lies in the buffers
 
@@ -138,7 +137,7 @@ module _ {F : Type 0} {remaining : F → Option (List ℕ)} {failures : F → �
   lends_some old new r seen frame e shows next =
       let sees = subst (λ (x : Result (Option Seen) Stop). SeesAnswer new.header.items new.blob.items x next.answer) e next.sees in
       record { answer = next.answer; shows = shown next.answer sees; next = next.next } where
-    shown : (answer : Result (Option FrameSpec) Stop) → SeesAnswer new.header.items new.blob.items (Ok (Some seen)) answer → ShowsAnswer (Ok (Some frame)) answer
-    shown (Ok (Some f)) sees = shows f sees
-    shown (Ok None) sees = absurd sees
-    shown (Err stop) sees = absurd sees
+        shown : (answer : Result (Option FrameSpec) Stop) → SeesAnswer new.header.items new.blob.items (Ok (Some seen)) answer → ShowsAnswer (Ok (Some frame)) answer
+        shown (Ok (Some f)) sees = shows f sees
+        shown (Ok None) sees = absurd sees
+        shown (Err stop) sees = absurd sees

@@ -1,5 +1,5 @@
 -- What a blob without a fault holds.
-use Rattle.std.proofs.Common.{◌≡◌, ℕ, ◌<◌, ◌≤◌, Bool, true, false, if◌then◌else◌, nat_le, List, [], ◌∷◌, ◌++◌, Option, Some, None, length, refl, ap, arith}
+use Rattle.std.proofs.Common.{◌≡◌, ℕ, ◌<◌, Bool, true, false, if◌then◌else◌, nat_le, List, [], ◌∷◌, ◌++◌, Option, Some, None, length, refl, arith}
 use Rattle.std.proofs.lemmas.Bool.Decides.{nat_tests}
 use Rattle.pbf_wire.specs.declared.fault.Fault.{Fault}
 use Rattle.pbf_wire.specs.declared.fault.Reason.TheVariants.{RawLong}
@@ -8,7 +8,7 @@ use Rattle.pbf_wire.specs.Occurrence.{Occurrence, items, found}
 use Rattle.pbf_wire.specs.Reading.{last_of}
 use Rattle.pbf_wire.specs.Wire.{wire}
 use Rattle.pbf_frame.specs.declared.blob.TheConstants.{RAW, BLOB_KINDS, RAW_LIMIT}
-use Rattle.pbf_frame.specs.Faults.{fault, fault_where, earlier}
+use Rattle.pbf_frame.specs.Faults.{fault_where, earlier}
 use Rattle.pbf_frame.specs.Header.{text_in, text_of}
 use Rattle.pbf_frame.specs.Blob.{compressed, raw_faults, blob_faults, blob_fault, raw_of}
 
@@ -19,6 +19,7 @@ least_none (f ∷ fs) e = absurd (never f (least fs) e) where
   chosen : (b : Bool) (f g : Fault) → (if b then Some g else Some f) ≡ None → ⊥
   chosen true f g e = cc
   chosen false f g e = cc
+
   never : (f : Fault) (rest : Option Fault) → lesser (Some f) rest ≡ None → ⊥
   never f None e = cc
   never f (Some g) e = chosen _ f g e

@@ -1,5 +1,5 @@
 -- A frame read part by part is the next frame of the bytes.
-use Rattle.std.proofs.Common.{◌≡◌, ℕ, ◌+◌, Bool, true, List, ◌++◌, Option, Some, None, Result, Ok, Err, length, refl, sym, ap, ◌∙◌, subst, arith}
+use Rattle.std.proofs.Common.{◌≡◌, ℕ, ◌+◌, Bool, true, List, Option, Some, None, Result, Ok, Err, length, refl, sym, ap, ◌∙◌, subst}
 use Rattle.pbf_wire.specs.declared.fault.Fault.{Fault}
 use Rattle.pbf_frame.specs.declared.frame.FrameKind.{FrameKind}
 use Rattle.pbf_frame.specs.declared.header.Head.{Head}
@@ -68,7 +68,7 @@ module _ (h : Bool) (p : ℕ) (bytes : List ℕ) where
   blob_refused : (prefix rest header left : List ℕ) (head : Head) (e : Fault) → prefix_at h p bytes ≡ Ok (Some prefix, rest) → header_of h p prefix rest ≡ Ok ((header, head), left) → blob_of head.kind head.size (p + 4 + length header) left ≡ Err e → next_of h p bytes ≡ Err e
   blob_refused prefix rest header left head e is then lastly = header_some prefix rest header left head is then ∙ ap (λ r. r >>= after_blob p prefix ((header, head), left) >>= as_some) lastly
 
-  blob_some : (prefix rest header left blob last : List ℕ) (head : Head) → prefix_at h p bytes ≡ Ok (Some prefix, rest) → header_of h p prefix rest ≡ Ok ((header, head), left) → blob_of head.kind head.size (p + 4 + length header) left ≡ Ok (blob, last)
+  pub blob_some : (prefix rest header left blob last : List ℕ) (head : Head) → prefix_at h p bytes ≡ Ok (Some prefix, rest) → header_of h p prefix rest ≡ Ok ((header, head), left) → blob_of head.kind head.size (p + 4 + length header) left ≡ Ok (blob, last)
       → next_of h p bytes ≡ Ok (Some (record { offset = p; prefix = prefix; header = header; blob = blob }), last)
   blob_some prefix rest header left blob last head is then lastly = header_some prefix rest header left head is then ∙ ap (λ r. r >>= after_blob p prefix ((header, head), left) >>= as_some) lastly
 
@@ -114,8 +114,8 @@ module _ (h : Bool) (p : ℕ) where
     given = λ bytes is. let (rest, gives, left) = given bytes is in (rest, prefix_none h p bytes rest gives, left);
     untold = untold;
     end = ended;
-    header_given = had
-    }
+    header_given = had;
+  }
 
   pub refused_header : (prefix header : List ℕ) (old mid new : Option (List ℕ)) (stop : Stop) → GivesPrefix h p old mid (Ok (Some prefix)) → GivesHeader h p prefix header mid new (Err stop) → RefusedFrame h p old stop
   refused_header prefix header old mid new (Refused e) given then = λ bytes is. let (rest, gives, left) = given bytes is in header_refused h p bytes prefix rest e gives (then rest left)
@@ -147,13 +147,13 @@ module _ (h : Bool) (p : ℕ) where
           place = at;
           kind_is = kind ∙ kind_is;
           size_is = size ∙ sym lastly.long;
-          holds = subst (λ (k : FrameKind). Holds k (p + 4 + length header) lastly.blob held) kind_is lastly.holds
+          holds = subst (λ (k : FrameKind). Holds k (p + 4 + length header) lastly.blob held) kind_is lastly.holds;
         };
         offset = refl;
         given = λ bytes is.
-          let (rest, gives, left) = given bytes is in
-          let (more, gives_more, left_more) = then rest left in
-          let (last, gives_last, left_last) = lastly.given more left_more in
-          (last, blob_some h p bytes prefix rest header more lastly.blob last head gives gives_more gives_last, left_last);
-        untold = λ none. lastly.untold (untold_then (untold none))
+            let (rest, gives, left) = given bytes is in
+            let (more, gives_more, left_more) = then rest left in
+            let (last, gives_last, left_last) = lastly.given more left_more in
+            (last, blob_some h p bytes prefix rest header more lastly.blob last head gives gives_more gives_last, left_last);
+        untold = λ none. lastly.untold (untold_then (untold none));
       }

@@ -1,7 +1,7 @@
 -- What the functions on lists give where the code's tests passed.
-use Rattle.std.proofs.Common.{◌≡◌, ℕ, ◌+◌, ◌<◌, ◌≤◌, List, [], ◌++◌, Option, Some, None, Ok, Err, length, take, drop, refl, sym, ap, ◌∙◌, subst, append_assoc, length-append, arith}
+use Rattle.std.proofs.Common.{◌≡◌, ℕ, ◌+◌, ◌<◌, ◌≤◌, List, [], ◌++◌, Option, Some, None, Ok, Err, length, take, drop, refl, sym, ap, ◌∙◌, subst, length-append, arith}
 use Rattle.std.proofs.lemmas.Bool.Decides.{nat_tests}
-use Rattle.std.proofs.lemmas.List.{length-take-le, take_all, take_at, drop_at}
+use Rattle.std.proofs.lemmas.List.{take_all, take_at, drop_at}
 use Rattle.pbf_wire.specs.declared.fault.Fault.{Fault}
 use Rattle.pbf_wire.specs.declared.fault.Reason.TheVariants.{BlobCut}
 use Rattle.pbf_frame.specs.declared.frame.FrameKind.{FrameKind}
@@ -10,8 +10,8 @@ use Rattle.pbf_frame.specs.declared.stop.Stop.{Stop}
 use Rattle.pbf_frame.specs.declared.stop.Stop.TheVariants.{Refused, Read, Write, Memory, Changed}
 use Rattle.pbf_frame.specs.Devices.{prepend}
 use Rattle.pbf_frame.specs.Faults.{fault}
-use Rattle.pbf_frame.specs.Frames.{bytes_at, blob_of}
-use Rattle.pbf_frame.specs.Reads.{Skips, GaveBlob, RefusedBlob, IsSkipStop, IsShort}
+use Rattle.pbf_frame.specs.Frames.{bytes_at}
+use Rattle.pbf_frame.specs.Reads.{Skips, GaveBlob, RefusedBlob, IsSkipStop}
 use Rattle.pbf_frame.proofs.KnownBytes.{prepend_more}
 
 pub bytes_at_ok : (cut : Fault) (n : ℕ) (read bytes : List ℕ) → read ≡ take n bytes → n ≤ length read → bytes_at cut n bytes ≡ Ok (read, drop n bytes)
@@ -33,9 +33,8 @@ pub skips_more : (before now after : Option (List ℕ)) (a m n : ℕ) (ys : List
 skips_more before now after a m n ys so_far gone long total = record {
   skipped = so_far.skipped ++ ys;
   long = length-append so_far.skipped ys ∙ (let e : length so_far.skipped + length ys ≡ n = omega (arith, so_far.long, long, total) in e);
-  gone = prepend_more before now after so_far.skipped ys so_far.gone gone
-  }
-
+  gone = prepend_more before now after so_far.skipped ys so_far.gone gone;
+}
 
 known_parts : (new : Option (List ℕ)) (b bytes : List ℕ) → Some bytes ≡ prepend b new → (rest : List ℕ) × (bytes ≡ b ++ rest) × (new ≡ Some rest)
 known_parts None b bytes e = (let bad : ⊥ = cc in absurd bad)
@@ -51,10 +50,10 @@ gave_skipped k size at held old new other skips empty = subst (λ (x : FrameKind
   long = skips.long;
   holds = empty;
   given = λ bytes is.
-    let (rest, parts, left) = known_parts new skips.skipped bytes (sym is ∙ skips.gone) in
-    (rest, ap (λ (l : List ℕ). bytes_at (fault at BlobCut) size l) parts ∙ bytes_at_front (fault at BlobCut) size skips.skipped rest skips.long, left);
-  untold = still_untold old new skips.skipped skips.gone
-  }
+      let (rest, parts, left) = known_parts new skips.skipped bytes (sym is ∙ skips.gone) in
+      (rest, ap (λ (l : List ℕ). bytes_at (fault at BlobCut) size l) parts ∙ bytes_at_front (fault at BlobCut) size skips.skipped rest skips.long, left);
+  untold = still_untold old new skips.skipped skips.gone;
+}
 
 refused_other : (size at : ℕ) (old : Option (List ℕ)) (before now : ℕ) (stop : Stop) → IsSkipStop old size (fault at BlobCut) before now stop → RefusedBlob kind.Other size at old stop
 refused_other size at old before now (Refused e) is = λ bytes known. bytes_at_short (fault at BlobCut) size bytes (is.1 bytes known) ∙ ap Err (sym is.0)

@@ -1,5 +1,5 @@
 -- Known bytes, put together.
-use Rattle.std.proofs.Common.{◌≡◌, ℕ, zero, suc, ◌+◌, ◌-◌, ◌<◌, ◌≤◌, get_or, List, [], ◌∷◌, ◌++◌, length, take, drop, Option, Some, None, refl, sym, ap, ◌∙◌, append_assoc, add-one, length-append, arith}
+use Rattle.std.proofs.Common.{◌≡◌, ℕ, ◌+◌, ◌-◌, ◌≤◌, List, [], ◌++◌, length, take, drop, Option, Some, None, refl, sym, ap, ◌∙◌, append_assoc, length-append, arith}
 use Rattle.std.proofs.lemmas.List.{append-nil, take-append-le, length-take-le, take_rest, length-drop}
 use Rattle.std.proofs.Math.Seq.{take-add, take-append-add}
 use Rattle.pbf_frame.specs.Devices.{prepend, append}
@@ -34,9 +34,6 @@ take_read a m xs ys low len within =
     ap (λ (k : ℕ). take (k + m) (take a xs ++ tail)) (sym front)
     ∙ take-append-add (take a xs) tail m
     ∙ ap (λ (z : List ℕ). take a xs ++ z) (take-append-le m ys (drop (length xs - a) (drop a xs)) within)
-
-
-
 
 pub length_read : (a : ℕ) (xs ys : List ℕ) → a ≤ length xs → length ys ≡ length xs - a → length (put_mid a (length xs - a) xs ys) ≡ length xs
 length_read a xs ys low len =

@@ -9,3 +9,5 @@ pub mod Advancing
 pub mod Lending
 pub mod VerdictLemmas
 pub mod Beginnings
+pub mod Longest
+pub mod Putting

@@ -1,7 +1,7 @@
 -- The parts of a frame that was read.
-use Rattle.std.proofs.Common.{◌≡◌, ℕ, zero, suc, ◌+◌, ◌<◌, ◌≤◌, ◌||◌, ◌==◌, nat_lt, nat_le, Bool, true, false, cond, List, [], ◌∷◌, ◌++◌, length, take, drop, Option, Some, None, Result, Ok, Err, refl, sym, ap, ◌∙◌, subst, append_assoc, length-append, take-append-drop, arith}
+use Rattle.std.proofs.Common.{◌≡◌, ℕ, ◌+◌, ◌<◌, ◌≤◌, ◌==◌, nat_lt, nat_le, Bool, true, false, cond, List, [], ◌∷◌, ◌++◌, length, take, drop, Option, Some, None, Result, Ok, Err, refl, sym, ap, ◌∙◌, subst, append_assoc, length-append, take-append-drop, arith}
 use Rattle.std.proofs.lemmas.Bool.Decides.{nat_tests}
-use Rattle.std.proofs.lemmas.List.{length-take, take_at, drop_at}
+use Rattle.std.proofs.lemmas.List.{length-take}
 use Rattle.byteorder.specs.Endian.{big_number}
 use Rattle.pbf_wire.specs.declared.fault.Fault.{Fault}
 use Rattle.pbf_wire.specs.declared.fault.Reason.TheVariants.{PrefixCut, HeaderLong, HeaderCut, BlobCut, NoHeader}
@@ -65,12 +65,15 @@ prefix_split h p bytes prefix rest e = empty (length bytes == 0) e where
       let exact : length (take 4 bytes) ≡ 4 = omega (arith, wide, length-take 4 bytes) in
       let below : big_number 4 (take 4 bytes) < HEADER_LIMIT = grind (arith, nat_tests, small) in
       (sym (take-append-drop 4 bytes) ∙ ap (λ l. l ++ drop 4 bytes) front ∙ ap (λ l. prefix ++ l) parts.1, subst (λ l. length l ≡ 4) front exact, subst (λ l. big_number 4 l < HEADER_LIMIT) front below)
+
   short : (b : Bool) → nat_lt (length (take 4 bytes)) 4 ≡ b → cond {A = Prefixed} b (Err (fault p PrefixCut)) (cond {A = Prefixed} (nat_le HEADER_LIMIT (big_number 4 (take 4 bytes))) (Err (fault p HeaderLong)) (Ok (Some (take 4 bytes), drop 4 bytes))) ≡ Ok (Some prefix, rest) → (bytes ≡ prefix ++ rest) × (length prefix ≡ 4) × (big_number 4 prefix < HEADER_LIMIT)
   short true low e = (let bad : ⊥ = cc in absurd bad)
   short false low e = long (nat_le HEADER_LIMIT (big_number 4 (take 4 bytes))) refl low e
+
   none : (h : Bool) → ◌≡◌ {A = Prefixed} (cond {A = Prefixed} h (Ok (None, [])) (Err (fault p NoHeader))) (Ok (Some prefix, rest)) → ⊥
   none true e = none_some _ _ refl (ok_parts None (Some prefix) [] rest e).0
   none false e = cc
+
   empty : (b : Bool) → cond {A = Prefixed} b (cond {A = Prefixed} h (Ok (None, [])) (Err (fault p NoHeader))) (cond {A = Prefixed} (nat_lt (length (take 4 bytes)) 4) (Err (fault p PrefixCut)) (cond {A = Prefixed} (nat_le HEADER_LIMIT (big_number 4 (take 4 bytes))) (Err (fault p HeaderLong)) (Ok (Some (take 4 bytes), drop 4 bytes)))) ≡ Ok (Some prefix, rest) → (bytes ≡ prefix ++ rest) × (length prefix ≡ 4) × (big_number 4 prefix < HEADER_LIMIT)
   empty true e = absurd (none h e)
   empty false e = short (nat_lt (length (take 4 bytes)) 4) refl e
@@ -82,13 +85,16 @@ prefix_none h p bytes rest e = ended (length bytes == 0) refl e where
   nil : (l : List ℕ) → length l == 0 ≡ true → l ≡ []
   nil [] e = refl
   nil (x ∷ xs) e = (let zero : length (x ∷ xs) ≡ 0 = grind (arith, e) in absurd (omega (arith, zero)))
+
   last : (h : Bool) → ◌≡◌ {A = Prefixed} (cond {A = Prefixed} h (Ok (None, [])) (Err (fault p NoHeader))) (Ok (None, rest)) → (rest ≡ []) × (h ≡ true)
   last true e = (sym (ok_parts _ _ _ _ e).1, refl)
   last false e = absurd (err_ok _ _ e)
+
   never : (a b : Bool) → ◌≡◌ {A = Prefixed} (cond {A = Prefixed} a (Err (fault p PrefixCut)) (cond {A = Prefixed} b (Err (fault p HeaderLong)) (Ok (Some (take 4 bytes), drop 4 bytes)))) (Ok (None, rest)) → ⊥
   never true b e = cc
   never false true e = cc
   never false false e = none_some _ _ refl (sym (ok_parts _ _ _ _ e).0)
+
   ended : (b : Bool) → length bytes == 0 ≡ b → cond {A = Prefixed} b (cond {A = Prefixed} h (Ok (None, [])) (Err (fault p NoHeader))) (cond {A = Prefixed} (nat_lt (length (take 4 bytes)) 4) (Err (fault p PrefixCut)) (cond {A = Prefixed} (nat_le HEADER_LIMIT (big_number 4 (take 4 bytes))) (Err (fault p HeaderLong)) (Ok (Some (take 4 bytes), drop 4 bytes)))) ≡ Ok (None, rest) → (bytes ≡ []) × (rest ≡ []) × (h ≡ true)
   ended true is e = (let closed = last h e in (nil bytes is, closed.0, closed.1))
   ended false is e = absurd (never (nat_lt (length (take 4 bytes)) 4) (nat_le HEADER_LIMIT (big_number 4 (take 4 bytes))) e)
@@ -125,7 +131,7 @@ header_parts h p prefix bytes header rest head e =
       split = split.0 ∙ ap (λ l. l ++ front.1) same ∙ ap (λ l. header ++ l) parts.1;
       long = ap length (sym same) ∙ split.1;
       says = ap (λ l. head_of (p + 4) l) (sym same) ∙ is_said ∙ ap Ok same_head;
-      ordered = subst (λ (x : List ℕ × Head). least (order_faults h p x.1.kind (p + 4 + length x.0 + x.1.size)) ≡ None) parts.0 ordered
+      ordered = subst (λ (x : List ℕ × Head). least (order_faults h p x.1.kind (p + 4 + length x.0 + x.1.size)) ≡ None) parts.0 ordered;
     }
 
 pub header_whole : (h : Bool) (p : ℕ) (prefix bytes header rest : List ℕ) (head : Head) → HeaderParts h p prefix bytes header rest head → header_of h p prefix bytes ≡ Ok ((header, head), rest)
@@ -205,7 +211,7 @@ frame_parts_of h p bytes prefix left f rest is_prefix e =
       prefix_long = is_prefix.1;
       small = is_prefix.2;
       header_is = header_parts h p prefix left front.0.0 front.1 front.0.1 is_front;
-      blob_is = blob_parts front.0.1.kind front.0.1.size (p + 4 + length front.0.0) front.1 blob.0 blob.1 is_blob
+      blob_is = blob_parts front.0.1.kind front.0.1.size (p + 4 + length front.0.0) front.1 blob.0 blob.1 is_blob;
     } in
     subst (λ (r : List ℕ). FrameParts h p bytes f r) parts.1 (subst (λ (g : FrameSpec). FrameParts h p bytes g blob.1) parts.0 built)
 
@@ -223,11 +229,12 @@ next_parts h p bytes f rest e = (let (x, is, e1) = bind_inverse (prefix_at h p b
 -- a frame given spells the bytes that are gone, of which there are some
 pub next_split : (h : Bool) (p : ℕ) (bytes : List ℕ) (f : FrameSpec) (rest : List ℕ) → next_of h p bytes ≡ Ok (Some f, rest) → (bytes ≡ frame_bytes f ++ rest) × (4 ≤ length (frame_bytes f))
 next_split h p bytes f rest e =
-    let parts = next_parts h p bytes f rest e in
-    (parts.split ∙ ap (λ l. f.prefix ++ l) (parts.header_is.split ∙ ap (λ l. f.header ++ l) parts.blob_is.split) ∙ regroup f.prefix f.header f.blob rest,
-      omega (arith, parts.prefix_long, length-append (f.prefix ++ f.header) f.blob, length-append f.prefix f.header)) where
-  regroup : (a b c d : List ℕ) → a ++ (b ++ (c ++ d)) ≡ ((a ++ b) ++ c) ++ d
-  regroup a b c d = sym (append_assoc a b (c ++ d)) ∙ sym (append_assoc (a ++ b) c d)
+    let parts = next_parts h p bytes f rest e in (
+      parts.split ∙ ap (λ l. f.prefix ++ l) (parts.header_is.split ∙ ap (λ l. f.header ++ l) parts.blob_is.split) ∙ regroup f.prefix f.header f.blob rest,
+      omega (arith, parts.prefix_long, length-append (f.prefix ++ f.header) f.blob, length-append f.prefix f.header),
+    ) where
+      regroup : (a b c d : List ℕ) → a ++ (b ++ (c ++ d)) ≡ ((a ++ b) ++ c) ++ d
+      regroup a b c d = sym (append_assoc a b (c ++ d)) ∙ sym (append_assoc (a ++ b) c d)
 
 -- at the end nothing is left
 pub next_none : (h : Bool) (p : ℕ) (bytes rest : List ℕ) → next_of h p bytes ≡ Ok (None, rest) → (bytes ≡ []) × (rest ≡ [])

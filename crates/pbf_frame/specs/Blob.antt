@@ -1,5 +1,5 @@
 -- The Blob: the bytes that it holds.
-use Rattle.std.specs.Prelude.{ℕ, ◌==◌, Bool, nat_le, List, [], ◌∷◌, ◌++◌, length, Option, Some, None, Result, Ok, if◌then◌else◌}
+use Rattle.std.specs.Prelude.{ℕ, ◌==◌, nat_le, List, [], ◌∷◌, ◌++◌, length, Option, Some, None, if◌then◌else◌}
 use Rattle.std.specs.List.{flat_map}
 use Rattle.pbf_wire.specs.declared.fault.Fault.{Fault}
 use Rattle.pbf_wire.specs.declared.fault.Reason.{Reason}

@@ -1,5 +1,5 @@
 -- The BlobHeader: the type of its frame and the size of its blob.
-use Rattle.std.specs.Prelude.{ℕ, ℤ, pos, negsuc, nat_le, ◌+◌, List, [], ◌∷◌, ◌++◌, Option, Some, None, Result, Ok, Err, if◌then◌else◌, is_none, codes, nat_eq, not}
+use Rattle.std.specs.Prelude.{ℕ, ℤ, pos, negsuc, nat_le, List, [], ◌++◌, Option, Some, None, Result, Ok, if◌then◌else◌, is_none, codes, nat_eq}
 use Rattle.std.specs.Cmp.Lexicographic.{pointwise}
 use Rattle.pbf_wire.specs.declared.fault.Fault.{Fault}
 use Rattle.pbf_wire.specs.declared.fault.Reason.TheVariants.{Missing, DataSize}
@@ -12,7 +12,7 @@ use Rattle.pbf_frame.specs.declared.frame.FrameKind.{FrameKind}
 use Rattle.pbf_frame.specs.declared.frame.FrameKind.TheVariants as kind
 use Rattle.pbf_frame.specs.declared.header.Head.{Head}
 use Rattle.pbf_frame.specs.declared.header.TheConstants.{TYPE, DATASIZE, HEADER_KINDS, LARGEST_SIZE}
-use Rattle.pbf_frame.specs.Faults.{fault, fault_where, unless}
+use Rattle.pbf_frame.specs.Faults.{fault_where, unless}
 
 -- the text that an occurrence holds
 abbrev pub text_in : Content → List ℕ

@@ -1,11 +1,9 @@
 -- What `next` of a reader does.
-use Rattle.std.specs.Prelude.{◌≡◌, ℕ, ◌+◌, ◌<◌, ◌≤◌, ◌^◌, List, [], ◌∷◌, ◌++◌, Bool, ◌||◌, true, Option, Some, None, Result, Ok, Err, length, OnOk}
+use Rattle.std.specs.Prelude.{◌≡◌, ℕ, ◌+◌, ◌<◌, ◌≤◌, List, [], Bool, ◌||◌, true, Option, Some, None, Result, Ok, Err, length, OnOk}
 use Rattle.std.specs.Borrow.{GName}
-use Rattle.pbf_wire.specs.declared.fault.Fault.{Fault}
 use Rattle.pbf_frame.specs.declared.frame.Frame.{Frame}
 use Rattle.pbf_frame.specs.declared.reading.Seen.{Seen}
 use Rattle.pbf_frame.specs.declared.reader.FrameReader.{FrameReader}
-use Rattle.pbf_frame.specs.declared.reader.State.{State}
 use Rattle.pbf_frame.specs.declared.reader.State.TheVariants.{Reading, Ended, Stopped}
 use Rattle.pbf_frame.specs.declared.stop.Stop.{Stop}
 use Rattle.pbf_frame.specs.declared.stop.Stop.TheVariants.{Refused, Read, Write, Memory, Changed}

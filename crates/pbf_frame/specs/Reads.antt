@@ -32,6 +32,14 @@ IsFillStop old new Write = ⊥
 IsFillStop old new Memory = Unit {0}
 IsFillStop old new (Changed pass) = ⊥
 
+-- a call that only writes stops for a failed write
+abbrev pub IsWriteStop : ℕ → ℕ → Stop → Type 0
+IsWriteStop old new (Refused f) = ⊥
+IsWriteStop old new Read = ⊥
+IsWriteStop old new Write = HasRisen old new
+IsWriteStop old new Memory = ⊥
+IsWriteStop old new (Changed pass) = ⊥
+
 -- a reader's stop names the feed only where its count of failures rose, and never a drain
 abbrev pub IsReaderStop : ℕ → ℕ → Stop → Type 0
 IsReaderStop old new (Refused f) = Unit {0}

@@ -49,7 +49,3 @@ Gone first done rest = first ≡ option_map (with_all done) rest
 abbrev pub joined : List FrameSpec → List ℕ
 joined [] = []
 joined (f ∷ fs) = frame_bytes f ++ joined fs
-
--- the spellings of the frames before the fault, joined, begin the bytes, and on what follows no frame stands
-abbrev pub IsLongestFront : List ℕ → Verdict → Type 0
-IsLongestFront bytes verdict = (rest : List ℕ) × (had_header : Bool) × (place : ℕ) × (bytes ≡ joined verdict.0 ++ rest) × (judged had_header place rest ≡ ([], verdict.1))

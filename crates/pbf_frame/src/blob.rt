@@ -16,11 +16,17 @@ use pbf_wire::{Fault, Field, Fields, Kind, Payload, Reason, judge_wire, last_fie
 
 // The fields of a Blob.
 pub(crate) const RAW: u64 = 1;
+
 pub(crate) const RAW_SIZE: u64 = 2;
+
 pub(crate) const ZLIB_DATA: u64 = 3;
+
 pub(crate) const LZMA_DATA: u64 = 4;
+
 pub(crate) const BZIP2_DATA: u64 = 5;
+
 pub(crate) const LZ4_DATA: u64 = 6;
+
 pub(crate) const ZSTD_DATA: u64 = 7;
 
 /// How the fields of a Blob are stored.
@@ -111,7 +117,12 @@ fn text_place(field: Option<Field<'_>>, at: u64) -> u64
     ensures fits { result + length (text_of (option_map occurrence field.entry)) ≤ 2 ^ 63 }
 {
     match field {
-        Some(Field { payload: Payload::Bytes(_, place), .. }) => place,
+        Some(
+            Field {
+                payload: Payload::Bytes(_, place),
+                ..
+            },
+        ) => place,
         _ => at,
     }
 }

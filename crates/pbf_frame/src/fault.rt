@@ -10,5 +10,9 @@ use pbf_wire::{Fault, Reason};
 pub(crate) fn fault_where(wrong: bool, offset: u64, reason: Reason) -> Option<Fault>
     ensures { result ≡ least (fault_where wrong offset reason) }
 {
-    if wrong { Some(Fault { offset, reason }) } else { None }
+    if wrong {
+        Some(Fault { offset, reason })
+    } else {
+        None
+    }
 }

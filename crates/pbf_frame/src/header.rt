@@ -15,7 +15,9 @@ use pbf_wire::{Fault, Field, Kind, Payload, Reason, judge_wire, last_field, less
 
 // The fields of a BlobHeader.
 pub(crate) const TYPE: u64 = 1;
+
 pub(crate) const INDEXDATA: u64 = 2;
+
 pub(crate) const DATASIZE: u64 = 3;
 
 /// How the fields of a BlobHeader are stored.
@@ -43,7 +45,12 @@ pub(crate) fn text_of(field: Option<Field<'_>>) -> &[u8]
     ensures { result.now ≡ text_of (option_map occurrence field.entry) }
 {
     match field {
-        Some(Field { payload: Payload::Bytes(text, _), .. }) => text,
+        Some(
+            Field {
+                payload: Payload::Bytes(text, _),
+                ..
+            },
+        ) => text,
         _ => &[],
     }
 }
@@ -60,7 +67,11 @@ fn size_in(payload: Payload<'_>) -> Option<u32>
         return None;
     }
     let size = size.unsigned_abs();
-    if size <= LARGEST_SIZE { Some(size) } else { None }
+    if size <= LARGEST_SIZE {
+        Some(size)
+    } else {
+        None
+    }
 }
 
 /// The size of the blob by the last `datasize`, and 0 where it is none.
@@ -91,7 +102,11 @@ fn judge_size(datasize: Option<Field<'_>>) -> Option<Fault>
     ensures { result ≡ least (size_faults (option_map occurrence datasize.entry)) }
 {
     let field = datasize?;
-    fault_where(size_in(field.payload).is_none(), field.offset, Reason::DataSize)
+    fault_where(
+        size_in(field.payload).is_none(),
+        field.offset,
+        Reason::DataSize,
+    )
 }
 
 /// Whether a required field, of which this is the last, is absent.

@@ -1,28 +1,48 @@
-//! Laws of the words for known bytes, for the proofs of callers.
+//! The laws of known bytes and of the frames of a file. Each is the contract of a function that does nothing: a proof that
+//! needs the law calls it, or takes the lemma of that name from this crate's `proofs/`.
 
-ghost use Rattle.std.specs.Prelude.{◌≡◌, ℕ, List, [], ◌++◌, Option};
+ghost use Rattle.std.specs.Prelude.{◌≡◌, ◌↔◌, ℕ, Bool, List, [], ◌++◌, Option, Ok, Some};
 ghost use Rattle.pbf_frame.specs.Devices.{prepend, append};
+ghost use Rattle.pbf_frame.specs.Frames.{FrameSpec, frame_bytes, next_of};
+ghost use Rattle.pbf_frame.specs.Sound.{IsFrame, AreFrames, had_after, place_after, IsLongestFront};
+ghost use Rattle.pbf_frame.specs.Verdict.{joined, judged, with_all};
 
 /// Nothing behind the known bytes changes them.
 pub fn append_none()
     ensures { (known : Option (List ℕ)) → append known [] ≡ known }
-{
-}
+{}
 
 /// What is put behind in two parts is put behind at once.
 pub fn append_append()
     ensures { (known : Option (List ℕ)) (xs ys : List ℕ) → append (append known xs) ys ≡ append known (xs ++ ys) }
-{
-}
+{}
 
 /// Nothing before the known bytes changes them.
 pub fn prepend_none()
     ensures { (known : Option (List ℕ)) → prepend [] known ≡ known }
-{
-}
+{}
 
 /// What stands before in two parts stands before at once.
 pub fn prepend_prepend()
     ensures { (known : Option (List ℕ)) (xs ys : List ℕ) → prepend xs (prepend ys known) ≡ prepend (xs ++ ys) known }
-{
-}
+{}
+
+/// A frame without a fault is read whatever follows it; and what is read as the next frame is one, and spells the bytes that
+/// are gone.
+pub fn one_frame()
+    ensures reads { (had_header : Bool) (place : ℕ) (f : FrameSpec) (rest : List ℕ) → IsFrame had_header place f → next_of had_header place (frame_bytes f ++ rest) ≡ Ok (Some f, rest) }
+    ensures sound { (had_header : Bool) (place : ℕ) (bytes : List ℕ) (f : FrameSpec) (rest : List ℕ) → next_of had_header place bytes ≡ Ok (Some f, rest) → IsFrame had_header place f }
+    ensures spells { (had_header : Bool) (place : ℕ) (bytes : List ℕ) (f : FrameSpec) (rest : List ℕ) → next_of had_header place bytes ≡ Ok (Some f, rest) → bytes ≡ frame_bytes f ++ rest }
+{}
+
+/// The verdict on bytes that begin with frames is these frames, and then those of the verdict on what follows.
+pub fn frames_then_rest()
+    ensures { (had_header : Bool) (place : ℕ) (frames : List FrameSpec) (rest : List ℕ) → AreFrames had_header place frames
+        → judged had_header place (joined frames ++ rest) ≡ with_all frames (judged (had_after had_header frames) (place_after place frames) rest) }
+{}
+
+/// The frames of the verdict are the longest list of frames without faults whose spellings, joined, begin the bytes; and its
+/// fault is that of what follows them.
+pub fn longest_front()
+    ensures { (had_header : Bool) (place : ℕ) (bytes : List ℕ) → IsLongestFront had_header place bytes (judged had_header place bytes) }
+{}

@@ -8,15 +8,19 @@ mod frame;
 mod header;
 pub mod laws;
 mod memory;
+mod put;
 mod reader;
 mod reading;
 mod std_device;
 mod stop;
+#[cfg(test)]
+mod tests;
 mod transfer;
 
-pub use frame::{Frame, FrameKind, frame_end};
 pub use device::{Drain, Feed};
+pub use frame::{Frame, FrameKind, frame_end};
 pub use memory::{Pieces, Sink};
+pub use put::put_frame;
 pub use reader::FrameReader;
 pub use std_device::{FromRead, ToWrite};
 pub use stop::{DrainFault, FeedFault, Stop};

@@ -50,11 +50,7 @@ fn fill_vec<F: Feed>(feed: &mut F, buf: &mut Vec<u8>, count: usize) -> Result<()
 
 // The four bytes before the next frame's header, or nothing at the end.
 #[tactic(auto, unfolding(crate::specs::Frames::prefix_at))]
-fn read_prefix<F: Feed>(
-    feed: &mut F,
-    had_header: bool,
-    place: u64,
-) -> Result<Option<[u8; 4]>, Stop>
+fn read_prefix<F: Feed>(feed: &mut F, had_header: bool, place: u64) -> Result<Option<[u8; 4]>, Stop>
     ensures given { Gives (λ o. o) (F.remaining feed.old) (F.remaining feed.new) result (prefix_at had_header place) }
     ensures small { IfOk result (λ o. IfSome o (λ prefix. big_number 4 prefix < HEADER_LIMIT)) }
     ensures ended { IfOk result (λ o. IfNone o (IsAtEnd (F.remaining feed.new))) }

@@ -3,10 +3,11 @@
 ghost use Rattle.std.specs.Prelude.{◌≡◌, ◌<◌, ◌≤◌, ℕ, List, length, take, IfOk, OnOk, OnErr};
 ghost use Rattle.pbf_frame.specs.Devices.{prepend, append, IsAtEnd, HasRisen, IsFront};
 
-use crate::{Drain, DrainFault, Feed, FeedFault};
+use crate::device::{Drain, Feed};
+use crate::stop::{DrainFault, FeedFault};
 
-/// Fills the buffer, or less of it only at the end of the feed.
-pub fn fill<F: Feed>(feed: &mut F, buf: &mut [u8]) -> Result<usize, FeedFault>
+/// Fills the buffer, or less of it only at the end of the feed: each read is asked for all that is still wanted.
+pub(crate) fn fill<F: Feed>(feed: &mut F, buf: &mut [u8]) -> Result<usize, FeedFault>
     ensures bound { IfOk result (λ n. n ≤ length buf.old) }
     ensures bytes { IfOk result (λ n. F.remaining feed.old ≡ prepend (take n buf.new) (F.remaining feed.new)) }
     ensures end { IfOk result (λ n. n < length buf.old → IsAtEnd (F.remaining feed.new)) }
@@ -26,7 +27,7 @@ pub fn fill<F: Feed>(feed: &mut F, buf: &mut [u8]) -> Result<usize, FeedFault>
     Ok(done)
 }
 
-/// Writes all of the bytes, or a beginning of them.
+/// Writes all of the bytes; after a failure a beginning of them went out. It takes no memory.
 pub fn write_all<D: Drain>(drain: &mut D, bytes: &[u8]) -> Result<(), DrainFault>
     ensures ok { OnOk result (D.taken drain.new ≡ append (D.taken drain.old) bytes.now) }
     ensures front { IsFront (D.taken drain.old) (D.taken drain.new) bytes.now }

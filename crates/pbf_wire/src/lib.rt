@@ -36,5 +36,5 @@ pub use reading::{last_field, last_number};
 pub use signed::{low_i32, low_i64, low_sint32, low_u32, sign_extended, unzigzag, zigzag};
 pub use sum::Sum;
 pub use sums::Sums;
-pub use varint::{get_varint, put_varint, varint_len};
+pub use varint::{get_varint, put_varint, shortest_spelling, varint_len};
 pub use writing::{put_bytes, put_column, put_number};

@@ -6,9 +6,6 @@ ghost use Rattle.pbf_wire.specs.Varint.{IsVarint, IsCut, IsLong, varint_at, move
 use crate::fault::Reason;
 use std::alloc::AllocError;
 
-/// The most bytes that a varint takes.
-const MAX_LENGTH: usize = 10;
-
 /// The number that the bytes begin with, and how many bytes it takes.
 pub(crate) fn first_varint(bytes: &[u8]) -> Result<(u64, usize), Reason>
     ensures exact { result ≡ varint_at bytes.now }
@@ -49,12 +46,12 @@ pub fn get_varint(bytes: &[u8], at: usize) -> Result<(u64, usize), Reason>
     Ok((value, at + length))
 }
 
-/// The shortest spelling, at the front of the array, and its length.
-fn shortest_spelling(value: u64) -> ([u8; MAX_LENGTH], usize)
+/// The shortest spelling, at the front of the array, and its length. It takes no memory.
+pub fn shortest_spelling(value: u64) -> ([u8; 10], usize)
     ensures within { result.1 ≤ 10 }
     ensures spelling { take result.1 result.0 ≡ shortest value }
 {
-    let mut spelling = [0; MAX_LENGTH];
+    let mut spelling = [0; 10];
     let mut length = 0;
     let mut rest = value;
     while rest >= 128 {

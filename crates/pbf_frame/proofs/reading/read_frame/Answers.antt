@@ -1,4 +1,4 @@
-use Rattle.std.proofs.Common.{ap, ◌∙◌, refl, sym, subst, ◌≡◌, ℕ, ◌+◌, true, List, Option, length, arith}
+use Rattle.std.proofs.Common.{ap, refl, subst, ◌≡◌, ℕ, ◌+◌, true, List, Option, length, arith}
 use Rattle.std.specs.Prelude.{IfNone}
 use Rattle.pbf_frame.specs.Devices.{IsAtEnd}
 use Rattle.std.proofs.lemmas.Result.{err_from_is_err_and}

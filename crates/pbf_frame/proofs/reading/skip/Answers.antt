@@ -1,4 +1,4 @@
-use Rattle.std.proofs.Common.{◌≡◌, ◌+◌, ◌-◌, ◌≤◌, ◌<◌, ◌∙◌, length, take, drop, arith, length-append}
+use Rattle.std.proofs.Common.{◌≡◌, ◌+◌, ◌<◌, ◌∙◌, length, take, drop, arith, length-append}
 use Rattle.std.proofs.lemmas.List.{length-drop, length-take-le}
 use Rattle.pbf_frame.proofs.FrontLemmas.{skips_more}
 use Rattle.pbf_frame.proofs.reading.skip.Goals as goal
@@ -17,5 +17,5 @@ loop-left-preserved g c =
       carries = λ b before. c.in_ok-read.ensures.carries b (so_far.carries b before);
       counts = omega (arith, c.fill.ensures.counts);
       lender = c.fill.ensures.lender ∙ so_far.lender;
-      room = omega (arith, room, length-append c.fill.new.buf (drop piece c.loop-left.room))
+      room = omega (arith, room, length-append c.fill.new.buf (drop piece c.loop-left.room));
     }

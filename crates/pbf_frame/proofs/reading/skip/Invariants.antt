@@ -1,5 +1,4 @@
-use Rattle.std.proofs.Common.{◌≡◌, ◌≤◌, ◌<◌, ◌+◌, ◌-◌, ℕ, List, length}
-use Rattle.pbf_frame.specs.Devices.{prepend}
+use Rattle.std.proofs.Common.{◌≡◌, ◌≤◌, ◌<◌, ◌-◌, ℕ, List, length}
 use Rattle.pbf_frame.specs.Reads.{Skips}
 use Rattle.pbf_frame.proofs.reading.skip.Given as goal
 
@@ -10,8 +9,8 @@ invariant-loop-left g l = record {
   carries : (b : List ℕ) → g.F.Feed.carries l.fn.feed b → g.F.Feed.carries l.feed b;
   counts : g.F.Feed.failures l.fn.feed ≤ g.F.Feed.failures l.feed;
   lender : g.F.Feed.lender l.feed ≡ g.F.Feed.lender l.fn.feed;
-  room : 0 < length l.room
-  }
+  room : 0 < length l.room;
+}
 
 abbrev pub decreases-loop-left : goal.decreases-loop-left
 decreases-loop-left g l = l.left

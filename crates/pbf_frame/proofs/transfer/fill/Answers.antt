@@ -1,5 +1,5 @@
-use Rattle.std.proofs.Common.{ℕ, List, ◌+◌, ◌≤◌, ◌≡◌, ◌-◌, length, take, drop, sym, ◌∙◌, ap, arith, length-append}
-use Rattle.std.proofs.lemmas.List.{length-drop, take_rest, length-take-le}
+use Rattle.std.proofs.Common.{ℕ, List, sym, ◌∙◌, ap, arith}
+use Rattle.std.proofs.lemmas.List.{length-drop, take_rest}
 use Rattle.pbf_frame.specs.Devices.{prepend}
 use Rattle.pbf_frame.proofs.KnownBytes.{prepend_more, take_read, length_read}
 use Rattle.pbf_frame.proofs.transfer.fill.Goals as goal
@@ -17,5 +17,5 @@ loop-done-preserved g c =
       bytes = prepend_more _ _ _ _ _ so_far.bytes c.in_ok-count.ensures.bytes ∙ ap (λ (xs : List ℕ). prepend xs (g.F.Feed.remaining c.read.new.self)) (sym (take_read done c.in_ok-count.count buf c.read.new.buf so_far.within long (omega (arith, left, long))));
       carries = λ b before. c.in_ok-count.ensures.carries b (so_far.carries b before);
       counts = omega (arith, c.read.ensures.counts);
-      lender = c.read.ensures.lender ∙ so_far.lender
+      lender = c.read.ensures.lender ∙ so_far.lender;
     }

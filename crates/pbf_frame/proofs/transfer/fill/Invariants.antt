@@ -8,8 +8,8 @@ invariant-loop-done g l = record {
   bytes : g.F.Feed.remaining l.fn.feed ≡ prepend (take l.done l.buf) (g.F.Feed.remaining l.feed);
   carries : (b : List ℕ) → g.F.Feed.carries l.fn.feed b → g.F.Feed.carries l.feed b;
   counts : g.F.Feed.failures l.fn.feed ≤ g.F.Feed.failures l.feed;
-  lender : g.F.Feed.lender l.feed ≡ g.F.Feed.lender l.fn.feed
-  }
+  lender : g.F.Feed.lender l.feed ≡ g.F.Feed.lender l.fn.feed;
+}
 
 abbrev pub decreases-loop-done : goal.decreases-loop-done
 decreases-loop-done g l = length l.initial.buf - l.done

@@ -1,4 +1,4 @@
-use Rattle.std.proofs.Common.{◌+◌, ◌≤◌, ◌-◌, ◌∙◌, length, drop, arith}
+use Rattle.std.proofs.Common.{◌∙◌, arith}
 use Rattle.std.proofs.lemmas.List.{length-drop, take_rest}
 use Rattle.pbf_frame.proofs.KnownBytes.{append_more}
 use Rattle.pbf_frame.proofs.transfer.write_all.Goals as goal
@@ -11,5 +11,5 @@ loop-done-preserved g c =
       within = omega (arith, left);
       taken = append_more _ _ _ bytes c.loop-done.done _ c.loop-done.invariant.taken c.in_ok-done.ensures.bytes;
       counts = omega (arith, c.write.ensures.counts);
-      lender = c.write.ensures.lender ∙ c.loop-done.invariant.lender
+      lender = c.write.ensures.lender ∙ c.loop-done.invariant.lender;
     }

@@ -7,8 +7,8 @@ invariant-loop-done g l = record {
   within : l.done ≤ length l.bytes;
   taken : g.D.Drain.taken l.drain ≡ append (g.D.Drain.taken l.fn.drain) (take l.done l.bytes);
   counts : g.D.Drain.failures l.fn.drain ≤ g.D.Drain.failures l.drain;
-  lender : g.D.Drain.lender l.drain ≡ g.D.Drain.lender l.fn.drain
-  }
+  lender : g.D.Drain.lender l.drain ≡ g.D.Drain.lender l.fn.drain;
+}
 
 abbrev pub decreases-loop-done : goal.decreases-loop-done
 decreases-loop-done g l = length l.bytes - l.done

@@ -1,4 +1,4 @@
-use Rattle.std.proofs.Common.{◌≡◌, refl, ◌∙◌, ap, ◌+◌, ◌||◌, ℕ, Ok, Some, Err, None, rules}
+use Rattle.std.proofs.Common.{◌≡◌, refl, ap, ◌+◌, ◌||◌, ℕ, rules}
 use Rattle.pbf_frame.specs.Frames.{is_header}
 use Rattle.pbf_frame.proofs.Advancing.{sees_end_again, sees_frame, sees_end, sees_stop}
 use Rattle.pbf_frame.proofs.reader.FrameReader.advance.Goals.{then-self, else-self}

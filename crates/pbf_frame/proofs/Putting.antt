@@ -1,0 +1,67 @@
+-- What is put into the room is the frame in written form.
+use Rattle.std.proofs.Common.{◌≡◌, ℕ, ◌+◌, ◌*◌, min, List, [], ◌∷◌, ◌++◌, length, take, drop, Option, Some, refl, sym, ap, ◌∙◌, append_assoc, length-append, arith}
+use Rattle.std.proofs.lemmas.List.{append-nil, take_at, take_min, take-append-le}
+use Rattle.std.proofs.Math.Seq.{take-append-add}
+use Rattle.byteorder.specs.Endian.{big_bytes}
+use Rattle.byteorder.specs.Numbers.{length-bytes_high_first}
+use Rattle.pbf_wire.specs.Message.{Scalar, Each, message, slot_bytes}
+use Rattle.pbf_wire.specs.Varint.{shortest}
+use Rattle.pbf_wire.proofs.WritingLemmas.{message_first, message_none, bytes_put, number_put}
+use Rattle.pbf_frame.specs.declared.blob.TheConstants.{RAW}
+use Rattle.pbf_frame.specs.declared.frame.FrameKind.{FrameKind}
+use Rattle.pbf_frame.specs.declared.header.TheConstants.{TYPE, DATASIZE}
+use Rattle.pbf_frame.specs.Devices.{append, IsFront}
+use Rattle.pbf_frame.specs.Writing.{written_name, written_header, written_blob, written_frame}
+use Rattle.pbf_frame.proofs.KnownBytes.{append_append}
+
+pub header_put : (k : FrameKind) (size : ℕ) (name e1 e2 e3 e4 e5 : List ℕ) → name ≡ written_name k → e1 ≡ [] ++ shortest (TYPE * 8 + 2) → e2 ≡ e1 ++ shortest (length name) → e3 ≡ e2 ++ name → e4 ≡ e3 ++ shortest (DATASIZE * 8) → e5 ≡ e4 ++ shortest size → e5 ≡ written_header k size
+unfolding written_header
+header_put k size name e1 e2 e3 e4 e5 named p1 p2 p3 p4 p5 =
+    let first = Each TYPE (name ∷ []) in
+    let second = Scalar DATASIZE (Some size) in
+    let front : e3 ≡ [] ++ slot_bytes first = bytes_put TYPE name [] e1 e2 e3 p1 p2 p3 in
+    let all : e5 ≡ e3 ++ slot_bytes second = number_put DATASIZE size e3 e4 e5 p4 p5 in
+    all ∙ ap (λ l. l ++ slot_bytes second) front
+    ∙ ap (λ l. slot_bytes first ++ l) (sym (append-nil (slot_bytes second)) ∙ ap (λ l. slot_bytes second ++ l) (sym message_none) ∙ sym (message_first second []))
+    ∙ sym (message_first first (second ∷ []))
+    ∙ ap (λ (l : List ℕ). message (Each TYPE (l ∷ []) ∷ second ∷ [])) named
+
+pub blob_put : (n : ℕ) (payload : List ℕ) (e1 e2 : List ℕ) → length payload ≡ n → e1 ≡ [] ++ shortest (RAW * 8 + 2) → e2 ≡ e1 ++ shortest n → e2 ++ payload ≡ written_blob payload
+unfolding written_blob
+blob_put n payload e1 e2 long p1 p2 =
+    let slot = Each RAW (payload ∷ []) in
+    bytes_put RAW payload [] e1 e2 (e2 ++ payload) p1 (p2 ∙ ap (λ (m : ℕ). e1 ++ shortest m) (sym long)) refl
+    ∙ sym (append-nil (slot_bytes slot)) ∙ ap (λ l. slot_bytes slot ++ l) (sym message_none) ∙ sym (message_first slot [])
+
+-- a number at the front of the room
+pub prefix_put : (n : ℕ) (old : List ℕ) → take 4 (big_bytes 4 n ++ drop 4 old) ≡ big_bytes 4 n
+prefix_put n old = take_at (big_bytes 4 n) (drop 4 old) 4 (length-bytes_high_first 4 n)
+
+pub frame_put : (k : FrameKind) (payload header blob e1 e2 e3 : List ℕ) → blob ++ payload ≡ written_blob payload → header ≡ written_header k (length blob + length payload) → e1 ≡ big_bytes 4 (length header) → e2 ≡ e1 ++ header → e3 ≡ e2 ++ blob → e3 ++ payload ≡ written_frame k payload
+unfolding written_frame
+frame_put k payload header blob e1 e2 e3 is_blob is_header p1 p2 p3 =
+    let size : length blob + length payload ≡ length (written_blob payload) = sym (length-append blob payload) ∙ ap length is_blob in
+    let header_is : header ≡ written_header k (length (written_blob payload)) = is_header ∙ ap (λ (n : ℕ). written_header k n) size in
+    let front : e2 ≡ big_bytes 4 (length (written_header k (length (written_blob payload)))) ++ written_header k (length (written_blob payload)) = p2 ∙ ap (λ l. l ++ header) p1 ∙ ap (λ (l : List ℕ). big_bytes 4 (length l) ++ l) header_is in
+    ap (λ l. l ++ payload) p3 ∙ append_assoc e2 blob payload ∙ ap (λ l. e2 ++ l) is_blob ∙ ap (λ l. l ++ written_blob payload) front
+
+-- ---- a beginning
+
+-- what went out of the first part is a beginning of the whole
+pub front_first : (old new : Option (List ℕ)) (first second whole : List ℕ) → first ++ second ≡ whole → IsFront old new first → IsFront old new whole
+front_first old new first second whole is front = record {
+  count = min front.count (length first);
+  taken = front.taken ∙ ap (append old) (sym (take_min front.count first) ∙ sym (take-append-le (min front.count (length first)) first second (omega arith)) ∙ ap (take (min front.count (length first))) is);
+}
+
+-- the first part went out, and of the second a beginning
+pub front_second : (old mid new : Option (List ℕ)) (first second whole : List ℕ) → first ++ second ≡ whole → mid ≡ append old first → IsFront mid new second → IsFront old new whole
+front_second old mid new first second whole is went front = record {
+  count = length first + front.count;
+  taken = front.taken ∙ ap (λ (k : Option (List ℕ)). append k (take front.count second)) went ∙ append_append old first (take front.count second)
+      ∙ ap (append old) (sym (take-append-add first second front.count) ∙ ap (take (length first + front.count)) is);
+}
+
+-- both parts went out
+pub both_went : (old mid new : Option (List ℕ)) (first second whole : List ℕ) → first ++ second ≡ whole → mid ≡ append old first → new ≡ append mid second → new ≡ append old whole
+both_went old mid new first second whole is one two = two ∙ ap (λ (k : Option (List ℕ)). append k second) one ∙ append_append old first second ∙ ap (append old) is
