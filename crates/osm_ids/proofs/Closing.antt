@@ -1,8 +1,8 @@
 -- A work list that closes a set under links.
-use Rattle.std.proofs.Common.{◌≡◌, ℕ, ◌+◌, ◌*◌, ◌<◌, ◌≤◌, ◌⊎◌, ℤ, Bool, true, false, not, ◌||◌, cond, List, [], ◌∷◌, ◌++◌, length, inl, inr, refl, sym, ap, subst, ◌∙◌, arith, length-append, append_assoc, append-nil}
-use Rattle.std.specs.List.{list_any, count_by, filter, AllByRecursion}
-use Rattle.std.specs.Ordering.{int_cmp, int_eq, eq_by_cmp}
-use Rattle.std.specs.Cmp.{int_cmp_total}
+use Rattle.std.proofs.Common.{◌≡◌, ℕ, ◌+◌, ◌*◌, ◌≤◌, ◌⊎◌, ℤ, Bool, true, false, not, ◌||◌, cond, List, [], ◌∷◌, ◌++◌, length, inl, inr, refl, sym, ap, subst, ◌∙◌, arith, length-append, append_assoc, append-nil}
+use Rattle.std.specs.List.{filter, AllByRecursion}
+use Rattle.std.specs.Ordering.{int_eq, eq_by_cmp}
+use Rattle.std.specs.Cmp.{int_cmp_total, both_ways as same_answers}
 use Rattle.std.specs.FinSet as set
 use Rattle.std.proofs.lemmas.Bool.{or_cases, or_left, or_right, both_ways}
 use Rattle.std.proofs.lemmas.Bool.Decides.{Decides-int_eq}
@@ -236,3 +236,16 @@ closing_end links start ids work c none =
       ];
       least = c.least;
     }
+
+-- ---- the least set
+
+pub least_only : (is_link : Link → Bool) (start ids others : Ids) → IsLeast is_link start ids → IsLeast is_link start others → ids ≡ others
+least_only is_link start ids others h k =
+    set.same_set int_cmp_total set.int_cmp-IsAntisymmetric ids others
+    (λ id. same_answers (set.contains ids id) (set.contains others id) (h.least (set.contains others) k.holds k.closed id) (k.least (set.contains ids) h.holds h.closed id))
+
+pub least_closed : (is_link : Link → Bool) (start : Ids) → IsClosed is_link (set.contains start) → IsLeast is_link start start
+least_closed is_link start closed = record { holds = λ id h. h; closed = closed; least = λ test has _. has }
+
+pub least_again : (is_link : Link → Bool) (start ids : Ids) → IsLeast is_link start ids → IsLeast is_link ids ids
+least_again is_link start ids h = least_closed is_link ids h.closed

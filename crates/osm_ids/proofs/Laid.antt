@@ -1,9 +1,6 @@
 -- How pages lie in an index and in bytes: how they grow, how they are found, and that they are read again.
-use Rattle.std.proofs.Common.{◌≡◌, ℕ, zero, suc, ◌+◌, ◌-◌, ◌*◌, ◌<◌, ◌≤◌, ◌⊎◌, List, [], ◌∷◌, ◌++◌, length, take, drop, get_or, ℤ, ◌<ℤ◌, ◌≤ℤ◌, inl, inr, refl, sym, ap, subst, ◌∙◌, arith, append_assoc, length-append, FitsSigned, w64}
+use Rattle.std.proofs.Common.{◌≡◌, ℕ, suc, ◌+◌, ◌-◌, ◌*◌, ◌<◌, ◌≤◌, List, [], ◌∷◌, ◌++◌, length, take, drop, ℤ, refl, sym, ap, subst, ◌∙◌, arith, append_assoc, length-append, FitsSigned, w64}
 use Rattle.std.specs.Int.{div_ceil}
-use Rattle.std.specs.List.{flat_map, list_any}
-use Rattle.std.specs.Ordering.{int_eq}
-use Rattle.std.proofs.lemmas.Int.{ints}
 use Rattle.std.proofs.lemmas.Grind.{flat_map-append}
 use Rattle.std.proofs.lemmas.List.{append-nil, drop-drop}
 use Rattle.std.proofs.Math.Seq.{drop-append_seam, take-append_seam}
@@ -11,7 +8,7 @@ use Rattle.osm_ids.specs.declared.pages.PageStart.{PageStart}
 use Rattle.pbf_wire.specs.Varint.{shortest}
 use Rattle.pbf_wire.specs.Packed.{numbers_of}
 use Rattle.osm_ids.specs.Pages.{gap, Page, page_ids, page_bytes, ids_of_pages, bytes_of_pages, starts_from, IsFilled, Rises, IsRising, AllFit, raised, ids_in, IsSealed}
-use Rattle.osm_ids.proofs.Rising.{rises_front, rises_back, rising_tail}
+use Rattle.osm_ids.proofs.Rising.{rises_front, rising_tail}
 use Rattle.osm_ids.proofs.Gaps.{spelled_after, read_spelled}
 
 -- ---- growing

@@ -1,7 +1,7 @@
 -- The order of links, and sets of them.
-use Rattle.std.proofs.Common.{◌≡◌, Bool, true, false, not, cond, ◌||◌, ◌&&◌, ◌⊎◌, inl, inr, List, [], ◌∷◌, ℤ, pos, negsuc, ◌<ℤ◌, ◌≤ℤ◌, refl, sym, ap, subst, ◌∙◌, arith, FitsSigned, w64, Less, Equal, Greater, Ordering}
-use Rattle.std.specs.List.{list_any, filter, AllByRecursion}
-use Rattle.std.specs.Ordering.{int_cmp, int_eq, ordering_then, eq_by_cmp, is_eq, is_le, is_lt}
+use Rattle.std.proofs.Common.{◌≡◌, Bool, true, false, not, cond, ◌&&◌, inl, inr, List, [], ◌∷◌, ℤ, ◌≤ℤ◌, refl, sym, ap, subst, ◌∙◌, arith, FitsSigned, w64, Less, Equal, Greater, Ordering}
+use Rattle.std.specs.List.{filter, AllByRecursion}
+use Rattle.std.specs.Ordering.{int_cmp, ordering_then, eq_by_cmp, is_eq, is_le, is_lt}
 use Rattle.std.specs.Cmp.{IsTotalOrder, int_cmp_total, then_total, on_total, tied_itself, int_ranked}
 use Rattle.std.specs.BTreeSet.{insert_key}
 use Rattle.std.specs.FinSet as set

@@ -1,7 +1,8 @@
 -- The pages of a list of ids.
-use Rattle.std.proofs.Common.{◌≡◌, ℕ, zero, suc, ◌+◌, ◌≤◌, List, [], ◌∷◌, ◌++◌, length, take, drop, ℤ, refl, sym, ap, ◌∙◌, arith}
-use Rattle.std.proofs.lemmas.List.{append-nil, take_all, take_at}
-use Rattle.std.proofs.Math.Seq.{take-append_seam}
+use Rattle.std.proofs.Common.{◌≡◌, ℕ, zero, suc, ◌≤◌, List, [], ◌∷◌, ◌++◌, length, take, drop, ℤ, refl, sym, ap, subst, ◌∙◌, arith, inl, inr, take-append-drop}
+use Rattle.std.proofs.lemmas.List.{append-nil, take_all, length-take, length-take-le}
+use Rattle.std.proofs.Math.Seq.{take-append_seam, drop-nil}
+use Rattle.std.proofs.lemmas.Bool.{cases_lt}
 use Rattle.osm_ids.specs.Pages.{Page, page_ids, ids_of_pages, pages_past, pages_of, IsFilled}
 
 -- ids that are passed over begin no page
@@ -41,3 +42,32 @@ unfolding pages_past
 pages_of-ids [] h = refl
 pages_of-ids (page ∷ []) h = ap pages_of (append-nil (page_ids page)) ∙ last_page page h
 pages_of-ids (page ∷ next ∷ pages) h = full_page page (ids_of_pages (next ∷ pages)) h.0 ∙ ap (λ (rest : List Page). page ∷ rest) (pages_of-ids (next ∷ pages) h.1)
+
+-- ---- joined, the pages are the ids
+
+ids-past : (skip : ℕ) (ids : List ℤ) → ids_of_pages (pages_past skip ids) ≡ drop skip ids
+unfolding pages_past
+ids-past skip [] = sym (drop-nil skip)
+ids-past (suc skip) (id ∷ ids) = ids-past skip ids
+ids-past zero (id ∷ ids) = ap (λ (rest : List ℤ). id ∷ (take 127 ids ++ rest)) (ids-past 127 ids) ∙ ap (λ (rest : List ℤ). id ∷ rest) (take-append-drop 127 ids)
+
+pub ids-pages_of : (ids : List ℤ) → ids_of_pages (pages_of ids) ≡ ids
+ids-pages_of ids = ids-past 0 ids
+
+filled_cons : (page : Page) (pages : List Page) → length page.others ≡ 127 → IsFilled pages → IsFilled (page ∷ pages)
+filled_cons page [] full h = omega arith
+filled_cons page (next ∷ pages) full h = (full, h)
+
+filled_past : (skip : ℕ) (ids : List ℤ) → IsFilled (pages_past skip ids)
+unfolding pages_past
+filled_past skip [] = tt
+filled_past (suc skip) (id ∷ ids) = filled_past skip ids
+filled_past zero (id ∷ ids) =
+    let page : Page = record { first = id; others = take 127 ids } in
+    elim (cases_lt 127 (length ids)) [
+      | inl more ↦ filled_cons page (pages_past 127 ids) (length-take-le 127 ids (omega arith)) (filled_past 127 ids)
+      | inr few ↦ subst (λ (pages : List Page). IsFilled (page ∷ pages)) (sym (past_all ids 127 few)) (omega (arith, length-take 127 ids))
+    ]
+
+pub filled_pages_of : (ids : List ℤ) → IsFilled (pages_of ids)
+filled_pages_of ids = filled_past 0 ids

@@ -1,8 +1,9 @@
 -- Rising ids, and where an id can stand among them.
-use Rattle.std.proofs.Common.{◌≡◌, ℕ, suc, ◌+◌, ◌<◌, Bool, true, false, ◌||◌, ◌⊎◌, inl, inr, not, List, [], ◌∷◌, ◌++◌, length, ℤ, ◌<ℤ◌, ◌≤ℤ◌, refl, sym, ap, ◌∙◌, arith, Less, Equal, Greater, true≢false}
-use Rattle.std.specs.List.{list_any, AllByRecursion}
+use Rattle.std.proofs.Common.{◌≡◌, Bool, true, false, ◌||◌, ◌⊎◌, inl, inr, List, [], ◌∷◌, ◌++◌, length, ℤ, ◌<ℤ◌, ◌≤ℤ◌, refl, sym, ap, ◌∙◌, arith, Less, Equal, Greater, true≢false}
+use Rattle.std.specs.List.{list_any}
 use Rattle.std.specs.List.Sorted.{IsStrictlySortedBy}
-use Rattle.std.specs.Ordering.{int_eq, int_cmp}
+use Rattle.std.specs.BTreeSet.{insert_key}
+use Rattle.std.specs.Ordering.{int_eq, int_cmp, match_ordering}
 use Rattle.std.specs.Cmp.{int_cmp_total, int_ranked}
 use Rattle.std.specs.FinSet as set
 use Rattle.std.proofs.lemmas.Bool.{false_from_ne_true}
@@ -10,8 +11,8 @@ use Rattle.std.proofs.lemmas.Bool.Decides.{Decides-int_eq}
 use Rattle.std.proofs.lemmas.Int.{ints}
 use Rattle.std.proofs.lemmas.Map.Keys.{sorted_head, sorted_tail}
 use Rattle.std.proofs.lemmas.List.Folds.{list_any-append}
-use Rattle.osm_ids.proofs.Sets.{ids_of, contains-ids_of}
-use Rattle.osm_ids.specs.Pages.{Rises, IsRising, AllFit}
+use Rattle.osm_ids.proofs.Sets.{Ids, ids_of, contains-ids_of, ids_of-insert_key}
+use Rattle.osm_ids.specs.Pages.{Rises, IsRising}
 
 pub other : (a b : ℤ) → (a ≡ b → ⊥) → int_eq a b ≡ false
 other a b ne = false_from_ne_true (int_eq a b) (λ e. ne ((Decides-int_eq a b).0 e))
@@ -131,3 +132,43 @@ same_rising (x ∷ xs) (y ∷ ys) h k alike =
 -- the rising list of a set is the only one
 pub rising_of_set : (xs ys : List ℤ) → IsRising xs → IsRising ys → ids_of xs ≡ ids_of ys → xs ≡ ys
 rising_of_set xs ys h k e = same_rising xs ys h k (λ id. sym (contains-ids_of xs id) ∙ ap (λ s. set.contains s id) e ∙ contains-ids_of ys id)
+
+-- ---- and it has one
+
+insert_rises : (low : ℤ) (ids : List ℤ) (new : ℤ) → low <ℤ new → Rises low ids → Rises low (insert_key int_cmp ids new)
+insert_rises low [] new above h = (above, tt)
+insert_rises low (x ∷ ids) new above h =
+    elim (int_cmp new x) as (λ r. int_cmp new x ≡ r → Rises low (match_ordering r (new ∷ x ∷ ids) (x ∷ ids) (x ∷ insert_key int_cmp ids new))) [
+      | Less ↦ λ e. (above, (int_ranked new x Less (sym e), h.1))
+      | Equal ↦ λ _. h
+      | Greater ↦ λ e. (h.0, insert_rises x ids new (int_ranked new x Greater (sym e)) h.1)
+    ] refl
+
+insert_rising : (ids : List ℤ) (new : ℤ) → IsRising ids → IsRising (insert_key int_cmp ids new)
+insert_rising [] new h = tt
+insert_rising (x ∷ ids) new h =
+    elim (int_cmp new x) as (λ r. int_cmp new x ≡ r → IsRising (match_ordering r (new ∷ x ∷ ids) (x ∷ ids) (x ∷ insert_key int_cmp ids new))) [
+      | Less ↦ λ e. (int_ranked new x Less (sym e), h)
+      | Equal ↦ λ _. h
+      | Greater ↦ λ e. insert_rises x ids new (int_ranked new x Greater (sym e)) h
+    ] refl
+
+in_order : List ℤ → List ℤ
+in_order [] = []
+in_order (id ∷ ids) = insert_key int_cmp (in_order ids) id
+
+in_order_rises : (ids : List ℤ) → IsRising (in_order ids)
+unfolding in_order
+in_order_rises [] = tt
+in_order_rises (id ∷ ids) = insert_rising (in_order ids) id (in_order_rises ids)
+
+ids_of-in_order : (ids : List ℤ) → ids_of (in_order ids) ≡ ids_of ids
+unfolding in_order
+ids_of-in_order [] = refl
+ids_of-in_order (id ∷ ids) = ids_of-insert_key (in_order ids) id ∙ ap (λ s. set.insert s id) (ids_of-in_order ids)
+
+ids_of-items : (s : Ids) → ids_of (set.items s) ≡ s
+ids_of-items s = set.same_set int_cmp_total set.int_cmp-IsAntisymmetric _ _ (λ id. contains-ids_of (set.items s) id ∙ sym (set.contains-items s id))
+
+pub rising_list : (s : Ids) → (ids : List ℤ) × IsRising ids × (ids_of ids ≡ s)
+rising_list s = (in_order (set.items s), in_order_rises (set.items s), ids_of-in_order (set.items s) ∙ ids_of-items s)

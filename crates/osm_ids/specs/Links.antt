@@ -1,7 +1,7 @@
 -- Links between ids, and the least set that follows them.
 use Rattle.std.specs.Prelude.{◌≡◌, refl, ◌≤◌, ◌*◌, ◌+◌, ℕ, ℤ, Bool, true, not, ◌⊎◌, List, length, FitsSigned}
 use Rattle.std.specs.Int.{w64}
-use Rattle.std.specs.List.{All, list_any, count_by}
+use Rattle.std.specs.List.{list_any, count_by}
 use Rattle.std.specs.Coded.{Coded, code_by, coded×, coded_ℤ}
 use Rattle.std.specs.declared.cmp.Ordering.{Ordering}
 use Rattle.std.specs.Ordering.{int_cmp, int_eq, ordering_then, eq_by_cmp}

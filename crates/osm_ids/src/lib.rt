@@ -2,6 +2,7 @@
 //! ids name.
 #![tactic(auto)]
 
+pub mod laws;
 mod links;
 mod page;
 mod pages;
@@ -10,3 +11,6 @@ mod set;
 pub use links::{Link, Links};
 pub use pages::{PageStart, SealedIds};
 pub use set::IdSet;
+
+#[cfg(test)]
+mod tests;

@@ -3,6 +3,7 @@
 ghost use Rattle.std.specs.Prelude.{◌≡◌, not, IfOk, OnOk, OnErr};
 ghost use Rattle.std.specs.List.{filter};
 ghost use Rattle.std.specs.FinSet as set;
+ghost use Rattle.osm_ids.specs.Links.{ParentsFit, IsAdded, IsLeast, is_of};
 
 use crate::set::IdSet;
 use std::alloc::{AllocError, Global};
@@ -37,8 +38,6 @@ impl Model for Links {
 }
 
 impl Links {
-    ghost use Rattle.osm_ids.specs.Links.{IsLeast};
-
     /// No links, which take no memory yet.
     pub fn new(alloc: Global) -> Links
         ensures { result ≡ set.empty }
@@ -70,8 +69,6 @@ impl Links {
     }
 }
 
-ghost use Rattle.osm_ids.specs.Links.{ParentsFit, IsAdded, is_of};
-
 /// The links whose member is the id.
 fn links_of(links: &BTreeSet<Link>, id: i64) -> Range<'_, Link>
     requires { ParentsFit links.now.keys }
@@ -99,9 +96,11 @@ fn add_parents(
     ensures { OnOk result (IsAdded links.now.keys id ids.old work.old.items ids.new work.new.items) }
 {
     for link in links_of(links, id) {
-        if ids.add(link.parent)? {
-            work.push(link.parent)?;
+        let is_new = ids.add(link.parent)?;
+        if !is_new {
+            continue;
         }
+        work.push(link.parent)?;
     }
     Ok(())
 }

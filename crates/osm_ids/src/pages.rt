@@ -4,6 +4,7 @@ ghost use Rattle.std.specs.Prelude.{◌≡◌, ◌-◌, ◌≤◌, take, drop, t
 ghost use Rattle.std.specs.Int.{div_ceil};
 ghost use Rattle.std.specs.List.Sorted.{IsPartitionedBy, IsPartitionPoint};
 ghost use Rattle.std.specs.FinSet as set;
+ghost use Rattle.osm_ids.specs.Pages.{IsRising, pages_of, bytes_of_pages};
 
 use crate::page::page_has;
 use pbf_wire::put_varint;
@@ -48,8 +49,6 @@ impl Model for SealedIds {
 const OTHERS: u8 = 127;
 
 impl SealedIds {
-    ghost use Rattle.osm_ids.specs.Pages.{IsRising, pages_of, bytes_of_pages};
-
     /// The ids of an ordered set.
     pub(crate) fn of(alloc: Global, ids: &BTreeSet<i64>) -> Result<SealedIds, AllocError>
         ensures { IfOk result (λ sealed. sealed ≡ set.from_list ids.now.keys) }

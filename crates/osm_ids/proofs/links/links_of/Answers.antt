@@ -1,4 +1,4 @@
-use Rattle.std.proofs.Common.{◌≡◌, ℤ, negsuc, pos, ◌≤ℤ◌, FitsSigned, ap, subst, sym, ◌∙◌, arith, to_z, of_z, w64}
+use Rattle.std.proofs.Common.{ℤ, negsuc, pos, ◌≤ℤ◌, FitsSigned, ap, ◌∙◌, arith, to_z, of_z, w64}
 use Rattle.std.specs.List.{filter}
 use Rattle.std.specs.declared.ops.Bound.TheVariants.{Included}
 use Rattle.std.specs.BTreeMap.Range.{range_contains}

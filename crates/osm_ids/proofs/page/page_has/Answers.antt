@@ -1,7 +1,7 @@
-use Rattle.std.proofs.Common.{◌≡◌, ◌≤◌, ◌<ℤ◌, ◌≤ℤ◌, ◌+ℤ◌, pos, Bool, false, refl, arith, ap, subst, sym, ◌∙◌, nat_eq, to_z, of_z, w64}
+use Rattle.std.proofs.Common.{◌<ℤ◌, refl, arith, subst, sym, ◌∙◌, to_z, of_z, w64}
 use Rattle.std.proofs.lemmas.Int.{ints, to_z-of_z}
 use mir.Val.{SFits}
-use Rattle.osm_ids.proofs.Reading.{IsAt, Next, Reads, next, start, reads_start, reads_as, reads_next, turn_at, answer_past, answer_end, same_bits}
+use Rattle.osm_ids.proofs.Reading.{IsAt, next, reads_start, reads_as, reads_next, turn_at, answer_past, answer_end, same_bits}
 use Rattle.osm_ids.proofs.page.page_has.Goals as goal
 use Rattle.osm_ids.proofs.page.page_has.Goals.{then-loop-last-test+else-at-bytes, else-loop-last-test}
 

@@ -1,4 +1,4 @@
-use Rattle.std.proofs.Common.{◌≡◌, Bool, not, ap, subst, sym, ◌∙◌, to_z, of_z, w64, FitsSigned}
+use Rattle.std.proofs.Common.{◌≡◌, Bool, not, ap, subst, sym, ◌∙◌, to_z, of_z, w64}
 use Rattle.std.specs.BTreeSet.{insert_key}
 use Rattle.std.specs.FinSet as set
 use Rattle.std.proofs.lemmas.Int.{to_z-of_z}

@@ -1,11 +1,10 @@
-use Rattle.std.proofs.Common.{◌≡◌, ◌∷◌, [], ◌++◌, ◌-◌, ℤ, ℕ, List, length, sym, ap, subst, ◌∙◌, refl, arith, rules, to_z, of_z, w64, length-append}
+use Rattle.std.proofs.Common.{◌≡◌, ◌∷◌, [], ◌++◌, ◌-◌, ℤ, length, sym, ap, subst, ◌∙◌, arith, rules, to_z, w64}
 use mir.Val.{SFits}
 use Rattle.std.specs.Map.Iter.{deref}
 use Rattle.std.proofs.lemmas.Int.{to_z-of_z}
 use Rattle.std.proofs.lemmas.Map.Iter.{rest_more, rest_all}
-use Rattle.osm_ids.specs.declared.pages.PageStart.{PageStart}
 use Rattle.pbf_wire.specs.Varint.{shortest}
-use Rattle.osm_ids.specs.Pages.{gap, ids_of_pages}
+use Rattle.osm_ids.specs.Pages.{gap}
 use Rattle.osm_ids.proofs.Sets.{ids_of}
 use Rattle.osm_ids.proofs.Rising.{rising_from_sorted}
 use Rattle.osm_ids.proofs.Laid.{Grown, grown_page, grown_id, grown_sealed, all_ids, ids_in_sealed}
