@@ -62,6 +62,48 @@ fn ids_of_known_sizes(rt: HostRuntime) -> Result<(), AllocError> {
     Ok(())
 }
 
+/// The set is as before after an `add` that is refused, and is handed back by a `seal` that is: both can be tried again.
+#[test]
+fn refused_once_and_tried_again(rt: HostRuntime) -> Result<(), AllocError> {
+    let mut set = IdSet::new(rt.alloc());
+    for id in 0..300i64 {
+        match set.add(3 * id) {
+            Ok(is_new) => assert!(rt; is_new),
+            Err(_) => assert!(rt; set.add(3 * id)?),
+        }
+    }
+    let ids = match set.seal() {
+        Ok(ids) => ids,
+        Err((set, _)) => sealed(set)?,
+    };
+    assert_eq!(rt; (ids.count(), ids.pages(), ids.bytes()), (300, 3, 297));
+    assert!(rt; ids.has(0) && ids.has(384) && ids.has(897) && !ids.has(385));
+    Ok(())
+}
+
+/// The links are as before after an `add` that is refused. A refused `close` says so.
+#[test]
+fn links_refused_once(rt: HostRuntime) -> Result<(), AllocError> {
+    let mut links = Links::new(rt.alloc());
+    for member in 0..100i64 {
+        match links.add(member, member + 1) {
+            Ok(is_new) => assert!(rt; is_new),
+            Err(_) => assert!(rt; links.add(member, member + 1)?),
+        }
+    }
+    let mut start = IdSet::new(rt.alloc());
+    if start.add(90).is_err() {
+        assert!(rt; start.add(90)?);
+    }
+    if let Ok(ids) = links.close(start) {
+        match ids.seal() {
+            Ok(ids) => assert!(rt; ids.count() == 11 && ids.has(100) && !ids.has(89)),
+            Err((ids, _)) => assert_eq!(rt; sealed(ids)?.count(), 11),
+        }
+    }
+    Ok(())
+}
+
 /// Relations by their members, and the ids that the start then holds.
 fn closed(alloc: Global, links: &[(i64, i64)], start: &[i64]) -> Result<SealedIds, AllocError> {
     let mut all = Links::new(alloc);
