@@ -159,7 +159,7 @@ pub record Looked (index : List PageStart) (bytes : List ℕ) (id : ℤ) (start 
   pub spelled : take (end - start.place) (drop start.place bytes) ≡ spelled_after start.first others
   pub answer : list_any (int_eq id) (start.first ∷ others) ≡ list_any (int_eq id) (ids_in index bytes)
 
-pub looked : (index : List PageStart) (bytes : List ℕ) (pages : List Page) (id : ℤ) (j : ℕ) (start : PageStart) (end : ℕ) → IsSealed index bytes pages → IsPassedAt index id (suc j) → suc j ≤ length index → start ≡ get_or index j start → EndsAt index bytes (suc j) end → Looked index bytes id start end
+looked : (index : List PageStart) (bytes : List ℕ) (pages : List Page) (id : ℤ) (j : ℕ) (start : PageStart) (end : ℕ) → IsSealed index bytes pages → IsPassedAt index id (suc j) → suc j ≤ length index → start ≡ get_or index j start → EndsAt index bytes (suc j) end → Looked index bytes id start end
 looked index bytes pages id j start end sealed point lt is ends =
     let r = page_at 0 j pages (omega (arith, ap length sealed.starts)) in
     let page = r.page in
@@ -209,6 +209,12 @@ pub passed : (index seen_index : List PageStart) (bytes : List ℕ) (pages : Lis
 passed index seen_index bytes pages id seen n sealed e f point =
     let parted = partitioned seen_index pages seen (e ∙ sealed.starts) sealed.rising in
     subst (λ z. IsPassedAt index z n) f (subst (λ i. IsPassedAt i seen n) e (point parted))
+
+-- the page before the place that the search answers
+pub looked_before : (index : List PageStart) (bytes : List ℕ) (pages : List Page) (id : ℤ) (after : ℕ) (start : PageStart) (end : ℕ) → IsSealed index bytes pages → IsPassedAt index id after → 0 < after → after ≤ length index → start ≡ get_or index (after - 1) start → EndsAt index bytes after end → Looked index bytes id start end
+looked_before index bytes pages id after start end sealed point some le is ends =
+    let next : suc (after - 1) ≡ after = omega arith in
+    looked index bytes pages id (after - 1) start end sealed (subst (IsPassedAt index id) (sym next) point) (omega arith) is (subst (λ n. EndsAt index bytes n end) (sym next) ends)
 
 -- what a look-up in one page answers, likewise
 pub page_answer : (first seen_first id seen_id : ℤ) (bytes : List ℕ) (r : Bool) → seen_first ≡ first → seen_id ≡ id → ((others : List ℤ) → Rises seen_first others → AllFit (seen_first ∷ others) → bytes ≡ spelled_after seen_first others → r ≡ list_any (int_eq seen_id) (seen_first ∷ others)) → (others : List ℤ) → Rises first others → AllFit (first ∷ others) → bytes ≡ spelled_after first others → r ≡ list_any (int_eq id) (first ∷ others)

@@ -92,10 +92,10 @@ Reads first id bytes last at = (others : List ℤ) → Rises first others → Al
 pub reads_start : (first id : ℤ) (bytes : List ℕ) → Reads first id bytes first 0
 reads_start first id bytes others rises fits e = start first others id bytes rises fits e
 
--- the same at equal numbers
-pub reads_as : (first first' id id' : ℤ) (bytes : List ℕ) (last last' : ℤ) (at : ℕ) → first ≡ first' → id ≡ id' → last ≡ last' → Reads first id bytes last at → Reads first' id' bytes last' at
-reads_as first first' id id' bytes last last' at e f g h =
-    subst (λ z. Reads first' id' bytes z at) g (subst (λ z. Reads first' z bytes last at) f (subst (λ z. Reads z id bytes last at) e h))
+-- the same at the numbers that the code keeps as bits
+pub reads_here : (first id : ℤ) (bytes : List ℕ) (last : ℤ) (at : ℕ) → FitsSigned w64 first → FitsSigned w64 id → Reads (to_z w64 (of_z w64 first)) (to_z w64 (of_z w64 id)) bytes last at → Reads first id bytes last at
+reads_here first id bytes last at f g h =
+    subst (λ z. Reads first z bytes last at) (to_z-of_z w64 id g) (subst (λ z. Reads z (to_z w64 (of_z w64 id)) bytes last at) (to_z-of_z w64 first f) h)
 
 same_int : (n : ℕ) (id : ℤ) → n < 2 ^ 64 → FitsSigned w64 id → n ≡ of_z w64 id → id ≡ to_z w64 n
 same_int n id h fits e = sym (ap (to_z w64) e ∙ to_z-of_z w64 id fits)
