@@ -1,0 +1,4 @@
+pub mod Filters
+pub mod Extracts
+pub mod Levels
+pub mod ParentLaws

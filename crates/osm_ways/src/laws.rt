@@ -1,0 +1,29 @@
+//! The laws of the selection. Each is the contract of a function that does nothing: a proof that needs the law calls it, or
+//! takes the lemma of that name from this crate's `proofs/`.
+
+ghost use Rattle.std.specs.Prelude.{◌≡◌, List, map};
+ghost use Rattle.std.specs.Ordering.{int_cmp};
+ghost use Rattle.std.specs.FinSet as set;
+ghost use Rattle.osm_ids.specs.Links.{IsLeast};
+ghost use Rattle.osm_ways.specs.Selection.{Seen, node_ids, way_ids, extract};
+ghost use Rattle.osm_ways.specs.Parents.{IsLeastSelected, relation_ids, extract_with_parents, links_in, start_in};
+
+/// An extract of an extract is the extract, with and without parents.
+pub fn extract_twice_is_once()
+    ensures ways { (look : Seen → Seen) (xs : List Seen) → extract look (extract look xs) ≡ extract look xs }
+    ensures parents { (look : Seen → Seen) (xs : List Seen) → extract_with_parents look (extract_with_parents look xs) ≡ extract_with_parents look xs }
+{}
+
+/// Where two views of an entity look alike to the selection, the extract of the one is the one view of the extract.
+pub fn extract_follows_view()
+    ensures ways { (view look other : Seen → Seen) → ((x : Seen) → other (view x) ≡ look x) → (xs : List Seen) → map view (extract look xs) ≡ extract other (map view xs) }
+    ensures parents { (view look other : Seen → Seen) → ((x : Seen) → other (view x) ≡ look x) → (xs : List Seen) → map view (extract_with_parents look xs) ≡ extract_with_parents other (map view xs) }
+{}
+
+/// The relations that are kept with all parents are the least set that has the id of each relation with a node member, a way
+/// member or a relation member that is kept; and it is the least set over the links from each relation member to its relation
+/// that holds the relations which nodes and ways select.
+pub fn parents_are_least()
+    ensures least { (seen : List Seen) → IsLeastSelected (node_ids seen) (way_ids seen) seen (relation_ids seen) }
+    ensures links { (seen : List Seen) (start ids : set.FinSet int_cmp) → set.contains start ≡ start_in seen → IsLeast (links_in seen) start ids → set.contains ids ≡ relation_ids seen }
+{}
