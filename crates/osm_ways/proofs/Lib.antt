@@ -2,3 +2,4 @@ pub mod Filters
 pub mod Extracts
 pub mod Levels
 pub mod ParentLaws
+pub mod Passes

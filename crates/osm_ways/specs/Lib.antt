@@ -1,2 +1,3 @@
 pub mod Selection
 pub mod Parents
+pub mod Phases
