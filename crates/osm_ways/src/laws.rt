@@ -10,15 +10,15 @@ ghost use Rattle.osm_ways.specs.Parents.{IsLeastSelected, relation_ids, keeps_wi
 ghost use Rattle.osm_ways.specs.Phases.{way_pass, relation_pass, is_chosen, is_chosen_with_parents};
 
 /// An extract of an extract is the extract, with and without parents.
-pub fn extract_twice_is_once()
-    ensures ways { (look : Seen → Seen) (xs : List Seen) → extract look (extract look xs) ≡ extract look xs }
-    ensures parents { (look : Seen → Seen) (xs : List Seen) → extract_with_parents look (extract_with_parents look xs) ≡ extract_with_parents look xs }
+pub fn extract_twice_is_once<X>()
+    ensures ways { (look : X → Seen) (xs : List X) → extract look (extract look xs) ≡ extract look xs }
+    ensures parents { (look : X → Seen) (xs : List X) → extract_with_parents look (extract_with_parents look xs) ≡ extract_with_parents look xs }
 {}
 
 /// Where two views of an entity look alike to the selection, the extract of the one is the one view of the extract.
-pub fn extract_follows_view()
-    ensures ways { (view look other : Seen → Seen) → ((x : Seen) → other (view x) ≡ look x) → (xs : List Seen) → map view (extract look xs) ≡ extract other (map view xs) }
-    ensures parents { (view look other : Seen → Seen) → ((x : Seen) → other (view x) ≡ look x) → (xs : List Seen) → map view (extract_with_parents look xs) ≡ extract_with_parents other (map view xs) }
+pub fn extract_follows_view<X, Y>()
+    ensures ways { (view : X → Y) (look : X → Seen) (other : Y → Seen) → ((x : X) → other (view x) ≡ look x) → (xs : List X) → map view (extract look xs) ≡ extract other (map view xs) }
+    ensures parents { (view : X → Y) (look : X → Seen) (other : Y → Seen) → ((x : X) → other (view x) ≡ look x) → (xs : List X) → map view (extract_with_parents look xs) ≡ extract_with_parents other (map view xs) }
 {}
 
 /// The relations that are kept with all parents are the least set that has the id of each relation with a node member, a way

@@ -4,7 +4,7 @@ use Rattle.osm_ways.proofs.Extracts.{chosen_viewed}
 use Rattle.osm_ways.proofs.laws.extract_follows_view.Goals as goal
 
 pub returns-clause-ways : goal.returns-clause-ways
-returns-clause-ways c = chosen_viewed keeps
+returns-clause-ways g c = chosen_viewed keeps
 
 pub returns-clause-parents : goal.returns-clause-parents
-returns-clause-parents c = chosen_viewed keeps_with_parents
+returns-clause-parents g c = chosen_viewed keeps_with_parents

@@ -5,7 +5,7 @@ use Rattle.osm_ways.proofs.ParentLaws.{keeps_with_parents_settled}
 use Rattle.osm_ways.proofs.laws.extract_twice_is_once.Goals as goal
 
 pub returns-clause-ways : goal.returns-clause-ways
-returns-clause-ways c = chosen_twice keeps keeps_settled
+returns-clause-ways g c = chosen_twice keeps keeps_settled
 
 pub returns-clause-parents : goal.returns-clause-parents
-returns-clause-parents c = chosen_twice keeps_with_parents keeps_with_parents_settled
+returns-clause-parents g c = chosen_twice keeps_with_parents keeps_with_parents_settled
