@@ -9,7 +9,7 @@ mod pages;
 mod set;
 
 pub use links::{Link, Links};
-pub use pages::{PageStart, SealedIds};
+pub use pages::SealedIds;
 pub use set::IdSet;
 
 #[cfg(test)]

@@ -56,7 +56,8 @@ impl Links {
         Ok(self.links.insert(Link { member, parent })?)
     }
 
-    /// The least set that holds the start and the parent of each link whose member it holds. A refusal leaves neither.
+    /// The least set that holds the start and the parent of each link whose member it holds. The links of each id are looked up
+    /// once, so the time is near to linear in the links. A refusal leaves neither start nor links.
     pub fn close(self, start: IdSet) -> Result<IdSet, AllocError>
         ensures { IfOk result (λ ids. IsLeast (set.contains self) start ids) }
     {

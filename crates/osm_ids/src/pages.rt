@@ -13,10 +13,10 @@ use std::collections::BTreeSet;
 use std::marker::Model;
 
 /// Where a page begins: its first id, and the place of its other ids' bytes.
-#[derive(Clone, Copy, Debug, PartialEq, Eq)]
-pub struct PageStart {
-    pub first: i64,
-    pub place: usize,
+#[derive(Clone, Copy)]
+pub(crate) struct PageStart {
+    first: i64,
+    place: usize,
 }
 
 /// A set of ids that no longer grows: the ids in rising order, in pages of 128, the last of at most as many. The index holds
@@ -107,7 +107,7 @@ impl SealedIds {
         self.index.len() as u64
     }
 
-    /// How many bytes spell the ids of all pages, the first of each page apart.
+    /// How many bytes spell the ids of all pages, the first of each page apart. A set has one rising list, so this is one number.
     pub fn bytes(&self) -> u64
         ensures { (ids : List ℤ) → IsRising ids → set.from_list ids ≡ self.now → result ≡ length (bytes_of_pages (pages_of ids)) }
     {
