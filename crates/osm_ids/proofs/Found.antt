@@ -1,0 +1,223 @@
+-- The page in which an id can stand.
+use Rattle.std.proofs.Common.{◌≡◌, ℕ, zero, suc, ◌+◌, ◌-◌, ◌<◌, ◌≤◌, ◌⊎◌, Bool, true, false, List, [], ◌∷◌, ◌++◌, length, take, drop, get_or, ℤ, ◌<ℤ◌, ◌≤ℤ◌, int_le, inl, inr, refl, sym, ap, subst, ◌∙◌, arith, length-append}
+use Rattle.std.specs.List.{list_any}
+use Rattle.std.specs.List.Sorted.{IsPartitionedBy, IsPartitionPoint}
+use Rattle.std.specs.Ordering.{int_eq}
+use Rattle.std.proofs.lemmas.Int.{ints}
+use Rattle.std.proofs.lemmas.Grind.{flat_map-append}
+use Rattle.std.proofs.Math.Seq.{drop-append_seam, take-append_seam}
+use Rattle.osm_ids.specs.declared.pages.PageStart.{PageStart}
+use Rattle.osm_ids.specs.Pages.{Page, page_ids, page_bytes, ids_of_pages, bytes_of_pages, starts_from, Rises, IsRising, AllFit, IsSealed, ids_in}
+use Rattle.osm_ids.proofs.Gaps.{spelled_after}
+use Rattle.osm_ids.proofs.Laid.{ids_in_sealed, fits_front, fits_back}
+use Rattle.osm_ids.proofs.Rising.{other_above, rises_front, rising_back, rising_tail, none_below, none_above, any_in_middle}
+
+pub le_true : (a b : ℤ) → int_le a b ≡ true → a ≤ℤ b
+le_true a b e = grind (arith, ints)
+
+pub le_false : (a b : ℤ) → int_le a b ≡ false → b <ℤ a
+le_false a b e = grind (arith, ints)
+
+pub true_le : (a b : ℤ) → a ≤ℤ b → int_le a b ≡ true
+true_le a b h = grind (arith, ints)
+
+-- ---- the first ids rise
+
+rises_from : (low x : ℤ) (ids : List ℤ) → low <ℤ x → Rises x ids → Rises low ids
+rises_from low x [] h r = tt
+rises_from low x (id ∷ ids) h r = let up = r.0 in (omega (arith, ints), r.1)
+
+rises_skip : (low : ℤ) (xs ys : List ℤ) → Rises low (xs ++ ys) → Rises low ys
+rises_skip low [] ys h = h
+rises_skip low (x ∷ xs) ys h = rises_from low x ys h.0 (rises_skip x xs ys h.1)
+
+first_above : (low : ℤ) (at : ℕ) (pages : List Page) (j : ℕ) (d : PageStart) → Rises low (ids_of_pages pages) → j < length (starts_from at pages) → low <ℤ (get_or (starts_from at pages) j d).first
+first_above low at [] j d h lt = absurd (omega arith)
+first_above low at (page ∷ pages) zero d h lt = h.0
+first_above low at (page ∷ pages) (suc j) d h lt =
+    let up = first_above page.first (at + length (page_bytes page)) pages j d (rises_skip page.first page.others (ids_of_pages pages) h.1) (omega arith) in
+    let low_first = h.0 in
+    omega (arith, ints)
+
+rising_rest : (page : Page) (pages : List Page) → IsRising (ids_of_pages (page ∷ pages)) → IsRising (ids_of_pages pages)
+rising_rest page pages h = rising_tail page.first (ids_of_pages pages) (rises_skip page.first page.others (ids_of_pages pages) h)
+
+firsts_rise : (at : ℕ) (pages : List Page) (i j : ℕ) (d : PageStart) → IsRising (ids_of_pages pages) → i ≤ j → j < length (starts_from at pages) → (get_or (starts_from at pages) i d).first ≤ℤ (get_or (starts_from at pages) j d).first
+firsts_rise at [] i j d h le lt = absurd (omega arith)
+firsts_rise at (page ∷ pages) zero zero d h le lt = omega (arith, ints)
+firsts_rise at (page ∷ pages) zero (suc j) d h le lt =
+    let up = first_above page.first (at + length (page_bytes page)) pages j d (rises_skip page.first page.others (ids_of_pages pages) h) (omega arith) in
+    omega (arith, ints)
+firsts_rise at (page ∷ pages) (suc i) zero d h le lt = absurd (omega arith)
+firsts_rise at (page ∷ pages) (suc i) (suc j) d h le lt = firsts_rise (at + length (page_bytes page)) pages i j d (rising_rest page pages h) (omega arith) (omega arith)
+
+-- so a search by halves finds where they pass an id
+pub partitioned : (index : List PageStart) (pages : List Page) (id : ℤ) → index ≡ starts_from 0 pages → IsRising (ids_of_pages pages) → IsPartitionedBy (λ (s : PageStart). int_le s.first id) index
+partitioned index pages id e h =
+    subst (IsPartitionedBy (λ (s : PageStart). int_le s.first id)) (sym e)
+    (λ i j d le lt yes.
+    let rise = firsts_rise 0 pages i j d h le lt in
+    let at_j = le_true (get_or (starts_from 0 pages) j d).first id yes in
+    true_le (get_or (starts_from 0 pages) i d).first id (omega (arith, ints)))
+
+-- ---- the page at a place of the index
+
+pub record PageAt (at j : ℕ) (pages : List Page) : Type 0 where
+  pub before : List Page
+  pub page : Page
+  pub after : List Page
+  pub whole : pages ≡ before ++ page ∷ after
+  pub here : (d : PageStart) → get_or (starts_from at pages) j d ≡ record { first = page.first; place = at + length (bytes_of_pages before) }
+  pub next : ((after ≡ []) × (length (starts_from at pages) ≡ suc j)) ⊎ ((later : Page) × (rest : List Page) × (after ≡ later ∷ rest) × (suc j < length (starts_from at pages)) × ((d : PageStart) → get_or (starts_from at pages) (suc j) d ≡ record { first = later.first; place = at + length (bytes_of_pages before) + length (page_bytes page) }))
+
+pub page_at : (at j : ℕ) (pages : List Page) → j < length (starts_from at pages) → PageAt at j pages
+page_at at j [] h = absurd (omega arith)
+page_at at zero (page ∷ []) h =
+    record { before = []; page = page; after = []; whole = refl; here = λ d. ap (λ k. record { first = page.first; place = k }) (omega arith); next = inl (refl, refl) }
+page_at at zero (page ∷ later ∷ rest) h =
+    record {
+      before = [];
+      page = page;
+      after = later ∷ rest;
+      whole = refl;
+      here = λ d. ap (λ k. record { first = page.first; place = k }) (omega arith);
+      next = inr (later, rest, refl, omega arith, λ d. ap (λ k. record { first = later.first; place = k }) (omega arith));
+    }
+page_at at (suc j) (page ∷ pages) h =
+    let r = page_at (at + length (page_bytes page)) j pages (omega arith) in
+    let sum : (at + length (page_bytes page)) + length (bytes_of_pages r.before) ≡ at + length (page_bytes page ++ bytes_of_pages r.before) = omega (arith, length-append (page_bytes page) (bytes_of_pages r.before)) in
+    record {
+      before = page ∷ r.before;
+      page = r.page;
+      after = r.after;
+      whole = ap (λ s. page ∷ s) r.whole;
+      here = λ d. r.here d ∙ ap (λ k. record { first = r.page.first; place = k }) sum;
+      next = elim r.next [
+        | inl last ↦ inl (last.0, ap suc last.1)
+        | inr more ↦ inr (more.0, more.1, more.2, omega (arith, more.3), λ d. more.4 d ∙ ap (λ k. record { first = more.0.first; place = k + length (page_bytes r.page) }) sum)
+      ];
+    }
+
+-- the bytes of the page
+pub cut_page : (bytes : List ℕ) (pages before : List Page) (page : Page) (after : List Page) (place end : ℕ) → bytes ≡ bytes_of_pages pages → pages ≡ before ++ page ∷ after → place ≡ length (bytes_of_pages before) → end ≡ place + length (page_bytes page) → take (end - place) (drop place bytes) ≡ page_bytes page
+cut_page bytes pages before page after place end spelled whole at_place at_end =
+    let parts : bytes ≡ bytes_of_pages before ++ (page_bytes page ++ bytes_of_pages after) = spelled ∙ ap bytes_of_pages whole ∙ flat_map-append page_bytes before (page ∷ after) in
+    let size : end - place ≡ length (page_bytes page) = omega arith in
+    rw (size, at_place, parts, drop-append_seam (bytes_of_pages before) (page_bytes page ++ bytes_of_pages after)) (take-append_seam (page_bytes page) (bytes_of_pages after))
+
+pub within_bytes : (bytes : List ℕ) (pages before : List Page) (page : Page) (after : List Page) → bytes ≡ bytes_of_pages pages → pages ≡ before ++ page ∷ after → length bytes ≡ length (bytes_of_pages before) + length (page_bytes page) + length (bytes_of_pages after)
+within_bytes bytes pages before page after spelled whole =
+    let parts : bytes ≡ bytes_of_pages before ++ (page_bytes page ++ bytes_of_pages after) = spelled ∙ ap bytes_of_pages whole ∙ flat_map-append page_bytes before (page ∷ after) in
+    omega (arith, ap length parts, length-append (bytes_of_pages before) (page_bytes page ++ bytes_of_pages after), length-append (page_bytes page) (bytes_of_pages after))
+
+-- ---- membership
+
+-- all of the ids of these pages are above id
+pub none_in : (pages : List Page) (id : ℤ) → IsRising (ids_of_pages pages) → ((page : Page) (rest : List Page) → pages ≡ page ∷ rest → id <ℤ page.first) → list_any (int_eq id) (ids_of_pages pages) ≡ false
+none_in [] id h above = refl
+none_in (page ∷ pages) id h above =
+    let up = above page pages refl in
+    rw (other_above id page.first up) (none_above page.first (page.others ++ ids_of_pages pages) id h (omega (arith, ints)))
+
+pub found_in_page : (pages before : List Page) (page : Page) (after : List Page) (id : ℤ) → pages ≡ before ++ page ∷ after → IsRising (ids_of_pages pages) → page.first ≤ℤ id → ((later : Page) (rest : List Page) → after ≡ later ∷ rest → id <ℤ later.first) → list_any (int_eq id) (ids_of_pages pages) ≡ list_any (int_eq id) (page_ids page)
+found_in_page pages before page after id whole rising low above =
+    let parts : ids_of_pages pages ≡ ids_of_pages before ++ (page_ids page ++ ids_of_pages after) = ap ids_of_pages whole ∙ flat_map-append page_ids before (page ∷ after) in
+    let all = subst IsRising parts rising in
+    let not_before = none_below (ids_of_pages before) page.first (page.others ++ ids_of_pages after) id all low in
+    let back = rising_back (ids_of_pages before) page.first (page.others ++ ids_of_pages after) all in
+    let not_after = none_in after id (rising_tail page.first (ids_of_pages after) (rises_skip page.first page.others (ids_of_pages after) back)) above in
+    ap (list_any (int_eq id)) parts ∙ any_in_middle (ids_of_pages before) (page_ids page) (ids_of_pages after) id not_before not_after
+
+first_of_cons : (p q : Page) (ps qs : List Page) → p ∷ ps ≡ q ∷ qs → p.first ≡ q.first
+first_of_cons p q ps qs e = let same : p ≡ q = cc in ap (λ (x : Page). x.first) same
+
+-- ---- a look-up, as the code makes it
+
+-- the places at or below the id, and those above
+abbrev pub IsPassedAt : List PageStart → ℤ → ℕ → Type 0
+IsPassedAt index id n = IsPartitionPoint (λ (s : PageStart). int_le s.first id ≡ true) (λ (s : PageStart). int_le s.first id ≡ false) index n
+
+pub none_at_all : (index : List PageStart) (bytes : List ℕ) (pages : List Page) (id : ℤ) (n : ℕ) → IsSealed index bytes pages → IsPassedAt index id n → n ≡ 0 → list_any (int_eq id) (ids_in index bytes) ≡ false
+none_at_all index bytes pages id n sealed point zero_is =
+    let above : (page : Page) (rest : List Page) → pages ≡ page ∷ rest → id <ℤ page.first = λ page rest e.
+    let d : PageStart = record { first = page.first; place = 0 } in
+    let starts : index ≡ starts_from 0 (page ∷ rest) = sealed.starts ∙ ap (starts_from 0) e in
+    let first : (get_or index 0 d).first ≡ page.first = ap (λ (i : List PageStart). (get_or i 0 d).first) starts in
+    le_false page.first id (ap (λ z. int_le z id) (sym first) ∙ point.1 0 d (omega arith) (omega (arith, ap length starts))) in
+    ap (list_any (int_eq id)) (ids_in_sealed index bytes pages sealed) ∙ none_in pages id sealed.rising above
+
+-- where the bytes of the page end
+abbrev pub EndsAt : List PageStart → List ℕ → ℕ → ℕ → Type 0
+EndsAt index bytes n end = ((next : PageStart) × (n < length index) × (next ≡ get_or index n next) × (end ≡ next.place)) ⊎ ((length index ≤ n) × (end ≡ length bytes))
+
+pub record Looked (index : List PageStart) (bytes : List ℕ) (id : ℤ) (start : PageStart) (end : ℕ) : Type 0 where
+  pub others : List ℤ
+  pub rises : Rises start.first others
+  pub fits : AllFit (start.first ∷ others)
+  pub ordered : start.place ≤ end
+  pub within : end ≤ length bytes
+  pub spelled : take (end - start.place) (drop start.place bytes) ≡ spelled_after start.first others
+  pub answer : list_any (int_eq id) (start.first ∷ others) ≡ list_any (int_eq id) (ids_in index bytes)
+
+looked : (index : List PageStart) (bytes : List ℕ) (pages : List Page) (id : ℤ) (j : ℕ) (start : PageStart) (end : ℕ) → IsSealed index bytes pages → IsPassedAt index id (suc j) → suc j ≤ length index → start ≡ get_or index j start → EndsAt index bytes (suc j) end → Looked index bytes id start end
+looked index bytes pages id j start end sealed point lt is ends =
+    let r = page_at 0 j pages (omega (arith, ap length sealed.starts)) in
+    let page = r.page in
+    let starts = sealed.starts in
+    let here : start ≡ record { first = page.first; place = length (bytes_of_pages r.before) } = is ∙ ap (λ i. get_or i j start) starts ∙ r.here start ∙ ap (λ k. record { first = page.first; place = k }) (omega arith) in
+    let first : start.first ≡ page.first = ap (λ (s : PageStart). s.first) here in
+    let place : start.place ≡ length (bytes_of_pages r.before) = ap (λ (s : PageStart). s.place) here in
+    let size = within_bytes bytes pages r.before page r.after sealed.spelled r.whole in
+    let ended : end ≡ start.place + length (page_bytes page) =
+    elim r.next [
+      | inl last ↦ elim ends [
+        | inl w ↦ absurd (omega (arith, w.1, last.1, ap length starts))
+        | inr w ↦ let none : length (bytes_of_pages r.after) ≡ 0 = ap (λ p. length (bytes_of_pages p)) last.0 in omega (arith, w.1, size, place, none)
+      ]
+      | inr more ↦ elim ends [
+        | inl w ↦ let there = ap (λ (s : PageStart). s.place) (w.2 ∙ ap (λ i. get_or i (suc j) w.0) starts ∙ more.4 w.0) in omega (arith, w.3, there, place)
+        | inr w ↦ absurd (omega (arith, w.0, more.3, ap length starts))
+      ]
+    ] in
+    let low : page.first ≤ℤ id = le_true page.first id (ap (λ z. int_le z id) (sym first ∙ ap (λ (s : PageStart). s.first) is) ∙ point.0 j start (omega arith) (omega arith)) in
+    let above : (later : Page) (rest : List Page) → r.after ≡ later ∷ rest → id <ℤ later.first = λ later rest e.
+    elim r.next [
+      | inl last ↦ absurd (omega (arith, ap length (sym last.0 ∙ e)))
+      | inr more ↦
+          let next : (get_or index (suc j) start).first ≡ more.0.first = ap (λ (i : List PageStart). (get_or i (suc j) start).first) starts ∙ ap (λ (s : PageStart). s.first) (more.4 start) in
+          let same : more.0.first ≡ later.first = first_of_cons more.0 later more.1 rest (sym more.2 ∙ e) in
+          le_false later.first id (ap (λ z. int_le z id) (sym (next ∙ same)) ∙ point.1 (suc j) start (omega arith) (omega (arith, more.3, ap length starts)))
+    ] in
+    let parts : ids_of_pages pages ≡ ids_of_pages r.before ++ (page_ids page ++ ids_of_pages r.after) = ap ids_of_pages r.whole ∙ flat_map-append page_ids r.before (page ∷ r.after) in
+    let rises = rises_front page.first page.others (ids_of_pages r.after) (rising_back (ids_of_pages r.before) page.first (page.others ++ ids_of_pages r.after) (subst IsRising parts sealed.rising)) in
+    let fits = fits_front (page_ids page) (ids_of_pages r.after) (fits_back (ids_of_pages r.before) (page_ids page ++ ids_of_pages r.after) (subst AllFit parts sealed.fits)) in
+    record {
+      others = page.others;
+      rises = subst (λ z. Rises z page.others) (sym first) rises;
+      fits = subst (λ z. AllFit (z ∷ page.others)) (sym first) fits;
+      ordered = omega (arith, ended);
+      within = omega (arith, ended, size, place);
+      spelled = cut_page bytes pages r.before page r.after start.place end sealed.spelled r.whole place ended ∙ ap (λ z. spelled_after z page.others) (sym first);
+      answer =
+          ap (λ z. list_any (int_eq id) (z ∷ page.others)) first
+          ∙ sym (found_in_page pages r.before page r.after id r.whole sealed.rising low above)
+          ∙ ap (list_any (int_eq id)) (sym (ids_in_sealed index bytes pages sealed));
+    }
+
+-- what a search by halves answers, at an id and a list that the code names otherwise
+pub passed : (index seen_index : List PageStart) (bytes : List ℕ) (pages : List Page) (id seen : ℤ) (n : ℕ) → IsSealed index bytes pages → seen_index ≡ index → seen ≡ id → (IsPartitionedBy (λ (s : PageStart). int_le s.first seen) seen_index → IsPassedAt seen_index seen n) → IsPassedAt index id n
+passed index seen_index bytes pages id seen n sealed e f point =
+    let parted = partitioned seen_index pages seen (e ∙ sealed.starts) sealed.rising in
+    subst (λ z. IsPassedAt index z n) f (subst (λ i. IsPassedAt i seen n) e (point parted))
+
+-- the page before the place that the search answers
+pub looked_before : (index : List PageStart) (bytes : List ℕ) (pages : List Page) (id : ℤ) (after : ℕ) (start : PageStart) (end : ℕ) → IsSealed index bytes pages → IsPassedAt index id after → 0 < after → after ≤ length index → start ≡ get_or index (after - 1) start → EndsAt index bytes after end → Looked index bytes id start end
+looked_before index bytes pages id after start end sealed point some le is ends =
+    let next : suc (after - 1) ≡ after = omega arith in
+    looked index bytes pages id (after - 1) start end sealed (subst (IsPassedAt index id) (sym next) point) (omega arith) is (subst (λ n. EndsAt index bytes n end) (sym next) ends)
+
+-- what a look-up in one page answers, likewise
+pub page_answer : (first seen_first id seen_id : ℤ) (bytes : List ℕ) (r : Bool) → seen_first ≡ first → seen_id ≡ id → ((others : List ℤ) → Rises seen_first others → AllFit (seen_first ∷ others) → bytes ≡ spelled_after seen_first others → r ≡ list_any (int_eq seen_id) (seen_first ∷ others)) → (others : List ℤ) → Rises first others → AllFit (first ∷ others) → bytes ≡ spelled_after first others → r ≡ list_any (int_eq id) (first ∷ others)
+page_answer first seen_first id seen_id bytes r e f h =
+    subst (λ z. (others : List ℤ) → Rises z others → AllFit (z ∷ others) → bytes ≡ spelled_after z others → r ≡ list_any (int_eq id) (z ∷ others)) e
+    (subst (λ w. (others : List ℤ) → Rises seen_first others → AllFit (seen_first ∷ others) → bytes ≡ spelled_after seen_first others → r ≡ list_any (int_eq w) (seen_first ∷ others)) f h)

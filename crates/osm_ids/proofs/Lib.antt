@@ -1,0 +1,9 @@
+pub mod Sets
+pub mod Gaps
+pub mod Rising
+pub mod Paged
+pub mod Laid
+pub mod Found
+pub mod Reading
+pub mod LinkOrder
+pub mod Closing

@@ -1,0 +1,110 @@
+-- The order of links, and sets of them.
+use Rattle.std.proofs.Common.{◌≡◌, Bool, true, false, not, cond, ◌&&◌, inl, inr, List, [], ◌∷◌, ℤ, ◌≤ℤ◌, refl, sym, ap, subst, ◌∙◌, arith, FitsSigned, w64, Less, Equal, Greater, Ordering}
+use Rattle.std.specs.List.{filter, AllByRecursion}
+use Rattle.std.specs.Ordering.{int_cmp, ordering_then, eq_by_cmp, is_eq, is_le, is_lt}
+use Rattle.std.specs.Cmp.{IsTotalOrder, int_cmp_total, then_total, on_total, tied_itself, int_ranked}
+use Rattle.std.specs.BTreeSet.{insert_key}
+use Rattle.std.specs.FinSet as set
+use Rattle.std.specs.declared.ops.Bound.TheVariants.{Included}
+use Rattle.std.specs.BTreeMap.Range.{range_contains}
+use Rattle.std.proofs.lemmas.Int.{ints}
+use Rattle.std.proofs.lemmas.Bool.{or_cases, or_left, or_right}
+use Rattle.std.proofs.lemmas.Bool.Decides.{Decides-int_eq}
+use Rattle.osm_ids.specs.declared.links.Link.{Link}
+use Rattle.osm_ids.specs.Links.{link_cmp, is_among, is_of, ParentsFit}
+use Rattle.osm_ids.proofs.Rising.{other_above, other_below}
+use Rattle.osm_ids.proofs.Sets.{any-insert_key, from_list-insert_key}
+
+pub link_cmp_total : IsTotalOrder link_cmp
+link_cmp_total = then_total (on_total (λ (l : Link). l.member) int_cmp_total) (on_total (λ (l : Link). l.parent) int_cmp_total)
+
+abbrev pub link_of : ℤ → ℤ → Link
+link_of member parent = record { member = member; parent = parent }
+
+same_link : (a b : Link) → a.member ≡ b.member → a.parent ≡ b.parent → a ≡ b
+same_link a b e f = λ i. record { member = e i; parent = f i }
+
+both_equal : (r s : Ordering) → ordering_then r s ≡ Equal → (r ≡ Equal) × (s ≡ Equal)
+both_equal Less s e = cc
+both_equal Equal s e = (refl, e)
+both_equal Greater s e = cc
+
+pub link_cmp-IsAntisymmetric : set.IsAntisymmetric link_cmp
+link_cmp-IsAntisymmetric a b e =
+    let parts = both_equal (int_cmp a.member b.member) (int_cmp a.parent b.parent) e in
+    same_link a b (set.int_cmp-IsAntisymmetric a.member b.member parts.0) (set.int_cmp-IsAntisymmetric a.parent b.parent parts.1)
+
+-- the test of a set of links is the test of its keys
+pub contains-links : (links : List Link) → set.contains (set.from_list {R = link_cmp} links) ≡ is_among links
+contains-links links = λ i l. set.contains-from_list link_cmp_total links l i
+
+pub links-insert_key : (links : List Link) (new : Link) → set.from_list {R = link_cmp} (insert_key link_cmp links new) ≡ set.insert (set.from_list links) new
+links-insert_key = from_list-insert_key link_cmp_total link_cmp-IsAntisymmetric
+
+alike : (o : Ordering) → is_eq o ≡ true → o ≡ Equal
+alike Less e = cc
+alike Equal e = refl
+alike Greater e = cc
+
+-- a link that is found is the one that was looked for
+pub found_is : (l x : Link) → eq_by_cmp link_cmp l x ≡ true → l ≡ x
+found_is l x e = link_cmp-IsAntisymmetric l x (alike (link_cmp l x) e)
+
+pub fit_more : (links : List Link) (new : Link) → ParentsFit links → FitsSigned w64 new.parent → ParentsFit (insert_key link_cmp links new)
+fit_more links new fit f l h =
+    elim (or_cases (eq_by_cmp link_cmp l new) (is_among links l) (sym (any-insert_key link_cmp_total link_cmp-IsAntisymmetric links new l) ∙ h)) [
+      | inl e ↦ subst (λ (x : Link). FitsSigned w64 x.parent) (sym (found_is l new e)) f
+      | inr e ↦ fit l e
+    ]
+
+-- ---- the links of one id lie side by side
+
+le_least : (lo p : ℤ) → lo ≤ℤ p → is_le (int_cmp lo p) ≡ true
+le_least lo p h =
+    elim (int_cmp lo p) as (λ r. int_cmp lo p ≡ r → is_le r ≡ true) [
+      | Less ↦ λ _. refl
+      | Equal ↦ λ _. refl
+      | Greater ↦ λ e. let above = int_ranked lo p Greater (sym e) in absurd (omega (arith, ints))
+    ] refl
+
+lt_greatest : (hi p : ℤ) → p ≤ℤ hi → is_lt (int_cmp hi p) ≡ false
+lt_greatest hi p h =
+    elim (int_cmp hi p) as (λ r. int_cmp hi p ≡ r → is_lt r ≡ false) [
+      | Less ↦ λ e. let below = int_ranked hi p Less (sym e) in absurd (omega (arith, ints))
+      | Equal ↦ λ _. refl
+      | Greater ↦ λ _. refl
+    ] refl
+
+-- a link between the least and the greatest link of an id is one of its links
+between_is : (id lo hi : ℤ) (l : Link) → lo ≤ℤ l.parent → l.parent ≤ℤ hi → range_contains link_cmp (Included (link_of id lo)) (Included (link_of id hi)) l ≡ is_of id l
+between_is id lo hi l low high =
+    elim (int_cmp id l.member) as (λ r. int_cmp id l.member ≡ r → (is_le (ordering_then r (int_cmp lo l.parent)) && not (is_lt (ordering_then r (int_cmp hi l.parent)))) ≡ is_of id l) [
+      | Less ↦ λ e. sym (other_below l.member id (int_ranked id l.member Less (sym e)))
+      | Equal ↦ λ e. rw (le_least lo l.parent low, lt_greatest hi l.parent high) (sym ((Decides-int_eq l.member id).1 (sym (int_ranked id l.member Equal (sym e)))))
+      | Greater ↦ λ e. sym (other_above l.member id (int_ranked id l.member Greater (sym e)))
+    ] refl
+
+module _ (p q : Link → Bool) where
+  alike_kept : (links : List Link) → ((l : Link) → is_among links l ≡ true → p l ≡ q l) → filter p links ≡ filter q links
+  alike_kept [] h = refl
+  alike_kept (x ∷ links) h =
+      let here = h x (or_left (eq_by_cmp link_cmp x x) (is_among links x) (ap is_eq (tied_itself link_cmp_total x))) in
+      let rest = alike_kept links (λ l e. h l (or_right (eq_by_cmp link_cmp l x) (is_among links l) e)) in
+      ap (λ b. cond b (x ∷ filter p links) (filter p links)) here ∙ ap (λ ls. cond (q x) (x ∷ ls) ls) rest
+
+pub links_between : (links : List Link) (id lo hi : ℤ) → ((l : Link) → is_among links l ≡ true → (lo ≤ℤ l.parent) × (l.parent ≤ℤ hi)) → filter (range_contains link_cmp (Included (link_of id lo)) (Included (link_of id hi))) links ≡ filter (is_of id) links
+links_between links id lo hi fit = alike_kept _ _ links (λ l e. between_is id lo hi l (fit l e).0 (fit l e).1)
+
+-- each link that a filter keeps passes the test and is among the links
+pub all_kept : (p : Link → Bool) (links : List Link) → AllByRecursion (λ l. (p l ≡ true) × (is_among links l ≡ true)) (filter p links)
+all_kept p [] = tt
+all_kept p (x ∷ links) =
+    let rest = weaken (filter p links) (all_kept p links) in
+    elim (p x) as (λ b. p x ≡ b → AllByRecursion (λ l. (p l ≡ true) × (is_among (x ∷ links) l ≡ true)) (cond b (x ∷ filter p links) (filter p links))) [
+      | true ↦ λ e. ((e, or_left (eq_by_cmp link_cmp x x) (is_among links x) (ap is_eq (tied_itself link_cmp_total x))), rest)
+      | false ↦ λ _. rest
+    ] refl
+  where
+    weaken : (ls : List Link) → AllByRecursion (λ l. (p l ≡ true) × (is_among links l ≡ true)) ls → AllByRecursion (λ l. (p l ≡ true) × (is_among (x ∷ links) l ≡ true)) ls
+    weaken [] h = tt
+    weaken (l ∷ ls) h = ((h.0.0, or_right (eq_by_cmp link_cmp l x) (is_among links l) h.0.1), weaken ls h.1)

@@ -1,0 +1,174 @@
+-- Rising ids, and where an id can stand among them.
+use Rattle.std.proofs.Common.{◌≡◌, Bool, true, false, ◌||◌, ◌⊎◌, inl, inr, List, [], ◌∷◌, ◌++◌, length, ℤ, ◌<ℤ◌, ◌≤ℤ◌, refl, sym, ap, ◌∙◌, arith, Less, Equal, Greater, true≢false}
+use Rattle.std.specs.List.{list_any}
+use Rattle.std.specs.List.Sorted.{IsStrictlySortedBy}
+use Rattle.std.specs.BTreeSet.{insert_key}
+use Rattle.std.specs.Ordering.{int_eq, int_cmp, match_ordering}
+use Rattle.std.specs.Cmp.{int_cmp_total, int_ranked}
+use Rattle.std.specs.FinSet as set
+use Rattle.std.proofs.lemmas.Bool.{false_from_ne_true}
+use Rattle.std.proofs.lemmas.Bool.Decides.{Decides-int_eq}
+use Rattle.std.proofs.lemmas.Int.{ints}
+use Rattle.std.proofs.lemmas.Map.Keys.{sorted_head, sorted_tail}
+use Rattle.std.proofs.lemmas.List.Folds.{list_any-append}
+use Rattle.osm_ids.proofs.Sets.{Ids, ids_of, contains-ids_of, ids_of-insert_key}
+use Rattle.osm_ids.specs.Pages.{Rises, IsRising}
+
+pub other : (a b : ℤ) → (a ≡ b → ⊥) → int_eq a b ≡ false
+other a b ne = false_from_ne_true (int_eq a b) (λ e. ne ((Decides-int_eq a b).0 e))
+
+pub other_above : (a b : ℤ) → a <ℤ b → int_eq a b ≡ false
+other_above a b h = other a b (λ e. omega (arith, ints))
+
+pub other_below : (a b : ℤ) → b <ℤ a → int_eq a b ≡ false
+other_below a b h = other a b (λ e. omega (arith, ints))
+
+pub rising_tail : (low : ℤ) (ids : List ℤ) → Rises low ids → IsRising ids
+rising_tail low [] h = tt
+rising_tail low (id ∷ ids) h = h.1
+
+pub rises_front : (low : ℤ) (xs ys : List ℤ) → Rises low (xs ++ ys) → Rises low xs
+rises_front low [] ys h = tt
+rises_front low (x ∷ xs) ys h = (h.0, rises_front x xs ys h.1)
+
+pub rises_below : (low : ℤ) (xs : List ℤ) (y : ℤ) (ys : List ℤ) → Rises low (xs ++ y ∷ ys) → low <ℤ y
+rises_below low [] y ys h = h.0
+rises_below low (x ∷ xs) y ys h = let next = rises_below x xs y ys h.1 in let first = h.0 in omega (arith, ints)
+
+pub rises_back : (low : ℤ) (xs : List ℤ) (y : ℤ) (ys : List ℤ) → Rises low (xs ++ y ∷ ys) → Rises y ys
+rises_back low [] y ys h = h.1
+rises_back low (x ∷ xs) y ys h = rises_back x xs y ys h.1
+
+pub rising_back : (xs : List ℤ) (y : ℤ) (ys : List ℤ) → IsRising (xs ++ y ∷ ys) → Rises y ys
+rising_back [] y ys h = h
+rising_back (x ∷ xs) y ys h = rises_back x xs y ys h
+
+pub rising_front : (xs ys : List ℤ) → IsRising (xs ++ ys) → IsRising xs
+rising_front [] ys h = tt
+rising_front (x ∷ xs) ys h = rises_front x xs ys h
+
+-- no id at or above y stands before y
+pub none_below : (xs : List ℤ) (y : ℤ) (ys : List ℤ) (id : ℤ) → IsRising (xs ++ y ∷ ys) → y ≤ℤ id → list_any (int_eq id) xs ≡ false
+none_below [] y ys id h le = refl
+none_below (x ∷ xs) y ys id h le =
+    let below = rises_below x xs y ys h in
+    let apart : x <ℤ id = omega (arith, ints) in
+    rw (other_below id x apart) (none_below xs y ys id (rising_tail x (xs ++ y ∷ ys) h) le)
+
+-- no id at or below low stands after low
+pub none_above : (low : ℤ) (ids : List ℤ) (id : ℤ) → Rises low ids → id ≤ℤ low → list_any (int_eq id) ids ≡ false
+none_above low [] id h le = refl
+none_above low (x ∷ ids) id h le =
+    let up = h.0 in
+    let apart : id <ℤ x = omega (arith, ints) in
+    rw (other_above id x apart) (none_above x ids id h.1 (omega (arith, ints)))
+
+rises_from_sorted : (low : ℤ) (ids : List ℤ) → IsStrictlySortedBy int_cmp (low ∷ ids) → Rises low ids
+rises_from_sorted low [] h = tt
+rises_from_sorted low (id ∷ ids) h =
+    let all = sorted_head int_cmp low (id ∷ ids) h in
+    (int_ranked low id Less (sym all.0), rises_from_sorted id ids (sorted_tail int_cmp low (id ∷ ids) h))
+
+-- a tree's keys rise
+pub rising_from_sorted : (ids : List ℤ) → IsStrictlySortedBy int_cmp ids → IsRising ids
+rising_from_sorted [] h = tt
+rising_from_sorted (id ∷ ids) h = rises_from_sorted id ids h
+
+pub len-rising : (ids : List ℤ) → IsRising ids → set.len (ids_of ids) ≡ length ids
+len-rising [] h = set.len-empty int_cmp
+len-rising (x ∷ ids) h =
+    let absent = contains-ids_of ids x ∙ none_above x ids x h (omega (arith, ints)) in
+    set.len-insert int_cmp_total (ids_of ids) x ∙ rw absent (omega (arith, len-rising ids (rising_tail x ids h)))
+
+or_none : (b : Bool) → (b || false) ≡ b
+or_none true = refl
+or_none false = refl
+
+-- one of the parts has it, if the others do not
+pub any_in_middle : (xs ys zs : List ℤ) (id : ℤ) → list_any (int_eq id) xs ≡ false → list_any (int_eq id) zs ≡ false → list_any (int_eq id) (xs ++ (ys ++ zs)) ≡ list_any (int_eq id) ys
+any_in_middle xs ys zs id before after =
+    list_any-append (int_eq id) xs (ys ++ zs) ∙ rw before (list_any-append (int_eq id) ys zs ∙ rw after (or_none (list_any (int_eq id) ys)))
+
+-- ---- a set has one rising list
+
+cases_order : (x y : ℤ) → (x <ℤ y) ⊎ ((y <ℤ x) ⊎ (x ≡ y))
+cases_order x y =
+    elim (int_cmp x y) as (λ r. int_cmp x y ≡ r → (x <ℤ y) ⊎ ((y <ℤ x) ⊎ (x ≡ y))) [
+      | Less ↦ λ e. inl (int_ranked x y Less (sym e))
+      | Equal ↦ λ e. inr (inr (int_ranked x y Equal (sym e)))
+      | Greater ↦ λ e. inr (inl (int_ranked x y Greater (sym e)))
+    ] refl
+
+first_among : (x : ℤ) (xs : List ℤ) → list_any (int_eq x) (x ∷ xs) ≡ true
+first_among x xs = rw (Decides-int_eq x x).1 refl
+
+module _ (x : ℤ) (xs : List ℤ) (y : ℤ) (ys : List ℤ) (alike : (id : ℤ) → list_any (int_eq id) (x ∷ xs) ≡ list_any (int_eq id) (y ∷ ys)) where
+  -- the least of one is no less than the least of the other
+  not_below : Rises y ys → x <ℤ y → ⊥
+  not_below rises below =
+      let none : list_any (int_eq x) (y ∷ ys) ≡ false = rw (other_above x y below) (none_above y ys x rises (omega (arith, ints))) in
+      true≢false (sym (first_among x xs) ∙ alike x ∙ none)
+
+  tails_alike : x ≡ y → Rises x xs → Rises y ys → (id : ℤ) → list_any (int_eq id) xs ≡ list_any (int_eq id) ys
+  tails_alike e rises others id =
+      elim (int_eq id x) as (λ b. int_eq id x ≡ b → list_any (int_eq id) xs ≡ list_any (int_eq id) ys) [
+        | true ↦ λ is. let at : id ≡ x = (Decides-int_eq id x).0 is in none_above x xs id rises (omega (arith, ints)) ∙ sym (none_above y ys id others (omega (arith, ints)))
+        | false ↦ λ is. ap (λ b. b || list_any (int_eq id) xs) (sym is) ∙ alike id ∙ ap (λ b. b || list_any (int_eq id) ys) (ap (int_eq id) (sym e) ∙ is)
+      ] refl
+
+pub same_rising : (xs ys : List ℤ) → IsRising xs → IsRising ys → ((id : ℤ) → list_any (int_eq id) xs ≡ list_any (int_eq id) ys) → xs ≡ ys
+same_rising [] [] h k alike = refl
+same_rising [] (y ∷ ys) h k alike = absurd (true≢false (sym (first_among y ys) ∙ sym (alike y)))
+same_rising (x ∷ xs) [] h k alike = absurd (true≢false (sym (first_among x xs) ∙ alike x))
+same_rising (x ∷ xs) (y ∷ ys) h k alike =
+    elim (cases_order x y) [
+      | inl below ↦ absurd (not_below x xs y ys alike k below)
+      | inr more ↦ elim more [
+        | inl above ↦ absurd (not_below y ys x xs (λ id. sym (alike id)) h above)
+        | inr e ↦ (λ i. e i ∷ same_rising xs ys (rising_tail x xs h) (rising_tail y ys k) (tails_alike x xs y ys alike e h k) i)
+      ]
+    ]
+
+-- the rising list of a set is the only one
+pub rising_of_set : (xs ys : List ℤ) → IsRising xs → IsRising ys → ids_of xs ≡ ids_of ys → xs ≡ ys
+rising_of_set xs ys h k e = same_rising xs ys h k (λ id. sym (contains-ids_of xs id) ∙ ap (λ s. set.contains s id) e ∙ contains-ids_of ys id)
+
+-- ---- and it has one
+
+insert_rises : (low : ℤ) (ids : List ℤ) (new : ℤ) → low <ℤ new → Rises low ids → Rises low (insert_key int_cmp ids new)
+insert_rises low [] new above h = (above, tt)
+insert_rises low (x ∷ ids) new above h =
+    elim (int_cmp new x) as (λ r. int_cmp new x ≡ r → Rises low (match_ordering r (new ∷ x ∷ ids) (x ∷ ids) (x ∷ insert_key int_cmp ids new))) [
+      | Less ↦ λ e. (above, (int_ranked new x Less (sym e), h.1))
+      | Equal ↦ λ _. h
+      | Greater ↦ λ e. (h.0, insert_rises x ids new (int_ranked new x Greater (sym e)) h.1)
+    ] refl
+
+insert_rising : (ids : List ℤ) (new : ℤ) → IsRising ids → IsRising (insert_key int_cmp ids new)
+insert_rising [] new h = tt
+insert_rising (x ∷ ids) new h =
+    elim (int_cmp new x) as (λ r. int_cmp new x ≡ r → IsRising (match_ordering r (new ∷ x ∷ ids) (x ∷ ids) (x ∷ insert_key int_cmp ids new))) [
+      | Less ↦ λ e. (int_ranked new x Less (sym e), h)
+      | Equal ↦ λ _. h
+      | Greater ↦ λ e. insert_rises x ids new (int_ranked new x Greater (sym e)) h
+    ] refl
+
+in_order : List ℤ → List ℤ
+in_order [] = []
+in_order (id ∷ ids) = insert_key int_cmp (in_order ids) id
+
+in_order_rises : (ids : List ℤ) → IsRising (in_order ids)
+unfolding in_order
+in_order_rises [] = tt
+in_order_rises (id ∷ ids) = insert_rising (in_order ids) id (in_order_rises ids)
+
+ids_of-in_order : (ids : List ℤ) → ids_of (in_order ids) ≡ ids_of ids
+unfolding in_order
+ids_of-in_order [] = refl
+ids_of-in_order (id ∷ ids) = ids_of-insert_key (in_order ids) id ∙ ap (λ s. set.insert s id) (ids_of-in_order ids)
+
+ids_of-items : (s : Ids) → ids_of (set.items s) ≡ s
+ids_of-items s = set.same_set int_cmp_total set.int_cmp-IsAntisymmetric _ _ (λ id. contains-ids_of (set.items s) id ∙ sym (set.contains-items s id))
+
+pub rising_list : (s : Ids) → (ids : List ℤ) × IsRising ids × (ids_of ids ≡ s)
+rising_list s = (in_order (set.items s), in_order_rises (set.items s), ids_of-in_order (set.items s) ∙ ids_of-items s)

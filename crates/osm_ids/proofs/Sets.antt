@@ -1,0 +1,46 @@
+-- The keys of an ordered set as a finite set.
+use Rattle.std.proofs.Common.{◌≡◌, Bool, true, false, ◌||◌, List, [], ◌∷◌, ℤ, refl, sym, ap, ◌∙◌, Less, Equal, Greater, Ordering}
+use Rattle.std.specs.List.{list_any}
+use Rattle.std.specs.Ordering.{int_eq, int_cmp, eq_by_cmp, match_ordering}
+use Rattle.std.specs.Cmp.{IsTotalOrder, int_cmp_total}
+use Rattle.std.specs.BTreeSet.{insert_key}
+use Rattle.std.specs.FinSet as set
+
+or_same : (a b : Bool) → (a || b) ≡ (a || (a || b))
+or_same true b = refl
+or_same false b = refl
+
+or_swap : (a b c : Bool) → (a || (b || c)) ≡ (b || (a || c))
+or_swap true true c = refl
+or_swap true false c = refl
+or_swap false b c = refl
+
+module _ {K : Type 0} {R : K → K → Ordering} (o : IsTotalOrder R) (same : set.IsAntisymmetric R) where
+  pub any-insert_key : (keys : List K) (new k : K) → list_any (eq_by_cmp R k) (insert_key R keys new) ≡ (eq_by_cmp R k new || list_any (eq_by_cmp R k) keys)
+  any-insert_key [] new k = refl
+  any-insert_key (x ∷ keys) new k =
+      elim (R new x) as (λ r. R new x ≡ r → list_any (eq_by_cmp R k) (match_ordering r (new ∷ x ∷ keys) (x ∷ keys) (x ∷ insert_key R keys new)) ≡ (eq_by_cmp R k new || (eq_by_cmp R k x || list_any (eq_by_cmp R k) keys))) [
+        | Less ↦ λ _. refl
+        | Equal ↦ λ e. rw (same new x e) (or_same (eq_by_cmp R k x) (list_any (eq_by_cmp R k) keys))
+        | Greater ↦ λ _. ap (λ b. eq_by_cmp R k x || b) (any-insert_key keys new k) ∙ or_swap (eq_by_cmp R k x) (eq_by_cmp R k new) _
+      ] refl
+
+  -- to insert a key is to insert it into the set
+  pub from_list-insert_key : (keys : List K) (new : K) → set.from_list {R = R} (insert_key R keys new) ≡ set.insert (set.from_list keys) new
+  from_list-insert_key keys new =
+      set.same_set o same _ _
+      (λ k. set.contains-from_list o (insert_key R keys new) k ∙ any-insert_key keys new k ∙ ap (λ b. eq_by_cmp R k new || b) (sym (set.contains-from_list o keys k)) ∙ sym (set.contains-insert o (set.from_list keys) new k))
+
+-- ---- ids
+
+abbrev pub Ids : Type 0
+Ids = set.FinSet int_cmp
+
+abbrev pub ids_of : List ℤ → Ids
+ids_of = set.from_list
+
+pub contains-ids_of : (keys : List ℤ) (id : ℤ) → set.contains (ids_of keys) id ≡ list_any (int_eq id) keys
+contains-ids_of keys id = set.contains-from_list int_cmp_total keys id
+
+pub ids_of-insert_key : (keys : List ℤ) (new : ℤ) → ids_of (insert_key int_cmp keys new) ≡ set.insert (ids_of keys) new
+ids_of-insert_key = from_list-insert_key int_cmp_total set.int_cmp-IsAntisymmetric

@@ -1,0 +1,63 @@
+-- Links between ids, and the least set that follows them.
+use Rattle.std.specs.Prelude.{◌≡◌, refl, ◌≤◌, ◌*◌, ◌+◌, ℕ, ℤ, Bool, true, not, ◌⊎◌, List, length, FitsSigned}
+use Rattle.std.specs.Int.{w64}
+use Rattle.std.specs.List.{list_any, count_by}
+use Rattle.std.specs.Coded.{Coded, code_by, coded×, coded_ℤ}
+use Rattle.std.specs.declared.cmp.Ordering.{Ordering}
+use Rattle.std.specs.Ordering.{int_cmp, int_eq, ordering_then, eq_by_cmp}
+use Rattle.std.specs.FinSet as set
+use Rattle.osm_ids.specs.declared.links.Link.{Link}
+
+-- by member, then by parent
+abbrev pub link_cmp : Link → Link → Ordering
+link_cmp a b = ordering_then (int_cmp a.member b.member) (int_cmp a.parent b.parent)
+
+abbrev pub link_code : Coded Link
+link_code = code_by (ℤ × ℤ) (coded× coded_ℤ coded_ℤ) (λ l. (l.member, l.parent)) (λ p. record { member = p.0; parent = p.1 }) (λ _. refl)
+
+-- ---- the least set
+
+-- the test holds of each id of the set
+abbrev pub Has : set.FinSet int_cmp → (ℤ → Bool) → Type 0
+Has ids test = (id : ℤ) → set.contains ids id ≡ true → test id ≡ true
+
+-- of each of the links: where the test holds of the member it holds of the parent
+abbrev pub IsClosed : (Link → Bool) → (ℤ → Bool) → Type 0
+IsClosed is_link test = (l : Link) → is_link l ≡ true → test l.member ≡ true → test l.parent ≡ true
+
+-- the least set that holds the start and the parent of each link whose member it holds
+pub record IsLeast (is_link : Link → Bool) (start ids : set.FinSet int_cmp) : Type 0 where
+  pub holds : Has start (set.contains ids)
+  pub closed : IsClosed is_link (set.contains ids)
+  pub least : (test : ℤ → Bool) → Has start test → IsClosed is_link test → Has ids test
+
+-- ---- following the links of one id
+
+abbrev pub is_among : List Link → Link → Bool
+is_among links l = list_any (eq_by_cmp link_cmp l) links
+
+-- whether it is a link of the id
+abbrev pub is_of : ℤ → Link → Bool
+is_of id l = int_eq l.member id
+
+-- what stands in a list of work
+abbrev pub is_in : List ℤ → ℤ → Bool
+is_in work id = list_any (int_eq id) work
+
+-- links whose parent the set lacks
+abbrev pub missing : List Link → set.FinSet int_cmp → ℕ
+missing links ids = count_by (λ (l : Link). not (set.contains ids l.parent)) links
+
+-- the parents of an id are added, each new one to the work
+pub record IsAdded (links : List Link) (id : ℤ) (old : set.FinSet int_cmp) (old_work : List ℤ) (new : set.FinSet int_cmp) (new_work : List ℤ) : Type 0 where
+  pub grows : Has old (set.contains new)
+  pub fresh : (x : ℤ) → set.contains new x ≡ true → (set.contains old x ≡ true) ⊎ (is_in new_work x ≡ true)
+  pub kept : (x : ℤ) → is_in old_work x ≡ true → is_in new_work x ≡ true
+  pub known : (x : ℤ) → is_in new_work x ≡ true → (is_in old_work x ≡ true) ⊎ (set.contains new x ≡ true)
+  pub parents : (l : Link) → is_among links l ≡ true → l.member ≡ id → set.contains new l.parent ≡ true
+  pub only : (test : ℤ → Bool) → IsClosed (is_among links) test → test id ≡ true → Has old test → Has new test
+  pub work : 2 * missing links new + length new_work ≤ 2 * missing links old + length old_work
+
+-- the parents are numbers of 64 bits
+abbrev pub ParentsFit : List Link → Type 0
+ParentsFit links = (l : Link) → is_among links l ≡ true → FitsSigned w64 l.parent

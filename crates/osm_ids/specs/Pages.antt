@@ -1,0 +1,95 @@
+-- Rising ids in pages: what lies in the index and in the bytes.
+use Rattle.std.specs.Prelude.{◌≡◌, ℕ, zero, suc, ◌+◌, ◌-◌, ◌≤◌, List, [], ◌∷◌, ◌++◌, length, take, drop, ℤ, pos, ◌+ℤ◌, ◌-ℤ◌, ◌<ℤ◌, unsigned_abs, FitsSigned}
+use Rattle.std.specs.Int.{w64}
+use Rattle.std.specs.List.{flat_map}
+use Rattle.osm_ids.specs.declared.pages.PageStart.{PageStart}
+use Rattle.pbf_wire.specs.Columns.{packed}
+use Rattle.pbf_wire.specs.Packed.{numbers_of}
+
+-- ---- pages
+
+-- a page: its first id, and the others
+pub record Page : Type 0 where
+  pub first : ℤ
+  pub others : List ℤ
+
+abbrev pub page_ids : Page → List ℤ
+page_ids page = page.first ∷ page.others
+
+abbrev pub ids_of_pages : List Page → List ℤ
+ids_of_pages pages = flat_map page_ids pages
+
+-- a page begins at the first id, and then at each 128th
+unfoldable pub pages_past : ℕ → List ℤ → List Page
+pages_past skip [] = []
+pages_past (suc skip) (id ∷ ids) = pages_past skip ids
+pages_past zero (id ∷ ids) = record { first = id; others = take 127 ids } ∷ pages_past 127 ids
+
+-- the pages of these ids: all but the last have 128
+abbrev pub pages_of : List ℤ → List Page
+pages_of ids = pages_past 0 ids
+
+-- every page but the last has 128 ids, and the last at most as many
+abbrev pub IsFilled : List Page → Type 0
+IsFilled [] = Unit {0}
+IsFilled (page ∷ []) = length page.others ≤ 127
+IsFilled (page ∷ next ∷ pages) = (length page.others ≡ 127) × IsFilled (next ∷ pages)
+
+-- ---- their bytes
+
+-- how far an id is above the one before
+abbrev pub gap : ℤ → ℤ → ℕ
+gap low high = unsigned_abs (high -ℤ low)
+
+-- each id less the one before it, the first less `low`
+abbrev pub gaps : ℤ → List ℤ → List ℕ
+gaps low [] = []
+gaps low (id ∷ ids) = gap low id ∷ gaps id ids
+
+-- the bytes of a page: the gaps of its ids, its first apart, as shortest varints
+abbrev pub page_bytes : Page → List ℕ
+page_bytes page = packed (gaps page.first page.others)
+
+abbrev pub bytes_of_pages : List Page → List ℕ
+bytes_of_pages pages = flat_map page_bytes pages
+
+-- the index of pages whose bytes begin at a place
+abbrev pub starts_from : ℕ → List Page → List PageStart
+starts_from at [] = []
+starts_from at (page ∷ pages) = record { first = page.first; place = at } ∷ starts_from (at + length (page_bytes page)) pages
+
+-- ---- read again
+
+-- the ids that are so far above one another
+abbrev pub raised : ℤ → List ℕ → List ℤ
+raised low [] = []
+raised low (n ∷ ns) = (low +ℤ pos n) ∷ raised (low +ℤ pos n) ns
+
+-- the ids that an index and bytes stand for
+abbrev pub ids_in : List PageStart → List ℕ → List ℤ
+ids_in [] bytes = []
+ids_in (start ∷ []) bytes = start.first ∷ raised start.first (numbers_of (drop start.place bytes))
+ids_in (start ∷ next ∷ starts) bytes = start.first ∷ (raised start.first (numbers_of (take (next.place - start.place) (drop start.place bytes))) ++ ids_in (next ∷ starts) bytes)
+
+-- ---- what is sealed
+
+-- each id is above the one before
+abbrev pub Rises : ℤ → List ℤ → Type 0
+Rises low [] = Unit {0}
+Rises low (id ∷ ids) = (low <ℤ id) × Rises id ids
+
+abbrev pub IsRising : List ℤ → Type 0
+IsRising [] = Unit {0}
+IsRising (id ∷ ids) = Rises id ids
+
+abbrev pub AllFit : List ℤ → Type 0
+AllFit [] = Unit {0}
+AllFit (id ∷ ids) = FitsSigned w64 id × AllFit ids
+
+-- the index and the bytes are those of the pages
+pub record IsSealed (index : List PageStart) (bytes : List ℕ) (pages : List Page) : Type 0 where
+  pub starts : index ≡ starts_from 0 pages
+  pub spelled : bytes ≡ bytes_of_pages pages
+  pub filled : IsFilled pages
+  pub rising : IsRising (ids_of_pages pages)
+  pub fits : AllFit (ids_of_pages pages)

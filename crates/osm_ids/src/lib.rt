@@ -1,0 +1,16 @@
+//! Sets of ids, gathered and then looked up, and links between ids that are followed to the end. It knows nothing of what the
+//! ids name.
+#![tactic(auto)]
+
+pub mod laws;
+mod links;
+mod page;
+mod pages;
+mod set;
+
+pub use links::{Link, Links};
+pub use pages::SealedIds;
+pub use set::IdSet;
+
+#[cfg(test)]
+mod tests;

@@ -1,0 +1,134 @@
+//! A set of ids that no longer grows, in pages.
+
+ghost use Rattle.std.specs.Prelude.{◌≡◌, ◌-◌, ◌≤◌, take, drop, true, false, length, int_le, List, ℤ, IfOk};
+ghost use Rattle.std.specs.Int.{div_ceil};
+ghost use Rattle.std.specs.List.Sorted.{IsPartitionedBy, IsPartitionPoint};
+ghost use Rattle.std.specs.FinSet as set;
+ghost use Rattle.osm_ids.specs.Pages.{IsRising, pages_of, bytes_of_pages};
+
+use crate::page::page_has;
+use pbf_wire::put_varint;
+use std::alloc::{AllocError, Global};
+use std::collections::BTreeSet;
+use std::marker::Model;
+
+/// Where a page begins: its first id, and the place of its other ids' bytes.
+#[derive(Clone, Copy)]
+pub(crate) struct PageStart {
+    first: i64,
+    place: usize,
+}
+
+/// A set of ids that no longer grows: the ids in rising order, in pages of 128, the last of at most as many. The index holds
+/// each page's first id; each other id is the shortest varint of its difference to the one before, all pages in one `Vec`.
+/// Contracts see it as a finite set of numbers.
+#[derive(Drop)]
+pub struct SealedIds {
+    index: Vec<PageStart>,
+    bytes: Vec<u8>,
+    count: u64,
+}
+
+impl Model for SealedIds {
+    ghost use Rattle.std.specs.Prelude.{◌≡◌, List, length};
+    ghost use Rattle.std.specs.Ordering.{int_cmp};
+    ghost use Rattle.std.specs.Coded.{coded_ℤ};
+    ghost use Rattle.std.specs.FinSet as set;
+    ghost use Rattle.osm_ids.specs.Pages.{Page, IsSealed, ids_in, ids_of_pages};
+
+    ghost Value = { set.FinSet int_cmp };
+
+    ghost coded = { set.code coded_ℤ };
+
+    ghost view = { λ a. set.from_list (ids_in a.index.items a.bytes.items) };
+
+    ghost invariant = { λ a. (pages : List Page) × IsSealed a.index.items a.bytes.items pages × (a.count ≡ length (ids_of_pages pages)) };
+}
+
+/// How many ids follow the first of a full page.
+const OTHERS: u8 = 127;
+
+impl SealedIds {
+    /// The ids of an ordered set.
+    pub(crate) fn of(alloc: Global, ids: &BTreeSet<i64>) -> Result<SealedIds, AllocError>
+        ensures { IfOk result (λ sealed. sealed ≡ set.from_list ids.now.keys) }
+    {
+        let mut index = Vec::new(alloc);
+        let mut bytes = Vec::new(alloc);
+        let mut last = 0;
+        let mut room = 0;
+        for &id in ids.iter() {
+            if room == 0 {
+                let place = bytes.len();
+                index.push(PageStart { first: id, place })?;
+                room = OTHERS;
+            } else {
+                put_varint(&mut bytes, id.abs_diff(last))?;
+                room -= 1;
+            }
+            last = id;
+        }
+        let count = ids.len() as u64;
+        Ok(SealedIds {
+            index,
+            bytes,
+            count,
+        })
+    }
+
+    /// Whether the set has the id: the index is searched by halves, and one page is read.
+    pub fn has(&self, id: i64) -> bool
+        ensures { result ≡ set.contains self.now id }
+    {
+        let after = starts_up_to(&self.index, id);
+        if after == 0 {
+            return false;
+        }
+        let start = self.index[after - 1];
+        let end = if after < self.index.len() {
+            self.index[after].place
+        } else {
+            self.bytes.len()
+        };
+        page_has(start.first, part(&self.bytes, start.place, end), id)
+    }
+
+    /// How many ids the set has.
+    pub fn count(&self) -> u64
+        ensures { result ≡ set.len self.now }
+    {
+        self.count
+    }
+
+    /// How many pages the ids lie in.
+    pub fn pages(&self) -> u64
+        ensures { result ≡ div_ceil (set.len self.now) 128 }
+    {
+        self.index.len() as u64
+    }
+
+    /// How many bytes spell the ids of all pages, the first of each page apart. A set has one rising list, so this is one number.
+    pub fn bytes(&self) -> u64
+        ensures { (ids : List ℤ) → IsRising ids → set.from_list ids ≡ self.now → result ≡ length (bytes_of_pages (pages_of ids)) }
+    {
+        self.bytes.len() as u64
+    }
+}
+
+/// The bytes from one place to another.
+fn part(bytes: &[u8], from: usize, to: usize) -> &[u8]
+    requires ordered { from ≤ to }
+    requires within { to ≤ length bytes.now }
+    ensures { result.now ≡ take (to - from) (drop from bytes.now) }
+{
+    &bytes[from..to]
+}
+
+/// How many pages begin at or below the id.
+fn starts_up_to(starts: &[PageStart], id: i64) -> usize
+    ensures within { result ≤ length starts.now }
+    ensures point { IsPartitionedBy (λ (s : PageStart). int_le s.first id) starts.now
+        → IsPartitionPoint (λ (s : PageStart). int_le s.first id ≡ true) (λ (s : PageStart). int_le s.first id ≡ false) starts.now result }
+{
+    starts.partition_point(|start| start.first <= id)
+}

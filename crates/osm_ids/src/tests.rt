@@ -1,0 +1,145 @@
+//! What no clause says: that the calls succeed, and the bytes of known sets.
+
+use crate::{IdSet, Links, SealedIds};
+use std::alloc::{AllocError, Global};
+
+/// Strictly between -2^62 and 2^62, as OpenStreetMap's ids are here.
+const LEAST: i64 = -(1 << 62) + 1;
+
+const GREATEST: i64 = (1 << 62) - 1;
+
+fn gathered(alloc: Global, ids: &[i64]) -> Result<IdSet, AllocError> {
+    let mut set = IdSet::new(alloc);
+    for id in ids {
+        set.add(*id)?;
+    }
+    Ok(set)
+}
+
+fn sealed(ids: IdSet) -> Result<SealedIds, AllocError> {
+    match ids.seal() {
+        Ok(sealed) => Ok(sealed),
+        Err((_, refused)) => Err(refused),
+    }
+}
+
+#[test]
+fn five_twice_and_the_least_id(rt: HostRuntime) -> Result<(), AllocError> {
+    let mut set = IdSet::new(rt.alloc());
+    assert!(rt; set.add(5)?);
+    assert!(rt; !set.add(5)?);
+    assert!(rt; set.add(LEAST)?);
+    let ids = sealed(set)?;
+    assert!(rt; ids.has(5) && ids.has(LEAST) && !ids.has(4));
+    assert_eq!(rt; ids.count(), 2);
+    Ok(())
+}
+
+#[test]
+fn ids_of_known_sizes(rt: HostRuntime) -> Result<(), AllocError> {
+    let alloc = rt.alloc();
+    let mut up_to_129 = Vec::new(alloc);
+    for id in 1..130i64 {
+        up_to_129.push(id)?;
+    }
+    let none: [i64; 0] = [];
+    let few = [300, 3, 1, 2];
+    let far = [GREATEST, LEAST];
+    let ends = [i64::MIN, i64::MAX];
+    for (ids, pages, bytes) in [
+        (&none[..], 0, 0),
+        (&few[..], 1, 4),
+        (&up_to_129[..], 2, 127),
+        (&far[..], 1, 9),
+        (&ends[..], 1, 10),
+    ] {
+        let sealed = sealed(gathered(alloc, ids)?)?;
+        assert_eq!(rt; (sealed.pages(), sealed.bytes()), (pages, bytes));
+        assert_eq!(rt; sealed.count(), ids.len() as u64);
+        assert!(rt; ids.iter().all(|id| sealed.has(*id)));
+        assert!(rt; !sealed.has(0) && !sealed.has(130));
+    }
+    Ok(())
+}
+
+/// The set is as before after an `add` that is refused, and is handed back by a `seal` that is: both can be tried again.
+#[test]
+fn refused_once_and_tried_again(rt: HostRuntime) -> Result<(), AllocError> {
+    let mut set = IdSet::new(rt.alloc());
+    for id in 0..300i64 {
+        match set.add(id) {
+            Ok(is_new) => assert!(rt; is_new),
+            Err(_) => assert!(rt; set.add(id)?),
+        }
+    }
+    let ids = match set.seal() {
+        Ok(ids) => ids,
+        Err((set, _)) => sealed(set)?,
+    };
+    assert_eq!(rt; (ids.count(), ids.pages(), ids.bytes()), (300, 3, 297));
+    assert!(rt; ids.has(0) && ids.has(128) && ids.has(299) && !ids.has(300));
+    Ok(())
+}
+
+/// The links are as before after an `add` that is refused. A refused `close` says so.
+#[test]
+fn links_refused_once(rt: HostRuntime) -> Result<(), AllocError> {
+    let mut links = Links::new(rt.alloc());
+    for member in 0..100i64 {
+        match links.add(member, member + 1) {
+            Ok(is_new) => assert!(rt; is_new),
+            Err(_) => assert!(rt; links.add(member, member + 1)?),
+        }
+    }
+    let mut start = IdSet::new(rt.alloc());
+    if start.add(90).is_err() {
+        assert!(rt; start.add(90)?);
+    }
+    if let Ok(ids) = links.close(start) {
+        match ids.seal() {
+            Ok(ids) => assert!(rt; ids.count() == 11 && ids.has(100) && !ids.has(89)),
+            Err((ids, _)) => assert_eq!(rt; sealed(ids)?.count(), 11),
+        }
+    }
+    Ok(())
+}
+
+/// Relations by their members, and the ids that the start then holds.
+fn closed(alloc: Global, links: &[(i64, i64)], start: &[i64]) -> Result<SealedIds, AllocError> {
+    let mut all = Links::new(alloc);
+    for (member, parent) in links {
+        all.add(*member, *parent)?;
+    }
+    sealed(all.close(gathered(alloc, start)?)?)
+}
+
+#[test]
+fn chain_in_reverse_order_beside_cycles(rt: HostRuntime) -> Result<(), AllocError> {
+    let links = [(9, 10), (8, 9), (12, 11), (11, 12), (13, 13)];
+    let kept = closed(rt.alloc(), &links, &[8])?;
+    assert!(rt; kept.has(8) && kept.has(9) && kept.has(10));
+    assert_eq!(rt; kept.count(), 3);
+    Ok(())
+}
+
+#[test]
+fn cycle_that_the_start_reaches(rt: HostRuntime) -> Result<(), AllocError> {
+    let kept = closed(rt.alloc(), &[(1, 2), (2, 3), (3, 1), (4, 1)], &[2])?;
+    assert!(rt; kept.has(1) && kept.has(2) && kept.has(3));
+    assert_eq!(rt; kept.count(), 3);
+    Ok(())
+}
+
+#[test]
+fn link_added_twice(rt: HostRuntime) -> Result<(), AllocError> {
+    let mut links = Links::new(rt.alloc());
+    assert!(rt; links.add(8, 9)?);
+    assert!(rt; !links.add(8, 9)?);
+    assert!(rt; links.add(8, i64::MIN)?);
+    let mut start = IdSet::new(rt.alloc());
+    start.add(8)?;
+    let kept = sealed(links.close(start)?)?;
+    assert!(rt; kept.has(9) && kept.has(i64::MIN));
+    assert_eq!(rt; kept.count(), 3);
+    Ok(())
+}

@@ -1,0 +1,5 @@
+pub mod Filters
+pub mod Extracts
+pub mod Levels
+pub mod ParentLaws
+pub mod Passes

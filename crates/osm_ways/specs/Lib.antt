@@ -1,0 +1,3 @@
+pub mod Selection
+pub mod Parents
+pub mod Phases

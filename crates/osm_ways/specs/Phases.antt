@@ -1,0 +1,109 @@
+-- The passes over a list, each entity by itself, and the sets that they gather.
+use Rattle.std.specs.Prelude.{ℤ, Bool, if◌then◌else◌, List, refl}
+use Rattle.std.specs.Coded.{Coded, code_by, coded×, coded_ℤ}
+use Rattle.std.specs.List.{fold}
+use Rattle.std.specs.Ordering.{int_cmp}
+use Rattle.std.specs.FinSet as set
+use Rattle.osm_ids.specs.Links.{link_cmp, link_code}
+use Rattle.osm_ways.specs.Selection.{MemberSeen, node_member, way_member, relation_member, Seen, a_node, a_way, a_relation, no_ids, is_kept_way, is_kept_relation, is_kept}
+
+abbrev pub Ids : Type 0
+Ids = set.FinSet int_cmp
+
+abbrev pub ids_code : Coded Ids
+ids_code = set.code coded_ℤ
+
+abbrev pub LinkSet : Type 0
+LinkSet = set.FinSet link_cmp
+
+-- ---- what the passes have
+
+-- of the nodes and the ways: the box's nodes, all nodes that are kept, the kept ways
+pub record WaySets : Type 0 where
+  pub box_ids : Ids
+  pub node_ids : Ids
+  pub way_ids : Ids
+
+-- of the relations besides: those that nodes and ways select, and a link from each relation member to its relation
+pub record RelationSets : Type 0 where
+  pub ways : WaySets
+  pub start : Ids
+  pub links : LinkSet
+
+-- all that selects, parents too
+pub record ParentSets : Type 0 where
+  pub ways : WaySets
+  pub relation_ids : Ids
+
+abbrev pub way_sets_code : Coded WaySets
+way_sets_code = code_by (Ids × (Ids × Ids)) (coded× ids_code (coded× ids_code ids_code)) (λ s. (s.box_ids, (s.node_ids, s.way_ids))) (λ p. record { box_ids = p.0; node_ids = p.1.0; way_ids = p.1.1 }) (λ _. refl)
+
+abbrev pub relation_sets_code : Coded RelationSets
+relation_sets_code = code_by (WaySets × (Ids × LinkSet)) (coded× way_sets_code (coded× ids_code (set.code link_code))) (λ s. (s.ways, (s.start, s.links))) (λ p. record { ways = p.0; start = p.1.0; links = p.1.1 }) (λ _. refl)
+
+abbrev pub parent_sets_code : Coded ParentSets
+parent_sets_code = code_by (WaySets × Ids) (coded× way_sets_code ids_code) (λ s. (s.ways, s.relation_ids)) (λ p. record { ways = p.0; relation_ids = p.1 }) (λ _. refl)
+
+-- ---- what one entity adds
+
+abbrev pub with_node : Ids → ℤ → Bool → Ids
+with_node ids id inside = if inside then set.insert ids id else ids
+
+abbrev pub with_way : WaySets → ℤ → List ℤ → WaySets
+with_way sets id refs =
+    if is_kept_way (set.contains sets.box_ids) refs then record sets { node_ids = fold set.insert sets.node_ids refs; way_ids = set.insert sets.way_ids id } else sets
+
+-- the link of a member to its relation
+abbrev pub with_link : ℤ → LinkSet → MemberSeen → LinkSet
+with_link id links (node_member own) = links
+with_link id links (way_member own) = links
+with_link id links (relation_member own) = set.insert links (record { member = own; parent = id })
+
+-- whether a node or a way selects a relation
+abbrev pub is_start : WaySets → List MemberSeen → Bool
+is_start sets members = is_kept_relation (set.contains sets.node_ids) (set.contains sets.way_ids) no_ids members
+
+abbrev pub with_relation : RelationSets → ℤ → List MemberSeen → RelationSets
+with_relation sets id members =
+    record { ways = sets.ways; start = if is_start sets.ways members then set.insert sets.start id else sets.start; links = fold (with_link id) sets.links members }
+
+-- ---- the passes
+
+abbrev pub node_step : Ids → Seen → Ids
+node_step ids (a_node id inside) = with_node ids id inside
+node_step ids (a_way id refs) = ids
+node_step ids (a_relation id members) = ids
+
+abbrev pub way_step : WaySets → Seen → WaySets
+way_step sets (a_node id inside) = sets
+way_step sets (a_way id refs) = with_way sets id refs
+way_step sets (a_relation id members) = sets
+
+abbrev pub relation_step : RelationSets → Seen → RelationSets
+relation_step sets (a_node id inside) = sets
+relation_step sets (a_way id refs) = sets
+relation_step sets (a_relation id members) = with_relation sets id members
+
+-- where the nodes end, all nodes of the box are kept, and no way yet
+abbrev pub start_ways : Ids → WaySets
+start_ways ids = record { box_ids = ids; node_ids = ids; way_ids = set.empty }
+
+abbrev pub start_relations : WaySets → RelationSets
+start_relations sets = record { ways = sets; start = set.empty; links = set.empty }
+
+abbrev pub node_pass : List Seen → Ids
+node_pass seen = fold node_step set.empty seen
+
+abbrev pub way_pass : List Seen → WaySets
+way_pass seen = fold way_step (start_ways (node_pass seen)) seen
+
+abbrev pub relation_pass : List Seen → RelationSets
+relation_pass seen = fold relation_step (start_relations (way_pass seen)) seen
+
+-- ---- what they keep
+
+abbrev pub is_chosen : WaySets → Seen → Bool
+is_chosen sets = is_kept (set.contains sets.box_ids) (set.contains sets.node_ids) (set.contains sets.way_ids) no_ids
+
+abbrev pub is_chosen_with_parents : ParentSets → Seen → Bool
+is_chosen_with_parents sets = is_kept (set.contains sets.ways.box_ids) (set.contains sets.ways.node_ids) (set.contains sets.ways.way_ids) (set.contains sets.relation_ids)

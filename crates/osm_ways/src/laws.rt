@@ -1,0 +1,38 @@
+//! The laws of the selection. Each is the contract of a function that does nothing: a proof that needs the law calls it, or
+//! takes the lemma of that name from this crate's `proofs/`.
+
+ghost use Rattle.std.specs.Prelude.{◌≡◌, List, map};
+ghost use Rattle.std.specs.Ordering.{int_cmp};
+ghost use Rattle.std.specs.FinSet as set;
+ghost use Rattle.osm_ids.specs.Links.{IsLeast};
+ghost use Rattle.osm_ways.specs.Selection.{Seen, node_ids, way_ids, keeps, extract};
+ghost use Rattle.osm_ways.specs.Parents.{IsLeastSelected, relation_ids, keeps_with_parents, extract_with_parents, links_in, start_in};
+ghost use Rattle.osm_ways.specs.Phases.{way_pass, relation_pass, is_chosen, is_chosen_with_parents};
+
+/// An extract of an extract is the extract, with and without parents.
+pub fn extract_twice_is_once<X>()
+    ensures ways { (look : X → Seen) (xs : List X) → extract look (extract look xs) ≡ extract look xs }
+    ensures parents { (look : X → Seen) (xs : List X) → extract_with_parents look (extract_with_parents look xs) ≡ extract_with_parents look xs }
+{}
+
+/// Where two views of an entity look alike to the selection, the extract of the one is the one view of the extract.
+pub fn extract_follows_view<X, Y>()
+    ensures ways { (view : X → Y) (look : X → Seen) (other : Y → Seen) → ((x : X) → other (view x) ≡ look x) → (xs : List X) → map view (extract look xs) ≡ extract other (map view xs) }
+    ensures parents { (view : X → Y) (look : X → Seen) (other : Y → Seen) → ((x : X) → other (view x) ≡ look x) → (xs : List X) → map view (extract_with_parents look xs) ≡ extract_with_parents other (map view xs) }
+{}
+
+/// The relations that are kept with all parents are the least set that has the id of each relation with a node member, a way
+/// member or a relation member that is kept; and it is the least set over the links from each relation member to its relation
+/// that holds the relations which nodes and ways select.
+pub fn parents_are_least()
+    ensures least { (seen : List Seen) → IsLeastSelected (node_ids seen) (way_ids seen) seen (relation_ids seen) }
+    ensures links { (seen : List Seen) (start ids : set.FinSet int_cmp) → set.contains start ≡ start_in seen → IsLeast (links_in seen) start ids → set.contains ids ≡ relation_ids seen }
+{}
+
+/// Over a whole list the passes keep what the extract keeps: of two passes, of nodes and of ways, the extract; of a third one,
+/// of relations, and the least set over its links, the extract with all parents.
+pub fn passes_are_extract()
+    ensures ways { (seen : List Seen) → is_chosen (way_pass seen) ≡ keeps seen }
+    ensures kept { (seen : List Seen) → (relation_pass seen).ways ≡ way_pass seen }
+    ensures parents { (seen : List Seen) (ids : set.FinSet int_cmp) → IsLeast (set.contains (relation_pass seen).links) (relation_pass seen).start ids → is_chosen_with_parents (record { ways = (relation_pass seen).ways; relation_ids = ids }) ≡ keeps_with_parents seen }
+{}

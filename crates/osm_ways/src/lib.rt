@@ -1,0 +1,4 @@
+//! Which entities of a list are kept: the complete-ways extract, with and without all parents.
+#![tactic(auto)]
+
+pub mod laws;
