@@ -8,3 +8,4 @@ pub mod Judging
 pub mod Advancing
 pub mod Longest
 pub mod Putting
+pub mod Lending
