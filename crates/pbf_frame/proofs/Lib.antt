@@ -6,7 +6,6 @@ pub mod BlobLemmas
 pub mod Parting
 pub mod Judging
 pub mod Advancing
-pub mod Lending
 pub mod VerdictLemmas
 pub mod Beginnings
 pub mod Longest

@@ -1,14 +1,8 @@
 -- Frames done, one more, and none left.
-use Rattle.std.proofs.Common.{◌≡◌, ℕ, List, [], ◌∷◌, ◌++◌, Option, Some, None, refl, sym, ap, ◌∙◌, subst, append_assoc}
+use Rattle.std.proofs.Common.{◌≡◌, List, [], ◌∷◌, ◌++◌, Option, Some, None, refl, sym, ap, ◌∙◌, append_assoc}
 use Rattle.std.specs.Option.{option_map}
-use Rattle.std.proofs.lemmas.List.{append-nil}
-use Rattle.pbf_wire.specs.declared.fault.Fault.{Fault}
 use Rattle.pbf_frame.specs.Frames.{FrameSpec}
-use Rattle.pbf_frame.specs.Verdict.{Verdict, with_first_known, with_all, Gone, Says}
-
-pub gone_start : (first : Option Verdict) → Gone first [] first
-gone_start None = refl
-gone_start (Some verdict) = refl
+use Rattle.pbf_frame.specs.Verdict.{Verdict, with_first_known, with_all, Gone}
 
 -- one more frame is done
 pub gone_more : (first mid rest : Option Verdict) (frames : List FrameSpec) (f : FrameSpec) → Gone first frames mid → mid ≡ with_first_known f rest → Gone first (frames ++ f ∷ []) rest
@@ -16,13 +10,6 @@ gone_more first mid rest frames f gone e = gone ∙ ap (λ (v : Option Verdict).
   same : (rest : Option Verdict) → option_map (with_all frames) (with_first_known f rest) ≡ option_map (with_all (frames ++ f ∷ [])) rest
   same None = refl
   same (Some verdict) = ap (λ (l : List FrameSpec). let v : Verdict = (l, verdict.1) in Some v) (sym (append_assoc frames (f ∷ []) verdict.0))
-
--- what is left is a fault, or nothing
-pub gone_end : (first mid : Option Verdict) (frames : List FrameSpec) (ending : Option Fault) → Gone first frames mid → Says mid ([], ending) → Says first (frames, ending)
-gone_end first mid frames ending gone says = subst (λ (v : Option Verdict). Says v (frames, ending)) (sym gone) (all mid says) where
-  all : (mid : Option Verdict) → Says mid ([], ending) → Says (option_map (with_all frames) mid) (frames, ending)
-  all None says = tt
-  all (Some verdict) says = ap (with_all frames) says ∙ ap (λ (l : List FrameSpec). let v : Verdict = (l, ending) in v) (append-nil frames)
 
 -- of known verdicts, what is done is a front of all
 pub gone_split : (first mid : Option Verdict) (fs : List FrameSpec) (all : Verdict) → Gone first fs mid → first ≡ Some all → (rest : Verdict) × (mid ≡ Some rest) × (all.0 ≡ fs ++ rest.0)

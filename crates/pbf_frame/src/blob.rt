@@ -127,8 +127,8 @@ fn text_place(field: Option<Field<'_>>, at: u64) -> u64
     }
 }
 
-#[tactic(auto, using(crate::proofs::BlobLemmas::payload_short))]
 /// The payload, and where its first byte stands in the file.
+#[tactic(auto, using(crate::proofs::BlobLemmas::payload_short))]
 pub(crate) fn payload_in(blob: &[u8], at: u64) -> (&[u8], u64)
     requires { at + length blob.now ≤ 2 ^ 63 }
     ensures bytes { result.0.now ≡ raw_of at blob.now }
