@@ -5,8 +5,7 @@ ghost use Rattle.std.specs.Prelude.{◌≡◌, []};
 use crate::{MOST_TEXTS, Table, TableOut, laws, text_count};
 use pbf_wire::{Fault, ReadFault, Reason};
 use std::alloc::{AllocError, Global};
-use std::hash::BuildHasherDefault;
-use std::hash::FoldHasher;
+use std::hash::{BuildHasherDefault, FoldHasher};
 use std::test::Fail;
 
 /// The texts ``, `highway`, `stop` and `ann`.
@@ -114,7 +113,10 @@ fn an_empty_text_in_use(rt: HostRuntime) -> Result<(), Fail> {
     assert_eq!(rt; table.index_of(b"a")?, 2);
     let mut out = Vec::new(rt.alloc());
     table.write(&mut out)?;
-    assert_eq!(rt; out.as_slice(), [0x0a, 0x00, 0x0a, 0x00, 0x0a, 0x01, 0x61].as_slice());
+    assert_eq!(rt;
+        out.as_slice(),
+        [0x0a, 0x00, 0x0a, 0x00, 0x0a, 0x01, 0x61].as_slice()
+    );
     Ok(())
 }
 
@@ -122,7 +124,17 @@ fn an_empty_text_in_use(rt: HostRuntime) -> Result<(), Fail> {
 #[test]
 fn memory_that_is_refused(rt: HostRuntime) {
     let mut table = writer(rt.alloc());
-    for text in [b"a".as_slice(), b"b", b"c", b"d", b"e", b"f", b"g", b"h", b"i"] {
+    for text in [
+        b"a".as_slice(),
+        b"b",
+        b"c",
+        b"d",
+        b"e",
+        b"f",
+        b"g",
+        b"h",
+        b"i",
+    ] {
         let before = table.len();
         assert!(rt; before < 9);
         let refused = table.index_of(text).is_err();
