@@ -9,3 +9,4 @@ pub mod Advancing
 pub mod Longest
 pub mod Putting
 pub mod Lending
+pub mod ReadBack
