@@ -4,13 +4,12 @@ use Rattle.std.proofs.lemmas.Bool.Decides.{nat_tests}
 use Rattle.std.proofs.lemmas.List.{append-nil}
 use Rattle.std.specs.List.{flat_map, AllByRecursion}
 use Rattle.std.specs.Prelude.{is_none}
-use Rattle.byteorder.specs.Endian.{big_number, big_bytes, big_from}
+use Rattle.byteorder.specs.Endian.{big_bytes, big_from}
 use Rattle.byteorder.specs.Numbers.{length-bytes_high_first, big_number-reads_back}
-use Rattle.pbf_wire.specs.declared.fault.Fault.{Fault}
 use Rattle.pbf_wire.specs.declared.fault.Reason.TheVariants.{DataSize, RawLong}
 use Rattle.pbf_wire.specs.Least.{least}
-use Rattle.pbf_wire.specs.Message.{Slot, Scalar, Each, parts_of, message, slot_bytes, SlotFits, SlotIs}
-use Rattle.pbf_wire.specs.Occurrence.{Occurrence, items, found}
+use Rattle.pbf_wire.specs.Message.{Slot, Scalar, Each, parts_of, message, slot_bytes, SlotFits}
+use Rattle.pbf_wire.specs.Occurrence.{items, found}
 use Rattle.pbf_wire.specs.Reading.{last_of}
 use Rattle.pbf_wire.specs.Signed.{low_i32}
 use Rattle.pbf_wire.specs.Varint.{shortest}
@@ -22,11 +21,11 @@ use Rattle.pbf_wire.proofs.WritingLemmas.{message_first, message_none, each_byte
 use Rattle.pbf_frame.specs.declared.blob.TheConstants.{RAW, BLOB_KINDS, RAW_LIMIT}
 use Rattle.pbf_frame.specs.declared.frame.FrameKind.{FrameKind}
 use Rattle.pbf_frame.specs.declared.frame.FrameKind.TheVariants as kind
-use Rattle.pbf_frame.specs.declared.header.TheConstants.{TYPE, DATASIZE, HEADER_KINDS, HEADER_LIMIT, LARGEST_SIZE}
-use Rattle.pbf_frame.specs.Faults.{fault, fault_where, earlier}
+use Rattle.pbf_frame.specs.declared.header.TheConstants.{TYPE, DATASIZE, HEADER_KINDS, LARGEST_SIZE}
+use Rattle.pbf_frame.specs.Faults.{fault_where, earlier}
 use Rattle.pbf_frame.specs.Header.{text_of, name_of, kind_of, size_within, size_of, missing, size_faults, header_faults}
 use Rattle.pbf_frame.specs.Blob.{compressed, raw_faults, blob_faults, blob_fault, raw_of}
-use Rattle.pbf_frame.specs.Frames.{FrameSpec, order_faults, frame_kind, frame_end, frame_bytes, frame_payload, payload_in, blob_at}
+use Rattle.pbf_frame.specs.Frames.{order_faults, frame_kind, frame_end, frame_bytes, frame_payload, payload_in, blob_at}
 use Rattle.pbf_frame.specs.Sound.{IsSound, IsFrame}
 use Rattle.pbf_frame.specs.Writing.{written_name, written_header, written_blob, written_at, written_frame}
 
@@ -95,14 +94,24 @@ header_short k size small =
     let name = Each TYPE (written_name k ∷ []) in
     let number = Scalar DATASIZE (Some size) in
     let parts : written_header k size ≡ (shortest (TYPE * 8 + 2) ++ (shortest (length (written_name k)) ++ written_name k)) ++ (shortest (DATASIZE * 8) ++ shortest size) =
-        header_is k size ∙ message_first name (number ∷ []) ∙ ap (λ l. slot_bytes name ++ l) (message_first number [] ∙ ap (λ l. slot_bytes number ++ l) message_none ∙ append-nil (slot_bytes number) ∙ scalar_bytes DATASIZE size) ∙ ap (λ l. l ++ (shortest (DATASIZE * 8) ++ shortest size)) (each_bytes TYPE (written_name k)) in
+    header_is k size ∙ message_first name (number ∷ []) ∙ ap (λ l. slot_bytes name ++ l) (message_first number [] ∙ ap (λ l. slot_bytes number ++ l) message_none ∙ append-nil (slot_bytes number) ∙ scalar_bytes DATASIZE size) ∙ ap (λ l. l ++ (shortest (DATASIZE * 8) ++ shortest size)) (each_bytes TYPE (written_name k)) in
     let tag = spelling_short (TYPE * 8 + 2) (omega arith) in
     let length_ = spelling_short (length (written_name k)) (omega (arith, name_short k)) in
     let second = spelling_short (DATASIZE * 8) (omega arith) in
     let value = spelling_short size small in
-    omega (arith, tag, length_, second, value, name_short k, ap length parts,
+    omega (
+      arith,
+      tag,
+      length_,
+      second,
+      value,
+      name_short k,
+      ap length parts,
       length-append (shortest (TYPE * 8 + 2) ++ (shortest (length (written_name k)) ++ written_name k)) (shortest (DATASIZE * 8) ++ shortest size),
-      length-append (shortest (TYPE * 8 + 2)) (shortest (length (written_name k)) ++ written_name k), length-append (shortest (length (written_name k))) (written_name k), length-append (shortest (DATASIZE * 8)) (shortest size))
+      length-append (shortest (TYPE * 8 + 2)) (shortest (length (written_name k)) ++ written_name k),
+      length-append (shortest (length (written_name k))) (written_name k),
+      length-append (shortest (DATASIZE * 8)) (shortest size),
+    )
 
 header_fits : (k : FrameKind) (size : ℕ) → size < 2 ^ 64 → AllByRecursion SlotFits (header_slots k size)
 header_fits k size small = ((omega arith, omega arith), ((omega arith, omega arith, small), tt))
@@ -178,7 +187,7 @@ module _ (place : ℕ) (k : FrameKind) (payload : List ℕ) (known : k ≡ kind.
         whole = header_whole (place + 4) k (length (written_blob payload)) size_small;
         sized = header_sized (place + 4) k (length (written_blob payload)) size_small;
         ordered = ap (λ (x : FrameKind). least (order_faults h place x (frame_end f))) written_kind ∙ ordered;
-        sound = sound_any (frame_kind f) (blob_at f) f.blob (blob_sound (blob_at f) payload small)
+        sound = sound_any (frame_kind f) (blob_at f) f.blob (blob_sound (blob_at f) payload small);
       }
 
 -- its bytes are the same at every place
