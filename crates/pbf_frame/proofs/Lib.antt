@@ -10,3 +10,4 @@ pub mod VerdictLemmas
 pub mod Beginnings
 pub mod Longest
 pub mod Putting
+pub mod ReadBack

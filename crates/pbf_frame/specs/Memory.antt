@@ -1,5 +1,5 @@
 -- What the devices over memory, and those over std, tell of themselves.
-use Rattle.std.specs.Prelude.{ℕ, List}
+use Rattle.std.specs.Prelude.{ℕ, List, Option}
 use Rattle.pbf_frame.specs.declared.memory.Pieces.{Pieces}
 use Rattle.pbf_frame.specs.declared.memory.Sink.{Sink}
 use Rattle.pbf_frame.specs.declared.std_device.FromRead.{FromRead}
@@ -12,6 +12,13 @@ left_in pieces = pieces.bytes.now
 abbrev pub failures_of : Pieces → ℕ
 failures_of pieces = pieces.failures
 
+-- how it cuts them, and which call fails
+abbrev pub lengths_of : Pieces → List ℕ
+lengths_of pieces = pieces.lengths.now
+
+abbrev pub failing_call_of : Pieces → Option ℕ
+failing_call_of pieces = pieces.failing_call
+
 -- the bytes taken
 abbrev pub taken_by : Sink → List ℕ
 taken_by sink = sink.bytes.items
@@ -20,8 +27,19 @@ taken_by sink = sink.bytes.items
 abbrev pub room_of : Sink → ℕ
 room_of sink = sink.room
 
+-- the most that it takes at once, or 0
+abbrev pub most_of : Sink → ℕ
+most_of sink = sink.most
+
 abbrev pub sink_failures : Sink → ℕ
 sink_failures sink = sink.failures
+
+-- the reader and the writer below
+abbrev pub reader_of : {R : Type 0} → FromRead R → R
+reader_of feed = feed.reader
+
+abbrev pub writer_of : {W : Type 0} → ToWrite W → W
+writer_of drain = drain.writer
 
 abbrev pub reader_failures : {R : Type 0} → FromRead R → ℕ
 reader_failures feed = feed.failures

@@ -88,9 +88,9 @@ Went old (Err stop) new = Unit {0}
 
 -- where the reader stands after
 abbrev pub Answers : {F : Type 0} → FrameReader F → Result (Option FrameSpec) Stop → FrameReader F → Type 0
-Answers old (Ok (Some f)) new = (new.state ≡ Reading) × (f.offset ≡ old.place) × (new.place ≡ frame_end f) × (old.place < new.place) × (new.had_header ≡ (old.had_header || is_header (frame_kind f)))
-Answers old (Ok None) new = (new.state ≡ Ended) × (new.place ≡ old.place) × (old.had_header ≡ true)
-Answers old (Err stop) new = (new.state ≡ Stopped stop) × (new.place ≡ old.place)
+Answers old (Ok (Some f)) new = IsReading new × (f.offset ≡ old.place) × (new.place ≡ frame_end f) × (old.place < new.place) × (new.had_header ≡ (old.had_header || is_header (frame_kind f)))
+Answers old (Ok None) new = HasEnded new × (new.place ≡ old.place) × (old.had_header ≡ true)
+Answers old (Err stop) new = HasStopped new stop × (new.place ≡ old.place)
 
 abbrev pub IfErrOf : {X : Type 0} → Result X Stop → (Stop → Type 0) → Type 0
 IfErrOf (Ok x) P = Unit {0}
@@ -115,9 +115,9 @@ pub record Advances {F : Type 0} (remaining : F → Option (List ℕ)) (failures
 
 -- a reader at its end stays there, and a spent one stays spent, and neither touches the feed
 abbrev pub IsNext : {F : Type 0} → (F → Option (List ℕ)) → (F → ℕ) → (F → List GName) → (F → List ℕ → Type 0) → FrameReader F → Result (Option FrameSpec) Stop → FrameReader F → Type 0
-IsNext remaining failures lender carries old answer new = (old.state ≡ Reading → Advances remaining failures lender carries old answer new)
-    × (old.state ≡ Ended → (answer ≡ Ok None) × (new ≡ old))
-    × ((stop : Stop) → old.state ≡ Stopped stop → (answer ≡ Err stop) × (new ≡ old))
+IsNext remaining failures lender carries old answer new = (IsReading old → Advances remaining failures lender carries old answer new)
+    × (HasEnded old → (answer ≡ Ok None) × (new ≡ old))
+    × ((stop : Stop) → HasStopped old stop → (answer ≡ Err stop) × (new ≡ old))
 
 -- the same, of the frame that is lent
 pub record IsLendingNext {F : Type 0} (remaining : F → Option (List ℕ)) (failures : F → ℕ) (lender : F → List GName) (carries : F → List ℕ → Type 0) (old : FrameReader F) (result : Result (Option Frame) Stop) (new : FrameReader F) : Type 0 where

@@ -1,10 +1,15 @@
 //! The laws of known bytes and of the frames of a file. Each is the contract of a function that does nothing: a proof that
 //! needs the law calls it, or takes the lemma of that name from this crate's `proofs/`.
 
-ghost use Rattle.std.specs.Prelude.{◌≡◌, ◌↔◌, ℕ, Bool, List, [], ◌++◌, Option, Ok, Some};
+ghost use Rattle.std.specs.Prelude.{◌≡◌, ℕ, ◌<◌, Bool, List, [], ◌++◌, Option, None, Ok, Some, length};
 ghost use Rattle.pbf_frame.specs.Devices.{prepend, append};
-ghost use Rattle.pbf_frame.specs.Frames.{FrameSpec, frame_bytes, next_of};
+ghost use Rattle.pbf_wire.specs.Least.{least};
+ghost use Rattle.pbf_frame.specs.declared.blob.TheConstants.{RAW_LIMIT};
+ghost use Rattle.pbf_frame.specs.declared.frame.FrameKind.{FrameKind};
+ghost use Rattle.pbf_frame.specs.declared.frame.FrameKind.TheVariants as kinds;
+ghost use Rattle.pbf_frame.specs.Frames.{FrameSpec, frame_bytes, frame_end, frame_kind, frame_payload, order_faults, next_of};
 ghost use Rattle.pbf_frame.specs.Sound.{IsFrame, AreFrames, had_after, place_after, IsLongestFront};
+ghost use Rattle.pbf_frame.specs.Writing.{written_at, written_frame};
 ghost use Rattle.pbf_frame.specs.Verdict.{joined, judged, with_all};
 
 /// Nothing behind the known bytes changes them.
@@ -45,4 +50,14 @@ pub fn frames_then_rest()
 /// fault is that of what follows them.
 pub fn longest_front()
     ensures { (had_header : Bool) (place : ℕ) (bytes : List ℕ) → IsLongestFront had_header place bytes (judged had_header place bytes) }
+{}
+
+/// A frame in written form has no fault where its order and its end have none; its kind and its payload are those that were
+/// written, and its bytes are the same wherever it stands.
+pub fn written_frame_is_read()
+    ensures sound { (had_header : Bool) (place : ℕ) (kind : FrameKind) (payload : List ℕ) → (kind ≡ kinds.Other → ⊥) → length payload < RAW_LIMIT
+        → least (order_faults had_header place kind (frame_end (written_at place kind payload))) ≡ None → IsFrame had_header place (written_at place kind payload) }
+    ensures kind { (place : ℕ) (kind : FrameKind) (payload : List ℕ) → (kind ≡ kinds.Other → ⊥) → length payload < RAW_LIMIT → frame_kind (written_at place kind payload) ≡ kind }
+    ensures payload { (place : ℕ) (kind : FrameKind) (payload : List ℕ) → (kind ≡ kinds.Other → ⊥) → length payload < RAW_LIMIT → frame_payload (written_at place kind payload) ≡ payload }
+    ensures bytes { (place : ℕ) (kind : FrameKind) (payload : List ℕ) → frame_bytes (written_at place kind payload) ≡ written_frame kind payload }
 {}

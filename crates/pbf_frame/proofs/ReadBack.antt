@@ -1,0 +1,196 @@
+-- A frame in written form has no fault, and its kind and payload are those that were written.
+use Rattle.std.proofs.Common.{◌≡◌, ℕ, ◌+◌, ◌*◌, ◌%◌, ◌^◌, ◌<◌, ◌≤◌, nat_lt, nat_le, Bool, true, false, List, [], ◌∷◌, ◌++◌, length, Option, Some, None, refl, sym, ap, ◌∙◌, subst, length-append, arith}
+use Rattle.std.proofs.lemmas.Bool.Decides.{nat_tests}
+use Rattle.std.proofs.lemmas.List.{append-nil}
+use Rattle.std.specs.List.{flat_map, AllByRecursion}
+use Rattle.std.specs.Prelude.{is_none}
+use Rattle.byteorder.specs.Endian.{big_bytes, big_from}
+use Rattle.byteorder.specs.Numbers.{length-bytes_high_first, big_number-reads_back}
+use Rattle.pbf_wire.specs.declared.fault.Reason.TheVariants.{DataSize, RawLong}
+use Rattle.pbf_wire.specs.Least.{least}
+use Rattle.pbf_wire.specs.Message.{Slot, Scalar, Each, parts_of, message, slot_bytes, SlotFits}
+use Rattle.pbf_wire.specs.Occurrence.{items, found}
+use Rattle.pbf_wire.specs.Reading.{last_of}
+use Rattle.pbf_wire.specs.Signed.{low_i32}
+use Rattle.pbf_wire.specs.Varint.{shortest}
+use Rattle.pbf_wire.specs.Wire.{wire}
+use Rattle.pbf_wire.specs.Writing.{occurrences_of}
+use Rattle.pbf_wire.proofs.MessageLemmas.{fields_written, no_wire_fault}
+use Rattle.pbf_wire.proofs.Shortest.{shortest_spells}
+use Rattle.pbf_wire.proofs.WritingLemmas.{message_first, message_none, each_bytes, scalar_bytes}
+use Rattle.pbf_frame.specs.declared.blob.TheConstants.{RAW, BLOB_KINDS, RAW_LIMIT}
+use Rattle.pbf_frame.specs.declared.frame.FrameKind.{FrameKind}
+use Rattle.pbf_frame.specs.declared.frame.FrameKind.TheVariants as kind
+use Rattle.pbf_frame.specs.declared.header.TheConstants.{TYPE, DATASIZE, HEADER_KINDS, LARGEST_SIZE}
+use Rattle.pbf_frame.specs.Faults.{fault_where, earlier}
+use Rattle.pbf_frame.specs.Header.{text_of, name_of, kind_of, size_within, size_of, missing, size_faults, header_faults}
+use Rattle.pbf_frame.specs.Blob.{compressed, raw_faults, blob_faults, blob_fault, raw_of}
+use Rattle.pbf_frame.specs.Frames.{order_faults, frame_kind, frame_end, frame_bytes, frame_payload, payload_in, blob_at}
+use Rattle.pbf_frame.specs.Sound.{IsSound, IsFrame}
+use Rattle.pbf_frame.specs.Writing.{written_name, written_header, written_blob, written_at, written_frame}
+
+spelling_short : (v : ℕ) → v < 2 ^ 64 → length (shortest v) ≤ 10
+spelling_short v small = (shortest_spells v small).short
+
+-- ---- the blob
+
+abbrev blob_slots : List ℕ → List Slot
+blob_slots payload = Each RAW (payload ∷ []) ∷ []
+
+blob_is : (payload : List ℕ) → written_blob payload ≡ message (blob_slots payload)
+unfolding written_blob
+blob_is payload = refl
+
+blob_short : (payload : List ℕ) → length payload < RAW_LIMIT → length (written_blob payload) ≤ 20 + length payload
+blob_short payload small =
+    let parts : written_blob payload ≡ shortest (RAW * 8 + 2) ++ (shortest (length payload) ++ payload) = blob_is payload ∙ message_first (Each RAW (payload ∷ [])) [] ∙ ap (λ l. slot_bytes (Each RAW (payload ∷ [])) ++ l) message_none ∙ append-nil (slot_bytes (Each RAW (payload ∷ []))) ∙ each_bytes RAW payload in
+    let tag = spelling_short (RAW * 8 + 2) (omega arith) in
+    let size = spelling_short (length payload) (omega (arith, small)) in
+    omega (arith, tag, size, ap length parts, length-append (shortest (RAW * 8 + 2)) (shortest (length payload) ++ payload), length-append (shortest (length payload)) payload)
+
+blob_fits : (payload : List ℕ) → AllByRecursion SlotFits (blob_slots payload)
+blob_fits payload = ((omega arith, omega arith), tt)
+
+blob_fields : (at : ℕ) (payload : List ℕ) → length payload < RAW_LIMIT → found (items at (written_blob payload)) ≡ occurrences_of at (flat_map parts_of (blob_slots payload))
+blob_fields at payload small =
+    ap (λ l. found (items at l)) (blob_is payload)
+    ∙ fields_written at (blob_slots payload) (blob_fits payload) (subst (λ l. length l < 2 ^ 64) (blob_is payload) (omega (arith, blob_short payload small, small)))
+
+blob_payload : (at : ℕ) (payload : List ℕ) → length payload < RAW_LIMIT → raw_of at (written_blob payload) ≡ payload
+blob_payload at payload small = ap (λ os. text_of (last_of RAW os)) (blob_fields at payload small)
+
+blob_wired : (at : ℕ) (payload : List ℕ) → length payload < RAW_LIMIT → wire BLOB_KINDS (items at (written_blob payload)) ≡ None
+blob_wired at payload small =
+    ap (λ l. wire BLOB_KINDS (items at l)) (blob_is payload)
+    ∙ no_wire_fault BLOB_KINDS at (blob_slots payload) (refl, tt) (blob_fits payload) (subst (λ l. length l < 2 ^ 64) (blob_is payload) (omega (arith, blob_short payload small, small)))
+
+blob_whole : (at : ℕ) (payload : List ℕ) → length payload < RAW_LIMIT → least (blob_faults at (written_blob payload)) ≡ None
+blob_whole at payload small =
+    let below : nat_le RAW_LIMIT (length payload) ≡ false = grind (arith, nat_tests, small) in
+    ap (λ os. least (raw_faults at (last_of RAW os) (compressed os))) (blob_fields at payload small)
+    ∙ ap (λ (b : Bool). least (fault_where b at RawLong ++ [])) below
+
+blob_sound : (at : ℕ) (payload : List ℕ) → length payload < RAW_LIMIT → blob_fault at (written_blob payload) ≡ None
+unfolding blob_fault
+blob_sound at payload small =
+    ap (λ o. earlier o (least (blob_faults at (written_blob payload)))) (blob_wired at payload small) ∙ blob_whole at payload small
+
+-- ---- the header
+
+abbrev header_slots : FrameKind → ℕ → List Slot
+header_slots k size = Each TYPE (written_name k ∷ []) ∷ Scalar DATASIZE (Some size) ∷ []
+
+header_is : (k : FrameKind) (size : ℕ) → written_header k size ≡ message (header_slots k size)
+unfolding written_header
+header_is k size = refl
+
+name_short : (k : FrameKind) → length (written_name k) ≤ 9
+name_short kind.Header = omega arith
+name_short kind.Data = omega arith
+name_short kind.Other = omega arith
+
+header_short : (k : FrameKind) (size : ℕ) → size < 2 ^ 64 → length (written_header k size) ≤ 49
+header_short k size small =
+    let name = Each TYPE (written_name k ∷ []) in
+    let number = Scalar DATASIZE (Some size) in
+    let parts : written_header k size ≡ (shortest (TYPE * 8 + 2) ++ (shortest (length (written_name k)) ++ written_name k)) ++ (shortest (DATASIZE * 8) ++ shortest size) =
+    header_is k size ∙ message_first name (number ∷ []) ∙ ap (λ l. slot_bytes name ++ l) (message_first number [] ∙ ap (λ l. slot_bytes number ++ l) message_none ∙ append-nil (slot_bytes number) ∙ scalar_bytes DATASIZE size) ∙ ap (λ l. l ++ (shortest (DATASIZE * 8) ++ shortest size)) (each_bytes TYPE (written_name k)) in
+    let tag = spelling_short (TYPE * 8 + 2) (omega arith) in
+    let length_ = spelling_short (length (written_name k)) (omega (arith, name_short k)) in
+    let second = spelling_short (DATASIZE * 8) (omega arith) in
+    let value = spelling_short size small in
+    omega (
+      arith,
+      tag,
+      length_,
+      second,
+      value,
+      name_short k,
+      ap length parts,
+      length-append (shortest (TYPE * 8 + 2) ++ (shortest (length (written_name k)) ++ written_name k)) (shortest (DATASIZE * 8) ++ shortest size),
+      length-append (shortest (TYPE * 8 + 2)) (shortest (length (written_name k)) ++ written_name k),
+      length-append (shortest (length (written_name k))) (written_name k),
+      length-append (shortest (DATASIZE * 8)) (shortest size),
+    )
+
+header_fits : (k : FrameKind) (size : ℕ) → size < 2 ^ 64 → AllByRecursion SlotFits (header_slots k size)
+header_fits k size small = ((omega arith, omega arith), ((omega arith, omega arith, small), tt))
+
+header_fields : (at : ℕ) (k : FrameKind) (size : ℕ) → size < 2 ^ 64 → found (items at (written_header k size)) ≡ occurrences_of at (flat_map parts_of (header_slots k size))
+header_fields at k size small =
+    ap (λ l. found (items at l)) (header_is k size)
+    ∙ fields_written at (header_slots k size) (header_fits k size small) (subst (λ l. length l < 2 ^ 64) (header_is k size) (omega (arith, header_short k size small)))
+
+header_name : (at : ℕ) (k : FrameKind) (size : ℕ) → size < 2 ^ 64 → name_of at (written_header k size) ≡ written_name k
+header_name at k size small = ap (λ os. text_of (last_of TYPE os)) (header_fields at k size small)
+
+name_kind : (k : FrameKind) → (k ≡ kind.Other → ⊥) → kind_of (written_name k) ≡ k
+name_kind kind.Header known = refl
+name_kind kind.Data known = refl
+name_kind kind.Other known = absurd (known refl)
+
+header_wired : (at : ℕ) (k : FrameKind) (size : ℕ) → size < 2 ^ 64 → wire HEADER_KINDS (items at (written_header k size)) ≡ None
+header_wired at k size small =
+    ap (λ l. wire HEADER_KINDS (items at l)) (header_is k size)
+    ∙ no_wire_fault HEADER_KINDS at (header_slots k size) (refl, (refl, tt)) (header_fits k size small) (subst (λ l. length l < 2 ^ 64) (header_is k size) (omega (arith, header_short k size small)))
+
+size_read : (size : ℕ) → size ≤ LARGEST_SIZE → size_within (low_i32 size) ≡ Some size
+size_read size small =
+    let same : size % 2 ^ 32 ≡ size = omega (arith, small) in
+    let below : nat_lt size (2 ^ 31) ≡ true = grind (arith, nat_tests, small) in
+    let within : nat_le size LARGEST_SIZE ≡ true = grind (arith, nat_tests, small) in
+    rw (same, below, within) refl
+
+header_sized : (at : ℕ) (k : FrameKind) (size : ℕ) → size ≤ LARGEST_SIZE → size_of (last_of DATASIZE (found (items at (written_header k size)))) ≡ Some size
+header_sized at k size small = ap (λ os. size_of (last_of DATASIZE os)) (header_fields at k size (omega (arith, small))) ∙ size_read size small
+
+header_whole : (at : ℕ) (k : FrameKind) (size : ℕ) → size ≤ LARGEST_SIZE → least (header_faults at (written_header k size)) ≡ None
+header_whole at k size small =
+    ap (λ os. least (missing at TYPE (last_of TYPE os) ++ missing at DATASIZE (last_of DATASIZE os) ++ size_faults (last_of DATASIZE os))) (header_fields at k size (omega (arith, small)))
+    ∙ ap (λ (o : Option ℕ). least (fault_where (is_none o) (at + length (shortest (TYPE * 8 + 2) ++ (shortest (length (written_name k)) ++ written_name k))) DataSize)) (size_read size small)
+
+-- ---- the frame
+
+sound_any : (k : FrameKind) (at : ℕ) (blob : List ℕ) → blob_fault at blob ≡ None → IsSound k at blob
+sound_any kind.Header at blob sound = sound
+sound_any kind.Data at blob sound = sound
+sound_any kind.Other at blob sound = tt
+
+payload_any : (k : FrameKind) (at : ℕ) (blob : List ℕ) → (k ≡ kind.Other → ⊥) → payload_in k at blob ≡ raw_of at blob
+payload_any kind.Header at blob known = refl
+payload_any kind.Data at blob known = refl
+payload_any kind.Other at blob known = absurd (known refl)
+
+module _ (place : ℕ) (k : FrameKind) (payload : List ℕ) (known : k ≡ kind.Other → ⊥) (small : length payload < RAW_LIMIT) where
+  size_small : length (written_blob payload) ≤ LARGEST_SIZE
+  size_small = omega (arith, blob_short payload small, small)
+
+  pub written_kind : frame_kind (written_at place k payload) ≡ k
+  written_kind = ap kind_of (header_name (place + 4) k (length (written_blob payload)) (omega (arith, size_small))) ∙ name_kind k known
+
+  pub written_payload : frame_payload (written_at place k payload) ≡ payload
+  written_payload =
+      let f = written_at place k payload in
+      ap (λ (x : FrameKind). payload_in x (blob_at f) f.blob) written_kind ∙ payload_any k (blob_at f) f.blob known ∙ blob_payload (blob_at f) payload small
+
+  pub written_is_frame : (h : Bool) → least (order_faults h place k (frame_end (written_at place k payload))) ≡ None → IsFrame h place (written_at place k payload)
+  written_is_frame h ordered =
+      let f = written_at place k payload in
+      let n = length f.header in
+      let short : n ≤ 49 = header_short k (length (written_blob payload)) (omega (arith, size_small)) in
+      record {
+        offset = refl;
+        prefix_long = length-bytes_high_first 4 n;
+        spelled = ap (λ l. big_from 0 4 l) (sym (append-nil (big_bytes 4 n))) ∙ big_number-reads_back 4 n [] (omega (arith, short));
+        short = omega (arith, short);
+        wired = header_wired (place + 4) k (length (written_blob payload)) (omega (arith, size_small));
+        whole = header_whole (place + 4) k (length (written_blob payload)) size_small;
+        sized = header_sized (place + 4) k (length (written_blob payload)) size_small;
+        ordered = ap (λ (x : FrameKind). least (order_faults h place x (frame_end f))) written_kind ∙ ordered;
+        sound = sound_any (frame_kind f) (blob_at f) f.blob (blob_sound (blob_at f) payload small);
+      }
+
+-- its bytes are the same at every place
+pub written_bytes : (place : ℕ) (k : FrameKind) (payload : List ℕ) → frame_bytes (written_at place k payload) ≡ written_frame k payload
+unfolding written_frame
+written_bytes place k payload = refl
