@@ -1,7 +1,7 @@
 //! The box of an extract.
 
 ghost use Rattle.std.specs.Prelude.{◌≡◌, ◌↔◌, ◌≤ℤ◌, pos, IsTrue};
-ghost use Rattle.osm_entity.specs.BoundingBox.{box_of_edges, is_within as is_within_limit, is_between, is_inside};
+ghost use Rattle.osm_entity.specs.BoundingBox.{box_of_edges, is_up_to, is_between, is_inside};
 ghost use Rattle.osm_entity.specs.Degrees.{box_of_text};
 
 use crate::degrees::{Parts, degrees};
@@ -43,9 +43,9 @@ pub enum BoxFault {
 }
 
 /// Whether the number is from `-limit` to `limit`.
-fn is_within(limit: i64, number: i64) -> bool
+fn is_up_to(limit: i64, number: i64) -> bool
     requires { pos 0 ≤ℤ limit }
-    ensures { result ≡ is_within_limit limit number }
+    ensures { result ≡ is_up_to limit number }
 {
     -limit <= number && number <= limit
 }
@@ -59,10 +59,10 @@ impl BoundingBox {
     pub fn new(left: i64, bottom: i64, right: i64, top: i64) -> Result<BoundingBox, BoxFault>
         ensures { result ≡ box_of_edges left bottom right top }
     {
-        if !is_within(MOST_LON, left) || !is_within(MOST_LON, right) {
+        if !is_up_to(MOST_LON, left) || !is_up_to(MOST_LON, right) {
             return Err(BoxFault::Range);
         }
-        if !is_within(MOST_LAT, bottom) || !is_within(MOST_LAT, top) {
+        if !is_up_to(MOST_LAT, bottom) || !is_up_to(MOST_LAT, top) {
             return Err(BoxFault::Range);
         }
         if left > right {

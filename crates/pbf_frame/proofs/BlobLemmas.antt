@@ -5,11 +5,11 @@ use Rattle.pbf_wire.specs.declared.fault.Fault.{Fault}
 use Rattle.pbf_wire.specs.declared.fault.Reason.TheVariants.{RawLong}
 use Rattle.pbf_wire.specs.Least.{least, lesser}
 use Rattle.pbf_wire.specs.Occurrence.{Occurrence, items, found}
-use Rattle.pbf_wire.specs.Reading.{last_of}
+use Rattle.pbf_wire.specs.Reading.{bytes_held, last_of}
 use Rattle.pbf_wire.specs.Wire.{wire}
 use Rattle.pbf_frame.specs.declared.blob.TheConstants.{RAW, BLOB_KINDS, RAW_LIMIT}
 use Rattle.pbf_frame.specs.Faults.{fault_where, earlier}
-use Rattle.pbf_frame.specs.Header.{text_in, text_of}
+use Rattle.pbf_frame.specs.Header.{text_of}
 use Rattle.pbf_frame.specs.Blob.{compressed, raw_faults, blob_faults, blob_fault, raw_of}
 
 -- only an empty list has no least
@@ -32,8 +32,8 @@ earlier_none (Some f) other e = absurd (never f e) where
 
 raw_short : (at : ℕ) (last : Option Occurrence) (others : List Fault) → raw_faults at last others ≡ [] → length (text_of last) < RAW_LIMIT
 raw_short at None others e = omega arith
-raw_short at (Some o) others e = cases (nat_le RAW_LIMIT (length (text_in o.content))) refl e where
-  cases : (b : Bool) → nat_le RAW_LIMIT (length (text_in o.content)) ≡ b → fault_where b o.place RawLong ++ others ≡ [] → length (text_in o.content) < RAW_LIMIT
+raw_short at (Some o) others e = cases (nat_le RAW_LIMIT (length (bytes_held o.content))) refl e where
+  cases : (b : Bool) → nat_le RAW_LIMIT (length (bytes_held o.content)) ≡ b → fault_where b o.place RawLong ++ others ≡ [] → length (bytes_held o.content) < RAW_LIMIT
   cases true is e = (let bad : ⊥ = cc in absurd bad)
   cases false is e = grind (arith, nat_tests)
 

@@ -6,11 +6,11 @@ use Rattle.pbf_wire.specs.declared.fault.Reason.{Reason}
 use Rattle.pbf_wire.specs.declared.fault.Reason.TheVariants.{NoRaw, RawLong, Zlib, Lzma, Bzip2, Lz4, Zstd}
 use Rattle.pbf_wire.specs.Least.{least}
 use Rattle.pbf_wire.specs.Occurrence.{Content, Number, Eight, Four, Bytes, Occurrence, items, found}
-use Rattle.pbf_wire.specs.Reading.{last_of}
+use Rattle.pbf_wire.specs.Reading.{bytes_held, last_of}
 use Rattle.pbf_wire.specs.Wire.{wire}
 use Rattle.pbf_frame.specs.declared.blob.TheConstants.{RAW, ZLIB_DATA, LZMA_DATA, BZIP2_DATA, LZ4_DATA, ZSTD_DATA, BLOB_KINDS, RAW_LIMIT}
 use Rattle.pbf_frame.specs.Faults.{fault, fault_where, earlier}
-use Rattle.pbf_frame.specs.Header.{text_in, text_of}
+use Rattle.pbf_frame.specs.Header.{text_of}
 
 -- why data under this field number isn't read
 abbrev pub compression_of : ℕ → Option Reason
@@ -31,7 +31,7 @@ compressed os = flat_map (λ (o : Occurrence). reason_faults o.place (compressio
 
 -- the raw data is too long, or there is no data at all
 abbrev pub raw_faults : ℕ → Option Occurrence → List Fault → List Fault
-raw_faults at (Some o) others = fault_where (nat_le RAW_LIMIT (length (text_in o.content))) o.place RawLong ++ others
+raw_faults at (Some o) others = fault_where (nat_le RAW_LIMIT (length (bytes_held o.content))) o.place RawLong ++ others
 raw_faults at None [] = fault at NoRaw ∷ []
 raw_faults at None (f ∷ others) = f ∷ others
 

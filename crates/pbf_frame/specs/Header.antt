@@ -5,7 +5,7 @@ use Rattle.pbf_wire.specs.declared.fault.Fault.{Fault}
 use Rattle.pbf_wire.specs.declared.fault.Reason.TheVariants.{Missing, DataSize}
 use Rattle.pbf_wire.specs.Least.{least}
 use Rattle.pbf_wire.specs.Occurrence.{Content, Number, Eight, Four, Bytes, Occurrence, items, found}
-use Rattle.pbf_wire.specs.Reading.{last_of}
+use Rattle.pbf_wire.specs.Reading.{bytes_held, last_of}
 use Rattle.pbf_wire.specs.Signed.{low_i32}
 use Rattle.pbf_wire.specs.Wire.{wire}
 use Rattle.pbf_frame.specs.declared.frame.FrameKind.{FrameKind}
@@ -14,16 +14,10 @@ use Rattle.pbf_frame.specs.declared.header.Head.{Head}
 use Rattle.pbf_frame.specs.declared.header.TheConstants.{TYPE, DATASIZE, HEADER_KINDS, LARGEST_SIZE}
 use Rattle.pbf_frame.specs.Faults.{fault_where, unless}
 
--- the text that an occurrence holds
-abbrev pub text_in : Content → List ℕ
-text_in (Number v) = []
-text_in (Eight bytes) = []
-text_in (Four bytes) = []
-text_in (Bytes bytes at) = bytes
-
+-- the text of a field, and none where it is absent
 abbrev pub text_of : Option Occurrence → List ℕ
 text_of None = []
-text_of (Some o) = text_in o.content
+text_of (Some o) = bytes_held o.content
 
 -- the number that an occurrence holds, as an int32
 abbrev pub number_in : Content → ℤ

@@ -45,13 +45,8 @@ pub(crate) fn text_of(field: Option<Field<'_>>) -> &[u8]
     ensures { result.now ≡ text_of (option_map occurrence field.entry) }
 {
     match field {
-        Some(
-            Field {
-                payload: Payload::Bytes(text, _),
-                ..
-            },
-        ) => text,
-        _ => &[],
+        Some(field) => field.payload.bytes(),
+        None => &[],
     }
 }
 

@@ -1,11 +1,11 @@
 -- The texts of a StringTable, one after the other.
 use Rattle.std.proofs.Common.{◌≡◌, cond, eqb, ◌++◌, ℕ, zero, suc, ◌+◌, ◌-◌, ◌<◌, ◌≤◌, List, [], ◌∷◌, length, drop, refl, sym, ap, ◌∙◌, arith}
-use Rattle.std.specs.Prelude.{Option, Some, None, Result, Ok, Err, unwrap_or}
+use Rattle.std.specs.Prelude.{Option, Some, None, Result, Ok, Err}
 use Rattle.std.specs.List.{AllByRecursion, cons_option, flat_map}
 use Rattle.std.proofs.lemmas.List.{length-drop, drop-drop, drop_all}
 use Rattle.pbf_wire.specs.declared.fault.Reason.{Reason}
 use Rattle.pbf_wire.specs.Occurrence.{Content, Number, Eight, Four, Bytes, unplaced, without_places, Occurrence, Item, items, items_past, items_from, occurrence_at, found}
-use Rattle.pbf_wire.specs.Reading.{each, bytes_in, bytes_of}
+use Rattle.pbf_wire.specs.Reading.{each, bytes_held, bytes_in, bytes_of}
 use Rattle.pbf_wire.proofs.Cutting.{front_ok}
 use Rattle.pbf_wire.proofs.PlaceLemmas.{same_at}
 use Rattle.pbf_strings.specs.Texts.{texts, text_at, first_text}
@@ -13,7 +13,7 @@ use Rattle.pbf_strings.specs.Texts.{texts, text_at, first_text}
 -- the text of the occurrence is found at its place
 pub record IsAtPlace (message : List ℕ) (o : Occurrence) : Type 0 where
   pub within : o.place < length message
-  pub found_there : text_at message o.place ≡ unwrap_or (bytes_in o.content) []
+  pub found_there : text_at message o.place ≡ bytes_held o.content
 
 behind : (at b : ℕ) (bs whole : List ℕ) → b ∷ bs ≡ drop at whole → bs ≡ drop (at + 1) whole
 behind at b bs whole e = ap (drop 1) e ∙ drop-drop 1 at whole
@@ -26,7 +26,7 @@ no_text message place le = ap (λ (w : List ℕ). first_text (items place w)) (d
 inside : (at b : ℕ) (bs whole : List ℕ) → b ∷ bs ≡ drop at whole → at < length whole
 inside at b bs whole e = omega (arith, length-drop at whole, ap (λ (w : List ℕ). length w) e)
 
-here : (at b : ℕ) (bs whole : List ℕ) (front : Occurrence × ℕ) → b ∷ bs ≡ drop at whole → occurrence_at at (b ∷ bs) ≡ Ok front → text_at whole at ≡ unwrap_or (bytes_in front.0.content) []
+here : (at b : ℕ) (bs whole : List ℕ) (front : Occurrence × ℕ) → b ∷ bs ≡ drop at whole → occurrence_at at (b ∷ bs) ≡ Ok front → text_at whole at ≡ bytes_held front.0.content
 unfolding text_at items_past
 here at b bs whole front e ok =
     ap (λ (w : List ℕ). first_text (items at w)) (sym e) ∙ ap (λ (r : Result (Occurrence × ℕ) Reason). first_text (items_from at r (λ skip. items_past skip (at + 1) bs))) ok

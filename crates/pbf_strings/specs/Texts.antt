@@ -7,7 +7,7 @@ use Rattle.pbf_wire.specs.declared.fault.Reason.TheVariants.{TooManyStrings}
 use Rattle.pbf_wire.specs.declared.kind.Kind.{Kind}
 use Rattle.pbf_wire.specs.declared.kind.Kind.TheVariants as kind
 use Rattle.pbf_wire.specs.Occurrence.{Item, items, found}
-use Rattle.pbf_wire.specs.Reading.{bytes_in, each}
+use Rattle.pbf_wire.specs.Reading.{bytes_held, each}
 use Rattle.pbf_wire.specs.Wire.{wire}
 
 -- the texts: text i is the i-th occurrence of field 1, from 0
@@ -33,7 +33,7 @@ table_fault at tag message = option_or (wire table_kinds (items at message)) (co
 
 abbrev pub first_text : List Item → List ℕ
 first_text [] = []
-first_text (Ok o ∷ rest) = unwrap_or (bytes_in o.content) []
+first_text (Ok o ∷ rest) = bytes_held o.content
 first_text (Err e ∷ rest) = []
 
 -- the text of the field that begins at a place

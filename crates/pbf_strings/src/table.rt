@@ -5,8 +5,6 @@ ghost use Rattle.std.specs.Option.{option_map};
 ghost use Rattle.pbf_wire.specs.declared.fault.Fault.{Fault};
 ghost use Rattle.pbf_wire.specs.declared.fault.ReadFault.TheVariants.{Refused};
 ghost use Rattle.pbf_wire.specs.Occurrence.{items};
-ghost use Rattle.pbf_wire.specs.Payload.{content};
-ghost use Rattle.pbf_wire.specs.Reading.{bytes_in};
 ghost use Rattle.pbf_strings.specs.Texts.{text, texts, first_text, text_at, count_fault, table_fault};
 ghost use Rattle.pbf_wire.specs.Wire.{judged};
 
@@ -23,23 +21,13 @@ pub const TABLE_KINDS: [(u64, Kind); 1] = [(TEXT, Kind::Bytes)];
 /// The most texts of a table.
 pub const MOST_TEXTS: usize = 1_048_576;
 
-/// The text that a payload is; empty where it is none.
-fn text_in(payload: Payload<'_>) -> &[u8]
-    ensures { result.now ≡ unwrap_or (bytes_in (content payload.entry)) [] }
-{
-    match payload {
-        Payload::Bytes(text, _) => text,
-        _ => &[],
-    }
-}
-
 /// The text that the first field holds.
 fn first_text(fields: &[u8], at: u64) -> &[u8]
     requires { at + length fields.now ≤ 2 ^ 63 }
     ensures { result.now ≡ first_text (items at fields.now) }
 {
     match Fields::new(fields, at).next() {
-        Some(Ok(field)) => text_in(field.payload),
+        Some(Ok(field)) => field.payload.bytes(),
         _ => &[],
     }
 }

@@ -1,5 +1,5 @@
 -- What the occurrences of a message say of one field.
-use Rattle.std.specs.Prelude.{ℕ, ◌==◌, if◌then◌else◌, List, Option, Some, None, filter}
+use Rattle.std.specs.Prelude.{ℕ, ◌==◌, if◌then◌else◌, List, [], Option, Some, None, unwrap_or, filter}
 use Rattle.std.specs.List.{filter_map, last_or}
 use Rattle.pbf_wire.specs.Occurrence.{Content, Number, Eight, Four, Bytes, Occurrence}
 
@@ -30,6 +30,10 @@ bytes_in (Number v) = None
 bytes_in (Eight bytes) = None
 bytes_in (Four bytes) = None
 bytes_in (Bytes bytes at) = Some bytes
+
+-- the bytes, and none where it is no bytes
+abbrev pub bytes_held : Content → List ℕ
+bytes_held c = unwrap_or (bytes_in c) []
 
 -- the bytes that an occurrence gives the field k
 abbrev pub bytes_of : ℕ → Occurrence → Option (List ℕ)
