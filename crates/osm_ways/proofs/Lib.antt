@@ -3,3 +3,4 @@ pub mod Extracts
 pub mod Levels
 pub mod ParentLaws
 pub mod Passes
+pub mod Shown

@@ -2,3 +2,8 @@
 #![tactic(auto)]
 
 pub mod laws;
+mod parents;
+mod phases;
+
+pub use parents::{ChosenParents, RelationPhase};
+pub use phases::{Chosen, NodePhase, WayPhase};
