@@ -4,3 +4,4 @@ pub mod Levels
 pub mod ParentLaws
 pub mod Passes
 pub mod Shown
+pub mod Decoding

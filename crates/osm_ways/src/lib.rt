@@ -7,3 +7,6 @@ mod phases;
 
 pub use parents::{ChosenParents, RelationPhase};
 pub use phases::{Chosen, NodePhase, WayPhase};
+
+#[cfg(test)]
+mod tests;
