@@ -53,25 +53,24 @@ fn way(alloc: Global, id: i64, refs: &[i64]) -> Result<Way, AllocError> {
     })
 }
 
-/// Relations of one member each.
-fn relations(alloc: Global, parts: &[(i64, MemberKind, i64)]) -> Result<Vec<Relation>, AllocError> {
-    let mut relations = Vec::new(alloc);
-    for (id, kind, member) in parts {
-        let mut members = Vec::new(alloc);
-        members.push(Member {
-            kind: *kind,
-            id: *member,
-            role: Vec::new(alloc),
-        })?;
-        relations.push(Relation {
-            id: *id,
-            meta: no_meta(),
-            tags: Vec::new(alloc),
-            members,
-            scale: SCALE,
-        })?;
-    }
-    Ok(relations)
+/// A relation with one member.
+fn relation(alloc: Global, id: i64, kind: MemberKind, member: i64) -> Result<Relation, AllocError> {
+    let role = Vec::new(alloc);
+    let members = Vec::from_array(
+        alloc,
+        [Member {
+            kind,
+            id: member,
+            role,
+        }],
+    )?;
+    Ok(Relation {
+        id,
+        meta: no_meta(),
+        tags: Vec::new(alloc),
+        members,
+        scale: SCALE,
+    })
 }
 
 fn chosen(alloc: Global, nodes: &[Node], ways: &[Way]) -> Result<Chosen, AllocError> {
@@ -124,10 +123,10 @@ fn two_ways_with_one_id(rt: HostRuntime) -> Result<(), AllocError> {
 #[test]
 fn relation_of_a_relation(rt: HostRuntime) -> Result<(), AllocError> {
     let alloc = rt.alloc();
-    let relations = relations(
-        alloc,
-        &[(8, MemberKind::Node, 1), (9, MemberKind::Relation, 8)],
-    )?;
+    let relations = [
+        relation(alloc, 8, MemberKind::Node, 1)?,
+        relation(alloc, 9, MemberKind::Relation, 8)?,
+    ];
     let chosen = chosen(alloc, &[node(alloc, 1, 1)], &[])?;
     assert!(rt; chosen.keeps_relation(&relations[0].view()));
     assert!(rt; !chosen.keeps_relation(&relations[1].view()));
@@ -140,17 +139,14 @@ fn relation_of_a_relation(rt: HostRuntime) -> Result<(), AllocError> {
 #[test]
 fn chain_of_parents_beside_cycles(rt: HostRuntime) -> Result<(), AllocError> {
     let alloc = rt.alloc();
-    let relations = relations(
-        alloc,
-        &[
-            (10, MemberKind::Relation, 9),
-            (9, MemberKind::Relation, 8),
-            (8, MemberKind::Node, 1),
-            (11, MemberKind::Relation, 12),
-            (12, MemberKind::Relation, 11),
-            (13, MemberKind::Relation, 13),
-        ],
-    )?;
+    let relations = [
+        relation(alloc, 10, MemberKind::Relation, 9)?,
+        relation(alloc, 9, MemberKind::Relation, 8)?,
+        relation(alloc, 8, MemberKind::Node, 1)?,
+        relation(alloc, 11, MemberKind::Relation, 12)?,
+        relation(alloc, 12, MemberKind::Relation, 11)?,
+        relation(alloc, 13, MemberKind::Relation, 13)?,
+    ];
     let chosen = chosen_parents(alloc, &relations)?;
     for relation in relations.iter() {
         let kept = chosen.keeps_relation(&relation.view());
@@ -163,14 +159,11 @@ fn chain_of_parents_beside_cycles(rt: HostRuntime) -> Result<(), AllocError> {
 #[test]
 fn two_relations_with_one_id(rt: HostRuntime) -> Result<(), AllocError> {
     let alloc = rt.alloc();
-    let relations = relations(
-        alloc,
-        &[
-            (8, MemberKind::Node, 1),
-            (8, MemberKind::Node, 2),
-            (9, MemberKind::Relation, 8),
-        ],
-    )?;
+    let relations = [
+        relation(alloc, 8, MemberKind::Node, 1)?,
+        relation(alloc, 8, MemberKind::Node, 2)?,
+        relation(alloc, 9, MemberKind::Relation, 8)?,
+    ];
     let chosen = chosen_parents(alloc, &relations)?;
     assert!(rt; chosen.keeps_relation(&relations[0].view()));
     assert!(rt; !chosen.keeps_relation(&relations[1].view()));
