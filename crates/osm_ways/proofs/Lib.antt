@@ -3,3 +3,5 @@ pub mod Extracts
 pub mod Levels
 pub mod ParentLaws
 pub mod Passes
+pub mod Shown
+pub mod Decoding

@@ -1,3 +1,4 @@
 pub mod Selection
 pub mod Parents
 pub mod Phases
+pub mod Seen

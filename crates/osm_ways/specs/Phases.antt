@@ -4,6 +4,7 @@ use Rattle.std.specs.Coded.{Coded, code_by, coded×, coded_ℤ}
 use Rattle.std.specs.List.{fold}
 use Rattle.std.specs.Ordering.{int_cmp}
 use Rattle.std.specs.FinSet as set
+use Rattle.osm_entity.specs.declared.bounding_box.BoundingBox.{BoundingBox}
 use Rattle.osm_ids.specs.Links.{link_cmp, link_code}
 use Rattle.osm_ways.specs.Selection.{MemberSeen, node_member, way_member, relation_member, Seen, a_node, a_way, a_relation, no_ids, is_kept_way, is_kept_relation, is_kept}
 
@@ -17,6 +18,11 @@ abbrev pub LinkSet : Type 0
 LinkSet = set.FinSet link_cmp
 
 -- ---- what the passes have
+
+-- of the nodes: the box, and its nodes
+pub record NodeSets : Type 0 where
+  pub area : BoundingBox
+  pub box_ids : Ids
 
 -- of the nodes and the ways: the box's nodes, all nodes that are kept, the kept ways
 pub record WaySets : Type 0 where
@@ -34,6 +40,12 @@ pub record RelationSets : Type 0 where
 pub record ParentSets : Type 0 where
   pub ways : WaySets
   pub relation_ids : Ids
+
+abbrev box_code : Coded BoundingBox
+box_code = code_by (ℤ × (ℤ × (ℤ × ℤ))) (coded× coded_ℤ (coded× coded_ℤ (coded× coded_ℤ coded_ℤ))) (λ b. (b.left, (b.bottom, (b.right, b.top)))) (λ p. record { left = p.0; bottom = p.1.0; right = p.1.1.0; top = p.1.1.1 }) (λ _. refl)
+
+abbrev pub node_sets_code : Coded NodeSets
+node_sets_code = code_by (BoundingBox × Ids) (coded× box_code ids_code) (λ s. (s.area, s.box_ids)) (λ p. record { area = p.0; box_ids = p.1 }) (λ _. refl)
 
 abbrev pub way_sets_code : Coded WaySets
 way_sets_code = code_by (Ids × (Ids × Ids)) (coded× ids_code (coded× ids_code ids_code)) (λ s. (s.box_ids, (s.node_ids, s.way_ids))) (λ p. record { box_ids = p.0; node_ids = p.1.0; way_ids = p.1.1 }) (λ _. refl)
@@ -83,6 +95,9 @@ abbrev pub relation_step : RelationSets → Seen → RelationSets
 relation_step sets (a_node id inside) = sets
 relation_step sets (a_way id refs) = sets
 relation_step sets (a_relation id members) = with_relation sets id members
+
+abbrev pub start_nodes : BoundingBox → NodeSets
+start_nodes area = record { area = area; box_ids = set.empty }
 
 -- where the nodes end, all nodes of the box are kept, and no way yet
 abbrev pub start_ways : Ids → WaySets

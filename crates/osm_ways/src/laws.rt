@@ -4,8 +4,11 @@
 ghost use Rattle.std.specs.Prelude.{◌≡◌, List, map};
 ghost use Rattle.std.specs.Ordering.{int_cmp};
 ghost use Rattle.std.specs.FinSet as set;
+ghost use Rattle.osm_entity.specs.declared.bounding_box.BoundingBox.{BoundingBox};
+ghost use Rattle.osm_entity.specs.Entity.{EntitySpec, decoded};
 ghost use Rattle.osm_ids.specs.Links.{IsLeast};
 ghost use Rattle.osm_ways.specs.Selection.{Seen, node_ids, way_ids, keeps, extract};
+ghost use Rattle.osm_ways.specs.Seen.{seen_entity, seen_decoded};
 ghost use Rattle.osm_ways.specs.Parents.{IsLeastSelected, relation_ids, keeps_with_parents, extract_with_parents, links_in, start_in};
 ghost use Rattle.osm_ways.specs.Phases.{way_pass, relation_pass, is_chosen, is_chosen_with_parents};
 
@@ -35,4 +38,10 @@ pub fn passes_are_extract()
     ensures ways { (seen : List Seen) → is_chosen (way_pass seen) ≡ keeps seen }
     ensures kept { (seen : List Seen) → (relation_pass seen).ways ≡ way_pass seen }
     ensures parents { (seen : List Seen) (ids : set.FinSet int_cmp) → IsLeast (set.contains (relation_pass seen).links) (relation_pass seen).start ids → is_chosen_with_parents (record { ways = (relation_pass seen).ways; relation_ids = ids }) ≡ keeps_with_parents seen }
+{}
+
+/// The extract of stored entities is that of decoded ones: the selection sees both alike.
+pub fn extract_is_decoded()
+    ensures ways { (area : BoundingBox) (entities : List EntitySpec) → map decoded (extract (seen_entity area) entities) ≡ extract (seen_decoded area) (map decoded entities) }
+    ensures parents { (area : BoundingBox) (entities : List EntitySpec) → map decoded (extract_with_parents (seen_entity area) entities) ≡ extract_with_parents (seen_decoded area) (map decoded entities) }
 {}

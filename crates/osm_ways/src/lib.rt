@@ -2,3 +2,11 @@
 #![tactic(auto)]
 
 pub mod laws;
+mod parents;
+mod phases;
+
+pub use parents::{ChosenParents, RelationPhase};
+pub use phases::{Chosen, NodePhase, WayPhase};
+
+#[cfg(test)]
+mod tests;

@@ -1,0 +1,64 @@
+-- What the phases' fields show: of the nodes that are kept, those of the box and the other refs apart.
+use Rattle.std.proofs.Common.{◌≡◌, ℤ, Bool, true, false, ◌||◌, List, [], ◌∷◌, map, refl, sym, ap, subst, ◌∙◌}
+use Rattle.std.specs.List.{list_any, fold}
+use Rattle.std.specs.Ordering.{int_eq, int_cmp}
+use Rattle.std.specs.Cmp.{int_cmp_total}
+use Rattle.std.specs.FinSet as set
+use Rattle.osm_ids.proofs.Closing.{insert_same}
+use Rattle.osm_ways.specs.Selection.{is_kept_way}
+use Rattle.osm_ways.specs.Phases.{Ids, WaySets, start_ways, with_way}
+
+or_none : (b : Bool) → (b || false) ≡ b
+or_none true = refl
+or_none false = refl
+
+or_middle : (a b c : Bool) → (a || (b || c)) ≡ (b || (a || c))
+or_middle true true c = refl
+or_middle true false c = refl
+or_middle false b c = refl
+
+union-empty : (s : Ids) → set.union s set.empty ≡ s
+union-empty s =
+    set.same_set int_cmp_total set.int_cmp-IsAntisymmetric _ _
+    (λ id. set.contains-union int_cmp_total s set.empty id ∙ ap (λ b. set.contains s id || b) (set.contains-empty int_cmp id) ∙ or_none (set.contains s id))
+
+-- to add to a part is to add to the union
+pub union-insert : (s t : Ids) (new : ℤ) → set.union s (set.insert t new) ≡ set.insert (set.union s t) new
+union-insert s t new =
+    set.same_set int_cmp_total set.int_cmp-IsAntisymmetric _ _
+    (λ id.
+    set.contains-union int_cmp_total s (set.insert t new) id
+    ∙ ap (λ b. set.contains s id || b) (set.contains-insert int_cmp_total t new id)
+    ∙ or_middle (set.contains s id) (int_eq id new) (set.contains t id)
+    ∙ ap (λ b. int_eq id new || b) (sym (set.contains-union int_cmp_total s t id))
+    ∙ sym (set.contains-insert int_cmp_total (set.union s t) new id))
+
+-- what the one part has is there
+pub insert_known : (s t : Ids) (id : ℤ) → set.contains s id ≡ true → set.insert (set.union s t) id ≡ set.union s t
+insert_known s t id h = insert_same (set.union s t) id (set.contains-union int_cmp_total s t id ∙ ap (λ b. b || set.contains t id) h)
+
+pub in_union : (s t : Ids) (id : ℤ) (r : Bool) → r ≡ set.contains s id → r ≡ true → r ≡ set.contains (set.union s t) id
+in_union s t id r e is = is ∙ sym (set.contains-union int_cmp_total s t id ∙ ap (λ b. b || set.contains t id) (sym e ∙ is))
+
+pub or_in_union : (s t : Ids) (id : ℤ) (r q : Bool) → r ≡ set.contains s id → r ≡ false → q ≡ set.contains t id → q ≡ set.contains (set.union s t) id
+or_in_union s t id r q e is f = f ∙ sym (set.contains-union int_cmp_total s t id ∙ ap (λ b. b || set.contains t id) (sym e ∙ is))
+
+-- ---- the phase of ways
+
+abbrev pub shown : Ids → Ids → Ids → WaySets
+shown in_box refs ways = record { box_ids = in_box; node_ids = set.union in_box refs; way_ids = ways }
+
+pub shown_start : (in_box sealed refs ways : Ids) → sealed ≡ in_box → refs ≡ set.empty → ways ≡ set.empty → shown sealed refs ways ≡ start_ways in_box
+shown_start in_box sealed refs ways e f g =
+    (λ i. shown (e i) (f i) (g i)) ∙ (λ i. record { box_ids = in_box; node_ids = union-empty in_box i; way_ids = set.empty })
+
+pub shown_way : (in_box refs ways new_refs new_ways : Ids) (old : WaySets) (id : ℤ) (ids : List ℤ) → shown in_box refs ways ≡ old → is_kept_way (set.contains in_box) ids ≡ true → set.union in_box new_refs ≡ fold set.insert (set.union in_box refs) ids → new_ways ≡ set.insert ways id → shown in_box new_refs new_ways ≡ with_way old id ids
+shown_way in_box refs ways new_refs new_ways old id ids view kept e f =
+    subst (λ o. shown in_box new_refs new_ways ≡ with_way o id ids) view
+    (rw kept (λ i. record { box_ids = in_box; node_ids = e i; way_ids = f i }))
+
+-- ---- members
+
+pub list_any-map : {X Y : Type 0} (test : Y → Bool) (view : X → Y) (xs : List X) → list_any (λ x. test (view x)) xs ≡ list_any test (map view xs)
+list_any-map test view [] = refl
+list_any-map test view (x ∷ xs) = ap (λ b. test (view x) || b) (list_any-map test view xs)

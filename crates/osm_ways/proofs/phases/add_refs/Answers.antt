@@ -1,0 +1,39 @@
+use Rattle.std.proofs.Common.{◌≡◌, ◌∷◌, true, ap, sym, ◌∙◌, rules, w64}
+use mir.Val.{SFits}
+use Rattle.std.specs.List.{fold}
+use Rattle.std.specs.FinSet as set
+use Rattle.std.proofs.lemmas.Int.{to_z-of_z}
+use Rattle.osm_entity.specs.Sources.{refs_left}
+use Rattle.osm_ways.specs.Phases.{Ids}
+use Rattle.osm_ways.proofs.Shown.{union-insert, insert_known}
+use Rattle.osm_ways.proofs.phases.add_refs.Goals as goal
+
+pub loop-id-preserved-then-has : goal.loop-id-preserved-then-has
+loop-id-preserved-then-has c =
+    let l = c.loop-id in
+    let known = c.args.known.now in
+    let id = c.in-Some.id in
+    let rest = refs_left c.next.new.self in
+    let fits : SFits w64 id = search rules in
+    let turn : refs_left l.id-iterator ≡ id ∷ rest = c.in-Some.ensures.steps in
+    let here : set.contains known id ≡ true = ap (set.contains known) (sym (to_z-of_z w64 id fits)) ∙ sym c.has.ensures ∙ c.if-has.true in
+    record {
+      can = tt;
+      ends = tt;
+      so_far = ap (λ (s : Ids). fold set.insert s rest) (sym (insert_known known l.ids id here)) ∙ ap (fold set.insert (set.union known l.ids)) (sym turn) ∙ l.invariant.so_far;
+    }
+
+pub loop-id-preserved : goal.loop-id-preserved
+loop-id-preserved c =
+    let l = c.loop-id in
+    let known = c.args.known.now in
+    let id = c.in-Some.id in
+    let rest = refs_left c.next.new.self in
+    let fits : SFits w64 id = search rules in
+    let turn : refs_left l.id-iterator ≡ id ∷ rest = c.in-Some.ensures.steps in
+    let ids : c.add.new.self ≡ set.insert l.ids id = c.in_ok-add.ensures.ok ∙ ap (set.insert l.ids) (to_z-of_z w64 id fits) in
+    record {
+      can = tt;
+      ends = tt;
+      so_far = ap (λ (s : Ids). fold set.insert s rest) (ap (set.union known) ids ∙ union-insert known l.ids id) ∙ ap (fold set.insert (set.union known l.ids)) (sym turn) ∙ l.invariant.so_far;
+    }

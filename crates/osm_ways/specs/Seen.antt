@@ -1,0 +1,37 @@
+-- What the selection sees of entities. A place counts in nanodegrees, edges of the box included.
+use Rattle.std.specs.Prelude.{ℤ, map}
+use Rattle.osm_entity.specs.declared.bounding_box.BoundingBox.{BoundingBox}
+use Rattle.osm_entity.specs.declared.member.MemberKind.{MemberKind}
+use Rattle.osm_entity.specs.declared.member.MemberKind.TheVariants as kind
+use Rattle.osm_entity.specs.BoundingBox.{is_inside}
+use Rattle.osm_entity.specs.Scale.{nano_lat, nano_lon}
+use Rattle.osm_entity.specs.Entity.{NodeSpec, MemberSpec, WaySpec, RelationSpec, EntitySpec, node, way, relation, Decoded, node_at, way_through, relation_among}
+use Rattle.osm_ways.specs.Selection.{MemberSeen, node_member, way_member, relation_member, Seen, a_node, a_way, a_relation}
+
+abbrev pub seen_node : BoundingBox → NodeSpec → Seen
+seen_node area n = a_node n.id (is_inside area (nano_lat n.scale n.lat) (nano_lon n.scale n.lon))
+
+abbrev pub seen_way : WaySpec → Seen
+seen_way w = a_way w.id w.refs
+
+abbrev pub member_of_kind : MemberKind → ℤ → MemberSeen
+member_of_kind kind.Node id = node_member id
+member_of_kind kind.Way id = way_member id
+member_of_kind kind.Relation id = relation_member id
+
+abbrev pub seen_member : MemberSpec → MemberSeen
+seen_member member = member_of_kind member.kind member.id
+
+abbrev pub seen_relation : RelationSpec → Seen
+seen_relation r = a_relation r.id (map seen_member r.members)
+
+abbrev pub seen_entity : BoundingBox → EntitySpec → Seen
+seen_entity area (node n) = seen_node area n
+seen_entity area (way w) = seen_way w
+seen_entity area (relation r) = seen_relation r
+
+-- the same of decoded entities
+abbrev pub seen_decoded : BoundingBox → Decoded → Seen
+seen_decoded area (node_at id lat lon meta tags) = a_node id (is_inside area lat lon)
+seen_decoded area (way_through id meta tags refs locations) = a_way id refs
+seen_decoded area (relation_among id meta tags members) = a_relation id (map seen_member members)

@@ -1,0 +1,156 @@
+//! The phase of relations, where all parents of kept relations are kept too.
+
+ghost use Rattle.std.specs.Prelude.{◌≡◌, map, IfOk, OnOk};
+ghost use Rattle.std.specs.List.{fold};
+ghost use Rattle.std.specs.FinSet as set;
+ghost use Rattle.osm_ids.specs.Links.{IsLeast};
+ghost use Rattle.osm_entity.specs.Sources.{members_left, lent_member};
+ghost use Rattle.osm_entity.specs.Views.{way_of, relation_of};
+ghost use Rattle.osm_ways.specs.Selection.{is_selecting};
+ghost use Rattle.osm_ways.specs.Seen.{seen_way, seen_member, seen_relation};
+ghost use Rattle.osm_ways.specs.Phases.{start_relations, with_link, relation_step, is_chosen_with_parents};
+
+use crate::phases::{Chosen, sealed};
+use osm_entity::{MemberKind, MemberRef, Members, RelationRef, WayRef};
+use osm_ids::{IdSet, Links, SealedIds};
+use std::alloc::AllocError;
+use std::marker::Model;
+
+impl Chosen {
+    /// The phase that takes relations, with none yet. It takes no memory yet.
+    pub fn with_parents(self) -> RelationPhase
+        ensures { result ≡ start_relations self }
+    {
+        let alloc = self.alloc;
+        RelationPhase {
+            chosen: self,
+            start: IdSet::new(alloc),
+            links: Links::new(alloc),
+        }
+    }
+}
+
+/// The third phase of a selection with parents, which takes relations: those that nodes and ways select, and a link from each
+/// relation member to its relation.
+#[derive(Drop)]
+pub struct RelationPhase {
+    chosen: Chosen,
+    start: IdSet,
+    links: Links,
+}
+
+impl Model for RelationPhase {
+    ghost use Rattle.osm_ways.specs.Phases.{RelationSets, relation_sets_code};
+
+    ghost Value = { RelationSets };
+
+    ghost coded = { relation_sets_code };
+
+    ghost view = { λ a. record { ways = a.chosen; start = a.start; links = a.links } };
+}
+
+impl RelationPhase {
+    /// Adds the id of a relation with a kept node or way among its members, and of each relation a link from each of its
+    /// relation members.
+    ///
+    /// # Errors
+    ///
+    /// Where memory is refused the phase may have the id and some of the links. It may only be dropped.
+    pub fn take_relation(&mut self, relation: &RelationRef<'_>) -> Result<(), AllocError>
+        ensures { OnOk result (self.new ≡ relation_step self.old (seen_relation (relation_of relation.now))) }
+    {
+        if self.chosen.keeps_relation(relation) {
+            self.start.add(relation.id())?;
+        }
+        add_links(&mut self.links, relation.id(), relation.members())?;
+        Ok(())
+    }
+
+    /// All relations are taken: the ids of those that are kept are the least set that has what nodes and ways select, and with
+    /// a member its relation.
+    ///
+    /// # Errors
+    ///
+    /// Where memory is refused the phase is gone.
+    pub fn end_relations(self) -> Result<ChosenParents, AllocError>
+        ensures ways { IfOk result (λ chosen. chosen.ways ≡ self.ways) }
+        ensures least { IfOk result (λ chosen. IsLeast (set.contains self.links) self.start chosen.relation_ids) }
+    {
+        let RelationPhase {
+            chosen,
+            start,
+            links,
+        } = self;
+        let ids = links.close(start)?;
+        let relation_ids = sealed(ids)?;
+        Ok(ChosenParents {
+            chosen,
+            relation_ids,
+        })
+    }
+}
+
+/// Adds a link from each of the members that is a relation to their relation.
+fn add_links(links: &mut Links, id: i64, members: Members<'_>) -> Result<(), AllocError>
+    ensures { OnOk result (links.new ≡ fold (with_link id) links.old (map seen_member (members_left members.entry))) }
+{
+    for member in members {
+        if member.kind != MemberKind::Relation {
+            continue;
+        }
+        links.add(member.id, id)?;
+    }
+    Ok(())
+}
+
+/// What was chosen, with all parents: the nodes and ways as without them, and the ids of all relations that are kept.
+#[derive(Drop)]
+pub struct ChosenParents {
+    chosen: Chosen,
+    relation_ids: SealedIds,
+}
+
+impl Model for ChosenParents {
+    ghost use Rattle.osm_ways.specs.Phases.{ParentSets, parent_sets_code};
+
+    ghost Value = { ParentSets };
+
+    ghost coded = { parent_sets_code };
+
+    ghost view = { λ a. record { ways = a.chosen; relation_ids = a.relation_ids } };
+}
+
+impl ChosenParents {
+    /// Whether nodes of this id are kept, as without parents.
+    pub fn keeps_node(&self, id: i64) -> bool
+        ensures { result ≡ set.contains self.now.ways.node_ids id }
+    {
+        self.chosen.keeps_node(id)
+    }
+
+    /// Whether the way is kept, as without parents.
+    pub fn keeps_way(&self, way: &WayRef<'_>) -> bool
+        ensures { result ≡ is_chosen_with_parents self.now (seen_way (way_of way.now)) }
+    {
+        self.chosen.keeps_way(way)
+    }
+
+    /// Whether the relation is kept: a node, a way or a relation among its members is. Of two relations of one id each is
+    /// judged by itself.
+    pub fn keeps_relation(&self, relation: &RelationRef<'_>) -> bool
+        ensures { result ≡ is_chosen_with_parents self.now (seen_relation (relation_of relation.now)) }
+    {
+        let mut members = relation.members();
+        members.any(|member| self.selects(&member))
+    }
+
+    /// Whether the member selects its relation.
+    fn selects(&self, member: &MemberRef<'_>) -> bool
+        ensures { result ≡ is_selecting (set.contains self.now.ways.node_ids) (set.contains self.now.ways.way_ids) (set.contains self.now.relation_ids) (seen_member (lent_member member.now)) }
+    {
+        match member.kind {
+            MemberKind::Relation => self.relation_ids.has(member.id),
+            MemberKind::Node | MemberKind::Way => self.chosen.selects(member),
+        }
+    }
+}

@@ -1,0 +1,228 @@
+//! The phases of a selection, each of its own type: first all nodes are taken, then all ways, then the entities are chosen.
+
+ghost use Rattle.std.specs.Prelude.{◌≡◌, IfOk, OnOk, OnErr};
+ghost use Rattle.std.specs.List.{fold};
+ghost use Rattle.std.specs.FinSet as set;
+ghost use Rattle.osm_entity.specs.Sources.{lent_member};
+ghost use Rattle.osm_entity.specs.Views.{node_of, way_of, relation_of};
+ghost use Rattle.osm_ways.specs.Selection.{no_ids, is_selecting, is_kept_way};
+ghost use Rattle.osm_ways.specs.Seen.{seen_node, seen_way, seen_member, seen_relation};
+ghost use Rattle.osm_ways.specs.Phases.{start_nodes, start_ways, node_step, way_step, is_chosen};
+
+use osm_entity::{BoundingBox, MemberKind, MemberRef, NodeRef, RelationRef, WayRef};
+use osm_ids::{IdSet, SealedIds};
+use std::alloc::{AllocError, Global};
+use std::marker::Model;
+
+/// The first phase, which takes nodes: the box, and the ids of its nodes.
+#[derive(Drop)]
+pub struct NodePhase {
+    area: BoundingBox,
+    box_ids: IdSet,
+    alloc: Global,
+}
+
+impl Model for NodePhase {
+    ghost use Rattle.osm_ways.specs.Phases.{NodeSets, node_sets_code};
+
+    ghost Value = { NodeSets };
+
+    ghost coded = { node_sets_code };
+
+    ghost view = { λ a. record { area = a.area; box_ids = a.box_ids } };
+}
+
+impl NodePhase {
+    /// The phase of a box, with no nodes yet. It takes no memory yet.
+    pub fn new(alloc: Global, area: BoundingBox) -> NodePhase
+        ensures { result ≡ start_nodes area }
+    {
+        NodePhase {
+            area,
+            box_ids: IdSet::new(alloc),
+            alloc,
+        }
+    }
+
+    /// Adds the id of a node that is in the box or on one of its edges. Another node changes nothing.
+    ///
+    /// # Errors
+    ///
+    /// Where memory is refused the phase is as it was.
+    pub fn take_node(&mut self, node: &NodeRef<'_>) -> Result<(), AllocError>
+        ensures ok { OnOk result (self.new ≡ record { area = self.old.area; box_ids = node_step self.old.box_ids (seen_node self.old.area (node_of node.now)) }) }
+        ensures err { OnErr result (self.new ≡ self.old) }
+    {
+        if self.area.contains(node.nano_lat(), node.nano_lon()) {
+            self.box_ids.add(node.id())?;
+        }
+        Ok(())
+    }
+
+    /// All nodes are taken: those in the box are kept.
+    ///
+    /// # Errors
+    ///
+    /// Where memory is refused the phase is gone.
+    pub fn end_nodes(self) -> Result<WayPhase, AllocError>
+        ensures { IfOk result (λ phase. phase ≡ start_ways self.box_ids) }
+    {
+        let NodePhase { box_ids, alloc, .. } = self;
+        Ok(WayPhase {
+            box_ids: sealed(box_ids)?,
+            refs: IdSet::new(alloc),
+            way_ids: IdSet::new(alloc),
+            alloc,
+        })
+    }
+}
+
+/// The second phase, which takes ways: the ids of the box's nodes, of all nodes that are kept, and of the ways that are kept.
+#[derive(Drop)]
+pub struct WayPhase {
+    box_ids: SealedIds,
+    /// The refs of kept ways that aren't nodes of the box.
+    refs: IdSet,
+    way_ids: IdSet,
+    alloc: Global,
+}
+
+impl Model for WayPhase {
+    ghost use Rattle.std.specs.FinSet as set;
+    ghost use Rattle.osm_ways.specs.Phases.{WaySets, way_sets_code};
+
+    ghost Value = { WaySets };
+
+    ghost coded = { way_sets_code };
+
+    ghost view = { λ a. record { box_ids = a.box_ids; node_ids = set.union a.box_ids a.refs; way_ids = a.way_ids } };
+}
+
+impl WayPhase {
+    /// Adds a way with a ref among the box's nodes: its id, and all its refs, of which those that are there take no memory.
+    /// Another way changes nothing.
+    ///
+    /// # Errors
+    ///
+    /// Where memory is refused the phase has some of the way's refs. It may only be dropped.
+    pub fn take_way(&mut self, way: &WayRef<'_>) -> Result<(), AllocError>
+        ensures { OnOk result (self.new ≡ way_step self.old (seen_way (way_of way.now))) }
+    {
+        if is_kept_by(&self.box_ids, way) {
+            add_refs(&self.box_ids, &mut self.refs, way)?;
+            self.way_ids.add(way.id())?;
+        }
+        Ok(())
+    }
+
+    /// All ways are taken.
+    ///
+    /// # Errors
+    ///
+    /// Where memory is refused the phase is gone.
+    pub fn end_ways(self) -> Result<Chosen, AllocError>
+        ensures { IfOk result (λ chosen. chosen ≡ self) }
+    {
+        let WayPhase {
+            box_ids,
+            refs,
+            way_ids,
+            alloc,
+        } = self;
+        let refs = sealed(refs)?;
+        let way_ids = sealed(way_ids)?;
+        Ok(Chosen {
+            box_ids,
+            refs,
+            way_ids,
+            alloc,
+        })
+    }
+}
+
+/// The sealed set, or the refusal alone.
+pub(crate) fn sealed(ids: IdSet) -> Result<SealedIds, AllocError>
+    ensures { IfOk result (λ sealed. sealed ≡ ids) }
+{
+    match ids.seal() {
+        Ok(sealed) => Ok(sealed),
+        Err((_, error)) => Err(error),
+    }
+}
+
+/// Whether one of the way's refs is among the ids.
+fn is_kept_by(ids: &SealedIds, way: &WayRef<'_>) -> bool
+    ensures { result ≡ is_kept_way (set.contains ids.now) (way_of way.now).refs }
+{
+    let mut refs = way.refs();
+    refs.any(|id| ids.has(id))
+}
+
+/// Adds all refs of the way that aren't known to the ids.
+fn add_refs(known: &SealedIds, ids: &mut IdSet, way: &WayRef<'_>) -> Result<(), AllocError>
+    ensures { OnOk result (set.union known.now ids.new ≡ fold set.insert (set.union known.now ids.old) (way_of way.now).refs) }
+{
+    for id in way.refs() {
+        if known.has(id) {
+            continue;
+        }
+        ids.add(id)?;
+    }
+    Ok(())
+}
+
+/// What was chosen: the ids of the box's nodes, of all nodes that are kept, and of the ways that are kept.
+#[derive(Drop)]
+pub struct Chosen {
+    box_ids: SealedIds,
+    /// The refs of kept ways that aren't nodes of the box.
+    refs: SealedIds,
+    way_ids: SealedIds,
+    pub(crate) alloc: Global,
+}
+
+impl Model for Chosen {
+    ghost use Rattle.std.specs.FinSet as set;
+    ghost use Rattle.osm_ways.specs.Phases.{WaySets, way_sets_code};
+
+    ghost Value = { WaySets };
+
+    ghost coded = { way_sets_code };
+
+    ghost view = { λ a. record { box_ids = a.box_ids; node_ids = set.union a.box_ids a.refs; way_ids = a.way_ids } };
+}
+
+impl Chosen {
+    /// Whether nodes of this id are kept: it is that of a node in the box, or a ref of a kept way.
+    pub fn keeps_node(&self, id: i64) -> bool
+        ensures { result ≡ set.contains self.now.node_ids id }
+    {
+        self.box_ids.has(id) || self.refs.has(id)
+    }
+
+    /// Whether the way is kept: one of its refs is a node in the box. Of two ways of one id each is judged by itself.
+    pub fn keeps_way(&self, way: &WayRef<'_>) -> bool
+        ensures { result ≡ is_chosen self.now (seen_way (way_of way.now)) }
+    {
+        is_kept_by(&self.box_ids, way)
+    }
+
+    /// Whether the relation is kept: a node or a way among its members is. Members that are relations count for nothing.
+    pub fn keeps_relation(&self, relation: &RelationRef<'_>) -> bool
+        ensures { result ≡ is_chosen self.now (seen_relation (relation_of relation.now)) }
+    {
+        let mut members = relation.members();
+        members.any(|member| self.selects(&member))
+    }
+
+    /// Whether the member selects its relation.
+    pub(crate) fn selects(&self, member: &MemberRef<'_>) -> bool
+        ensures { result ≡ is_selecting (set.contains self.now.node_ids) (set.contains self.now.way_ids) no_ids (seen_member (lent_member member.now)) }
+    {
+        match member.kind {
+            MemberKind::Node => self.keeps_node(member.id),
+            MemberKind::Way => self.way_ids.has(member.id),
+            MemberKind::Relation => false,
+        }
+    }
+}
