@@ -104,7 +104,7 @@ impl WayPhase {
     ///
     /// # Errors
     ///
-    /// Where memory is refused the phase has some of the way's refs. It may only be dropped.
+    /// Where memory is refused the phase may have refs of the way, but not its id. It may only be dropped.
     pub fn take_way(&mut self, way: &WayRef<'_>) -> Result<(), AllocError>
         ensures { OnOk result (self.new ≡ way_step self.old (seen_way (way_of way.now))) }
     {
