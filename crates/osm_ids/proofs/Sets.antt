@@ -10,7 +10,7 @@ or_same : (a b : Bool) → (a || b) ≡ (a || (a || b))
 or_same true b = refl
 or_same false b = refl
 
-or_swap : (a b c : Bool) → (a || (b || c)) ≡ (b || (a || c))
+pub or_swap : (a b c : Bool) → (a || (b || c)) ≡ (b || (a || c))
 or_swap true true c = refl
 or_swap true false c = refl
 or_swap false b c = refl

@@ -5,17 +5,13 @@ use Rattle.std.specs.Ordering.{int_eq, int_cmp}
 use Rattle.std.specs.Cmp.{int_cmp_total}
 use Rattle.std.specs.FinSet as set
 use Rattle.osm_ids.proofs.Closing.{insert_same}
+use Rattle.osm_ids.proofs.Sets.{or_swap}
 use Rattle.osm_ways.specs.Selection.{is_kept_way}
 use Rattle.osm_ways.specs.Phases.{Ids, WaySets, start_ways, with_way}
 
 or_none : (b : Bool) → (b || false) ≡ b
 or_none true = refl
 or_none false = refl
-
-or_middle : (a b c : Bool) → (a || (b || c)) ≡ (b || (a || c))
-or_middle true true c = refl
-or_middle true false c = refl
-or_middle false b c = refl
 
 union-empty : (s : Ids) → set.union s set.empty ≡ s
 union-empty s =
@@ -29,7 +25,7 @@ union-insert s t new =
     (λ id.
     set.contains-union int_cmp_total s (set.insert t new) id
     ∙ ap (λ b. set.contains s id || b) (set.contains-insert int_cmp_total t new id)
-    ∙ or_middle (set.contains s id) (int_eq id new) (set.contains t id)
+    ∙ or_swap (set.contains s id) (int_eq id new) (set.contains t id)
     ∙ ap (λ b. int_eq id new || b) (sym (set.contains-union int_cmp_total s t id))
     ∙ sym (set.contains-insert int_cmp_total (set.union s t) new id))
 

@@ -1,5 +1,6 @@
 -- What a blob without a fault holds.
 use Rattle.std.proofs.Common.{◌≡◌, ℕ, ◌<◌, Bool, true, false, if◌then◌else◌, nat_le, List, [], ◌∷◌, ◌++◌, Option, Some, None, length, refl, arith}
+use Rattle.std.specs.Option.{option_or}
 use Rattle.std.proofs.lemmas.Bool.Decides.{nat_tests}
 use Rattle.pbf_wire.specs.declared.fault.Fault.{Fault}
 use Rattle.pbf_wire.specs.declared.fault.Reason.TheVariants.{RawLong}
@@ -8,7 +9,7 @@ use Rattle.pbf_wire.specs.Occurrence.{Occurrence, items, found}
 use Rattle.pbf_wire.specs.Reading.{bytes_held, last_of}
 use Rattle.pbf_wire.specs.Wire.{wire}
 use Rattle.pbf_frame.specs.declared.blob.TheConstants.{RAW, BLOB_KINDS, RAW_LIMIT}
-use Rattle.pbf_frame.specs.Faults.{fault_where, earlier}
+use Rattle.pbf_frame.specs.Faults.{fault_where}
 use Rattle.pbf_frame.specs.Header.{text_of}
 use Rattle.pbf_frame.specs.Blob.{compressed, raw_faults, blob_faults, blob_fault, raw_of}
 
@@ -24,7 +25,7 @@ least_none (f ∷ fs) e = absurd (never f (least fs) e) where
   never f None e = cc
   never f (Some g) e = chosen _ f g e
 
-pub earlier_none : (one other : Option Fault) → earlier one other ≡ None → (one ≡ None) × (other ≡ None)
+pub earlier_none : (one other : Option Fault) → option_or one other ≡ None → (one ≡ None) × (other ≡ None)
 earlier_none None other e = (refl, e)
 earlier_none (Some f) other e = absurd (never f e) where
   never : (f : Fault) → Some f ≡ None → ⊥

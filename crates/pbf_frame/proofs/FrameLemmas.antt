@@ -74,12 +74,13 @@ module _ (h : Bool) (p : ℕ) (bytes : List ℕ) where
 
 -- ---- what a header says
 
+pub err_ok : {A : Type 0} (f : Fault) (x : A) → ◌≡◌ {A = Result A Fault} (Err f) (Ok x) → ⊥
+err_ok f x e = cc
+
 -- where nothing is wrong, what follows is given
 pub unless_ok : {A : Type 0} (o : Option Fault) (later : Result A Fault) (x : A) → unless o later ≡ Ok x → (o ≡ None) × (later ≡ Ok x)
 unless_ok None later x e = (refl, e)
-unless_ok {A} (Some f) later x e = absurd (never f x e) where
-  never : {A : Type 0} (f : Fault) (x : A) → ◌≡◌ {A = Result A Fault} (Err f) (Ok x) → ⊥
-  never f x e = cc
+unless_ok (Some f) later x e = absurd (err_ok f x e)
 
 pub head_parts : (at : ℕ) (header : List ℕ) (head : Head) → head_of at header ≡ Ok head
     → (wire HEADER_KINDS (items at header) ≡ None) × (least (header_faults at header) ≡ None) × (head.kind ≡ kind_of (name_of at header)) × (head.size ≡ or_nothing (size_of (last_of DATASIZE (found (items at header)))))

@@ -16,14 +16,12 @@ use Rattle.pbf_frame.specs.Blob.{blob_fault}
 use Rattle.pbf_frame.specs.Frames.{FrameSpec, frame_bytes, bytes_at, prefix_at, order_faults, header_of, known_blob_of, blob_of, after_prefix, next_of}
 use Rattle.pbf_frame.specs.Sound.{IsSound}
 use Rattle.pbf_frame.proofs.FrontLemmas.{bytes_at_front}
-use Rattle.pbf_frame.proofs.FrameLemmas.{unless_ok, after_header, after_blob, as_some, frame_steps, next_steps, after_some, after_none}
+use Rattle.pbf_frame.proofs.FrameLemmas.{err_ok, unless_ok, after_header, after_blob, as_some, frame_steps, next_steps, after_some, after_none}
 
 -- a step that gave something was on something
 pub bind_inverse : {A B : Type 0} (r : Result A Fault) (f : A → Result B Fault) (y : B) → (r >>= f) ≡ Ok y → (x : A) × (r ≡ Ok x) × (f x ≡ Ok y)
 bind_inverse (Ok x) f y e = (x, refl, e)
-bind_inverse {A} {B} (Err fault) f y e = absurd (never fault y e) where
-  never : {B : Type 0} (fault : Fault) (y : B) → ◌≡◌ {A = Result B Fault} (Err fault) (Ok y) → ⊥
-  never fault y e = cc
+bind_inverse (Err fault) f y e = absurd (err_ok fault y e)
 
 pub ok_parts : {A B : Type 0} (a a' : A) (b b' : B) → ◌≡◌ {A = Result (A × B) Fault} (Ok (a, b)) (Ok (a', b')) → (a ≡ a') × (b ≡ b')
 ok_parts {A} {B} a a' b b' e =
@@ -32,9 +30,6 @@ ok_parts {A} {B} a a' b b' e =
 
 pub some_same : {A : Type 0} (a b : A) → Some a ≡ Some b → a ≡ b
 some_same a b e = cc
-
-pub err_ok : {A : Type 0} (f : Fault) (x : A) → ◌≡◌ {A = Result A Fault} (Err f) (Ok x) → ⊥
-err_ok f x e = cc
 
 pub none_some : {A : Type 0} (o : Option A) (a : A) → o ≡ None → o ≡ Some a → ⊥
 none_some o a e f = cc

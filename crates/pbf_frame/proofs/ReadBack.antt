@@ -1,5 +1,6 @@
 -- A frame in written form has no fault, and its kind and payload are those that were written.
 use Rattle.std.proofs.Common.{◌≡◌, ℕ, ◌+◌, ◌*◌, ◌%◌, ◌^◌, ◌<◌, ◌≤◌, nat_lt, nat_le, Bool, true, false, List, [], ◌∷◌, ◌++◌, length, Option, Some, None, refl, sym, ap, ◌∙◌, subst, length-append, arith}
+use Rattle.std.specs.Option.{option_or}
 use Rattle.std.proofs.lemmas.Bool.Decides.{nat_tests}
 use Rattle.std.proofs.lemmas.List.{append-nil}
 use Rattle.std.specs.List.{flat_map, AllByRecursion}
@@ -22,7 +23,7 @@ use Rattle.pbf_frame.specs.declared.blob.TheConstants.{RAW, BLOB_KINDS, RAW_LIMI
 use Rattle.pbf_frame.specs.declared.frame.FrameKind.{FrameKind}
 use Rattle.pbf_frame.specs.declared.frame.FrameKind.TheVariants as kind
 use Rattle.pbf_frame.specs.declared.header.TheConstants.{TYPE, DATASIZE, HEADER_KINDS, LARGEST_SIZE}
-use Rattle.pbf_frame.specs.Faults.{fault_where, earlier}
+use Rattle.pbf_frame.specs.Faults.{fault_where}
 use Rattle.pbf_frame.specs.Header.{text_of, name_of, kind_of, size_within, size_of, missing, size_faults, header_faults}
 use Rattle.pbf_frame.specs.Blob.{compressed, raw_faults, blob_faults, blob_fault, raw_of}
 use Rattle.pbf_frame.specs.Frames.{order_faults, frame_kind, frame_end, frame_bytes, frame_payload, payload_in, blob_at}
@@ -73,7 +74,7 @@ blob_whole at payload small =
 blob_sound : (at : ℕ) (payload : List ℕ) → length payload < RAW_LIMIT → blob_fault at (written_blob payload) ≡ None
 unfolding blob_fault
 blob_sound at payload small =
-    ap (λ o. earlier o (least (blob_faults at (written_blob payload)))) (blob_wired at payload small) ∙ blob_whole at payload small
+    ap (λ o. option_or o (least (blob_faults at (written_blob payload)))) (blob_wired at payload small) ∙ blob_whole at payload small
 
 -- ---- the header
 

@@ -1,5 +1,6 @@
 -- The Blob: the bytes that it holds.
 use Rattle.std.specs.Prelude.{ℕ, ◌==◌, nat_le, List, [], ◌∷◌, ◌++◌, length, Option, Some, None, if◌then◌else◌}
+use Rattle.std.specs.Option.{option_or}
 use Rattle.std.specs.List.{flat_map}
 use Rattle.pbf_wire.specs.declared.fault.Fault.{Fault}
 use Rattle.pbf_wire.specs.declared.fault.Reason.{Reason}
@@ -9,7 +10,7 @@ use Rattle.pbf_wire.specs.Occurrence.{Content, Number, Eight, Four, Bytes, Occur
 use Rattle.pbf_wire.specs.Reading.{bytes_held, last_of}
 use Rattle.pbf_wire.specs.Wire.{wire}
 use Rattle.pbf_frame.specs.declared.blob.TheConstants.{RAW, ZLIB_DATA, LZMA_DATA, BZIP2_DATA, LZ4_DATA, ZSTD_DATA, BLOB_KINDS, RAW_LIMIT}
-use Rattle.pbf_frame.specs.Faults.{fault, fault_where, earlier}
+use Rattle.pbf_frame.specs.Faults.{fault, fault_where}
 use Rattle.pbf_frame.specs.Header.{text_of}
 
 -- why data under this field number isn't read
@@ -41,7 +42,7 @@ blob_faults at blob = raw_faults at (last_of RAW (found (items at blob))) (compr
 
 -- the first fault of a blob: of its wire form, then of its fields
 unfoldable pub blob_fault : ℕ → List ℕ → Option Fault
-blob_fault at blob = earlier (wire BLOB_KINDS (items at blob)) (least (blob_faults at blob))
+blob_fault at blob = option_or (wire BLOB_KINDS (items at blob)) (least (blob_faults at blob))
 
 -- the payload
 abbrev pub raw_of : ℕ → List ℕ → List ℕ

@@ -11,11 +11,6 @@ abbrev pub fault_where : Bool → ℕ → Reason → List Fault
 fault_where true offset reason = fault offset reason ∷ []
 fault_where false offset reason = []
 
--- the fault of an earlier phase, and if there is none that of a later one
-abbrev pub earlier : Option Fault → Option Fault → Option Fault
-earlier None later = later
-earlier (Some f) later = Some f
-
 -- what follows, where nothing is wrong so far
 abbrev pub unless : {A : Type 0} → Option Fault → Result A Fault → Result A Fault
 unless None later = later
