@@ -146,9 +146,6 @@ fits_push : (ids : List ℤ) (id : ℤ) → AllFit ids → FitsSigned w64 id →
 fits_push [] id h f = (f, tt)
 fits_push (x ∷ ids) id h f = (h.0, fits_push ids id h.1 f)
 
-pub grown_start : (all : List ℤ) (last : ℤ) → Grown [] [] all all 0 last
-grown_start all last = record { pages = []; starts = refl; spelled = refl; unfinished = refl; whole = refl; fits = tt }
-
 pub grown_page : (index : List PageStart) (bytes : List ℕ) (all rest : List ℤ) (room : ℕ) (last id : ℤ) → Grown index bytes all (id ∷ rest) room last → room ≡ 0 → FitsSigned w64 id → Grown (index ++ record { first = id; place = length bytes } ∷ []) bytes all rest 127 id
 grown_page index bytes all rest room last id g none f =
     record {

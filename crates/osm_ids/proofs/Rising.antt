@@ -43,10 +43,6 @@ pub rising_back : (xs : List ℤ) (y : ℤ) (ys : List ℤ) → IsRising (xs ++ 
 rising_back [] y ys h = h
 rising_back (x ∷ xs) y ys h = rises_back x xs y ys h
 
-pub rising_front : (xs ys : List ℤ) → IsRising (xs ++ ys) → IsRising xs
-rising_front [] ys h = tt
-rising_front (x ∷ xs) ys h = rises_front x xs ys h
-
 -- no id at or above y stands before y
 pub none_below : (xs : List ℤ) (y : ℤ) (ys : List ℤ) (id : ℤ) → IsRising (xs ++ y ∷ ys) → y ≤ℤ id → list_any (int_eq id) xs ≡ false
 none_below [] y ys id h le = refl

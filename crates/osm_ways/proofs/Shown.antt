@@ -1,13 +1,12 @@
 -- What the phases' fields show: of the nodes that are kept, those of the box and the other refs apart.
-use Rattle.std.proofs.Common.{◌≡◌, ℤ, Bool, true, false, ◌||◌, List, [], ◌∷◌, map, refl, sym, ap, subst, ◌∙◌}
-use Rattle.std.specs.List.{list_any, fold}
+use Rattle.std.proofs.Common.{◌≡◌, ℤ, Bool, true, false, ◌||◌, List, [], ◌∷◌, map, refl, sym, ap, ◌∙◌}
+use Rattle.std.specs.List.{list_any}
 use Rattle.std.specs.Ordering.{int_eq, int_cmp}
 use Rattle.std.specs.Cmp.{int_cmp_total}
 use Rattle.std.specs.FinSet as set
 use Rattle.osm_ids.proofs.Closing.{insert_same}
 use Rattle.osm_ids.proofs.Sets.{or_swap}
-use Rattle.osm_ways.specs.Selection.{is_kept_way}
-use Rattle.osm_ways.specs.Phases.{Ids, WaySets, start_ways, with_way}
+use Rattle.osm_ways.specs.Phases.{Ids, WaySets, start_ways}
 
 or_none : (b : Bool) → (b || false) ≡ b
 or_none true = refl
@@ -47,11 +46,6 @@ shown in_box refs ways = record { box_ids = in_box; node_ids = set.union in_box 
 pub shown_start : (in_box sealed refs ways : Ids) → sealed ≡ in_box → refs ≡ set.empty → ways ≡ set.empty → shown sealed refs ways ≡ start_ways in_box
 shown_start in_box sealed refs ways e f g =
     (λ i. shown (e i) (f i) (g i)) ∙ (λ i. record { box_ids = in_box; node_ids = union-empty in_box i; way_ids = set.empty })
-
-pub shown_way : (in_box refs ways new_refs new_ways : Ids) (old : WaySets) (id : ℤ) (ids : List ℤ) → shown in_box refs ways ≡ old → is_kept_way (set.contains in_box) ids ≡ true → set.union in_box new_refs ≡ fold set.insert (set.union in_box refs) ids → new_ways ≡ set.insert ways id → shown in_box new_refs new_ways ≡ with_way old id ids
-shown_way in_box refs ways new_refs new_ways old id ids view kept e f =
-    subst (λ o. shown in_box new_refs new_ways ≡ with_way o id ids) view
-    (rw kept (λ i. record { box_ids = in_box; node_ids = e i; way_ids = f i }))
 
 -- ---- members
 

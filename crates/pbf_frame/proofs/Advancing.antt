@@ -24,9 +24,6 @@ reading_stopped s stop a b = cc
 ended_stopped : (s : State) (stop : Stop) → s ≡ Ended → s ≡ Stopped stop → ⊥
 ended_stopped s stop a b = cc
 
-same_stop : (s : State) (stop other : Stop) → s ≡ Stopped stop → s ≡ Stopped other → stop ≡ other
-same_stop s stop other a b = cc
-
 -- what a read leaves whatever it answers
 pub record Keeps {F : Type 0} (failures : F → ℕ) (lender : F → List GName) (old new : FrameReader F) : Type 0 where
   pub reading : old.state ≡ Reading
@@ -50,14 +47,6 @@ module _ {F : Type 0} {remaining : F → Option (List ℕ)} {failures : F → �
     answer = Ok None;
     sees = refl;
     next = (λ reading. absurd (reading_ended old.state reading ended), λ _. (refl, refl), λ stop stopped. absurd (ended_stopped old.state stop ended stopped));
-  }
-
-  -- a spent reader stays spent
-  pub sees_stop_again : (old : FrameReader F) (stop : Stop) → old.state ≡ Stopped stop → IsSeeingNext remaining failures lender carries old (Err stop) old
-  sees_stop_again old stop stopped = record {
-    answer = Err stop;
-    sees = refl;
-    next = (λ reading. absurd (reading_stopped old.state stop reading stopped), λ ended. absurd (ended_stopped old.state stop ended stopped), λ other is. (ap Err (same_stop old.state stop other stopped is), refl));
   }
 
   pub sees_frame : (old new : FrameReader F) (result : Result (Option Seen) Stop) (seen : Seen) → result ≡ Ok (Some seen) → Keeps failures lender old new → ((b : List ℕ) → carries old.feed b → carries new.feed b)

@@ -1,9 +1,8 @@
 -- What is put into the room is the frame in written form.
-use Rattle.std.proofs.Common.{◌≡◌, ℕ, ◌+◌, ◌*◌, min, List, [], ◌∷◌, ◌++◌, length, take, drop, Option, Some, refl, sym, ap, ◌∙◌, append_assoc, length-append, arith}
-use Rattle.std.proofs.lemmas.List.{append-nil, take_at, take_min, take-append-le}
+use Rattle.std.proofs.Common.{◌≡◌, ℕ, ◌+◌, ◌*◌, min, List, [], ◌∷◌, ◌++◌, length, take, Option, Some, refl, sym, ap, ◌∙◌, append_assoc, length-append, arith}
+use Rattle.std.proofs.lemmas.List.{append-nil, take_min, take-append-le}
 use Rattle.std.proofs.Math.Seq.{take-append-add}
 use Rattle.byteorder.specs.Endian.{big_bytes}
-use Rattle.byteorder.specs.Numbers.{length-bytes_high_first}
 use Rattle.pbf_wire.specs.Message.{Scalar, Each, message, slot_bytes}
 use Rattle.pbf_wire.specs.Varint.{shortest}
 use Rattle.pbf_wire.proofs.WritingLemmas.{message_first, message_none, bytes_put, number_put}
@@ -32,10 +31,6 @@ blob_put n payload e1 e2 long p1 p2 =
     let slot = Each RAW (payload ∷ []) in
     bytes_put RAW payload [] e1 e2 (e2 ++ payload) p1 (p2 ∙ ap (λ (m : ℕ). e1 ++ shortest m) (sym long)) refl
     ∙ sym (append-nil (slot_bytes slot)) ∙ ap (λ l. slot_bytes slot ++ l) (sym message_none) ∙ sym (message_first slot [])
-
--- a number at the front of the room
-pub prefix_put : (n : ℕ) (old : List ℕ) → take 4 (big_bytes 4 n ++ drop 4 old) ≡ big_bytes 4 n
-prefix_put n old = take_at (big_bytes 4 n) (drop 4 old) 4 (length-bytes_high_first 4 n)
 
 pub frame_put : (k : FrameKind) (payload header blob e1 e2 e3 : List ℕ) → blob ++ payload ≡ written_blob payload → header ≡ written_header k (length blob + length payload) → e1 ≡ big_bytes 4 (length header) → e2 ≡ e1 ++ header → e3 ≡ e2 ++ blob → e3 ++ payload ≡ written_frame k payload
 unfolding written_frame

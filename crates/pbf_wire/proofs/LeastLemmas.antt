@@ -43,19 +43,9 @@ least_more f xs ys = lesser_joined rank f (least xs) (least ys) ∙ ap (λ w. le
 pub lesser_nothing : (f : Option Fault) → lesser f (least []) ≡ f
 lesser_nothing f = lesser_none rank f
 
--- one more fault
-pub least_next : (f : Option Fault) (x : Fault) (ys : List Fault) → lesser (lesser f (Some x)) (least ys) ≡ lesser f (least (x ∷ ys))
-least_next f x ys = lesser_joined rank f (Some x) (least ys)
-
 -- two parts
 pub lesser_parts : (xs ys : List Fault) → lesser (least xs) (least ys) ≡ least (xs ++ ys)
 lesser_parts xs ys = sym (least_joined rank xs ys)
-
-pub lesser_parts_3 : (xs ys zs : List Fault) → lesser (least xs) (lesser (least ys) (least zs)) ≡ least (xs ++ (ys ++ zs))
-lesser_parts_3 xs ys zs = ap (λ w. lesser (least xs) w) (lesser_parts ys zs) ∙ lesser_parts xs (ys ++ zs)
-
-pub lesser_parts_4 : (ws xs ys zs : List Fault) → lesser (least ws) (lesser (least xs) (lesser (least ys) (least zs))) ≡ least (ws ++ (xs ++ (ys ++ zs)))
-lesser_parts_4 ws xs ys zs = ap (λ w. lesser (least ws) w) (lesser_parts_3 xs ys zs) ∙ lesser_parts ws (xs ++ (ys ++ zs))
 
 -- ---- the least of a list is one of it, and none of it is less
 

@@ -51,9 +51,6 @@ pushed_numbers bytes n h lt = is_read _ _ (is_packed_push bytes (numbers_of byte
 pub pushed_packed : (bytes : List ℕ) (n : ℕ) → IsPacked bytes (numbers_of bytes) → n < 2 ^ 64 → IsPacked (bytes ++ shortest n) (numbers_of (bytes ++ shortest n))
 pushed_packed bytes n h lt = subst (IsPacked (bytes ++ shortest n)) (sym (pushed_numbers bytes n h lt)) (is_packed_push bytes (numbers_of bytes) n h lt)
 
-pub nothing_packed : IsPacked [] []
-nothing_packed = record { bytes_are = refl; fit = tt }
-
 -- ---- differences
 
 differences_push : (start : ℤ) (values : List ℤ) (value : ℤ) → differences start (values ++ value ∷ []) ≡ differences start values ++ (value -ℤ last_from start values) ∷ []

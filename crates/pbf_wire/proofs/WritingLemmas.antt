@@ -61,14 +61,6 @@ pub message_none : message [] ≡ []
 unfolding message
 message_none = refl
 
--- one more slot is written
-pub one_more : (s : Slot) (slots : List Slot) (old new all : List ℕ) → new ≡ old ++ slot_bytes s → all ≡ new ++ message slots → all ≡ old ++ message (s ∷ slots)
-one_more s slots old new all e h =
-    h ∙ ap (λ (w : List ℕ). w ++ message slots) e ∙ append_assoc old (slot_bytes s) (message slots) ∙ ap (λ (w : List ℕ). old ++ w) (sym (message_first s slots))
-
-pub all_written : (all : List ℕ) → all ≡ all ++ message []
-all_written all = sym (ap (λ (w : List ℕ). all ++ w) message_none ∙ append-nil all)
-
 pub message_one : (s : Slot) → message (s ∷ []) ≡ slot_bytes s
 message_one s = message_first s [] ∙ ap (λ (w : List ℕ). slot_bytes s ++ w) message_none ∙ append-nil (slot_bytes s)
 
