@@ -13,3 +13,4 @@ pub mod Sums
 pub mod Packed
 pub mod Writing
 pub mod Message
+pub mod Faults
