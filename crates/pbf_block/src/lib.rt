@@ -1,0 +1,4 @@
+//! HeaderBlocks and PrimitiveBlocks: read and judged.
+#![tactic(auto)]
+
+mod message;

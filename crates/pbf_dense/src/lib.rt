@@ -1,0 +1,2 @@
+//! Dense nodes: read and judged.
+#![tactic(auto)]
