@@ -1,5 +1,5 @@
 -- Lists of faults, step by step.
-use Rattle.std.proofs.Common.{◌≡◌, ◌==◌, ℕ, ◌+◌, ◌<◌, ◌≤◌, Bool, true, false, List, [], ◌∷◌, ◌++◌, length, map, drop, refl, ap, sym, ◌∙◌, arith}
+use Rattle.std.proofs.Common.{◌≡◌, ◌==◌, ℕ, ◌+◌, ◌≤◌, Bool, true, false, List, [], ◌∷◌, length, map, drop, refl, ap, sym, ◌∙◌, arith}
 use Rattle.std.specs.Prelude.{Option, Some, None, Ok, Err, filter, nat_lt, if◌then◌else◌}
 use Rattle.std.specs.Result.{result_err}
 use Rattle.std.specs.List.{flat_map, count_by}
@@ -8,8 +8,8 @@ use Rattle.std.proofs.lemmas.List.Sums.{length-filter, count_by-le-length}
 use Rattle.pbf_wire.specs.declared.fault.Fault.{Fault}
 use Rattle.pbf_wire.specs.declared.fault.Reason.TheVariants.{TwiceMessage}
 use Rattle.pbf_wire.specs.declared.kind.Kind.{Kind}
-use Rattle.pbf_wire.specs.Varint.{IsVarint, EndsOnce}
-use Rattle.pbf_wire.specs.Occurrence.{Content, Number, Eight, Four, Bytes, Occurrence, Item, IsBody, IsSpelled, Joins, items, found}
+use Rattle.pbf_wire.specs.Varint.{IsVarint}
+use Rattle.pbf_wire.specs.Occurrence.{Content, Number, Eight, Four, Bytes, Occurrence, Item, IsBody, IsSpelled, Joins, found}
 use Rattle.pbf_wire.specs.Wire.{kind_of, reason_in, or_at, wire, judged}
 use Rattle.pbf_wire.specs.Least.{lesser, least, rank}
 use Rattle.pbf_wire.specs.Faults.{fault, or_more, message_faults, ends, ends_in, ends_of, column_count, fields_in}

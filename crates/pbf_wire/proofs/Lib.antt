@@ -14,3 +14,4 @@ pub mod PlaceLemmas
 pub mod MessageLemmas
 pub mod FaultLemmas
 pub mod RisingLemmas
+pub mod SoundLemmas

@@ -7,9 +7,9 @@ use Rattle.pbf_wire.specs.declared.fault.Reason.{Reason}
 use Rattle.pbf_wire.specs.Occurrence.{Occurrence, Item, items, items_past, items_from, occurrence_at, found}
 use Rattle.pbf_wire.specs.Columns.{placed, numbers_in, joined}
 use Rattle.pbf_wire.specs.Signed.{delta_in}
-use Rattle.pbf_wire.specs.Sums.{sums, sums_from}
+use Rattle.pbf_wire.specs.Sums.{sums_from}
 use Rattle.pbf_wire.specs.Least.{lesser, least, rank}
-use Rattle.pbf_wire.specs.Faults.{fault, fault_where, faults_of_sums, placed_sums, fields_in}
+use Rattle.pbf_wire.specs.Faults.{fault, fault_where, faults_of_sums, fields_in}
 use Rattle.pbf_wire.proofs.Cutting.{front_ok}
 use Rattle.pbf_wire.proofs.LeastLemmas.{lesser_joined}
 use Rattle.pbf_wire.proofs.SumLemmas.{running_sums}

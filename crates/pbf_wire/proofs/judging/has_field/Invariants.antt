@@ -1,7 +1,6 @@
 use Rattle.std.proofs.Common.{◌≡◌, ◌==◌}
-use Rattle.std.specs.List.{list_any, flat_map}
-use Rattle.pbf_wire.specs.Least.{lesser, least}
-use Rattle.pbf_wire.specs.Occurrence.{items, found}
+use Rattle.std.specs.List.{list_any}
+use Rattle.pbf_wire.specs.Occurrence.{found}
 use Rattle.pbf_wire.specs.Cursors.{fields_left}
 use Rattle.pbf_wire.specs.Faults.{fields_in}
 use Rattle.pbf_wire.proofs.judging.has_field.Given as goal

@@ -1,10 +1,10 @@
-use Rattle.std.proofs.Common.{refl, ◌∙◌, sym, ap, pos, true}
+use Rattle.std.proofs.Common.{◌∙◌, sym, ap, pos, true}
 use Rattle.pbf_wire.specs.declared.fault.Reason.TheVariants.{StringIndex}
 use Rattle.pbf_wire.specs.Least.{least}
 use Rattle.pbf_wire.specs.Columns.{joined}
 use Rattle.pbf_wire.specs.Faults.{fields_in, is_index}
 use Rattle.pbf_wire.specs.Cursors.{column_left, place_of}
-use Rattle.pbf_wire.proofs.RisingLemmas.{column_rises, Rising, not_good, running, running_is}
+use Rattle.pbf_wire.proofs.RisingLemmas.{column_rises, not_good, running, running_is}
 use Rattle.pbf_wire.proofs.judging.judge_index_sums.Goals as goal
 
 pub loop-entry-init : goal.loop-entry-init

@@ -1,7 +1,5 @@
 use Rattle.std.proofs.Common.{◌≡◌}
-use Rattle.std.specs.List.{list_any, flat_map}
 use Rattle.pbf_wire.specs.Least.{lesser, least}
-use Rattle.pbf_wire.specs.Occurrence.{items, found}
 use Rattle.pbf_wire.specs.Cursors.{fields_left}
 use Rattle.pbf_wire.specs.Faults.{message_faults, entered, leaf_faults, nested_faults}
 use Rattle.pbf_wire.proofs.judging.judge_nested.Given as goal

@@ -1,12 +1,12 @@
-use Rattle.std.proofs.Common.{refl, ◌∙◌, sym, ap, false, pos, ◌+ℤ◌}
+use Rattle.std.proofs.Common.{refl, ◌∙◌, sym, ap, pos}
 use Rattle.pbf_wire.specs.declared.fault.Reason.TheVariants.{OutOfRange}
 use Rattle.pbf_wire.specs.Least.{least}
-use Rattle.pbf_wire.specs.Signed.{is_within, delta_in}
+use Rattle.pbf_wire.specs.Signed.{is_within}
 use Rattle.pbf_wire.specs.Columns.{joined}
 use Rattle.pbf_wire.specs.Faults.{fields_in}
 use Rattle.pbf_wire.specs.Cursors.{column_left, place_of}
 use Rattle.pbf_wire.proofs.SumLemmas.{not_within}
-use Rattle.pbf_wire.proofs.RisingLemmas.{column_rises, Rising, not_good, running, running_is}
+use Rattle.pbf_wire.proofs.RisingLemmas.{column_rises, not_good, running, running_is}
 use Rattle.pbf_wire.proofs.judging.judge_sums.Goals as goal
 
 pub loop-entry-init : goal.loop-entry-init

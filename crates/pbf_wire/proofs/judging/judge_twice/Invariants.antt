@@ -1,9 +1,8 @@
 use Rattle.std.proofs.Common.{◌≡◌, ◌==◌, map, drop, if◌then◌else◌}
 use Rattle.std.specs.Prelude.{filter}
 use Rattle.pbf_wire.specs.declared.fault.Reason.TheVariants.{TwiceMessage}
-use Rattle.std.specs.List.{list_any, flat_map}
 use Rattle.pbf_wire.specs.Least.{lesser, least}
-use Rattle.pbf_wire.specs.Occurrence.{items, found}
+use Rattle.pbf_wire.specs.Occurrence.{found}
 use Rattle.pbf_wire.specs.Cursors.{fields_left}
 use Rattle.pbf_wire.specs.Faults.{fault, twice, fields_in}
 use Rattle.pbf_wire.proofs.judging.judge_twice.Given as goal
