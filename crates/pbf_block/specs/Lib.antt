@@ -1,0 +1,3 @@
+pub mod WireFaults
+pub mod StructureFaults
+pub mod ValueFaults

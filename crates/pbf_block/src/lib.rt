@@ -2,3 +2,6 @@
 #![tactic(auto)]
 
 mod message;
+mod structure;
+mod values;
+mod wire;
