@@ -1,2 +1,4 @@
 pub mod InfoLemmas
 pub mod MovingLemmas
+pub mod IndexLemmas
+pub mod ReadableLemmas
