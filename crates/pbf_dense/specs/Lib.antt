@@ -1,0 +1,5 @@
+pub mod Info
+pub mod Runs
+pub mod Nodes
+pub mod Cursors
+pub mod Judged
