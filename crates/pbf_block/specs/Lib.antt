@@ -1,0 +1,4 @@
+pub mod Scale
+pub mod Info
+pub mod Members
+pub mod Passes

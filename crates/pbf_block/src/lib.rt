@@ -1,4 +1,7 @@
 //! HeaderBlocks and PrimitiveBlocks: read and judged.
 #![tactic(auto)]
 
+mod entity_fields;
+mod info;
 mod message;
+mod scale;
