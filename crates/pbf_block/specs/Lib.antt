@@ -1,4 +1,5 @@
 pub mod Scale
 pub mod Info
 pub mod Members
+pub mod Along
 pub mod Passes

@@ -1,21 +1,38 @@
 //! The fields of a node, a way or a relation, found in one pass over its message.
 
-ghost use Rattle.std.specs.Prelude.{◌≡◌, ◌+◌, ◌≤◌, ◌^◌, length};
-ghost use Rattle.pbf_wire.specs.Faults.{fields_in};
-ghost use Rattle.pbf_block.specs.Passes.{AreFields};
+ghost use Rattle.std.specs.Prelude.{◌≡◌, ◌+◌, ◌≤◌, ◌^◌, List, length, pos};
+ghost use Rattle.pbf_wire.specs.Columns.{column};
+ghost use Rattle.pbf_wire.specs.Cursors.{fields_left, numbers_left, sums_left};
+ghost use Rattle.pbf_wire.specs.Faults.{fields_in, embedded};
+ghost use Rattle.pbf_wire.specs.Occurrence.{Occurrence, found};
+ghost use Rattle.pbf_wire.specs.Reading.{last_number};
+ghost use Rattle.pbf_wire.specs.Signed.{unzigzag};
+ghost use Rattle.osm_entity.specs.Sources.{tags_left};
+ghost use Rattle.osm_entity.specs.Views.{meta_of};
+ghost use Rattle.pbf_block.specs.Scale.{read_or};
+ghost use Rattle.pbf_block.specs.Info.{info_in};
+ghost use Rattle.pbf_block.specs.Members.{id_in, tags_in, values_in};
+ghost use Rattle.pbf_block.specs.Along.{along};
+ghost use Rattle.pbf_block.specs.Passes.{AreFields, only, only_left};
 
+use crate::info::meta_in;
 use crate::message::{ID, INFO, KEYS, VALS};
-use pbf_wire::{Field, Fields, Payload};
+use osm_entity::{MetaRef, PairedTags, Tags};
+use pbf_strings::Table;
+use pbf_wire::{Column, Field, Fields, Payload, Sums, low_i64, unzigzag};
 
-/// Where the fields of an entity's message are. Those of a column begin at the first of its number: a column over them passes
-/// over no field before its own.
+/// The limit of stored numbers: they are strictly between it and its negative.
+const STORED_LIMIT: i64 = 1 << 62;
+
+/// Where the fields of an entity's message are. Those of a column begin at the first of its number, so that a column over them
+/// passes over no field before its own.
 #[derive(Clone, Copy, Debug)]
 pub(crate) struct EntityFields<'a> {
-    pub(crate) id: Option<u64>,
-    pub(crate) info: Option<Field<'a>>,
-    pub(crate) keys: Fields<'a>,
-    pub(crate) vals: Fields<'a>,
-    /// From the first field 8 on: a node's latitude, a way's refs, a relation's roles.
+    id: Option<u64>,
+    info: Option<Field<'a>>,
+    keys: Fields<'a>,
+    vals: Fields<'a>,
+    /// From the first field 8 on: a node's latitude, a way's refs, the roles of a relation's members.
     pub(crate) eighth: Fields<'a>,
     /// From the first field 9 on: a node's longitude, the latitudes of a way's nodes, the ids of a relation's members.
     pub(crate) ninth: Fields<'a>,
@@ -58,5 +75,77 @@ pub(crate) fn entity_fields(message: &[u8], at: u64) -> EntityFields<'_>
             10 => tenth = tenth.or(Some(rest)),
             _ => {}
         }
+    }
+}
+
+impl<'a> EntityFields<'a> {
+    /// The id, and 0 where it is absent.
+    pub(crate) fn id(&self) -> i64
+        ensures { (os : List Occurrence) → AreFields self.now os → result ≡ id_in os }
+    {
+        match self.id {
+            Some(number) => low_i64(number),
+            None => 0,
+        }
+    }
+
+    /// The metadata.
+    pub(crate) fn meta(&self, table: &'a Table<'a>) -> MetaRef<'a>
+        ensures { (os : List Occurrence) → AreFields self.now os → meta_of result ≡ info_in table.now (embedded INFO os) }
+    {
+        meta_in(self.info, table)
+    }
+
+    /// The tags.
+    pub(crate) fn tags(&self, table: &'a Table<'a>) -> Tags<'a>
+        ensures { (os : List Occurrence) → AreFields self.now os → tags_left result ≡ tags_in table.now os }
+    {
+        let keys = column(self.keys, KEYS);
+        let vals = column(self.vals, VALS);
+        Tags::Paired(PairedTags::new(keys, vals, table))
+    }
+}
+
+/// The column that these fields hold under this number.
+#[tactic(auto, using(crate::proofs::PassLemmas::column_left_is))]
+pub(crate) fn column(fields: Fields<'_>, number: u64) -> Column<'_>
+    ensures { (os : List Occurrence) → only_left number fields.entry ≡ only number os → numbers_left result ≡ column number os }
+{
+    Column::over(fields, number)
+}
+
+/// The values of a column of differences that these fields hold under this number.
+pub(crate) fn values(fields: Fields<'_>, number: u64) -> Sums<'_>
+    ensures { (os : List Occurrence) → only_left number fields.entry ≡ only number os → sums_left result ≡ values_in along number os }
+{
+    Sums::new(column(fields, number), STORED_LIMIT)
+}
+
+/// The last number of these fields under this number.
+fn last_left(fields: Fields<'_>, number: u64) -> Option<u64>
+    ensures { result ≡ last_number number (found (fields_left fields.entry)) }
+{
+    let mut last = None;
+    for item in fields {
+        let Ok(field) = item else {
+            return last;
+        };
+        if let Payload::Number(value) = field.payload {
+            if field.number == number {
+                last = Some(value);
+            }
+        }
+    }
+    last
+}
+
+/// The signed number that these fields hold last under this number, and 0 where they hold none.
+#[tactic(auto, using(crate::proofs::PassLemmas::last_left_is))]
+pub(crate) fn last_signed(fields: Fields<'_>, number: u64) -> i64
+    ensures { (os : List Occurrence) → only_left number fields.entry ≡ only number os → result ≡ read_or (pos 0) unzigzag (last_number number os) }
+{
+    match last_left(fields, number) {
+        Some(value) => unzigzag(value),
+        None => 0,
     }
 }

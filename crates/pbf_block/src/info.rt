@@ -1,9 +1,10 @@
 //! The Info of an entity: who changed it, and when.
 
-ghost use Rattle.std.specs.Prelude.{◌≡◌, ◌+◌, ◌≤◌, ◌^◌, length};
+ghost use Rattle.std.specs.Prelude.{◌≡◌, ◌+◌, ◌≤◌, ◌^◌, ◌==◌, not, length};
 ghost use Rattle.std.specs.Option.{option_map};
 ghost use Rattle.pbf_wire.specs.Fields.{occurrence};
 ghost use Rattle.pbf_wire.specs.Faults.{fields_in, fields_of};
+ghost use Rattle.pbf_wire.specs.Signed.{low_i32, low_i64};
 ghost use Rattle.osm_entity.specs.Sources.{named};
 ghost use Rattle.osm_entity.specs.Views.{meta_of};
 ghost use Rattle.pbf_block.specs.Info.{info_in};
@@ -58,32 +59,67 @@ fn info_numbers(message: &[u8], at: u64) -> InfoNumbers
     }
 }
 
-/// The text that a number names, of which the low 32 bits count; empty where the table has none.
-fn named<'a>(table: &'a Table<'a>, number: u64) -> &'a [u8]
-    ensures { result.now ≡ named table.now number }
+/// An `int32` that is present.
+fn narrow(number: Option<u64>) -> Option<i32>
+    ensures { result ≡ option_map low_i32 number }
 {
-    table.text(low_u32(number) as usize)
+    Some(low_i32(number?))
 }
 
-/// The metadata that a field holds: nothing where it is absent.
-pub(crate) fn meta_in<'a>(info: Option<Field<'a>>, table: &'a Table<'a>) -> MetaRef<'a>
-    ensures { meta_of result ≡ info_in table.now (fields_of (option_map occurrence info.entry)) }
+/// An `int64` that is present.
+fn wide(number: Option<u64>) -> Option<i64>
+    ensures { result ≡ option_map low_i64 number }
 {
-    let numbers = match info {
+    Some(low_i64(number?))
+}
+
+/// A bool that is present.
+fn flag(number: Option<u64>) -> Option<bool>
+    ensures { result ≡ option_map (λ n. not (n == 0)) number }
+{
+    Some(number? != 0)
+}
+
+/// The text that a number names, of which the low 32 bits count; empty where the table has none.
+fn named<'a>(number: Option<u64>, table: &'a Table<'a>) -> Option<&'a [u8]>
+    ensures { option_map (λ text. text.now) result ≡ option_map (named table.now) number }
+{
+    Some(table.text(low_u32(number?) as usize))
+}
+
+/// The numbers of the Info that a field holds, and none where it is absent.
+fn numbers_in(info: Option<Field<'_>>) -> InfoNumbers
+    ensures { AreNumbers result (fields_of (option_map occurrence info.entry)) }
+{
+    match info {
         Some(
             Field {
                 payload: Payload::Bytes(message, at),
                 ..
             },
         ) => info_numbers(message, at),
-        _ => info_numbers(&[], 0),
-    };
+        _ => InfoNumbers {
+            version: None,
+            timestamp: None,
+            changeset: None,
+            uid: None,
+            user: None,
+            visible: None,
+        },
+    }
+}
+
+/// The metadata that a field holds: nothing where it is absent.
+pub(crate) fn meta_in<'a>(info: Option<Field<'a>>, table: &'a Table<'a>) -> MetaRef<'a>
+    ensures { meta_of result ≡ info_in table.now (fields_of (option_map occurrence info.entry)) }
+{
+    let numbers = numbers_in(info);
     MetaRef {
-        version: numbers.version.map(|number| low_i32(number)),
-        timestamp: numbers.timestamp.map(|number| low_i64(number)),
-        changeset: numbers.changeset.map(|number| low_i64(number)),
-        uid: numbers.uid.map(|number| low_i32(number)),
-        user: numbers.user.map(|number| named(table, number)),
-        visible: numbers.visible.map(|number| number != 0),
+        version: narrow(numbers.version),
+        timestamp: wide(numbers.timestamp),
+        changeset: wide(numbers.changeset),
+        uid: narrow(numbers.uid),
+        user: named(numbers.user, table),
+        visible: flag(numbers.visible),
     }
 }

@@ -4,4 +4,7 @@
 mod entity_fields;
 mod info;
 mod message;
+mod node;
+mod relation;
 mod scale;
+mod way;
