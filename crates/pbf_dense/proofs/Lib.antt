@@ -1,0 +1,2 @@
+pub mod InfoLemmas
+pub mod MovingLemmas

@@ -1,0 +1,4 @@
+pub mod Info
+pub mod Runs
+pub mod Nodes
+pub mod Cursors

@@ -1,0 +1,68 @@
+-- The columns of a DenseInfo, and the metadata of a node.
+use Rattle.std.specs.Prelude.{ℕ, ◌^◌, ◌==◌, not, ℤ, pos, negsuc, List, [], map, drop, slice_get}
+use Rattle.std.specs.Option.{option_map}
+use Rattle.pbf_wire.specs.Occurrence.{Occurrence}
+use Rattle.pbf_wire.specs.Columns.{column}
+use Rattle.pbf_wire.specs.Signed.{unzigzag, low_sint32, low_i32}
+use Rattle.pbf_wire.specs.Sums.{sums, sums_within}
+use Rattle.pbf_strings.specs.Texts.{text}
+use Rattle.osm_entity.specs.Entity.{MetaSpec}
+use Rattle.pbf_dense.specs.declared.message.TheConstants.{VERSION, TIMESTAMP, CHANGESET, UID, USER_SID, VISIBLE}
+
+-- the columns with what their entries mean; a column that is absent is empty
+pub record InfoSpec : Type 0 where
+  pub versions : List ℕ
+  pub timestamps : List ℤ
+  pub changesets : List ℤ
+  pub uids : List ℤ
+  pub users : List ℤ
+  pub visible : List ℕ
+
+-- the text of an index, and the empty text where it is negative
+abbrev pub user_text : List (List ℕ) → ℤ → List ℕ
+user_text table (pos n) = text table n
+user_text table (negsuc n) = []
+
+-- the metadata of node i: entry i of each column, which an empty column lacks
+abbrev pub meta_at : List (List ℕ) → InfoSpec → ℕ → MetaSpec
+meta_at table info i = record {
+  version = option_map low_i32 (slice_get info.versions i);
+  timestamp = slice_get info.timestamps i;
+  changeset = slice_get info.changesets i;
+  uid = slice_get info.uids i;
+  user = option_map (user_text table) (slice_get info.users i);
+  visible = option_map (λ n. not (n == 0)) (slice_get info.visible i);
+}
+
+-- the columns in the occurrences of a DenseInfo
+unfoldable pub info_of : List Occurrence → InfoSpec
+info_of os = record {
+  versions = column VERSION os;
+  timestamps = sums (map unzigzag (column TIMESTAMP os));
+  changesets = sums (map unzigzag (column CHANGESET os));
+  uids = sums (map low_sint32 (column UID os));
+  users = sums (map low_sint32 (column USER_SID os));
+  visible = column VISIBLE os;
+}
+
+-- the same, where each column of sums ends at the first that is out of range
+unfoldable pub info_along : List Occurrence → InfoSpec
+info_along os = record {
+  versions = column VERSION os;
+  timestamps = sums_within (pos (2 ^ 62)) (pos 0) (map unzigzag (column TIMESTAMP os));
+  changesets = sums_within (pos (2 ^ 62)) (pos 0) (map unzigzag (column CHANGESET os));
+  uids = sums_within (pos (2 ^ 30)) (pos 0) (map low_sint32 (column UID os));
+  users = sums_within (pos (2 ^ 62)) (pos 0) (map low_sint32 (column USER_SID os));
+  visible = column VISIBLE os;
+}
+
+-- the columns behind their first entries
+abbrev pub later : InfoSpec → InfoSpec
+later info = record {
+  versions = drop 1 info.versions;
+  timestamps = drop 1 info.timestamps;
+  changesets = drop 1 info.changesets;
+  uids = drop 1 info.uids;
+  users = drop 1 info.users;
+  visible = drop 1 info.visible;
+}

@@ -1,0 +1,55 @@
+-- The nodes of a dense message.
+use Rattle.std.specs.Prelude.{ℕ, ◌^◌, ℤ, pos, List, [], ◌∷◌, length, map}
+use Rattle.std.specs.List.{range_with_len}
+use Rattle.pbf_wire.specs.Occurrence.{Occurrence}
+use Rattle.pbf_wire.specs.Columns.{column}
+use Rattle.pbf_wire.specs.Signed.{unzigzag}
+use Rattle.pbf_wire.specs.Sums.{sum_at, sums_within}
+use Rattle.pbf_wire.specs.Faults.{embedded}
+use Rattle.osm_entity.specs.declared.scale.Scale.{Scale}
+use Rattle.osm_entity.specs.Entity.{NodeSpec}
+use Rattle.osm_entity.specs.Sources.{low_32, tag_of, run}
+use Rattle.pbf_dense.specs.declared.message.TheConstants.{ID, DENSEINFO, LAT, LON, KEYS_VALS}
+use Rattle.pbf_dense.specs.Info.{InfoSpec, meta_at, info_of, info_along, later}
+use Rattle.pbf_dense.specs.Runs.{tags_at, after_run}
+
+-- ---- by indices into whole columns
+
+-- value i of the column k of differences
+abbrev pub value_at : ℕ → List Occurrence → ℕ → ℤ
+value_at k os i = sum_at (map unzigzag (column k os)) i
+
+-- node i of the message that has these occurrences
+abbrev pub node_at : List (List ℕ) → Scale → List Occurrence → ℕ → NodeSpec
+node_at table scale os i = record {
+  id = value_at ID os i;
+  lat = value_at LAT os i;
+  lon = value_at LON os i;
+  meta = meta_at table (info_of (embedded DENSEINFO os)) i;
+  tags = tags_at table (map low_32 (column KEYS_VALS os)) i;
+  scale = scale;
+}
+
+-- the nodes: one for each id
+unfoldable pub nodes : List (List ℕ) → Scale → List Occurrence → List NodeSpec
+nodes table scale os = map (node_at table scale os) (range_with_len 0 (length (column ID os)))
+
+-- ---- by columns that move together
+
+-- the nodes, as long as there are an id, a latitude and a longitude
+abbrev pub moving : List (List ℕ) → Scale → List ℤ → List ℤ → List ℤ → InfoSpec → List ℕ → List NodeSpec
+moving table scale [] lats lons info keys_vals = []
+moving table scale (id ∷ ids) [] lons info keys_vals = []
+moving table scale (id ∷ ids) (lat ∷ lats) [] info keys_vals = []
+moving table scale (id ∷ ids) (lat ∷ lats) (lon ∷ lons) info keys_vals =
+    record { id = id; lat = lat; lon = lon; meta = meta_at table info 0; tags = map (tag_of table) (run keys_vals); scale = scale }
+    ∷ moving table scale ids lats lons (later info) (after_run keys_vals)
+
+-- the values of the column k of differences, up to the first that is out of range
+abbrev pub values_along : ℕ → List Occurrence → List ℤ
+values_along k os = sums_within (pos (2 ^ 62)) (pos 0) (map unzigzag (column k os))
+
+-- the nodes of the message that has these occurrences
+unfoldable pub nodes_along : List (List ℕ) → Scale → List Occurrence → List NodeSpec
+nodes_along table scale os =
+    moving table scale (values_along ID os) (values_along LAT os) (values_along LON os) (info_along (embedded DENSEINFO os)) (map low_32 (column KEYS_VALS os))

@@ -1,0 +1,87 @@
+//! The nodes of a dense message.
+
+ghost use Rattle.std.specs.Prelude.{◌≡◌, map};
+ghost use Rattle.pbf_wire.specs.Cursors.{numbers_left};
+ghost use Rattle.osm_entity.specs.Sources.{low_32};
+ghost use Rattle.pbf_dense.specs.Runs.{after_run};
+
+use crate::entries::next_number;
+use crate::info::InfoColumns;
+use crate::message::{ID, KEYS_VALS, LAT, LON, STORED_LIMIT};
+use osm_entity::{NodeRef, RunTags, Scale, Tags};
+use pbf_strings::Table;
+use pbf_wire::{Column, Sums, low_u32};
+
+/// Reads on to behind the next 0 in key place.
+#[tactic(auto, using(crate::proofs::MovingLemmas::run_steps))]
+fn skip_run(numbers: &mut Column<'_>)
+    ensures { map low_32 (numbers_left numbers.new) ≡ after_run (map low_32 (numbers_left numbers.old)) }
+{
+    'tags: while let Some(key) = next_number(numbers) {
+        if low_u32(key) == 0 {
+            break;
+        }
+        let _value = next_number(numbers);
+    }
+}
+
+/// The nodes of a dense message that are still to come: an iterator over its columns, which takes no memory.
+#[derive(Clone, Copy, Debug)]
+pub struct Dense<'a> {
+    ids: Sums<'a>,
+    lats: Sums<'a>,
+    lons: Sums<'a>,
+    info: InfoColumns<'a>,
+    keys_vals: Column<'a>,
+    table: &'a Table<'a>,
+    scale: Scale,
+}
+
+impl<'a> Dense<'a> {
+    ghost use Rattle.std.specs.Prelude.{◌+◌, ◌≤◌, ◌^◌, length};
+    ghost use Rattle.pbf_wire.specs.Faults.{fields_in};
+    ghost use Rattle.pbf_dense.specs.Nodes.{nodes_along};
+    ghost use Rattle.pbf_dense.specs.Cursors.{dense_left};
+
+    /// The nodes of a dense message whose first byte stands at `at` in the file, whatever is wrong with it: as long as there are
+    /// an id, a latitude and a longitude, up to a sum that is out of range. Goes through the message's fields once for each of
+    /// its columns and takes no memory.
+    #[tactic(auto, unfolding(crate::specs::Cursors::dense_left, crate::specs::Nodes::nodes_along))]
+    pub fn over(message: &'a [u8], at: u64, table: &'a Table<'a>, scale: Scale) -> Dense<'a>
+        requires { at + length message.now ≤ 2 ^ 63 }
+        ensures { dense_left result ≡ nodes_along table.now scale (fields_in at message.now) }
+    {
+        Dense {
+            ids: Sums::new(Column::new(message, at, ID), STORED_LIMIT),
+            lats: Sums::new(Column::new(message, at, LAT), STORED_LIMIT),
+            lons: Sums::new(Column::new(message, at, LON), STORED_LIMIT),
+            info: InfoColumns::last_in(message, at),
+            keys_vals: Column::new(message, at, KEYS_VALS),
+            table,
+            scale,
+        }
+    }
+}
+
+impl<'a> Iterator for Dense<'a> {
+    ghost use Rattle.std.specs.Iterator.{YieldsFirstBy, item_count};
+    ghost use Rattle.osm_entity.specs.Views.{node_of};
+    ghost use Rattle.pbf_dense.specs.Cursors.{dense_left};
+
+    type Item = NodeRef<'a>;
+
+    ghost next_gives = { YieldsFirstBy node_of dense_left };
+
+    ghost remaining = { item_count dense_left };
+
+    #[tactic(auto, using(crate::proofs::MovingLemmas::no_lats, crate::proofs::MovingLemmas::no_lons), unfolding(crate::specs::Cursors::dense_left))]
+    fn next(&mut self) -> Option<NodeRef<'a>> {
+        let id = self.ids.next()?;
+        let lat = self.lats.next()?;
+        let lon = self.lons.next()?;
+        let meta = self.info.take(self.table);
+        let tags = RunTags::new(self.keys_vals, self.table);
+        skip_run(&mut self.keys_vals);
+        Some(NodeRef::new(id, lat, lon, meta, Tags::Run(tags), self.scale))
+    }
+}

@@ -1,0 +1,25 @@
+//! The next entry of a column.
+
+ghost use Rattle.std.specs.Prelude.{◌≡◌, drop, slice_get};
+ghost use Rattle.std.specs.Iterator.{YieldsFirst};
+ghost use Rattle.pbf_wire.specs.Cursors.{numbers_left, sums_left};
+
+use pbf_wire::{Column, Sums};
+
+/// The next number of a column.
+
+pub(crate) fn next_number(numbers: &mut Column<'_>) -> Option<u64>
+    ensures steps { YieldsFirst numbers_left numbers.old result numbers.new }
+    ensures first { result ≡ slice_get (numbers_left numbers.old) 0 }
+    ensures rest { numbers_left numbers.new ≡ drop 1 (numbers_left numbers.old) }
+{
+    numbers.next()
+}
+
+/// The next value of a column of differences.
+pub(crate) fn next_sum(sums: &mut Sums<'_>) -> Option<i64>
+    ensures first { result ≡ slice_get (sums_left sums.old) 0 }
+    ensures rest { sums_left sums.new ≡ drop 1 (sums_left sums.old) }
+{
+    sums.next()
+}

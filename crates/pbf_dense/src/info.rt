@@ -1,0 +1,136 @@
+//! The columns of a DenseInfo.
+
+ghost use Rattle.std.specs.Prelude.{◌≡◌, ◌==◌, ◌^◌, pos, true, not, drop, slice_get};
+ghost use Rattle.std.specs.Option.{option_map};
+ghost use Rattle.std.specs.List.{list_all};
+ghost use Rattle.pbf_wire.specs.Signed.{is_within, low_i32};
+ghost use Rattle.pbf_wire.specs.Cursors.{sums_left};
+ghost use Rattle.pbf_dense.specs.Info.{user_text};
+
+use crate::entries::{next_number, next_sum};
+use crate::message::{
+    CHANGESET, DENSEINFO, STORED_LIMIT, TIMESTAMP, UID, UID_LIMIT, USER_SID, VERSION, VISIBLE,
+};
+use osm_entity::MetaRef;
+use pbf_strings::Table;
+use pbf_wire::{Column, Field, Payload, Sums, last_field, low_i32};
+
+/// The text of an index, and the empty text where it is negative or the table has none.
+fn user_text<'a>(table: &'a Table<'a>, index: i64) -> &'a [u8]
+    ensures { result.now ≡ user_text table.now index }
+{
+    if index < 0 {
+        return &[];
+    }
+    table.text(index as usize)
+}
+
+/// The version that an entry means.
+fn version_of(entry: Option<u64>) -> Option<i32>
+    ensures { result ≡ option_map low_i32 entry }
+{
+    Some(low_i32(entry?))
+}
+
+/// The user's text that an entry means.
+fn user_of<'a>(table: &'a Table<'a>, entry: Option<i64>) -> Option<&'a [u8]>
+    ensures { option_map (λ text. text.now) result ≡ option_map (user_text table.now) entry }
+{
+    Some(user_text(table, entry?))
+}
+
+/// Whether the entity is visible, as an entry means it.
+fn visible_of(entry: Option<u64>) -> Option<bool>
+    ensures { result ≡ option_map (λ n. not (n == 0)) entry }
+{
+    Some(entry? != 0)
+}
+
+/// The next value of a column of uids.
+#[tactic(auto, using(crate::proofs::InfoLemmas::later_within))]
+fn next_uid(uids: &mut Sums<'_>) -> Option<i32>
+    requires { list_all (is_within (pos (2 ^ 30))) (sums_left uids.old) ≡ true }
+    ensures first { result ≡ slice_get (sums_left uids.old) 0 }
+    ensures rest { sums_left uids.new ≡ drop 1 (sums_left uids.old) }
+    ensures narrow { list_all (is_within (pos (2 ^ 30))) (sums_left uids.new) ≡ true }
+{
+    let uid = uids.next()?;
+    Some(uid as i32)
+}
+
+/// What is left of the columns of metadata, each of which is empty or goes with the nodes.
+#[derive(Clone, Copy, Debug)]
+pub(crate) struct InfoColumns<'a> {
+    versions: Column<'a>,
+    timestamps: Sums<'a>,
+    changesets: Sums<'a>,
+    uids: Sums<'a>,
+    users: Sums<'a>,
+    visible: Column<'a>,
+    ghost narrow: { list_all (is_within (pos (2 ^ 30))) (sums_left uids) ≡ true },
+}
+
+impl<'a> InfoColumns<'a> {
+    ghost use Rattle.std.specs.Prelude.{◌+◌, ◌≤◌, length};
+    ghost use Rattle.pbf_wire.specs.Fields.{occurrence};
+    ghost use Rattle.pbf_wire.specs.Faults.{fields_in, fields_of, embedded};
+    ghost use Rattle.osm_entity.specs.Views.{meta_of};
+    ghost use Rattle.pbf_dense.specs.Info.{meta_at, later, info_along};
+    ghost use Rattle.pbf_dense.specs.Cursors.{info_left};
+
+    /// The columns of a DenseInfo whose first byte stands at `at` in the file.
+    #[tactic(auto, using(crate::proofs::InfoLemmas::sums_are_within), unfolding(crate::specs::Info::info_along))]
+    pub(crate) fn new(message: &'a [u8], at: u64) -> Self
+        requires { at + length message.now ≤ 2 ^ 63 }
+        ensures { info_left result ≡ info_along (fields_in at message.now) }
+    {
+        InfoColumns {
+            versions: Column::new(message, at, VERSION),
+            timestamps: Sums::new(Column::new(message, at, TIMESTAMP), STORED_LIMIT),
+            changesets: Sums::new(Column::new(message, at, CHANGESET), STORED_LIMIT),
+            uids: Sums::narrow(Column::new(message, at, UID), UID_LIMIT),
+            users: Sums::narrow(Column::new(message, at, USER_SID), STORED_LIMIT),
+            visible: Column::new(message, at, VISIBLE),
+        }
+    }
+
+    /// The columns of the DenseInfo that a field holds, and empty ones where it holds none.
+    #[tactic(auto, using(crate::proofs::InfoLemmas::no_fields))]
+    fn held_by(field: Option<Field<'a>>) -> Self
+        ensures { info_left result ≡ info_along (fields_of (option_map occurrence field.entry)) }
+    {
+        match field {
+            Some(
+                Field {
+                    payload: Payload::Bytes(info, place),
+                    ..
+                },
+            ) => InfoColumns::new(info, place),
+            _ => InfoColumns::new(&[], 0),
+        }
+    }
+
+    /// The columns of the last DenseInfo in a DenseNodes whose first byte stands at `at` in the file; without one they are
+    /// empty.
+    pub(crate) fn last_in(dense: &'a [u8], at: u64) -> Self
+        requires { at + length dense.now ≤ 2 ^ 63 }
+        ensures { info_left result ≡ info_along (embedded DENSEINFO (fields_in at dense.now)) }
+    {
+        InfoColumns::held_by(last_field(dense, at, DENSEINFO))
+    }
+
+    /// The metadata of the next node.
+    pub(crate) fn take(&mut self, table: &'a Table<'a>) -> MetaRef<'a>
+        ensures meta { meta_of result ≡ meta_at table.now (info_left self.old) 0 }
+        ensures rest { info_left self.new ≡ later (info_left self.old) }
+    {
+        MetaRef {
+            version: version_of(next_number(&mut self.versions)),
+            timestamp: next_sum(&mut self.timestamps),
+            changeset: next_sum(&mut self.changesets),
+            uid: next_uid(&mut self.uids),
+            user: user_of(table, next_sum(&mut self.users)),
+            visible: visible_of(next_number(&mut self.visible)),
+        }
+    }
+}
