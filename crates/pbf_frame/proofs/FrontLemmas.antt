@@ -9,7 +9,7 @@ use Rattle.pbf_frame.specs.declared.frame.FrameKind.TheVariants as kind
 use Rattle.pbf_frame.specs.declared.stop.Stop.{Stop}
 use Rattle.pbf_frame.specs.declared.stop.Stop.TheVariants.{Refused, Read, Write, Memory, Changed}
 use Rattle.pbf_frame.specs.Devices.{prepend}
-use Rattle.pbf_frame.specs.Faults.{fault}
+use Rattle.pbf_wire.specs.Faults.{fault}
 use Rattle.pbf_frame.specs.Frames.{bytes_at}
 use Rattle.pbf_frame.specs.Reads.{Skips, GaveBlob, RefusedBlob, IsSkipStop}
 use Rattle.pbf_frame.proofs.KnownBytes.{prepend_more}

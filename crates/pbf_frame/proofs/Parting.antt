@@ -10,7 +10,8 @@ use Rattle.pbf_frame.specs.declared.frame.FrameKind.{FrameKind}
 use Rattle.pbf_frame.specs.declared.frame.FrameKind.TheVariants as kind
 use Rattle.pbf_frame.specs.declared.header.Head.{Head}
 use Rattle.pbf_frame.specs.declared.header.TheConstants.{HEADER_LIMIT}
-use Rattle.pbf_frame.specs.Faults.{fault, unless, ◌>>=◌}
+use Rattle.pbf_wire.specs.Faults.{fault}
+use Rattle.pbf_frame.specs.Faults.{unless, ◌>>=◌}
 use Rattle.pbf_frame.specs.Header.{head_of}
 use Rattle.pbf_frame.specs.Blob.{blob_fault}
 use Rattle.pbf_frame.specs.Frames.{FrameSpec, frame_bytes, bytes_at, prefix_at, order_faults, header_of, known_blob_of, blob_of, after_prefix, next_of}

@@ -10,7 +10,7 @@ use Rattle.pbf_wire.specs.Occurrence.{Content, Number, Eight, Four, Bytes, Occur
 use Rattle.pbf_wire.specs.Reading.{bytes_held, last_of}
 use Rattle.pbf_wire.specs.Wire.{wire}
 use Rattle.pbf_frame.specs.declared.blob.TheConstants.{RAW, ZLIB_DATA, LZMA_DATA, BZIP2_DATA, LZ4_DATA, ZSTD_DATA, BLOB_KINDS, RAW_LIMIT}
-use Rattle.pbf_frame.specs.Faults.{fault, fault_where}
+use Rattle.pbf_wire.specs.Faults.{fault, fault_where}
 use Rattle.pbf_frame.specs.Header.{text_of}
 
 -- why data under this field number isn't read

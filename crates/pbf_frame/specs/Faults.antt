@@ -1,15 +1,6 @@
--- Faults, and judging by phases: each phase over its whole message before the next.
-use Rattle.std.specs.Prelude.{ℕ, Bool, true, false, List, [], ◌∷◌, Option, Some, None, Result, Ok, Err}
+-- Judging by phases: each phase over its whole message before the next.
+use Rattle.std.specs.Prelude.{Option, Some, None, Result, Ok, Err}
 use Rattle.pbf_wire.specs.declared.fault.Fault.{Fault}
-use Rattle.pbf_wire.specs.declared.fault.Reason.{Reason}
-
-abbrev pub fault : ℕ → Reason → Fault
-fault offset reason = record { offset = offset; reason = reason }
-
--- the fault, where the test holds
-abbrev pub fault_where : Bool → ℕ → Reason → List Fault
-fault_where true offset reason = fault offset reason ∷ []
-fault_where false offset reason = []
 
 -- what follows, where nothing is wrong so far
 abbrev pub unless : {A : Type 0} → Option Fault → Result A Fault → Result A Fault

@@ -11,7 +11,8 @@ use Rattle.pbf_frame.specs.declared.frame.FrameKind.{FrameKind}
 use Rattle.pbf_frame.specs.declared.frame.FrameKind.TheVariants as kind
 use Rattle.pbf_frame.specs.declared.header.Head.{Head}
 use Rattle.pbf_frame.specs.declared.header.TheConstants.{HEADER_LIMIT}
-use Rattle.pbf_frame.specs.Faults.{fault, fault_where, unless, ◌>>=◌}
+use Rattle.pbf_wire.specs.Faults.{fault, fault_where}
+use Rattle.pbf_frame.specs.Faults.{unless, ◌>>=◌}
 use Rattle.pbf_frame.specs.Header.{name_of, kind_of, head_of}
 use Rattle.pbf_frame.specs.Blob.{blob_fault, raw_of, raw_at}
 

@@ -12,7 +12,8 @@ use Rattle.pbf_frame.specs.declared.frame.FrameKind.{FrameKind}
 use Rattle.pbf_frame.specs.declared.frame.FrameKind.TheVariants as kind
 use Rattle.pbf_frame.specs.declared.header.Head.{Head}
 use Rattle.pbf_frame.specs.declared.header.TheConstants.{TYPE, DATASIZE, HEADER_KINDS, LARGEST_SIZE}
-use Rattle.pbf_frame.specs.Faults.{fault_where, unless}
+use Rattle.pbf_wire.specs.Faults.{fault_where}
+use Rattle.pbf_frame.specs.Faults.{unless}
 
 -- the text of a field, and none where it is absent
 abbrev pub text_of : Option Occurrence → List ℕ

@@ -3,7 +3,6 @@
 
 mod blob;
 mod device;
-mod fault;
 mod frame;
 mod header;
 pub mod laws;

@@ -4,7 +4,7 @@ ghost use Rattle.std.specs.Prelude.{ℕ, List, None, Ok, true, ◌≡◌, ◌+�
 ghost use Rattle.byteorder.specs.Endian.{big_number};
 ghost use Rattle.pbf_wire.specs.Least.{least};
 ghost use Rattle.pbf_frame.specs.Devices.{HasRisen, IsAtEnd};
-ghost use Rattle.pbf_frame.specs.Faults.{fault};
+ghost use Rattle.pbf_wire.specs.Faults.{fault};
 ghost use Rattle.pbf_frame.specs.Frames.{order_faults, prefix_at, bytes_at, header_of, known_blob_of};
 ghost use Rattle.pbf_frame.specs.Header.{head_of};
 ghost use Rattle.pbf_frame.specs.declared.header.TheConstants.{LARGEST_SIZE};
@@ -14,13 +14,12 @@ ghost use Rattle.pbf_frame.specs.Blob.{blob_fault};
 
 use crate::blob::judge_blob;
 use crate::device::Feed;
-use crate::fault::fault_where;
 use crate::frame::FrameKind;
 use crate::header::{HEADER_LIMIT, Head, read_head};
 use crate::stop::Stop;
 use crate::transfer::fill;
 use byteorder::{BigEndian, ByteOrder};
-use pbf_wire::{Fault, Reason, lesser};
+use pbf_wire::{Fault, Reason, fault_where, lesser};
 
 // How many bytes of a blob of another type are read past at a time.
 const PIECE: usize = 8192;
