@@ -3,3 +3,4 @@ pub mod Info
 pub mod Members
 pub mod Along
 pub mod Passes
+pub mod Cursors

@@ -1,10 +1,14 @@
 //! HeaderBlocks and PrimitiveBlocks: read and judged.
 #![tactic(auto)]
 
+mod entities;
 mod entity_fields;
+mod group;
 mod info;
 mod message;
 mod node;
 mod relation;
 mod scale;
 mod way;
+
+pub use entities::Entities;
