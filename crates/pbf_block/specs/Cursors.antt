@@ -7,7 +7,7 @@ use Rattle.osm_entity.specs.Entity.{EntitySpec, node}
 use Rattle.pbf_dense.specs.declared.dense.Dense.{Dense}
 use Rattle.pbf_dense.specs.Cursors.{dense_left}
 use Rattle.pbf_block.specs.Members.{member_entities, group_entities}
-use Rattle.pbf_block.specs.Along.{along}
+use Rattle.pbf_block.specs.Payload.{along}
 use Rattle.pbf_block.specs.declared.group.Group.{Group}
 use Rattle.pbf_block.specs.declared.entities.Entities.{Entities}
 

@@ -1,6 +1,7 @@
 pub mod Scale
 pub mod Info
 pub mod Members
-pub mod Along
+pub mod Payload
 pub mod Passes
 pub mod Cursors
+pub mod Weights

@@ -21,7 +21,7 @@ impl<'a> Entities<'a> {
     ghost use Rattle.std.specs.Prelude.{◌≡◌, ◌+◌, ◌≤◌, ◌^◌, length};
     ghost use Rattle.pbf_wire.specs.Faults.{fields_in};
     ghost use Rattle.pbf_block.specs.Members.{entities_by};
-    ghost use Rattle.pbf_block.specs.Along.{along};
+    ghost use Rattle.pbf_block.specs.Payload.{along};
     ghost use Rattle.pbf_block.specs.Cursors.{entities_left};
 
     /// The entities of a payload whose first byte stands at `at` in the file, whatever is wrong with it.

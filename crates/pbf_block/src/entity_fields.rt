@@ -12,7 +12,7 @@ ghost use Rattle.osm_entity.specs.Views.{meta_of};
 ghost use Rattle.pbf_block.specs.Scale.{read_or};
 ghost use Rattle.pbf_block.specs.Info.{info_in};
 ghost use Rattle.pbf_block.specs.Members.{id_in, tags_in, values_in};
-ghost use Rattle.pbf_block.specs.Along.{along};
+ghost use Rattle.pbf_block.specs.Payload.{along};
 ghost use Rattle.pbf_block.specs.Passes.{AreFields, only, only_left};
 
 use crate::info::meta_in;

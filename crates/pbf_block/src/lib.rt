@@ -10,5 +10,6 @@ mod node;
 mod relation;
 mod scale;
 mod way;
+mod weights;
 
 pub use entities::Entities;

@@ -4,7 +4,7 @@ ghost use Rattle.std.specs.Prelude.{◌≡◌, ◌+◌, ◌≤◌, ◌^◌, leng
 ghost use Rattle.pbf_wire.specs.Faults.{fields_in};
 ghost use Rattle.osm_entity.specs.Views.{relation_of};
 ghost use Rattle.pbf_block.specs.Members.{relation_in};
-ghost use Rattle.pbf_block.specs.Along.{along};
+ghost use Rattle.pbf_block.specs.Payload.{along};
 
 use crate::entity_fields::{column, entity_fields, values};
 use crate::message::{MEMIDS, ROLES_SID, TYPES};

@@ -4,7 +4,7 @@ ghost use Rattle.std.specs.Prelude.{◌≡◌, ◌+◌, ◌≤◌, ◌^◌, leng
 ghost use Rattle.pbf_wire.specs.Faults.{fields_in};
 ghost use Rattle.osm_entity.specs.Views.{way_of};
 ghost use Rattle.pbf_block.specs.Members.{way_in};
-ghost use Rattle.pbf_block.specs.Along.{along};
+ghost use Rattle.pbf_block.specs.Payload.{along};
 
 use crate::entity_fields::{entity_fields, values};
 use crate::message::{REFS, WAY_LAT, WAY_LON};
