@@ -1,3 +1,6 @@
+pub mod WireFaults
+pub mod StructureFaults
+pub mod ValueFaults
 pub mod Scale
 pub mod Info
 pub mod Members

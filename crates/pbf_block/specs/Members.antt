@@ -19,10 +19,15 @@ pub record How : Type 0 where
   pub values : List ℤ → List ℤ
   pub dense : List (List ℕ) → Scale → List Occurrence → List NodeSpec
 
--- ---- what nodes, ways and relations have alike
+-- ---- parts of nodes, ways and relations
 
-abbrev pub id_in : List Occurrence → ℤ
-id_in os = read_or (pos 0) low_i64 (last_number ID os)
+-- a number in zigzag, and 0 where it is absent
+abbrev pub signed_in : ℕ → List Occurrence → ℤ
+signed_in k os = read_or (pos 0) unzigzag (last_number k os)
+
+-- a number in two's complement, and 0 where it is absent
+abbrev pub wide_in : ℕ → List Occurrence → ℤ
+wide_in k os = read_or (pos 0) low_i64 (last_number k os)
 
 abbrev pub tags_in : List (List ℕ) → List Occurrence → List TagSpec
 tags_in table os = paired_tags table (column KEYS os) (column VALS os)
@@ -31,9 +36,9 @@ tags_in table os = paired_tags table (column KEYS os) (column VALS os)
 
 unfoldable pub node_in : List (List ℕ) → Scale → List Occurrence → NodeSpec
 node_in table scale os = record {
-  id = id_in os;
-  lat = read_or (pos 0) unzigzag (last_number NODE_LAT os);
-  lon = read_or (pos 0) unzigzag (last_number NODE_LON os);
+  id = signed_in ID os;
+  lat = signed_in NODE_LAT os;
+  lon = signed_in NODE_LON os;
   meta = info_in table (embedded INFO os);
   tags = tags_in table os;
   scale = scale;
@@ -44,7 +49,7 @@ values_in how k os = how.values (map unzigzag (column k os))
 
 unfoldable pub way_in : How → List (List ℕ) → Scale → List Occurrence → WaySpec
 way_in how table scale os = record {
-  id = id_in os;
+  id = wide_in ID os;
   meta = info_in table (embedded INFO os);
   tags = tags_in table os;
   refs = values_in how REFS os;
@@ -54,7 +59,7 @@ way_in how table scale os = record {
 
 unfoldable pub relation_in : How → List (List ℕ) → Scale → List Occurrence → RelationSpec
 relation_in how table scale os = record {
-  id = id_in os;
+  id = wide_in ID os;
   meta = info_in table (embedded INFO os);
   tags = tags_in table os;
   members = column_members table (column TYPES os) (values_in how MEMIDS os) (column ROLES_SID os);

@@ -1,17 +1,15 @@
 //! The fields of a node, a way or a relation, found in one pass over its message.
 
-ghost use Rattle.std.specs.Prelude.{◌≡◌, ◌+◌, ◌≤◌, ◌^◌, List, length, pos};
+ghost use Rattle.std.specs.Prelude.{◌≡◌, ◌+◌, ◌≤◌, ◌^◌, List, length};
 ghost use Rattle.pbf_wire.specs.Columns.{column};
 ghost use Rattle.pbf_wire.specs.Cursors.{fields_left, numbers_left, sums_left};
 ghost use Rattle.pbf_wire.specs.Faults.{fields_in, embedded};
 ghost use Rattle.pbf_wire.specs.Occurrence.{Occurrence, found};
 ghost use Rattle.pbf_wire.specs.Reading.{last_number};
-ghost use Rattle.pbf_wire.specs.Signed.{unzigzag};
 ghost use Rattle.osm_entity.specs.Sources.{tags_left};
 ghost use Rattle.osm_entity.specs.Views.{meta_of};
-ghost use Rattle.pbf_block.specs.Scale.{read_or};
 ghost use Rattle.pbf_block.specs.Info.{info_in};
-ghost use Rattle.pbf_block.specs.Members.{id_in, tags_in, values_in};
+ghost use Rattle.pbf_block.specs.Members.{signed_in, wide_in, tags_in, values_in};
 ghost use Rattle.pbf_block.specs.Payload.{along};
 ghost use Rattle.pbf_block.specs.Passes.{AreFields, only, only_left};
 
@@ -79,9 +77,19 @@ pub(crate) fn entity_fields(message: &[u8], at: u64) -> EntityFields<'_>
 }
 
 impl<'a> EntityFields<'a> {
-    /// The id, and 0 where it is absent.
-    pub(crate) fn id(&self) -> i64
-        ensures { (os : List Occurrence) → AreFields self.now os → result ≡ id_in os }
+    /// The id as a `sint64`, which it is of a node, and 0 where it is absent.
+    pub(crate) fn signed_id(&self) -> i64
+        ensures { (os : List Occurrence) → AreFields self.now os → result ≡ signed_in ID os }
+    {
+        match self.id {
+            Some(number) => unzigzag(number),
+            None => 0,
+        }
+    }
+
+    /// The id as an `int64`, which it is of a way or a relation, and 0 where it is absent.
+    pub(crate) fn wide_id(&self) -> i64
+        ensures { (os : List Occurrence) → AreFields self.now os → result ≡ wide_in ID os }
     {
         match self.id {
             Some(number) => low_i64(number),
@@ -142,7 +150,7 @@ fn last_left(fields: Fields<'_>, number: u64) -> Option<u64>
 /// The signed number that these fields hold last under this number, and 0 where they hold none.
 #[tactic(auto, using(crate::proofs::PassLemmas::last_left_is))]
 pub(crate) fn last_signed(fields: Fields<'_>, number: u64) -> i64
-    ensures { (os : List Occurrence) → only_left number fields.entry ≡ only number os → result ≡ read_or (pos 0) unzigzag (last_number number os) }
+    ensures { (os : List Occurrence) → only_left number fields.entry ≡ only number os → result ≡ signed_in number os }
 {
     match last_left(fields, number) {
         Some(value) => unzigzag(value),

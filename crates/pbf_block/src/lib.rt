@@ -9,7 +9,10 @@ mod message;
 mod node;
 mod relation;
 mod scale;
+mod structure;
+mod values;
 mod way;
 mod weights;
+mod wire;
 
 pub use entities::Entities;

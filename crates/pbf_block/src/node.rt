@@ -23,7 +23,7 @@ pub(crate) fn node_in<'a>(
 {
     let fields = entity_fields(message, at);
     NodeRef::new(
-        fields.id(),
+        fields.signed_id(),
         last_signed(fields.eighth, NODE_LAT),
         last_signed(fields.ninth, NODE_LON),
         fields.meta(table),

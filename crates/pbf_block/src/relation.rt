@@ -30,7 +30,7 @@ pub(crate) fn relation_in<'a>(
         table,
     );
     RelationRef::new(
-        fields.id(),
+        fields.wide_id(),
         fields.meta(table),
         fields.tags(table),
         Members::Columns(members),

@@ -28,7 +28,7 @@ pub(crate) fn way_in<'a>(
         values(fields.tenth, WAY_LON),
     );
     WayRef::new(
-        fields.id(),
+        fields.wide_id(),
         fields.meta(table),
         fields.tags(table),
         Refs::Summed(values(fields.eighth, REFS)),

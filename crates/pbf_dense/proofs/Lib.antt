@@ -1,2 +1,6 @@
+pub mod Parts
 pub mod InfoLemmas
 pub mod MovingLemmas
+pub mod IndexLemmas
+pub mod ReadableLemmas
+pub mod RunLemmas

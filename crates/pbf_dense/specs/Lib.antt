@@ -2,3 +2,4 @@ pub mod Info
 pub mod Runs
 pub mod Nodes
 pub mod Cursors
+pub mod Judged

@@ -2,7 +2,7 @@
 
 ghost use Rattle.std.specs.Prelude.{◌≡◌, drop, slice_get};
 ghost use Rattle.std.specs.Iterator.{YieldsFirst};
-ghost use Rattle.pbf_wire.specs.Cursors.{numbers_left, sums_left};
+ghost use Rattle.pbf_wire.specs.Cursors.{column_left, numbers_left, sums_left};
 
 use pbf_wire::{Column, Sums};
 
@@ -22,4 +22,12 @@ pub(crate) fn next_sum(sums: &mut Sums<'_>) -> Option<i64>
     ensures rest { sums_left sums.new ≡ drop 1 (sums_left sums.old) }
 {
     sums.next()
+}
+
+/// The next number of a column, and the place of the occurrence that holds it.
+pub(crate) fn next_placed(column: &mut Column<'_>) -> Option<(u64, u64)>
+    ensures { YieldsFirst column_left column.old result column.new }
+{
+    let number = column.next()?;
+    Some((number, column.place()))
 }

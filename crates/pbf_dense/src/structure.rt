@@ -1,0 +1,140 @@
+//! Whether the columns of a dense message fit together.
+
+ghost use Rattle.std.specs.Prelude.{◌≡◌, ◌+◌, ◌≤◌, ◌^◌, ◌==◌, map, length};
+ghost use Rattle.std.specs.List.{flat_map};
+ghost use Rattle.pbf_wire.specs.Columns.{column};
+ghost use Rattle.pbf_wire.specs.Cursors.{numbers_left};
+ghost use Rattle.pbf_wire.specs.Fields.{occurrence};
+ghost use Rattle.pbf_wire.specs.Least.{least};
+ghost use Rattle.pbf_wire.specs.Faults.{fault_where, entered, fields_in, column_count};
+ghost use Rattle.osm_entity.specs.Sources.{low_32};
+ghost use Rattle.pbf_dense.specs.Judged.{has_count, coordinate_counts, are_runs, are_tags, run_faults, goes_with, info_counts, dense_structure};
+
+use crate::entries::next_number;
+use crate::message::{
+    CHANGESET, DENSEINFO, ID, KEYS_VALS, LAT, LON, TIMESTAMP, UID, USER_SID, VERSION, VISIBLE,
+};
+use pbf_wire::{
+    Column, Fault, Field, Fields, Payload, Reason, column_count, fault_where, judge_twice, lesser,
+    low_u32,
+};
+
+/// Whether a column has so many entries.
+fn has_count(message: &[u8], at: u64, number: u64, count: usize) -> bool
+    requires { at + length message.now ≤ 2 ^ 63 }
+    ensures { result ≡ has_count count number (fields_in at message.now) }
+{
+    column_count(message, at, number) == count
+}
+
+/// `ColumnLengths` at `tag`, where there aren't as many latitudes and as many longitudes as ids.
+fn judge_coordinates(message: &[u8], at: u64, tag: u64) -> Option<Fault>
+    requires { at + length message.now ≤ 2 ^ 63 }
+    ensures { result ≡ least (coordinate_counts tag (fields_in at message.now)) }
+{
+    let nodes = column_count(message, at, ID);
+    let fits = has_count(message, at, LAT, nodes) && has_count(message, at, LON, nodes);
+    fault_where(!fits, tag, Reason::ColumnLengths)
+}
+
+/// Whether the numbers are so many runs, each with a 0 in key place behind it, and nothing after.
+#[tactic(auto, using(crate::proofs::RunLemmas::runs_steps))]
+fn are_runs(keys_vals: Column<'_>, nodes: usize) -> bool
+    ensures { result ≡ are_runs nodes (map low_32 (numbers_left keys_vals.entry)) }
+{
+    let mut numbers = keys_vals;
+    let mut left = nodes;
+    'runs: while left > 0 {
+        let Some(key) = next_number(&mut numbers) else {
+            return false;
+        };
+        if low_u32(key) == 0 {
+            left -= 1;
+        } else if next_number(&mut numbers).is_none() {
+            return false;
+        }
+    }
+    next_number(&mut numbers).is_none()
+}
+
+/// Whether there are no tags, or a run of them for each node.
+fn are_tags(keys_vals: Column<'_>, nodes: usize) -> bool
+    ensures { result ≡ are_tags nodes (map low_32 (numbers_left keys_vals.entry)) }
+{
+    let mut numbers = keys_vals;
+    next_number(&mut numbers).is_none() || are_runs(keys_vals, nodes)
+}
+
+/// `KeysVals` at `tag`, where the tags are not of their form.
+fn judge_runs(message: &[u8], at: u64, tag: u64) -> Option<Fault>
+    requires { at + length message.now ≤ 2 ^ 63 }
+    ensures { result ≡ least (run_faults tag (fields_in at message.now)) }
+{
+    let keys_vals = Column::new(message, at, KEYS_VALS);
+    let fits = are_tags(keys_vals, column_count(message, at, ID));
+    fault_where(!fits, tag, Reason::KeysVals)
+}
+
+/// Whether a column is empty or has an entry for each node.
+fn goes_with(message: &[u8], at: u64, number: u64, nodes: usize) -> bool
+    requires { at + length message.now ≤ 2 ^ 63 }
+    ensures { result ≡ goes_with nodes number (fields_in at message.now) }
+{
+    has_count(message, at, number, 0) || has_count(message, at, number, nodes)
+}
+
+/// `ColumnLengths` at `tag`, where a column of the DenseInfo doesn't go with the nodes.
+fn judge_info(info: &[u8], at: u64, tag: u64, nodes: usize) -> Option<Fault>
+    requires { at + length info.now ≤ 2 ^ 63 }
+    ensures { result ≡ least (info_counts nodes tag at info.now) }
+{
+    let fits = goes_with(info, at, VERSION, nodes)
+        && goes_with(info, at, TIMESTAMP, nodes)
+        && goes_with(info, at, CHANGESET, nodes)
+        && goes_with(info, at, UID, nodes)
+        && goes_with(info, at, USER_SID, nodes)
+        && goes_with(info, at, VISIBLE, nodes);
+    fault_where(!fits, tag, Reason::ColumnLengths)
+}
+
+/// The same of a field of a dense message.
+fn judge_info_field(field: Field<'_>, nodes: usize) -> Option<Fault>
+    ensures { result ≡ least (entered DENSEINFO (info_counts nodes) (occurrence field.entry)) }
+{
+    if field.number != DENSEINFO {
+        return None;
+    }
+    match field.payload {
+        Payload::Bytes(info, begin) => judge_info(info, begin, field.offset, nodes),
+        _ => None,
+    }
+}
+
+/// The least fault of the counts of all DenseInfos.
+#[tactic(auto, using(crate::proofs::Parts::least_more, crate::proofs::Parts::lesser_nothing))]
+fn judge_infos(message: &[u8], at: u64, nodes: usize) -> Option<Fault>
+    requires { at + length message.now ≤ 2 ^ 63 }
+    ensures { result ≡ least (flat_map (entered DENSEINFO (info_counts nodes)) (fields_in at message.now)) }
+{
+    let mut least = None;
+    for item in Fields::new(message, at) {
+        let Ok(field) = item else {
+            return least;
+        };
+        least = lesser(least, judge_info_field(field, nodes));
+    }
+    least
+}
+
+/// The least fault of structure of a dense message whose first byte stands at `at` in the file, and its field at `tag`.
+#[tactic(auto, using(crate::proofs::Parts::lesser_parts), unfolding(crate::specs::Judged::dense_structure))]
+pub(crate) fn judge_structure(message: &[u8], at: u64, tag: u64) -> Option<Fault>
+    requires { at + length message.now ≤ 2 ^ 63 }
+    ensures { result ≡ least (dense_structure tag at message.now) }
+{
+    let counts = judge_coordinates(message, at, tag);
+    let runs = judge_runs(message, at, tag);
+    let twice = judge_twice(message, at, DENSEINFO);
+    let infos = judge_infos(message, at, column_count(message, at, ID));
+    lesser(counts, lesser(runs, lesser(twice, infos)))
+}

@@ -1,0 +1,104 @@
+//! Whether the values of a dense message are in range, and the table has its texts.
+
+ghost use Rattle.std.specs.Prelude.{◌≡◌, ◌+◌, ◌≤◌, ◌^◌, false, length};
+ghost use Rattle.std.specs.List.{flat_map};
+ghost use Rattle.pbf_wire.specs.Columns.{joined};
+ghost use Rattle.pbf_wire.specs.Fields.{occurrence};
+ghost use Rattle.pbf_wire.specs.Least.{least};
+ghost use Rattle.pbf_wire.specs.Faults.{entered, fields_in, index_faults};
+ghost use Rattle.pbf_dense.specs.Judged.{texts_named, range_faults, info_values, dense_values};
+
+use crate::entries::next_placed;
+use crate::message::{
+    CHANGESET, DENSEINFO, ID, KEYS_VALS, LAT, LON, STORED_LIMIT, TIMESTAMP, UID, UID_LIMIT, USER_SID,
+};
+use pbf_wire::{
+    Column, Fault, Field, Fields, Payload, judge_index, judge_index_sums, judge_sums, lesser, low_u32,
+};
+
+/// The first value of a column of differences that is out of range.
+fn judge_range(message: &[u8], at: u64, number: u64) -> Option<Fault>
+    requires { at + length message.now ≤ 2 ^ 63 }
+    ensures { result ≡ least (range_faults number (fields_in at message.now)) }
+{
+    judge_sums(message, at, number, STORED_LIMIT.unsigned_abs(), false)
+}
+
+/// The first number of the tags that a table of this length has no text for. A 0 in key place names none.
+#[tactic(auto, using(crate::proofs::Parts::least_more, crate::proofs::Parts::lesser_nothing))]
+fn judge_texts(message: &[u8], at: u64, limit: u64) -> Option<Fault>
+    requires { at + length message.now ≤ 2 ^ 63 }
+    ensures { result ≡ least (index_faults limit (texts_named false (joined KEYS_VALS (fields_in at message.now)))) }
+{
+    let mut keys_vals = Column::new(message, at, KEYS_VALS);
+    let mut least = None;
+    let mut in_value = false;
+    'numbers: while let Some((number, place)) = next_placed(&mut keys_vals) {
+        if in_value || low_u32(number) != 0 {
+            least = lesser(least, judge_index(place, number, limit));
+            in_value = !in_value;
+        }
+    }
+    least
+}
+
+/// The least fault of the values of a DenseInfo.
+#[tactic(auto, using(crate::proofs::Parts::lesser_parts))]
+fn judge_info(info: &[u8], at: u64, limit: u64, tag: u64) -> Option<Fault>
+    requires placed { at + length info.now ≤ 2 ^ 63 }
+    requires limited { limit ≤ 2 ^ 62 }
+    ensures { result ≡ least (info_values limit tag at info.now) }
+{
+    let timestamps = judge_range(info, at, TIMESTAMP);
+    let changesets = judge_range(info, at, CHANGESET);
+    let uids = judge_sums(info, at, UID, UID_LIMIT.unsigned_abs(), true);
+    let users = judge_index_sums(info, at, USER_SID, limit);
+    lesser(timestamps, lesser(changesets, lesser(uids, users)))
+}
+
+/// The same of a field of a dense message.
+fn judge_info_field(field: Field<'_>, limit: u64) -> Option<Fault>
+    requires { limit ≤ 2 ^ 62 }
+    ensures { result ≡ least (entered DENSEINFO (info_values limit) (occurrence field.entry)) }
+{
+    if field.number != DENSEINFO {
+        return None;
+    }
+    match field.payload {
+        Payload::Bytes(info, begin) => judge_info(info, begin, limit, field.offset),
+        _ => None,
+    }
+}
+
+/// The least fault of the values of all DenseInfos.
+#[tactic(auto, using(crate::proofs::Parts::least_more, crate::proofs::Parts::lesser_nothing))]
+fn judge_infos(message: &[u8], at: u64, limit: u64) -> Option<Fault>
+    requires placed { at + length message.now ≤ 2 ^ 63 }
+    requires limited { limit ≤ 2 ^ 62 }
+    ensures { result ≡ least (flat_map (entered DENSEINFO (info_values limit)) (fields_in at message.now)) }
+{
+    let mut least = None;
+    for item in Fields::new(message, at) {
+        let Ok(field) = item else {
+            return least;
+        };
+        least = lesser(least, judge_info_field(field, limit));
+    }
+    least
+}
+
+/// The least fault of the values of a dense message whose first byte stands at `at` in the file, of which texts are named in a
+/// table of `limit` texts.
+#[tactic(auto, using(crate::proofs::Parts::lesser_parts), unfolding(crate::specs::Judged::dense_values))]
+pub(crate) fn judge_values(message: &[u8], at: u64, limit: u64) -> Option<Fault>
+    requires placed { at + length message.now ≤ 2 ^ 63 }
+    requires limited { limit ≤ 2 ^ 62 }
+    ensures { result ≡ least (dense_values limit 0 at message.now) }
+{
+    let ids = judge_range(message, at, ID);
+    let lats = judge_range(message, at, LAT);
+    let lons = judge_range(message, at, LON);
+    let texts = judge_texts(message, at, limit);
+    let infos = judge_infos(message, at, limit);
+    lesser(ids, lesser(lats, lesser(lons, lesser(texts, infos))))
+}
