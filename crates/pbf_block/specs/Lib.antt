@@ -1,3 +1,10 @@
 pub mod WireFaults
 pub mod StructureFaults
 pub mod ValueFaults
+pub mod Scale
+pub mod Info
+pub mod Members
+pub mod Payload
+pub mod Passes
+pub mod Cursors
+pub mod Weights
