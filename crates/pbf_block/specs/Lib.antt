@@ -8,3 +8,4 @@ pub mod Payload
 pub mod Passes
 pub mod Cursors
 pub mod Weights
+pub mod Judgement

@@ -1,10 +1,12 @@
 //! HeaderBlocks and PrimitiveBlocks: read and judged.
 #![tactic(auto)]
 
+mod block;
 mod entities;
 mod entity_fields;
 mod group;
 mod info;
+pub mod laws;
 mod message;
 mod node;
 mod relation;
@@ -15,4 +17,5 @@ mod way;
 mod weights;
 mod wire;
 
+pub use block::Block;
 pub use entities::Entities;
