@@ -1,6 +1,6 @@
 -- Columns that move together give what indices into whole columns give.
-use Rattle.std.proofs.Common.{◌≡◌, ℕ, zero, suc, ◌+◌, ◌-◌, ◌<◌, ◌≤◌, ℤ, pos, List, [], ◌∷◌, length, take, drop, get_or, map, refl, sym, ap, ap₂, ◌∙◌, arith, add-one, one-add}
-use Rattle.std.specs.Prelude.{◌^◌, Option, slice_get, slice_range}
+use Rattle.std.proofs.Common.{◌≡◌, ℕ, zero, suc, ◌+◌, ◌-◌, ℤ, List, [], ◌∷◌, length, drop, get_or, map, refl, sym, ap, ap₂, ◌∙◌, arith, add-one, one-add}
+use Rattle.std.specs.Prelude.{slice_get, slice_range}
 use Rattle.std.specs.List.{range_with_len}
 use Rattle.std.proofs.Math.Seq.{drop-nil, take-nil}
 use Rattle.osm_entity.specs.declared.scale.Scale.{Scale}
