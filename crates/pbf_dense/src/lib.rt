@@ -4,10 +4,14 @@
 mod dense;
 mod entries;
 mod info;
+mod judge;
 mod message;
 mod phase;
 mod structure;
+#[cfg(test)]
+mod tests;
 mod values;
+mod weights;
 
 pub use dense::Dense;
 pub use phase::Phase;
