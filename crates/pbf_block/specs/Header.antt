@@ -1,0 +1,77 @@
+-- A HeaderBlock: what it says.
+use Rattle.std.specs.Prelude.{ℕ, ℤ, List, Option, unwrap_or, map}
+use Rattle.std.specs.Option.{option_map}
+use Rattle.std.specs.Global.{Vec}
+use Rattle.pbf_wire.specs.Faults.{inside, fields_in}
+use Rattle.pbf_wire.specs.Occurrence.{Occurrence}
+use Rattle.pbf_wire.specs.Reading.{last_of, last_number, each, bytes_held}
+use Rattle.pbf_wire.specs.Signed.{unzigzag, low_i64}
+use Rattle.pbf_block.specs.declared.header.Header.{Header}
+use Rattle.pbf_block.specs.declared.header.HeaderBox.{HeaderBox}
+use Rattle.pbf_block.specs.declared.header.TheConstants.{BBOX, REQUIRED_FEATURES, OPTIONAL_FEATURES, WRITINGPROGRAM, SOURCE, REPLICATION_TIMESTAMP, REPLICATION_SEQUENCE, REPLICATION_URL, LEFT, RIGHT, TOP, BOTTOM}
+
+-- a header, its texts as bytes
+pub record HeaderSpec : Type 0 where
+  pub bbox : Option HeaderBox
+  pub required : List (List ℕ)
+  pub optional : List (List ℕ)
+  pub program : Option (List ℕ)
+  pub source : Option (List ℕ)
+  pub url : Option (List ℕ)
+  pub timestamp : Option ℤ
+  pub sequence : Option ℤ
+
+-- ---- as the code has it
+
+abbrev pub text_of : Vec ℕ → List ℕ
+text_of text = text.items
+
+abbrev pub header_of : Header → HeaderSpec
+header_of h = record {
+  bbox = h.bbox;
+  required = map text_of h.required.items;
+  optional = map text_of h.optional.items;
+  program = option_map text_of h.program;
+  source = option_map text_of h.source;
+  url = option_map text_of h.url;
+  timestamp = h.timestamp;
+  sequence = h.sequence;
+}
+
+-- ---- as it stands in a message
+
+-- the last number of the field k as an sint64, and 0 where there is none
+abbrev pub edge : ℕ → List Occurrence → ℤ
+edge k os = unzigzag (unwrap_or (last_number k os) 0)
+
+-- a box by the fields of its message
+abbrev pub box_in : List Occurrence → HeaderBox
+box_in os = record { left = edge LEFT os; right = edge RIGHT os; top = edge TOP os; bottom = edge BOTTOM os }
+
+abbrev pub box_of : Occurrence → HeaderBox
+box_of o = box_in (inside fields_in o.content)
+
+-- the bytes of the last occurrence of the field k
+abbrev pub last_text : ℕ → List Occurrence → Option (List ℕ)
+last_text k os = option_map (λ o. bytes_held o.content) (last_of k os)
+
+-- the last number of the field k as an int64
+abbrev pub last_int64 : ℕ → List Occurrence → Option ℤ
+last_int64 k os = option_map low_i64 (last_number k os)
+
+-- the header of these fields
+abbrev pub header_by : List Occurrence → HeaderSpec
+header_by os = record {
+  bbox = option_map box_of (last_of BBOX os);
+  required = each REQUIRED_FEATURES os;
+  optional = each OPTIONAL_FEATURES os;
+  program = last_text WRITINGPROGRAM os;
+  source = last_text SOURCE os;
+  url = last_text REPLICATION_URL os;
+  timestamp = last_int64 REPLICATION_TIMESTAMP os;
+  sequence = last_int64 REPLICATION_SEQUENCE os;
+}
+
+-- the header that a payload holds whose first byte stands at this place
+abbrev pub header_in : ℕ → List ℕ → HeaderSpec
+header_in at m = header_by (fields_in at m)
