@@ -12,3 +12,5 @@ pub mod CountLemmas
 pub mod LeastLemmas
 pub mod PlaceLemmas
 pub mod MessageLemmas
+pub mod FaultLemmas
+pub mod RisingLemmas

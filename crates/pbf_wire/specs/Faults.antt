@@ -109,8 +109,12 @@ range_fault limit place n = fault_where (not (is_within limit n)) place OutOfRan
 abbrev pub placed_sums : Bool → List (ℕ × ℕ) → List (ℤ × ℕ)
 placed_sums narrow entries = zip (sums (map (λ x. delta_in narrow x.0) entries)) (map (λ x. x.1) entries)
 
+-- the values of a column of differences that aren't good, for a reason
+abbrev pub faults_of_sums : (ℤ → Bool) → Reason → Bool → List (ℕ × ℕ) → List Fault
+faults_of_sums is_good reason narrow entries = flat_map (λ v. fault_where (not (is_good v.0)) v.1 reason) (placed_sums narrow entries)
+
 abbrev pub sum_faults : ℤ → Bool → List (ℕ × ℕ) → List Fault
-sum_faults limit narrow entries = flat_map (λ v. range_fault limit v.1 v.0) (placed_sums narrow entries)
+sum_faults limit narrow entries = faults_of_sums (is_within limit) OutOfRange narrow entries
 
 abbrev pub is_index : ℕ → ℤ → Bool
 is_index limit (pos n) = nat_lt n limit
@@ -118,7 +122,7 @@ is_index limit (negsuc n) = false
 
 -- the same of values that are indexes
 abbrev pub index_sum_faults : ℕ → List (ℕ × ℕ) → List Fault
-index_sum_faults limit entries = flat_map (λ v. fault_where (not (is_index limit v.0)) v.1 StringIndex) (placed_sums true entries)
+index_sum_faults limit entries = faults_of_sums (is_index limit) StringIndex true entries
 
 abbrev pub of_number : {X : Type 0} → (ℕ → List X) → Content → List X
 of_number f (Number v) = f v

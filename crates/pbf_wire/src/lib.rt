@@ -10,6 +10,7 @@ mod fault;
 mod field;
 mod fields;
 mod judge;
+mod judging;
 mod kind;
 pub mod laws;
 mod least;
@@ -30,6 +31,10 @@ pub use fault::{Fault, ReadFault, Reason};
 pub use field::{Field, Payload};
 pub use fields::Fields;
 pub use judge::{judge_payload, judge_wire, kind_of};
+pub use judging::{
+    column_count, fault_where, judge_index, judge_index_sums, judge_indexes, judge_leaf,
+    judge_missing, judge_nested, judge_range, judge_sums, judge_twice,
+};
 pub use kind::Kind;
 pub use least::{comes_before, lesser};
 pub use reading::{last_field, last_number};

@@ -8,7 +8,7 @@ use crate::signed::{low_sint32, unzigzag};
 use crate::sum::added;
 
 /// The entry that a number of the column means.
-fn delta_in(narrow: bool, number: u64) -> i64
+pub(crate) fn delta_in(narrow: bool, number: u64) -> i64
     ensures { result ≡ delta_in narrow number }
 {
     if narrow {

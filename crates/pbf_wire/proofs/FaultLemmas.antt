@@ -1,0 +1,85 @@
+-- Lists of faults, step by step.
+use Rattle.std.proofs.Common.{◌≡◌, ◌==◌, ℕ, ◌+◌, ◌<◌, ◌≤◌, Bool, true, false, List, [], ◌∷◌, ◌++◌, length, map, drop, refl, ap, sym, ◌∙◌, arith}
+use Rattle.std.specs.Prelude.{Option, Some, None, Ok, Err, filter, nat_lt, if◌then◌else◌}
+use Rattle.std.specs.Result.{result_err}
+use Rattle.std.specs.List.{flat_map, count_by}
+use Rattle.std.proofs.lemmas.List.{length-append}
+use Rattle.std.proofs.lemmas.List.Sums.{length-filter, count_by-le-length}
+use Rattle.pbf_wire.specs.declared.fault.Fault.{Fault}
+use Rattle.pbf_wire.specs.declared.fault.Reason.TheVariants.{TwiceMessage}
+use Rattle.pbf_wire.specs.declared.kind.Kind.{Kind}
+use Rattle.pbf_wire.specs.Varint.{IsVarint, EndsOnce}
+use Rattle.pbf_wire.specs.Occurrence.{Content, Number, Eight, Four, Bytes, Occurrence, Item, IsBody, IsSpelled, Joins, items, found}
+use Rattle.pbf_wire.specs.Wire.{kind_of, reason_in, or_at, wire, judged}
+use Rattle.pbf_wire.specs.Least.{lesser, least, rank}
+use Rattle.pbf_wire.specs.Faults.{fault, or_more, message_faults, ends, ends_in, ends_of, column_count, fields_in}
+use Rattle.pbf_wire.proofs.Cutting.{is_cutting}
+use Rattle.pbf_wire.proofs.LeastLemmas.{lesser_joined}
+
+-- a least so far, and one fault before others
+pub least_next : (f : Option Fault) (x : Fault) (ys : List Fault) → lesser (lesser f (Some x)) (least ys) ≡ lesser f (least (x ∷ ys))
+least_next f x ys = lesser_joined rank f (Some x) (least ys)
+
+-- a message without embedded ones has its first wire fault at most
+pub leaf_is_wire : (kinds : List (ℕ × Kind)) (its : List Item) → least (message_faults kinds (λ o. []) its) ≡ wire kinds its
+leaf_is_wire kinds [] = refl
+leaf_is_wire kinds (Ok o ∷ rest) = elim (reason_in (kind_of kinds o.number) o.content) as (λ r. least (or_more o.place r (message_faults kinds (λ o. []) rest)) ≡ or_at o.place r (wire kinds rest)) [ Some reason ↦ refl | None ↦ leaf_is_wire kinds rest ]
+leaf_is_wire kinds (Err e ∷ rest) = refl
+
+pub err_is : {E : Type 0} (e : Option E) → result_err (judged e) ≡ e
+err_is None = refl
+err_is (Some e) = refl
+
+-- ---- each occurrence after the first
+
+abbrev pub all_of : ℕ → List Occurrence → List Occurrence
+all_of k os = filter (λ o. o.number == k) os
+
+all_next : (k : ℕ) (o : Occurrence) (os : List Occurrence) → o.number ≡ k → all_of k (o ∷ os) ≡ o ∷ all_of k os
+all_next k o os same = grind arith
+
+-- the second or a later occurrence
+pub again : (seen : Bool) (so_far : Option Fault) (k : ℕ) (its t : List Item) (o : Occurrence) (all : Option Fault) → seen ≡ true → its ≡ Ok o ∷ t → o.number ≡ k
+    → lesser so_far (least (map (λ o. fault o.place TwiceMessage) (if seen then all_of k (found its) else drop 1 (all_of k (found its))))) ≡ all
+    → lesser (lesser so_far (Some (fault o.place TwiceMessage))) (least (map (λ o. fault o.place TwiceMessage) (all_of k (found t)))) ≡ all
+again seen so_far k its t o all e next same h =
+    let left : Bool → List Item → List Occurrence = λ b w. if b then all_of k (found w) else drop 1 (all_of k (found w)) in
+    let whole : List Occurrence → Option Fault = λ w. lesser so_far (least (map (λ o. fault o.place TwiceMessage) w)) in
+    least_next so_far (fault o.place TwiceMessage) (map (λ o. fault o.place TwiceMessage) (all_of k (found t)))
+    ∙ ap whole (sym (all_next k o (found t) same))
+    ∙ sym (ap (λ w. whole (left seen w)) next ∙ ap (λ b. whole (left b (Ok o ∷ t))) e)
+    ∙ h
+
+-- ---- how many numbers a column has
+
+pub ends_counted : (bytes : List ℕ) → length (ends bytes) ≡ count_by (λ b. nat_lt b 128) bytes
+ends_counted bytes = length-filter (λ b. nat_lt b 128) bytes
+
+spelled_long : (v : ℕ) (s : List ℕ) → IsVarint v s → 1 ≤ length s
+spelled_long v [] h = absurd h.ended
+spelled_long v (b ∷ bs) h = omega arith
+
+ends_short : (c : Content) (kind at : ℕ) (s : List ℕ) → IsBody c kind at s → length (ends_in c) ≤ length s
+ends_short (Number v) kind at s h = spelled_long v s h.1
+ends_short (Eight bytes) kind at s h = omega arith
+ends_short (Four bytes) kind at s h = omega arith
+ends_short (Bytes bytes begin) kind at s h =
+    omega (arith, ends_counted bytes, count_by-le-length (λ b. nat_lt b 128) bytes, ap length h.1.3, length-append h.1.0 bytes)
+
+one_short : (k : ℕ) (o : Occurrence) (s : List ℕ) → IsSpelled o s → length (ends_of k o) ≤ length s
+one_short k o s h =
+    elim (o.number == k) as (λ b. length (if b then ends_in o.content else []) ≤ length s) [
+      | true ↦ omega (arith, ends_short o.content h.kind (o.place + length h.tag) h.body h.holds, ap length h.whole, length-append h.tag h.body)
+      | false ↦ omega arith
+    ]
+
+joined_short : (k at : ℕ) (m : List ℕ) (os : List Occurrence) → Joins at m os → column_count k os ≤ length m
+joined_short k at m [] h = omega arith
+joined_short k at m (o ∷ os) h =
+    omega (arith, one_short k o h.0 h.4, joined_short k (at + length h.0) h.1 os h.5, ap length h.2, length-append h.0 h.1, length-append (ends_of k o) (flat_map (ends_of k) os))
+
+-- no more than the message has bytes
+pub count_short : (k at : ℕ) (m : List ℕ) → column_count k (fields_in at m) ≤ length m
+count_short k at m =
+    let c = is_cutting at m in
+    omega (arith, joined_short k at c.front (fields_in at m) c.joins, ap length c.parts, length-append c.front c.left)

@@ -1,0 +1,276 @@
+//! The judging of messages: for each list of faults that the format's messages are judged by, its least fault.
+//!
+//! A message of which these calls read one field may have a wire fault; its fields before the fault count.
+
+ghost use Rattle.std.specs.Prelude.{◌≡◌, ◌+◌, ◌+ℤ◌, ◌≤◌, ◌^◌, ◌==◌, pos, true, false, length, MatchOption};
+ghost use Rattle.std.specs.List.{list_any};
+ghost use Rattle.pbf_wire.specs.Occurrence.{items};
+ghost use Rattle.pbf_wire.specs.Columns.{joined};
+ghost use Rattle.pbf_wire.specs.Fields.{occurrence};
+ghost use Rattle.pbf_wire.specs.Payload.{content};
+ghost use Rattle.pbf_wire.specs.Least.{least};
+ghost use Rattle.pbf_wire.specs.Signed.{IsWithin, delta_in, low_sint32};
+ghost use Rattle.pbf_wire.specs.Faults.{fault_where, fields_in, leaf_faults, entered, nested_faults, missing, twice, ends_in, column_count, index_fault, index_faults, range_fault, sum_faults, is_index, index_sum_faults};
+
+use crate::column::Column;
+use crate::count::count_ends;
+use crate::fault::{Fault, Reason};
+use crate::field::{Field, Payload};
+use crate::fields::Fields;
+use crate::judge::{judge_payload, judge_wire, kind_of};
+use crate::kind::Kind;
+use crate::least::lesser;
+use crate::signed::{low_sint32, low_u32};
+use crate::sum::Sum;
+use crate::sums::delta_in;
+
+/// The fault, where the test holds.
+pub fn fault_where(wrong: bool, offset: u64, reason: Reason) -> Option<Fault>
+    ensures { result ≡ least (fault_where wrong offset reason) }
+{
+    if wrong {
+        Some(Fault { offset, reason })
+    } else {
+        None
+    }
+}
+
+// ---- wire form
+
+/// The first wire fault of a message without embedded messages, as [`judge_wire`] finds it.
+pub fn judge_leaf(message: &[u8], at: u64, kinds: &[(u64, Kind)]) -> Option<Fault>
+    requires { at + length message.now ≤ 2 ^ 63 }
+    ensures { result ≡ least (leaf_faults kinds.now 0 at message.now) }
+{
+    judge_wire(message, at, kinds).err()
+}
+
+/// The wire fault of an embedded message at the field `number`.
+fn judge_inner(field: Field<'_>, number: u64, kinds: &[(u64, Kind)]) -> Option<Fault>
+    ensures { result ≡ least (entered number (leaf_faults kinds.now) (occurrence field.entry)) }
+{
+    if field.number != number {
+        return None;
+    }
+    match field.payload {
+        Payload::Bytes(bytes, begin) => judge_leaf(bytes, begin, kinds),
+        _ => None,
+    }
+}
+
+/// The least wire fault of a message with embedded messages at the field `number`, whose own fields `inner` lists.
+#[tactic(auto, using(crate::proofs::LeastLemmas::least_more, crate::proofs::LeastLemmas::lesser_nothing))]
+pub fn judge_nested(
+    message: &[u8],
+    at: u64,
+    kinds: &[(u64, Kind)],
+    number: u64,
+    inner: &[(u64, Kind)],
+) -> Option<Fault>
+    requires { at + length message.now ≤ 2 ^ 63 }
+    ensures { result ≡ least (nested_faults kinds.now number inner.now 0 at message.now) }
+{
+    let mut least = None;
+    for item in Fields::new(message, at) {
+        let field = match item {
+            Ok(field) => field,
+            Err(fault) => return lesser(least, Some(fault)),
+        };
+        if let Err(reason) = judge_payload(field.payload, kind_of(kinds, field.number)) {
+            let fault = Fault {
+                offset: field.offset,
+                reason,
+            };
+            return lesser(least, Some(fault));
+        }
+        least = lesser(least, judge_inner(field, number, inner));
+    }
+    least
+}
+
+// ---- structure
+
+/// Whether a message has a field.
+fn has_field(message: &[u8], at: u64, number: u64) -> bool
+    requires { at + length message.now ≤ 2 ^ 63 }
+    ensures { result ≡ list_any (λ o. o.number == number) (fields_in at message.now) }
+{
+    for item in Fields::new(message, at) {
+        let Ok(field) = item else {
+            return false;
+        };
+        if field.number == number {
+            return true;
+        }
+    }
+    false
+}
+
+/// `Missing` at `place`, where the message has no field of this number.
+pub fn judge_missing(message: &[u8], at: u64, place: u64, number: u64) -> Option<Fault>
+    requires { at + length message.now ≤ 2 ^ 63 }
+    ensures { result ≡ least (missing number place (fields_in at message.now)) }
+{
+    fault_where(
+        !has_field(message, at, number),
+        place,
+        Reason::Missing(number),
+    )
+}
+
+/// `TwiceMessage` at the least of the occurrences after the first.
+#[tactic(auto, using(crate::proofs::FaultLemmas::least_next, crate::proofs::LeastLemmas::lesser_nothing))]
+pub fn judge_twice(message: &[u8], at: u64, number: u64) -> Option<Fault>
+    requires { at + length message.now ≤ 2 ^ 63 }
+    ensures { result ≡ least (twice number (fields_in at message.now)) }
+{
+    let mut least = None;
+    let mut seen = false;
+    for item in Fields::new(message, at) {
+        let Ok(field) = item else {
+            return least;
+        };
+        if field.number == number {
+            if seen {
+                let again = Fault {
+                    offset: field.offset,
+                    reason: Reason::TwiceMessage,
+                };
+                least = lesser(least, Some(again));
+            }
+            seen = true;
+        }
+    }
+    least
+}
+
+/// How many numbers an occurrence of a column has.
+fn count_in(payload: Payload<'_>) -> usize
+    ensures { result ≡ length (ends_in (content payload.entry)) }
+{
+    match payload {
+        Payload::Number(_) => 1,
+        Payload::Bytes(bytes, _) => count_ends(bytes),
+        _ => 0,
+    }
+}
+
+/// How many numbers a column has, in all of its occurrences. No packed payload is decoded: the bytes that end a varint are
+/// counted, many at once.
+pub fn column_count(message: &[u8], at: u64, number: u64) -> usize
+    requires { at + length message.now ≤ 2 ^ 63 }
+    ensures { result ≡ column_count number (fields_in at message.now) }
+{
+    let mut count = 0;
+    for item in Fields::new(message, at) {
+        let Ok(field) = item else {
+            return count;
+        };
+        if field.number == number {
+            count += count_in(field.payload);
+        }
+    }
+    count
+}
+
+// ---- values
+
+/// `StringIndex` at `place`, where the low 32 bits of the number aren't below `limit`, the length of a table.
+pub fn judge_index(place: u64, number: u64, limit: u64) -> Option<Fault>
+    ensures { result ≡ least (index_fault limit (number, place)) }
+{
+    fault_where(
+        u64::from(low_u32(number)) >= limit,
+        place,
+        Reason::StringIndex,
+    )
+}
+
+/// The least fault of the indexes of a column.
+#[tactic(auto, using(crate::proofs::LeastLemmas::least_more, crate::proofs::LeastLemmas::lesser_nothing))]
+pub fn judge_indexes(message: &[u8], at: u64, number: u64, limit: u64) -> Option<Fault>
+    requires { at + length message.now ≤ 2 ^ 63 }
+    ensures { result ≡ least (index_faults limit (joined number (fields_in at message.now))) }
+{
+    let mut column = Column::new(message, at, number);
+    let mut least = None;
+    while let Some(index) = column.next() {
+        least = lesser(least, judge_index(column.place(), index, limit));
+    }
+    least
+}
+
+/// `OutOfRange` at `place`, where the number isn't strictly between `-limit` and `limit`.
+pub fn judge_range(place: u64, number: i64, limit: u64) -> Option<Fault>
+    ensures { result ≡ least (range_fault (pos limit) place number) }
+{
+    fault_where(number.unsigned_abs() >= limit, place, Reason::OutOfRange)
+}
+
+/// The sum of nothing, with this limit.
+fn sum_within(limit: u64) -> Sum
+    requires { (1 ≤ limit) × (limit ≤ 2 ^ 62) }
+    ensures { result ≡ record { total = pos 0; limit = pos limit } }
+{
+    Sum::new(limit.cast_signed())
+}
+
+/// The entry that a number of a column means, added to a sum.
+fn add_entry(sum: &mut Sum, narrow: bool, number: u64) -> Option<i64>
+    ensures sum { MatchOption result (¬ IsWithin sum.old.limit (sum.old.total +ℤ delta_in narrow number))
+        (λ _. (sum.new.total ≡ sum.old.total +ℤ delta_in narrow number) × IsWithin sum.old.limit sum.new.total) }
+    ensures limit { sum.new.limit ≡ sum.old.limit }
+{
+    sum.add(delta_in(narrow, number))
+}
+
+/// The least fault of the values of a column of differences: `OutOfRange` where one isn't strictly between `-limit` and
+/// `limit`. Of `narrow` columns the low 32 bits of each entry count. Reads up to the first such value.
+pub fn judge_sums(message: &[u8], at: u64, number: u64, limit: u64, narrow: bool) -> Option<Fault>
+    requires placed { at + length message.now ≤ 2 ^ 63 }
+    requires limited { (1 ≤ limit) × (limit ≤ 2 ^ 62) }
+    ensures { result ≡ least (sum_faults (pos limit) narrow (joined number (fields_in at message.now))) }
+{
+    let mut column = Column::new(message, at, number);
+    let mut sum = sum_within(limit);
+    while let Some(entry) = column.next() {
+        let Some(_) = add_entry(&mut sum, narrow, entry) else {
+            return Some(Fault {
+                offset: column.place(),
+                reason: Reason::OutOfRange,
+            });
+        };
+    }
+    None
+}
+
+/// The sum of an index and the entry that a number means, if that is an index of a table of this length.
+fn next_index(index: u64, number: u64, limit: u64) -> Option<u64>
+    requires { limit ≤ 2 ^ 62 }
+    ensures { MatchOption result (is_index limit (pos index +ℤ low_sint32 number) ≡ false)
+        (λ sum. (is_index limit (pos index +ℤ low_sint32 number) ≡ true) × (pos sum ≡ pos index +ℤ low_sint32 number)) }
+{
+    let sum = index.checked_add_signed(i64::from(low_sint32(number)))?;
+    if sum < limit { Some(sum) } else { None }
+}
+
+/// The least fault of the values of a narrow column of differences that are indexes: `StringIndex` where one is below 0 or
+/// not below `limit`, the length of a table. Reads up to the first such value.
+pub fn judge_index_sums(message: &[u8], at: u64, number: u64, limit: u64) -> Option<Fault>
+    requires placed { at + length message.now ≤ 2 ^ 63 }
+    requires limited { limit ≤ 2 ^ 62 }
+    ensures { result ≡ least (index_sum_faults limit (joined number (fields_in at message.now))) }
+{
+    let mut column = Column::new(message, at, number);
+    let mut index = 0;
+    while let Some(entry) = column.next() {
+        let Some(sum) = next_index(index, entry, limit) else {
+            return Some(Fault {
+                offset: column.place(),
+                reason: Reason::StringIndex,
+            });
+        };
+        index = sum;
+    }
+    None
+}
