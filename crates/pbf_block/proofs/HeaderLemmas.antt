@@ -9,9 +9,9 @@ use Rattle.pbf_block.specs.Header.{HeaderSpec, text_of}
 use Rattle.pbf_block.specs.WrittenHeader.{has, known_features, kept_features, header_out}
 
 -- a search among texts as they are held
-pub has_held : (text : List ℕ) (held : List (Vec ℕ)) → list_any (λ (t : Vec ℕ). pointwise nat_eq t.items text) held ≡ has (map text_of held) text
+pub has_held : (text : List ℕ) (held : List (Vec ℕ)) → list_any (λ (t : Vec ℕ). pointwise nat_eq text t.items) held ≡ has (map text_of held) text
 has_held text [] = refl
-has_held text (t ∷ held) = ap (λ b. pointwise nat_eq t.items text || b) (has_held text held)
+has_held text (t ∷ held) = ap (λ b. pointwise nat_eq text t.items || b) (has_held text held)
 
 -- by which of the three features there are
 abbrev three : Bool → Bool → Bool → List (List ℕ)

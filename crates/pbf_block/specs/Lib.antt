@@ -1,2 +1,3 @@
 pub mod Header
+pub mod HeaderFaults
 pub mod WrittenHeader

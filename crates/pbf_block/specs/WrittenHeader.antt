@@ -8,7 +8,7 @@ use Rattle.pbf_block.specs.Header.{HeaderSpec}
 
 -- a text is among the texts
 abbrev pub has : List (List ℕ) → List ℕ → Bool
-has texts text = list_any (λ held. pointwise nat_eq held text) texts
+has texts text = list_any (λ held. pointwise nat_eq text held) texts
 
 -- the required features that are known, in the order in which they are written
 abbrev pub known_features : List (List ℕ)

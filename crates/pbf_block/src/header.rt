@@ -88,7 +88,7 @@ pub struct Header {
 fn has(texts: &[Vec<u8>], text: &[u8]) -> bool
     ensures { result ≡ has (map text_of texts.now) text.now }
 {
-    texts.iter().any(|held| held.as_slice() == text)
+    texts.iter().any(|held| text == held.as_slice())
 }
 
 /// A text of one's own, where there is one.

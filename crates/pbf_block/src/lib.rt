@@ -2,6 +2,8 @@
 #![tactic(auto)]
 
 mod header;
+mod header_judge;
+mod header_read;
 pub mod laws;
 mod message;
 

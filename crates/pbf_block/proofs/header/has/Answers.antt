@@ -8,5 +8,5 @@ use Rattle.pbf_block.proofs.header.has.Goals as goal
 
 pub returns : goal.returns
 returns c =
-    any_from_yields_List (λ (t : Vec ℕ). pointwise nat_eq t.items c.args.text.now) _ _ _ c.any.ensures.ran (YieldsList-from_slice c.args.texts.now c.iter.ensures.rest) (λ x b q k. search (rules, tests))
+    any_from_yields_List (λ (t : Vec ℕ). pointwise nat_eq c.args.text.now t.items) _ _ _ c.any.ensures.ran (YieldsList-from_slice c.args.texts.now c.iter.ensures.rest) (λ x b q k. search (rules, tests))
     ∙ has_held c.args.text.now c.args.texts.now
