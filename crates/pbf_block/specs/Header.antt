@@ -73,5 +73,5 @@ header_by os = record {
 }
 
 -- the header that a payload holds whose first byte stands at this place
-abbrev pub header_in : ℕ → List ℕ → HeaderSpec
+unfoldable pub header_in : ℕ → List ℕ → HeaderSpec
 header_in at m = header_by (fields_in at m)

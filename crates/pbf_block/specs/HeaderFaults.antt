@@ -33,5 +33,5 @@ abbrev pub value_faults : List Occurrence → List Fault
 value_faults os = flat_map (entered REQUIRED_FEATURES feature_faults) os
 
 -- the first fault of a header: of its wire form, then of its structure, then of its values
-abbrev pub header_fault : ℕ → List ℕ → Option Fault
+unfoldable pub header_fault : ℕ → List ℕ → Option Fault
 header_fault at m = option_or (least (wire_faults at m)) (option_or (least (structure_faults (fields_in at m))) (least (value_faults (fields_in at m))))

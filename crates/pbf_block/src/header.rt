@@ -55,6 +55,21 @@ pub(crate) const BBOX_KINDS: [(u64, Kind); 4] = [
     (BOTTOM, Kind::Number),
 ];
 
+// The required features that are known. Both are written.
+pub(crate) const OSM_SCHEMA: &[u8] = b"OsmSchema-V0.6";
+
+pub(crate) const DENSE_NODES: &[u8] = b"DenseNodes";
+
+// The optional features that are written where they were read.
+const HAS_METADATA: &[u8] = b"Has_Metadata";
+
+const SORTED: &[u8] = b"Sort.Type_then_ID";
+
+const LOCATIONS_ON_WAYS: &[u8] = b"LocationsOnWays";
+
+/// The program that a written header names.
+const PROGRAM: &[u8] = b"pbfcut";
+
 /// The box that a header names, by its edges in nanodegrees. It may be any four numbers.
 #[derive(Clone, Copy, Debug, PartialEq, Eq)]
 pub struct HeaderBox {
@@ -106,8 +121,8 @@ fn known_features(alloc: Global) -> Result<Vec<Vec<u8>>, AllocError>
     ensures { IfOk result (λ features. map text_of features.items ≡ known_features) }
 {
     let mut features = Vec::new(alloc);
-    features.push(Vec::from_slice(alloc, b"OsmSchema-V0.6")?)?;
-    features.push(Vec::from_slice(alloc, b"DenseNodes")?)?;
+    features.push(Vec::from_slice(alloc, OSM_SCHEMA)?)?;
+    features.push(Vec::from_slice(alloc, DENSE_NODES)?)?;
     Ok(features)
 }
 
@@ -116,14 +131,14 @@ fn kept_features(alloc: Global, optional: &[Vec<u8>]) -> Result<Vec<Vec<u8>>, Al
     ensures { IfOk result (λ features. map text_of features.items ≡ kept_features (map text_of optional.now)) }
 {
     let mut features = Vec::new(alloc);
-    if has(optional, b"Has_Metadata") {
-        features.push(Vec::from_slice(alloc, b"Has_Metadata")?)?;
+    if has(optional, HAS_METADATA) {
+        features.push(Vec::from_slice(alloc, HAS_METADATA)?)?;
     }
-    if has(optional, b"Sort.Type_then_ID") {
-        features.push(Vec::from_slice(alloc, b"Sort.Type_then_ID")?)?;
+    if has(optional, SORTED) {
+        features.push(Vec::from_slice(alloc, SORTED)?)?;
     }
-    if has(optional, b"LocationsOnWays") {
-        features.push(Vec::from_slice(alloc, b"LocationsOnWays")?)?;
+    if has(optional, LOCATIONS_ON_WAYS) {
+        features.push(Vec::from_slice(alloc, LOCATIONS_ON_WAYS)?)?;
     }
     Ok(features)
 }
@@ -137,7 +152,7 @@ impl Header {
             bbox,
             required: known_features(alloc)?,
             optional: kept_features(alloc, &self.optional)?,
-            program: Some(Vec::from_slice(alloc, b"pbfcut")?),
+            program: Some(Vec::from_slice(alloc, PROGRAM)?),
             source: copied(alloc, &self.source)?,
             url: copied(alloc, &self.url)?,
             timestamp: self.timestamp,

@@ -9,7 +9,10 @@ ghost use Rattle.pbf_wire.specs.Wire.{judged};
 ghost use Rattle.pbf_block.specs.HeaderFaults.{edge_faults, structure_faults, feature_faults, value_faults, header_fault};
 ghost use Rattle.pbf_block.specs.WrittenHeader.{has, known_features};
 
-use crate::header::{BBOX, BBOX_KINDS, BOTTOM, HEADER_KINDS, LEFT, REQUIRED_FEATURES, RIGHT, TOP};
+use crate::header::{
+    BBOX, BBOX_KINDS, BOTTOM, DENSE_NODES, HEADER_KINDS, LEFT, OSM_SCHEMA, REQUIRED_FEATURES,
+    RIGHT, TOP,
+};
 use pbf_wire::{
     Fault, Field, Fields, Payload, Reason, fault_where, judge_missing, judge_nested, judge_twice,
     lesser,
@@ -70,7 +73,7 @@ fn judge_structure(payload: &[u8], at: u64) -> Option<Fault>
 fn is_known(feature: &[u8]) -> bool
     ensures { result ≡ has known_features feature.now }
 {
-    feature == b"OsmSchema-V0.6".as_slice() || feature == b"DenseNodes".as_slice()
+    feature == OSM_SCHEMA || feature == DENSE_NODES
 }
 
 /// Whether a field is a required feature that isn't known.
@@ -103,6 +106,7 @@ fn judge_features(payload: &[u8], at: u64) -> Option<Fault>
 }
 
 /// The first fault of a HeaderBlock whose first byte stands at `at` in the file. Takes no memory.
+#[tactic(auto, unfolding(crate::specs::HeaderFaults::header_fault))]
 pub(crate) fn judge_header(payload: &[u8], at: u64) -> Result<(), Fault>
     requires { at + length payload.now ≤ 2 ^ 63 }
     ensures { result ≡ judged (header_fault at payload.now) }

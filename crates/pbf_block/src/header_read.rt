@@ -108,6 +108,7 @@ fn last_int64(payload: &[u8], at: u64, number: u64) -> Option<i64>
 }
 
 /// What a HeaderBlock says; where it has a fault, what its fields before the fault say.
+#[tactic(auto, unfolding(crate::specs::Header::header_in))]
 fn header_in(alloc: Global, payload: &[u8], at: u64) -> Result<Header, AllocError>
     requires { at + length payload.now ≤ 2 ^ 63 }
     ensures { IfOk result (λ header. header_of header ≡ header_in at payload.now) }

@@ -4,6 +4,8 @@
 mod header;
 mod header_judge;
 mod header_read;
+#[cfg(test)]
+mod header_tests;
 pub mod laws;
 mod message;
 
