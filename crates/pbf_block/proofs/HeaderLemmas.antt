@@ -14,8 +14,11 @@ has_held text [] = refl
 has_held text (t ∷ held) = ap (λ b. pointwise nat_eq text t.items || b) (has_held text held)
 
 -- by which of the three features there are
+abbrev keep : Bool → List ℕ → List (List ℕ) → List (List ℕ)
+keep there feature features = cond there (feature ∷ features) features
+
 abbrev three : Bool → Bool → Bool → List (List ℕ)
-three a b c = cond a (codes "Has_Metadata" ∷ cond b (codes "Sort.Type_then_ID" ∷ cond c (codes "LocationsOnWays" ∷ []) []) (cond c (codes "LocationsOnWays" ∷ []) [])) (cond b (codes "Sort.Type_then_ID" ∷ cond c (codes "LocationsOnWays" ∷ []) []) (cond c (codes "LocationsOnWays" ∷ []) []))
+three a b c = keep a (codes "Has_Metadata") (keep b (codes "Sort.Type_then_ID") (keep c (codes "LocationsOnWays") []))
 
 three_again : (a b c : Bool) → kept_features (three a b c) ≡ three a b c
 three_again false false false = refl

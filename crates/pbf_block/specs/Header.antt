@@ -1,10 +1,11 @@
 -- A HeaderBlock: what it says.
-use Rattle.std.specs.Prelude.{ℕ, ℤ, List, Option, unwrap_or, map}
+use Rattle.std.specs.Prelude.{ℕ, ℤ, List, Option, None, unwrap_or, map}
+use Rattle.std.specs.List.{last_or}
 use Rattle.std.specs.Option.{option_map}
 use Rattle.std.specs.Global.{Vec}
-use Rattle.pbf_wire.specs.Faults.{inside, fields_in}
+use Rattle.pbf_wire.specs.Faults.{fields_in}
 use Rattle.pbf_wire.specs.Occurrence.{Occurrence}
-use Rattle.pbf_wire.specs.Reading.{last_of, last_number, each, bytes_held}
+use Rattle.pbf_wire.specs.Reading.{last_number, each}
 use Rattle.pbf_wire.specs.Signed.{unzigzag, low_i64}
 use Rattle.pbf_block.specs.declared.header.Header.{Header}
 use Rattle.pbf_block.specs.declared.header.HeaderBox.{HeaderBox}
@@ -44,16 +45,17 @@ header_of h = record {
 abbrev pub edge : ℕ → List Occurrence → ℤ
 edge k os = unzigzag (unwrap_or (last_number k os) 0)
 
--- a box by the fields of its message
-abbrev pub box_in : List Occurrence → HeaderBox
-box_in os = record { left = edge LEFT os; right = edge RIGHT os; top = edge TOP os; bottom = edge BOTTOM os }
+-- the box of these fields
+abbrev pub box_by : List Occurrence → HeaderBox
+box_by os = record { left = edge LEFT os; right = edge RIGHT os; top = edge TOP os; bottom = edge BOTTOM os }
 
-abbrev pub box_of : Occurrence → HeaderBox
-box_of o = box_in (inside fields_in o.content)
+-- the box of a message; where in the file that stands doesn't matter
+abbrev pub box_in : List ℕ → HeaderBox
+box_in m = box_by (fields_in 0 m)
 
--- the bytes of the last occurrence of the field k
+-- the last text of the field k
 abbrev pub last_text : ℕ → List Occurrence → Option (List ℕ)
-last_text k os = option_map (λ o. bytes_held o.content) (last_of k os)
+last_text k os = last_or None (each k os)
 
 -- the last number of the field k as an int64
 abbrev pub last_int64 : ℕ → List Occurrence → Option ℤ
@@ -62,7 +64,7 @@ last_int64 k os = option_map low_i64 (last_number k os)
 -- the header of these fields
 abbrev pub header_by : List Occurrence → HeaderSpec
 header_by os = record {
-  bbox = option_map box_of (last_of BBOX os);
+  bbox = option_map box_in (last_text BBOX os);
   required = each REQUIRED_FEATURES os;
   optional = each OPTIONAL_FEATURES os;
   program = last_text WRITINGPROGRAM os;

@@ -5,10 +5,8 @@ ghost use Rattle.std.specs.Option.{option_map};
 ghost use Rattle.pbf_wire.specs.declared.fault.Fault.{Fault};
 ghost use Rattle.pbf_wire.specs.declared.fault.ReadFault.TheVariants.{Refused};
 ghost use Rattle.pbf_wire.specs.Faults.{fields_in};
-ghost use Rattle.pbf_wire.specs.Payload.{content};
-ghost use Rattle.pbf_wire.specs.Fields.{occurrence};
-ghost use Rattle.pbf_wire.specs.Reading.{each, last_of};
-ghost use Rattle.pbf_block.specs.Header.{header_of, header_in, text_of, edge, box_in, box_of, last_text, last_int64};
+ghost use Rattle.pbf_wire.specs.Reading.{each};
+ghost use Rattle.pbf_block.specs.Header.{header_of, header_in, text_of, edge, box_in, last_text, last_int64};
 ghost use Rattle.pbf_block.specs.HeaderFaults.{header_fault};
 
 use crate::header::{
@@ -16,52 +14,45 @@ use crate::header::{
     REPLICATION_TIMESTAMP, REPLICATION_URL, REQUIRED_FEATURES, RIGHT, SOURCE, TOP, WRITINGPROGRAM,
 };
 use crate::header_judge::judge_header;
-use pbf_wire::{Field, Fields, Payload, ReadFault, last_field, last_number, low_i64, unzigzag};
+use pbf_wire::{Fields, Payload, ReadFault, last_number, low_i64, unzigzag};
 use std::alloc::{AllocError, Global};
 
 /// An edge of a box, and 0 where it is absent.
-fn edge(message: &[u8], at: u64, number: u64) -> i64
-    requires { at + length message.now ≤ 2 ^ 63 }
-    ensures { result ≡ edge number (fields_in at message.now) }
+fn edge(message: &[u8], number: u64) -> i64
+    ensures { result ≡ edge number (fields_in 0 message.now) }
 {
-    unzigzag(last_number(message, at, number).unwrap_or(0))
+    unzigzag(last_number(message, 0, number).unwrap_or(0))
 }
 
 /// The box of a message.
-fn box_in(message: &[u8], at: u64) -> HeaderBox
-    requires { at + length message.now ≤ 2 ^ 63 }
-    ensures { result ≡ box_in (fields_in at message.now) }
+fn box_in(message: &[u8]) -> HeaderBox
+    ensures { result ≡ box_in message.now }
 {
     HeaderBox {
-        left: edge(message, at, LEFT),
-        right: edge(message, at, RIGHT),
-        top: edge(message, at, TOP),
-        bottom: edge(message, at, BOTTOM),
+        left: edge(message, LEFT),
+        right: edge(message, RIGHT),
+        top: edge(message, TOP),
+        bottom: edge(message, BOTTOM),
     }
 }
 
-/// The box of a field.
-fn box_of(field: Field<'_>) -> HeaderBox
-    ensures { result ≡ box_of (occurrence field.entry) }
-{
-    match field.payload {
-        Payload::Bytes(bytes, begin) => box_in(bytes, begin),
-        _ => HeaderBox {
-            left: 0,
-            right: 0,
-            top: 0,
-            bottom: 0,
-        },
-    }
-}
-
-/// The last box of a header.
-fn bbox(payload: &[u8], at: u64) -> Option<HeaderBox>
+/// The last text or message of a field.
+fn last_bytes(payload: &[u8], at: u64, number: u64) -> Option<&[u8]>
     requires { at + length payload.now ≤ 2 ^ 63 }
-    ensures { result ≡ option_map box_of (last_of BBOX (fields_in at payload.now)) }
+    ensures { option_map (λ bytes. bytes.now) result ≡ last_text number (fields_in at payload.now) }
 {
-    let field = last_field(payload, at, BBOX)?;
-    Some(box_of(field))
+    let mut last = None;
+    for item in Fields::new(payload, at) {
+        let Ok(field) = item else {
+            return last;
+        };
+        if field.number == number {
+            if let Payload::Bytes(bytes, _) = field.payload {
+                last = Some(bytes);
+            }
+        }
+    }
+    last
 }
 
 /// The texts of a repeated field.
@@ -83,7 +74,7 @@ fn texts(alloc: Global, payload: &[u8], at: u64, number: u64) -> Result<Vec<Vec<
     Ok(texts)
 }
 
-/// The last text of a field.
+/// A copy of the last text of a field.
 fn last_text(
     alloc: Global,
     payload: &[u8],
@@ -93,8 +84,8 @@ fn last_text(
     requires { at + length payload.now ≤ 2 ^ 63 }
     ensures { IfOk result (λ text. option_map text_of text ≡ last_text number (fields_in at payload.now)) }
 {
-    match last_field(payload, at, number) {
-        Some(field) => Ok(Some(Vec::from_slice(alloc, field.payload.bytes())?)),
+    match last_bytes(payload, at, number) {
+        Some(text) => Ok(Some(Vec::from_slice(alloc, text)?)),
         None => Ok(None),
     }
 }
@@ -114,7 +105,7 @@ fn header_in(alloc: Global, payload: &[u8], at: u64) -> Result<Header, AllocErro
     ensures { IfOk result (λ header. header_of header ≡ header_in at payload.now) }
 {
     Ok(Header {
-        bbox: bbox(payload, at),
+        bbox: last_bytes(payload, at, BBOX).map(|message| box_in(message)),
         required: texts(alloc, payload, at, REQUIRED_FEATURES)?,
         optional: texts(alloc, payload, at, OPTIONAL_FEATURES)?,
         program: last_text(alloc, payload, at, WRITINGPROGRAM)?,
