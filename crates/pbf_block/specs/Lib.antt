@@ -9,3 +9,6 @@ pub mod Passes
 pub mod Cursors
 pub mod Weights
 pub mod Judgement
+pub mod Header
+pub mod HeaderFaults
+pub mod WrittenHeader

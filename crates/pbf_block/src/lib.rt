@@ -5,6 +5,11 @@ mod block;
 mod entities;
 mod entity_fields;
 mod group;
+mod header;
+mod header_judge;
+mod header_read;
+#[cfg(test)]
+mod header_tests;
 mod info;
 pub mod laws;
 mod message;
@@ -19,3 +24,4 @@ mod wire;
 
 pub use block::Block;
 pub use entities::Entities;
+pub use header::{Header, HeaderBox};
