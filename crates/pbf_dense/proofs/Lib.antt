@@ -4,3 +4,4 @@ pub mod MovingLemmas
 pub mod IndexLemmas
 pub mod ReadableLemmas
 pub mod RunLemmas
+pub mod SoundDense

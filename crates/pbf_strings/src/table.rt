@@ -139,7 +139,8 @@ impl<'a> Table<'a> {
 
     /// How many texts there are.
     pub fn len(&self) -> usize
-        ensures { result ≡ length self.now }
+        ensures exact { result ≡ length self.now }
+        ensures few { result ≤ MOST_TEXTS }
     {
         self.places.len()
     }
