@@ -5,3 +5,4 @@ pub mod IndexLemmas
 pub mod ReadableLemmas
 pub mod RunLemmas
 pub mod SoundDense
+pub mod Phases

@@ -4,10 +4,12 @@
 mod dense;
 mod entries;
 mod info;
+mod judge;
 mod message;
 mod phase;
 mod structure;
 mod values;
+mod weights;
 
 pub use dense::Dense;
 pub use phase::Phase;
