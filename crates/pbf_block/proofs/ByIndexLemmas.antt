@@ -1,23 +1,22 @@
 -- Where sums stay in range, what the cursors give is what is said by index.
-use Rattle.std.proofs.Common.{◌≡◌, ◌==◌, ℕ, ℤ, pos, ◌^◌, Bool, true, false, cond, eqb, List, [], ◌∷◌, ◌++◌, map, refl, ap, ap₂, ◌∙◌, arith}
+use Rattle.std.proofs.Common.{◌≡◌, ℕ, ℤ, pos, ◌^◌, Bool, true, false, cond, eqb, List, [], ◌∷◌, ◌++◌, map, refl, ap, ap₂, ◌∙◌}
 use Rattle.std.specs.List.{flat_map, AllByRecursion, zip}
 use Rattle.std.proofs.lemmas.Bool.{eqb-true}
 use Rattle.pbf_wire.specs.Columns.{joined, column}
 use Rattle.pbf_wire.specs.Faults.{sum_faults, inside, entered, fields_in}
-use Rattle.pbf_wire.specs.declared.fault.Fault.{Fault}
 use Rattle.pbf_wire.specs.declared.fault.Reason.TheVariants.{OutOfRange}
 use Rattle.pbf_wire.specs.Occurrence.{Content, Number, Eight, Four, Bytes, Occurrence}
 use Rattle.pbf_wire.specs.Signed.{unzigzag}
 use Rattle.pbf_wire.proofs.SumLemmas.{sums_in_range}
 use Rattle.pbf_wire.proofs.SoundLemmas.{sums_within_limit}
 use Rattle.osm_entity.specs.declared.scale.Scale.{Scale}
-use Rattle.osm_entity.specs.Entity.{NodeSpec, WaySpec, RelationSpec, EntitySpec, node, way, relation}
+use Rattle.osm_entity.specs.Entity.{WaySpec, node, way, relation}
 use Rattle.osm_entity.specs.Sources.{column_members}
 use Rattle.pbf_dense.specs.Nodes.{nodes, nodes_along}
 use Rattle.pbf_block.specs.declared.message.TheConstants.{PRIMITIVEGROUP, NODES, DENSE, WAYS, RELATIONS, REFS, WAY_LAT, WAY_LON, MEMIDS, ROLES_SID, TYPES}
-use Rattle.pbf_block.specs.Members.{How, values_in, node_in, way_in, relation_in, message_entities, member_entities, group_entities, entities_by}
+use Rattle.pbf_block.specs.Members.{values_in, way_in, relation_in, message_entities, member_entities, entities_by}
 use Rattle.pbf_block.specs.Payload.{by_index, along}
-use Rattle.pbf_block.specs.Weights.{weight_fault, member_weights, group_weights, weight_faults}
+use Rattle.pbf_block.specs.Weights.{weight_fault, member_weights, weight_faults}
 
 -- ---- one message
 

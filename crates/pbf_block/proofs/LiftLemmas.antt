@@ -1,6 +1,5 @@
 -- Where a payload has no fault of its wire form, its structure or its values, what the cursors give is what is said by index.
-use Rattle.std.proofs.Common.{◌≡◌, ◌≤◌, ◌^◌, ◌==◌, ℕ, Bool, true, false, List, [], ◌∷◌, ◌++◌, length, refl, ap, sym, subst, ◌∙◌, arith}
-use Rattle.std.specs.Prelude.{if◌then◌else◌}
+use Rattle.std.proofs.Common.{◌≡◌, ◌≤◌, ◌^◌, ◌==◌, ℕ, Bool, true, false, List, [], ◌∷◌, length, refl, arith}
 use Rattle.std.specs.List.{flat_map, AllByRecursion}
 use Rattle.pbf_wire.specs.declared.fault.Fault.{Fault}
 use Rattle.pbf_wire.specs.Columns.{joined}
@@ -10,10 +9,10 @@ use Rattle.pbf_strings.specs.Texts.{table_kinds}
 use Rattle.pbf_wire.specs.Occurrence.{Content, Number, Eight, Four, Bytes, Occurrence, items}
 use Rattle.pbf_wire.proofs.SoundLemmas.{both_nil, all_nil, fields_sound, IsSound as IsRead}
 use Rattle.osm_entity.specs.declared.scale.Scale.{Scale}
-use Rattle.pbf_dense.specs.Judged.{dense_wire, dense_structure, dense_values, IsSound}
+use Rattle.pbf_dense.specs.Judged.{dense_wire, dense_structure, dense_values}
 use Rattle.pbf_dense.proofs.SoundDense.{nodes_same}
-use Rattle.pbf_block.specs.declared.message.TheConstants.{PRIMITIVEGROUP, NODES, DENSE, WAYS, RELATIONS, STRINGTABLE, BLOCK_KINDS, GROUP_KINDS, TYPES, REFS, WAY_LAT, WAY_LON, MEMIDS}
-use Rattle.pbf_block.specs.WireFaults.{node_wire, way_wire, relation_wire, member_wire, group_wire, part_wire, wire_faults}
+use Rattle.pbf_block.specs.declared.message.TheConstants.{PRIMITIVEGROUP, DENSE, WAYS, RELATIONS, STRINGTABLE, BLOCK_KINDS, GROUP_KINDS, TYPES, REFS, WAY_LAT, WAY_LON, MEMIDS}
+use Rattle.pbf_block.specs.WireFaults.{way_wire, relation_wire, member_wire, group_wire, part_wire, wire_faults}
 use Rattle.pbf_block.specs.StructureFaults.{way_structure, relation_structure, member_structure, group_structure, table_structure, part_structure, structure_faults}
 use Rattle.pbf_block.specs.ValueFaults.{stored_limit, way_values, relation_values, member_values, group_values, value_faults}
 use Rattle.pbf_block.specs.Members.{entities_by}

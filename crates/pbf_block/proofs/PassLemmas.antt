@@ -1,5 +1,5 @@
 -- What is read of a field's occurrences is what is read of all.
-use Rattle.std.proofs.Common.{◌≡◌, ℕ, ◌==◌, List, [], ◌∷◌, map, filter, refl, ap, sym, ◌∙◌, arith}
+use Rattle.std.proofs.Common.{◌≡◌, ℕ, List, [], ◌∷◌, map, refl, ap, sym, ◌∙◌, arith}
 use Rattle.std.specs.Prelude.{None}
 use Rattle.std.specs.List.{last_or}
 use Rattle.pbf_wire.specs.declared.fields.Fields.{Fields}

@@ -1,6 +1,6 @@
 -- The entities of a payload, from its messages. What is read of a column of differences, and of a dense message, is left open:
 -- it is said once by index, and once as cursors go along the columns.
-use Rattle.std.specs.Prelude.{ℕ, ℤ, pos, List, [], ◌∷◌, ◌==◌, if◌then◌else◌, map, unwrap_or}
+use Rattle.std.specs.Prelude.{ℕ, ℤ, pos, List, [], ◌∷◌, ◌==◌, if◌then◌else◌, map}
 use Rattle.std.specs.List.{flat_map, zip}
 use Rattle.pbf_wire.specs.Columns.{column}
 use Rattle.pbf_wire.specs.Faults.{entered, inside, fields_in, embedded}

@@ -1,5 +1,5 @@
 -- The two ways to say what a payload holds: by index into whole columns, and as cursors go along them.
-use Rattle.std.specs.Prelude.{ℕ, ℤ, pos, ◌^◌, List}
+use Rattle.std.specs.Prelude.{ℕ, pos, ◌^◌, List}
 use Rattle.pbf_wire.specs.Faults.{fields_in}
 use Rattle.pbf_wire.specs.Sums.{sums, sums_within}
 use Rattle.osm_entity.specs.Entity.{EntitySpec}

@@ -1,14 +1,11 @@
-use Rattle.std.proofs.Common.{◌≡◌, map}
+use Rattle.std.proofs.Common.{◌≡◌}
 use Rattle.std.specs.List.{flat_map}
 use Rattle.pbf_wire.specs.Cursors.{fields_left}
 use Rattle.pbf_wire.specs.Faults.{fields_in}
 use Rattle.pbf_wire.specs.Least.{lesser, least}
 use Rattle.pbf_wire.specs.Occurrence.{found}
-use Rattle.osm_entity.specs.Entity.{node}
-use Rattle.pbf_dense.specs.Cursors.{dense_left}
-use Rattle.pbf_dense.specs.Nodes.{nodes_along}
 use Rattle.pbf_block.specs.Payload.{along}
-use Rattle.pbf_block.specs.Weights.{weight_fault, member_weights, group_weights}
+use Rattle.pbf_block.specs.Weights.{member_weights}
 use Rattle.pbf_block.proofs.weights.judge_group_weights.Given as goal
 
 abbrev pub invariant-loop-item : goal.invariant-loop-item
