@@ -1,3 +1,2 @@
--- Words and lemmas of pbf_wire that functions here name.
+-- A word of pbf_wire that functions here unfold.
 pub use Rattle.pbf_wire.specs.Occurrence.{items_past}
-pub use Rattle.pbf_wire.proofs.LeastLemmas.{least_more, lesser_nothing}

@@ -28,7 +28,7 @@ fn judge_weight(entity: EntityRef<'_>, place: u64) -> Option<Fault>
 }
 
 /// Whether a node of a dense message is too heavy.
-#[tactic(auto, using(crate::proofs::Shared::least_more, crate::proofs::Shared::lesser_nothing))]
+#[tactic(auto, using(crate::proofs::Parts::least_more, crate::proofs::Parts::lesser_nothing))]
 fn judge_dense_weight<'a>(
     message: &'a [u8],
     at: u64,
@@ -71,7 +71,7 @@ pub(crate) fn judge_member_weight<'a>(
 }
 
 /// The least weight fault of a group whose first byte stands at `at` in the file.
-#[tactic(auto, using(crate::proofs::Shared::least_more, crate::proofs::Shared::lesser_nothing))]
+#[tactic(auto, using(crate::proofs::Parts::least_more, crate::proofs::Parts::lesser_nothing))]
 fn judge_group_weights<'a>(
     message: &'a [u8],
     at: u64,
@@ -106,7 +106,7 @@ fn judge_field_weights<'a>(field: Field<'a>, table: &'a Table<'a>, scale: Scale)
 
 /// The least weight fault of a payload whose first byte stands at `at` in the file: `EntityLarge` at the first field of a
 /// group with an entity above [`HIGHEST_WEIGHT`]. Goes through all entities and takes no memory.
-#[tactic(auto, using(crate::proofs::Shared::least_more, crate::proofs::Shared::lesser_nothing))]
+#[tactic(auto, using(crate::proofs::Parts::least_more, crate::proofs::Parts::lesser_nothing))]
 pub(crate) fn judge_weights<'a>(
     payload: &'a [u8],
     at: u64,
