@@ -5,6 +5,7 @@ mod block;
 #[cfg(test)]
 mod block_tests;
 mod entities;
+mod entity_counts;
 mod entity_fields;
 mod group;
 mod header;
