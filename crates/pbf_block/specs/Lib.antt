@@ -1,0 +1,14 @@
+pub mod WireFaults
+pub mod StructureFaults
+pub mod ValueFaults
+pub mod Scale
+pub mod Info
+pub mod Members
+pub mod Payload
+pub mod Passes
+pub mod Cursors
+pub mod Weights
+pub mod Judgement
+pub mod Header
+pub mod HeaderFaults
+pub mod WrittenHeader

@@ -1,4 +1,27 @@
 //! HeaderBlocks and PrimitiveBlocks: read and judged.
 #![tactic(auto)]
 
+mod block;
+mod entities;
+mod entity_fields;
+mod group;
+mod header;
+mod header_judge;
+mod header_read;
+#[cfg(test)]
+mod header_tests;
+mod info;
+pub mod laws;
 mod message;
+mod node;
+mod relation;
+mod scale;
+mod structure;
+mod values;
+mod way;
+mod weights;
+mod wire;
+
+pub use block::Block;
+pub use entities::Entities;
+pub use header::{Header, HeaderBox};

@@ -2,7 +2,7 @@
 use Rattle.std.proofs.Common.{◌≡◌, ◌==◌, ℕ, ◌+◌, ◌≤◌, Bool, true, false, List, [], ◌∷◌, length, map, drop, refl, ap, sym, ◌∙◌, arith}
 use Rattle.std.specs.Prelude.{Option, Some, None, Ok, Err, filter, nat_lt, if◌then◌else◌}
 use Rattle.std.specs.Result.{result_err}
-use Rattle.std.specs.List.{flat_map, count_by}
+use Rattle.std.specs.List.{flat_map, count_by, AllByRecursion}
 use Rattle.std.proofs.lemmas.List.{length-append}
 use Rattle.std.proofs.lemmas.List.Sums.{length-filter, count_by-le-length}
 use Rattle.pbf_wire.specs.declared.fault.Fault.{Fault}
@@ -11,6 +11,7 @@ use Rattle.pbf_wire.specs.declared.kind.Kind.{Kind}
 use Rattle.pbf_wire.specs.Varint.{IsVarint}
 use Rattle.pbf_wire.specs.Occurrence.{Content, Number, Eight, Four, Bytes, Occurrence, Item, IsBody, IsSpelled, Joins, found}
 use Rattle.pbf_wire.specs.Wire.{kind_of, reason_in, or_at, wire, judged}
+use Rattle.pbf_wire.specs.Reading.{bytes_held}
 use Rattle.pbf_wire.specs.Least.{lesser, least, rank}
 use Rattle.pbf_wire.specs.Faults.{fault, or_more, message_faults, ends, ends_in, ends_of, column_count, fields_in}
 use Rattle.pbf_wire.proofs.Cutting.{is_cutting}
@@ -83,3 +84,31 @@ pub count_short : (k at : ℕ) (m : List ℕ) → column_count k (fields_in at m
 count_short k at m =
     let c = is_cutting at m in
     omega (arith, joined_short k at c.front (fields_in at m) c.joins, ap length c.parts, length-append c.front c.left)
+
+-- ---- how long the bytes in a message are
+
+body_short : (c : Content) (kind at : ℕ) (s : List ℕ) → IsBody c kind at s → length (bytes_held c) ≤ length s
+body_short (Number v) kind at s h = omega arith
+body_short (Eight bytes) kind at s h = omega arith
+body_short (Four bytes) kind at s h = omega arith
+body_short (Bytes bytes begin) kind at s h = omega (arith, ap length h.1.3, length-append h.1.0 bytes)
+
+abbrev ShorterThan : ℕ → Occurrence → Type 0
+ShorterThan n o = length (bytes_held o.content) ≤ n
+
+all_shorter : (n k : ℕ) (os : List Occurrence) → n ≤ k → AllByRecursion (ShorterThan n) os → AllByRecursion (ShorterThan k) os
+all_shorter n k [] le h = tt
+all_shorter n k (o ∷ os) le h = (omega (arith, h.0), all_shorter n k os le h.1)
+
+held_joined : (at : ℕ) (m : List ℕ) (os : List Occurrence) → Joins at m os → AllByRecursion (ShorterThan (length m)) os
+held_joined at m [] h = tt
+held_joined at m (o ∷ os) h =
+    let whole : length m ≡ length h.0 + length h.1 = ap length h.2 ∙ length-append h.0 h.1 in
+    let front : length h.0 ≡ length h.4.tag + length h.4.body = ap length h.4.whole ∙ length-append h.4.tag h.4.body in
+    (omega (arith, body_short o.content h.4.kind (o.place + length h.4.tag) h.4.body h.4.holds, whole, front), all_shorter (length h.1) (length m) os (omega (arith, whole)) (held_joined (at + length h.0) h.1 os h.5))
+
+-- no longer than the message
+pub held_short : (at : ℕ) (m : List ℕ) → AllByRecursion (λ o. length (bytes_held o.content) ≤ length m) (fields_in at m)
+held_short at m =
+    let c = is_cutting at m in
+    all_shorter (length c.front) (length m) (fields_in at m) (omega (arith, ap length c.parts, length-append c.front c.left)) (held_joined at c.front (fields_in at m) c.joins)

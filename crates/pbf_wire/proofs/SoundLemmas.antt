@@ -1,7 +1,7 @@
 -- What an empty list of faults shows.
 use Rattle.std.proofs.Common.{◌≡◌, ◌==◌, ℕ, zero, suc, ◌+◌, ◌<◌, ◌≤◌, ℤ, pos, ◌+ℤ◌, Bool, true, false, List, [], ◌∷◌, ◌++◌, length, map, take, drop, refl, ap, sym, subst, ◌∙◌, arith}
-use Rattle.std.specs.Prelude.{Option, Some, None, Result, Ok, Err, nat_lt, not, if◌then◌else◌}
-use Rattle.std.specs.List.{flat_map, AllByRecursion}
+use Rattle.std.specs.Prelude.{Option, Some, None, Result, Ok, Err, filter, nat_lt, not, if◌then◌else◌}
+use Rattle.std.specs.List.{flat_map, last_or, AllByRecursion}
 use Rattle.std.proofs.lemmas.List.{length-append, length-map, take-append-drop, length-drop}
 use Rattle.std.proofs.lemmas.List.Elements.{filter-append}
 use Rattle.pbf_wire.specs.declared.fault.Fault.{Fault}
@@ -12,6 +12,7 @@ use Rattle.pbf_wire.specs.Varint.{EndsOnce, varint_at}
 use Rattle.pbf_wire.specs.Occurrence.{Content, Number, Eight, Four, Bytes, Occurrence, Item, found}
 use Rattle.pbf_wire.specs.Columns.{entries, read_entries, entry_fault, placed, numbers_in, column_of, joined}
 use Rattle.pbf_wire.specs.Wire.{kind_of, reason_in}
+use Rattle.pbf_wire.specs.Reading.{last_of}
 use Rattle.pbf_wire.specs.Signed.{IsWithin, is_within, delta_in}
 use Rattle.pbf_wire.specs.Sums.{sums, sums_from}
 use Rattle.pbf_wire.specs.Least.{least, lesser_by, rank}
@@ -139,3 +140,25 @@ count_is_length kinds inner k [] known h = refl
 count_is_length kinds inner k (o ∷ os) known h =
     let one = one_counted k o (λ same. ap (λ (t : Option Kind). reason_in t o.content) (sym known ∙ ap (kind_of kinds) (sym same)) ∙ h.0.0) in
     omega (arith, length-append (ends_of k o) (flat_map (ends_of k) os), length-append (column_of k o) (joined k os), one, count_is_length kinds inner k os known h.1)
+
+-- ---- the last occurrence of a field
+
+abbrev IfThere : (Occurrence → Type 0) → ℕ → Option Occurrence → Type 0
+IfThere P k None = Unit {0}
+IfThere P k (Some o) = P o × (o.number ≡ k)
+
+abbrev later : ℕ → Option Occurrence → List Occurrence → Option Occurrence
+later k o os = last_or o (filter (λ o. o.number == k) os)
+
+last_from : (P : Occurrence → Type 0) (k : ℕ) (os : List Occurrence) (before : Option Occurrence) → AllByRecursion P os → IfThere P k before → IfThere P k (later k before os)
+last_from P k [] before all h = h
+last_from P k (o ∷ os) before all h = chosen (o.number == k) refl
+  (λ same. last_from P k os (Some o) all.1 (all.0, same)) (last_from P k os before all.1 h)
+  where
+    chosen : (b : Bool) → (o.number == k) ≡ b → (o.number ≡ k → IfThere P k (later k (Some o) os)) → IfThere P k (later k before os) → IfThere P k (last_or before (if b then o ∷ filter (λ o. o.number == k) os else filter (λ o. o.number == k) os))
+    chosen true e taken skipped = taken (grind arith)
+    chosen false e taken skipped = skipped
+
+-- what holds of all occurrences holds of the last of the field k
+pub last_holds : (P : Occurrence → Type 0) (k : ℕ) (os : List Occurrence) (o : Occurrence) → AllByRecursion P os → last_of k os ≡ Some o → P o × (o.number ≡ k)
+last_holds P k os o all e = subst (λ w. IfThere P k w) e (last_from P k os None all tt)

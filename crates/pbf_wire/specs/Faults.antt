@@ -94,12 +94,19 @@ column_count k os = length (flat_map (ends_of k) os)
 
 -- ---- values, each beside the place of its occurrence
 
--- the low 32 bits of a number are an index that a table of this length has no text for
+-- the low 32 bits of a number aren't below the limit
+abbrev pub below_fault : Reason → ℕ → ℕ × ℕ → List Fault
+below_fault reason limit x = fault_where (not (nat_lt (x.0 % 2 ^ 32) limit)) x.1 reason
+
+abbrev pub below_faults : Reason → ℕ → List (ℕ × ℕ) → List Fault
+below_faults reason limit entries = flat_map (below_fault reason limit) entries
+
+-- a table of this length has no text for a number
 abbrev pub index_fault : ℕ → ℕ × ℕ → List Fault
-index_fault limit x = fault_where (not (nat_lt (x.0 % 2 ^ 32) limit)) x.1 StringIndex
+index_fault limit x = below_fault StringIndex limit x
 
 abbrev pub index_faults : ℕ → List (ℕ × ℕ) → List Fault
-index_faults limit entries = flat_map (index_fault limit) entries
+index_faults limit entries = below_faults StringIndex limit entries
 
 -- a number isn't strictly between -limit and limit
 abbrev pub range_fault : ℤ → ℕ → ℤ → List Fault
@@ -124,16 +131,24 @@ is_index limit (negsuc n) = false
 abbrev pub index_sum_faults : ℕ → List (ℕ × ℕ) → List Fault
 index_sum_faults limit entries = faults_of_sums (is_index limit) StringIndex true entries
 
-abbrev pub of_number : {X : Type 0} → (ℕ → List X) → Content → List X
-of_number f (Number v) = f v
-of_number f (Eight bytes) = []
-of_number f (Four bytes) = []
-of_number f (Bytes bytes at) = []
+abbrev pub value_in : ℕ → Content → Option (ℕ × ℕ)
+value_in place (Number v) = Some (place, v)
+value_in place (Eight bytes) = None
+value_in place (Four bytes) = None
+value_in place (Bytes bytes at) = None
 
-abbrev pub of_last : {X : Type 0} → (ℕ → ℕ → List X) → Option Occurrence → List X
-of_last f None = []
-of_last f (Some o) = of_number (f o.place) o.content
+abbrev pub value_of_last : Option Occurrence → Option (ℕ × ℕ)
+value_of_last None = None
+value_of_last (Some o) = value_in o.place o.content
 
--- what the last number of the field k gives, by its place and its value
+-- the place of the last occurrence of the field k, and its number
+abbrev pub last_value : ℕ → List Occurrence → Option (ℕ × ℕ)
+last_value k os = value_of_last (last_of k os)
+
+abbrev pub of_value : {X : Type 0} → (ℕ → ℕ → List X) → Option (ℕ × ℕ) → List X
+of_value f None = []
+of_value f (Some p) = f p.0 p.1
+
+-- what they give
 abbrev pub in_last : {X : Type 0} → ℕ → (ℕ → ℕ → List X) → List Occurrence → List X
-in_last k f os = of_last f (last_of k os)
+in_last k f os = of_value f (last_value k os)

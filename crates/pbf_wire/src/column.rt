@@ -34,7 +34,7 @@ impl<'a> Column<'a> {
     ghost use Rattle.std.specs.Prelude.{◌+◌, ◌≤◌, ◌^◌, length};
     ghost use Rattle.pbf_wire.specs.Occurrence.{items, found};
     ghost use Rattle.pbf_wire.specs.Columns.{joined};
-    ghost use Rattle.pbf_wire.specs.Cursors.{column_left, place_of};
+    ghost use Rattle.pbf_wire.specs.Cursors.{fields_left, column_left, place_of};
 
     /// The column that the field of this number is, in a message whose first byte stands at `at` in the file.
     #[tactic(auto, unfolding(crate::specs::Cursors::column_left))]
@@ -52,7 +52,24 @@ impl<'a> Column<'a> {
         }
     }
 
-    /// Where the occurrence of the last number given stands in the file; the message's place before the first.
+    /// The column that the field of this number is, in the fields that are still to come. A pass over a message that finds the
+    /// first field of a column can so have the column begin there.
+    #[tactic(auto, unfolding(crate::specs::Cursors::column_left))]
+    pub fn over(fields: Fields<'a>, number: u64) -> Self
+        ensures left { column_left result ≡ joined number (found (fields_left fields.entry)) }
+        ensures place { place_of result ≡ 0 }
+    {
+        Column {
+            fields,
+            number,
+            packed: &[],
+            packed_place: 0,
+            place: 0,
+        }
+    }
+
+    /// Where the occurrence of the last number given stands in the file. Before the first it is the message's place, or 0 for
+    /// a column over fields.
     pub fn place(&self) -> u64
         ensures { result ≡ place_of self.now }
     {

@@ -10,7 +10,7 @@ ghost use Rattle.pbf_wire.specs.Fields.{occurrence};
 ghost use Rattle.pbf_wire.specs.Payload.{content};
 ghost use Rattle.pbf_wire.specs.Least.{least};
 ghost use Rattle.pbf_wire.specs.Signed.{IsWithin, delta_in, low_sint32};
-ghost use Rattle.pbf_wire.specs.Faults.{fault_where, fields_in, leaf_faults, entered, nested_faults, missing, twice, ends_in, column_count, index_fault, index_faults, range_fault, sum_faults, is_index, index_sum_faults};
+ghost use Rattle.pbf_wire.specs.Faults.{fault_where, fields_in, leaf_faults, entered, nested_faults, missing, twice, ends_in, column_count, below_fault, below_faults, index_fault, index_faults, range_fault, sum_faults, is_index, index_sum_faults};
 
 use crate::column::Column;
 use crate::count::count_ends;
@@ -175,29 +175,46 @@ pub fn column_count(message: &[u8], at: u64, number: u64) -> usize
 
 // ---- values
 
+/// The fault at `place`, where the low 32 bits of the number aren't below `limit`.
+fn judge_low(place: u64, number: u64, limit: u64, reason: Reason) -> Option<Fault>
+    ensures { result ≡ least (below_fault reason limit (number, place)) }
+{
+    fault_where(u64::from(low_u32(number)) >= limit, place, reason)
+}
+
+/// The least fault of the numbers of a column of which the low 32 bits aren't below `limit`.
+#[tactic(auto, using(crate::proofs::LeastLemmas::least_more, crate::proofs::LeastLemmas::lesser_nothing))]
+pub fn judge_low_numbers(
+    message: &[u8],
+    at: u64,
+    number: u64,
+    limit: u64,
+    reason: Reason,
+) -> Option<Fault>
+    requires { at + length message.now ≤ 2 ^ 63 }
+    ensures { result ≡ least (below_faults reason limit (joined number (fields_in at message.now))) }
+{
+    let mut column = Column::new(message, at, number);
+    let mut least = None;
+    while let Some(value) = column.next() {
+        least = lesser(least, judge_low(column.place(), value, limit, reason));
+    }
+    least
+}
+
 /// `StringIndex` at `place`, where the low 32 bits of the number aren't below `limit`, the length of a table.
 pub fn judge_index(place: u64, number: u64, limit: u64) -> Option<Fault>
     ensures { result ≡ least (index_fault limit (number, place)) }
 {
-    fault_where(
-        u64::from(low_u32(number)) >= limit,
-        place,
-        Reason::StringIndex,
-    )
+    judge_low(place, number, limit, Reason::StringIndex)
 }
 
-/// The least fault of the indexes of a column.
-#[tactic(auto, using(crate::proofs::LeastLemmas::least_more, crate::proofs::LeastLemmas::lesser_nothing))]
+/// The least `StringIndex` of the numbers of a column.
 pub fn judge_indexes(message: &[u8], at: u64, number: u64, limit: u64) -> Option<Fault>
     requires { at + length message.now ≤ 2 ^ 63 }
     ensures { result ≡ least (index_faults limit (joined number (fields_in at message.now))) }
 {
-    let mut column = Column::new(message, at, number);
-    let mut least = None;
-    while let Some(index) = column.next() {
-        least = lesser(least, judge_index(column.place(), index, limit));
-    }
-    least
+    judge_low_numbers(message, at, number, limit, Reason::StringIndex)
 }
 
 /// `OutOfRange` at `place`, where the number isn't strictly between `-limit` and `limit`.

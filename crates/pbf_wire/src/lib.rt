@@ -33,7 +33,7 @@ pub use fields::Fields;
 pub use judge::{judge_payload, judge_wire, kind_of};
 pub use judging::{
     column_count, fault_where, judge_index, judge_index_sums, judge_indexes, judge_leaf,
-    judge_missing, judge_nested, judge_range, judge_sums, judge_twice,
+    judge_low_numbers, judge_missing, judge_nested, judge_range, judge_sums, judge_twice,
 };
 pub use kind::Kind;
 pub use least::{comes_before, lesser};

@@ -1,0 +1,3 @@
+-- The least fault of a message, by its parts.
+pub use Rattle.pbf_wire.proofs.LeastLemmas.{lesser_parts, least_more, lesser_nothing}
+pub use Rattle.pbf_wire.proofs.FaultLemmas.{least_next}

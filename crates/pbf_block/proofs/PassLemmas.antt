@@ -1,0 +1,28 @@
+-- What is read of a field's occurrences is what is read of all.
+use Rattle.std.proofs.Common.{◌≡◌, ℕ, List, [], ◌∷◌, map, refl, ap, sym, ◌∙◌, arith}
+use Rattle.std.specs.Prelude.{None}
+use Rattle.std.specs.List.{last_or}
+use Rattle.pbf_wire.specs.declared.fields.Fields.{Fields}
+use Rattle.pbf_wire.specs.Columns.{joined, column}
+use Rattle.pbf_wire.specs.Cursors.{fields_left}
+use Rattle.pbf_wire.specs.Occurrence.{Occurrence, found}
+use Rattle.pbf_wire.specs.Reading.{numbers, last_number}
+use Rattle.pbf_block.specs.Passes.{only, only_left}
+
+joined_only : (k : ℕ) (os : List Occurrence) → joined k (only k os) ≡ joined k os
+joined_only k [] = refl
+joined_only k (o ∷ os) = grind (arith, joined_only k os)
+
+numbers_only : (k : ℕ) (os : List Occurrence) → numbers k (only k os) ≡ numbers k os
+numbers_only k [] = refl
+numbers_only k (o ∷ os) = grind (arith, numbers_only k os)
+
+-- a column is the same from its first field on
+pub column_left_is : (k : ℕ) (fields : Fields) (os : List Occurrence) → only_left k fields ≡ only k os → column k (found (fields_left fields)) ≡ column k os
+column_left_is k fields os e =
+    ap (map (λ p. p.0)) (sym (joined_only k (found (fields_left fields))) ∙ ap (joined k) e ∙ joined_only k os)
+
+-- and so is its last number
+pub last_left_is : (k : ℕ) (fields : Fields) (os : List Occurrence) → only_left k fields ≡ only k os → last_number k (found (fields_left fields)) ≡ last_number k os
+last_left_is k fields os e =
+    ap (last_or None) (sym (numbers_only k (found (fields_left fields))) ∙ ap (numbers k) e ∙ numbers_only k os)

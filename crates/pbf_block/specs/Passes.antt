@@ -1,0 +1,42 @@
+-- What one pass over a message finds.
+use Rattle.std.specs.Prelude.{◌≡◌, ℕ, ◌==◌, List, filter, Option, Some, None}
+use Rattle.std.specs.Option.{option_map}
+use Rattle.pbf_wire.specs.declared.fields.Fields.{Fields}
+use Rattle.pbf_wire.specs.Cursors.{fields_left}
+use Rattle.pbf_wire.specs.Fields.{occurrence}
+use Rattle.pbf_wire.specs.Occurrence.{Occurrence, found}
+use Rattle.pbf_wire.specs.Reading.{last_of, last_number}
+use Rattle.pbf_block.specs.declared.entity_fields.EntityFields.{EntityFields}
+use Rattle.pbf_block.specs.declared.info.InfoNumbers.{InfoNumbers}
+use Rattle.pbf_block.specs.declared.message.TheConstants.{ID, KEYS, VALS, INFO, VERSION, TIMESTAMP, CHANGESET, UID, USER_SID, VISIBLE}
+
+-- the occurrences of the field k
+abbrev pub only : ℕ → List Occurrence → List Occurrence
+only k os = filter (λ o. o.number == k) os
+
+-- those among the fields that are still to come
+abbrev pub only_left : ℕ → Fields → List Occurrence
+only_left k fields = only k (found (fields_left fields))
+
+-- those from where the first was found, or else of what follows
+abbrev pub only_from : ℕ → Option Fields → List Occurrence → List Occurrence
+only_from k None os = only k os
+only_from k (Some fields) os = only_left k fields
+
+-- what was found of the message with these occurrences
+pub record AreFields (found : EntityFields) (os : List Occurrence) : Type 0 where
+  pub id : found.id ≡ last_number ID os
+  pub info : option_map occurrence found.info ≡ last_of INFO os
+  pub keys : only_left KEYS found.keys ≡ only KEYS os
+  pub vals : only_left VALS found.vals ≡ only VALS os
+  pub eighth : only_left 8 found.eighth ≡ only 8 os
+  pub ninth : only_left 9 found.ninth ≡ only 9 os
+  pub tenth : only_left 10 found.tenth ≡ only 10 os
+
+pub record AreNumbers (found : InfoNumbers) (os : List Occurrence) : Type 0 where
+  pub version : found.version ≡ last_number VERSION os
+  pub timestamp : found.timestamp ≡ last_number TIMESTAMP os
+  pub changeset : found.changeset ≡ last_number CHANGESET os
+  pub uid : found.uid ≡ last_number UID os
+  pub user : found.user ≡ last_number USER_SID os
+  pub visible : found.visible ≡ last_number VISIBLE os

@@ -1,0 +1,159 @@
+//! The fields of a node, a way or a relation, found in one pass over its message.
+
+ghost use Rattle.std.specs.Prelude.{◌≡◌, ◌+◌, ◌≤◌, ◌^◌, List, length};
+ghost use Rattle.pbf_wire.specs.Columns.{column};
+ghost use Rattle.pbf_wire.specs.Cursors.{fields_left, numbers_left, sums_left};
+ghost use Rattle.pbf_wire.specs.Faults.{fields_in, embedded};
+ghost use Rattle.pbf_wire.specs.Occurrence.{Occurrence, found};
+ghost use Rattle.pbf_wire.specs.Reading.{last_number};
+ghost use Rattle.osm_entity.specs.Sources.{tags_left};
+ghost use Rattle.osm_entity.specs.Views.{meta_of};
+ghost use Rattle.pbf_block.specs.Info.{info_in};
+ghost use Rattle.pbf_block.specs.Members.{signed_in, wide_in, tags_in, values_in};
+ghost use Rattle.pbf_block.specs.Payload.{along};
+ghost use Rattle.pbf_block.specs.Passes.{AreFields, only, only_left};
+
+use crate::info::meta_in;
+use crate::message::{ID, INFO, KEYS, VALS};
+use osm_entity::{MetaRef, PairedTags, Tags};
+use pbf_strings::Table;
+use pbf_wire::{Column, Field, Fields, Payload, Sums, low_i64, unzigzag};
+
+/// The limit of stored numbers: they are strictly between it and its negative.
+const STORED_LIMIT: i64 = 1 << 62;
+
+/// Where the fields of an entity's message are. Those of a column begin at the first of its number, so that a column over them
+/// passes over no field before its own.
+#[derive(Clone, Copy, Debug)]
+pub(crate) struct EntityFields<'a> {
+    id: Option<u64>,
+    info: Option<Field<'a>>,
+    keys: Fields<'a>,
+    vals: Fields<'a>,
+    /// From the first field 8 on: a node's latitude, a way's refs, the roles of a relation's members.
+    pub(crate) eighth: Fields<'a>,
+    /// From the first field 9 on: a node's longitude, the latitudes of a way's nodes, the ids of a relation's members.
+    pub(crate) ninth: Fields<'a>,
+    /// From the first field 10 on: the longitudes of a way's nodes, the kinds of a relation's members.
+    pub(crate) tenth: Fields<'a>,
+}
+
+/// The fields of a message whose first byte stands at `at` in the file.
+pub(crate) fn entity_fields(message: &[u8], at: u64) -> EntityFields<'_>
+    requires { at + length message.now ≤ 2 ^ 63 }
+    ensures { AreFields result (fields_in at message.now) }
+{
+    let mut fields = Fields::new(message, at);
+    let (mut id, mut info, mut keys, mut vals) = (None, None, None, None);
+    let (mut eighth, mut ninth, mut tenth) = (None, None, None);
+    'fields: loop {
+        let rest = fields;
+        let Some(Ok(field)) = fields.next() else {
+            return EntityFields {
+                id,
+                info,
+                keys: keys.unwrap_or(rest),
+                vals: vals.unwrap_or(rest),
+                eighth: eighth.unwrap_or(rest),
+                ninth: ninth.unwrap_or(rest),
+                tenth: tenth.unwrap_or(rest),
+            };
+        };
+        match field.number {
+            ID => {
+                if let Payload::Number(number) = field.payload {
+                    id = Some(number);
+                }
+            }
+            KEYS => keys = keys.or(Some(rest)),
+            VALS => vals = vals.or(Some(rest)),
+            INFO => info = Some(field),
+            8 => eighth = eighth.or(Some(rest)),
+            9 => ninth = ninth.or(Some(rest)),
+            10 => tenth = tenth.or(Some(rest)),
+            _ => {}
+        }
+    }
+}
+
+impl<'a> EntityFields<'a> {
+    /// The id as a `sint64`, which it is of a node, and 0 where it is absent.
+    pub(crate) fn signed_id(&self) -> i64
+        ensures { (os : List Occurrence) → AreFields self.now os → result ≡ signed_in ID os }
+    {
+        match self.id {
+            Some(number) => unzigzag(number),
+            None => 0,
+        }
+    }
+
+    /// The id as an `int64`, which it is of a way or a relation, and 0 where it is absent.
+    pub(crate) fn wide_id(&self) -> i64
+        ensures { (os : List Occurrence) → AreFields self.now os → result ≡ wide_in ID os }
+    {
+        match self.id {
+            Some(number) => low_i64(number),
+            None => 0,
+        }
+    }
+
+    /// The metadata.
+    pub(crate) fn meta(&self, table: &'a Table<'a>) -> MetaRef<'a>
+        ensures { (os : List Occurrence) → AreFields self.now os → meta_of result ≡ info_in table.now (embedded INFO os) }
+    {
+        meta_in(self.info, table)
+    }
+
+    /// The tags.
+    pub(crate) fn tags(&self, table: &'a Table<'a>) -> Tags<'a>
+        ensures { (os : List Occurrence) → AreFields self.now os → tags_left result ≡ tags_in table.now os }
+    {
+        let keys = column(self.keys, KEYS);
+        let vals = column(self.vals, VALS);
+        Tags::Paired(PairedTags::new(keys, vals, table))
+    }
+}
+
+/// The column that these fields hold under this number.
+#[tactic(auto, using(crate::proofs::PassLemmas::column_left_is))]
+pub(crate) fn column(fields: Fields<'_>, number: u64) -> Column<'_>
+    ensures { (os : List Occurrence) → only_left number fields.entry ≡ only number os → numbers_left result ≡ column number os }
+{
+    Column::over(fields, number)
+}
+
+/// The values of a column of differences that these fields hold under this number.
+pub(crate) fn values(fields: Fields<'_>, number: u64) -> Sums<'_>
+    ensures { (os : List Occurrence) → only_left number fields.entry ≡ only number os → sums_left result ≡ values_in along number os }
+{
+    Sums::new(column(fields, number), STORED_LIMIT)
+}
+
+/// The last number of these fields under this number.
+fn last_left(fields: Fields<'_>, number: u64) -> Option<u64>
+    ensures { result ≡ last_number number (found (fields_left fields.entry)) }
+{
+    let mut last = None;
+    for item in fields {
+        let Ok(field) = item else {
+            return last;
+        };
+        if let Payload::Number(value) = field.payload {
+            if field.number == number {
+                last = Some(value);
+            }
+        }
+    }
+    last
+}
+
+/// The signed number that these fields hold last under this number, and 0 where they hold none.
+#[tactic(auto, using(crate::proofs::PassLemmas::last_left_is))]
+pub(crate) fn last_signed(fields: Fields<'_>, number: u64) -> i64
+    ensures { (os : List Occurrence) → only_left number fields.entry ≡ only number os → result ≡ signed_in number os }
+{
+    match last_left(fields, number) {
+        Some(value) => unzigzag(value),
+        None => 0,
+    }
+}

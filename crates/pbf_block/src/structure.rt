@@ -1,0 +1,266 @@
+//! The structure of a payload: messages that lack or repeat something, or whose columns don't fit together.
+
+ghost use Rattle.std.specs.Prelude.{◌≡◌, ◌+◌, ◌≤◌, ◌^◌, length};
+ghost use Rattle.std.specs.List.{flat_map};
+ghost use Rattle.pbf_wire.specs.Fields.{occurrence};
+ghost use Rattle.pbf_wire.specs.Least.{least};
+ghost use Rattle.pbf_wire.specs.Faults.{fields_in};
+ghost use Rattle.pbf_block.specs.StructureFaults.{tag_columns, entity_structure, node_structure, are_located, way_structure, are_members, relation_structure, member_structure, is_member, first_member, is_other, mixed, changesets, group_structure, table_structure, part_structure, structure_faults};
+
+use crate::message::{
+    CHANGESETS, DENSE, ID, INFO, KEYS, MEMIDS, NODE_LAT, NODE_LON, NODES, PRIMITIVEGROUP, REFS,
+    RELATIONS, ROLES_SID, STRINGTABLE, TYPES, VALS, WAY_LAT, WAY_LON, WAYS,
+};
+use pbf_dense::Dense;
+use pbf_strings::Table;
+use pbf_wire::{
+    Fault, Field, Fields, Payload, Reason, column_count, fault_where, judge_missing, judge_twice,
+    lesser,
+};
+
+/// Whether the keys and values of an entity are of one count.
+fn judge_tags(message: &[u8], at: u64, tag: u64) -> Option<Fault>
+    requires { at + length message.now ≤ 2 ^ 63 }
+    ensures { result ≡ least (tag_columns tag (fields_in at message.now)) }
+{
+    let alike = column_count(message, at, KEYS) == column_count(message, at, VALS);
+    fault_where(!alike, tag, Reason::TagColumns)
+}
+
+/// The least fault of what all entities have alike: an id, at most one info, and tags.
+#[tactic(auto, using(crate::proofs::Parts::lesser_parts))]
+fn judge_entity(message: &[u8], at: u64, tag: u64) -> Option<Fault>
+    requires { at + length message.now ≤ 2 ^ 63 }
+    ensures { result ≡ least (entity_structure tag (fields_in at message.now)) }
+{
+    let once = lesser(
+        judge_missing(message, at, tag, ID),
+        judge_twice(message, at, INFO),
+    );
+    lesser(once, judge_tags(message, at, tag))
+}
+
+#[tactic(auto, using(crate::proofs::Parts::lesser_parts))]
+fn judge_node(message: &[u8], at: u64, tag: u64) -> Option<Fault>
+    requires { at + length message.now ≤ 2 ^ 63 }
+    ensures { result ≡ least (node_structure tag at message.now) }
+{
+    let lat = lesser(
+        judge_entity(message, at, tag),
+        judge_missing(message, at, tag, NODE_LAT),
+    );
+    lesser(lat, judge_missing(message, at, tag, NODE_LON))
+}
+
+/// Whether a way has no locations, or as many as refs.
+fn are_located(message: &[u8], at: u64) -> bool
+    requires { at + length message.now ≤ 2 ^ 63 }
+    ensures { result ≡ are_located (fields_in at message.now) }
+{
+    let lats = column_count(message, at, WAY_LAT);
+    lats == column_count(message, at, WAY_LON)
+        && (lats == 0 || lats == column_count(message, at, REFS))
+}
+
+#[tactic(auto, using(crate::proofs::Parts::lesser_parts))]
+fn judge_way(message: &[u8], at: u64, tag: u64) -> Option<Fault>
+    requires { at + length message.now ≤ 2 ^ 63 }
+    ensures { result ≡ least (way_structure tag at message.now) }
+{
+    let located = are_located(message, at);
+    lesser(
+        judge_entity(message, at, tag),
+        fault_where(!located, tag, Reason::LocationColumns),
+    )
+}
+
+/// Whether the columns of a relation's members are of one count.
+fn are_members(message: &[u8], at: u64) -> bool
+    requires { at + length message.now ≤ 2 ^ 63 }
+    ensures { result ≡ are_members (fields_in at message.now) }
+{
+    let ids = column_count(message, at, MEMIDS);
+    column_count(message, at, ROLES_SID) == ids && column_count(message, at, TYPES) == ids
+}
+
+#[tactic(auto, using(crate::proofs::Parts::lesser_parts))]
+fn judge_relation(message: &[u8], at: u64, tag: u64) -> Option<Fault>
+    requires { at + length message.now ≤ 2 ^ 63 }
+    ensures { result ≡ least (relation_structure tag at message.now) }
+{
+    let members = are_members(message, at);
+    lesser(
+        judge_entity(message, at, tag),
+        fault_where(!members, tag, Reason::MemberColumns),
+    )
+}
+
+/// The least fault of structure of the entities that a field of a group holds.
+fn judge_member(field: Field<'_>) -> Option<Fault>
+    ensures { result ≡ least (member_structure (occurrence field.entry)) }
+{
+    let Payload::Bytes(bytes, begin) = field.payload else {
+        return None;
+    };
+    match field.number {
+        NODES => judge_node(bytes, begin, field.offset),
+        DENSE => Dense::judge_structure(bytes, begin, field.offset),
+        WAYS => judge_way(bytes, begin, field.offset),
+        RELATIONS => judge_relation(bytes, begin, field.offset),
+        _ => None,
+    }
+}
+
+/// Whether a field of this number holds entities.
+fn is_member(number: u64) -> bool
+    ensures { result ≡ is_member number }
+{
+    number == NODES || number == DENSE || number == WAYS || number == RELATIONS
+}
+
+/// The number of the first field that holds entities.
+fn first_member(message: &[u8], at: u64) -> Option<u64>
+    requires { at + length message.now ≤ 2 ^ 63 }
+    ensures { result ≡ first_member (fields_in at message.now) }
+{
+    for item in Fields::new(message, at) {
+        let Ok(field) = item else {
+            return None;
+        };
+        if is_member(field.number) {
+            return Some(field.number);
+        }
+    }
+    None
+}
+
+/// Whether a field holds entities of another kind than the first.
+fn is_other(first: Option<u64>, number: u64) -> bool
+    ensures { result ≡ is_other first number }
+{
+    match first {
+        Some(first) => is_member(number) && number != first,
+        None => false,
+    }
+}
+
+/// The least of the fields that hold entities of another kind than the first.
+#[tactic(auto, using(crate::proofs::Parts::least_next, crate::proofs::Parts::lesser_nothing))]
+fn judge_mixed(message: &[u8], at: u64) -> Option<Fault>
+    requires { at + length message.now ≤ 2 ^ 63 }
+    ensures { result ≡ least (mixed (fields_in at message.now)) }
+{
+    let first = first_member(message, at);
+    let mut least = None;
+    for item in Fields::new(message, at) {
+        let Ok(field) = item else {
+            return least;
+        };
+        if is_other(first, field.number) {
+            let other = Fault {
+                offset: field.offset,
+                reason: Reason::MixedGroup,
+            };
+            least = lesser(least, Some(other));
+        }
+    }
+    least
+}
+
+/// The least of the fields of changesets.
+#[tactic(auto, using(crate::proofs::Parts::least_next, crate::proofs::Parts::lesser_nothing))]
+fn judge_changesets(message: &[u8], at: u64) -> Option<Fault>
+    requires { at + length message.now ≤ 2 ^ 63 }
+    ensures { result ≡ least (changesets (fields_in at message.now)) }
+{
+    let mut least = None;
+    for item in Fields::new(message, at) {
+        let Ok(field) = item else {
+            return least;
+        };
+        if field.number == CHANGESETS {
+            let changeset = Fault {
+                offset: field.offset,
+                reason: Reason::Changesets,
+            };
+            least = lesser(least, Some(changeset));
+        }
+    }
+    least
+}
+
+#[tactic(auto, using(crate::proofs::Parts::least_more, crate::proofs::Parts::lesser_nothing))]
+fn judge_members(message: &[u8], at: u64) -> Option<Fault>
+    requires { at + length message.now ≤ 2 ^ 63 }
+    ensures { result ≡ least (flat_map member_structure (fields_in at message.now)) }
+{
+    let mut least = None;
+    for item in Fields::new(message, at) {
+        let Ok(field) = item else {
+            return least;
+        };
+        least = lesser(least, judge_member(field));
+    }
+    least
+}
+
+/// The least fault of structure of a group.
+#[tactic(auto, using(crate::proofs::Parts::lesser_parts))]
+fn judge_group(message: &[u8], at: u64) -> Option<Fault>
+    requires { at + length message.now ≤ 2 ^ 63 }
+    ensures { result ≡ least (group_structure 0 at message.now) }
+{
+    let kinds = lesser(judge_twice(message, at, DENSE), judge_mixed(message, at));
+    let known = lesser(kinds, judge_changesets(message, at));
+    lesser(known, judge_members(message, at))
+}
+
+/// Whether a table has too many texts.
+fn judge_table(message: &[u8], tag: u64) -> Option<Fault>
+    requires { length message.now ≤ 2 ^ 63 }
+    ensures { result ≡ least (table_structure tag 0 message.now) }
+{
+    Table::judge_count(message, tag).err()
+}
+
+/// The least fault of structure of a table or a group.
+fn judge_part(field: Field<'_>) -> Option<Fault>
+    ensures { result ≡ least (part_structure (occurrence field.entry)) }
+{
+    let Payload::Bytes(bytes, begin) = field.payload else {
+        return None;
+    };
+    match field.number {
+        STRINGTABLE => judge_table(bytes, field.offset),
+        PRIMITIVEGROUP => judge_group(bytes, begin),
+        _ => None,
+    }
+}
+
+#[tactic(auto, using(crate::proofs::Parts::least_more, crate::proofs::Parts::lesser_nothing))]
+fn judge_parts(payload: &[u8], at: u64) -> Option<Fault>
+    requires { at + length payload.now ≤ 2 ^ 63 }
+    ensures { result ≡ least (flat_map part_structure (fields_in at payload.now)) }
+{
+    let mut least = None;
+    for item in Fields::new(payload, at) {
+        let Ok(field) = item else {
+            return least;
+        };
+        least = lesser(least, judge_part(field));
+    }
+    least
+}
+
+/// The least fault of structure of a payload and of the messages in it. Its first byte stands at `at` in the file.
+#[tactic(auto, using(crate::proofs::Parts::lesser_parts), unfolding(crate::specs::StructureFaults::structure_faults))]
+pub(crate) fn judge_structure(payload: &[u8], at: u64) -> Option<Fault>
+    requires { at + length payload.now ≤ 2 ^ 63 }
+    ensures { result ≡ least (structure_faults at payload.now) }
+{
+    let table = lesser(
+        judge_missing(payload, at, at, STRINGTABLE),
+        judge_twice(payload, at, STRINGTABLE),
+    );
+    lesser(table, judge_parts(payload, at))
+}
