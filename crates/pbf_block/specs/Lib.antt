@@ -13,3 +13,4 @@ pub mod Header
 pub mod HeaderFaults
 pub mod WrittenHeader
 pub mod Counts
+pub mod InfoValues

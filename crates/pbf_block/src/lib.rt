@@ -14,6 +14,7 @@ mod header_read;
 #[cfg(test)]
 mod header_tests;
 mod info;
+mod info_values;
 pub mod laws;
 mod message;
 mod node;
