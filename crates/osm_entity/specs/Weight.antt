@@ -28,7 +28,3 @@ abbrev pub entity_weight : EntitySpec → ℕ
 entity_weight (node n) = node_weight n
 entity_weight (way w) = way_weight w
 entity_weight (relation r) = relation_weight r
-
--- what an entity with so many tags, refs, locations and members weighs at most, where no text is longer than the longest
-abbrev pub heaviest : ℕ → ℕ → ℕ
-heaviest longest count = 160 + longest + count * (64 + 2 * longest)

@@ -1,10 +1,10 @@
 //! What the parts of an entity weigh, and whether they are in their ranges.
 
-ghost use Rattle.std.specs.Prelude.{◌≡◌, ◌↔◌, ◌-◌, ◌*◌, ◌^◌, ◌≤◌, true, min, length, IsTrue, pos};
+ghost use Rattle.std.specs.Prelude.{◌≡◌, ◌↔◌, ◌-◌, ◌*◌, ◌^◌, min, length, IsTrue, pos};
 ghost use Rattle.std.specs.List.{AllByRecursion};
 ghost use Rattle.pbf_wire.specs.Signed.{IsWithin};
 ghost use Rattle.osm_entity.specs.Sources.{tags_left, refs_left, locations_left, members_left};
-ghost use Rattle.osm_entity.specs.Weight.{tags_weight, members_weight, heaviest};
+ghost use Rattle.osm_entity.specs.Weight.{tags_weight, members_weight};
 ghost use Rattle.osm_entity.specs.Ranges.{IsStored, LocationFits, MemberFits};
 
 use crate::locations::Locations;
@@ -14,17 +14,6 @@ use crate::tags::Tags;
 
 /// The greatest weight that an entity may have.
 pub const HIGHEST_WEIGHT: u64 = 12_000_000;
-
-/// Whether an entity with so many tags, refs, locations and members can't be above [`HIGHEST_WEIGHT`], where no text of its table
-/// is longer than `longest`. A quick test: where it fails, the entity has to be weighed.
-pub fn is_light(longest: usize, count: usize) -> bool
-    ensures { result ≡ true → heaviest longest count ≤ HIGHEST_WEIGHT }
-{
-    let (longest, count) = (longest as u64, count as u64);
-    longest < HIGHEST_WEIGHT
-        && count < HIGHEST_WEIGHT
-        && 160 + longest + count * (64 + 2 * longest) <= HIGHEST_WEIGHT
-}
 
 /// The limit of stored numbers: they are strictly between it and its negative.
 const STORED_LIMIT: u64 = 1 << 62;

@@ -7,4 +7,3 @@ pub mod RunLemmas
 pub mod SoundDense
 pub mod Phases
 pub mod WeightLemmas
-pub mod LightLemmas

@@ -7,14 +7,14 @@ ghost use Rattle.pbf_dense.specs.declared.phase.Phase.TheVariants as phase;
 ghost use Rattle.pbf_dense.specs.Judged.{early_fault, phase_faults, dense_fault};
 
 use crate::dense::Dense;
-use crate::message::{DENSE_KINDS, DENSEINFO, DENSEINFO_KINDS, KEYS_VALS};
+use crate::message::{DENSE_KINDS, DENSEINFO, DENSEINFO_KINDS};
 use crate::phase::Phase;
 use crate::structure::judge_structure;
 use crate::values::judge_values;
 use crate::weights::judge_nodes;
-use osm_entity::{Scale, is_light};
+use osm_entity::Scale;
 use pbf_strings::Table;
-use pbf_wire::{Fault, column_count, judge_nested};
+use pbf_wire::{Fault, judge_nested};
 
 /// The scale of the stored numbers themselves.
 pub(crate) const AS_STORED: Scale = Scale {
@@ -114,15 +114,11 @@ impl<'a> Dense<'a> {
         judge_values(message, at, limit)
     }
 
-    /// `EntityLarge` at `tag`, where a node is too heavy of those that [`Dense::over`] gives. The nodes are weighed one by one
-    /// only where all the message's tags on one node, each with the longest text of the table, would be too heavy.
+    /// `EntityLarge` at `tag`, where a node is too heavy of those that [`Dense::over`] gives.
     pub fn judge_weights(message: &[u8], at: u64, tag: u64, table: &Table<'_>) -> Option<Fault>
         requires { at + length message.now ≤ 2 ^ 63 }
         ensures { result ≡ least (dense_weights tag (nodes_along table.now as_stored (fields_in at message.now))) }
     {
-        if is_light(table.longest(), column_count(message, at, KEYS_VALS)) {
-            return None;
-        }
         judge_nodes(Dense::over(message, at, table, AS_STORED), tag)
     }
 

@@ -18,10 +18,6 @@ texts message = each 1 (found (items 0 message))
 abbrev pub text : List (List ℕ) → ℕ → List ℕ
 text table i = unwrap_or (slice_get table i) []
 
--- no text is longer
-abbrev pub AreWithin : ℕ → List (List ℕ) → Type 0
-AreWithin longest table = (i : ℕ) → length (text table i) ≤ longest
-
 abbrev pub table_kinds : List (ℕ × Kind)
 table_kinds = (1, kind.Bytes) ∷ []
 

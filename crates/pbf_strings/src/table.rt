@@ -5,7 +5,7 @@ ghost use Rattle.std.specs.Option.{option_map};
 ghost use Rattle.pbf_wire.specs.declared.fault.Fault.{Fault};
 ghost use Rattle.pbf_wire.specs.declared.fault.ReadFault.TheVariants.{Refused};
 ghost use Rattle.pbf_wire.specs.Occurrence.{items};
-ghost use Rattle.pbf_strings.specs.Texts.{text, AreWithin, texts, first_text, text_at, count_fault, table_fault};
+ghost use Rattle.pbf_strings.specs.Texts.{text, texts, first_text, text_at, count_fault, table_fault};
 ghost use Rattle.pbf_wire.specs.Wire.{judged};
 
 use pbf_wire::{Fault, Fields, Kind, Payload, ReadFault, Reason, judge_wire};
@@ -165,17 +165,6 @@ impl<'a> Table<'a> {
         ensures { result.now ≡ text self.now index }
     {
         self.get(index).unwrap_or(&[])
-    }
-
-    /// A length that no text passes, which is that of the longest. Looks each text up; takes no memory.
-    pub fn longest(&self) -> usize
-        ensures { AreWithin result self.now }
-    {
-        let mut longest = 0;
-        for index in 0..self.len() {
-            longest = longest.max(self.text(index).len());
-        }
-        longest
     }
 
     /// How many bytes the table holds: four for each text.

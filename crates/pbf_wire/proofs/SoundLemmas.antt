@@ -153,7 +153,7 @@ later k o os = last_or o (filter (λ o. o.number == k) os)
 last_from : (P : Occurrence → Type 0) (k : ℕ) (os : List Occurrence) (before : Option Occurrence) → AllByRecursion P os → IfThere P k before → IfThere P k (later k before os)
 last_from P k [] before all h = h
 last_from P k (o ∷ os) before all h = chosen (o.number == k) refl
-    (λ same. last_from P k os (Some o) all.1 (all.0, same)) (last_from P k os before all.1 h)
+  (λ same. last_from P k os (Some o) all.1 (all.0, same)) (last_from P k os before all.1 h)
   where
     chosen : (b : Bool) → (o.number == k) ≡ b → (o.number ≡ k → IfThere P k (later k (Some o) os)) → IfThere P k (later k before os) → IfThere P k (last_or before (if b then o ∷ filter (λ o. o.number == k) os else filter (λ o. o.number == k) os))
     chosen true e taken skipped = taken (grind arith)
@@ -162,34 +162,3 @@ last_from P k (o ∷ os) before all h = chosen (o.number == k) refl
 -- what holds of all occurrences holds of the last of the field k
 pub last_holds : (P : Occurrence → Type 0) (k : ℕ) (os : List Occurrence) (o : Occurrence) → AllByRecursion P os → last_of k os ≡ Some o → P o × (o.number ≡ k)
 last_holds P k os o all e = subst (λ w. IfThere P k w) e (last_from P k os None all tt)
-
--- ---- a column has at most as many numbers as are counted
-
-few_next : (m : List ℕ) (r : Result (ℕ × ℕ) Reason) → 0 < length m → varint_at m ≡ r
-    → ((n : ℕ) → 0 < n → length (read_entries (entries (drop n m))) ≤ length (ends (drop n m))) → length (read_entries (entries m)) ≤ length (ends m)
-few_next m (Err r) some is more = omega (arith, ap (λ w. length (read_entries w)) (entries_err m r some is))
-few_next m (Ok p) some is more =
-    let f = varint_ok m p.0 p.1 is in
-    let step = entries_ok m p.0 p.1 f.positive f.within is in
-    omega (arith, ends_parted p.1 m, end_once (take p.1 m) f.spelled.ended, more p.1 f.positive, ap (λ w. length (read_entries w)) step)
-
-few_entries : (fuel : ℕ) (bytes : List ℕ) → length bytes ≤ fuel → length (read_entries (entries bytes)) ≤ length (ends bytes)
-few_entries fuel [] le = omega (arith, ap (λ w. length (read_entries w)) (entries_none [] refl))
-few_entries zero (b ∷ bs) le = absurd (omega arith)
-few_entries (suc fuel) (b ∷ bs) le = few_next (b ∷ bs) (varint_at (b ∷ bs)) (omega arith) refl (λ n positive. few_entries fuel (drop n (b ∷ bs)) (omega (arith, length-drop n (b ∷ bs), positive)))
-
-few_in : (c : Content) → length (numbers_in c) ≤ length (ends_in c)
-few_in (Number v) = omega arith
-few_in (Eight bytes) = omega arith
-few_in (Four bytes) = omega arith
-few_in (Bytes bytes at) = few_entries (length bytes) bytes (omega arith)
-
-few_of : (k : ℕ) (o : Occurrence) → length (column_of k o) ≤ length (ends_of k o)
-few_of k o = elim (o.number == k) as (λ b. length (if b then placed o.place (numbers_in o.content) else []) ≤ length (if b then ends_in o.content else [])) [
-  | true ↦ omega (arith, few_in o.content, length-map {B = ℕ × ℕ} (numbers_in o.content) (λ v. (v, o.place)))
-  | false ↦ omega arith
-]
-
-pub few_joined : (k : ℕ) (os : List Occurrence) → length (joined k os) ≤ column_count k os
-few_joined k [] = omega arith
-few_joined k (o ∷ os) = omega (arith, length-append (column_of k o) (joined k os), length-append (ends_of k o) (flat_map (ends_of k) os), few_of k o, few_joined k os)
