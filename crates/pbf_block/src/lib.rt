@@ -3,6 +3,8 @@
 
 mod entities;
 mod entity_fields;
+#[cfg(test)]
+mod entity_tests;
 mod group;
 mod info;
 mod message;
