@@ -8,3 +8,7 @@ pub mod Payload
 pub mod Passes
 pub mod Cursors
 pub mod Weights
+pub mod Judgement
+pub mod Header
+pub mod HeaderFaults
+pub mod WrittenHeader

@@ -3,7 +3,7 @@ use Rattle.std.specs.Prelude.{ℕ, ◌==◌, Bool, false, not, ◌&&◌, ◌||�
 use Rattle.std.specs.Option.{option_map}
 use Rattle.std.specs.List.{flat_map, find}
 use Rattle.pbf_wire.specs.declared.fault.Fault.{Fault}
-use Rattle.pbf_wire.specs.declared.fault.Reason.TheVariants.{TwiceMessage, MixedGroup, Changesets, TagColumns, MemberColumns, LocationColumns}
+use Rattle.pbf_wire.specs.declared.fault.Reason.TheVariants.{MixedGroup, Changesets, TagColumns, MemberColumns, LocationColumns}
 use Rattle.pbf_wire.specs.Occurrence.{Occurrence}
 use Rattle.pbf_wire.specs.Faults.{fault, fault_where, entered, fields_in, missing, twice, column_count}
 use Rattle.pbf_strings.specs.Texts.{count_fault}

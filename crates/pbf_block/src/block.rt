@@ -1,14 +1,16 @@
 //! A PrimitiveBlock that is judged and read.
 
-ghost use Rattle.std.specs.Prelude.{◌≡◌, ◌+◌, ◌*◌, ◌≤◌, ◌<◌, ◌^◌, ◌↔◌, [], None, Some, Err, ℕ, List, IfOk, OnOk, length};
+ghost use Rattle.std.specs.Prelude.{◌≡◌, ◌+◌, ◌*◌, ◌≤◌, ◌<◌, ◌^◌, [], None, Some, Err, ℕ, List, IfOk, OnOk, length};
 ghost use Rattle.std.specs.Option.{option_or, option_map};
 ghost use Rattle.pbf_wire.specs.declared.fault.Fault.{Fault};
 ghost use Rattle.pbf_wire.specs.declared.fault.ReadFault.TheVariants.{Refused};
 ghost use Rattle.pbf_wire.specs.Faults.{fields_in};
 ghost use Rattle.pbf_wire.specs.Least.{least, least_by};
 ghost use Rattle.pbf_block.specs.Judgement.{payload_values, payload_weights, block_fault, all_faults, phase_rank};
+ghost use Rattle.pbf_block.specs.Cursors.{entities_left};
 ghost use Rattle.pbf_block.specs.Payload.{entities};
-ghost use Rattle.pbf_block.specs.Scale.{scale_of, table_of};
+ghost use Rattle.pbf_wire.specs.Fields.{occurrence};
+ghost use Rattle.pbf_block.specs.Scale.{scale_of, table_of, held_by, begin_of};
 ghost use Rattle.pbf_block.specs.StructureFaults.{structure_faults};
 ghost use Rattle.pbf_block.specs.WireFaults.{wire_faults};
 
@@ -21,7 +23,7 @@ use crate::weights::judge_weights;
 use crate::wire::judge_wire_form;
 use osm_entity::Scale;
 use pbf_strings::Table;
-use pbf_wire::{Fault, Payload, ReadFault, last_field};
+use pbf_wire::{Fault, Field, Payload, ReadFault, last_field};
 use std::alloc::Global;
 
 /// The first fault of the phases that need no table: of the wire form, or else of structure.
@@ -35,6 +37,23 @@ fn early_fault(payload: &[u8], at: u64) -> Option<Fault>
     judge_structure(payload, at)
 }
 
+/// The bytes of a field, and where they begin; none where the field is absent.
+fn bytes_in(field: Option<Field<'_>>) -> (&[u8], u64)
+    ensures bytes { result.0.now ≡ held_by (option_map occurrence field.entry) }
+    ensures place { result.1 ≡ begin_of (option_map occurrence field.entry) }
+    ensures fits { result.1 + length result.0.now ≤ 2 ^ 63 }
+{
+    match field {
+        Some(
+            Field {
+                payload: Payload::Bytes(bytes, begin),
+                ..
+            },
+        ) => (bytes, begin),
+        _ => (&[], 0),
+    }
+}
+
 /// The texts of a payload that has no fault of the wire form and of structure.
 fn read_table<'a>(alloc: Global, payload: &'a [u8], at: u64) -> Result<Table<'a>, ReadFault>
     requires placed { at + length payload.now ≤ 2 ^ 63 }
@@ -44,13 +63,7 @@ fn read_table<'a>(alloc: Global, payload: &'a [u8], at: u64) -> Result<Table<'a>
     ensures texts { IfOk result (λ table. table ≡ table_of (fields_in at payload.now)) }
     ensures sound { (fault : Fault) → result ≡ Err (Refused fault) → ⊥ }
 {
-    let (bytes, begin) = match last_field(payload, at, STRINGTABLE) {
-        Some(field) => match field.payload {
-            Payload::Bytes(bytes, begin) => (bytes, begin),
-            _ => (&[] as &[u8], 0),
-        },
-        None => (&[] as &[u8], 0),
-    };
+    let (bytes, begin) = bytes_in(last_field(payload, at, STRINGTABLE));
     Table::read(alloc, bytes, begin, begin)
 }
 
@@ -67,4 +80,62 @@ fn late_fault<'a>(payload: &'a [u8], at: u64, table: &'a Table<'a>, scale: Scale
         return Some(fault);
     }
     judge_weights(payload, at, table, scale)
+}
+
+/// A PrimitiveBlock without a fault. It borrows the payload, and holds the place of each text of its string table.
+#[derive(Debug, Drop)]
+pub struct Block<'a> {
+    payload: &'a [u8],
+    at: u64,
+    table: Table<'a>,
+    scale: Scale,
+    ghost room: { at + length payload.now ≤ 2 ^ 63 },
+    ghost texts: { table ≡ table_of (fields_in at payload.now) },
+    ghost scaled: { scale ≡ scale_of (fields_in at payload.now) },
+    ghost sound: { block_fault at payload.now ≡ None },
+}
+
+impl<'a> Block<'a> {
+    /// Judges and reads a PrimitiveBlock whose first byte stands at `at` in the file.
+    ///
+    /// Refuses its first fault: the least of the first phase that has one, the phases being the wire form, the structure, the
+    /// values and the weights, each over the whole payload and all messages in it. Memory is asked for the places of the
+    /// table's texts alone, once the first two phases are passed; where it is refused no later fault is told.
+    pub fn read(alloc: Global, payload: &'a [u8], at: u64) -> Result<Block<'a>, ReadFault>
+        requires placed { at + length payload.now ≤ 2 ^ 63 }
+        requires short { length payload.now < 33554432 }
+        ensures payload { IfOk result (λ block. (block.payload.now ≡ payload.now) × (block.at ≡ at)) }
+        ensures sound { OnOk result (block_fault at payload.now ≡ None) }
+        ensures refused { (fault : Fault) → result ≡ Err (Refused fault) → block_fault at payload.now ≡ Some fault }
+    {
+        if let Some(fault) = early_fault(payload, at) {
+            return Err(ReadFault::Refused(fault));
+        }
+        let table = read_table(alloc, payload, at)?;
+        let scale = scale_in(payload, at);
+        if let Some(fault) = late_fault(payload, at, &table, scale) {
+            return Err(ReadFault::Refused(fault));
+        }
+        Ok(Block {
+            payload,
+            at,
+            table,
+            scale,
+        })
+    }
+
+    /// The entities in order. Takes no memory.
+    pub fn entities(&self) -> Entities<'_>
+        ensures { entities_left result ≡ entities self.now.at self.now.payload.now }
+    {
+        Entities::over(self.payload, self.at, &self.table, self.scale)
+    }
+
+    /// How many bytes the block holds beside the payload: four for each text of its table.
+    pub fn held(&self) -> u64
+        ensures value { result ≡ 4 * length (table_of (fields_in self.now.at self.now.payload.now)) }
+        ensures bound { result ≤ 4194304 }
+    {
+        self.table.held()
+    }
 }

@@ -1,12 +1,19 @@
 //! HeaderBlocks and PrimitiveBlocks: read and judged.
 #![tactic(auto)]
 
+mod block;
 mod entities;
 mod entity_fields;
 #[cfg(test)]
 mod entity_tests;
 mod group;
+mod header;
+mod header_judge;
+mod header_read;
+#[cfg(test)]
+mod header_tests;
 mod info;
+pub mod laws;
 mod message;
 mod node;
 mod relation;
@@ -17,4 +24,6 @@ mod way;
 mod weights;
 mod wire;
 
+pub use block::Block;
 pub use entities::Entities;
+pub use header::{Header, HeaderBox};

@@ -1,6 +1,6 @@
 -- Columns that move together give what indices into whole columns give.
-use Rattle.std.proofs.Common.{◌≡◌, ℕ, zero, suc, ◌+◌, ◌-◌, ◌<◌, ◌≤◌, ℤ, pos, List, [], ◌∷◌, length, take, drop, get_or, map, refl, sym, ap, ap₂, ◌∙◌, arith, add-one, one-add}
-use Rattle.std.specs.Prelude.{◌^◌, Option, slice_get, slice_range}
+use Rattle.std.proofs.Common.{◌≡◌, ℕ, zero, suc, ◌+◌, ◌-◌, ℤ, List, [], ◌∷◌, length, drop, get_or, map, refl, sym, ap, ap₂, ◌∙◌, arith, add-one, one-add}
+use Rattle.std.specs.Prelude.{slice_get, slice_range}
 use Rattle.std.specs.List.{range_with_len}
 use Rattle.std.proofs.Math.Seq.{drop-nil, take-nil}
 use Rattle.osm_entity.specs.declared.scale.Scale.{Scale}
@@ -104,9 +104,9 @@ moving_by_index table scale f g h zero info column = refl
 moving_by_index table scale f g h (suc n) info column =
     let first = ap (as_node scale (f 0) (g 0) (h 0) (meta_at table info 0)) (tags_at_first table column) in
     let others = moving_by_index table scale (λ i. f (i + 1)) (λ i. g (i + 1)) (λ i. h (i + 1)) n (later info) (after_run column)
-      ∙ same_map (λ i. as_node scale (f (i + 1)) (g (i + 1)) (h (i + 1)) (meta_at table (later info) i) (tags_at table (after_run column) i))
-      (λ i. as_node scale (f (i + 1)) (g (i + 1)) (h (i + 1)) (meta_at table info (i + 1)) (tags_at table column (i + 1))) 0 n
-      (λ i. ap₂ (as_node scale (f (i + 1)) (g (i + 1)) (h (i + 1))) (meta_later table info i) (tags_at_later table column i)) in
+    ∙ same_map (λ i. as_node scale (f (i + 1)) (g (i + 1)) (h (i + 1)) (meta_at table (later info) i) (tags_at table (after_run column) i))
+    (λ i. as_node scale (f (i + 1)) (g (i + 1)) (h (i + 1)) (meta_at table info (i + 1)) (tags_at table column (i + 1))) 0 n
+    (λ i. ap₂ (as_node scale (f (i + 1)) (g (i + 1)) (h (i + 1))) (meta_later table info i) (tags_at_later table column i)) in
     moving_same table scale _ _ _ _ _ _ info info column (from_index f n) (from_index g n) (from_index h n) refl
     ∙ (ap₂ (λ (x : NodeSpec) (xs : List NodeSpec). x ∷ xs) first others
     ∙ sym (from_index (λ i. as_node scale (f i) (g i) (h i) (meta_at table info i) (tags_at table column i)) n))

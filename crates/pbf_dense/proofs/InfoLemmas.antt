@@ -1,6 +1,5 @@
 -- The columns of metadata.
-use Rattle.std.proofs.Common.{◌≡◌, ℕ, length, drop, Bool, true, false, Option, Some, None, ℤ, ◌+ℤ◌, List, [], ◌∷◌, refl, sym, ap, ◌∙◌, rules}
-use Rattle.std.specs.Prelude.{slice_get}
+use Rattle.std.proofs.Common.{◌≡◌, ℕ, Bool, true, false, ℤ, ◌+ℤ◌, List, [], ◌∷◌, refl, ap, rules}
 use Rattle.std.specs.List.{list_all}
 use Rattle.pbf_wire.specs.Faults.{fields_in}
 use Rattle.pbf_wire.specs.Occurrence.{found}

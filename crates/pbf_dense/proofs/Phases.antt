@@ -1,12 +1,11 @@
 -- The phases of judgement, one after the other.
-use Rattle.std.proofs.Common.{◌≡◌, ◌≤◌, ◌^◌, ℕ, List, [], length, refl, sym, ap, ◌∙◌}
+use Rattle.std.proofs.Common.{◌≡◌, ◌≤◌, ◌^◌, ℕ, List, length, refl, sym, ap, ◌∙◌}
 use Rattle.std.specs.Prelude.{Option, Some, None}
 use Rattle.std.specs.Option.{option_or}
 use Rattle.pbf_wire.specs.declared.fault.Fault.{Fault}
 use Rattle.pbf_wire.specs.Least.{least}
 use Rattle.pbf_wire.specs.Faults.{fields_in}
 use Rattle.pbf_wire.proofs.SoundLemmas.{no_least}
-use Rattle.osm_entity.specs.declared.scale.Scale.{Scale}
 use Rattle.osm_entity.specs.Entity.{NodeSpec}
 use Rattle.pbf_dense.specs.Nodes.{nodes, nodes_along}
 use Rattle.pbf_dense.specs.Judged.{dense_wire, dense_structure, dense_values, dense_weights, as_stored, early_fault, dense_fault, if_none, IsSound}

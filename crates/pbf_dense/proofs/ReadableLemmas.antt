@@ -1,17 +1,17 @@
 -- A dense message without faults: what is read along its columns is what indices give.
-use Rattle.std.proofs.Common.{◌≡◌, ℕ, ◌^◌, ℤ, pos, List, length, map, refl, sym, ap, ◌∙◌}
+use Rattle.std.proofs.Common.{◌≡◌, ℕ, ◌^◌, pos, List, length, map, refl, ap, ◌∙◌}
 use Rattle.std.specs.List.{range_with_len, AllByRecursion}
 use Rattle.std.proofs.lemmas.List.{length-map}
 use Rattle.pbf_wire.specs.Occurrence.{Occurrence}
 use Rattle.pbf_wire.specs.Columns.{column}
 use Rattle.pbf_wire.specs.Faults.{embedded}
 use Rattle.pbf_wire.specs.Signed.{unzigzag, low_sint32, IsWithin}
-use Rattle.pbf_wire.specs.Sums.{sums, sum_at, sums_within}
+use Rattle.pbf_wire.specs.Sums.{sums, sum_at}
 use Rattle.pbf_wire.proofs.SumLemmas.{sums_in_range}
 use Rattle.osm_entity.specs.declared.scale.Scale.{Scale}
 use Rattle.osm_entity.specs.Sources.{low_32}
 use Rattle.pbf_dense.specs.declared.message.TheConstants.{ID, DENSEINFO, LAT, LON, KEYS_VALS, TIMESTAMP, CHANGESET, UID, USER_SID}
-use Rattle.pbf_dense.specs.Info.{InfoSpec, info_of, info_along}
+use Rattle.pbf_dense.specs.Info.{info_of, info_along}
 use Rattle.pbf_dense.specs.Nodes.{nodes, nodes_along, values_along}
 use Rattle.pbf_dense.proofs.IndexLemmas.{moving_same, moving_by_index}
 

@@ -1,5 +1,5 @@
 -- The form of the tags, step by step.
-use Rattle.std.proofs.Common.{◌≡◌, ◌<◌, ◌-◌, ℕ, zero, suc, true, false, List, [], ◌∷◌, refl, ap, arith}
+use Rattle.std.proofs.Common.{◌≡◌, ◌<◌, ◌-◌, ℕ, zero, suc, false, List, [], ◌∷◌, refl, ap, arith}
 use Rattle.pbf_dense.specs.Judged.{are_runs}
 
 pub runs_end : (n key : ℕ) (rest : List ℕ) → 0 < n → key ≡ 0 → are_runs n (key ∷ rest) ≡ are_runs (n - 1) rest

@@ -1,6 +1,6 @@
 -- What no fault in the phases before the weights shows of a dense message.
-use Rattle.std.proofs.Common.{◌≡◌, ◌≤◌, ◌<◌, ◌^◌, ◌==◌, ◌&&◌, ℕ, ℤ, pos, negsuc, Bool, true, false, List, [], ◌∷◌, ◌++◌, length, map, refl, sym, ap, ◌∙◌, arith, rules}
-use Rattle.std.specs.Prelude.{Option, Some, None, filter, if◌then◌else◌, nat_lt}
+use Rattle.std.proofs.Common.{◌≡◌, ◌≤◌, ◌^◌, ◌==◌, ◌&&◌, ℕ, ℤ, pos, negsuc, Bool, true, false, List, [], ◌∷◌, length, refl, sym, ◌∙◌, arith}
+use Rattle.std.specs.Prelude.{Option, Some, None, filter, if◌then◌else◌}
 use Rattle.std.specs.List.{flat_map, last_or, AllByRecursion}
 use Rattle.std.proofs.lemmas.Int.{ints}
 use Rattle.std.proofs.lemmas.Bool.{ltb-true}
@@ -10,14 +10,14 @@ use Rattle.pbf_wire.specs.declared.fault.Reason.TheVariants.{ColumnLengths, OutO
 use Rattle.pbf_wire.specs.declared.kind.Kind.TheVariants as kind
 use Rattle.pbf_wire.specs.Occurrence.{Content, Number, Eight, Four, Bytes, Occurrence, items}
 use Rattle.pbf_wire.specs.Columns.{joined, column}
-use Rattle.pbf_wire.specs.Signed.{IsWithin, is_within}
+use Rattle.pbf_wire.specs.Signed.{IsWithin}
 use Rattle.pbf_wire.specs.Wire.{kind_of}
-use Rattle.pbf_wire.specs.Faults.{inside, entered, fields_in, fields_of, embedded, leaf_faults, twice, column_count, index_faults, sum_faults, index_sum_faults, is_index}
+use Rattle.pbf_wire.specs.Faults.{inside, entered, fields_in, fields_of, embedded, leaf_faults, column_count, index_faults, sum_faults, index_sum_faults, is_index}
 use Rattle.pbf_wire.proofs.SoundLemmas.{both_nil, all_nil, is_right, sums_good, sums_within_limit, fields_sound, count_is_length}
 use Rattle.osm_entity.specs.declared.scale.Scale.{Scale}
 use Rattle.pbf_dense.specs.declared.message.TheConstants.{DENSE_KINDS, DENSEINFO_KINDS, ID, DENSEINFO, LAT, LON, KEYS_VALS, TIMESTAMP, CHANGESET, UID, USER_SID}
 use Rattle.pbf_dense.specs.Nodes.{nodes, nodes_along}
-use Rattle.pbf_dense.specs.Judged.{dense_wire, dense_structure, dense_values, has_count, coordinate_counts, run_faults, info_counts, info_values, range_faults, texts_named, IsSound}
+use Rattle.pbf_dense.specs.Judged.{dense_wire, dense_structure, dense_values, has_count, coordinate_counts, info_values, range_faults, texts_named, IsSound}
 use Rattle.pbf_dense.proofs.ReadableLemmas.{InRange, InfoReads, DenseReads, reads_same}
 
 -- ---- the last message that a field holds

@@ -8,6 +8,8 @@ mod judge;
 mod message;
 mod phase;
 mod structure;
+#[cfg(test)]
+mod tests;
 mod values;
 mod weights;
 

@@ -10,10 +10,12 @@ ghost use Rattle.pbf_dense.specs.Judged.{texts_named, range_faults, info_values,
 
 use crate::entries::next_placed;
 use crate::message::{
-    CHANGESET, DENSEINFO, ID, KEYS_VALS, LAT, LON, STORED_LIMIT, TIMESTAMP, UID, UID_LIMIT, USER_SID,
+    CHANGESET, DENSEINFO, ID, KEYS_VALS, LAT, LON, STORED_LIMIT, TIMESTAMP, UID, UID_LIMIT,
+    USER_SID,
 };
 use pbf_wire::{
-    Column, Fault, Field, Fields, Payload, judge_index, judge_index_sums, judge_sums, lesser, low_u32,
+    Column, Fault, Field, Fields, Payload, judge_index, judge_index_sums, judge_sums, lesser,
+    low_u32,
 };
 
 /// The first value of a column of differences that is out of range.

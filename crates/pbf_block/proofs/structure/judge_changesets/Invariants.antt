@@ -1,9 +1,6 @@
 use Rattle.std.proofs.Common.{◌≡◌}
-use Rattle.std.specs.List.{flat_map, find}
-use Rattle.std.specs.Prelude.{filter, map}
-use Rattle.std.specs.Option.{option_map}
 use Rattle.pbf_wire.specs.Least.{lesser, least}
-use Rattle.pbf_wire.specs.Occurrence.{items, found}
+use Rattle.pbf_wire.specs.Occurrence.{found}
 use Rattle.pbf_wire.specs.Cursors.{fields_left}
 use Rattle.pbf_wire.specs.Faults.{fields_in}
 use Rattle.pbf_block.specs.StructureFaults.{changesets}

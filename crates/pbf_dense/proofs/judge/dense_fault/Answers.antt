@@ -9,5 +9,5 @@ returns-in-None-clause-exact c =
     let table = c.args.table.now in
     let m = c.args.message.now in
     let none : early_fault (length table) c.args.tag c.args.at m ≡ None =
-      ap (λ n. early_fault n c.args.tag c.args.at m) (sym c.len.ensures.exact) ∙ sym c.early_fault.ensures ∙ c.in-None.is in
+    ap (λ n. early_fault n c.args.tag c.args.at m) (sym c.len.ensures.exact) ∙ sym c.early_fault.ensures ∙ c.in-None.is in
     c.judge_weights.ensures ∙ weights_decide table c.args.tag c.args.at m (omega (arith, c.len.ensures.exact, c.len.ensures.few)) none

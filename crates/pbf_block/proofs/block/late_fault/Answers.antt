@@ -1,0 +1,41 @@
+use Rattle.std.proofs.Common.{◌≡◌, ◌≤◌, ◌^◌, List, [], length, ap, ap₂, sym, ◌∙◌, ℕ, arith}
+use Rattle.std.specs.Option.{option_or}
+use Rattle.pbf_wire.specs.Least.{least}
+use Rattle.pbf_wire.specs.Faults.{fields_in}
+use Rattle.pbf_wire.proofs.SoundLemmas.{no_least}
+use Rattle.pbf_block.specs.Judgement.{payload_values, payload_weights}
+use Rattle.osm_entity.specs.declared.scale.Scale.{Scale}
+use Rattle.pbf_block.specs.Scale.{scale_of, table_of}
+use Rattle.pbf_block.specs.ValueFaults.{value_faults}
+use Rattle.pbf_block.specs.Weights.{weight_faults}
+use Rattle.pbf_block.specs.Payload.{by_index}
+use Rattle.pbf_block.proofs.ByIndexLemmas.{weights_same}
+use Rattle.pbf_block.proofs.ReadsLemmas.{payload_reads}
+use Rattle.pbf_block.proofs.block.late_fault.Goals as goal
+
+module _ (table : List (List ℕ)) (at : ℕ) (m : List ℕ) (texts : table ≡ table_of (fields_in at m)) where
+  values_are : value_faults (length table) at m ≡ payload_values at m
+  unfolding payload_values
+  values_are = ap (λ (t : List (List ℕ)). value_faults (length t) at m) texts
+
+  weights_are : (scale : Scale) → scale ≡ scale_of (fields_in at m) → weight_faults by_index table scale (fields_in at m) ≡ payload_weights at m
+  unfolding payload_weights
+  weights_are scale scaled = ap₂ (λ (t : List (List ℕ)) (s : Scale). weight_faults by_index t s (fields_in at m)) texts scaled
+
+pub returns-in-Some : goal.returns-in-Some
+returns-in-Some c =
+    let at = c.args.at in
+    let m = c.args.payload.now in
+    let values = sym c.in-Some.is ∙ c.judge_values.ensures ∙ ap (λ n. least (value_faults n at m)) c.len.ensures.exact ∙ ap least (values_are c.args.table.now at m c.requires.texts) in
+    ap (λ f. option_or f (least (payload_weights at m))) values
+
+pub returns : goal.returns
+returns c =
+    let at = c.args.at in
+    let m = c.args.payload.now in
+    let table = c.args.table.now in
+    let none : value_faults (length table) at m ≡ [] = no_least _ (sym (c.judge_values.ensures ∙ ap (λ n. least (value_faults n at m)) c.len.ensures.exact) ∙ c.in_default.is) in
+    let few : length table ≤ 2 ^ 62 = omega (arith, c.len.ensures.exact, c.len.ensures.few) in
+    let same = weights_same table c.args.scale (fields_in at m) (payload_reads table c.args.scale few at m c.requires.wire c.requires.structure none) in
+    c.judge_weights.ensures ∙ ap least same ∙ ap least (weights_are table at m c.requires.texts c.args.scale c.requires.scale)
+    ∙ sym (ap (λ f. option_or (least f) (least (payload_weights at m))) (sym (values_are table at m c.requires.texts) ∙ none))

@@ -1,0 +1,25 @@
+//! The laws of headers and blocks. Each is the contract of a function that does nothing: a proof that needs the law calls it, or
+//! takes the lemma of that name from this crate's `proofs/`.
+
+ghost use Rattle.std.specs.Prelude.{◌≡◌, ℕ, List, Option};
+ghost use Rattle.std.specs.Option.{option_map};
+ghost use Rattle.pbf_wire.specs.Least.{least_by};
+ghost use Rattle.osm_entity.specs.declared.bounding_box.BoundingBox.{BoundingBox};
+ghost use Rattle.pbf_block.specs.declared.header.HeaderBox.{HeaderBox};
+ghost use Rattle.pbf_block.specs.Header.{HeaderSpec};
+ghost use Rattle.pbf_block.specs.Judgement.{block_fault, all_faults, phase_rank};
+ghost use Rattle.pbf_block.specs.WrittenHeader.{header_out, header_out_for_box, header_out_for_convert};
+
+/// The first fault of a payload, phase by phase, is the least of all its faults by phase, then offset, then the reason's
+/// number, then the field that is missing.
+pub fn phases_are_one_order()
+    ensures { (at : ℕ) (m : List ℕ) → option_map (λ p. p.1) (least_by phase_rank (all_faults at m)) ≡ block_fault at m }
+{}
+
+/// The header that is written for a header that was written is that header again, with each box and with none. Of two boxes
+/// the later counts.
+pub fn header_out_twice_is_once()
+    ensures area { (area : BoundingBox) (h : HeaderSpec) → header_out_for_box area (header_out_for_box area h) ≡ header_out_for_box area h }
+    ensures convert { (h : HeaderSpec) → header_out_for_convert (header_out_for_convert h) ≡ header_out_for_convert h }
+    ensures later { (bbox other : Option HeaderBox) (h : HeaderSpec) → header_out bbox (header_out other h) ≡ header_out bbox h }
+{}
