@@ -51,7 +51,7 @@ lesser_in_phase n None g = refl
 lesser_in_phase n (Some f) None = refl
 lesser_in_phase n (Some f) (Some g) = grind arith
 
-least_in_phase : (n : ℕ) (fs : List Fault) → least_by phase_rank (in_phase n fs) ≡ option_map (λ f. (n, f)) (least fs)
+pub least_in_phase : (n : ℕ) (fs : List Fault) → least_by phase_rank (in_phase n fs) ≡ option_map (λ f. (n, f)) (least fs)
 least_in_phase n [] = refl
 least_in_phase n (f ∷ fs) = ap (λ w. lesser_by phase_rank (Some (n, f)) w) (least_in_phase n fs) ∙ lesser_in_phase n (Some f) (least fs)
 

@@ -8,6 +8,7 @@ use Rattle.pbf_wire.specs.Faults.{fault_where, entered, fields_in, nested_faults
 use Rattle.pbf_wire.specs.Least.{least}
 use Rattle.pbf_wire.specs.Occurrence.{Occurrence}
 use Rattle.pbf_block.specs.declared.header.TheConstants.{BBOX, HEADER_KINDS, BBOX_KINDS, REQUIRED_FEATURES, LEFT, RIGHT, TOP, BOTTOM}
+use Rattle.pbf_block.specs.Judgement.{in_phase}
 use Rattle.pbf_block.specs.WrittenHeader.{has, known_features}
 
 -- the wire form of the header and of its boxes
@@ -35,3 +36,7 @@ value_faults os = flat_map (entered REQUIRED_FEATURES feature_faults) os
 -- the first fault of a header: of its wire form, then of its structure, then of its values
 unfoldable pub header_fault : ℕ → List ℕ → Option Fault
 header_fault at m = option_or (least (wire_faults at m)) (option_or (least (structure_faults (fields_in at m))) (least (value_faults (fields_in at m))))
+
+-- all faults of a header, each with its phase
+abbrev pub all_header_faults : ℕ → List ℕ → List (ℕ × Fault)
+all_header_faults at m = let os = fields_in at m in in_phase 8 (wire_faults at m) ++ (in_phase 9 (structure_faults os) ++ in_phase 10 (value_faults os))

@@ -309,5 +309,6 @@ fn memory_that_is_refused(rt: HostRuntime) {
 
 #[test]
 fn the_laws_return() {
+    laws::header_phases_are_one_order();
     laws::header_out_twice_is_once();
 }

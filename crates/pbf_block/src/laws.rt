@@ -7,6 +7,7 @@ ghost use Rattle.pbf_wire.specs.Least.{least_by};
 ghost use Rattle.osm_entity.specs.declared.bounding_box.BoundingBox.{BoundingBox};
 ghost use Rattle.pbf_block.specs.declared.header.HeaderBox.{HeaderBox};
 ghost use Rattle.pbf_block.specs.Header.{HeaderSpec};
+ghost use Rattle.pbf_block.specs.HeaderFaults.{header_fault, all_header_faults};
 ghost use Rattle.pbf_block.specs.Judgement.{block_fault, all_faults, phase_rank};
 ghost use Rattle.pbf_block.specs.WrittenHeader.{header_out, header_out_for_box, header_out_for_convert};
 
@@ -14,6 +15,11 @@ ghost use Rattle.pbf_block.specs.WrittenHeader.{header_out, header_out_for_box, 
 /// number, then the field that is missing.
 pub fn phases_are_one_order()
     ensures { (at : ℕ) (m : List ℕ) → option_map (λ p. p.1) (least_by phase_rank (all_faults at m)) ≡ block_fault at m }
+{}
+
+/// The same of the faults of a header.
+pub fn header_phases_are_one_order()
+    ensures { (at : ℕ) (m : List ℕ) → option_map (λ p. p.1) (least_by phase_rank (all_header_faults at m)) ≡ header_fault at m }
 {}
 
 /// The header that is written for a header that was written is that header again, with each box and with none. Of two boxes

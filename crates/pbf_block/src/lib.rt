@@ -2,6 +2,8 @@
 #![tactic(auto)]
 
 mod block;
+#[cfg(test)]
+mod block_tests;
 mod entities;
 mod entity_fields;
 #[cfg(test)]
