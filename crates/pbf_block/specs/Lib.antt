@@ -12,3 +12,5 @@ pub mod Judgement
 pub mod Header
 pub mod HeaderFaults
 pub mod WrittenHeader
+pub mod Counts
+pub mod InfoValues

@@ -29,6 +29,10 @@ wide_range place v = range_fault stored_limit place (low_i64 v)
 abbrev pub uid_range : ℕ → ℕ → List Fault
 uid_range place v = range_fault (pos (2 ^ 30)) place (low_i32 v)
 
+-- a user's text is one of the table's
+abbrev pub user_range : ℕ → ℕ → ℕ → List Fault
+user_range limit place v = index_fault limit (v, place)
+
 -- a number that must be at least 1
 abbrev pub positive : Reason → ℕ → ℕ → List Fault
 positive reason place v = fault_where (int_lt (low_i32 v) (pos 1)) place reason
@@ -38,7 +42,7 @@ positive reason place v = fault_where (int_lt (low_i32 v) (pos 1)) place reason
 abbrev pub info_values : ℕ → ℕ → ℕ → List ℕ → List Fault
 info_values limit place at m =
     let os = fields_in at m in
-    in_last TIMESTAMP wide_range os ++ in_last CHANGESET wide_range os ++ in_last UID uid_range os ++ in_last USER_SID (λ place v. index_fault limit (v, place)) os
+    in_last TIMESTAMP wide_range os ++ in_last CHANGESET wide_range os ++ in_last UID uid_range os ++ in_last USER_SID (user_range limit) os
 
 -- what all entities have alike
 abbrev pub entity_values : ℕ → List Occurrence → List Fault

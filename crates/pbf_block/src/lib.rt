@@ -5,6 +5,7 @@ mod block;
 #[cfg(test)]
 mod block_tests;
 mod entities;
+mod entity_counts;
 mod entity_fields;
 #[cfg(test)]
 mod entity_tests;
@@ -15,6 +16,7 @@ mod header_read;
 #[cfg(test)]
 mod header_tests;
 mod info;
+mod info_values;
 pub mod laws;
 mod message;
 mod node;

@@ -1,43 +1,61 @@
 //! The structure of a payload: messages that lack or repeat something, or whose columns don't fit together.
 
-ghost use Rattle.std.specs.Prelude.{◌≡◌, ◌+◌, ◌≤◌, ◌^◌, length};
+ghost use Rattle.std.specs.Prelude.{◌≡◌, ◌+◌, ◌≤◌, ◌^◌, List, length};
 ghost use Rattle.std.specs.List.{flat_map};
 ghost use Rattle.pbf_wire.specs.Fields.{occurrence};
 ghost use Rattle.pbf_wire.specs.Least.{least};
-ghost use Rattle.pbf_wire.specs.Faults.{fields_in};
+ghost use Rattle.pbf_wire.specs.Occurrence.{Occurrence};
+ghost use Rattle.pbf_wire.specs.Faults.{fields_in, missing, twice};
+ghost use Rattle.pbf_block.specs.declared.message.TheConstants.{ID, INFO};
+ghost use Rattle.pbf_block.specs.Counts.{AreCounts};
 ghost use Rattle.pbf_block.specs.StructureFaults.{tag_columns, entity_structure, node_structure, are_located, way_structure, are_members, relation_structure, member_structure, is_member, first_member, is_other, mixed, changesets, group_structure, table_structure, part_structure, structure_faults};
 
+use crate::entity_counts::{EntityCounts, entity_counts};
 use crate::message::{
-    CHANGESETS, DENSE, ID, INFO, KEYS, MEMIDS, NODE_LAT, NODE_LON, NODES, PRIMITIVEGROUP, REFS,
-    RELATIONS, ROLES_SID, STRINGTABLE, TYPES, VALS, WAY_LAT, WAY_LON, WAYS,
+    CHANGESETS, DENSE, ID, INFO, NODE_LAT, NODE_LON, NODES, PRIMITIVEGROUP, RELATIONS, STRINGTABLE,
+    WAYS,
 };
 use pbf_dense::Dense;
 use pbf_strings::Table;
 use pbf_wire::{
-    Fault, Field, Fields, Payload, Reason, column_count, fault_where, judge_missing, judge_twice,
-    lesser,
+    Fault, Field, Fields, Payload, Reason, fault_where, judge_missing, judge_twice, lesser,
 };
 
-/// Whether the keys and values of an entity are of one count.
-fn judge_tags(message: &[u8], at: u64, tag: u64) -> Option<Fault>
-    requires { at + length message.now ≤ 2 ^ 63 }
-    ensures { result ≡ least (tag_columns tag (fields_in at message.now)) }
+/// Whether an entity has an id.
+fn judge_id(counts: EntityCounts, tag: u64) -> Option<Fault>
+    ensures { (os : List Occurrence) → AreCounts counts os → result ≡ least (missing ID tag os) }
 {
-    let alike = column_count(message, at, KEYS) == column_count(message, at, VALS);
-    fault_where(!alike, tag, Reason::TagColumns)
+    fault_where(!counts.has_id, tag, Reason::Missing(ID))
+}
+
+/// The least of the infos after the first.
+fn judge_infos(message: &[u8], at: u64, counts: EntityCounts) -> Option<Fault>
+    requires placed { at + length message.now ≤ 2 ^ 63 }
+    requires counted { AreCounts counts (fields_in at message.now) }
+    ensures { result ≡ least (twice INFO (fields_in at message.now)) }
+{
+    if !counts.many_infos {
+        return None;
+    }
+    judge_twice(message, at, INFO)
+}
+
+/// Whether the keys and values of an entity are of one count.
+fn judge_tags(counts: EntityCounts, tag: u64) -> Option<Fault>
+    ensures { (os : List Occurrence) → AreCounts counts os → result ≡ least (tag_columns tag os) }
+{
+    fault_where(counts.keys != counts.vals, tag, Reason::TagColumns)
 }
 
 /// The least fault of what all entities have alike: an id, at most one info, and tags.
 #[tactic(auto, using(crate::proofs::Parts::lesser_parts))]
-fn judge_entity(message: &[u8], at: u64, tag: u64) -> Option<Fault>
-    requires { at + length message.now ≤ 2 ^ 63 }
+fn judge_entity(message: &[u8], at: u64, tag: u64, counts: EntityCounts) -> Option<Fault>
+    requires placed { at + length message.now ≤ 2 ^ 63 }
+    requires counted { AreCounts counts (fields_in at message.now) }
     ensures { result ≡ least (entity_structure tag (fields_in at message.now)) }
 {
-    let once = lesser(
-        judge_missing(message, at, tag, ID),
-        judge_twice(message, at, INFO),
-    );
-    lesser(once, judge_tags(message, at, tag))
+    let once = lesser(judge_id(counts, tag), judge_infos(message, at, counts));
+    lesser(once, judge_tags(counts, tag))
 }
 
 #[tactic(auto, using(crate::proofs::Parts::lesser_parts))]
@@ -46,20 +64,17 @@ fn judge_node(message: &[u8], at: u64, tag: u64) -> Option<Fault>
     ensures { result ≡ least (node_structure tag at message.now) }
 {
     let lat = lesser(
-        judge_entity(message, at, tag),
+        judge_entity(message, at, tag, entity_counts(message, at)),
         judge_missing(message, at, tag, NODE_LAT),
     );
     lesser(lat, judge_missing(message, at, tag, NODE_LON))
 }
 
 /// Whether a way has no locations, or as many as refs.
-fn are_located(message: &[u8], at: u64) -> bool
-    requires { at + length message.now ≤ 2 ^ 63 }
-    ensures { result ≡ are_located (fields_in at message.now) }
+fn are_located(counts: EntityCounts) -> bool
+    ensures { (os : List Occurrence) → AreCounts counts os → result ≡ are_located os }
 {
-    let lats = column_count(message, at, WAY_LAT);
-    lats == column_count(message, at, WAY_LON)
-        && (lats == 0 || lats == column_count(message, at, REFS))
+    counts.ninth == counts.tenth && (counts.ninth == 0 || counts.ninth == counts.eighth)
 }
 
 #[tactic(auto, using(crate::proofs::Parts::lesser_parts))]
@@ -67,20 +82,19 @@ fn judge_way(message: &[u8], at: u64, tag: u64) -> Option<Fault>
     requires { at + length message.now ≤ 2 ^ 63 }
     ensures { result ≡ least (way_structure tag at message.now) }
 {
-    let located = are_located(message, at);
+    let counts = entity_counts(message, at);
+    let located = are_located(counts);
     lesser(
-        judge_entity(message, at, tag),
+        judge_entity(message, at, tag, counts),
         fault_where(!located, tag, Reason::LocationColumns),
     )
 }
 
 /// Whether the columns of a relation's members are of one count.
-fn are_members(message: &[u8], at: u64) -> bool
-    requires { at + length message.now ≤ 2 ^ 63 }
-    ensures { result ≡ are_members (fields_in at message.now) }
+fn are_members(counts: EntityCounts) -> bool
+    ensures { (os : List Occurrence) → AreCounts counts os → result ≡ are_members os }
 {
-    let ids = column_count(message, at, MEMIDS);
-    column_count(message, at, ROLES_SID) == ids && column_count(message, at, TYPES) == ids
+    counts.eighth == counts.ninth && counts.tenth == counts.ninth
 }
 
 #[tactic(auto, using(crate::proofs::Parts::lesser_parts))]
@@ -88,9 +102,10 @@ fn judge_relation(message: &[u8], at: u64, tag: u64) -> Option<Fault>
     requires { at + length message.now ≤ 2 ^ 63 }
     ensures { result ≡ least (relation_structure tag at message.now) }
 {
-    let members = are_members(message, at);
+    let counts = entity_counts(message, at);
+    let members = are_members(counts);
     lesser(
-        judge_entity(message, at, tag),
+        judge_entity(message, at, tag, counts),
         fault_where(!members, tag, Reason::MemberColumns),
     )
 }

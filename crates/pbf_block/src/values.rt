@@ -6,13 +6,13 @@ ghost use Rattle.pbf_wire.specs.declared.fault.Reason.TheVariants.{MemberKind};
 ghost use Rattle.pbf_wire.specs.Fields.{occurrence};
 ghost use Rattle.pbf_wire.specs.Columns.{joined};
 ghost use Rattle.pbf_wire.specs.Least.{least};
-ghost use Rattle.pbf_wire.specs.Faults.{fields_in, in_last, last_value, entered, index_fault, below_faults, sum_faults};
-ghost use Rattle.pbf_block.specs.ValueFaults.{stored_limit, signed_range, wide_range, uid_range, positive, info_values, entity_values, node_values, way_values, relation_values, member_values, group_values, value_faults};
+ghost use Rattle.pbf_wire.specs.Faults.{fields_in, last_value, of_value, entered, below_faults, sum_faults};
+ghost use Rattle.pbf_block.specs.ValueFaults.{stored_limit, signed_range, wide_range, uid_range, user_range, positive, info_values, entity_values, node_values, way_values, relation_values, member_values, group_values, value_faults};
 
+use crate::info_values::{info_values, value_in};
 use crate::message::{
-    CHANGESET, DATE_GRANULARITY, DENSE, GRANULARITY, ID, INFO, KEYS, MEMIDS, NODE_LAT, NODE_LON,
-    NODES, PRIMITIVEGROUP, REFS, RELATIONS, ROLES_SID, TIMESTAMP, TYPES, UID, USER_SID, VALS,
-    WAY_LAT, WAY_LON, WAYS,
+    DATE_GRANULARITY, DENSE, GRANULARITY, ID, INFO, KEYS, MEMIDS, NODE_LAT, NODE_LON, NODES,
+    PRIMITIVEGROUP, REFS, RELATIONS, ROLES_SID, TYPES, VALS, WAY_LAT, WAY_LON, WAYS,
 };
 use pbf_dense::Dense;
 use pbf_wire::{
@@ -32,54 +32,46 @@ fn last_value(message: &[u8], at: u64, number: u64) -> Option<(u64, u64)>
     ensures { result ≡ last_value number (fields_in at message.now) }
 {
     let field = last_field(message, at, number)?;
-    match field.payload {
-        Payload::Number(value) => Some((field.offset, value)),
-        _ => None,
-    }
+    value_in(field)
 }
 
 /// Whether a number in zigzag is out of range.
-fn judge_signed(message: &[u8], at: u64, number: u64) -> Option<Fault>
-    requires { at + length message.now ≤ 2 ^ 63 }
-    ensures { result ≡ least (in_last number signed_range (fields_in at message.now)) }
+fn judge_signed(last: Option<(u64, u64)>) -> Option<Fault>
+    ensures { result ≡ least (of_value signed_range last) }
 {
-    let (place, value) = last_value(message, at, number)?;
+    let (place, value) = last?;
     judge_range(place, unzigzag(value), STORED_LIMIT)
 }
 
 /// Whether a number in two's complement is out of range.
-fn judge_wide(message: &[u8], at: u64, number: u64) -> Option<Fault>
-    requires { at + length message.now ≤ 2 ^ 63 }
-    ensures { result ≡ least (in_last number wide_range (fields_in at message.now)) }
+fn judge_wide(last: Option<(u64, u64)>) -> Option<Fault>
+    ensures { result ≡ least (of_value wide_range last) }
 {
-    let (place, value) = last_value(message, at, number)?;
+    let (place, value) = last?;
     judge_range(place, low_i64(value), STORED_LIMIT)
 }
 
 /// Whether a uid is out of range.
-fn judge_uid(message: &[u8], at: u64) -> Option<Fault>
-    requires { at + length message.now ≤ 2 ^ 63 }
-    ensures { result ≡ least (in_last UID uid_range (fields_in at message.now)) }
+fn judge_uid(last: Option<(u64, u64)>) -> Option<Fault>
+    ensures { result ≡ least (of_value uid_range last) }
 {
-    let (place, value) = last_value(message, at, UID)?;
+    let (place, value) = last?;
     judge_range(place, i64::from(low_i32(value)), UID_LIMIT)
 }
 
 /// Whether the text of a user is none of the table.
-fn judge_user(message: &[u8], at: u64, limit: u64) -> Option<Fault>
-    requires { at + length message.now ≤ 2 ^ 63 }
-    ensures { result ≡ least (in_last USER_SID (λ place v. index_fault limit (v, place)) (fields_in at message.now)) }
+fn judge_user(last: Option<(u64, u64)>, limit: u64) -> Option<Fault>
+    ensures { result ≡ least (of_value (user_range limit) last) }
 {
-    let (place, value) = last_value(message, at, USER_SID)?;
+    let (place, value) = last?;
     judge_index(place, value, limit)
 }
 
 /// Whether a number is below 1.
-fn judge_positive(message: &[u8], at: u64, number: u64, reason: Reason) -> Option<Fault>
-    requires { at + length message.now ≤ 2 ^ 63 }
-    ensures { result ≡ least (in_last number (positive reason) (fields_in at message.now)) }
+fn judge_positive(last: Option<(u64, u64)>, reason: Reason) -> Option<Fault>
+    ensures { result ≡ least (of_value (positive reason) last) }
 {
-    let (place, value) = last_value(message, at, number)?;
+    let (place, value) = last?;
     fault_where(low_i32(value) < 1, place, reason)
 }
 
@@ -88,12 +80,10 @@ fn judge_info(message: &[u8], at: u64, limit: u64) -> Option<Fault>
     requires { at + length message.now ≤ 2 ^ 63 }
     ensures { result ≡ least (info_values limit 0 at message.now) }
 {
-    let times = lesser(
-        judge_wide(message, at, TIMESTAMP),
-        judge_wide(message, at, CHANGESET),
-    );
-    let numbers = lesser(times, judge_uid(message, at));
-    lesser(numbers, judge_user(message, at, limit))
+    let values = info_values(message, at);
+    let times = lesser(judge_wide(values.timestamp), judge_wide(values.changeset));
+    let numbers = lesser(times, judge_uid(values.uid));
+    lesser(numbers, judge_user(values.user_sid, limit))
 }
 
 /// The least fault of an embedded info.
@@ -143,11 +133,11 @@ fn judge_node(message: &[u8], at: u64, limit: u64) -> Option<Fault>
     ensures { result ≡ least (node_values limit 0 at message.now) }
 {
     let entity = lesser(
-        judge_signed(message, at, ID),
+        judge_signed(last_value(message, at, ID)),
         judge_entity(message, at, limit),
     );
-    let lat = lesser(entity, judge_signed(message, at, NODE_LAT));
-    lesser(lat, judge_signed(message, at, NODE_LON))
+    let lat = lesser(entity, judge_signed(last_value(message, at, NODE_LAT)));
+    lesser(lat, judge_signed(last_value(message, at, NODE_LON)))
 }
 
 /// The least fault of the sums of a column.
@@ -164,7 +154,7 @@ fn judge_way(message: &[u8], at: u64, limit: u64) -> Option<Fault>
     ensures { result ≡ least (way_values limit 0 at message.now) }
 {
     let entity = lesser(
-        judge_wide(message, at, ID),
+        judge_wide(last_value(message, at, ID)),
         judge_entity(message, at, limit),
     );
     let refs = lesser(entity, judge_stored_sums(message, at, REFS));
@@ -186,7 +176,7 @@ fn judge_relation(message: &[u8], at: u64, limit: u64) -> Option<Fault>
     ensures { result ≡ least (relation_values limit 0 at message.now) }
 {
     let entity = lesser(
-        judge_wide(message, at, ID),
+        judge_wide(last_value(message, at, ID)),
         judge_entity(message, at, limit),
     );
     let roles = lesser(entity, judge_indexes(message, at, ROLES_SID, limit));
@@ -266,8 +256,11 @@ pub(crate) fn judge_values(payload: &[u8], at: u64, limit: u64) -> Option<Fault>
     ensures { result ≡ least (value_faults limit at payload.now) }
 {
     let scale = lesser(
-        judge_positive(payload, at, GRANULARITY, Reason::Granularity),
-        judge_positive(payload, at, DATE_GRANULARITY, Reason::DateGranularity),
+        judge_positive(last_value(payload, at, GRANULARITY), Reason::Granularity),
+        judge_positive(
+            last_value(payload, at, DATE_GRANULARITY),
+            Reason::DateGranularity,
+        ),
     );
     lesser(scale, judge_parts(payload, at, limit))
 }

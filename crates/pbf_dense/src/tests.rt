@@ -147,6 +147,29 @@ fn a_node_with_metadata(rt: HostRuntime) -> Result<(), Fail> {
     Ok(())
 }
 
+/// The table has the empty text twice.
+#[test]
+fn a_key_that_is_empty(rt: HostRuntime) -> Result<(), Fail> {
+    let table = table_of(
+        &rt,
+        rt.alloc(),
+        b"\x0a\x00\x0a\x01a\x0a\x01b\x0a\x01c\x0a\x01d\x0a\x00",
+    );
+    let message = b"\x0a\x01\x02\x42\x01\x02\x4a\x01\x02\x52\x03\x05\x01\x00";
+    let nodes = read(&rt, message, &table);
+    assert_eq!(rt; tags(rt.alloc(), nodes)?.as_slice(), b"=a /".as_slice());
+    Ok(())
+}
+
+#[test]
+fn a_time_before_1970(rt: HostRuntime) {
+    let table = table_of(&rt, rt.alloc(), &FOUR_TEXTS);
+    let message = b"\x0a\x01\x02\x42\x01\x02\x4a\x01\x02\x2a\x03\x12\x01\x01";
+    let meta = meta(&rt, read(&rt, message, &table));
+    assert_eq!(rt; meta.timestamp, Some(-1));
+    assert_eq!(rt; meta.version, None);
+}
+
 /// A version of which the low 32 bits are -1, the greatest changeset, the least uid, and an entity that isn't visible.
 #[test]
 fn metadata_at_its_limits(rt: HostRuntime) {

@@ -7,13 +7,11 @@ ghost use Rattle.std.specs.List.{list_any};
 ghost use Rattle.pbf_wire.specs.Occurrence.{items};
 ghost use Rattle.pbf_wire.specs.Columns.{joined};
 ghost use Rattle.pbf_wire.specs.Fields.{occurrence};
-ghost use Rattle.pbf_wire.specs.Payload.{content};
 ghost use Rattle.pbf_wire.specs.Least.{least};
 ghost use Rattle.pbf_wire.specs.Signed.{IsWithin, delta_in, low_sint32};
-ghost use Rattle.pbf_wire.specs.Faults.{fault_where, fields_in, leaf_faults, entered, nested_faults, missing, twice, ends_in, column_count, below_fault, below_faults, index_fault, index_faults, range_fault, sum_faults, is_index, index_sum_faults};
+ghost use Rattle.pbf_wire.specs.Faults.{fault_where, fields_in, leaf_faults, entered, nested_faults, missing, twice, column_count, below_fault, below_faults, index_fault, index_faults, range_fault, sum_faults, is_index, index_sum_faults};
 
 use crate::column::Column;
-use crate::count::count_ends;
 use crate::fault::{Fault, Reason};
 use crate::field::{Field, Payload};
 use crate::fields::Fields;
@@ -144,17 +142,6 @@ pub fn judge_twice(message: &[u8], at: u64, number: u64) -> Option<Fault>
     least
 }
 
-/// How many numbers an occurrence of a column has.
-fn count_in(payload: Payload<'_>) -> usize
-    ensures { result ≡ length (ends_in (content payload.entry)) }
-{
-    match payload {
-        Payload::Number(_) => 1,
-        Payload::Bytes(bytes, _) => count_ends(bytes),
-        _ => 0,
-    }
-}
-
 /// How many numbers a column has, in all of its occurrences. No packed payload is decoded: the bytes that end a varint are
 /// counted, many at once.
 pub fn column_count(message: &[u8], at: u64, number: u64) -> usize
@@ -167,7 +154,7 @@ pub fn column_count(message: &[u8], at: u64, number: u64) -> usize
             return count;
         };
         if field.number == number {
-            count += count_in(field.payload);
+            count += field.payload.count();
         }
     }
     count

@@ -1,0 +1,25 @@
+use Rattle.std.proofs.Common.{◌≡◌, ◌+◌, ◌≤◌, ◌^◌, ◌==◌, true, false, map, filter, drop, [], if◌then◌else◌}
+use Rattle.std.specs.List.{list_any}
+use Rattle.std.specs.Prelude.{◌||◌}
+use Rattle.pbf_wire.specs.Occurrence.{found}
+use Rattle.pbf_wire.specs.Cursors.{fields_left}
+use Rattle.pbf_wire.specs.Faults.{fields_in, twice, column_count}
+use Rattle.pbf_block.specs.declared.message.TheConstants.{ID, KEYS, VALS, INFO}
+use Rattle.pbf_block.proofs.CountLemmas.{Adds, InfosLeft}
+use Rattle.pbf_block.proofs.entity_counts.entity_counts.Given as goal
+
+abbrev pub invariant-loop-item : goal.invariant-loop-item
+invariant-loop-item l =
+    let left = found (fields_left l.item-iterator) in
+    let all = fields_in l.at l.message in
+    record {
+      can : (goal.iterator-loop-item).can_next l.item-iterator;
+      ends : (goal.iterator-loop-item).is_finite l.item-iterator;
+      id : (l.counts.has_id || list_any (λ o. o.number == ID) left) ≡ list_any (λ o. o.number == ID) all;
+      infos : InfosLeft l.counts.many_infos l.has_info left all;
+      keys : Adds KEYS l.counts.keys left all;
+      vals : Adds VALS l.counts.vals left all;
+      eighth : Adds 8 l.counts.eighth left all;
+      ninth : Adds 9 l.counts.ninth left all;
+      tenth : Adds 10 l.counts.tenth left all;
+    }

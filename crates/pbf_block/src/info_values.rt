@@ -1,0 +1,56 @@
+//! The numbers of an Info that are judged, found in one pass.
+
+ghost use Rattle.std.specs.Prelude.{◌≡◌, ◌+◌, ◌≤◌, ◌^◌, length};
+ghost use Rattle.pbf_wire.specs.Payload.{content};
+ghost use Rattle.pbf_wire.specs.Faults.{fields_in, value_in};
+ghost use Rattle.pbf_block.specs.InfoValues.{AreLast};
+
+use crate::message::{CHANGESET, TIMESTAMP, UID, USER_SID};
+use pbf_wire::{Field, Fields, Payload};
+
+/// The last time, changeset, uid and user of an Info, each with the place of its field; `None` where the last field of that
+/// number is absent or no number.
+#[derive(Clone, Copy, Debug)]
+pub(crate) struct InfoValues {
+    pub(crate) timestamp: Option<(u64, u64)>,
+    pub(crate) changeset: Option<(u64, u64)>,
+    pub(crate) uid: Option<(u64, u64)>,
+    pub(crate) user_sid: Option<(u64, u64)>,
+}
+
+/// The place of a field, and its number.
+pub(crate) fn value_in(field: Field<'_>) -> Option<(u64, u64)>
+    ensures { result ≡ value_in field.entry.offset (content field.entry.payload) }
+{
+    match field.payload {
+        Payload::Number(value) => Some((field.offset, value)),
+        _ => None,
+    }
+}
+
+/// The numbers of an Info whose first byte stands at `at` in the file.
+#[tactic(auto, using(crate::proofs::ValueLemmas::last_is))]
+pub(crate) fn info_values(message: &[u8], at: u64) -> InfoValues
+    requires { at + length message.now ≤ 2 ^ 63 }
+    ensures { AreLast result (fields_in at message.now) }
+{
+    let mut values = InfoValues {
+        timestamp: None,
+        changeset: None,
+        uid: None,
+        user_sid: None,
+    };
+    for item in Fields::new(message, at) {
+        let Ok(field) = item else {
+            return values;
+        };
+        match field.number {
+            TIMESTAMP => values.timestamp = value_in(field),
+            CHANGESET => values.changeset = value_in(field),
+            UID => values.uid = value_in(field),
+            USER_SID => values.user_sid = value_in(field),
+            _ => {}
+        }
+    }
+    values
+}
