@@ -71,11 +71,10 @@ impl<'a> Iterator for SummedLocations<'a> {
 
     ghost remaining = { item_count summed_locations_left };
 
+    #[tactic(auto, using(crate::proofs::TagLemmas::zip_nothing))]
     fn next(&mut self) -> Option<(i64, i64)> {
-        let mut lats = self.lats;
-        let lat = lats.next()?;
+        let lat = self.lats.next()?;
         let lon = self.lons.next()?;
-        self.lats = lats;
         Some((lat, lon))
     }
 }

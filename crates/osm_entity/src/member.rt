@@ -135,14 +135,11 @@ impl<'a> Iterator for ColumnMembers<'a> {
 
     ghost remaining = { item_count column_members_left };
 
+    #[tactic(auto, using(crate::proofs::TagLemmas::zip_nothing))]
     fn next(&mut self) -> Option<MemberRef<'a>> {
-        let mut kinds = self.kinds;
-        let mut ids = self.ids;
-        let kind = kinds.next()?;
-        let id = ids.next()?;
+        let kind = self.kinds.next()?;
+        let id = self.ids.next()?;
         let role = self.roles.next()?;
-        self.kinds = kinds;
-        self.ids = ids;
         Some(MemberRef {
             kind: member_kind(kind),
             id,

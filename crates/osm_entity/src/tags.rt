@@ -5,7 +5,7 @@ ghost use Rattle.pbf_strings.specs.Texts.{text};
 ghost use Rattle.osm_entity.specs.Sources.{named, owned_tag, tags_left};
 
 use pbf_strings::Table;
-use pbf_wire::{Column, low_u32};
+use pbf_wire::{Column, Fields, low_u32};
 use std::alloc::{AllocError, Global};
 
 /// A key and its value.
@@ -81,15 +81,14 @@ impl<'a> Iterator for RunTags<'a> {
 
     ghost remaining = { item_count run_tags_left };
 
-    #[tactic(auto, using(crate::proofs::TagLemmas::run_steps))]
+    #[tactic(auto, using(crate::proofs::TagLemmas::run_steps), unfolding(crate::proofs::TagLemmas::items_past))]
     fn next(&mut self) -> Option<(&'a [u8], &'a [u8])> {
-        let mut numbers = self.numbers;
-        let key = low_u32(numbers.next()?) as usize;
+        let key = low_u32(self.numbers.next()?) as usize;
         if key == 0 {
+            self.numbers = Column::over(Fields::new(&[], 0), 0);
             return None;
         }
-        let value = low_u32(numbers.next()?) as usize;
-        self.numbers = numbers;
+        let value = low_u32(self.numbers.next()?) as usize;
         Some((self.table.text(key), self.table.text(value)))
     }
 }
@@ -128,11 +127,10 @@ impl<'a> Iterator for PairedTags<'a> {
 
     ghost remaining = { item_count paired_tags_left };
 
+    #[tactic(auto, using(crate::proofs::TagLemmas::zip_nothing))]
     fn next(&mut self) -> Option<(&'a [u8], &'a [u8])> {
-        let mut keys = self.keys;
-        let key = keys.next()?;
+        let key = self.keys.next()?;
         let value = self.values.next()?;
-        self.keys = keys;
         Some((named(self.table, key), named(self.table, value)))
     }
 }

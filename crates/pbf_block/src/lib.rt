@@ -7,6 +7,8 @@ mod block_tests;
 mod entities;
 mod entity_counts;
 mod entity_fields;
+#[cfg(test)]
+mod entity_tests;
 mod group;
 mod header;
 mod header_judge;

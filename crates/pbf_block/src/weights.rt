@@ -1,10 +1,11 @@
 //! The judging of weights: which entities are too heavy to be written.
 
-ghost use Rattle.std.specs.Prelude.{◌≡◌, ◌+◌, ◌≤◌, ◌^◌, length, map};
+ghost use Rattle.std.specs.Prelude.{◌≡◌, ◌+◌, ◌*◌, ◌≤◌, ◌^◌, ℕ, List, [], IsTrue, length, map};
 ghost use Rattle.std.specs.List.{flat_map};
 ghost use Rattle.pbf_wire.specs.Least.{least};
 ghost use Rattle.pbf_wire.specs.Fields.{occurrence};
 ghost use Rattle.pbf_wire.specs.Faults.{fields_in};
+ghost use Rattle.pbf_strings.specs.Texts.{longest as longest_of};
 ghost use Rattle.osm_entity.specs.Entity.{node};
 ghost use Rattle.osm_entity.specs.Views.{entity_of};
 ghost use Rattle.pbf_dense.specs.Nodes.{nodes_along};
@@ -16,9 +17,9 @@ use crate::node::node_in;
 use crate::relation::relation_in;
 use crate::way::way_in;
 use osm_entity::{EntityRef, HIGHEST_WEIGHT, Scale};
-use pbf_dense::Dense;
+use pbf_dense::{Dense, KEYS_VALS};
 use pbf_strings::Table;
-use pbf_wire::{Fault, Field, Fields, Payload, Reason, fault_where, lesser};
+use pbf_wire::{Fault, Field, Fields, Payload, Reason, column_count, fault_where, lesser};
 
 /// Whether an entity is too heavy.
 fn judge_weight(entity: EntityRef<'_>, place: u64) -> Option<Fault>
@@ -46,12 +47,35 @@ fn judge_dense_weight<'a>(
     least
 }
 
+/// Whether entities of so many tags, refs, locations and members can't be too heavy, where no text is longer than `longest`.
+#[tactic(auto, using(crate::proofs::LightLemmas::product_small))]
+fn are_light(parts: u64, longest: u64) -> bool
+    ensures { IsTrue result → 160 + longest + parts * (32 + 2 * longest) ≤ HIGHEST_WEIGHT }
+{
+    parts <= HIGHEST_WEIGHT
+        && longest <= HIGHEST_WEIGHT
+        && 160 + longest + parts * (32 + 2 * longest) <= HIGHEST_WEIGHT
+}
+
+/// Whether no entity of a field can be too heavy, by how much there is of it, where no text is longer than `longest`. None is
+/// looked at.
+#[tactic(auto, using(crate::proofs::LightLemmas::dense_member, crate::proofs::LightLemmas::other_member))]
+fn is_light(field: Field<'_>, longest: u64) -> bool
+    ensures { (table : List (List ℕ)) (scale : Scale) → longest_of table ≤ longest → IsTrue result → member_weights along table scale (occurrence field.entry) ≡ [] }
+{
+    let Payload::Bytes(message, at) = field.payload else {
+        return false;
+    };
+    if field.number == DENSE {
+        let numbers = column_count(message, at, KEYS_VALS) as u64;
+        return are_light(numbers / 2, longest);
+    }
+    let length = message.len() as u64;
+    length <= HIGHEST_WEIGHT && are_light(3 * length, longest)
+}
+
 /// `EntityLarge` at a field of a group, where one of its entities is too heavy.
-pub(crate) fn judge_member_weight<'a>(
-    field: Field<'a>,
-    table: &'a Table<'a>,
-    scale: Scale,
-) -> Option<Fault>
+fn judge_members<'a>(field: Field<'a>, table: &'a Table<'a>, scale: Scale) -> Option<Fault>
     ensures { result ≡ least (member_weights along table.now scale (occurrence field.entry)) }
 {
     let Payload::Bytes(message, at) = field.payload else {
@@ -70,6 +94,22 @@ pub(crate) fn judge_member_weight<'a>(
     }
 }
 
+/// The same, where no text is longer than `longest`: most fields are short enough to be passed over.
+pub(crate) fn judge_member_weight<'a>(
+    field: Field<'a>,
+    table: &'a Table<'a>,
+    scale: Scale,
+    longest: u64,
+) -> Option<Fault>
+    requires { longest_of table.now ≤ longest }
+    ensures { result ≡ least (member_weights along table.now scale (occurrence field.entry)) }
+{
+    if is_light(field, longest) {
+        return None;
+    }
+    judge_members(field, table, scale)
+}
+
 /// The least weight fault of a group whose first byte stands at `at` in the file.
 #[tactic(auto, using(crate::proofs::Parts::least_more, crate::proofs::Parts::lesser_nothing))]
 fn judge_group_weights<'a>(
@@ -77,8 +117,10 @@ fn judge_group_weights<'a>(
     at: u64,
     table: &'a Table<'a>,
     scale: Scale,
+    longest: u64,
 ) -> Option<Fault>
-    requires { at + length message.now ≤ 2 ^ 63 }
+    requires placed { at + length message.now ≤ 2 ^ 63 }
+    requires short { longest_of table.now ≤ longest }
     ensures { result ≡ least (flat_map (member_weights along table.now scale) (fields_in at message.now)) }
 {
     let mut least = None;
@@ -86,26 +128,33 @@ fn judge_group_weights<'a>(
         let Ok(field) = item else {
             return least;
         };
-        least = lesser(least, judge_member_weight(field, table, scale));
+        least = lesser(least, judge_member_weight(field, table, scale, longest));
     }
     least
 }
 
 /// The least weight fault of a field of the payload, which may be a group.
-fn judge_field_weights<'a>(field: Field<'a>, table: &'a Table<'a>, scale: Scale) -> Option<Fault>
+fn judge_field_weights<'a>(
+    field: Field<'a>,
+    table: &'a Table<'a>,
+    scale: Scale,
+    longest: u64,
+) -> Option<Fault>
+    requires { longest_of table.now ≤ longest }
     ensures { result ≡ least (group_weights along table.now scale (occurrence field.entry)) }
 {
     if field.number != PRIMITIVEGROUP {
         return None;
     }
     match field.payload {
-        Payload::Bytes(message, at) => judge_group_weights(message, at, table, scale),
+        Payload::Bytes(message, at) => judge_group_weights(message, at, table, scale, longest),
         _ => None,
     }
 }
 
 /// The least weight fault of a payload whose first byte stands at `at` in the file: `EntityLarge` at the first field of a
-/// group with an entity above [`HIGHEST_WEIGHT`]. Goes through all entities and takes no memory.
+/// group with an entity above [`HIGHEST_WEIGHT`]. Goes through the texts, and through those entities that may be too heavy by the
+/// length of their message. Takes no memory.
 #[tactic(auto, using(crate::proofs::Parts::least_more, crate::proofs::Parts::lesser_nothing))]
 pub(crate) fn judge_weights<'a>(
     payload: &'a [u8],
@@ -116,12 +165,13 @@ pub(crate) fn judge_weights<'a>(
     requires { at + length payload.now ≤ 2 ^ 63 }
     ensures { result ≡ least (weight_faults along table.now scale (fields_in at payload.now)) }
 {
+    let longest = table.longest() as u64;
     let mut least = None;
     for item in Fields::new(payload, at) {
         let Ok(field) = item else {
             return least;
         };
-        least = lesser(least, judge_field_weights(field, table, scale));
+        least = lesser(least, judge_field_weights(field, table, scale, longest));
     }
     least
 }

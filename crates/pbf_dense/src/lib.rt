@@ -14,4 +14,5 @@ mod values;
 mod weights;
 
 pub use dense::Dense;
+pub use message::KEYS_VALS;
 pub use phase::Phase;

@@ -11,7 +11,8 @@ pub(crate) const LAT: u64 = 8;
 
 pub(crate) const LON: u64 = 9;
 
-pub(crate) const KEYS_VALS: u64 = 10;
+/// The column of numbers that name the keys and values of dense nodes.
+pub const KEYS_VALS: u64 = 10;
 
 /// How the fields of a DenseNodes are stored.
 pub(crate) const DENSE_KINDS: [(u64, Kind); 5] = [

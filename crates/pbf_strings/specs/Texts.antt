@@ -1,5 +1,5 @@
 -- The texts of a StringTable.
-use Rattle.std.specs.Prelude.{ℕ, ◌<◌, ◌≤◌, List, [], ◌∷◌, length, drop, nat_lt, if◌then◌else◌, Option, Some, None, Ok, Err, unwrap_or, slice_get, vec_len}
+use Rattle.std.specs.Prelude.{ℕ, ◌<◌, ◌≤◌, max, List, [], ◌∷◌, length, drop, nat_lt, if◌then◌else◌, Option, Some, None, Ok, Err, unwrap_or, slice_get, vec_len}
 use Rattle.std.specs.Option.{option_or}
 use Rattle.std.specs.Global.{Vec}
 use Rattle.pbf_wire.specs.declared.fault.Fault.{Fault}
@@ -17,6 +17,11 @@ texts message = each 1 (found (items 0 message))
 -- text i, or the empty text where there is none
 abbrev pub text : List (List ℕ) → ℕ → List ℕ
 text table i = unwrap_or (slice_get table i) []
+
+-- the length of the longest text
+abbrev pub longest : List (List ℕ) → ℕ
+longest [] = 0
+longest (first ∷ rest) = max (length first) (longest rest)
 
 abbrev pub table_kinds : List (ℕ × Kind)
 table_kinds = (1, kind.Bytes) ∷ []

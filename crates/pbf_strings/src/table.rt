@@ -5,7 +5,7 @@ ghost use Rattle.std.specs.Option.{option_map};
 ghost use Rattle.pbf_wire.specs.declared.fault.Fault.{Fault};
 ghost use Rattle.pbf_wire.specs.declared.fault.ReadFault.TheVariants.{Refused};
 ghost use Rattle.pbf_wire.specs.Occurrence.{items};
-ghost use Rattle.pbf_strings.specs.Texts.{text, texts, first_text, text_at, count_fault, table_fault};
+ghost use Rattle.pbf_strings.specs.Texts.{text, texts, longest, first_text, text_at, count_fault, table_fault};
 ghost use Rattle.pbf_wire.specs.Wire.{judged};
 
 use pbf_wire::{Fault, Fields, Kind, Payload, ReadFault, Reason, judge_wire};
@@ -165,6 +165,17 @@ impl<'a> Table<'a> {
         ensures { result.now ≡ text self.now index }
     {
         self.get(index).unwrap_or(&[])
+    }
+
+    /// The length of the longest text, and 0 where there is none. Goes through all texts and takes no memory.
+    pub fn longest(&self) -> usize
+        ensures { result ≡ longest self.now }
+    {
+        let mut longest = 0;
+        for place in self.places.iter() {
+            longest = longest.max(text_at(self.message, *place as usize).len());
+        }
+        longest
     }
 
     /// How many bytes the table holds: four for each text.

@@ -106,6 +106,35 @@ ends_entries (suc fuel) (b ∷ bs) le e = ends_next (b ∷ bs) (varint_at (b ∷
 pub ends_are_numbers : (bytes : List ℕ) → entry_fault (entries bytes) ≡ None → length (ends bytes) ≡ length (read_entries (entries bytes))
 ends_are_numbers bytes e = ends_entries (length bytes) bytes (omega arith) e
 
+entries_next : (m : List ℕ) (r : Result (ℕ × ℕ) Reason) → 0 < length m → varint_at m ≡ r
+    → ((n : ℕ) → 0 < n → length (read_entries (entries (drop n m))) ≤ length (ends (drop n m))) → length (read_entries (entries m)) ≤ length (ends m)
+entries_next m (Err r) some is more = omega (arith, ap (λ w. length (read_entries w)) (entries_err m r some is))
+entries_next m (Ok p) some is more =
+    let f = varint_ok m p.0 p.1 is in
+    omega (arith, ends_parted p.1 m, end_once (take p.1 m) f.spelled.ended, more p.1 f.positive, ap (λ w. length (read_entries w)) (entries_ok m p.0 p.1 f.positive f.within is))
+
+entries_ended : (fuel : ℕ) (bytes : List ℕ) → length bytes ≤ fuel → length (read_entries (entries bytes)) ≤ length (ends bytes)
+entries_ended fuel [] le = omega (arith, ap (λ w. length (read_entries w)) (entries_none [] refl))
+entries_ended zero (b ∷ bs) le = absurd (omega arith)
+entries_ended (suc fuel) (b ∷ bs) le = entries_next (b ∷ bs) (varint_at (b ∷ bs)) (omega arith) refl (λ n positive. entries_ended fuel (drop n (b ∷ bs)) (omega (arith, length-drop n (b ∷ bs), positive)))
+
+ended_in : (c : Content) → length (numbers_in c) ≤ length (ends_in c)
+ended_in (Number v) = omega arith
+ended_in (Eight bytes) = omega arith
+ended_in (Four bytes) = omega arith
+ended_in (Bytes bytes at) = entries_ended (length bytes) bytes (omega arith)
+
+one_ended : (k : ℕ) (o : Occurrence) → length (column_of k o) ≤ length (ends_of k o)
+one_ended k o = elim (o.number == k) as (λ b. length (if b then placed o.place (numbers_in o.content) else []) ≤ length (if b then ends_in o.content else [])) [
+    | true ↦ omega (arith, length-map {B = ℕ × ℕ} (numbers_in o.content) (λ v. (v, o.place)), ended_in o.content)
+    | false ↦ omega arith
+  ]
+
+-- a column has no more numbers than are counted, whatever is wrong with it
+pub length_counted : (k : ℕ) (os : List Occurrence) → length (joined k os) ≤ column_count k os
+length_counted k [] = omega arith
+length_counted k (o ∷ os) = omega (arith, length-append (column_of k o) (joined k os), length-append (ends_of k o) (flat_map (ends_of k) os), one_ended k o, length_counted k os)
+
 count_in : (c : Content) → reason_in (Some kind.Column) c ≡ None → length (ends_in c) ≡ length (numbers_in c)
 count_in (Number v) e = refl
 count_in (Eight bytes) e = absurd (cc)
@@ -130,7 +159,7 @@ module _ (kinds : List (ℕ × Kind)) (inner : Occurrence → List Fault) where
 one_counted : (k : ℕ) (o : Occurrence) → (o.number ≡ k → reason_in (Some kind.Column) o.content ≡ None) → length (ends_of k o) ≡ length (column_of k o)
 one_counted k o h = by (o.number == k) refl where
   by : (b : Bool) → (o.number == k) ≡ b → length (if b then ends_in o.content else []) ≡ length (if b then placed o.place (numbers_in o.content) else [])
-  by true is = count_in o.content (h (grind arith)) ∙ sym (length-map (numbers_in o.content) (λ v. (v, o.place)))
+  by true is = count_in o.content (h (grind arith)) ∙ sym (length-map {B = ℕ × ℕ} (numbers_in o.content) (λ v. (v, o.place)))
   by false is = refl
 
 -- the count of a column whose fields have its type is the number of its entries

@@ -4,6 +4,7 @@ ghost use Rattle.std.specs.Prelude.{◌≡◌, ◌≤ℤ◌, pos};
 ghost use Rattle.pbf_wire.specs.Signed.{delta_in};
 
 use crate::column::Column;
+use crate::fields::Fields;
 use crate::signed::{low_sint32, unzigzag};
 use crate::sum::added;
 
@@ -74,11 +75,13 @@ impl<'a> Iterator for Sums<'a> {
 
     ghost remaining = { item_count sums_left };
 
+    #[tactic(auto, unfolding(crate::specs::Occurrence::items_past))]
     fn next(&mut self) -> Option<i64> {
-        let mut entries = self.entries;
-        let number = entries.next()?;
-        let total = added(self.total, delta_in(self.narrow, number), self.limit)?;
-        self.entries = entries;
+        let number = self.entries.next()?;
+        let Some(total) = added(self.total, delta_in(self.narrow, number), self.limit) else {
+            self.entries = Column::over(Fields::new(&[], 0), 0);
+            return None;
+        };
         self.total = total;
         Some(total)
     }
