@@ -1,8 +1,8 @@
 -- Counts of a message, field by field.
-use Rattle.std.proofs.Common.{◌≡◌, ◌+◌, ◌≤◌, ◌^◌, ◌==◌, length, ℕ, Bool, true, false, List, [], ◌∷◌, drop, refl, ap, sym, ◌∙◌, arith}
+use Rattle.std.proofs.Common.{◌≡◌, ◌+◌, ◌≤◌, ◌^◌, ◌==◌, length, ℕ, Bool, false, List, drop, arith}
 use Rattle.std.specs.Prelude.{filter, if◌then◌else◌}
 use Rattle.pbf_wire.specs.Occurrence.{Occurrence}
-use Rattle.pbf_wire.specs.Faults.{fields_in, twice, column_count}
+use Rattle.pbf_wire.specs.Faults.{fields_in, column_count}
 use Rattle.pbf_wire.proofs.FaultLemmas.{count_short}
 use Rattle.pbf_block.specs.declared.message.TheConstants.{INFO}
 

@@ -1,5 +1,5 @@
 -- How many fields and numbers the message of a node, a way or a relation has.
-use Rattle.std.specs.Prelude.{◌≡◌, ◌==◌, Bool, false, List, [], filter}
+use Rattle.std.specs.Prelude.{◌≡◌, ◌==◌, false, List, []}
 use Rattle.std.specs.List.{list_any}
 use Rattle.pbf_wire.specs.Occurrence.{Occurrence}
 use Rattle.pbf_wire.specs.Faults.{twice, column_count}

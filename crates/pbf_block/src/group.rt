@@ -15,7 +15,7 @@ use pbf_strings::Table;
 use pbf_wire::{Field, Fields, Payload};
 
 /// The next field. After a fault there are no more.
-#[tactic(auto, unfolding(crate::proofs::Shared::items_past))]
+#[tactic(auto, unfolding(crate::proofs::Parts::items_past))]
 pub(crate) fn next_field<'a>(fields: &mut Fields<'a>) -> Option<Field<'a>>
     ensures { MatchOption result ((found (fields_left fields.old) ≡ []) × (found (fields_left fields.new) ≡ []))
         (λ field. found (fields_left fields.old) ≡ occurrence field ∷ found (fields_left fields.new)) }

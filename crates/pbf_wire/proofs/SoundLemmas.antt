@@ -126,9 +126,9 @@ ended_in (Bytes bytes at) = entries_ended (length bytes) bytes (omega arith)
 
 one_ended : (k : ℕ) (o : Occurrence) → length (column_of k o) ≤ length (ends_of k o)
 one_ended k o = elim (o.number == k) as (λ b. length (if b then placed o.place (numbers_in o.content) else []) ≤ length (if b then ends_in o.content else [])) [
-    | true ↦ omega (arith, length-map {B = ℕ × ℕ} (numbers_in o.content) (λ v. (v, o.place)), ended_in o.content)
-    | false ↦ omega arith
-  ]
+  | true ↦ omega (arith, length-map {B = ℕ × ℕ} (numbers_in o.content) (λ v. (v, o.place)), ended_in o.content)
+  | false ↦ omega arith
+]
 
 -- a column has no more numbers than are counted, whatever is wrong with it
 pub length_counted : (k : ℕ) (os : List Occurrence) → length (joined k os) ≤ column_count k os
@@ -182,7 +182,7 @@ later k o os = last_or o (filter (λ o. o.number == k) os)
 last_from : (P : Occurrence → Type 0) (k : ℕ) (os : List Occurrence) (before : Option Occurrence) → AllByRecursion P os → IfThere P k before → IfThere P k (later k before os)
 last_from P k [] before all h = h
 last_from P k (o ∷ os) before all h = chosen (o.number == k) refl
-  (λ same. last_from P k os (Some o) all.1 (all.0, same)) (last_from P k os before all.1 h)
+    (λ same. last_from P k os (Some o) all.1 (all.0, same)) (last_from P k os before all.1 h)
   where
     chosen : (b : Bool) → (o.number == k) ≡ b → (o.number ≡ k → IfThere P k (later k (Some o) os)) → IfThere P k (later k before os) → IfThere P k (last_or before (if b then o ∷ filter (λ o. o.number == k) os else filter (λ o. o.number == k) os))
     chosen true e taken skipped = taken (grind arith)

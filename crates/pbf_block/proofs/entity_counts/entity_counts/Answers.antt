@@ -1,7 +1,5 @@
-use Rattle.std.proofs.Common.{List, subst, sym, ap, ◌∙◌, refl}
+use Rattle.std.proofs.Common.{ap, ◌∙◌, refl}
 use Rattle.pbf_wire.specs.Cursors.{fields_left}
-use Rattle.pbf_wire.specs.Occurrence.{Item, found}
-use Rattle.pbf_wire.specs.Faults.{fields_in}
 use Rattle.pbf_block.specs.declared.message.TheConstants.{KEYS, VALS}
 use Rattle.pbf_block.proofs.CountLemmas.{adds_all}
 use Rattle.pbf_block.proofs.entity_counts.entity_counts.Goals as goal

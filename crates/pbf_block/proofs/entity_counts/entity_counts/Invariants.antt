@@ -1,10 +1,10 @@
-use Rattle.std.proofs.Common.{◌≡◌, ◌+◌, ◌≤◌, ◌^◌, ◌==◌, true, false, map, filter, drop, [], if◌then◌else◌}
+use Rattle.std.proofs.Common.{◌≡◌, ◌==◌}
 use Rattle.std.specs.List.{list_any}
 use Rattle.std.specs.Prelude.{◌||◌}
 use Rattle.pbf_wire.specs.Occurrence.{found}
 use Rattle.pbf_wire.specs.Cursors.{fields_left}
-use Rattle.pbf_wire.specs.Faults.{fields_in, twice, column_count}
-use Rattle.pbf_block.specs.declared.message.TheConstants.{ID, KEYS, VALS, INFO}
+use Rattle.pbf_wire.specs.Faults.{fields_in}
+use Rattle.pbf_block.specs.declared.message.TheConstants.{ID, KEYS, VALS}
 use Rattle.pbf_block.proofs.CountLemmas.{Adds, InfosLeft}
 use Rattle.pbf_block.proofs.entity_counts.entity_counts.Given as goal
 
