@@ -28,6 +28,7 @@ fn four_texts(rt: HostRuntime) {
     };
     assert_eq!(rt; table.len(), 4);
     assert_eq!(rt; table.held(), 16);
+    assert_eq!(rt; table.longest(), 7);
     assert!(rt; !table.is_empty());
     assert_eq!(rt; table.get(0), Some(b"".as_slice()));
     assert_eq!(rt; table.get(1), Some(b"highway".as_slice()));
