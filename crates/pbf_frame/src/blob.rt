@@ -11,7 +11,9 @@ ghost use Rattle.pbf_frame.specs.Header.{text_of};
 ghost use Rattle.pbf_frame.specs.Blob.{compression_of, reason_faults, compressed, raw_faults, blob_faults, blob_fault, raw_of, raw_at};
 
 use crate::header::text_of;
-use pbf_wire::{Fault, Field, Fields, Kind, Payload, Reason, fault_where, judge_wire, last_field, lesser};
+use pbf_wire::{
+    Fault, Field, Fields, Kind, Payload, Reason, fault_where, judge_wire, last_field, lesser,
+};
 
 // The fields of a Blob.
 pub(crate) const RAW: u64 = 1;

@@ -10,7 +10,9 @@ ghost use Rattle.pbf_wire.specs.Reading.{last_of};
 ghost use Rattle.pbf_frame.specs.Header.{text_of, number_in, size_within, size_of, or_nothing, kind_of, missing, size_faults, header_faults, head_of};
 
 use crate::frame::FrameKind;
-use pbf_wire::{Fault, Field, Kind, Payload, Reason, fault_where, judge_wire, last_field, lesser, low_i32};
+use pbf_wire::{
+    Fault, Field, Kind, Payload, Reason, fault_where, judge_wire, last_field, lesser, low_i32,
+};
 
 // The fields of a BlobHeader.
 pub(crate) const TYPE: u64 = 1;
