@@ -1,5 +1,5 @@
 -- The decoded entities of a file, and their numbers.
-use Rattle.std.specs.Prelude.{◌≡◌, ℕ, ◌+◌, ◌-◌, ◌^◌, min, List, [], Option}
+use Rattle.std.specs.Prelude.{ℕ, ◌+◌, ◌-◌, ◌^◌, min, List, []}
 use Rattle.std.specs.List.{flat_map, sum_by}
 use Rattle.osm_entity.specs.Entity.{EntitySpec, node, way, relation}
 use Rattle.pbf_block.specs.Payload.{entities}

@@ -4,3 +4,4 @@ pub mod Listing
 pub mod Judged
 pub mod Counting
 pub mod Steps
+pub mod Hashing

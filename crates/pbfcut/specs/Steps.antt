@@ -1,8 +1,8 @@
 -- What one frame does to a pass, and what a pass is after all frames.
 use Rattle.std.specs.Prelude.{◌≡◌, ℕ, List, [], ◌∷◌, Bool, true, false, Option, Some, None}
+use Rattle.std.specs.List.{flat_map, last_or}
 use Rattle.std.specs.Option.{option_map}
-use Rattle.pbf_wire.specs.declared.fault.Fault.{Fault}
-use Rattle.pbf_block.specs.Header.{header_of, header_in}
+use Rattle.pbf_block.specs.Header.{HeaderSpec, header_of, header_in}
 use Rattle.pbf_frame.specs.declared.frame.FrameKind.{FrameKind}
 use Rattle.pbf_frame.specs.declared.frame.FrameKind.TheVariants as kind
 use Rattle.pbf_frame.specs.declared.stop.Stop.{Stop}
@@ -45,12 +45,31 @@ StepStops known before now (Changed pass) = ⊥
 
 -- ---- all frames
 
--- the file has no fault, and the counts are those of its entities
+-- the header of a payload that begins at this place, with the place
+abbrev pub headers_of : FrameKind → ℕ → List ℕ → List (ℕ × HeaderSpec)
+headers_of kind.Header at payload = (at, header_in at payload) ∷ []
+headers_of kind.Data at payload = []
+headers_of kind.Other at payload = []
+
+abbrev pub frame_headers : FrameSpec → List (ℕ × HeaderSpec)
+frame_headers f = headers_of (frame_kind f) (frame_payload_at f) (frame_payload f)
+
+-- the file's header; a file without a fault has one
+abbrev pub file_header : List FrameSpec → Option (ℕ × HeaderSpec)
+file_header frames = last_or None (flat_map frame_headers frames)
+
+-- a pass holds this header
+abbrev pub HoldsHeader : Option (ℕ × HeaderSpec) → Pass → Type 0
+HoldsHeader None pass = pass.header ≡ None
+HoldsHeader (Some header) pass = (option_map header_of pass.header ≡ Some header.1) × (pass.header_at ≡ header.0)
+
+-- the counts are those of the entities of a file without a fault
 abbrev pub CountsFile : Option Verdict → Counts → Type 0
 CountsFile known counts = (frames : List FrameSpec) × Says known (frames, None) × (counts ≡ counts_of (decoded frames))
 
-abbrev pub CountsAll : Option Verdict → Pass → Type 0
-CountsAll known pass = CountsFile known pass.counts
+-- the same, and the header is that of the file
+abbrev pub PassesFile : Option Verdict → Pass → Type 0
+PassesFile known pass = (frames : List FrameSpec) × Says known (frames, None) × (pass.counts ≡ counts_of (decoded frames)) × HoldsHeader (file_header frames) pass
 
 -- each stop of a pass that reads has its cause; a refusal is the first fault of the file
 abbrev pub PassStops : Option Verdict → ℕ → ℕ → Stop → Type 0

@@ -2,7 +2,10 @@
 #![tactic(auto)]
 
 mod blobs;
+#[cfg(test)]
+mod check_tests;
 mod counts;
+mod hashed;
 mod number;
 mod passes;
 mod quoted;
