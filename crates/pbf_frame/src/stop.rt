@@ -2,8 +2,9 @@
 
 ghost use Rattle.std.specs.Prelude.{◌≡◌};
 ghost use Rattle.pbf_frame.specs.declared.stop.Stop.TheVariants as stop;
+ghost use Rattle.pbf_frame.specs.Stops.{stop_of};
 
-use pbf_wire::Fault;
+use pbf_wire::{Fault, ReadFault};
 use std::alloc::{AllocError, AllocFailed};
 use thiserror::Error;
 
@@ -42,6 +43,17 @@ impl From<Fault> for Stop {
 
     fn from(fault: Fault) -> Stop {
         Stop::Refused(fault)
+    }
+}
+
+impl From<ReadFault> for Stop {
+    ghost from_gives = { λ fault e. e ≡ stop_of fault };
+
+    fn from(fault: ReadFault) -> Stop {
+        match fault {
+            ReadFault::Refused(fault) => Stop::Refused(fault),
+            ReadFault::Memory => Stop::Memory,
+        }
     }
 }
 

@@ -1,1 +1,3 @@
 pub mod ListingLemmas
+pub mod CountLemmas
+pub mod StepLemmas

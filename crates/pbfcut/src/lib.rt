@@ -2,9 +2,18 @@
 #![tactic(auto)]
 
 mod blobs;
+#[cfg(test)]
+mod check_tests;
+mod counts;
+mod hashed;
 mod number;
+mod passes;
 mod quoted;
+mod steps;
 #[cfg(test)]
 mod tests;
 
 pub use blobs::list_blobs;
+pub use counts::{Counts, Pass};
+pub use passes::check;
+pub use steps::step_count;

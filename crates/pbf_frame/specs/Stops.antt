@@ -1,0 +1,9 @@
+-- The stop that a refused message makes.
+use Rattle.pbf_wire.specs.declared.fault.ReadFault.{ReadFault}
+use Rattle.pbf_wire.specs.declared.fault.ReadFault.TheVariants as read
+use Rattle.pbf_frame.specs.declared.stop.Stop.{Stop}
+use Rattle.pbf_frame.specs.declared.stop.Stop.TheVariants as stop
+
+abbrev pub stop_of : ReadFault → Stop
+stop_of (read.Refused f) = stop.Refused f
+stop_of read.Memory = stop.Memory

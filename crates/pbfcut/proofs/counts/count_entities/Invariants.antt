@@ -1,0 +1,11 @@
+use Rattle.pbf_block.specs.Cursors.{entities_left}
+use Rattle.pbfcut.proofs.CountLemmas.{CountedOn}
+use Rattle.pbfcut.proofs.counts.count_entities.Given as goal
+
+-- the counts are those of the entities that are gone
+abbrev pub invariant-loop-entity : goal.invariant-loop-entity
+invariant-loop-entity l = record {
+  can : (goal.iterator-loop-entity).can_next l.entity-iterator;
+  ends : (goal.iterator-loop-entity).is_finite l.entity-iterator;
+  so_far : CountedOn l.counts (entities_left l.entity-iterator) (entities_left l.fn.entities);
+}

@@ -1,0 +1,132 @@
+//! What a pass takes of the frames: the header, and the numbers of entities.
+
+ghost use Rattle.std.specs.Prelude.{◌≡◌, ◌+◌, ◌≤◌, ◌<◌, ◌^◌, [], None, Some, Err, OnOk, length};
+ghost use Rattle.pbf_frame.specs.declared.frame.FrameKind.TheVariants as kind;
+ghost use Rattle.pbf_wire.specs.declared.fault.Fault.{Fault};
+ghost use Rattle.pbf_wire.specs.declared.fault.ReadFault.TheVariants.{Refused};
+ghost use Rattle.osm_entity.specs.Views.{entity_of};
+ghost use Rattle.pbf_block.specs.Cursors.{entities_left};
+ghost use Rattle.pbfcut.specs.Judged.{payload_fault_of};
+ghost use Rattle.pbfcut.specs.Counting.{counted_with, count_one, counts_of};
+ghost use Rattle.pbfcut.specs.Steps.{IsFresh, TakesPayload};
+
+use osm_entity::EntityRef;
+use pbf_block::{Block, Entities, Header};
+use pbf_frame::{Frame, FrameKind};
+use pbf_wire::ReadFault;
+use std::alloc::Global;
+
+/// The numbers of nodes, ways and relations, each the greatest `u64` where there are more.
+#[derive(Clone, Copy, Debug, PartialEq, Eq)]
+pub struct Counts {
+    pub nodes: u64,
+    pub ways: u64,
+    pub relations: u64,
+}
+
+impl Counts {
+    /// Nothing is counted yet.
+    fn none() -> Counts
+        ensures { result ≡ counts_of [] }
+    {
+        Counts {
+            nodes: 0,
+            ways: 0,
+            relations: 0,
+        }
+    }
+
+    /// Counts one entity more.
+    fn take(&mut self, entity: &EntityRef<'_>)
+        ensures { self.new ≡ count_one self.old (entity_of entity.now) }
+    {
+        match entity {
+            EntityRef::Node(_) => self.nodes = self.nodes.saturating_add(1),
+            EntityRef::Way(_) => self.ways = self.ways.saturating_add(1),
+            EntityRef::Relation(_) => self.relations = self.relations.saturating_add(1),
+        }
+    }
+
+    /// Counts what the other counts.
+    fn add(&mut self, other: Counts)
+        ensures { self.new ≡ counted_with self.old other }
+    {
+        self.nodes = self.nodes.saturating_add(other.nodes);
+        self.ways = self.ways.saturating_add(other.ways);
+        self.relations = self.relations.saturating_add(other.relations);
+    }
+}
+
+/// How many entities there are.
+fn count_entities(entities: Entities<'_>) -> Counts
+    ensures { result ≡ counts_of (entities_left entities.entry) }
+{
+    let mut counts = Counts::none();
+    for entity in entities {
+        counts.take(&entity);
+    }
+    counts
+}
+
+/// What lasts from frame to frame of a pass.
+#[derive(Debug, Drop)]
+pub struct Pass {
+    /// The header, once its frame was met.
+    pub header: Option<Header>,
+    /// Where in the file the HeaderBlock begins; 0 before it.
+    pub header_at: u64,
+    /// The entities met so far.
+    pub counts: Counts,
+}
+
+impl Pass {
+    /// A pass that has met no frame.
+    pub fn new() -> Pass
+        ensures { IsFresh result }
+    {
+        Pass {
+            header: None,
+            header_at: 0,
+            counts: Counts::none(),
+        }
+    }
+
+    /// Takes the header of a frame, or counts its entities. Refuses the first fault of its payload.
+    pub(crate) fn take(&mut self, alloc: Global, frame: &Frame<'_>) -> Result<(), ReadFault>
+        ensures taken { OnOk result (TakesPayload frame.now.kind frame.now.payload_at frame.now.payload.now self.old self.new) }
+        ensures sound { OnOk result (payload_fault_of frame.now.kind frame.now.payload_at frame.now.payload.now ≡ None) }
+        ensures refused { (fault : Fault) → result ≡ Err (Refused fault) → payload_fault_of frame.now.kind frame.now.payload_at frame.now.payload.now ≡ Some fault }
+    {
+        match frame.kind {
+            FrameKind::Header => self.take_header(alloc, frame.payload, frame.payload_at)?,
+            FrameKind::Data => self.take_block(alloc, frame.payload, frame.payload_at)?,
+            FrameKind::Other => {}
+        }
+        Ok(())
+    }
+
+    /// Takes the header of a HeaderBlock.
+    fn take_header(&mut self, alloc: Global, payload: &[u8], at: u64) -> Result<(), ReadFault>
+        requires { at + length payload.now ≤ 2 ^ 63 }
+        ensures taken { OnOk result (TakesPayload kind.Header at payload.now self.old self.new) }
+        ensures sound { OnOk result (payload_fault_of kind.Header at payload.now ≡ None) }
+        ensures refused { (fault : Fault) → result ≡ Err (Refused fault) → payload_fault_of kind.Header at payload.now ≡ Some fault }
+    {
+        self.header = Some(Header::read(alloc, payload, at)?);
+        self.header_at = at;
+        Ok(())
+    }
+
+    /// Counts the entities of a PrimitiveBlock.
+    fn take_block(&mut self, alloc: Global, payload: &[u8], at: u64) -> Result<(), ReadFault>
+        requires placed { at + length payload.now ≤ 2 ^ 63 }
+        requires short { length payload.now < 33554432 }
+        ensures taken { OnOk result (TakesPayload kind.Data at payload.now self.old self.new) }
+        ensures sound { OnOk result (payload_fault_of kind.Data at payload.now ≡ None) }
+        ensures refused { (fault : Fault) → result ≡ Err (Refused fault) → payload_fault_of kind.Data at payload.now ≡ Some fault }
+    {
+        let block = Block::read(alloc, payload, at)?;
+        self.counts.add(count_entities(block.entities()));
+        Ok(())
+    }
+}

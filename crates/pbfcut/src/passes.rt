@@ -1,0 +1,58 @@
+//! Whole passes, as loops over steps.
+
+ghost use Rattle.std.specs.Prelude.{◌≡◌, ◌≤◌, ℕ, List, None, IfOk, IfErr, IfSome, OnOk};
+ghost use Rattle.sha2.specs.Sha256.{sha256};
+ghost use Rattle.pbf_frame.specs.Devices.{IsAtEnd};
+ghost use Rattle.pbf_frame.specs.Next.{IsReading, verdict};
+ghost use Rattle.pbfcut.specs.Judged.{fully_known, judged_file};
+ghost use Rattle.pbfcut.specs.Steps.{CountsFile, PassesFile, PassStops};
+
+use crate::counts::{Counts, Pass};
+use crate::hashed::Hashed;
+use crate::steps::step_count;
+use pbf_frame::{Feed, FrameReader, Stop};
+use std::alloc::Global;
+
+/// Takes the frames that are left.
+fn count_all<F: Feed>(alloc: Global, reader: &mut FrameReader<F>) -> Result<Pass, Stop>
+    requires { IsReading reader.old }
+    ensures counted { IfOk result (PassesFile (fully_known (verdict F.remaining reader.old))) }
+    ensures stops { IfErr result (PassStops (fully_known (verdict F.remaining reader.old)) (F.failures reader.old.feed) (F.failures reader.new.feed)) }
+    ensures carries { OnOk result ((b : List ℕ) → F.carries reader.old.feed b → F.carries reader.new.feed b) }
+    ensures end { OnOk result (IsAtEnd (F.remaining reader.new.feed)) }
+    ensures counts { F.failures reader.old.feed ≤ F.failures reader.new.feed }
+    ensures lender { F.lender reader.new.feed ≡ F.lender reader.old.feed }
+{
+    let mut pass = Pass::new();
+    'frames: while step_count(alloc, reader, &mut pass)? {}
+    Ok(pass)
+}
+
+/// Judges a whole file: its header and the numbers of its entities, and the digest of its bytes.
+pub(crate) fn pass_count<F: Feed>(alloc: Global, feed: &mut F) -> Result<(Pass, [u8; 32]), Stop>
+    ensures counted { IfOk result (λ told. PassesFile (judged_file (F.remaining feed.old)) told.0) }
+    ensures digest { IfOk result (λ told. IfSome (F.remaining feed.old) (λ bytes. told.1 ≡ sha256 bytes)) }
+    ensures stops { IfErr result (PassStops (judged_file (F.remaining feed.old)) (F.failures feed.old) (F.failures feed.new)) }
+    ensures counts { F.failures feed.old ≤ F.failures feed.new }
+{
+    let mut reader = FrameReader::new(alloc, Hashed::new(&mut *feed));
+    let outcome = count_all(alloc, &mut reader);
+    let digest = reader.feed.digest();
+    // What is known of the feed comes back with the reference itself.
+    let _feed = reader.into_feed().into_inner();
+    let pass = outcome?;
+    Ok((pass, digest))
+}
+
+/// Judges a whole file, and counts its entities.
+///
+/// `Refused` names the first fault of the file, of any phase. Reads once, and holds one frame at a time, with the places of
+/// its texts.
+pub fn check<F: Feed>(alloc: Global, feed: &mut F) -> Result<Counts, Stop>
+    ensures counted { IfOk result (CountsFile (judged_file (F.remaining feed.old))) }
+    ensures stops { IfErr result (PassStops (judged_file (F.remaining feed.old)) (F.failures feed.old) (F.failures feed.new)) }
+    ensures counts { F.failures feed.old ≤ F.failures feed.new }
+{
+    let told = pass_count(alloc, feed)?;
+    Ok(told.0.counts)
+}

@@ -1,0 +1,39 @@
+//! One frame of a pass.
+
+ghost use Rattle.std.specs.Prelude.{◌≡◌, ◌<◌, ◌≤◌, ◌^◌, ℕ, List, true, false, IfOk, IfErr, OnOk, IsTrue};
+ghost use Rattle.pbf_frame.specs.Devices.{IsAtEnd};
+ghost use Rattle.pbf_frame.specs.Next.{IsReading, place_of, had_header_of, verdict};
+ghost use Rattle.pbfcut.specs.Steps.{Took, Takes, StepStops};
+
+use crate::counts::Pass;
+use pbf_frame::{Feed, FrameReader, Stop};
+use std::alloc::Global;
+
+/// Takes the next frame of a pass: its header, or the numbers of its entities; false at the end of an input that had its header.
+///
+/// `Refused` names the first fault of the frame, phases of its payload too. After a stop the reader and the pass may only be
+/// dropped, or the reader taken apart.
+pub fn step_count<F: Feed>(
+    alloc: Global,
+    reader: &mut FrameReader<F>,
+    pass: &mut Pass,
+) -> Result<bool, Stop>
+    requires { IsReading reader.old }
+    ensures took { IfOk result (Took (verdict F.remaining reader.old) (verdict F.remaining reader.new) (F.remaining reader.old.feed) (F.remaining reader.new.feed) (λ f. Takes f pass.old pass.new)) }
+    ensures same { IfOk result (λ more. more ≡ false → pass.new ≡ pass.old) }
+    ensures end { IfOk result (λ more. more ≡ false → IsAtEnd (F.remaining reader.new.feed)) }
+    ensures had_header { IfOk result (λ more. more ≡ false → had_header_of reader.old ≡ true) }
+    ensures stops { IfErr result (StepStops (verdict F.remaining reader.old) (F.failures reader.old.feed) (F.failures reader.new.feed)) }
+    ensures rises { IfOk result (λ more. IsTrue more → place_of reader.old < place_of reader.new) }
+    ensures reading { IfOk result (λ more. IsTrue more → IsReading reader.new) }
+    ensures limited { place_of reader.new ≤ 2 ^ 62 }
+    ensures carries { OnOk result ((b : List ℕ) → F.carries reader.old.feed b → F.carries reader.new.feed b) }
+    ensures counts { F.failures reader.old.feed ≤ F.failures reader.new.feed }
+    ensures lender { F.lender reader.new.feed ≡ F.lender reader.old.feed }
+{
+    let Some(frame) = reader.next()? else {
+        return Ok(false);
+    };
+    pass.take(alloc, &frame)?;
+    Ok(true)
+}
