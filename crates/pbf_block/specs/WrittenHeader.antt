@@ -1,9 +1,13 @@
 -- The header that is written for a header that was read.
 use Rattle.std.specs.Prelude.{ℕ, Bool, List, [], ◌∷◌, Option, Some, filter, codes, nat_eq}
 use Rattle.std.specs.List.{list_any}
+use Rattle.std.specs.Option.{option_map, option_to_list}
 use Rattle.std.specs.Cmp.Lexicographic.{pointwise}
 use Rattle.osm_entity.specs.declared.bounding_box.BoundingBox.{BoundingBox}
+use Rattle.pbf_wire.specs.Message.{Slot, Scalar, Each, message}
+use Rattle.pbf_wire.specs.Signed.{zigzag, sign_extended}
 use Rattle.pbf_block.specs.declared.header.HeaderBox.{HeaderBox}
+use Rattle.pbf_block.specs.declared.header.TheConstants.{BBOX, REQUIRED_FEATURES, OPTIONAL_FEATURES, WRITINGPROGRAM, SOURCE, REPLICATION_TIMESTAMP, REPLICATION_SEQUENCE, REPLICATION_URL, LEFT, RIGHT, TOP, BOTTOM}
 use Rattle.pbf_block.specs.Header.{HeaderSpec}
 
 -- a text is among the texts
@@ -44,3 +48,28 @@ header_out_for_box area h = header_out (Some (edges_of area)) h
 -- the header of the same entities in canonical form
 abbrev pub header_out_for_convert : HeaderSpec → HeaderSpec
 header_out_for_convert h = header_out h.bbox h
+
+-- ---- as a message
+
+-- the HeaderBBox of a box
+abbrev pub box_slots : HeaderBox → List Slot
+box_slots b = Scalar LEFT (Some (zigzag b.left)) ∷ Scalar RIGHT (Some (zigzag b.right)) ∷ Scalar TOP (Some (zigzag b.top)) ∷ Scalar BOTTOM (Some (zigzag b.bottom)) ∷ []
+
+unfoldable pub box_message : HeaderBox → List ℕ
+box_message b = message (box_slots b)
+
+-- the HeaderBlock of a header: what is absent is left out
+abbrev pub header_slots : HeaderSpec → List Slot
+header_slots h =
+    Each BBOX (option_to_list (option_map box_message h.bbox))
+    ∷ Each REQUIRED_FEATURES h.required
+    ∷ Each OPTIONAL_FEATURES h.optional
+    ∷ Each WRITINGPROGRAM (option_to_list h.program)
+    ∷ Each SOURCE (option_to_list h.source)
+    ∷ Scalar REPLICATION_TIMESTAMP (option_map sign_extended h.timestamp)
+    ∷ Scalar REPLICATION_SEQUENCE (option_map sign_extended h.sequence)
+    ∷ Each REPLICATION_URL (option_to_list h.url)
+    ∷ []
+
+unfoldable pub header_message : HeaderSpec → List ℕ
+header_message h = message (header_slots h)

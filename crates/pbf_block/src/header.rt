@@ -61,14 +61,14 @@ pub(crate) const OSM_SCHEMA: &[u8] = b"OsmSchema-V0.6";
 pub(crate) const DENSE_NODES: &[u8] = b"DenseNodes";
 
 // The optional features that are written where they were read.
-const HAS_METADATA: &[u8] = b"Has_Metadata";
+pub(crate) const HAS_METADATA: &[u8] = b"Has_Metadata";
 
-const SORTED: &[u8] = b"Sort.Type_then_ID";
+pub(crate) const SORTED: &[u8] = b"Sort.Type_then_ID";
 
-const LOCATIONS_ON_WAYS: &[u8] = b"LocationsOnWays";
+pub(crate) const LOCATIONS_ON_WAYS: &[u8] = b"LocationsOnWays";
 
 /// The program that a written header names.
-const PROGRAM: &[u8] = b"pbfcut";
+pub(crate) const PROGRAM: &[u8] = b"pbfcut";
 
 /// The box that a header names, by its edges in nanodegrees. It may be any four numbers.
 #[derive(Clone, Copy, Debug, PartialEq, Eq)]
@@ -100,7 +100,7 @@ pub struct Header {
 }
 
 /// Whether the text is among the texts.
-fn has(texts: &[Vec<u8>], text: &[u8]) -> bool
+pub(crate) fn has(texts: &[Vec<u8>], text: &[u8]) -> bool
     ensures { result ≡ has (map text_of texts.now) text.now }
 {
     texts.iter().any(|held| text == held.as_slice())

@@ -1,4 +1,4 @@
-//! HeaderBlocks and PrimitiveBlocks: read and judged.
+//! HeaderBlocks and PrimitiveBlocks: read, judged and written.
 #![tactic(auto)]
 
 mod block;
@@ -15,6 +15,7 @@ mod header_judge;
 mod header_read;
 #[cfg(test)]
 mod header_tests;
+mod header_write;
 mod info;
 mod info_values;
 pub mod laws;
@@ -27,6 +28,7 @@ mod values;
 mod way;
 mod weights;
 mod wire;
+mod writing;
 
 pub use block::Block;
 pub use entities::Entities;

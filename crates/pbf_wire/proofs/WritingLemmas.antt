@@ -1,5 +1,5 @@
 -- A message is written slot by slot.
-use Rattle.std.proofs.Common.{◌≡◌, ℕ, zero, suc, ◌+◌, ◌*◌, ◌/◌, ◌%◌, ◌<◌, true, false, cond, ltb, List, [], ◌∷◌, ◌++◌, length, map, Some, refl, sym, ap, ◌∙◌, arith, length-append, append_assoc}
+use Rattle.std.proofs.Common.{◌≡◌, ℕ, zero, suc, ◌+◌, ◌*◌, ◌/◌, ◌%◌, ◌<◌, true, false, cond, ltb, List, [], ◌∷◌, ◌++◌, length, map, Some, None, refl, sym, ap, ◌∙◌, arith, length-append, append_assoc}
 use Rattle.std.specs.List.{flat_map}
 use Rattle.std.proofs.lemmas.List.{append-nil, map-append}
 use Rattle.std.proofs.lemmas.Grind.{flat_map-append}
@@ -64,6 +64,26 @@ message_none = refl
 pub message_one : (s : Slot) → message (s ∷ []) ≡ slot_bytes s
 message_one s = message_first s [] ∙ ap (λ (w : List ℕ). slot_bytes s ++ w) message_none ∙ append-nil (slot_bytes s)
 
+-- one more slot is written
+pub one_more : (s : Slot) (slots : List Slot) (old new all : List ℕ) → new ≡ old ++ slot_bytes s → all ≡ new ++ message slots → all ≡ old ++ message (s ∷ slots)
+one_more s slots old new all e h =
+    h ∙ ap (λ (w : List ℕ). w ++ message slots) e ∙ append_assoc old (slot_bytes s) (message slots) ∙ ap (λ (w : List ℕ). old ++ w) (sym (message_first s slots))
+
+pub all_written : (all : List ℕ) → all ≡ all ++ message []
+all_written all = sym (ap (λ (w : List ℕ). all ++ w) message_none ∙ append-nil all)
+
+-- the last slot is written
+pub last_slot : (s : Slot) (old new : List ℕ) → new ≡ old ++ slot_bytes s → new ≡ old ++ message (s ∷ [])
+last_slot s old new e = one_more s [] old new new e (all_written new)
+
+-- nothing is written for an absent number
+pub scalar_none : (number : ℕ) → slot_bytes (Scalar number None) ≡ []
+unfolding slot_bytes
+scalar_none number = refl
+
+pub nothing_put : (s : Slot) (old : List ℕ) → slot_bytes s ≡ [] → old ≡ old ++ slot_bytes s
+nothing_put s old e = sym (ap (λ (w : List ℕ). old ++ w) e ∙ append-nil old)
+
 -- ---- messages and texts, one after the other
 
 pub each_none : (number : ℕ) → slot_bytes (Each number []) ≡ []
@@ -74,3 +94,9 @@ pub each_joined : (number : ℕ) (ms others : List (List ℕ)) → slot_bytes (E
 unfolding slot_bytes
 each_joined number ms others =
     ap (λ (ps : List Part). flat_map spelling ps) (map-append (Whole number) ms others) ∙ flat_map-append spelling (map (Whole number) ms) (map (Whole number) others)
+
+-- more is written under the same number
+pub each_after : (number : ℕ) (ms others : List (List ℕ)) (old new all : List ℕ) → new ≡ old ++ slot_bytes (Each number ms) → all ≡ new ++ slot_bytes (Each number others) → all ≡ old ++ slot_bytes (Each number (ms ++ others))
+each_after number ms others old new all e h =
+    h ∙ ap (λ (w : List ℕ). w ++ slot_bytes (Each number others)) e ∙ append_assoc old (slot_bytes (Each number ms)) (slot_bytes (Each number others))
+    ∙ ap (λ (w : List ℕ). old ++ w) (sym (each_joined number ms others))

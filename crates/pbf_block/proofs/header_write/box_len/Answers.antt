@@ -1,0 +1,16 @@
+use Rattle.std.proofs.Common.{arith, rules}
+use Rattle.std.proofs.Common.{ℤ, ap, ◌∙◌, length, ◌+◌}
+use Rattle.pbf_wire.specs.Signed.{zigzag}
+use Rattle.pbf_wire.specs.Varint.{shortest}
+use Rattle.pbf_block.proofs.WritingLemmas.{box_length, same}
+use Rattle.pbf_block.proofs.header_write.box_len.Goals as goal
+
+pub returns : goal.returns
+returns c =
+    let b = c.args.bbox in
+    let l = same b.left (search rules) in
+    let r = same b.right (search rules) in
+    let t = same b.top (search rules) in
+    let e = same b.bottom (search rules) in
+    let size = λ (z : ℤ). 1 + length (shortest (zigzag z)) in
+    omega (arith, c.edge_len.ensures.exact ∙ ap size l, c.edge_len-2.ensures.exact ∙ ap size r, c.edge_len-3.ensures.exact ∙ ap size t, c.edge_len-4.ensures.exact ∙ ap size e, box_length b)
