@@ -9,14 +9,15 @@ use Rattle.pbf_wire.specs.declared.fault.Reason.{Reason}
 use Rattle.pbf_wire.specs.declared.kind.Kind.{Kind}
 use Rattle.pbf_wire.specs.declared.kind.Kind.TheVariants as kind
 use Rattle.pbf_wire.specs.Varint.{EndsOnce, varint_at}
-use Rattle.pbf_wire.specs.Occurrence.{Content, Number, Eight, Four, Bytes, Occurrence, Item, found}
+use Rattle.pbf_wire.specs.Occurrence.{Content, Number, Eight, Four, Bytes, Occurrence, Item, items, found}
 use Rattle.pbf_wire.specs.Columns.{entries, read_entries, entry_fault, placed, numbers_in, column_of, joined}
-use Rattle.pbf_wire.specs.Wire.{kind_of, reason_in}
+use Rattle.pbf_wire.specs.Wire.{kind_of, reason_in, wire}
+use Rattle.pbf_wire.proofs.FaultLemmas.{leaf_is_wire}
 use Rattle.pbf_wire.specs.Reading.{last_of}
 use Rattle.pbf_wire.specs.Signed.{IsWithin, is_within, delta_in}
 use Rattle.pbf_wire.specs.Sums.{sums, sums_from}
 use Rattle.pbf_wire.specs.Least.{least, lesser_by, rank}
-use Rattle.pbf_wire.specs.Faults.{fault_where, or_more, message_faults, ends, ends_in, ends_of, column_count, faults_of_sums}
+use Rattle.pbf_wire.specs.Faults.{fault_where, or_more, message_faults, ends, ends_in, ends_of, column_count, fields_in, faults_of_sums}
 use Rattle.pbf_wire.proofs.Columns.{entries_none, entries_ok, entries_err}
 use Rattle.pbf_wire.proofs.Spellings.{varint_ok}
 use Rattle.pbf_wire.proofs.SumLemmas.{running_sums, within_is}
@@ -191,3 +192,8 @@ last_from P k (o ∷ os) before all h = chosen (o.number == k) refl
 -- what holds of all occurrences holds of the last of the field k
 pub last_holds : (P : Occurrence → Type 0) (k : ℕ) (os : List Occurrence) (o : Occurrence) → AllByRecursion P os → last_of k os ≡ Some o → P o × (o.number ≡ k)
 last_holds P k os o all e = subst (λ w. IfThere P k w) e (last_from P k os None all tt)
+
+pub whole_count : (kinds : List (ℕ × Kind)) (k at : ℕ) (m : List ℕ) → kind_of kinds k ≡ Some kind.Column → wire kinds (items at m) ≡ None → column_count k (fields_in at m) ≡ length (joined k (fields_in at m))
+whole_count kinds k at m known e =
+    let none = no_least (message_faults kinds (λ o. []) (items at m)) (leaf_is_wire kinds (items at m) ∙ e) in
+    count_is_length kinds (λ o. []) k (fields_in at m) known (fields_sound kinds (λ o. []) (items at m) none)

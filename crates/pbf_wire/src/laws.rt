@@ -8,9 +8,11 @@ ghost use Rattle.pbf_wire.specs.declared.kind.Kind.{Kind};
 ghost use Rattle.pbf_wire.specs.Least.{rank, least, lesser, IsLeast};
 ghost use Rattle.pbf_wire.specs.Varint.{IsVarint, varint_at, shortest};
 ghost use Rattle.pbf_wire.specs.Occurrence.{Occurrence, Joins, IsCutting, items, found, fault_of, without_places};
-ghost use Rattle.pbf_wire.specs.Columns.{entries, packed, column};
+ghost use Rattle.pbf_wire.specs.Columns.{entries, packed, joined, column};
 ghost use Rattle.pbf_wire.specs.Reading.{last_number, each};
-ghost use Rattle.pbf_wire.specs.Wire.{wire};
+ghost use Rattle.pbf_wire.specs.declared.kind.Kind.TheVariants as kind;
+ghost use Rattle.pbf_wire.specs.Faults.{fields_in, column_count};
+ghost use Rattle.pbf_wire.specs.Wire.{kind_of, wire};
 ghost use Rattle.pbf_wire.specs.Signed.{zigzag, unzigzag, low_i32, low_i64, sign_extended, IsWithin};
 ghost use Rattle.pbf_wire.specs.Sums.{sums, sums_from, sums_within, deltas};
 ghost use Rattle.pbf_wire.specs.Writing.{occurrences_of};
@@ -83,4 +85,10 @@ pub fn written_message_is_read()
 pub fn least_is_least()
     ensures least { (faults : List Fault) → IsLeast rank (least faults) faults }
     ensures parts { (faults others : List Fault) → least (faults ++ others) ≡ lesser (least faults) (least others) }
+{}
+
+/// In a message without a wire fault, a column has as many numbers as bytes of it end a varint, with one for each single number:
+/// so its numbers are counted without being decoded.
+pub fn counts_are_lengths()
+    ensures { (kinds : List (ℕ × Kind)) (k at : ℕ) (m : List ℕ) → kind_of kinds k ≡ Some kind.Column → wire kinds (items at m) ≡ None → column_count k (fields_in at m) ≡ length (joined k (fields_in at m)) }
 {}

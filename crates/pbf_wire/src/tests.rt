@@ -314,6 +314,7 @@ fn texts_of_refusals(rt: HostRuntime) -> Result<(), Fail> {
 fn the_laws_return() {
     laws::varints_are_prefix_free();
     laws::shortest_is_shortest();
+    laws::counts_are_lengths();
     laws::joined_spellings_are_read();
     laws::one_cutting();
     laws::places_move_alike();
