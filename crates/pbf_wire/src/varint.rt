@@ -6,8 +6,8 @@ ghost use Rattle.pbf_wire.specs.Varint.{IsVarint, IsCut, IsLong, varint_at, move
 use crate::fault::Reason;
 use std::alloc::AllocError;
 
-/// The number that the bytes begin with, and how many bytes it takes.
-pub(crate) fn first_varint(bytes: &[u8]) -> Result<(u64, usize), Reason>
+/// The number that the bytes begin with, and how many bytes it takes, byte by byte.
+fn any_varint(bytes: &[u8]) -> Result<(u64, usize), Reason>
     ensures exact { result ≡ varint_at bytes.now }
     ensures taken { IfOk result (λ found. (0 < found.1) × (found.1 ≤ length bytes.now)) }
 {
@@ -22,6 +22,18 @@ pub(crate) fn first_varint(bytes: &[u8]) -> Result<(u64, usize), Reason>
         }
     }
     Err(Reason::VarintCut)
+}
+
+/// The number that the bytes begin with, and how many bytes it takes.
+pub(crate) fn first_varint(bytes: &[u8]) -> Result<(u64, usize), Reason>
+    ensures exact { result ≡ varint_at bytes.now }
+    ensures taken { IfOk result (λ found. (0 < found.1) × (found.1 ≤ length bytes.now)) }
+{
+    // Most numbers of a file take one byte.
+    match bytes.first() {
+        Some(&byte) if byte < 128 => Ok((u64::from(byte), 1)),
+        _ => any_varint(bytes),
+    }
 }
 
 /// The number that is spelled from the index `at` on, and the index after it.

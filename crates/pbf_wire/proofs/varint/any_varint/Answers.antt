@@ -1,0 +1,34 @@
+use Rattle.std.proofs.Common.{get_or, refl, sym, ap, arith, below_more, inl, inr}
+use Rattle.pbf_wire.specs.Varint.{value_of}
+use Rattle.pbf_wire.proofs.Varints as lemmas
+use Rattle.pbf_wire.proofs.varint.any_varint.Goals as goal
+use Rattle.pbf_wire.proofs.varint.any_varint.Goals.{else-i-eq9-via-then-i-eq9+else-byte-gt1, else-i-eq9-via-else-i-eq9}
+
+pub loop-i-init : goal.loop-i-init
+unfolding value_of
+loop-i-init c = record { short = omega arith; below = omega arith; value = refl; goes_on = λ k h. absurd (omega arith) }
+
+pub returns-then-byte-gt1-clause-exact : goal.returns-then-byte-gt1-clause-exact
+returns-then-byte-gt1-clause-exact c = sym (lemmas.long_at c.args.bytes.now (omega arith) (λ k h. c.loop-i.invariant.goes_on k (omega arith)) (let e = c.if-i-eq9.true in omega (arith, ap (λ k. get_or c.args.bytes.now k 0) e)))
+
+pub returns-then-byte-lt128-clause-exact : goal.returns-then-byte-lt128-clause-exact
+returns-then-byte-lt128-clause-exact c =
+    let i = c.loop-i.i in
+    let inv = c.loop-i.invariant in
+    let t = lemmas.turn c.args.bytes.now i c.loop-i.value c.from.result c.loop-i-test.true inv.short inv.below inv.value (omega (arith, c.type_inv.bytes i)) c.else-i-eq9.either c.from.ensures in
+    sym (lemmas.ended_at c.args.bytes.now i _ c.loop-i-test.true (omega arith) inv.goes_on c.if-byte-lt128.true t.0 t.2)
+
+pub loop-i-preserved : goal.loop-i-preserved
+loop-i-preserved c =
+    let i = c.loop-i.i in
+    let inv = c.loop-i.invariant in
+    let t = lemmas.turn c.args.bytes.now i c.loop-i.value c.from.result c.loop-i-test.true inv.short inv.below inv.value (omega (arith, c.type_inv.bytes i)) c.else-i-eq9.either c.from.ensures in
+    record {
+      short = elim c.else-i-eq9.either [ inl p ↦ absurd (omega arith) | inr n ↦ omega arith ];
+      below = t.1;
+      value = t.0;
+      goes_on = below_more _ _ inv.goes_on c.if-byte-lt128.false;
+    }
+
+pub returns-clause-exact : goal.returns-clause-exact
+returns-clause-exact c = sym (lemmas.cut_at c.args.bytes.now c.loop-i.i (omega arith) (omega arith) c.loop-i.invariant.goes_on)
