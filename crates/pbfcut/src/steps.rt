@@ -1,8 +1,9 @@
 //! One frame of a pass.
 
-ghost use Rattle.std.specs.Prelude.{◌≡◌, ◌<◌, ◌≤◌, ◌^◌, ℕ, List, true, false, IfOk, IfErr, OnOk, IsTrue};
+ghost use Rattle.std.specs.Prelude.{◌≡◌, ◌<◌, ◌≤◌, ◌^◌, ℕ, List, true, false, Ok, Err, IfOk, IfErr, OnOk, IsTrue};
+ghost use Rattle.pbf_frame.specs.declared.stop.Stop.{Stop};
 ghost use Rattle.pbf_frame.specs.Devices.{IsAtEnd};
-ghost use Rattle.pbf_frame.specs.Next.{IsReading, place_of, had_header_of, verdict};
+ghost use Rattle.pbf_frame.specs.Next.{IsReading, HasEnded, HasStopped, place_of, had_header_of, verdict};
 ghost use Rattle.pbfcut.specs.Steps.{Took, Takes, StepStops};
 
 use crate::counts::Pass;
@@ -18,18 +19,19 @@ pub fn step_count<F: Feed>(
     reader: &mut FrameReader<F>,
     pass: &mut Pass,
 ) -> Result<bool, Stop>
-    requires { IsReading reader.old }
-    ensures took { IfOk result (Took (verdict F.remaining reader.old) (verdict F.remaining reader.new) (F.remaining reader.old.feed) (F.remaining reader.new.feed) (λ f. Takes f pass.old pass.new)) }
+    ensures took { IsReading reader.old → IfOk result (Took (verdict F.remaining reader.old) (verdict F.remaining reader.new) (F.remaining reader.old.feed) (F.remaining reader.new.feed) (λ f. Takes f pass.old pass.new)) }
     ensures same { IfOk result (λ more. more ≡ false → pass.new ≡ pass.old) }
-    ensures end { IfOk result (λ more. more ≡ false → IsAtEnd (F.remaining reader.new.feed)) }
-    ensures had_header { IfOk result (λ more. more ≡ false → had_header_of reader.old ≡ true) }
-    ensures stops { IfErr result (StepStops (verdict F.remaining reader.old) (F.failures reader.old.feed) (F.failures reader.new.feed)) }
-    ensures rises { IfOk result (λ more. IsTrue more → place_of reader.old < place_of reader.new) }
+    ensures end { IsReading reader.old → IfOk result (λ more. more ≡ false → IsAtEnd (F.remaining reader.new.feed)) }
+    ensures had_header { IsReading reader.old → IfOk result (λ more. more ≡ false → had_header_of reader.old ≡ true) }
+    ensures stops { IsReading reader.old → IfErr result (StepStops (verdict F.remaining reader.old) (F.failures reader.old.feed) (F.failures reader.new.feed)) }
+    ensures rises { IsReading reader.old → IfOk result (λ more. IsTrue more → place_of reader.old < place_of reader.new) }
     ensures reading { IfOk result (λ more. IsTrue more → IsReading reader.new) }
     ensures limited { place_of reader.new ≤ 2 ^ 62 }
     ensures carries { OnOk result ((b : List ℕ) → F.carries reader.old.feed b → F.carries reader.new.feed b) }
     ensures counts { F.failures reader.old.feed ≤ F.failures reader.new.feed }
     ensures lender { F.lender reader.new.feed ≡ F.lender reader.old.feed }
+    ensures ended { HasEnded reader.old → result ≡ Ok false }
+    ensures spent { (stop : Stop) → HasStopped reader.old stop → result ≡ Err stop }
 {
     let Some(frame) = reader.next()? else {
         return Ok(false);

@@ -2,7 +2,7 @@
 #![tactic(auto)]
 
 use pbf_frame::{FromRead, Stop, ToWrite};
-use pbfcut::list_blobs;
+use pbfcut::{Counts, check, list_blobs};
 use std::env;
 use std::fs::File;
 use std::io::{BufWriter, Write};
@@ -41,7 +41,7 @@ impl Ending {
 /// Prints the ending's line on standard error. Where that can't be written, nothing more can be told.
 fn tell(rt: &HostRuntime, ending: &Ending) {
     let _ = match ending {
-        Ending::Words => eprintln!(rt; "usage: pbfcut blobs IN"),
+        Ending::Words => eprintln!(rt; "usage: pbfcut blobs IN | pbfcut check IN"),
         Ending::CannotOpen => eprintln!(rt; "pbfcut: cannot open"),
         Ending::Memory => eprintln!(rt; "pbfcut: out of memory"),
         Ending::Stopped(stop) => eprintln!(rt; "pbfcut: {stop}"),
@@ -82,10 +82,35 @@ fn blobs(rt: &HostRuntime, input: &str) -> Result<(), Ending> {
     }
 }
 
+/// Prints the line of counts.
+fn print_counts(rt: &HostRuntime, counts: Counts) -> Result<(), Ending> {
+    let Counts {
+        nodes,
+        ways,
+        relations,
+    } = counts;
+    if println!(rt; "nodes {nodes} ways {ways} relations {relations}").is_err() {
+        return Err(Ending::Stopped(Stop::Write));
+    }
+    Ok(())
+}
+
+/// `check IN`: the numbers of entities go to standard output, where the file is accepted.
+fn check_file(rt: &HostRuntime, input: &str) -> Result<(), Ending> {
+    let Ok(file) = File::open(rt, input) else {
+        return Err(Ending::CannotOpen);
+    };
+    match check(rt.alloc(), &mut FromRead::new(file)) {
+        Ok(counts) => print_counts(rt, counts),
+        Err(stop) => Err(Ending::Stopped(stop)),
+    }
+}
+
 fn work(rt: &HostRuntime) -> Result<(), Ending> {
     let words = words(rt)?;
     match words.as_slice() {
         [command, input] if command.as_str() == "blobs" => blobs(rt, input.as_str()),
+        [command, input] if command.as_str() == "check" => check_file(rt, input.as_str()),
         _ => Err(Ending::Words),
     }
 }

@@ -9,7 +9,7 @@ frames-preserved g c =
     let step = c.in_ok-step_count.ensures in
     let so_far = c.frames.invariant in
     let frames = so_far.done.0 in
-    let (f, is, went, sound, takes) = took_one _ _ _ _ (λ f. Takes f c.frames.pass c.step_count.new.pass) _ c.if-branch.true step.took in
+    let (f, is, went, sound, takes) = took_one _ _ _ _ (λ f. Takes f c.frames.pass c.step_count.new.pass) _ c.if-branch.true (step.took so_far.reading) in
     record {
       done = (frames ++ f ∷ [], gone_more _ _ _ frames f so_far.done.1 (fully_first _ _ f is sound), taken_counts f _ _ frames takes so_far.done.2, taken_header f _ _ frames takes so_far.done.3);
       carries = λ b h. step.carries b (so_far.carries b h);
