@@ -12,3 +12,4 @@ pub mod Judgement
 pub mod Header
 pub mod HeaderFaults
 pub mod WrittenHeader
+pub mod WrittenEntity

@@ -6,6 +6,8 @@ mod block;
 mod block_tests;
 mod entities;
 mod entity_fields;
+mod entity_out;
+mod entity_write;
 mod group;
 mod header;
 mod header_judge;
@@ -28,4 +30,5 @@ mod writing;
 
 pub use block::Block;
 pub use entities::Entities;
+pub use entity_out::EntityOut;
 pub use header::{Header, HeaderBox};
