@@ -3,6 +3,7 @@ pub mod Entity
 pub mod Sources
 pub mod Views
 pub mod Weight
+pub mod EntityTexts
 pub mod Ranges
 pub mod BoundingBox
 pub mod Degrees

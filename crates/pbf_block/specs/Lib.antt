@@ -14,3 +14,4 @@ pub mod HeaderFaults
 pub mod WrittenHeader
 pub mod Counts
 pub mod InfoValues
+pub mod WrittenEntity

@@ -9,6 +9,8 @@ mod entity_counts;
 mod entity_fields;
 #[cfg(test)]
 mod entity_tests;
+mod entity_out;
+mod entity_write;
 mod group;
 mod header;
 mod header_judge;
@@ -32,4 +34,5 @@ mod writing;
 
 pub use block::Block;
 pub use entities::Entities;
+pub use entity_out::EntityOut;
 pub use header::{Header, HeaderBox};

@@ -1,5 +1,5 @@
 -- Texts, and the keys that hold them.
-use Rattle.std.proofs.Common.{◌≡◌, ℕ, suc, arith, ◌+◌, add_comm, List, [], ◌∷◌, ◌++◌, Bool, true, false, cond, ◌||◌, Some, map, refl, sym, ap, ◌∙◌, subst, position}
+use Rattle.std.proofs.Common.{◌≡◌, ℕ, suc, arith, ◌+◌, ◌≤◌, length, length-append, add_comm, List, [], ◌∷◌, ◌++◌, Bool, true, false, cond, ◌||◌, Some, map, refl, sym, ap, ◌∙◌, subst, position}
 use Rattle.std.proofs.lemmas.List.{map-append}
 use Rattle.std.specs.List.{list_any, position_or_len}
 use Rattle.std.specs.Str.{bytes_eq}
@@ -8,7 +8,7 @@ use Rattle.std.proofs.lemmas.Slice.Eq.{bytes_eq-Decides}
 use Rattle.std.specs.Prelude.{slice_get}
 use Rattle.std.proofs.lemmas.List.Recursion.{is_position_or_len}
 use Rattle.std.proofs.lemmas.Option.{cond_some}
-use Rattle.pbf_strings.specs.TableOut.{has_text, with_text, place_in, index_in, table_of}
+use Rattle.pbf_strings.specs.TableOut.{has_text, with_text, texts_after, place_in, index_in, table_of}
 
 pub same_text : (text : List ℕ) → bytes_eq text text ≡ true
 same_text text = nat_list_eq_equiv.refl text
@@ -56,7 +56,7 @@ any_push : (texts : List (List ℕ)) (text : List ℕ) → list_any (bytes_eq te
 any_push [] text = rw (same_text text) refl
 any_push (first ∷ texts) text = elim (bytes_eq text first) as (λ b. (b || list_any (bytes_eq text) (texts ++ text ∷ [])) ≡ true) [ true ↦ refl | false ↦ any_push texts text ]
 
-any_with : (texts : List (List ℕ)) (text : List ℕ) → list_any (bytes_eq text) (with_text texts text) ≡ true
+pub any_with : (texts : List (List ℕ)) (text : List ℕ) → list_any (bytes_eq text) (with_text texts text) ≡ true
 any_with texts text = by (list_any (bytes_eq text) texts) refl
   where
     by : (b : Bool) → list_any (bytes_eq text) texts ≡ b → list_any (bytes_eq text) (with_text texts text) ≡ true
@@ -81,3 +81,55 @@ pub text_named : (texts : List (List ℕ)) (text : List ℕ) → slice_get (tabl
 text_named texts text =
     ap (λ (n : ℕ). slice_get (table_of (with_text texts text)) n) (add_comm (place_in (with_text texts text) text) 1)
     ∙ at_next [] (with_text texts text) (place_in (with_text texts text) text) ∙ found_at (with_text texts text) text (any_with texts text)
+
+-- ---- a text keeps its index as more texts are used
+
+any_more : (texts : List (List ℕ)) (text other : List ℕ) → has_text texts text ≡ true → has_text (texts ++ other ∷ []) text ≡ true
+any_more [] text other h = absurd cc
+any_more (first ∷ texts) text other h = by (bytes_eq text first) h (any_more texts text other)
+  where
+    by : (b : Bool) → (b || list_any (bytes_eq text) texts) ≡ true → (list_any (bytes_eq text) texts ≡ true → list_any (bytes_eq text) (texts ++ other ∷ []) ≡ true) → (b || list_any (bytes_eq text) (texts ++ other ∷ [])) ≡ true
+    by true h more = refl
+    by false h more = more h
+
+has_more : (texts : List (List ℕ)) (text other : List ℕ) → has_text texts text ≡ true → has_text (with_text texts other) text ≡ true
+has_more texts text other h = elim (has_text texts other) as (λ b. has_text (cond b texts (texts ++ other ∷ [])) text ≡ true) [ true ↦ h | false ↦ any_more texts text other h ]
+
+place_more : (texts : List (List ℕ)) (text other : List ℕ) → has_text texts text ≡ true → place_in (texts ++ other ∷ []) text ≡ place_in texts text
+place_more [] text other h = absurd cc
+place_more (first ∷ texts) text other h = by (bytes_eq text first) h (place_more texts text other)
+  where
+    by : (b : Bool) → (b || list_any (bytes_eq text) texts) ≡ true → (list_any (bytes_eq text) texts ≡ true → place_in (texts ++ other ∷ []) text ≡ place_in texts text) → cond b 0 (1 + place_in (texts ++ other ∷ []) text) ≡ cond b 0 (1 + place_in texts text)
+    by true h more = refl
+    by false h more = ap (λ n. 1 + n) (more h)
+
+place_kept : (texts : List (List ℕ)) (text other : List ℕ) → has_text texts text ≡ true → place_in (with_text texts other) text ≡ place_in texts text
+place_kept texts text other h = elim (has_text texts other) as (λ b. place_in (cond b texts (texts ++ other ∷ [])) text ≡ place_in texts text) [ true ↦ refl | false ↦ place_more texts text other h ]
+
+pub has_after : (used texts : List (List ℕ)) (text : List ℕ) → has_text texts text ≡ true → has_text (texts_after texts used) text ≡ true
+has_after [] texts text h = h
+has_after (other ∷ used) texts text h = has_after used (with_text texts other) text (has_more texts text other h)
+
+pub index_after : (used texts : List (List ℕ)) (text : List ℕ) → has_text texts text ≡ true → index_in (texts_after texts used) text ≡ index_in texts text
+index_after [] texts text h = refl
+index_after (other ∷ used) texts text h = index_after used (with_text texts other) text (has_more texts text other h) ∙ ap (λ n. n + 1) (place_kept texts text other h)
+
+-- the index that a text is given stays, whatever texts are used later
+pub index_stays : (used texts : List (List ℕ)) (text : List ℕ) → index_in (texts_after (with_text texts text) used) text ≡ index_in (with_text texts text) text
+index_stays used texts text = index_after used (with_text texts text) text (any_with texts text)
+
+pub after_both : (used more texts : List (List ℕ)) → texts_after texts (used ++ more) ≡ texts_after (texts_after texts used) more
+after_both [] more texts = refl
+after_both (text ∷ used) more texts = after_both used more (with_text texts text)
+
+-- one more text at most
+pub length_with : (texts : List (List ℕ)) (text : List ℕ) → length (with_text texts text) ≤ length texts + 1
+length_with texts text = elim (has_text texts text) as (λ b. length (cond b texts (texts ++ text ∷ [])) ≤ length texts + 1) [ true ↦ omega arith | false ↦ omega (arith, length-append texts (text ∷ [])) ]
+
+pub length_after : (used texts : List (List ℕ)) → length (texts_after texts used) ≤ length texts + length used
+length_after [] texts = omega arith
+length_after (text ∷ used) texts = let rest = length_after used (with_text texts text) in omega (arith, rest, length_with texts text)
+
+-- an index that was given, in the table after more texts are used
+pub index_later : (used old new : List (List ℕ)) (text : List ℕ) (index : ℕ) → new ≡ with_text old text → index ≡ index_in new text → index ≡ index_in (texts_after new used) text
+index_later used old new text index e h = h ∙ (ap (λ (ts : List (List ℕ)). index_in ts text) e ∙ (sym (index_stays used old text) ∙ ap (λ (ts : List (List ℕ)). index_in (texts_after ts used) text) (sym e)))

@@ -12,6 +12,11 @@ has_text texts text = list_any (bytes_eq text) texts
 abbrev pub with_text : List (List ℕ) → List ℕ → List (List ℕ)
 with_text texts text = if has_text texts text then texts else texts ++ text ∷ []
 
+-- the texts after these are used, one by one
+abbrev pub texts_after : List (List ℕ) → List (List ℕ) → List (List ℕ)
+texts_after texts [] = texts
+texts_after texts (text ∷ used) = texts_after (with_text texts text) used
+
 -- the place of the first text that is this one, or how many texts there are
 abbrev pub place_in : List (List ℕ) → List ℕ → ℕ
 place_in [] text = 0

@@ -1,9 +1,10 @@
 //! A table that is written: its texts in order of first use.
 
-ghost use Rattle.std.specs.Prelude.{◌≡◌, ◌<◌, ◌≤◌, ◌-◌, ◌^◌, ◌↔◌, min, ◌++◌, [], length, map, Some, true, IsTrue, IsOk, IfOk, OnOk, OnErr, slice_get};
+ghost use Rattle.std.specs.Prelude.{◌≡◌, ◌<◌, ◌≤◌, ◌+◌, ◌-◌, ℕ, List, ◌^◌, ◌↔◌, min, ◌++◌, [], length, map, Some, true, IsTrue, IsOk, IfOk, OnOk, OnErr, slice_get};
 ghost use Rattle.std.specs.List.{sum_by};
+ghost use Rattle.std.specs.Option.{option_map, option_to_list};
 ghost use Rattle.pbf_wire.specs.Message.{Each, slot_bytes};
-ghost use Rattle.pbf_strings.specs.TableOut.{has_text, with_text, index_in, text_held, table_of, table_message};
+ghost use Rattle.pbf_strings.specs.TableOut.{has_text, with_text, texts_after, index_in, text_held, table_of, table_message};
 
 use crate::table::TEXT;
 use indexmap::IndexSet;
@@ -78,6 +79,19 @@ impl<S: BuildHasher> TableOut<S> {
             }
         };
         Ok(index as u32 + 1)
+    }
+
+    /// The index of a text, if there is one, as [`TableOut::index_of`] gives it. It stays, whatever texts are used later.
+    pub fn index_if_some(&mut self, text: Option<&[u8]>) -> Result<Option<u32>, AllocError>
+        requires { length self.old + length (option_to_list (option_map (λ text. text.now) text)) ≤ 1048575 }
+        ensures texts { OnOk result (self.new ≡ texts_after self.old (option_to_list (option_map (λ text. text.now) text.entry))) }
+        ensures index { (used : List (List ℕ)) → IfOk result (λ index. index ≡ option_map (index_in (texts_after self.new used)) (option_map (λ text. text.now) text.entry)) }
+        ensures err { OnErr result (self.new ≡ self.old) }
+    {
+        match text {
+            Some(text) => Ok(Some(self.index_of(text)?)),
+            None => Ok(None),
+        }
     }
 
     /// How many bytes the table holds: the lengths of the texts and four for each, or the greatest number where they are

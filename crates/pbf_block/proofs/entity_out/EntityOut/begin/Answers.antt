@@ -1,0 +1,21 @@
+use Rattle.std.proofs.Common.{◌∙◌}
+use Rattle.std.specs.Option.{option_to_list}
+use Rattle.osm_entity.specs.EntityTexts.{tag_texts}
+use Rattle.osm_entity.specs.Sources.{tags_left}
+use Rattle.osm_entity.specs.Views.{meta_of}
+use Rattle.pbf_strings.specs.TableOut.{texts_after}
+use Rattle.pbf_block.proofs.WritingLemmas.{same}
+use Rattle.pbf_block.proofs.EntityLemmas.{room_left, used_both, begun}
+use Rattle.pbf_block.proofs.entity_out.EntityOut.begin.Goals as goal
+
+pub index_if_some-requires : goal.index_if_some-requires
+index_if_some-requires g c = room_left _ _ _ _ c.in_ok-put_tags.ensures.texts c.requires
+
+pub returns-clause-texts : goal.returns-clause-texts
+returns-clause-texts g c = used_both c.args.table.now c.put_tags.new.table c.index_if_some.new.self (tag_texts (tags_left c.args.tags)) (option_to_list (meta_of c.args.meta.now).user) c.in_ok-put_tags.ensures.texts c.in_ok-user.ensures.texts
+
+pub returns-clause-begun : goal.returns-clause-begun
+returns-clause-begun g c = λ used.
+    let head = c.in_ok-put_head.ensures {u = tt} in
+    let info = c.in_ok-put_info.ensures (texts_after c.index_if_some.new.self used) (c.in_ok-user.ensures.index used) in
+    rw (c.clear-2.ensures.items, c.deref.ensures.value, same c.args.id c.ranges.id) at head ∙ begun c.put_tags.new.table c.index_if_some.new.self (option_to_list (meta_of c.args.meta.now).user) used c.args.id (meta_of c.args.meta.now) (tags_left c.args.tags) _ _ _ c.in_ok-user.ensures.texts c.in_ok-put_tags.ensures.keys c.in_ok-put_tags.ensures.values (rw c.clear.ensures.items at info)

@@ -1,0 +1,85 @@
+-- Ways and relations as they are written, each a message of its own. Indexes are those in a table that has all texts of the
+-- entity: the one before it was written, with its texts used in order, or any later one.
+use Rattle.std.specs.Prelude.{ℕ, ℤ, Bool, if◌then◌else◌, List, [], ◌∷◌, Some, map}
+use Rattle.std.specs.Option.{option_map}
+use Rattle.pbf_wire.specs.Message.{Slot, Scalar, Column, Each, message}
+use Rattle.pbf_wire.specs.Signed.{sign_extended}
+use Rattle.pbf_wire.specs.Sums.{deltas}
+use Rattle.pbf_strings.specs.TableOut.{index_in}
+use Rattle.osm_entity.specs.declared.member.MemberKind.{MemberKind}
+use Rattle.osm_entity.specs.declared.member.MemberKind.TheVariants as kind
+use Rattle.osm_entity.specs.Entity.{TagSpec, MetaSpec, MemberSpec, WaySpec, RelationSpec}
+use Rattle.pbf_block.specs.declared.message.TheConstants.{ID, KEYS, VALS, INFO, REFS, WAY_LAT, WAY_LON, ROLES_SID, MEMIDS, TYPES, VERSION, TIMESTAMP, CHANGESET, UID, USER_SID, VISIBLE}
+
+-- ---- what ways and relations have alike
+
+abbrev pub key_index : List (List ℕ) → TagSpec → ℕ
+key_index texts tag = index_in texts tag.0
+
+abbrev pub value_index : List (List ℕ) → TagSpec → ℕ
+value_index texts tag = index_in texts tag.1
+
+abbrev pub bit_of : Bool → ℕ
+bit_of b = if b then 1 else 0
+
+-- an Info: the fields that are present
+abbrev pub info_slots : List (List ℕ) → MetaSpec → List Slot
+info_slots texts meta =
+    Scalar VERSION (option_map sign_extended meta.version)
+    ∷ Scalar TIMESTAMP (option_map sign_extended meta.timestamp)
+    ∷ Scalar CHANGESET (option_map sign_extended meta.changeset)
+    ∷ Scalar UID (option_map sign_extended meta.uid)
+    ∷ Scalar USER_SID (option_map (index_in texts) meta.user)
+    ∷ Scalar VISIBLE (option_map bit_of meta.visible)
+    ∷ []
+
+unfoldable pub info_message : List (List ℕ) → MetaSpec → List ℕ
+info_message texts meta = message (info_slots texts meta)
+
+-- a message that is left out where it has no field
+abbrev pub unless_empty : List ℕ → List (List ℕ)
+unless_empty [] = []
+unless_empty (byte ∷ bytes) = (byte ∷ bytes) ∷ []
+
+-- the slots of an entity, of which these are its own
+abbrev pub entity_slots : List (List ℕ) → ℤ → MetaSpec → List TagSpec → List Slot → List Slot
+entity_slots texts id meta tags own =
+    Scalar ID (Some (sign_extended id))
+    ∷ Column KEYS (map (key_index texts) tags)
+    ∷ Column VALS (map (value_index texts) tags)
+    ∷ Each INFO (unless_empty (info_message texts meta))
+    ∷ own
+
+-- ---- ways
+
+abbrev pub way_slots : List (List ℕ) → WaySpec → List Slot
+way_slots texts w =
+    entity_slots texts w.id w.meta w.tags
+    (Column REFS (deltas w.refs)
+    ∷ Column WAY_LAT (deltas (map (λ l. l.0) w.locations))
+    ∷ Column WAY_LON (deltas (map (λ l. l.1) w.locations))
+    ∷ [])
+
+unfoldable pub way_message : List (List ℕ) → WaySpec → List ℕ
+way_message texts w = message (way_slots texts w)
+
+-- ---- relations
+
+abbrev pub kind_number : MemberKind → ℕ
+kind_number kind.Node = 0
+kind_number kind.Way = 1
+kind_number kind.Relation = 2
+
+abbrev pub role_index : List (List ℕ) → MemberSpec → ℕ
+role_index texts member = index_in texts member.role
+
+abbrev pub relation_slots : List (List ℕ) → RelationSpec → List Slot
+relation_slots texts r =
+    entity_slots texts r.id r.meta r.tags
+    (Column ROLES_SID (map (role_index texts) r.members)
+    ∷ Column MEMIDS (deltas (map (λ m. m.id) r.members))
+    ∷ Column TYPES (map (λ m. kind_number m.kind) r.members)
+    ∷ [])
+
+unfoldable pub relation_message : List (List ℕ) → RelationSpec → List ℕ
+relation_message texts r = message (relation_slots texts r)

@@ -1,0 +1,154 @@
+//! Ways and relations, written.
+
+ghost use Rattle.std.specs.Prelude.{◌≡◌, ◌++◌, ◌∷◌, [], ◌+◌, ◌≤◌, ℕ, List, OnOk, length, map};
+ghost use Rattle.std.specs.Option.{option_to_list};
+ghost use Rattle.pbf_wire.specs.Message.{Each, slot_bytes, message};
+ghost use Rattle.pbf_strings.specs.TableOut.{texts_after};
+ghost use Rattle.osm_entity.specs.EntityTexts.{tag_texts, way_texts, relation_texts};
+ghost use Rattle.osm_entity.specs.Ranges.{WayFits, RelationFits};
+ghost use Rattle.osm_entity.specs.Sources.{tags_left};
+ghost use Rattle.osm_entity.specs.Views.{meta_of, way_of, relation_of};
+ghost use Rattle.pbf_block.specs.WrittenEntity.{entity_slots, way_message, relation_message};
+
+use crate::entity_write::{
+    put_head, put_info, put_locations, put_members, put_refs, put_roles, put_tags,
+};
+use crate::message::{MEMIDS, REFS, RELATIONS, ROLES_SID, TYPES, WAY_LAT, WAY_LON, WAYS};
+use osm_entity::{MetaRef, RelationRef, Tags, WayRef};
+use pbf_strings::TableOut;
+use pbf_wire::{ColumnOut, DeltaOut, put_bytes, put_column};
+use std::alloc::{AllocError, Global};
+use std::hash::BuildHasher;
+
+/// What writes ways and relations, each as a field of a group. It keeps the columns and the message of an entity while that is
+/// written, so that the next one is written into the same room; nothing of an entity stays.
+#[derive(Drop)]
+pub struct EntityOut {
+    keys: ColumnOut,
+    values: ColumnOut,
+    info: Vec<u8>,
+    refs: DeltaOut,
+    lats: DeltaOut,
+    lons: DeltaOut,
+    roles: ColumnOut,
+    members: DeltaOut,
+    kinds: ColumnOut,
+    message: Vec<u8>,
+}
+
+impl EntityOut {
+    /// It takes no memory yet.
+    pub fn new(alloc: Global) -> EntityOut {
+        EntityOut {
+            keys: ColumnOut::new(alloc),
+            values: ColumnOut::new(alloc),
+            info: Vec::new(alloc),
+            refs: DeltaOut::new(alloc),
+            lats: DeltaOut::new(alloc),
+            lons: DeltaOut::new(alloc),
+            roles: ColumnOut::new(alloc),
+            members: DeltaOut::new(alloc),
+            kinds: ColumnOut::new(alloc),
+            message: Vec::new(alloc),
+        }
+    }
+
+    /// Begins a message with the fields that ways and relations have alike.
+    fn begin<S: BuildHasher>(
+        &mut self,
+        id: i64,
+        meta: &MetaRef<'_>,
+        tags: Tags<'_>,
+        table: &mut TableOut<S>,
+    ) -> Result<(), AllocError>
+        requires { length table.old + (length (tag_texts (tags_left tags)) + length (option_to_list (meta_of meta.now).user)) ≤ 1048575 }
+        ensures texts { OnOk result (table.new ≡ texts_after table.old (tag_texts (tags_left tags.entry) ++ option_to_list (meta_of meta.now).user)) }
+        ensures begun { (used : List (List ℕ)) → OnOk result (self.new.message.items ≡ message (entity_slots (texts_after table.new used) id (meta_of meta.now) (tags_left tags.entry) [])) }
+    {
+        put_tags(&mut self.keys, &mut self.values, tags, table)?;
+        let user = table.index_if_some(meta.user)?;
+        self.info.clear();
+        put_info(&mut self.info, meta, user)?;
+        self.message.clear();
+        put_head(&mut self.message, id, &self.keys, &self.values, &self.info)?;
+        Ok(())
+    }
+
+    /// Makes the message of a way.
+    fn make_way<S: BuildHasher>(
+        &mut self,
+        way: &WayRef<'_>,
+        table: &mut TableOut<S>,
+    ) -> Result<(), AllocError>
+        requires fits { WayFits (way_of way.now) }
+        requires room { length table.old + length (way_texts (way_of way.now)) ≤ 1048575 }
+        ensures texts { OnOk result (table.new ≡ texts_after table.old (way_texts (way_of way.now))) }
+        ensures made { (used : List (List ℕ)) → OnOk result (self.new.message.items ≡ way_message (texts_after table.new used) (way_of way.now)) }
+    {
+        self.begin(way.id(), &way.meta(), way.tags(), table)?;
+        put_refs(&mut self.refs, way.refs())?;
+        put_locations(&mut self.lats, &mut self.lons, way.locations())?;
+        put_column(&mut self.message, REFS, self.refs.bytes())?;
+        put_column(&mut self.message, WAY_LAT, self.lats.bytes())?;
+        put_column(&mut self.message, WAY_LON, self.lons.bytes())?;
+        Ok(())
+    }
+
+    /// Makes the message of a relation.
+    fn make_relation<S: BuildHasher>(
+        &mut self,
+        relation: &RelationRef<'_>,
+        table: &mut TableOut<S>,
+    ) -> Result<(), AllocError>
+        requires fits { RelationFits (relation_of relation.now) }
+        requires room { length table.old + length (relation_texts (relation_of relation.now)) ≤ 1048575 }
+        ensures texts { OnOk result (table.new ≡ texts_after table.old (relation_texts (relation_of relation.now))) }
+        ensures made { (used : List (List ℕ)) → OnOk result (self.new.message.items ≡ relation_message (texts_after table.new used) (relation_of relation.now)) }
+    {
+        self.begin(relation.id(), &relation.meta(), relation.tags(), table)?;
+        put_roles(&mut self.roles, relation.members(), table)?;
+        put_members(&mut self.members, &mut self.kinds, relation.members())?;
+        put_column(&mut self.message, ROLES_SID, self.roles.bytes())?;
+        put_column(&mut self.message, MEMIDS, self.members.bytes())?;
+        put_column(&mut self.message, TYPES, self.kinds.bytes())?;
+        Ok(())
+    }
+
+    /// Appends a way to a group, and adds its texts to the table: the keys and values of its tags in turn, then its user. The
+    /// caller sees that the way fits, and that the table has room for its texts, repeats counted. The clause on the group
+    /// also says that the way is written as it would be with a table that more texts are added to later. After an `Err` group
+    /// and table have no stated content.
+    pub fn put_way<S: BuildHasher>(
+        &mut self,
+        group: &mut Vec<u8>,
+        way: &WayRef<'_>,
+        table: &mut TableOut<S>,
+    ) -> Result<(), AllocError>
+        requires fits { WayFits (way_of way.now) }
+        requires room { length table.old + length (way_texts (way_of way.now)) ≤ 1048575 }
+        ensures texts { OnOk result (table.new ≡ texts_after table.old (way_texts (way_of way.now))) }
+        ensures written { (used : List (List ℕ)) → OnOk result (group.new.items ≡ group.old.items ++ slot_bytes (Each WAYS (way_message (texts_after table.new used) (way_of way.now) ∷ []))) }
+    {
+        self.make_way(way, table)?;
+        put_bytes(group, WAYS, &self.message)?;
+        Ok(())
+    }
+
+    /// Appends a relation to a group, and adds its texts to the table: the keys and values of its tags in turn, then its user,
+    /// then the roles of its members. All else is as for [`EntityOut::put_way`].
+    pub fn put_relation<S: BuildHasher>(
+        &mut self,
+        group: &mut Vec<u8>,
+        relation: &RelationRef<'_>,
+        table: &mut TableOut<S>,
+    ) -> Result<(), AllocError>
+        requires fits { RelationFits (relation_of relation.now) }
+        requires room { length table.old + length (relation_texts (relation_of relation.now)) ≤ 1048575 }
+        ensures texts { OnOk result (table.new ≡ texts_after table.old (relation_texts (relation_of relation.now))) }
+        ensures written { (used : List (List ℕ)) → OnOk result (group.new.items ≡ group.old.items ++ slot_bytes (Each RELATIONS (relation_message (texts_after table.new used) (relation_of relation.now) ∷ []))) }
+    {
+        self.make_relation(relation, table)?;
+        put_bytes(group, RELATIONS, &self.message)?;
+        Ok(())
+    }
+}
