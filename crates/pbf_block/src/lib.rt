@@ -7,9 +7,9 @@ mod block_tests;
 mod entities;
 mod entity_counts;
 mod entity_fields;
+mod entity_out;
 #[cfg(test)]
 mod entity_tests;
-mod entity_out;
 mod entity_write;
 mod group;
 mod header;
