@@ -65,10 +65,6 @@ joined_rise k p (o ∷ os) h = chosen_rise (o.number == k) p o.place (numbers_in
 pub column_rises : (k at : ℕ) (m : List ℕ) → Rising (joined k (fields_in at m))
 column_rises k at m = rises at (joined k (found (items at m))) (joined_rise k at (found (items at m)) (follows 0 at m))
 
--- what is behind the first still rises
-pub rest_rises : (x : ℕ × ℕ) (xs : List (ℕ × ℕ)) → RisingFrom x.1 xs → Rising xs
-rest_rises x xs h = rises x.1 xs h
-
 -- ---- values from left to right
 
 module _ (is_good : ℤ → Bool) (reason : Reason) (narrow : Bool) where
@@ -106,7 +102,3 @@ module _ (is_good : ℤ → Bool) (reason : Reason) (narrow : Bool) where
   pub not_good : (start : ℤ) (v p : ℕ) (xs : List (ℕ × ℕ)) → RisingFrom p xs → is_good (start +ℤ delta_in narrow v) ≡ false → least (running start ((v, p) ∷ xs)) ≡ Some (fault p reason)
   not_good start v p xs h e =
       ap (λ b. least (fault_where (not b) p reason ++ running (start +ℤ delta_in narrow v) xs)) e ∙ first_is_least p (start +ℤ delta_in narrow v) xs h
-
-  -- a value that is good
-  pub good : (start sum : ℤ) (v p : ℕ) (xs : List (ℕ × ℕ)) → is_good (start +ℤ delta_in narrow v) ≡ true → sum ≡ start +ℤ delta_in narrow v → least (running start ((v, p) ∷ xs)) ≡ least (running sum xs)
-  good start sum v p xs e same = ap (λ b. least (fault_where (not b) p reason ++ running (start +ℤ delta_in narrow v) xs)) e ∙ ap (λ z. least (running z xs)) (sym same)
