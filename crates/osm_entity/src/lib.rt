@@ -29,4 +29,4 @@ pub use relation::{Relation, RelationRef};
 pub use scale::Scale;
 pub use tags::{OwnedTags, PairedTags, RunTags, Tag, Tags};
 pub use way::{Way, WayRef};
-pub use weight::HIGHEST_WEIGHT;
+pub use weight::{HIGHEST_WEIGHT, STORED_LIMIT, UID_LIMIT};

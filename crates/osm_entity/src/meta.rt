@@ -8,7 +8,7 @@ ghost use Rattle.osm_entity.specs.Ranges.{IsStored, IsUid, IfPresent, MetaFits};
 ghost use Rattle.osm_entity.specs.Views.{meta_of, owned_meta};
 
 use crate::scale::Scale;
-use crate::weight::id_fits;
+use crate::weight::{UID_LIMIT, id_fits};
 use std::alloc::{AllocError, Global};
 
 /// The metadata of an owned entity. A field that the entity doesn't have is `None`.
@@ -117,7 +117,7 @@ fn uid_fits(uid: Option<i32>) -> bool
     ensures { IsTrue result ↔ IfPresent IsUid uid }
 {
     match uid {
-        Some(uid) => uid.unsigned_abs() < 1 << 30,
+        Some(uid) => i64::from(uid).unsigned_abs() < UID_LIMIT.unsigned_abs(),
         None => true,
     }
 }

@@ -16,7 +16,10 @@ use crate::tags::Tags;
 pub const HIGHEST_WEIGHT: u64 = 12_000_000;
 
 /// The limit of stored numbers: they are strictly between it and its negative.
-const STORED_LIMIT: u64 = 1 << 62;
+pub const STORED_LIMIT: i64 = 1 << 62;
+
+/// The limit of uids, alike.
+pub const UID_LIMIT: i64 = 1 << 30;
 
 /// What the tags weigh: 32 for each, and the lengths of its texts. Where it is more than a `u64` holds, the greatest.
 pub(crate) fn tags_weight(tags: Tags<'_>) -> u64
@@ -71,7 +74,7 @@ pub(crate) fn members_weight(members: Members<'_>) -> u64
 pub(crate) fn id_fits(number: i64) -> bool
     ensures { IsTrue result ↔ IsStored number }
 {
-    number.unsigned_abs() < STORED_LIMIT
+    number.unsigned_abs() < STORED_LIMIT.unsigned_abs()
 }
 
 /// Whether each ref is in its range.

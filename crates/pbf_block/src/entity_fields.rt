@@ -15,12 +15,9 @@ ghost use Rattle.pbf_block.specs.Passes.{AreFields, only, only_left};
 
 use crate::info::meta_in;
 use crate::message::{ID, INFO, KEYS, VALS};
-use osm_entity::{MetaRef, PairedTags, Tags};
+use osm_entity::{MetaRef, PairedTags, STORED_LIMIT, Tags};
 use pbf_strings::Table;
 use pbf_wire::{Column, Field, Fields, Payload, Sums, low_i64, unzigzag};
-
-/// The limit of stored numbers: they are strictly between it and its negative.
-const STORED_LIMIT: i64 = 1 << 62;
 
 /// Where the fields of an entity's message are. Those of a column begin at the first of its number, so that a column over them
 /// passes over no field before its own.

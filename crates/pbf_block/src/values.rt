@@ -14,17 +14,12 @@ use crate::message::{
     DATE_GRANULARITY, DENSE, GRANULARITY, ID, INFO, KEYS, MEMIDS, NODE_LAT, NODE_LON, NODES,
     PRIMITIVEGROUP, REFS, RELATIONS, ROLES_SID, TYPES, VALS, WAY_LAT, WAY_LON, WAYS,
 };
+use osm_entity::{STORED_LIMIT, UID_LIMIT};
 use pbf_dense::Dense;
 use pbf_wire::{
     Fault, Field, Fields, Payload, Reason, fault_where, judge_index, judge_indexes,
     judge_low_numbers, judge_range, judge_sums, last_field, lesser, low_i32, low_i64, unzigzag,
 };
-
-/// Ids, refs, coordinates, times and changesets are strictly between this and its negative.
-const STORED_LIMIT: u64 = 1 << 62;
-
-/// Uids are strictly between this and its negative.
-const UID_LIMIT: u64 = 1 << 30;
 
 /// The number of the last occurrence of a field, and its place.
 fn last_value(message: &[u8], at: u64, number: u64) -> Option<(u64, u64)>
@@ -40,7 +35,7 @@ fn judge_signed(last: Option<(u64, u64)>) -> Option<Fault>
     ensures { result ≡ least (of_value signed_range last) }
 {
     let (place, value) = last?;
-    judge_range(place, unzigzag(value), STORED_LIMIT)
+    judge_range(place, unzigzag(value), STORED_LIMIT.unsigned_abs())
 }
 
 /// Whether a number in two's complement is out of range.
@@ -48,7 +43,7 @@ fn judge_wide(last: Option<(u64, u64)>) -> Option<Fault>
     ensures { result ≡ least (of_value wide_range last) }
 {
     let (place, value) = last?;
-    judge_range(place, low_i64(value), STORED_LIMIT)
+    judge_range(place, low_i64(value), STORED_LIMIT.unsigned_abs())
 }
 
 /// Whether a uid is out of range.
@@ -56,7 +51,7 @@ fn judge_uid(last: Option<(u64, u64)>) -> Option<Fault>
     ensures { result ≡ least (of_value uid_range last) }
 {
     let (place, value) = last?;
-    judge_range(place, i64::from(low_i32(value)), UID_LIMIT)
+    judge_range(place, i64::from(low_i32(value)), UID_LIMIT.unsigned_abs())
 }
 
 /// Whether the text of a user is none of the table.
@@ -145,7 +140,7 @@ fn judge_stored_sums(message: &[u8], at: u64, number: u64) -> Option<Fault>
     requires { at + length message.now ≤ 2 ^ 63 }
     ensures { result ≡ least (sum_faults stored_limit false (joined number (fields_in at message.now))) }
 {
-    judge_sums(message, at, number, STORED_LIMIT, false)
+    judge_sums(message, at, number, STORED_LIMIT.unsigned_abs(), false)
 }
 
 #[tactic(auto, using(crate::proofs::Parts::lesser_parts))]

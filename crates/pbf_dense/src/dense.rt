@@ -7,8 +7,8 @@ ghost use Rattle.pbf_dense.specs.Runs.{after_run};
 
 use crate::entries::next_number;
 use crate::info::InfoColumns;
-use crate::message::{ID, KEYS_VALS, LAT, LON, STORED_LIMIT};
-use osm_entity::{NodeRef, RunTags, Scale, Tags};
+use crate::message::{ID, KEYS_VALS, LAT, LON};
+use osm_entity::{NodeRef, RunTags, STORED_LIMIT, Scale, Tags};
 use pbf_strings::Table;
 use pbf_wire::{Column, Sums, low_u32};
 

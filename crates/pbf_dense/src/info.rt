@@ -8,10 +8,8 @@ ghost use Rattle.pbf_wire.specs.Cursors.{sums_left};
 ghost use Rattle.pbf_dense.specs.Info.{user_text};
 
 use crate::entries::{next_number, next_sum};
-use crate::message::{
-    CHANGESET, DENSEINFO, STORED_LIMIT, TIMESTAMP, UID, UID_LIMIT, USER_SID, VERSION, VISIBLE,
-};
-use osm_entity::MetaRef;
+use crate::message::{CHANGESET, DENSEINFO, TIMESTAMP, UID, USER_SID, VERSION, VISIBLE};
+use osm_entity::{MetaRef, STORED_LIMIT, UID_LIMIT};
 use pbf_strings::Table;
 use pbf_wire::{Column, Field, Payload, Sums, last_field, low_i32};
 

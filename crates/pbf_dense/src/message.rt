@@ -45,9 +45,3 @@ pub(crate) const DENSEINFO_KINDS: [(u64, Kind); 6] = [
     (USER_SID, Kind::Column),
     (VISIBLE, Kind::Column),
 ];
-
-/// The limit of stored numbers: they are strictly between it and its negative.
-pub(crate) const STORED_LIMIT: i64 = 1 << 62;
-
-/// The same of uids.
-pub(crate) const UID_LIMIT: i64 = 1 << 30;

@@ -9,10 +9,8 @@ ghost use Rattle.pbf_wire.specs.Faults.{entered, fields_in, index_faults};
 ghost use Rattle.pbf_dense.specs.Judged.{texts_named, range_faults, info_values, dense_values};
 
 use crate::entries::next_placed;
-use crate::message::{
-    CHANGESET, DENSEINFO, ID, KEYS_VALS, LAT, LON, STORED_LIMIT, TIMESTAMP, UID, UID_LIMIT,
-    USER_SID,
-};
+use crate::message::{CHANGESET, DENSEINFO, ID, KEYS_VALS, LAT, LON, TIMESTAMP, UID, USER_SID};
+use osm_entity::{STORED_LIMIT, UID_LIMIT};
 use pbf_wire::{
     Column, Fault, Field, Fields, Payload, judge_index, judge_index_sums, judge_sums, lesser,
     low_u32,
