@@ -6,3 +6,4 @@ pub mod ReadableLemmas
 pub mod RunLemmas
 pub mod SoundDense
 pub mod Phases
+pub mod DenseOutLemmas

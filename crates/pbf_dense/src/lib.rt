@@ -1,9 +1,11 @@
-//! Dense nodes: read and judged.
+//! Dense nodes: read, judged and written.
 #![tactic(auto)]
 
 mod dense;
+mod dense_out;
 mod entries;
 mod info;
+mod info_out;
 mod judge;
 mod message;
 mod phase;
@@ -14,4 +16,5 @@ mod values;
 mod weights;
 
 pub use dense::Dense;
+pub use dense_out::DenseOut;
 pub use phase::Phase;
