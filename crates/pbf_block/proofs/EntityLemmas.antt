@@ -1,16 +1,16 @@
 -- Columns of texts' indexes, put one by one while the table grows.
-use Rattle.std.proofs.Common.{◌≡◌, ℕ, ◌+◌, ◌≤◌, List, [], ◌∷◌, ◌++◌, length, map, refl, sym, ap, ◌∙◌, arith, append_assoc, append-nil, length-append, subst, false, nat_eq, ℤ, Some}
+use Rattle.std.proofs.Common.{◌≡◌, ℕ, ◌+◌, ◌≤◌, List, [], ◌∷◌, ◌++◌, length, map, refl, sym, ap, ◌∙◌, arith, append_assoc, append-nil, length-append, subst, ℤ, Some}
 use Rattle.std.specs.Option.{option_to_list}
 use Rattle.std.proofs.lemmas.List.{length-map}
-use Rattle.pbf_wire.specs.Message.{Scalar, Column, Each, slot_bytes, message}
+use Rattle.pbf_wire.specs.Message.{Scalar, Column, Each, slot_bytes, message, unless_empty}
 use Rattle.pbf_wire.specs.Signed.{sign_extended}
 use Rattle.pbf_wire.specs.Sums.{deltas}
-use Rattle.pbf_wire.proofs.WritingLemmas.{nothing_put, each_none, slot_put}
+use Rattle.pbf_wire.proofs.WritingLemmas.{slot_put}
 use Rattle.pbf_strings.specs.TableOut.{with_text, texts_after, index_in}
 use Rattle.pbf_strings.proofs.UsedTexts.{index_stays, length_with, length_after, after_both}
 use Rattle.osm_entity.specs.Entity.{TagSpec, MetaSpec, MemberSpec, WaySpec, RelationSpec}
 use Rattle.osm_entity.specs.EntityTexts.{tag_texts, relation_texts}
-use Rattle.pbf_block.specs.WrittenEntity.{key_index, value_index, role_index, kind_number, unless_empty, info_message, entity_slots, way_message, relation_message}
+use Rattle.pbf_block.specs.WrittenEntity.{key_index, value_index, role_index, kind_number, info_message, entity_slots, way_message, relation_message}
 
 -- one more number at the end of a column, and one less before it
 pub moved : (column rest all : List ℕ) (index other : ℕ) → index ≡ other → column ++ other ∷ rest ≡ all → (column ++ index ∷ []) ++ rest ≡ all
@@ -79,15 +79,6 @@ pub all_roles_put : (start : List (List ℕ)) (all : List MemberSpec) (texts : L
     → (used : List (List ℕ)) → roles ≡ map (role_index (texts_after texts used)) all
 all_roles_put start all texts roles left h is used =
     let d = subst (λ (b : List MemberSpec). RolesPut start all texts roles b) is h in sym (append-nil roles) ∙ d.roles_are used
-
--- a message without fields isn't written
-pub empty_left : (number : ℕ) (m old : List ℕ) → length m ≡ 0 → old ≡ old ++ slot_bytes (Each number (unless_empty m))
-empty_left number [] old e = nothing_put (Each number []) old (each_none number)
-empty_left number (b ∷ bs) old e = absurd (omega arith)
-
-pub message_kept : (number : ℕ) (m old new : List ℕ) → false ≡ nat_eq (length m) 0 → new ≡ old ++ slot_bytes (Each number (m ∷ [])) → new ≡ old ++ slot_bytes (Each number (unless_empty m))
-message_kept number [] old new e h = absurd cc
-message_kept number (b ∷ bs) old new e h = h
 
 -- ---- entities, from their parts
 

@@ -1,14 +1,15 @@
 -- Ways and relations as they are written, each a message of its own. Indexes are those in a table that has all texts of the
 -- entity: the one before it was written, with its texts used in order, or any later one.
-use Rattle.std.specs.Prelude.{ℕ, ℤ, Bool, if◌then◌else◌, List, [], ◌∷◌, Some, map}
+use Rattle.std.specs.Prelude.{ℕ, ℤ, List, [], ◌∷◌, Some, map}
 use Rattle.std.specs.Option.{option_map}
-use Rattle.pbf_wire.specs.Message.{Slot, Scalar, Column, Each, message}
+use Rattle.pbf_wire.specs.Message.{Slot, Scalar, Column, Each, message, unless_empty}
 use Rattle.pbf_wire.specs.Signed.{sign_extended}
 use Rattle.pbf_wire.specs.Sums.{deltas}
 use Rattle.pbf_strings.specs.TableOut.{index_in}
 use Rattle.osm_entity.specs.declared.member.MemberKind.{MemberKind}
 use Rattle.osm_entity.specs.declared.member.MemberKind.TheVariants as kind
 use Rattle.osm_entity.specs.Entity.{TagSpec, MetaSpec, MemberSpec, WaySpec, RelationSpec}
+use Rattle.pbf_dense.specs.WrittenDense.{bit_of}
 use Rattle.pbf_block.specs.declared.message.TheConstants.{ID, KEYS, VALS, INFO, REFS, WAY_LAT, WAY_LON, ROLES_SID, MEMIDS, TYPES, VERSION, TIMESTAMP, CHANGESET, UID, USER_SID, VISIBLE}
 
 -- ---- what ways and relations have alike
@@ -18,9 +19,6 @@ key_index texts tag = index_in texts tag.0
 
 abbrev pub value_index : List (List ℕ) → TagSpec → ℕ
 value_index texts tag = index_in texts tag.1
-
-abbrev pub bit_of : Bool → ℕ
-bit_of b = if b then 1 else 0
 
 -- an Info: the fields that are present
 abbrev pub info_slots : List (List ℕ) → MetaSpec → List Slot
@@ -35,11 +33,6 @@ info_slots texts meta =
 
 unfoldable pub info_message : List (List ℕ) → MetaSpec → List ℕ
 info_message texts meta = message (info_slots texts meta)
-
--- a message that is left out where it has no field
-abbrev pub unless_empty : List ℕ → List (List ℕ)
-unless_empty [] = []
-unless_empty (byte ∷ bytes) = (byte ∷ bytes) ∷ []
 
 -- the slots of an entity, of which these are its own
 abbrev pub entity_slots : List (List ℕ) → ℤ → MetaSpec → List TagSpec → List Slot → List Slot

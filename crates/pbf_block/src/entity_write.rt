@@ -3,20 +3,21 @@
 ghost use Rattle.std.specs.Prelude.{◌≡◌, ◌++◌, ◌∷◌, [], ◌*◌, ◌+◌, ◌≤◌, ◌^◌, ◌<◌, ℕ, List, OnOk, Some, length, map};
 ghost use Rattle.std.specs.List.{AllByRecursion};
 ghost use Rattle.std.specs.Option.{option_map, option_to_list};
-ghost use Rattle.pbf_wire.specs.Message.{Scalar, Column, Each, slot_bytes, message};
+ghost use Rattle.pbf_wire.specs.Message.{Scalar, Column, Each, slot_bytes, message, unless_empty};
 ghost use Rattle.pbf_wire.specs.Signed.{sign_extended};
 ghost use Rattle.pbf_strings.specs.TableOut.{texts_after, index_in};
 ghost use Rattle.osm_entity.specs.EntityTexts.{tag_texts};
 ghost use Rattle.osm_entity.specs.Ranges.{IsStored, LocationFits, MemberFits};
 ghost use Rattle.osm_entity.specs.Sources.{tags_left, refs_left, locations_left, members_left};
 ghost use Rattle.osm_entity.specs.Views.{meta_of};
-ghost use Rattle.pbf_block.specs.WrittenEntity.{key_index, value_index, role_index, bit_of, kind_number, info_message, unless_empty};
+ghost use Rattle.pbf_dense.specs.WrittenDense.{bit_of};
+ghost use Rattle.pbf_block.specs.WrittenEntity.{key_index, value_index, role_index, kind_number, info_message};
 
 use crate::message::{CHANGESET, ID, INFO, KEYS, TIMESTAMP, UID, USER_SID, VALS, VERSION, VISIBLE};
 use crate::writing::put_int64;
 use osm_entity::{Locations, MemberKind, Members, MetaRef, Refs, Tags};
 use pbf_strings::TableOut;
-use pbf_wire::{ColumnOut, DeltaOut, put_bytes, put_column, put_number, sign_extended};
+use pbf_wire::{ColumnOut, DeltaOut, put_column, put_number, put_unless_empty, sign_extended};
 use std::alloc::AllocError;
 use std::hash::BuildHasher;
 
@@ -177,17 +178,6 @@ pub(crate) fn put_info(
     put_int32(out, UID, meta.uid)?;
     put_index(out, USER_SID, user)?;
     put_flag(out, VISIBLE, meta.visible)?;
-    Ok(())
-}
-
-/// Appends a message as a field, unless it is empty.
-fn put_unless_empty(out: &mut Vec<u8>, number: u64, message: &[u8]) -> Result<(), AllocError>
-    requires { number < 2 ^ 29 }
-    ensures { OnOk result (out.new.items ≡ out.old.items ++ slot_bytes (Each number (unless_empty message.now))) }
-{
-    if !message.is_empty() {
-        put_bytes(out, number, message)?;
-    }
     Ok(())
 }
 

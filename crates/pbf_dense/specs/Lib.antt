@@ -3,3 +3,4 @@ pub mod Runs
 pub mod Nodes
 pub mod Cursors
 pub mod Judged
+pub mod WrittenDense

@@ -1,9 +1,11 @@
-//! Dense nodes: read and judged.
+//! Dense nodes: read, judged and written.
 #![tactic(auto)]
 
 mod dense;
+mod dense_out;
 mod entries;
 mod info;
+mod info_out;
 mod judge;
 mod message;
 mod phase;
@@ -14,5 +16,6 @@ mod values;
 mod weights;
 
 pub use dense::Dense;
+pub use dense_out::DenseOut;
 pub use message::KEYS_VALS;
 pub use phase::Phase;

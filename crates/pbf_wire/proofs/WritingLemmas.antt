@@ -6,7 +6,7 @@ use Rattle.std.proofs.lemmas.Grind.{flat_map-append}
 use Rattle.pbf_wire.specs.Varint.{shortest, spelled_within}
 use Rattle.pbf_wire.specs.Columns.{packed}
 use Rattle.pbf_wire.specs.Writing.{Part, Whole, spelling}
-use Rattle.pbf_wire.specs.Message.{Slot, Scalar, Column, Each, parts_of, slot_bytes, message}
+use Rattle.pbf_wire.specs.Message.{Slot, Scalar, Column, Each, parts_of, slot_bytes, message, unless_empty}
 
 spelled_positive : (n v : ℕ) → 0 < length (spelled_within n v)
 unfolding spelled_within
@@ -107,3 +107,8 @@ pub each_after : (number : ℕ) (ms others : List (List ℕ)) (old new all : Lis
 each_after number ms others old new all e h =
     h ∙ ap (λ (w : List ℕ). w ++ slot_bytes (Each number others)) e ∙ append_assoc old (slot_bytes (Each number ms)) (slot_bytes (Each number others))
     ∙ ap (λ (w : List ℕ). old ++ w) (sym (each_joined number ms others))
+
+-- a message without fields isn't written
+pub empty_left : (number : ℕ) (m old : List ℕ) → length m ≡ 0 → old ≡ old ++ slot_bytes (Each number (unless_empty m))
+empty_left number [] old e = nothing_put (Each number []) old (each_none number)
+empty_left number (b ∷ bs) old e = absurd (omega arith)

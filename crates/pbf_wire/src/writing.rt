@@ -5,7 +5,7 @@
 
 ghost use Rattle.std.specs.Prelude.{◌≡◌, ◌^◌, ◌<◌, ◌++◌, [], ◌∷◌, ℕ, List, Some, OnOk};
 ghost use Rattle.pbf_wire.specs.Columns.{packed};
-ghost use Rattle.pbf_wire.specs.Message.{Scalar, Column, Each, slot_bytes};
+ghost use Rattle.pbf_wire.specs.Message.{Scalar, Column, Each, slot_bytes, unless_empty};
 
 use crate::varint::put_varint;
 use std::alloc::AllocError;
@@ -38,6 +38,17 @@ pub fn put_column(out: &mut Vec<u8>, number: u64, column: &[u8]) -> Result<(), A
 {
     if !column.is_empty() {
         put_bytes(out, number, column)?;
+    }
+    Ok(())
+}
+
+/// Appends a field that holds an embedded message, unless that has no field.
+pub fn put_unless_empty(out: &mut Vec<u8>, number: u64, message: &[u8]) -> Result<(), AllocError>
+    requires { number < 2 ^ 29 }
+    ensures { OnOk result (out.new.items ≡ out.old.items ++ slot_bytes (Each number (unless_empty message.now))) }
+{
+    if !message.is_empty() {
+        put_bytes(out, number, message)?;
     }
     Ok(())
 }

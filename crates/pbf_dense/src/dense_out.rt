@@ -1,0 +1,142 @@
+//! Dense nodes, written.
+
+ghost use Rattle.std.specs.Prelude.{◌≡◌, ◌++◌, ◌∷◌, [], ◌-◌, ◌+◌, ◌≤◌, ◌^◌, min, ℕ, List, OnOk, IfOk, length, ◌||◌, if◌then◌else◌};
+ghost use Rattle.pbf_wire.specs.Message.{Column, Each, slot_bytes, message, unless_empty};
+ghost use Rattle.pbf_wire.specs.Sums.{deltas};
+ghost use Rattle.pbf_strings.specs.TableOut.{texts_after};
+ghost use Rattle.osm_entity.specs.Entity.{NodeSpec};
+ghost use Rattle.osm_entity.specs.EntityTexts.{tag_texts, node_texts};
+ghost use Rattle.osm_entity.specs.Ranges.{NodeFits};
+ghost use Rattle.osm_entity.specs.Sources.{tags_left};
+ghost use Rattle.osm_entity.specs.Views.{node_of};
+ghost use Rattle.pbf_dense.specs.WrittenDense.{HoldsNodes, are_some, run_of, columns_held, dense_slots, dense_message, dense_length};
+
+use crate::info_out::InfoOut;
+use crate::message::{DENSEINFO, ID, KEYS_VALS, LAT, LON};
+use osm_entity::{NodeRef, Tags};
+use pbf_strings::TableOut;
+use pbf_wire::{ColumnOut, DeltaOut, put_column, put_unless_empty};
+use std::alloc::{AllocError, Global};
+use std::hash::BuildHasher;
+
+/// A message of dense nodes that is being written. Its columns are encoded as nodes are pushed.
+#[derive(Drop)]
+pub struct DenseOut {
+    ids: DeltaOut,
+    lats: DeltaOut,
+    lons: DeltaOut,
+    info: InfoOut,
+    runs: ColumnOut,
+    tagged: bool,
+}
+
+/// Whether there was a tag before, or is one here.
+fn is_tagged(before: bool, tags: Tags<'_>) -> bool
+    ensures { result ≡ (before || are_some (tags_left tags.entry)) }
+{
+    let mut rest = tags;
+    before || rest.next().is_some()
+}
+
+/// Adds the indexes of keys and values in turn, and then a 0.
+fn push_run<S: BuildHasher>(
+    runs: &mut ColumnOut,
+    tags: Tags<'_>,
+    table: &mut TableOut<S>,
+) -> Result<(), AllocError>
+    requires { length table.old + length (tag_texts (tags_left tags)) ≤ 1048575 }
+    ensures texts { OnOk result (table.new ≡ texts_after table.old (tag_texts (tags_left tags.entry))) }
+    ensures runs { (used : List (List ℕ)) → OnOk result (runs.new ≡ runs.old ++ run_of (texts_after table.new used) (tags_left tags.entry)) }
+{
+    for (key, value) in tags {
+        runs.push(u64::from(table.index_of(key)?))?;
+        runs.push(u64::from(table.index_of(value)?))?;
+    }
+    runs.push(0)?;
+    Ok(())
+}
+
+impl DenseOut {
+    /// No nodes, which take no memory yet.
+    pub fn new(alloc: Global) -> DenseOut
+        ensures { (texts : List (List ℕ)) → HoldsNodes result texts [] }
+    {
+        DenseOut {
+            ids: DeltaOut::new(alloc),
+            lats: DeltaOut::new(alloc),
+            lons: DeltaOut::new(alloc),
+            info: InfoOut::new(alloc),
+            runs: ColumnOut::new(alloc),
+            tagged: false,
+        }
+    }
+
+    /// Adds a node behind the others, and its texts to the table: the keys and values of its tags in turn, then its user. The
+    /// caller sees that the node fits, that the table has room for its texts, repeats counted, and, for a message that can be
+    /// read, that all nodes have the same fields of metadata. After an `Err` nodes and table have no stated content.
+    pub fn push<S: BuildHasher>(
+        &mut self,
+        node: &NodeRef<'_>,
+        table: &mut TableOut<S>,
+    ) -> Result<(), AllocError>
+        requires fits { NodeFits (node_of node.now) }
+        requires room { length table.old + length (node_texts (node_of node.now)) ≤ 1048575 }
+        ensures texts { OnOk result (table.new ≡ texts_after table.old (node_texts (node_of node.now))) }
+        ensures pushed { (ns : List NodeSpec) → HoldsNodes self.old table.old ns → OnOk result (HoldsNodes self.new table.new (ns ++ node_of node.now ∷ [])) }
+    {
+        push_run(&mut self.runs, node.tags(), table)?;
+        let meta = node.meta();
+        let user = table.index_if_some(meta.user)?;
+        self.info.push(&meta, user)?;
+        self.ids.push(node.id())?;
+        self.lats.push(node.lat())?;
+        self.lons.push(node.lon())?;
+        self.tagged = is_tagged(self.tagged, node.tags());
+        Ok(())
+    }
+
+    /// Appends the runs of tags, if a node has one.
+    fn put_runs(&self, out: &mut Vec<u8>) -> Result<(), AllocError>
+        ensures { OnOk result (out.new.items ≡ out.old.items ++ slot_bytes (Column KEYS_VALS (if self.now.tagged then self.now.runs else []))) }
+    {
+        if self.tagged {
+            put_column(out, KEYS_VALS, self.runs.bytes())?;
+        }
+        Ok(())
+    }
+
+    /// Appends the fields of the message, with these as those of its DenseInfo.
+    fn put_fields(&self, out: &mut Vec<u8>, info: &[u8]) -> Result<(), AllocError>
+        ensures { OnOk result (out.new.items ≡ out.old.items ++ message (Column ID (deltas self.now.ids) ∷ Each DENSEINFO (unless_empty info.now) ∷ Column LAT (deltas self.now.lats) ∷ Column LON (deltas self.now.lons) ∷ Column KEYS_VALS (if self.now.tagged then self.now.runs else []) ∷ [])) }
+    {
+        put_column(out, ID, self.ids.bytes())?;
+        put_unless_empty(out, DENSEINFO, info)?;
+        put_column(out, LAT, self.lats.bytes())?;
+        put_column(out, LON, self.lons.bytes())?;
+        self.put_runs(out)?;
+        Ok(())
+    }
+
+    /// The bytes of the message. Its indexes name the same texts in each later state of the table.
+    pub fn finish(self, alloc: Global) -> Result<Vec<u8>, AllocError>
+        ensures { (texts used : List (List ℕ)) (ns : List NodeSpec) → HoldsNodes self texts ns → IfOk result (λ bytes. bytes.items ≡ dense_message (texts_after texts used) ns) }
+    {
+        let mut info = Vec::new(alloc);
+        self.info.write(&mut info)?;
+        let mut bytes = Vec::new(alloc);
+        self.put_fields(&mut bytes, &info)?;
+        Ok(bytes)
+    }
+
+    /// How many bytes the columns hold, or the greatest number where they are more.
+    pub fn held(&self) -> u64
+        ensures { result ≡ min (dense_length (columns_held self.now)) (2 ^ 64 - 1) }
+    {
+        self.ids
+            .held()
+            .saturating_add(self.lats.held())
+            .saturating_add(self.lons.held())
+            .saturating_add(self.info.held())
+            .saturating_add(self.runs.held())
+    }
+}

@@ -1,0 +1,145 @@
+//! The columns of a DenseInfo, written.
+
+ghost use Rattle.std.specs.Prelude.{◌≡◌, ◌++◌, ◌∷◌, [], ◌-◌, ◌^◌, min, pos, ℕ, List, OnOk, map};
+ghost use Rattle.std.specs.Option.{option_map, option_to_list};
+ghost use Rattle.pbf_wire.specs.Signed.{sign_extended};
+ghost use Rattle.pbf_strings.specs.TableOut.{index_in};
+ghost use Rattle.osm_entity.specs.Ranges.{IsStored, IsUid, IfPresent, MetaFits};
+ghost use Rattle.osm_entity.specs.Views.{meta_of};
+ghost use Rattle.pbf_dense.specs.Info.{InfoSpec};
+ghost use Rattle.pbf_dense.specs.WrittenDense.{bit_of, info_columns, info_message, info_held, info_length};
+
+use crate::message::{CHANGESET, TIMESTAMP, UID, USER_SID, VERSION, VISIBLE};
+use osm_entity::MetaRef;
+use pbf_wire::{ColumnOut, DeltaOut, put_column, sign_extended};
+use std::alloc::{AllocError, Global};
+
+/// The columns of a DenseInfo that is being written: each has the values of the nodes that have the field.
+#[derive(Drop)]
+pub(crate) struct InfoOut {
+    versions: ColumnOut,
+    timestamps: DeltaOut,
+    changesets: DeltaOut,
+    uids: DeltaOut,
+    users: DeltaOut,
+    visible: ColumnOut,
+}
+
+/// Adds a version, if there is one.
+fn push_version(column: &mut ColumnOut, version: Option<i32>) -> Result<(), AllocError>
+    ensures { OnOk result (column.new ≡ column.old ++ option_to_list (option_map sign_extended version)) }
+{
+    match version {
+        Some(version) => column.push(sign_extended(i64::from(version)))?,
+        None => {}
+    }
+    Ok(())
+}
+
+/// Adds a time or a changeset, if there is one.
+fn push_stored(column: &mut DeltaOut, value: Option<i64>) -> Result<(), AllocError>
+    requires { IfPresent IsStored value }
+    ensures { OnOk result (column.new ≡ column.old ++ option_to_list value) }
+{
+    match value {
+        Some(value) => column.push(value)?,
+        None => {}
+    }
+    Ok(())
+}
+
+/// Adds a uid, if there is one.
+fn push_uid(column: &mut DeltaOut, uid: Option<i32>) -> Result<(), AllocError>
+    requires { IfPresent IsUid uid }
+    ensures { OnOk result (column.new ≡ column.old ++ option_to_list uid) }
+{
+    match uid {
+        Some(uid) => column.push(i64::from(uid))?,
+        None => {}
+    }
+    Ok(())
+}
+
+/// Adds the index of a user, if there is one.
+fn push_user(column: &mut DeltaOut, user: Option<u32>) -> Result<(), AllocError>
+    ensures { OnOk result (column.new ≡ column.old ++ option_to_list (option_map pos user)) }
+{
+    match user {
+        Some(user) => column.push(i64::from(user))?,
+        None => {}
+    }
+    Ok(())
+}
+
+/// Adds 0 or 1, if there is a value.
+fn push_visible(column: &mut ColumnOut, visible: Option<bool>) -> Result<(), AllocError>
+    ensures { OnOk result (column.new ≡ column.old ++ option_to_list (option_map bit_of visible)) }
+{
+    match visible {
+        Some(true) => column.push(1)?,
+        Some(false) => column.push(0)?,
+        None => {}
+    }
+    Ok(())
+}
+
+impl InfoOut {
+    /// Columns without values, which take no memory yet.
+    pub(crate) fn new(alloc: Global) -> InfoOut
+        ensures { (texts : List (List ℕ)) → info_held result ≡ info_columns texts [] }
+    {
+        InfoOut {
+            versions: ColumnOut::new(alloc),
+            timestamps: DeltaOut::new(alloc),
+            changesets: DeltaOut::new(alloc),
+            uids: DeltaOut::new(alloc),
+            users: DeltaOut::new(alloc),
+            visible: ColumnOut::new(alloc),
+        }
+    }
+
+    /// Adds the fields that a node has, of which `user` is the index of the user's text.
+    pub(crate) fn push(&mut self, meta: &MetaRef<'_>, user: Option<u32>) -> Result<(), AllocError>
+        requires { MetaFits (meta_of meta.now) }
+        ensures versions { OnOk result (self.new.versions ≡ self.old.versions ++ option_to_list (option_map sign_extended meta.now.version)) }
+        ensures timestamps { OnOk result (self.new.timestamps ≡ self.old.timestamps ++ option_to_list meta.now.timestamp) }
+        ensures changesets { OnOk result (self.new.changesets ≡ self.old.changesets ++ option_to_list meta.now.changeset) }
+        ensures uids { OnOk result (self.new.uids ≡ self.old.uids ++ option_to_list meta.now.uid) }
+        ensures users { OnOk result (self.new.users ≡ self.old.users ++ option_to_list (option_map pos user)) }
+        ensures visible { OnOk result (self.new.visible ≡ self.old.visible ++ option_to_list (option_map bit_of meta.now.visible)) }
+    {
+        push_version(&mut self.versions, meta.version)?;
+        push_stored(&mut self.timestamps, meta.timestamp)?;
+        push_stored(&mut self.changesets, meta.changeset)?;
+        push_uid(&mut self.uids, meta.uid)?;
+        push_user(&mut self.users, user)?;
+        push_visible(&mut self.visible, meta.visible)?;
+        Ok(())
+    }
+
+    /// Appends the fields of the DenseInfo.
+    pub(crate) fn write(&self, out: &mut Vec<u8>) -> Result<(), AllocError>
+        ensures { OnOk result (out.new.items ≡ out.old.items ++ info_message (info_held self.now)) }
+    {
+        put_column(out, VERSION, self.versions.bytes())?;
+        put_column(out, TIMESTAMP, self.timestamps.bytes())?;
+        put_column(out, CHANGESET, self.changesets.bytes())?;
+        put_column(out, UID, self.uids.bytes())?;
+        put_column(out, USER_SID, self.users.bytes())?;
+        put_column(out, VISIBLE, self.visible.bytes())?;
+        Ok(())
+    }
+
+    /// The lengths of the columns, or the greatest number where they are more.
+    pub(crate) fn held(&self) -> u64
+        ensures { result ≡ min (info_length (info_held self.now)) (2 ^ 64 - 1) }
+    {
+        self.versions
+            .held()
+            .saturating_add(self.timestamps.held())
+            .saturating_add(self.changesets.held())
+            .saturating_add(self.uids.held())
+            .saturating_add(self.users.held())
+            .saturating_add(self.visible.held())
+    }
+}
