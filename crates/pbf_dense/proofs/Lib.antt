@@ -7,3 +7,4 @@ pub mod RunLemmas
 pub mod SoundDense
 pub mod Phases
 pub mod DenseOutLemmas
+pub mod Counts
