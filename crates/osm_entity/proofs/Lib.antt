@@ -1,3 +1,4 @@
 pub mod ScaleLemmas
 pub mod TagLemmas
 pub mod Numbers
+pub mod TextCounts

@@ -7,7 +7,7 @@ use Rattle.pbf_wire.specs.Signed.{sign_extended}
 use Rattle.pbf_wire.specs.Sums.{deltas}
 use Rattle.pbf_wire.proofs.WritingLemmas.{slot_put}
 use Rattle.pbf_strings.specs.TableOut.{with_text, texts_after, index_in}
-use Rattle.pbf_strings.proofs.UsedTexts.{index_stays, length_with, length_after, after_both}
+use Rattle.pbf_strings.proofs.UsedTexts.{index_stays, length_with, room_left, used_both, used_later}
 use Rattle.osm_entity.specs.Entity.{TagSpec, MetaSpec, MemberSpec, WaySpec, RelationSpec}
 use Rattle.osm_entity.specs.EntityTexts.{tag_texts, relation_texts}
 use Rattle.pbf_block.specs.WrittenEntity.{key_index, value_index, role_index, kind_number, info_message, entity_slots, way_message, relation_message}
@@ -41,9 +41,6 @@ pub record RolesPut (start : List (List ℕ)) (all : List MemberSpec) (texts : L
   pub texts_are : texts_after texts (map (λ m. m.role) left) ≡ texts_after start (map (λ m. m.role) all)
   pub roles_are : (used : List (List ℕ)) → roles ++ map (role_index (texts_after texts (map (λ m. m.role) left ++ used))) left ≡ map (role_index (texts_after texts (map (λ m. m.role) left ++ used))) all
   pub room : length texts + length left ≤ 1048575
-
-pub no_role_put : (start : List (List ℕ)) (all : List MemberSpec) → length start + length all ≤ 1048575 → RolesPut start all start [] all
-no_role_put start all room = record { texts_are = refl; roles_are = λ used. refl; room = room }
 
 pub one_role_put : (start : List (List ℕ)) (all : List MemberSpec) (texts : List (List ℕ)) (roles : List ℕ) (m : MemberSpec) (left : List MemberSpec) (role : ℕ)
     → RolesPut start all texts roles (m ∷ left) → role ≡ index_in (with_text texts m.role) m.role
@@ -81,17 +78,6 @@ all_roles_put start all texts roles left h is used =
     let d = subst (λ (b : List MemberSpec). RolesPut start all texts roles b) is h in sym (append-nil roles) ∙ d.roles_are used
 
 -- ---- entities, from their parts
-
--- there is room for the texts that are still to be used
-pub room_left : (start texts used : List (List ℕ)) (n : ℕ) → texts ≡ texts_after start used → length start + (length used + n) ≤ 1048575 → length texts + n ≤ 1048575
-room_left start texts used n e h = rw e (let l = length_after used start in omega (arith, l, h))
-
-pub used_both : (start middle texts used more : List (List ℕ)) → middle ≡ texts_after start used → texts ≡ texts_after middle more → texts ≡ texts_after start (used ++ more)
-used_both start middle texts used more e f = f ∙ (ap (λ (ts : List (List ℕ)). texts_after ts more) e ∙ sym (after_both used more start))
-
--- the table with some texts used, and then others
-pub used_later : (middle texts more used : List (List ℕ)) → texts ≡ texts_after middle more → texts_after middle (more ++ used) ≡ texts_after texts used
-used_later middle texts more used e = after_both more used middle ∙ ap (λ (ts : List (List ℕ)). texts_after ts used) (sym e)
 
 -- the message of what ways and relations have alike
 pub begun : (middle texts user used : List (List ℕ)) (id : ℤ) (meta : MetaSpec) (tags : List TagSpec) (keys values info : List ℕ) → texts ≡ texts_after middle user

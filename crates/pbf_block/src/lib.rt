@@ -30,6 +30,8 @@ mod values;
 mod way;
 mod weights;
 mod wire;
+#[cfg(test)]
+mod write_tests;
 mod writing;
 
 pub use block::Block;

@@ -11,7 +11,7 @@ use Rattle.pbf_wire.specs.Sums.{deltas}
 use Rattle.pbf_wire.specs.Signed.{sign_extended}
 use Rattle.pbf_wire.proofs.WritingLemmas.{nothing_put, column_empty}
 use Rattle.pbf_strings.specs.TableOut.{with_text, texts_after, index_in}
-use Rattle.pbf_strings.proofs.UsedTexts.{index_stays, length_with, length_after, after_both}
+use Rattle.pbf_strings.proofs.UsedTexts.{index_stays, length_with, room_left, used_both, used_later}
 use Rattle.osm_entity.specs.Entity.{TagSpec, MetaSpec, NodeSpec}
 use Rattle.osm_entity.specs.EntityTexts.{tag_texts, node_texts}
 use Rattle.pbf_dense.specs.WrittenDense.{DenseColumns, tag_numbers, run_of, are_some, has_tag, bit_of, info_message, columns_of, dense_slots, dense_message}
@@ -50,16 +50,6 @@ run_put start all before texts runs ended left h is e used =
     e ∙ ap (λ (w : List ℕ). w ++ 0 ∷ []) (sym (append-nil runs) ∙ d.runs_are used) ∙ append_assoc before (tag_numbers (texts_after texts used) all) (0 ∷ [])
 
 -- ---- nodes
-
-pub room_left : (start texts used : List (List ℕ)) (n : ℕ) → texts ≡ texts_after start used → length start + (length used + n) ≤ 1048575 → length texts + n ≤ 1048575
-room_left start texts used n e h = rw e (let l = length_after used start in omega (arith, l, h))
-
-pub used_both : (start middle texts used more : List (List ℕ)) → middle ≡ texts_after start used → texts ≡ texts_after middle more → texts ≡ texts_after start (used ++ more)
-used_both start middle texts used more e f = f ∙ (ap (λ (ts : List (List ℕ)). texts_after ts more) e ∙ sym (after_both used more start))
-
--- the table with some texts used, and then others
-pub used_later : (middle texts more used : List (List ℕ)) → texts ≡ texts_after middle more → texts_after middle (more ++ used) ≡ texts_after texts used
-used_later middle texts more used e = after_both more used middle ∙ ap (λ (ts : List (List ℕ)). texts_after ts used) (sym e)
 
 map_one : {X : Type 0} {Y : Type 0} (f : X → Y) (xs : List X) (x : X) (old new : List Y) → old ≡ map f xs → new ≡ old ++ f x ∷ [] → new ≡ map f (xs ++ x ∷ [])
 map_one {Y = Y} f xs x old new e h = h ∙ (ap (λ (ys : List Y). ys ++ f x ∷ []) e ∙ sym (map-append f xs (x ∷ [])))

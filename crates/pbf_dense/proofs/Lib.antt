@@ -8,3 +8,4 @@ pub mod SoundDense
 pub mod Phases
 pub mod WeightLemmas
 pub mod DenseOutLemmas
+pub mod Counts

@@ -14,6 +14,8 @@ mod structure;
 mod tests;
 mod values;
 mod weights;
+#[cfg(test)]
+mod write_tests;
 
 pub use dense::Dense;
 pub use dense_out::DenseOut;

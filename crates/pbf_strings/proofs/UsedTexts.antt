@@ -133,3 +133,14 @@ length_after (text ∷ used) texts = let rest = length_after used (with_text tex
 -- an index that was given, in the table after more texts are used
 pub index_later : (used old new : List (List ℕ)) (text : List ℕ) (index : ℕ) → new ≡ with_text old text → index ≡ index_in new text → index ≡ index_in (texts_after new used) text
 index_later used old new text index e h = h ∙ (ap (λ (ts : List (List ℕ)). index_in ts text) e ∙ (sym (index_stays used old text) ∙ ap (λ (ts : List (List ℕ)). index_in (texts_after ts used) text) (sym e)))
+
+-- there is room for the texts that are still to be used
+pub room_left : (start texts used : List (List ℕ)) (n : ℕ) → texts ≡ texts_after start used → length start + (length used + n) ≤ 1048575 → length texts + n ≤ 1048575
+room_left start texts used n e h = rw e (let l = length_after used start in omega (arith, l, h))
+
+pub used_both : (start middle texts used more : List (List ℕ)) → middle ≡ texts_after start used → texts ≡ texts_after middle more → texts ≡ texts_after start (used ++ more)
+used_both start middle texts used more e f = f ∙ (ap (λ (ts : List (List ℕ)). texts_after ts more) e ∙ sym (after_both used more start))
+
+-- the table with some texts used, and then others
+pub used_later : (middle texts more used : List (List ℕ)) → texts ≡ texts_after middle more → texts_after middle (more ++ used) ≡ texts_after texts used
+used_later middle texts more used e = after_both more used middle ∙ ap (λ (ts : List (List ℕ)). texts_after ts used) (sym e)

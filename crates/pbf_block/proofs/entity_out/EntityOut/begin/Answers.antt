@@ -5,7 +5,8 @@ use Rattle.osm_entity.specs.Sources.{tags_left}
 use Rattle.osm_entity.specs.Views.{meta_of}
 use Rattle.pbf_strings.specs.TableOut.{texts_after}
 use Rattle.pbf_block.proofs.WritingLemmas.{same}
-use Rattle.pbf_block.proofs.EntityLemmas.{room_left, used_both, begun}
+use Rattle.pbf_block.proofs.EntityLemmas.{begun}
+use Rattle.pbf_strings.proofs.UsedTexts.{room_left, used_both}
 use Rattle.pbf_block.proofs.entity_out.EntityOut.begin.Goals as goal
 
 pub index_if_some-requires : goal.index_if_some-requires

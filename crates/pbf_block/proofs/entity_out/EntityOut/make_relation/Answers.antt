@@ -5,7 +5,8 @@ use Rattle.osm_entity.specs.Views.{meta_of, relation_of}
 use Rattle.pbf_strings.specs.TableOut.{texts_after}
 use Rattle.pbf_block.specs.WrittenEntity.{role_index, kind_number, entity_slots}
 use Rattle.pbf_block.proofs.WritingLemmas.{same}
-use Rattle.pbf_block.proofs.EntityLemmas.{relation_made, roles_used, role_room, used_later}
+use Rattle.pbf_block.proofs.EntityLemmas.{relation_made, roles_used, role_room}
+use Rattle.pbf_strings.proofs.UsedTexts.{used_later}
 use Rattle.pbf_block.proofs.entity_out.EntityOut.make_relation.Goals as goal
 
 pub put_roles-requires : goal.put_roles-requires
