@@ -2,7 +2,7 @@
 -- the value, then the user, then the roles.
 use Rattle.std.specs.Prelude.{ℕ, List, [], ◌∷◌, ◌++◌, map}
 use Rattle.std.specs.Option.{option_to_list}
-use Rattle.osm_entity.specs.Entity.{TagSpec, NodeSpec, WaySpec, RelationSpec}
+use Rattle.osm_entity.specs.Entity.{TagSpec, NodeSpec, WaySpec, RelationSpec, EntitySpec, node, way, relation}
 
 abbrev pub tag_texts : List TagSpec → List (List ℕ)
 tag_texts [] = []
@@ -16,3 +16,8 @@ way_texts w = tag_texts w.tags ++ option_to_list w.meta.user
 
 abbrev pub relation_texts : RelationSpec → List (List ℕ)
 relation_texts r = tag_texts r.tags ++ (option_to_list r.meta.user ++ map (λ m. m.role) r.members)
+
+abbrev pub entity_texts : EntitySpec → List (List ℕ)
+entity_texts (node n) = node_texts n
+entity_texts (way w) = way_texts w
+entity_texts (relation r) = relation_texts r

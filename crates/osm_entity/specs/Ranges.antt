@@ -1,9 +1,10 @@
 -- The entities that can be written: their numbers are in their ranges, and they aren't too heavy.
-use Rattle.std.specs.Prelude.{◌≡◌, ◌⊎◌, ◌≤◌, ◌^◌, ℤ, pos, List, [], length, Option, Some, None}
+use Rattle.std.specs.Prelude.{◌≡◌, ◌⊎◌, ◌≤◌, ◌≤ℤ◌, ◌<ℤ◌, neg_ℤ, ◌^◌, ℤ, pos, List, [], length, Option, Some, None}
 use Rattle.std.specs.List.{AllByRecursion}
 use Rattle.pbf_wire.specs.Signed.{IsWithin}
+use Rattle.osm_entity.specs.declared.scale.Scale.{Scale}
 use Rattle.osm_entity.specs.Scale.{ScaleFits}
-use Rattle.osm_entity.specs.Entity.{MetaSpec, MemberSpec, LocationSpec, NodeSpec, WaySpec, RelationSpec, EntitySpec, node, way, relation}
+use Rattle.osm_entity.specs.Entity.{MetaSpec, MemberSpec, LocationSpec, NodeSpec, WaySpec, RelationSpec, EntitySpec, node, way, relation, entity_meta, entity_scale}
 use Rattle.osm_entity.specs.Weight.{node_weight, way_weight, relation_weight}
 
 -- an id, a coordinate, a time or a changeset is strictly between -2^62 and 2^62
@@ -62,3 +63,21 @@ abbrev pub EntityFits : EntitySpec → Type 0
 EntityFits (node n) = NodeFits n
 EntityFits (way w) = WayFits w
 EntityFits (relation r) = RelationFits r
+
+-- ---- the types of the format, which numbers in the code have of themselves
+
+abbrev pub IsInt32 : ℤ → Type 0
+IsInt32 number = (neg_ℤ (pos (2 ^ 31)) ≤ℤ number) × (number <ℤ pos (2 ^ 31))
+
+abbrev pub IsInt64 : ℤ → Type 0
+IsInt64 number = (neg_ℤ (pos (2 ^ 63)) ≤ℤ number) × (number <ℤ pos (2 ^ 63))
+
+pub record ScaleTyped (scale : Scale) : Type 0 where
+  pub granularity : IsInt32 scale.granularity
+  pub date_granularity : IsInt32 scale.date_granularity
+  pub lat_offset : IsInt64 scale.lat_offset
+  pub lon_offset : IsInt64 scale.lon_offset
+
+pub record EntityTyped (e : EntitySpec) : Type 0 where
+  pub version : IfPresent IsInt32 (entity_meta e).version
+  pub scale : ScaleTyped (entity_scale e)

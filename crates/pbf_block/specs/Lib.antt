@@ -15,3 +15,4 @@ pub mod WrittenHeader
 pub mod Counts
 pub mod InfoValues
 pub mod WrittenEntity
+pub mod WrittenBlock
