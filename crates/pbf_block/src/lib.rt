@@ -4,6 +4,7 @@
 mod block;
 #[cfg(test)]
 mod block_tests;
+mod block_write;
 mod entities;
 mod entity_counts;
 mod entity_fields;
@@ -35,6 +36,7 @@ mod write_tests;
 mod writing;
 
 pub use block::Block;
+pub use block_write::{put_block, put_dense};
 pub use entities::Entities;
 pub use entity_out::EntityOut;
 pub use header::{Header, HeaderBox};

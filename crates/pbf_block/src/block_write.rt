@@ -1,0 +1,61 @@
+//! A PrimitiveBlock, written from its parts.
+
+ghost use Rattle.std.specs.Prelude.{◌≡◌, ◌++◌, ◌∷◌, [], ◌<◌, ◌^◌, ℕ, List, OnOk};
+ghost use Rattle.pbf_wire.specs.Message.{Scalar, Each, slot_bytes, message};
+ghost use Rattle.pbf_strings.specs.TableOut.{table_message};
+ghost use Rattle.pbf_block.specs.WrittenBlock.{unless_default, block_slots};
+
+use crate::message::{
+    DATE_GRANULARITY, DENSE, GRANULARITY, LAT_OFFSET, LON_OFFSET, PRIMITIVEGROUP, STRINGTABLE,
+};
+use osm_entity::Scale;
+use pbf_wire::{put_bytes, put_number, sign_extended};
+use std::alloc::AllocError;
+
+/// Appends a number, if it is not the default.
+fn put_unless_default(
+    out: &mut Vec<u8>,
+    number: u64,
+    default: i64,
+    value: i64,
+) -> Result<(), AllocError>
+    requires { number < 2 ^ 29 }
+    ensures { OnOk result (out.new.items ≡ out.old.items ++ slot_bytes (Scalar number (unless_default default value))) }
+{
+    if value != default {
+        put_number(out, number, sign_extended(value))?;
+    }
+    Ok(())
+}
+
+/// Appends the message of dense nodes to a group.
+pub fn put_dense(group: &mut Vec<u8>, dense: &[u8]) -> Result<(), AllocError>
+    ensures { OnOk result (group.new.items ≡ group.old.items ++ slot_bytes (Each DENSE (dense.now ∷ []))) }
+{
+    put_bytes(group, DENSE, dense)?;
+    Ok(())
+}
+
+/// Appends a PrimitiveBlock: the message of its string table, one group with these bytes, and those numbers of the scale that
+/// are not the defaults. After an `Err` the output has no stated content.
+pub fn put_block(
+    out: &mut Vec<u8>,
+    table: &[u8],
+    group: &[u8],
+    scale: Scale,
+) -> Result<(), AllocError>
+    ensures { (texts : List (List ℕ)) → table.now ≡ table_message texts → OnOk result (out.new.items ≡ out.old.items ++ message (block_slots scale texts group.now)) }
+{
+    put_bytes(out, STRINGTABLE, table)?;
+    put_bytes(out, PRIMITIVEGROUP, group)?;
+    put_unless_default(out, GRANULARITY, 100, i64::from(scale.granularity))?;
+    put_unless_default(
+        out,
+        DATE_GRANULARITY,
+        1000,
+        i64::from(scale.date_granularity),
+    )?;
+    put_unless_default(out, LAT_OFFSET, 0, scale.lat_offset)?;
+    put_unless_default(out, LON_OFFSET, 0, scale.lon_offset)?;
+    Ok(())
+}
