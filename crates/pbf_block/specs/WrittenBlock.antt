@@ -1,9 +1,9 @@
 -- A PrimitiveBlock as it is written, and the entities that may stand in one.
-use Rattle.std.specs.Prelude.{ℕ, ℤ, pos, Bool, true, false, ◌&&◌, not, nat_le, if◌then◌else◌, List, [], ◌∷◌, length, map, Option, Some, None}
+use Rattle.std.specs.Prelude.{ℕ, ℤ, pos, Bool, true, false, ◌&&◌, not, nat_le, if◌then◌else◌, List, [], ◌∷◌, ◌++◌, length, map, Option, Some, None}
 use Rattle.std.specs.List.{flat_map, list_all, sum_by}
 use Rattle.std.specs.Option.{is_some}
 use Rattle.std.specs.Ordering.{int_eq}
-use Rattle.pbf_wire.specs.Message.{Slot, Scalar, Each, message, unless_empty}
+use Rattle.pbf_wire.specs.Message.{Slot, Scalar, Each, slot_bytes, message, unless_empty}
 use Rattle.pbf_wire.specs.Signed.{sign_extended}
 use Rattle.pbf_strings.specs.TableOut.{texts_after, table_message}
 use Rattle.osm_entity.specs.declared.scale.Scale.{Scale}
@@ -85,6 +85,11 @@ group_slots texts es =
 
 unfoldable pub group_message : List (List ℕ) → List EntitySpec → List ℕ
 group_message texts es = message (group_slots texts es)
+
+-- the fields of ways and relations alone
+abbrev pub messages_among : List (List ℕ) → List EntitySpec → List ℕ
+messages_among texts es =
+    slot_bytes (Each WAYS (map (way_message texts) (ways_among es))) ++ slot_bytes (Each RELATIONS (map (relation_message texts) (relations_among es)))
 
 -- a number that isn't the default
 abbrev pub unless_default : ℤ → ℤ → Option ℕ

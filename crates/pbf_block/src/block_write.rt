@@ -1,7 +1,7 @@
 //! A PrimitiveBlock, written from its parts.
 
 ghost use Rattle.std.specs.Prelude.{◌≡◌, ◌++◌, ◌∷◌, [], ◌<◌, ◌^◌, ℕ, List, OnOk};
-ghost use Rattle.pbf_wire.specs.Message.{Scalar, Each, slot_bytes, message};
+ghost use Rattle.pbf_wire.specs.Message.{Scalar, Each, slot_bytes, message, unless_empty};
 ghost use Rattle.pbf_strings.specs.TableOut.{table_message};
 ghost use Rattle.pbf_block.specs.WrittenBlock.{unless_default, block_slots};
 
@@ -9,7 +9,7 @@ use crate::message::{
     DATE_GRANULARITY, DENSE, GRANULARITY, LAT_OFFSET, LON_OFFSET, PRIMITIVEGROUP, STRINGTABLE,
 };
 use osm_entity::Scale;
-use pbf_wire::{put_bytes, put_number, sign_extended};
+use pbf_wire::{put_bytes, put_number, put_unless_empty, sign_extended};
 use std::alloc::AllocError;
 
 /// Appends a number, if it is not the default.
@@ -28,11 +28,11 @@ fn put_unless_default(
     Ok(())
 }
 
-/// Appends the message of dense nodes to a group.
+/// Appends the message of dense nodes to a group, if there are nodes in it.
 pub fn put_dense(group: &mut Vec<u8>, dense: &[u8]) -> Result<(), AllocError>
-    ensures { OnOk result (group.new.items ≡ group.old.items ++ slot_bytes (Each DENSE (dense.now ∷ []))) }
+    ensures { OnOk result (group.new.items ≡ group.old.items ++ slot_bytes (Each DENSE (unless_empty dense.now))) }
 {
-    put_bytes(group, DENSE, dense)?;
+    put_unless_empty(group, DENSE, dense)?;
     Ok(())
 }
 

@@ -1,0 +1,190 @@
+-- How entities that come one by one are cut.
+use Rattle.std.proofs.Common.{◌≡◌, ℕ, zero, suc, ◌+◌, ◌-◌, ◌<◌, ◌≤◌, List, [], ◌∷◌, ◌++◌, Bool, true, false, ◌&&◌, cond, leb, eqb, length, take, drop, refl, sym, ap, ◌∙◌, subst, arith, rules, append_assoc, append-nil, length-append, inl, inr, true≢false}
+use Rattle.std.specs.Prelude.{nat_le, if◌then◌else◌}
+use Rattle.std.specs.List.{sum_by, list_all, flat_map, AllByRecursion}
+use Rattle.std.proofs.lemmas.Bool.{cases_lt, cases_eq, leb-true, le-leb}
+use Rattle.std.proofs.Math.Bool.{and-true}
+use Rattle.std.proofs.lemmas.Bool.Decides.{nat_tests}
+use Rattle.std.proofs.lemmas.List.{take_at, drop_at, take_all, drop_all, length-drop, take-append-drop, take-take, length_push}
+use Rattle.std.proofs.lemmas.List.Sums.{sum_by-append, sum_by_push, sum_by-cons}
+use Rattle.osm_entity.specs.Entity.{EntitySpec}
+use Rattle.osm_entity.specs.Weight.{entity_weight}
+use Rattle.pbf_block.specs.WrittenBlock.{are_alike, all_alike, is_block}
+use Rattle.osm_pack.specs.Cuts.{extra, cuts_at_most, cuts, block_frame, written_entities, then_pending, then_written, at_end}
+
+both : (a b : Bool) → (a && b) ≡ true → (a ≡ true) × (b ≡ true)
+both true b h = (refl, h)
+both false b h = absurd (true≢false (sym h))
+
+and_assoc : (a b c : Bool) → ((a && b) && c) ≡ (a && (b && c))
+and_assoc true b c = refl
+and_assoc false b c = refl
+
+all_append : {X : Type 0} (test : X → Bool) (xs ys : List X) → list_all test (xs ++ ys) ≡ (list_all test xs && list_all test ys)
+all_append test [] ys = refl
+all_append test (x ∷ xs) ys = ap (λ b. test x && b) (all_append test xs ys) ∙ sym (and_assoc (test x) (list_all test xs) (list_all test ys))
+
+pub record Keeps (e : EntitySpec) (es : List EntitySpec) : Type 0 where
+  pub kinds : list_all (λ f. are_alike e f) es ≡ true
+  pub count : length es + 1 ≤ 8000
+  pub weight : entity_weight e + sum_by entity_weight es ≤ 12000000
+
+kept_parts : (e : EntitySpec) (es : List EntitySpec) → is_block (e ∷ es) ≡ true → Keeps e es
+unfolding is_block
+kept_parts e es h =
+    let all = both (list_all (λ f. are_alike e f) es) (nat_le (length (e ∷ es)) 8000 && nat_le (sum_by entity_weight (e ∷ es)) 12000000) h in
+    let sums = both (nat_le (length (e ∷ es)) 8000) (nat_le (sum_by entity_weight (e ∷ es)) 12000000) all.1 in
+    record {
+      kinds = all.0;
+      count = omega (arith, leb-true (length (e ∷ es)) 8000 sums.0);
+      weight = omega (arith, leb-true (sum_by entity_weight (e ∷ es)) 12000000 sums.1, sum_by-cons entity_weight e es);
+    }
+
+kept_from : (e : EntitySpec) (es : List EntitySpec) → Keeps e es → is_block (e ∷ es) ≡ true
+unfolding is_block
+kept_from e es h =
+    let count : leb (suc (length es)) 8000 ≡ true = le-leb _ _ (omega (arith, h.count)) in
+    let weight : leb (sum_by entity_weight (e ∷ es)) 12000000 ≡ true = le-leb _ _ (omega (arith, h.weight, sum_by-cons entity_weight e es)) in
+    rw (h.kinds, count, weight) refl
+
+-- a front of what may stand in a block may stand in one
+pub kept_left : (e : EntitySpec) (xs ys : List EntitySpec) → is_block (e ∷ (xs ++ ys)) ≡ true → is_block (e ∷ xs) ≡ true
+kept_left e xs ys h =
+    let k = kept_parts e (xs ++ ys) h in
+    kept_from e xs (record {
+      kinds = (both _ _ (sym (all_append (λ f. are_alike e f) xs ys) ∙ k.kinds)).0;
+      count = omega (arith, k.count, length-append xs ys);
+      weight = omega (arith, k.weight, sum_by-append entity_weight xs ys);
+    })
+
+pub kept_front : (e : EntitySpec) (es : List EntitySpec) (m n : ℕ) → m ≤ n → is_block (e ∷ take n es) ≡ true → is_block (e ∷ take m es) ≡ true
+kept_front e es m n h k =
+    let split : take m (take n es) ++ drop m (take n es) ≡ take n es = take-append-drop m (take n es) in
+    subst (λ xs. is_block (e ∷ xs) ≡ true) (take-take m n es h) (kept_left e (take m (take n es)) (drop m (take n es)) (subst (λ xs. is_block (e ∷ xs) ≡ true) (sym split) k))
+
+-- the longest front
+pub extra_is : (most k : ℕ) (e : EntitySpec) (es : List EntitySpec) → k ≤ most → is_block (e ∷ take k es) ≡ true → ((n : ℕ) → k < n → n ≤ most → is_block (e ∷ take n es) ≡ false) → extra most e es ≡ k
+extra_is zero k e es h keep ends = omega arith
+extra_is (suc most) k e es h keep ends =
+    elim (cases_eq k (suc most)) [
+      inl same ↦ rw (subst (λ n. is_block (e ∷ take n es) ≡ true) same keep) (sym same)
+    | inr other ↦ rw (ends (suc most) (omega arith) (omega arith)) (extra_is most k e es (omega arith) keep (λ n l m. ends n l (omega arith)))
+    ]
+
+fuel : (n m : ℕ) (es : List EntitySpec) → length es ≤ n → length es ≤ m → cuts_at_most n es ≡ cuts_at_most m es
+fuel zero zero [] p q = refl
+fuel zero (suc m) [] p q = refl
+fuel (suc n) zero [] p q = refl
+fuel (suc n) (suc m) [] p q = refl
+fuel zero m (e ∷ es) p q = absurd (omega arith)
+fuel (suc n) zero (e ∷ es) p q = absurd (omega arith)
+fuel (suc n) (suc m) (e ∷ es) p q =
+    let k = extra (length es) e es in
+    let short : length (drop k es) ≤ length es = omega (arith, length-drop k es) in
+    ap (λ bs. (e ∷ take k es) ∷ bs) (fuel n m (drop k es) (omega arith) (omega arith))
+
+cuts_none : (n : ℕ) → cuts_at_most n [] ≡ []
+cuts_none zero = refl
+cuts_none (suc n) = refl
+
+-- a block is closed where the next entity may not join it
+pub cuts_closed : (x : EntitySpec) (xs : List EntitySpec) (e : EntitySpec) (rest : List EntitySpec) → is_block (x ∷ xs) ≡ true → is_block (x ∷ (xs ++ e ∷ [])) ≡ false
+    → cuts ((x ∷ xs) ++ e ∷ rest) ≡ (x ∷ xs) ∷ cuts (e ∷ rest)
+unfolding cuts
+cuts_closed x xs e rest keep ends =
+    let all = xs ++ e ∷ rest in
+    let longer : length all ≡ length xs + (length rest + 1) = omega (arith, length-append xs (e ∷ rest)) in
+    let front : take (length xs) all ≡ xs = take_at xs (e ∷ rest) (length xs) refl in
+    let one_more : take (length xs + 1) all ≡ xs ++ e ∷ [] =
+        ap (take (length xs + 1)) (sym (append_assoc xs (e ∷ []) rest)) ∙ take_at (xs ++ e ∷ []) rest (length xs + 1) (length_push xs e) in
+    let stops : (n : ℕ) → length xs < n → n ≤ length all → is_block (x ∷ take n all) ≡ false = (λ n l m.
+        elim (is_block (x ∷ take n all)) as (λ b. is_block (x ∷ take n all) ≡ b → b ≡ false)
+        [ true ↦ λ k. sym (subst (λ ys. is_block (x ∷ ys) ≡ true) one_more (kept_front x all (length xs + 1) n (omega arith) k)) ∙ ends | false ↦ λ k. refl ] refl) in
+    let k : extra (length all) x all ≡ length xs = extra_is (length all) (length xs) x all (omega arith) (subst (λ ys. is_block (x ∷ ys) ≡ true) (sym front) keep) stops in
+    ap (λ n. (x ∷ take n all) ∷ cuts_at_most (length all) (drop n all)) k
+    ∙ (ap (λ ys. (x ∷ ys) ∷ cuts_at_most (length all) (drop (length xs) all)) front
+    ∙ ap (λ bs. (x ∷ xs) ∷ bs) (ap (cuts_at_most (length all)) (drop_at xs (e ∷ rest) (length xs) refl) ∙ fuel (length all) (length (e ∷ rest)) (e ∷ rest) (omega arith) (omega arith)))
+
+pub cuts_last : (x : EntitySpec) (xs : List EntitySpec) → is_block (x ∷ xs) ≡ true → cuts (x ∷ xs) ≡ (x ∷ xs) ∷ []
+unfolding cuts
+cuts_last x xs keep =
+    let front : take (length xs) xs ≡ xs = take_all (length xs) xs (omega arith) in
+    let k : extra (length xs) x xs ≡ length xs = extra_is (length xs) (length xs) x xs (omega arith) (subst (λ ys. is_block (x ∷ ys) ≡ true) (sym front) keep) (λ n l m. absurd (omega arith)) in
+    ap (λ n. (x ∷ take n xs) ∷ cuts_at_most (length xs) (drop n xs)) k
+    ∙ (ap (λ ys. (x ∷ ys) ∷ cuts_at_most (length xs) (drop (length xs) xs)) front
+    ∙ ap (λ bs. (x ∷ xs) ∷ bs) (ap (cuts_at_most (length xs)) (drop_all (length xs) xs (omega arith)) ∙ cuts_none (length xs)))
+
+pub bytes_closed : (x : EntitySpec) (xs : List EntitySpec) (e : EntitySpec) (rest : List EntitySpec) → is_block (x ∷ xs) ≡ true → is_block (x ∷ (xs ++ e ∷ [])) ≡ false
+    → written_entities ((x ∷ xs) ++ e ∷ rest) ≡ block_frame (x ∷ xs) ++ written_entities (e ∷ rest)
+bytes_closed x xs e rest keep ends = ap (flat_map block_frame) (cuts_closed x xs e rest keep ends)
+
+pub bytes_last : (x : EntitySpec) (xs : List EntitySpec) → is_block (x ∷ xs) ≡ true → written_entities (x ∷ xs) ≡ block_frame (x ∷ xs)
+bytes_last x xs keep = ap (flat_map block_frame) (cuts_last x xs keep) ∙ append-nil _
+
+-- whether one more may join
+-- whether entities are like those that are there
+abbrev pub like_first : List EntitySpec → EntitySpec → Bool
+like_first [] f = true
+like_first (e ∷ es) f = are_alike e f
+
+joins_more : (e : EntitySpec) (es : List EntitySpec) (f : EntitySpec) → is_block (e ∷ es) ≡ true
+    → (are_alike e f && (nat_le (length (e ∷ es) + 1) 8000 && nat_le (sum_by entity_weight (e ∷ es) + entity_weight f) 12000000)) ≡ is_block (e ∷ (es ++ f ∷ []))
+unfolding is_block
+joins_more e es f h =
+    let kept = kept_parts e es h in
+    let kinds : list_all (λ g. are_alike e g) (es ++ f ∷ []) ≡ are_alike e f =
+        all_append (λ g. are_alike e g) es (f ∷ []) ∙ (ap (λ b. b && (are_alike e f && true)) kept.kinds ∙ and-true _) in
+    let count : suc (length (es ++ f ∷ [])) ≡ suc (length es) + 1 = omega (arith, length_push es f) in
+    let weight : sum_by entity_weight (e ∷ (es ++ f ∷ [])) ≡ sum_by entity_weight (e ∷ es) + entity_weight f = sum_by_push entity_weight (e ∷ es) f in
+    rw (kinds, count, weight) refl
+
+-- whether one more may join
+pub joins : (es : List EntitySpec) (f : EntitySpec) → is_block es ≡ true
+    → (like_first es f && (nat_le (length es + 1) 8000 && nat_le (sum_by entity_weight es + entity_weight f) 12000000)) ≡ is_block (es ++ f ∷ [])
+unfolding is_block
+joins [] f h = refl
+joins (e ∷ es) f h = joins_more e es f h
+
+pub kept_bounds : (es : List EntitySpec) → is_block es ≡ true → (length es ≤ 8000) × (sum_by entity_weight es ≤ 12000000)
+unfolding is_block
+kept_bounds es h =
+    let all = both (all_alike es) (nat_le (length es) 8000 && nat_le (sum_by entity_weight es) 12000000) h in
+    let sums = both (nat_le (length es) 8000) (nat_le (sum_by entity_weight es) 12000000) all.1 in
+    (leb-true (length es) 8000 sums.0, leb-true (sum_by entity_weight es) 12000000 sums.1)
+
+pub kept_none : is_block [] ≡ true
+unfolding is_block
+kept_none = refl
+
+pub kept_one : (e : EntitySpec) → entity_weight e ≤ 12000000 → is_block (e ∷ []) ≡ true
+kept_one e h = kept_from e [] (record { kinds = refl; count = omega arith; weight = omega (arith, h) })
+
+pub bytes_none : written_entities [] ≡ []
+unfolding cuts
+bytes_none = refl
+
+closed : (es : List EntitySpec) (e : EntitySpec) (rest : List EntitySpec) → is_block es ≡ true → is_block (e ∷ []) ≡ true → is_block (es ++ e ∷ []) ≡ false → written_entities (es ++ e ∷ rest) ≡ block_frame es ++ written_entities (e ∷ rest)
+closed [] e rest h k stops = absurd (true≢false (sym k ∙ stops))
+closed (x ∷ xs) e rest h k stops = bytes_closed x xs e rest h stops
+
+-- what is written in the end stays the same by an entity more
+pub push_keeps : (es : List EntitySpec) (e : EntitySpec) (rest : List EntitySpec) → is_block es ≡ true → is_block (e ∷ []) ≡ true
+    → then_written es e ++ written_entities (then_pending es e ++ rest) ≡ written_entities (es ++ e ∷ rest)
+push_keeps es e rest h k = by (is_block (es ++ e ∷ [])) refl
+  where
+    by : (b : Bool) → is_block (es ++ e ∷ []) ≡ b → (if b then [] else block_frame es) ++ written_entities ((if b then es ++ e ∷ [] else e ∷ []) ++ rest) ≡ written_entities (es ++ e ∷ rest)
+    by true joins = ap written_entities (append_assoc es (e ∷ []) rest)
+    by false stops = sym (closed es e rest h k stops)
+
+-- the last block
+pub end_keeps : (es : List EntitySpec) → is_block es ≡ true → at_end es ≡ written_entities es
+end_keeps [] h = sym bytes_none
+end_keeps (e ∷ es) h = sym (bytes_last e es h)
+
+-- what is pending may stand in one block
+pub pending_kept : (es : List EntitySpec) (e : EntitySpec) → is_block (e ∷ []) ≡ true → is_block (then_pending es e) ≡ true
+pending_kept es e k = by (is_block (es ++ e ∷ [])) refl
+  where
+    by : (b : Bool) → is_block (es ++ e ∷ []) ≡ b → is_block (if b then es ++ e ∷ [] else e ∷ []) ≡ true
+    by true joins = joins
+    by false stops = k

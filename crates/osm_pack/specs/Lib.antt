@@ -1,0 +1,4 @@
+pub mod Cuts
+pub mod Sorts
+pub mod Open
+pub mod Packing

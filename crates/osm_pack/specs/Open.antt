@@ -1,0 +1,40 @@
+-- The block that is open: what it holds of its entities.
+use Rattle.std.specs.Prelude.{◌≡◌, ℕ, List, [], ◌∷◌, ◌++◌, length, true, Option, Some, None}
+use Rattle.std.specs.List.{sum_by}
+use Rattle.pbf_strings.specs.TableOut.{texts_after}
+use Rattle.osm_entity.specs.Entity.{EntitySpec}
+use Rattle.osm_entity.specs.Weight.{entity_weight}
+use Rattle.pbf_dense.specs.WrittenDense.{HoldsNodes}
+use Rattle.pbf_block.specs.WrittenBlock.{is_block, texts_of_all, nodes_among, messages_among}
+use Rattle.osm_pack.specs.declared.block.Block.{Block}
+use Rattle.osm_pack.specs.declared.sort.Sort.{Sort}
+use Rattle.osm_pack.specs.Sorts.{sort_of}
+
+-- what all are like, once there is one
+abbrev pub sort_among : List EntitySpec → Option Sort
+sort_among [] = None
+sort_among (e ∷ es) = Some (sort_of e)
+
+-- its fields are those of these entities, which may stand in one block, whatever texts are used later
+pub record Holds {S H : Type 0} (b : Block S H) (es : List EntitySpec) : Type 0 where
+  pub block : is_block es ≡ true
+  pub sort : b.sort ≡ sort_among es
+  pub count : b.count ≡ length es
+  pub weight : b.weight ≡ sum_by entity_weight es
+  pub texts : b.texts ≡ texts_of_all es
+  pub nodes : HoldsNodes b.nodes (texts_of_all es) (nodes_among es)
+  pub messages : (used : List (List ℕ)) → b.group.items ≡ messages_among (texts_after (texts_of_all es) used) es
+
+-- it is open: these are its entities, for some
+pub record IsOpen {S H : Type 0} (b : Block S H) : Type 0 where
+  pub entities : List EntitySpec
+  pub held : Holds b entities
+
+-- one more entity is encoded behind these, and nothing else is done
+pub record Encodes {S H : Type 0} (old new : Block S H) (es : List EntitySpec) (e : EntitySpec) : Type 0 where
+  pub sort : new.sort ≡ old.sort
+  pub count : new.count ≡ old.count
+  pub weight : new.weight ≡ old.weight
+  pub texts : new.texts ≡ texts_of_all (es ++ e ∷ [])
+  pub nodes : HoldsNodes new.nodes (texts_of_all (es ++ e ∷ [])) (nodes_among (es ++ e ∷ []))
+  pub messages : (used : List (List ℕ)) → new.group.items ≡ messages_among (texts_after (texts_of_all (es ++ e ∷ [])) used) (es ++ e ∷ [])

@@ -1,0 +1,48 @@
+-- What all entities of a block have alike.
+use Rattle.std.specs.Prelude.{Bool, true, false, ◌&&◌}
+use Rattle.std.specs.Option.{is_some}
+use Rattle.osm_entity.specs.declared.member.MemberKind.{MemberKind}
+use Rattle.osm_entity.specs.declared.member.MemberKind.TheVariants as kind
+use Rattle.osm_entity.specs.Entity.{MetaSpec, EntitySpec, node, way, relation}
+use Rattle.pbf_block.specs.WrittenBlock.{both, same_scale}
+use Rattle.osm_pack.specs.declared.sort.Fields.{Fields}
+use Rattle.osm_pack.specs.declared.sort.Sort.{Sort}
+
+-- which fields of metadata are present
+abbrev pub fields_of : MetaSpec → Fields
+fields_of m = record {
+  version = is_some m.version;
+  timestamp = is_some m.timestamp;
+  changeset = is_some m.changeset;
+  uid = is_some m.uid;
+  user = is_some m.user;
+  visible = is_some m.visible;
+}
+
+-- ways and relations have messages of their own, where it doesn't matter which fields others have
+abbrev pub no_fields : Fields
+no_fields = record { version = false; timestamp = false; changeset = false; uid = false; user = false; visible = false }
+
+abbrev pub sort_of : EntitySpec → Sort
+sort_of (node n) = record { kind = kind.Node; scale = n.scale; fields = fields_of n.meta }
+sort_of (way w) = record { kind = kind.Way; scale = w.scale; fields = no_fields }
+sort_of (relation r) = record { kind = kind.Relation; scale = r.scale; fields = no_fields }
+
+abbrev pub same_kind : MemberKind → MemberKind → Bool
+same_kind kind.Node kind.Node = true
+same_kind kind.Node kind.Way = false
+same_kind kind.Node kind.Relation = false
+same_kind kind.Way kind.Node = false
+same_kind kind.Way kind.Way = true
+same_kind kind.Way kind.Relation = false
+same_kind kind.Relation kind.Node = false
+same_kind kind.Relation kind.Way = false
+same_kind kind.Relation kind.Relation = true
+
+abbrev pub same_present : Fields → Fields → Bool
+same_present f g =
+    both f.version g.version && both f.timestamp g.timestamp && both f.changeset g.changeset
+    && both f.uid g.uid && both f.user g.user && both f.visible g.visible
+
+abbrev pub same_sort : Sort → Sort → Bool
+same_sort s t = same_kind s.kind t.kind && (same_scale s.scale t.scale && same_present s.fields t.fields)

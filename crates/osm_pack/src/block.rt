@@ -1,0 +1,168 @@
+//! The block that is open.
+
+ghost use Rattle.std.specs.Prelude.{◌≡◌, ◌↔◌, ◌+◌, ◌≤◌, ◌<◌, ◌&&◌, ◌++◌, ◌∷◌, [], List, true, nat_le, length, map, IsTrue, IfOk, OnOk, Option, Some, None, MatchOption};
+ghost use Rattle.osm_entity.specs.Entity.{EntitySpec, node, way, relation};
+ghost use Rattle.osm_entity.specs.Ranges.{EntityFits};
+ghost use Rattle.osm_entity.specs.Views.{entity_of};
+ghost use Rattle.osm_entity.specs.Weight.{entity_weight};
+ghost use Rattle.pbf_block.specs.WrittenBlock.{is_block, block_message, scale_among};
+ghost use Rattle.osm_pack.specs.Open.{Holds, IsOpen, Encodes};
+ghost use Rattle.osm_pack.specs.Sorts.{sort_of, same_sort};
+
+use crate::sort::Sort;
+use osm_entity::{EntityRef, Scale};
+use pbf_block::{EntityOut, put_block, put_dense};
+use pbf_dense::DenseOut;
+use pbf_strings::TableOut;
+use std::alloc::{AllocError, Global};
+use std::hash::BuildHasher;
+use std::mem;
+
+/// The most entities that a block has.
+const MOST_ENTITIES: usize = 8_000;
+
+/// The most that the entities of a block weigh together.
+const MOST_WEIGHT: u64 = 12_000_000;
+
+/// The scale that a block has where it says nothing else.
+const DEFAULT_SCALE: Scale = Scale {
+    granularity: 100,
+    date_granularity: 1_000,
+    lat_offset: 0,
+    lon_offset: 0,
+};
+
+/// The entities of a block, encoded as they come: nodes as columns, ways and relations as messages.
+#[derive(Drop)]
+pub(crate) struct Block<S: BuildHasher> {
+    sort: Option<Sort>,
+    count: usize,
+    weight: u64,
+    texts: TableOut<S>,
+    nodes: DenseOut,
+    group: Vec<u8>,
+    writer: EntityOut,
+}
+
+impl<S: BuildHasher> Block<S> {
+    /// A block without entities, which takes no memory yet.
+    pub(crate) fn new(alloc: Global, hasher: S) -> Block<S>
+        ensures { Holds result [] }
+    {
+        Block {
+            sort: None,
+            count: 0,
+            weight: 0,
+            texts: TableOut::new(alloc, hasher),
+            nodes: DenseOut::new(alloc),
+            group: Vec::new(alloc),
+            writer: EntityOut::new(alloc),
+        }
+    }
+
+    /// Takes all entities out, also of a block in which something failed.
+    pub(crate) fn clear(&mut self, alloc: Global)
+        ensures { Holds self.new [] }
+    {
+        self.sort = None;
+        self.count = 0;
+        self.weight = 0;
+        self.texts.clear();
+        self.nodes = DenseOut::new(alloc);
+        self.group.clear();
+    }
+
+    /// Whether there are no entities.
+    pub(crate) fn is_empty(&self) -> bool
+        ensures { (es : List EntitySpec) → Holds self.now es → IsTrue result ↔ (es ≡ []) }
+    {
+        self.count == 0
+    }
+
+    /// Whether entities like this one may stand in the block.
+    fn is_alike(&self, entity: &EntityRef<'_>) -> bool
+        ensures none { self.now.sort ≡ None → result ≡ true }
+        ensures some { (sort : _) → self.now.sort ≡ Some sort → result ≡ same_sort sort (sort_of (entity_of entity.now)) }
+    {
+        match self.sort {
+            Some(sort) => sort.same(Sort::of(entity)),
+            None => true,
+        }
+    }
+
+    /// Whether one more entity may stand in the block.
+    pub(crate) fn takes(&self, entity: &EntityRef<'_>) -> bool
+        requires { EntityFits (entity_of entity.now) }
+        ensures { (es : List EntitySpec) → Holds self.now es → result ≡ is_block (es ++ entity_of entity.now ∷ []) }
+    {
+        self.is_alike(entity)
+            && self.count < MOST_ENTITIES
+            && self.weight.saturating_add(entity.weight()) <= MOST_WEIGHT
+    }
+
+    /// Encodes an entity behind the others.
+    fn put(&mut self, entity: &EntityRef<'_>) -> Result<(), AllocError>
+        requires open { IsOpen self.old }
+        requires fits { EntityFits (entity_of entity.now) }
+        requires joins { (es : List EntitySpec) → Holds self.old es → is_block (es ++ entity_of entity.now ∷ []) ≡ true }
+        ensures { (es : List EntitySpec) → Holds self.old es → OnOk result (Encodes self.old self.new es (entity_of entity.now)) }
+    {
+        match entity {
+            EntityRef::Node(node) => self.nodes.push(node, &mut self.texts)?,
+            EntityRef::Way(way) => {
+                self.writer
+                    .put_way(&mut self.group, way, &mut self.texts)?;
+            }
+            EntityRef::Relation(relation) => {
+                self.writer
+                    .put_relation(&mut self.group, relation, &mut self.texts)?;
+            }
+        }
+        Ok(())
+    }
+
+    /// Adds an entity behind the others. After an `Err` the block has no stated content.
+    pub(crate) fn add(&mut self, entity: &EntityRef<'_>) -> Result<(), AllocError>
+        requires open { IsOpen self.old }
+        requires fits { EntityFits (entity_of entity.now) }
+        requires joins { (es : List EntitySpec) → Holds self.old es → is_block (es ++ entity_of entity.now ∷ []) ≡ true }
+        ensures { (es : List EntitySpec) → Holds self.old es → OnOk result (Holds self.new (es ++ entity_of entity.now ∷ [])) }
+    {
+        self.put(entity)?;
+        if self.sort.is_none() {
+            self.sort = Some(Sort::of(entity));
+        }
+        self.count += 1;
+        self.weight += entity.weight();
+        Ok(())
+    }
+
+    /// The scale of all entities.
+    fn scale(&self) -> Scale
+        ensures { (es : List EntitySpec) → Holds self.now es → result ≡ scale_among es }
+    {
+        match self.sort {
+            Some(sort) => sort.scale,
+            None => DEFAULT_SCALE,
+        }
+    }
+
+    /// The PrimitiveBlock of the entities, which are taken out. After an `Err` the block has no stated content.
+    pub(crate) fn close(&mut self, alloc: Global) -> Result<Vec<u8>, AllocError>
+        requires { IsOpen self.old }
+        ensures payload { (es : List EntitySpec) → Holds self.old es → IfOk result (λ payload. payload.items ≡ block_message es) }
+        ensures empty { OnOk result (Holds self.new []) }
+    {
+        let scale = self.scale();
+        let mut table = Vec::new(alloc);
+        self.texts.write(&mut table)?;
+        // The texts go before the payload is put together, so that no more than two copies of them are held at a time.
+        self.texts.clear();
+        let dense = mem::replace(&mut self.nodes, DenseOut::new(alloc)).finish(alloc)?;
+        put_dense(&mut self.group, &dense)?;
+        let mut payload = Vec::new(alloc);
+        put_block(&mut payload, &table, &self.group, scale)?;
+        self.clear(alloc);
+        Ok(payload)
+    }
+}

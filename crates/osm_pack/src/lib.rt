@@ -1,0 +1,9 @@
+//! Entities on their way into a file: cut into blocks, and written block by block.
+#![tactic(auto)]
+
+mod block;
+pub mod laws;
+mod packer;
+mod sort;
+
+pub use packer::Packer;

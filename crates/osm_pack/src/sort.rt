@@ -1,0 +1,120 @@
+//! What all entities of a block have alike.
+
+ghost use Rattle.std.specs.Prelude.{◌≡◌};
+ghost use Rattle.osm_entity.specs.Views.{meta_of, entity_of};
+ghost use Rattle.pbf_block.specs.WrittenBlock.{both, same_scale};
+ghost use Rattle.osm_pack.specs.Sorts.{fields_of, no_fields, sort_of, same_kind, same_present, same_sort};
+
+use osm_entity::{EntityRef, MemberKind, MetaRef, Scale};
+
+/// Whether both are so, or neither is.
+fn both(one: bool, other: bool) -> bool
+    ensures { result ≡ both one other }
+{
+    if one { other } else { !other }
+}
+
+/// Which fields of metadata are present.
+#[derive(Clone, Copy, Debug)]
+pub(crate) struct Fields {
+    version: bool,
+    timestamp: bool,
+    changeset: bool,
+    uid: bool,
+    user: bool,
+    visible: bool,
+}
+
+impl Fields {
+    /// None of them, as for ways and relations, where it does not matter.
+    fn none() -> Fields
+        ensures { result ≡ no_fields }
+    {
+        Fields {
+            version: false,
+            timestamp: false,
+            changeset: false,
+            uid: false,
+            user: false,
+            visible: false,
+        }
+    }
+
+    /// Those of a node.
+    fn of(meta: &MetaRef<'_>) -> Fields
+        ensures { result ≡ fields_of (meta_of meta.now) }
+    {
+        Fields {
+            version: meta.version.is_some(),
+            timestamp: meta.timestamp.is_some(),
+            changeset: meta.changeset.is_some(),
+            uid: meta.uid.is_some(),
+            user: meta.user.is_some(),
+            visible: meta.visible.is_some(),
+        }
+    }
+
+    /// Whether the same ones are present.
+    fn same(self, other: Fields) -> bool
+        ensures { result ≡ same_present self other }
+    {
+        both(self.version, other.version)
+            && both(self.timestamp, other.timestamp)
+            && both(self.changeset, other.changeset)
+            && both(self.uid, other.uid)
+            && both(self.user, other.user)
+            && both(self.visible, other.visible)
+    }
+}
+
+/// Whether stored numbers mean the same.
+fn is_same_scale(scale: Scale, other: Scale) -> bool
+    ensures { result ≡ same_scale scale other }
+{
+    scale.granularity == other.granularity
+        && scale.date_granularity == other.date_granularity
+        && scale.lat_offset == other.lat_offset
+        && scale.lon_offset == other.lon_offset
+}
+
+/// Whether entities are of one kind.
+fn is_same_kind(kind: MemberKind, other: MemberKind) -> bool
+    ensures { result ≡ same_kind kind other }
+{
+    kind == other
+}
+
+/// The kind and the scale of an entity, and of a node the fields of metadata that are present.
+#[derive(Clone, Copy, Debug)]
+pub(crate) struct Sort {
+    kind: MemberKind,
+    pub(crate) scale: Scale,
+    fields: Fields,
+}
+
+impl Sort {
+    /// That of an entity.
+    pub(crate) fn of(entity: &EntityRef<'_>) -> Sort
+        ensures { result ≡ sort_of (entity_of entity.now) }
+    {
+        let (kind, fields) = match entity {
+            EntityRef::Node(node) => (MemberKind::Node, Fields::of(&node.meta())),
+            EntityRef::Way(_) => (MemberKind::Way, Fields::none()),
+            EntityRef::Relation(_) => (MemberKind::Relation, Fields::none()),
+        };
+        Sort {
+            kind,
+            scale: entity.scale(),
+            fields,
+        }
+    }
+
+    /// Whether entities of the one and of the other may stand in one block.
+    pub(crate) fn same(self, other: Sort) -> bool
+        ensures { result ≡ same_sort self other }
+    {
+        is_same_kind(self.kind, other.kind)
+            && is_same_scale(self.scale, other.scale)
+            && self.fields.same(other.fields)
+    }
+}
