@@ -12,7 +12,7 @@ use Rattle.osm_entity.specs.Weight.{entity_weight}
 use Rattle.pbf_block.specs.WrittenBlock.{are_alike, all_alike, is_block}
 use Rattle.osm_pack.specs.Cuts.{extra, cuts_at_most, cuts, block_frame, written_entities, then_pending, then_written, at_end}
 
-both : (a b : Bool) → (a && b) ≡ true → (a ≡ true) × (b ≡ true)
+pub both : (a b : Bool) → (a && b) ≡ true → (a ≡ true) × (b ≡ true)
 both true b h = (refl, h)
 both false b h = absurd (true≢false (sym h))
 
@@ -29,7 +29,7 @@ pub record Keeps (e : EntitySpec) (es : List EntitySpec) : Type 0 where
   pub count : length es + 1 ≤ 8000
   pub weight : entity_weight e + sum_by entity_weight es ≤ 12000000
 
-kept_parts : (e : EntitySpec) (es : List EntitySpec) → is_block (e ∷ es) ≡ true → Keeps e es
+pub kept_parts : (e : EntitySpec) (es : List EntitySpec) → is_block (e ∷ es) ≡ true → Keeps e es
 unfolding is_block
 kept_parts e es h =
     let all = both (list_all (λ f. are_alike e f) es) (nat_le (length (e ∷ es)) 8000 && nat_le (sum_by entity_weight (e ∷ es)) 12000000) h in

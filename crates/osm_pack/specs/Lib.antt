@@ -1,4 +1,5 @@
 pub mod Cuts
 pub mod Sorts
 pub mod Open
+pub mod Stops
 pub mod Packing

@@ -1,10 +1,7 @@
 -- What a packer does to its drain.
-use Rattle.std.specs.Prelude.{◌≡◌, ℕ, Bool, List, [], ◌∷◌, ◌++◌, Option, Some, None}
+use Rattle.std.specs.Prelude.{◌≡◌, Bool, List, Some, None}
 use Rattle.osm_entity.specs.Entity.{EntitySpec}
 use Rattle.pbf_frame.specs.declared.stop.Stop.{Stop}
-use Rattle.pbf_frame.specs.declared.stop.Stop.TheVariants.{Refused, Read, Write, Memory, Changed}
-use Rattle.pbf_frame.specs.Devices.{append, HasRisen, IsFront}
-use Rattle.osm_pack.specs.Cuts.{then_pending, then_written, at_end}
 use Rattle.osm_pack.specs.Open.{Holds}
 use Rattle.osm_pack.specs.declared.packer.Packer.{Packer}
 
@@ -23,11 +20,3 @@ HasStopped packer stop = packer.stop ≡ Some stop
 -- whether a header was put
 abbrev pub has_header : {D S H : Type 0} → Packer D S H → Bool
 has_header packer = packer.begun
-
--- a packer's stop names the drain only where its count of failures rose, and never a feed
-abbrev pub IsPackStop : ℕ → ℕ → Stop → Type 0
-IsPackStop old new (Refused f) = ⊥
-IsPackStop old new Read = ⊥
-IsPackStop old new Write = HasRisen old new
-IsPackStop old new Memory = Unit {0}
-IsPackStop old new (Changed pass) = ⊥

@@ -1,5 +1,5 @@
 -- What all entities of a block have alike.
-use Rattle.std.specs.Prelude.{Bool, true, false, ◌&&◌}
+use Rattle.std.specs.Prelude.{Bool, true, false, ◌&&◌, Option, Some, None}
 use Rattle.std.specs.Option.{is_some}
 use Rattle.osm_entity.specs.declared.member.MemberKind.{MemberKind}
 use Rattle.osm_entity.specs.declared.member.MemberKind.TheVariants as kind
@@ -46,3 +46,8 @@ same_present f g =
 
 abbrev pub same_sort : Sort → Sort → Bool
 same_sort s t = same_kind s.kind t.kind && (same_scale s.scale t.scale && same_present s.fields t.fields)
+
+-- where there are entities, it is like theirs
+abbrev pub is_like : Option Sort → Sort → Bool
+is_like None other = true
+is_like (Some sort) other = same_sort sort other

@@ -7,7 +7,7 @@ ghost use Rattle.osm_entity.specs.Views.{entity_of};
 ghost use Rattle.osm_entity.specs.Weight.{entity_weight};
 ghost use Rattle.pbf_block.specs.WrittenBlock.{is_block, block_message, scale_among};
 ghost use Rattle.osm_pack.specs.Open.{Holds, IsOpen, Encodes};
-ghost use Rattle.osm_pack.specs.Sorts.{sort_of, same_sort};
+ghost use Rattle.osm_pack.specs.Sorts.{sort_of, is_like};
 
 use crate::sort::Sort;
 use osm_entity::{EntityRef, Scale};
@@ -42,6 +42,14 @@ pub(crate) struct Block<S: BuildHasher> {
     nodes: DenseOut,
     group: Vec<u8>,
     writer: EntityOut,
+}
+
+/// Whether an entity may join a block: by whether it is like those that are there, how many these are, what they weigh, and
+/// what it weighs.
+fn may_join(is_alike: bool, count: usize, weight: u64, more: u64) -> bool
+    ensures { result ≡ (is_alike && (nat_le (count + 1) 8000 && nat_le (weight + more) 12000000)) }
+{
+    is_alike && count < MOST_ENTITIES && weight.saturating_add(more) <= MOST_WEIGHT
 }
 
 impl<S: BuildHasher> Block<S> {
@@ -79,10 +87,9 @@ impl<S: BuildHasher> Block<S> {
         self.count == 0
     }
 
-    /// Whether entities like this one may stand in the block.
+    /// Whether an entity is like those that are there.
     fn is_alike(&self, entity: &EntityRef<'_>) -> bool
-        ensures none { self.now.sort ≡ None → result ≡ true }
-        ensures some { (sort : _) → self.now.sort ≡ Some sort → result ≡ same_sort sort (sort_of (entity_of entity.now)) }
+        ensures { result ≡ is_like self.now.sort (sort_of (entity_of entity.now)) }
     {
         match self.sort {
             Some(sort) => sort.same(Sort::of(entity)),
@@ -95,9 +102,12 @@ impl<S: BuildHasher> Block<S> {
         requires { EntityFits (entity_of entity.now) }
         ensures { (es : List EntitySpec) → Holds self.now es → result ≡ is_block (es ++ entity_of entity.now ∷ []) }
     {
-        self.is_alike(entity)
-            && self.count < MOST_ENTITIES
-            && self.weight.saturating_add(entity.weight()) <= MOST_WEIGHT
+        may_join(
+            self.is_alike(entity),
+            self.count,
+            self.weight,
+            entity.weight(),
+        )
     }
 
     /// Encodes an entity behind the others.
@@ -129,9 +139,7 @@ impl<S: BuildHasher> Block<S> {
         ensures { (es : List EntitySpec) → Holds self.old es → OnOk result (Holds self.new (es ++ entity_of entity.now ∷ [])) }
     {
         self.put(entity)?;
-        if self.sort.is_none() {
-            self.sort = Some(Sort::of(entity));
-        }
+        self.sort = Some(self.sort.unwrap_or(Sort::of(entity)));
         self.count += 1;
         self.weight += entity.weight();
         Ok(())

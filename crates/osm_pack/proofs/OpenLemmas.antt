@@ -1,0 +1,330 @@
+-- An open block, entity by entity.
+use Rattle.std.proofs.Common.{◌≡◌, ◌⊎◌, inl, inr, ℕ, ◌+◌, ◌*◌, ◌^◌, ◌<◌, ◌≤◌, List, [], ◌∷◌, ◌++◌, Bool, true, false, ◌&&◌, length, map, Option, Some, None, refl, sym, ap, ◌∙◌, subst, arith, append_assoc, append-nil, length-append, true≢false}
+use Rattle.std.specs.Prelude.{unwrap_or, nat_le, min, ◌-◌}
+use Rattle.osm_entity.specs.declared.scale.Scale.{Scale}
+use Rattle.std.specs.List.{sum_by, flat_map, list_all}
+use Rattle.std.proofs.lemmas.List.{length_push, map_push}
+use Rattle.std.proofs.lemmas.List.Sums.{sum_by_push, sum_by-cons}
+use Rattle.std.proofs.Math.Bool.{and-true}
+use Rattle.pbf_wire.specs.Message.{Each, slot_bytes, message, unless_empty}
+use Rattle.pbf_wire.proofs.WritingLemmas.{each_none, each_joined, message_first, message_none, message_one}
+use Rattle.pbf_strings.specs.TableOut.{texts_after, table_message}
+use Rattle.pbf_strings.proofs.UsedTexts.{after_both, used_later, length_after}
+use Rattle.osm_entity.specs.Entity.{NodeSpec, WaySpec, RelationSpec, EntitySpec, node, way, relation}
+use Rattle.osm_entity.specs.EntityTexts.{node_texts, way_texts, relation_texts, entity_texts}
+use Rattle.osm_entity.specs.Ranges.{EntityFits}
+use Rattle.osm_entity.specs.Weight.{entity_weight}
+use Rattle.osm_entity.proofs.TextCounts.{node_count, way_count, relation_count}
+use Rattle.pbf_dense.specs.declared.dense_out.DenseOut.{DenseOut}
+use Rattle.pbf_dense.specs.WrittenDense.{HoldsNodes, columns_of, dense_message, info_message}
+use Rattle.pbf_block.specs.WrittenBlock.{are_alike, is_block, nodes_among, ways_among, relations_among, texts_of_all, messages_among, group_message, scale_among, block_slots, block_message}
+use Rattle.pbf_block.specs.WrittenEntity.{way_message, relation_message}
+use Rattle.osm_pack.specs.declared.block.Block.{Block}
+use Rattle.osm_pack.specs.declared.sort.Sort.{Sort}
+use Rattle.osm_pack.specs.Sorts.{sort_of, same_sort, is_like}
+use Rattle.osm_pack.specs.Open.{sort_among, Holds, Encodes}
+use Rattle.osm_pack.proofs.CutLemmas.{like_first, joins, both, kept_parts, kept_bounds, kept_none, kept_one}
+
+-- ---- sorts
+
+pub alike_sorts : (e f : EntitySpec) → same_sort (sort_of e) (sort_of f) ≡ are_alike e f
+alike_sorts (node m) (node n) = refl
+alike_sorts (node m) (way w) = refl
+alike_sorts (node m) (relation r) = refl
+alike_sorts (way v) (node n) = refl
+alike_sorts (way v) (way w) = and-true _
+alike_sorts (way v) (relation r) = refl
+alike_sorts (relation q) (node n) = refl
+alike_sorts (relation q) (way w) = refl
+alike_sorts (relation q) (relation r) = and-true _
+
+pub sort_push : (es : List EntitySpec) (e : EntitySpec) → sort_among (es ++ e ∷ []) ≡ Some (unwrap_or (sort_among es) (sort_of e))
+sort_push [] e = refl
+sort_push (x ∷ es) e = refl
+
+-- ---- texts
+
+pub texts_push : (es : List EntitySpec) (e : EntitySpec) → texts_after (texts_of_all es) (entity_texts e) ≡ texts_of_all (es ++ e ∷ [])
+texts_push es e = sym (after_both (flat_map entity_texts es) (entity_texts e) []) ∙ ap (texts_after []) (joined es)
+  where
+    joined : (xs : List EntitySpec) → flat_map entity_texts xs ++ entity_texts e ≡ flat_map entity_texts (xs ++ e ∷ [])
+    joined [] = sym (append-nil (entity_texts e))
+    joined (x ∷ xs) = append_assoc (entity_texts x) (flat_map entity_texts xs) (entity_texts e) ∙ ap (λ ts. entity_texts x ++ ts) (joined xs)
+
+-- texts that are used after an entity are used after those of the entity
+pub texts_later : (es : List EntitySpec) (e : EntitySpec) (used : List (List ℕ)) → texts_after (texts_of_all es) (entity_texts e ++ used) ≡ texts_after (texts_of_all (es ++ e ∷ [])) used
+texts_later es e used = used_later (texts_of_all es) (texts_of_all (es ++ e ∷ [])) (entity_texts e) used (sym (texts_push es e))
+
+entity_count : (e : EntitySpec) → 16 * length (entity_texts e) ≤ entity_weight e
+entity_count (node n) = node_count n
+entity_count (way w) = way_count w
+entity_count (relation r) = relation_count r
+
+pub text_count : (es : List EntitySpec) → 16 * length (flat_map entity_texts es) ≤ sum_by entity_weight es
+text_count [] = omega arith
+text_count (e ∷ es) = let more = text_count es in omega (arith, more, entity_count e, length-append (entity_texts e) (flat_map entity_texts es), sum_by-cons entity_weight e es)
+
+-- there is room for the texts of an entity that may join
+pub room : (es : List EntitySpec) (e : EntitySpec) → is_block (es ++ e ∷ []) ≡ true → length (texts_of_all es) + length (entity_texts e) ≤ 1048575
+room es e h =
+    let bound = (kept_bounds (es ++ e ∷ []) h).1 in
+    omega (arith, bound, sum_by_push entity_weight es e, text_count es, entity_count e, length_after (flat_map entity_texts es) [])
+
+-- ---- the entities of each kind
+
+pub nodes_node : (es : List EntitySpec) (n : NodeSpec) → nodes_among (es ++ node n ∷ []) ≡ nodes_among es ++ n ∷ []
+nodes_node [] n = refl
+nodes_node (node m ∷ es) n = ap (λ ns. m ∷ ns) (nodes_node es n)
+nodes_node (way w ∷ es) n = nodes_node es n
+nodes_node (relation r ∷ es) n = nodes_node es n
+
+pub nodes_way : (es : List EntitySpec) (w : WaySpec) → nodes_among (es ++ way w ∷ []) ≡ nodes_among es
+nodes_way [] w = refl
+nodes_way (node m ∷ es) w = ap (λ ns. m ∷ ns) (nodes_way es w)
+nodes_way (way v ∷ es) w = nodes_way es w
+nodes_way (relation r ∷ es) w = nodes_way es w
+
+pub nodes_relation : (es : List EntitySpec) (r : RelationSpec) → nodes_among (es ++ relation r ∷ []) ≡ nodes_among es
+nodes_relation [] r = refl
+nodes_relation (node m ∷ es) r = ap (λ ns. m ∷ ns) (nodes_relation es r)
+nodes_relation (way v ∷ es) r = nodes_relation es r
+nodes_relation (relation q ∷ es) r = nodes_relation es r
+
+ways_node : (es : List EntitySpec) (n : NodeSpec) → ways_among (es ++ node n ∷ []) ≡ ways_among es
+ways_node [] n = refl
+ways_node (node m ∷ es) n = ways_node es n
+ways_node (way w ∷ es) n = ap (λ ws. w ∷ ws) (ways_node es n)
+ways_node (relation r ∷ es) n = ways_node es n
+
+ways_way : (es : List EntitySpec) (w : WaySpec) → ways_among (es ++ way w ∷ []) ≡ ways_among es ++ w ∷ []
+ways_way [] w = refl
+ways_way (node m ∷ es) w = ways_way es w
+ways_way (way v ∷ es) w = ap (λ ws. v ∷ ws) (ways_way es w)
+ways_way (relation r ∷ es) w = ways_way es w
+
+ways_relation : (es : List EntitySpec) (r : RelationSpec) → ways_among (es ++ relation r ∷ []) ≡ ways_among es
+ways_relation [] r = refl
+ways_relation (node m ∷ es) r = ways_relation es r
+ways_relation (way v ∷ es) r = ap (λ ws. v ∷ ws) (ways_relation es r)
+ways_relation (relation q ∷ es) r = ways_relation es r
+
+relations_node : (es : List EntitySpec) (n : NodeSpec) → relations_among (es ++ node n ∷ []) ≡ relations_among es
+relations_node [] n = refl
+relations_node (node m ∷ es) n = relations_node es n
+relations_node (way w ∷ es) n = relations_node es n
+relations_node (relation r ∷ es) n = ap (λ rs. r ∷ rs) (relations_node es n)
+
+relations_way : (es : List EntitySpec) (w : WaySpec) → relations_among (es ++ way w ∷ []) ≡ relations_among es
+relations_way [] w = refl
+relations_way (node m ∷ es) w = relations_way es w
+relations_way (way v ∷ es) w = relations_way es w
+relations_way (relation r ∷ es) w = ap (λ rs. r ∷ rs) (relations_way es w)
+
+relations_relation : (es : List EntitySpec) (r : RelationSpec) → relations_among (es ++ relation r ∷ []) ≡ relations_among es ++ r ∷ []
+relations_relation [] r = refl
+relations_relation (node m ∷ es) r = relations_relation es r
+relations_relation (way v ∷ es) r = relations_relation es r
+relations_relation (relation q ∷ es) r = ap (λ rs. q ∷ rs) (relations_relation es r)
+
+-- ---- all of one kind
+
+like_node : (n : NodeSpec) (es : List EntitySpec) → list_all (are_alike (node n)) es ≡ true → (ways_among es ≡ []) × (relations_among es ≡ [])
+like_node n [] h = (refl, refl)
+like_node n (node m ∷ es) h = like_node n es (both (are_alike (node n) (node m)) (list_all (are_alike (node n)) es) h).1
+like_node n (way v ∷ es) h = absurd (true≢false (sym h))
+like_node n (relation r ∷ es) h = absurd (true≢false (sym h))
+
+like_way : (w : WaySpec) (es : List EntitySpec) → list_all (are_alike (way w)) es ≡ true → (nodes_among es ≡ []) × (relations_among es ≡ [])
+like_way w [] h = (refl, refl)
+like_way w (node m ∷ es) h = absurd (true≢false (sym h))
+like_way w (way v ∷ es) h = like_way w es (both (are_alike (way w) (way v)) (list_all (are_alike (way w)) es) h).1
+like_way w (relation r ∷ es) h = absurd (true≢false (sym h))
+
+like_relation : (r : RelationSpec) (es : List EntitySpec) → list_all (are_alike (relation r)) es ≡ true → nodes_among es ≡ []
+like_relation r [] h = refl
+like_relation r (node m ∷ es) h = absurd (true≢false (sym h))
+like_relation r (way v ∷ es) h = absurd (true≢false (sym h))
+like_relation r (relation q ∷ es) h = like_relation r es (both (are_alike (relation r) (relation q)) (list_all (are_alike (relation r)) es) h).1
+
+-- a block has nodes alone, or none
+pub nodes_or_others : (es : List EntitySpec) → is_block es ≡ true → (nodes_among es ≡ []) ⊎ ((ways_among es ≡ []) × (relations_among es ≡ []))
+nodes_or_others [] h = inl refl
+nodes_or_others (node n ∷ es) h = inr (like_node n es (kept_parts (node n) es h).kinds)
+nodes_or_others (way w ∷ es) h = inl (like_way w es (kept_parts (way w) es h).kinds).0
+nodes_or_others (relation r ∷ es) h = inl (like_relation r es (kept_parts (relation r) es h).kinds)
+
+like_joins : (es : List EntitySpec) (f : EntitySpec) → is_block es ≡ true → is_block (es ++ f ∷ []) ≡ true → like_first es f ≡ true
+like_joins es f h k = (both (like_first es f) _ (joins es f h ∙ k)).0
+
+-- a way joins no relations
+pub before_way : (es : List EntitySpec) (w : WaySpec) → is_block es ≡ true → is_block (es ++ way w ∷ []) ≡ true → relations_among es ≡ []
+before_way [] w h k = refl
+before_way (node n ∷ es) w h k = absurd (true≢false (sym (like_joins (node n ∷ es) (way w) h k)))
+before_way (way v ∷ es) w h k = (like_way v es (kept_parts (way v) es h).kinds).1
+before_way (relation r ∷ es) w h k = absurd (true≢false (sym (like_joins (relation r ∷ es) (way w) h k)))
+
+-- ---- the bytes of a group
+
+pub no_messages : (texts : List (List ℕ)) → messages_among texts [] ≡ []
+no_messages texts = rw (each_none 3, each_none 4) refl
+
+messages_node : (texts : List (List ℕ)) (es : List EntitySpec) (n : NodeSpec) → messages_among texts es ≡ messages_among texts (es ++ node n ∷ [])
+messages_node texts es n = rw (ways_node es n, relations_node es n) refl
+
+pushed : {X : Type 0} (number : ℕ) (f : X → List ℕ) (xs : List X) (x : X) → slot_bytes (Each number (map f xs)) ++ slot_bytes (Each number (f x ∷ [])) ≡ slot_bytes (Each number (map f (xs ++ x ∷ [])))
+pushed number f xs x = sym (each_joined number (map f xs) (f x ∷ [])) ∙ ap (λ (ms : List (List ℕ)). slot_bytes (Each number ms)) (sym (map_push f xs x))
+
+messages_way : (texts : List (List ℕ)) (es : List EntitySpec) (w : WaySpec) → relations_among es ≡ [] → messages_among texts es ++ slot_bytes (Each 3 (way_message texts w ∷ [])) ≡ messages_among texts (es ++ way w ∷ [])
+messages_way texts es w none =
+    rw (ways_way es w, relations_way es w, none, each_none 4)
+      (ap (λ (bs : List ℕ). bs ++ slot_bytes (Each 3 (way_message texts w ∷ []))) (append-nil (slot_bytes (Each 3 (map (way_message texts) (ways_among es))))) ∙ (pushed 3 (way_message texts) (ways_among es) w ∙ sym (append-nil _)))
+
+messages_relation : (texts : List (List ℕ)) (es : List EntitySpec) (r : RelationSpec) → messages_among texts es ++ slot_bytes (Each 4 (relation_message texts r ∷ [])) ≡ messages_among texts (es ++ relation r ∷ [])
+messages_relation texts es r =
+    rw (ways_relation es r, relations_relation es r, append_assoc) (ap (λ (bs : List ℕ). slot_bytes (Each 3 (map (way_message texts) (ways_among es))) ++ bs) (pushed 4 (relation_message texts) (relations_among es) r))
+
+no_dense : (texts : List (List ℕ)) → dense_message texts [] ≡ []
+unfolding dense_message info_message message
+no_dense texts = refl
+
+group_parts : (texts : List (List ℕ)) (es : List EntitySpec) → group_message texts es ≡ slot_bytes (Each 2 (unless_empty (dense_message texts (nodes_among es)))) ++ messages_among texts es
+unfolding group_message
+group_parts texts es =
+    message_first _ _ ∙ ap (λ (bs : List ℕ). slot_bytes (Each 2 (unless_empty (dense_message texts (nodes_among es)))) ++ bs) (message_first _ _ ∙ ap (λ (bs : List ℕ). slot_bytes (Each 3 (map (way_message texts) (ways_among es))) ++ bs) (message_one _))
+
+-- the message of the nodes comes last in the code and first in the group: one of the two is empty
+pub group_closed : (texts : List (List ℕ)) (es : List EntitySpec) → is_block es ≡ true → messages_among texts es ++ slot_bytes (Each 2 (unless_empty (dense_message texts (nodes_among es)))) ≡ group_message texts es
+group_closed texts es h = by (nodes_or_others es h) ∙ sym (group_parts texts es)
+  where
+    by : (nodes_among es ≡ []) ⊎ ((ways_among es ≡ []) × (relations_among es ≡ []))
+        → messages_among texts es ++ slot_bytes (Each 2 (unless_empty (dense_message texts (nodes_among es)))) ≡ slot_bytes (Each 2 (unless_empty (dense_message texts (nodes_among es)))) ++ messages_among texts es
+    by (inl none) = rw (none, no_dense texts, each_none 2) (append-nil _)
+    by (inr none) = rw (none.0, none.1, each_none 3, each_none 4) (sym (append-nil _))
+
+-- ---- nodes
+
+nodes_later : (out : DenseOut) (texts used : List (List ℕ)) (ns : List NodeSpec) → HoldsNodes out texts ns → HoldsNodes out (texts_after texts used) ns
+nodes_later out texts used ns h = record { columns = λ more. h.columns (used ++ more) ∙ ap (λ ts. columns_of ts ns) (after_both used more texts) }
+
+-- ---- the block
+
+like : (es : List EntitySpec) (f : EntitySpec) → is_like (sort_among es) (sort_of f) ≡ like_first es f
+like [] f = refl
+like (e ∷ es) f = alike_sorts e f
+
+light : (e : EntitySpec) → EntityFits e → entity_weight e ≤ 12000000
+light (node n) h = h.light
+light (way w) h = h.light
+light (relation r) h = h.light
+
+-- an entity that fits may stand alone
+pub alone : (e : EntitySpec) → EntityFits e → is_block (e ∷ []) ≡ true
+alone e h = kept_one e (light e h)
+
+pub exact : (e : EntitySpec) (n : ℕ) → EntityFits e → n ≡ min (entity_weight e) (2 ^ 64 - 1) → n ≡ entity_weight e
+exact e n h m = let l = light e h in omega (arith, m, l)
+
+module _ {S H : Type 0} where
+  pub none_held : (b : Block S H) → b.sort ≡ None → b.count ≡ 0 → b.weight ≡ 0 → b.texts ≡ [] → ((texts : List (List ℕ)) → HoldsNodes b.nodes texts []) → b.group.items ≡ [] → Holds b []
+  none_held b s n w t d g = record { block = kept_none; sort = s; count = n; weight = w; texts = t; nodes = d []; messages = λ used. g ∙ sym (no_messages (texts_after [] used)) }
+
+  pub record Kept (old new : Block S H) : Type 0 where
+    pub sort : new.sort ≡ old.sort
+    pub count : new.count ≡ old.count
+    pub weight : new.weight ≡ old.weight
+
+  used_now : (old new : Block S H) (es : List EntitySpec) (e : EntitySpec) → Holds old es → new.texts ≡ texts_after old.texts (entity_texts e) → new.texts ≡ texts_of_all (es ++ e ∷ [])
+  used_now old new es e h t = t ∙ (ap (λ ts. texts_after ts (entity_texts e)) h.texts ∙ texts_push es e)
+
+  messages_now : (old : Block S H) (es : List EntitySpec) (e : EntitySpec) (used : List (List ℕ)) → Holds old es → old.group.items ≡ messages_among (texts_after (texts_of_all (es ++ e ∷ [])) used) es
+  messages_now old es e used h = h.messages (entity_texts e ++ used) ∙ ap (λ ts. messages_among ts es) (texts_later es e used)
+
+  nodes_now : (old : Block S H) (es : List EntitySpec) (e : EntitySpec) → Holds old es → HoldsNodes old.nodes (texts_of_all (es ++ e ∷ [])) (nodes_among es)
+  nodes_now old es e h = subst (λ ts. HoldsNodes old.nodes ts (nodes_among es)) (texts_push es e) (nodes_later old.nodes (texts_of_all es) (entity_texts e) (nodes_among es) h.nodes)
+
+  pub node_encoded : (old new : Block S H) (es : List EntitySpec) (n : NodeSpec) → Holds old es → Kept old new
+      → new.texts ≡ texts_after old.texts (node_texts n) → ((ns : List NodeSpec) → HoldsNodes old.nodes old.texts ns → HoldsNodes new.nodes new.texts (ns ++ n ∷ [])) → new.group ≡ old.group
+      → Encodes old new es (node n)
+  node_encoded old new es n h k t d g =
+      let now = used_now old new es (node n) h t in
+      record {
+        sort = k.sort;
+        count = k.count;
+        weight = k.weight;
+        texts = now;
+        nodes = subst (λ ts. HoldsNodes new.nodes ts (nodes_among (es ++ node n ∷ []))) now
+          (subst (λ ns. HoldsNodes new.nodes new.texts ns) (sym (nodes_node es n)) (d (nodes_among es) (subst (λ ts. HoldsNodes old.nodes ts (nodes_among es)) (sym h.texts) h.nodes)));
+        messages = λ used. ap (λ g. g.items) g ∙ (messages_now old es (node n) used h ∙ messages_node _ es n);
+      }
+
+  pub way_encoded : (old new : Block S H) (es : List EntitySpec) (w : WaySpec) → Holds old es → Kept old new → is_block (es ++ way w ∷ []) ≡ true
+      → new.texts ≡ texts_after old.texts (way_texts w) → new.nodes ≡ old.nodes → ((used : List (List ℕ)) → new.group.items ≡ old.group.items ++ slot_bytes (Each 3 (way_message (texts_after new.texts used) w ∷ [])))
+      → Encodes old new es (way w)
+  way_encoded old new es w h k join t d g =
+      let now = used_now old new es (way w) h t in
+      record {
+        sort = k.sort;
+        count = k.count;
+        weight = k.weight;
+        texts = now;
+        nodes = subst (λ ns. HoldsNodes new.nodes (texts_of_all (es ++ way w ∷ [])) ns) (sym (nodes_way es w)) (subst (λ out. HoldsNodes out (texts_of_all (es ++ way w ∷ [])) (nodes_among es)) (sym d) (nodes_now old es (way w) h));
+        messages = λ used.
+          g used ∙ (ap (λ ts. old.group.items ++ slot_bytes (Each 3 (way_message (texts_after ts used) w ∷ []))) now
+          ∙ (ap (λ (bs : List ℕ). bs ++ slot_bytes (Each 3 (way_message (texts_after (texts_of_all (es ++ way w ∷ [])) used) w ∷ []))) (messages_now old es (way w) used h)
+          ∙ messages_way _ es w (before_way es w h.block join)));
+      }
+
+  pub relation_encoded : (old new : Block S H) (es : List EntitySpec) (r : RelationSpec) → Holds old es → Kept old new
+      → new.texts ≡ texts_after old.texts (relation_texts r) → new.nodes ≡ old.nodes → ((used : List (List ℕ)) → new.group.items ≡ old.group.items ++ slot_bytes (Each 4 (relation_message (texts_after new.texts used) r ∷ [])))
+      → Encodes old new es (relation r)
+  relation_encoded old new es r h k t d g =
+      let now = used_now old new es (relation r) h t in
+      record {
+        sort = k.sort;
+        count = k.count;
+        weight = k.weight;
+        texts = now;
+        nodes = subst (λ ns. HoldsNodes new.nodes (texts_of_all (es ++ relation r ∷ [])) ns) (sym (nodes_relation es r)) (subst (λ out. HoldsNodes out (texts_of_all (es ++ relation r ∷ [])) (nodes_among es)) (sym d) (nodes_now old es (relation r) h));
+        messages = λ used.
+          g used ∙ (ap (λ ts. old.group.items ++ slot_bytes (Each 4 (relation_message (texts_after ts used) r ∷ []))) now
+          ∙ (ap (λ (bs : List ℕ). bs ++ slot_bytes (Each 4 (relation_message (texts_after (texts_of_all (es ++ relation r ∷ [])) used) r ∷ []))) (messages_now old es (relation r) used h)
+          ∙ messages_relation _ es r));
+      }
+
+  -- an entity that is encoded and counted
+  pub added : (old new block : Block S H) (es : List EntitySpec) (e : EntitySpec) → Holds old es → is_block (es ++ e ∷ []) ≡ true → Encodes old new es e
+      → block.sort ≡ Some (unwrap_or new.sort (sort_of e)) → block.count ≡ new.count + 1 → block.weight ≡ new.weight + entity_weight e → block.texts ≡ new.texts → block.nodes ≡ new.nodes → block.group ≡ new.group
+      → Holds block (es ++ e ∷ [])
+  added old new block es e h join n s c w t d g = record {
+      block = join;
+      sort = s ∙ (ap (λ o. Some (unwrap_or o (sort_of e))) (n.sort ∙ h.sort) ∙ sym (sort_push es e));
+      count = c ∙ (ap (λ k. k + 1) (n.count ∙ h.count) ∙ sym (length_push es e));
+      weight = w ∙ (ap (λ k. k + entity_weight e) (n.weight ∙ h.weight) ∙ sym (sum_by_push entity_weight es e));
+      texts = t ∙ n.texts;
+      nodes = subst (λ out. HoldsNodes out (texts_of_all (es ++ e ∷ [])) (nodes_among (es ++ e ∷ []))) (sym d) n.nodes;
+      messages = λ used. ap (λ g. g.items) g ∙ n.messages used;
+    }
+
+  pub room_held : (b : Block S H) (es : List EntitySpec) (e : EntitySpec) → Holds b es → is_block (es ++ e ∷ []) ≡ true → length b.texts + length (entity_texts e) ≤ 1048575
+  room_held b es e h join = rw h.texts (room es e join)
+
+  pub bounds : (b : Block S H) (es : List EntitySpec) (e : EntitySpec) → Holds b es → is_block (es ++ e ∷ []) ≡ true → (b.count + 1 ≤ 8000) × (b.weight + entity_weight e ≤ 12000000)
+  bounds b es e h join =
+      let n = kept_bounds (es ++ e ∷ []) join in
+      (omega (arith, n.0, h.count, length_push es e), omega (arith, n.1, h.weight, sum_by_push entity_weight es e))
+
+  -- whether an entity may join, as the code finds it
+  pub taken : (b : Block S H) (es : List EntitySpec) (e : EntitySpec) (alike : Bool) (more : ℕ) (answer : Bool) → Holds b es → EntityFits e → alike ≡ is_like b.sort (sort_of e) → more ≡ min (entity_weight e) (2 ^ 64 - 1)
+      → answer ≡ (alike && (nat_le (b.count + 1) 8000 && nat_le (b.weight + more) 12000000)) → answer ≡ is_block (es ++ e ∷ [])
+  taken b es e alike more answer h fits a m r =
+      r ∙ (rw (a, h.sort, like es e, h.count, h.weight, exact e more fits m) refl ∙ joins es e h.block)
+
+  -- the bytes of a block that is closed
+  pub closed : (b : Block S H) (es : List EntitySpec) (scale : Scale) (table dense group payload : List ℕ) → Holds b es → scale ≡ scale_among es → table ≡ table_message b.texts
+      → dense ≡ dense_message (texts_of_all es) (nodes_among es) → group ≡ b.group.items ++ slot_bytes (Each 2 (unless_empty dense))
+      → ((texts : List (List ℕ)) → table ≡ table_message texts → payload ≡ message (block_slots scale texts group)) → payload ≡ block_message es
+  unfolding block_message
+  closed b es scale table dense group payload h s t d g p =
+      let whole : group ≡ group_message (texts_of_all es) es =
+        g ∙ (ap (λ (bs : List ℕ). b.group.items ++ slot_bytes (Each 2 (unless_empty bs))) d ∙ (ap (λ (bs : List ℕ). bs ++ slot_bytes (Each 2 (unless_empty (dense_message (texts_of_all es) (nodes_among es))))) (h.messages []) ∙ group_closed (texts_of_all es) es h.block)) in
+      p (texts_of_all es) (t ∙ ap table_message h.texts) ∙ rw (s, whole) refl
