@@ -328,3 +328,8 @@ module _ {S H : Type 0} where
       let whole : group ≡ group_message (texts_of_all es) es =
         g ∙ (ap (λ (bs : List ℕ). b.group.items ++ slot_bytes (Each 2 (unless_empty bs))) d ∙ (ap (λ (bs : List ℕ). bs ++ slot_bytes (Each 2 (unless_empty (dense_message (texts_of_all es) (nodes_among es))))) (h.messages []) ∙ group_closed (texts_of_all es) es h.block)) in
       p (texts_of_all es) (t ∙ ap table_message h.texts) ∙ rw (s, whole) refl
+
+  -- a block without entities holds no others
+  pub only_none : (b : Block S H) (es : List EntitySpec) → Holds b [] → Holds b es → es ≡ []
+  only_none b [] h k = refl
+  only_none b (e ∷ es) h k = absurd (omega (arith, h.count, k.count))

@@ -2,6 +2,7 @@
 #![tactic(auto)]
 
 mod block;
+mod frames;
 pub mod laws;
 mod packer;
 mod sort;

@@ -1,99 +1,55 @@
 //! Entities on their way into a drain.
 
-ghost use Rattle.std.specs.Prelude.{◌≡◌, ◌≤◌, ◌<◌, ◌++◌, ◌∷◌, [], List, length, true, false, Some, None, Err, IfErr, OnOk, OnErr};
-ghost use Rattle.osm_entity.specs.Entity.{EntitySpec};
-ghost use Rattle.osm_entity.specs.Ranges.{EntityFits};
-ghost use Rattle.osm_entity.specs.Views.{entity_of};
-ghost use Rattle.pbf_block.specs.Header.{header_of};
-ghost use Rattle.pbf_block.specs.WrittenBlock.{is_block, block_message};
-ghost use Rattle.pbf_block.specs.WrittenHeader.{header_message, header_out_for_convert};
-ghost use Rattle.pbf_frame.specs.Devices.{append, IsFront};
-ghost use Rattle.pbf_frame.specs.declared.stop.Stop.{Stop};
-ghost use Rattle.osm_pack.specs.Cuts.{block_frame, header_frame, then_pending, then_written, at_end};
-ghost use Rattle.osm_pack.specs.Open.{Holds, IsOpen};
-ghost use Rattle.osm_pack.specs.Packing.{Pending, IsPacking, HasStopped, has_header, IsPackStop};
-
 use crate::block::Block;
+use crate::frames::{finish_into, push_into, put_header_into};
 use osm_entity::EntityRef;
 use pbf_block::Header;
-use pbf_frame::{Drain, FrameKind, Stop, put_frame};
+use pbf_frame::{Drain, Stop};
 use std::alloc::Global;
 use std::hash::BuildHasher;
+use std::marker::Model;
 
 /// Packs entities into blocks, and writes each block when the next entity does not fit into it.
 ///
 /// Each block is the longest front of what is left that is of one kind and one scale, for nodes with one set of metadata
-/// fields, of at most 8,000 entities that weigh at most 12,000,000 together.
+/// fields, of at most 8,000 entities that weigh at most 12,000,000 together. An entity is encoded when it is pushed, and takes
+/// no memory of its own once the columns have grown.
 #[derive(Drop)]
-pub struct Packer<D, S: BuildHasher> {
-    /// The drain, behind the frames that are written.
-    pub drain: D,
+pub struct Packer<D: Drain, S: BuildHasher> {
+    drain: D,
     block: Block<S>,
     begun: bool,
     stop: Option<Stop>,
     alloc: Global,
-    ghost open: { IsOpen block },
 }
 
-/// Writes a block, which is empty then.
-fn close_into<D: Drain, S: BuildHasher>(
-    alloc: Global,
-    drain: &mut D,
-    block: &mut Block<S>,
-) -> Result<(), Stop>
-    requires { IsOpen block.old }
-    ensures written { (es : List EntitySpec) → Holds block.old es → OnOk result (D.taken drain.new ≡ append (D.taken drain.old) (block_frame es)) }
-    ensures empty { OnOk result (Holds block.new []) }
-    ensures front { (es : List EntitySpec) → Holds block.old es → IsFront (D.taken drain.old) (D.taken drain.new) (block_frame es) }
-    ensures stops { IfErr result (IsPackStop (D.failures drain.old) (D.failures drain.new)) }
-    ensures counts { D.failures drain.old ≤ D.failures drain.new }
-    ensures lender { D.lender drain.new ≡ D.lender drain.old }
-{
-    let payload = block.close(alloc)?;
-    put_frame(drain, FrameKind::Data, &payload)?;
-    Ok(())
-}
+impl<D: Drain, S: BuildHasher> Model for Packer<D, S> {
+    ghost use Rattle.osm_pack.specs.Packing.{Packing};
 
-/// The work of a push.
-fn push_into<D: Drain, S: BuildHasher>(
-    alloc: Global,
-    drain: &mut D,
-    block: &mut Block<S>,
-    entity: &EntityRef<'_>,
-) -> Result<(), Stop>
-    requires open { IsOpen block.old }
-    requires fits { EntityFits (entity_of entity.now) }
-    ensures pending { (es : List EntitySpec) → Holds block.old es → OnOk result (Holds block.new (then_pending es (entity_of entity.now))) }
-    ensures written { (es : List EntitySpec) → Holds block.old es → OnOk result (D.taken drain.new ≡ append (D.taken drain.old) (then_written es (entity_of entity.now))) }
-    ensures front { (es : List EntitySpec) → Holds block.old es → IsFront (D.taken drain.old) (D.taken drain.new) (then_written es (entity_of entity.now)) }
-    ensures stops { IfErr result (IsPackStop (D.failures drain.old) (D.failures drain.new)) }
-    ensures counts { D.failures drain.old ≤ D.failures drain.new }
-    ensures lender { D.lender drain.new ≡ D.lender drain.old }
-{
-    if !block.takes(entity) {
-        close_into(alloc, drain, block)?;
-    }
-    block.add(entity)?;
-    Ok(())
-}
+    ghost Value = { Packing D S S.Hasher };
 
-/// Writes a header.
-fn put_header_into<D: Drain>(alloc: Global, drain: &mut D, header: &Header) -> Result<(), Stop>
-    requires { length (header_message (header_out_for_convert (header_of header.now))) < 33554432 }
-    ensures written { OnOk result (D.taken drain.new ≡ append (D.taken drain.old) (header_frame (header_of header.now))) }
-    ensures front { IsFront (D.taken drain.old) (D.taken drain.new) (header_frame (header_of header.now)) }
-    ensures stops { IfErr result (IsPackStop (D.failures drain.old) (D.failures drain.new)) }
-    ensures counts { D.failures drain.old ≤ D.failures drain.new }
-    ensures lender { D.lender drain.new ≡ D.lender drain.old }
-{
-    let mut payload = Vec::new(alloc);
-    header.write(&mut payload)?;
-    put_frame(drain, FrameKind::Header, &payload)?;
-    Ok(())
+    ghost use Rattle.osm_pack.specs.Open.{IsOpen};
+
+    ghost view = { λ p. record { drain = p.drain; block = p.block; begun = p.begun; stop = p.stop } };
+
+    ghost invariant = { λ p. IsOpen p.block };
 }
 
 impl<D: Drain, S: BuildHasher> Packer<D, S> {
-    /// A packer over a drain that nothing was written to yet. Strangers choose the texts, so the hasher should be seeded.
+    ghost use Rattle.std.specs.Prelude.{◌≡◌, ◌≤◌, ◌<◌, ◌⊎◌, ◌++◌, ◌∷◌, [], List, length, true, false, Err, IfErr, OnOk, OnErr};
+    ghost use Rattle.osm_entity.specs.Entity.{EntitySpec};
+    ghost use Rattle.osm_entity.specs.Ranges.{EntityFits};
+    ghost use Rattle.osm_entity.specs.Views.{entity_of};
+    ghost use Rattle.pbf_block.specs.Header.{header_of};
+    ghost use Rattle.pbf_block.specs.WrittenBlock.{is_block};
+    ghost use Rattle.pbf_block.specs.WrittenHeader.{header_message, header_out_for_convert};
+    ghost use Rattle.pbf_frame.specs.declared.stop.Stop.{Stop};
+    ghost use Rattle.pbf_frame.specs.Devices.{append, IsFront};
+    ghost use Rattle.osm_pack.specs.Cuts.{header_frame, then_pending, then_written, at_end};
+    ghost use Rattle.osm_pack.specs.Stops.{IsPackStop};
+    ghost use Rattle.osm_pack.specs.Packing.{Pending, IsPacking, HasStopped, has_header};
+
+    /// A packer over a drain. Strangers choose the texts of a file, so the hasher should be seeded.
     pub fn new(alloc: Global, drain: D, hasher: S) -> Packer<D, S>
         ensures drain { result.drain ≡ drain }
         ensures lender { D.lender result.drain ≡ D.lender drain }
@@ -117,12 +73,107 @@ impl<D: Drain, S: BuildHasher> Packer<D, S> {
         self.begun
     }
 
-    /// What became of a call: the packer is spent where it failed.
-    fn settle(&mut self, outcome: Result<(), Stop>) -> Result<(), Stop> {
+    /// The packer is spent, by this stop; the entities that waited are let go.
+    fn spend(&mut self, stop: Stop)
+        ensures stopped { HasStopped self.new stop }
+        ensures drain { self.new.drain ≡ self.old.drain }
+        ensures lender { D.lender self.new.drain ≡ D.lender self.old.drain }
+        ensures header { has_header self.new ≡ has_header self.old }
+    {
+        self.stop = Some(stop);
+        self.block.clear(self.alloc);
+    }
+
+    /// Writes the header of the file, in the form that [`Header::write`] gives it. It comes first and once. The caller sees that
+    /// the header is short enough for a frame.
+    ///
+    /// After a stop a beginning of its frame went out, and the packer is spent: it answers the same stop again, and touches no
+    /// device.
+    pub fn put_header(&mut self, header: &Header) -> Result<(), Stop>
+        requires once { has_header self.old ≡ false }
+        requires short { length (header_message (header_out_for_convert (header_of header.now))) < 33554432 }
+        ensures begun { has_header self.new ≡ true }
+        ensures written { IsPacking self.old → OnOk result (D.taken self.new.drain ≡ append (D.taken self.old.drain) (header_frame (header_of header.now))) }
+        ensures pending { (es : List EntitySpec) → Pending self.old es → OnOk result (Pending self.new es) }
+        ensures packing { OnOk result (IsPacking self.new) }
+        ensures front { IsPacking self.old → IsFront (D.taken self.old.drain) (D.taken self.new.drain) (header_frame (header_of header.now)) }
+        ensures stopped { IfErr result (HasStopped self.new) }
+        ensures stops { IsPacking self.old → IfErr result (IsPackStop (D.failures self.old.drain) (D.failures self.new.drain)) }
+        ensures counts { D.failures self.old.drain ≤ D.failures self.new.drain }
+        ensures lender { D.lender self.new.drain ≡ D.lender self.old.drain }
+        ensures spent { (stop : Stop) → HasStopped self.old stop → (result ≡ Err stop) × (self.new.drain ≡ self.old.drain) }
+    {
+        self.begun = true;
+        if let Some(stop) = self.stop {
+            return Err(stop);
+        }
+        let outcome = put_header_into(self.alloc, &mut self.drain, header);
         if let Err(stop) = outcome {
-            self.stop = Some(stop);
-            self.block.clear(self.alloc);
+            self.spend(stop);
         }
         outcome
+    }
+
+    /// Adds an entity behind the others: to those that wait, or, where their block has no room for it, it waits alone, and
+    /// they are written. The caller sees that the entity fits, and that a header was put.
+    ///
+    /// After a stop nothing went out, or a beginning of the block that was to be written, and the packer is spent.
+    pub fn push(&mut self, entity: &EntityRef<'_>) -> Result<(), Stop>
+        requires begun { has_header self.old ≡ true }
+        requires fits { EntityFits (entity_of entity.now) }
+        ensures header { has_header self.new ≡ true }
+        ensures pending { (es : List EntitySpec) → Pending self.old es → OnOk result (Pending self.new (then_pending es (entity_of entity.now))) }
+        ensures written { (es : List EntitySpec) → Pending self.old es → OnOk result (D.taken self.new.drain ≡ append (D.taken self.old.drain) (then_written es (entity_of entity.now))) }
+        ensures packing { OnOk result (IsPacking self.old × IsPacking self.new) }
+        ensures front { IsPacking self.old → (es : List EntitySpec) → Pending self.old es → IsFront (D.taken self.old.drain) (D.taken self.new.drain) (then_written es (entity_of entity.now)) }
+        ensures stopped { IfErr result (HasStopped self.new) }
+        ensures stops { IsPacking self.old → IfErr result (IsPackStop (D.failures self.old.drain) (D.failures self.new.drain)) }
+        ensures counts { D.failures self.old.drain ≤ D.failures self.new.drain }
+        ensures lender { D.lender self.new.drain ≡ D.lender self.old.drain }
+        ensures spent { (stop : Stop) → HasStopped self.old stop → (result ≡ Err stop) × (self.new.drain ≡ self.old.drain) }
+    {
+        if let Some(stop) = self.stop {
+            return Err(stop);
+        }
+        let outcome = push_into(self.alloc, &mut self.drain, &mut self.block, entity);
+        if let Err(stop) = outcome {
+            self.spend(stop);
+        }
+        outcome
+    }
+
+    /// Writes the entities that wait, if there are any. The caller sees that a header was put.
+    ///
+    /// After a stop a beginning of their block went out, and the packer is spent.
+    pub fn finish(&mut self) -> Result<(), Stop>
+        requires { has_header self.old ≡ true }
+        ensures pending { OnOk result (Pending self.new []) }
+        ensures written { (es : List EntitySpec) → Pending self.old es → OnOk result (D.taken self.new.drain ≡ append (D.taken self.old.drain) (at_end es)) }
+        ensures packing { OnOk result (IsPacking self.old × IsPacking self.new) }
+        ensures front { IsPacking self.old → (es : List EntitySpec) → Pending self.old es → IsFront (D.taken self.old.drain) (D.taken self.new.drain) (at_end es) }
+        ensures stopped { IfErr result (HasStopped self.new) }
+        ensures stops { IsPacking self.old → IfErr result (IsPackStop (D.failures self.old.drain) (D.failures self.new.drain)) }
+        ensures counts { D.failures self.old.drain ≤ D.failures self.new.drain }
+        ensures lender { D.lender self.new.drain ≡ D.lender self.old.drain }
+        ensures spent { (stop : Stop) → HasStopped self.old stop → (result ≡ Err stop) × (self.new.drain ≡ self.old.drain) }
+    {
+        if let Some(stop) = self.stop {
+            return Err(stop);
+        }
+        let outcome = finish_into(self.alloc, &mut self.drain, &mut self.block);
+        if let Err(stop) = outcome {
+            self.spend(stop);
+        }
+        outcome
+    }
+
+    /// Gives the drain back. Entities that wait are not written: this is for use behind [`Packer::finish`], or after a stop.
+    pub fn into_drain(self) -> D
+    where
+        S: Drop,
+        ensures drain { result ≡ self.drain }
+        ensures lender { D.lender result ≡ D.lender self.drain }
+    {
+        self.drain
     }
 }

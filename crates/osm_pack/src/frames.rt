@@ -1,0 +1,98 @@
+//! Headers and blocks, written as frames.
+
+ghost use Rattle.std.specs.Prelude.{◌≡◌, ◌≤◌, ◌<◌, ◌++◌, ◌∷◌, [], List, length, true, IfErr, OnOk};
+ghost use Rattle.osm_entity.specs.Entity.{EntitySpec};
+ghost use Rattle.osm_entity.specs.Ranges.{EntityFits};
+ghost use Rattle.osm_entity.specs.Views.{entity_of};
+ghost use Rattle.pbf_block.specs.Header.{header_of};
+ghost use Rattle.pbf_block.specs.WrittenHeader.{header_message, header_out_for_convert};
+ghost use Rattle.pbf_frame.specs.Devices.{append, IsFront};
+ghost use Rattle.osm_pack.specs.Cuts.{block_frame, header_frame, then_pending, then_written, at_end};
+ghost use Rattle.osm_pack.specs.Open.{Holds, IsOpen};
+ghost use Rattle.osm_pack.specs.Stops.{IsPackStop};
+
+use crate::block::Block;
+use osm_entity::EntityRef;
+use pbf_block::Header;
+use pbf_frame::{Drain, FrameKind, Stop, put_frame};
+use std::alloc::Global;
+use std::hash::BuildHasher;
+
+/// Writes a block, which is empty then.
+pub(crate) fn close_into<D: Drain, S: BuildHasher>(
+    alloc: Global,
+    drain: &mut D,
+    block: &mut Block<S>,
+) -> Result<(), Stop>
+    requires { IsOpen block.old }
+    ensures written { (es : List EntitySpec) → Holds block.old es → OnOk result (D.taken drain.new ≡ append (D.taken drain.old) (block_frame es)) }
+    ensures empty { OnOk result (Holds block.new []) }
+    ensures front { (es : List EntitySpec) → Holds block.old es → IsFront (D.taken drain.old) (D.taken drain.new) (block_frame es) }
+    ensures stops { IfErr result (IsPackStop (D.failures drain.old) (D.failures drain.new)) }
+    ensures counts { D.failures drain.old ≤ D.failures drain.new }
+    ensures lender { D.lender drain.new ≡ D.lender drain.old }
+{
+    let payload = block.close(alloc)?;
+    put_frame(drain, FrameKind::Data, &payload)?;
+    Ok(())
+}
+
+/// The work of a push.
+pub(crate) fn push_into<D: Drain, S: BuildHasher>(
+    alloc: Global,
+    drain: &mut D,
+    block: &mut Block<S>,
+    entity: &EntityRef<'_>,
+) -> Result<(), Stop>
+    requires open { IsOpen block.old }
+    requires fits { EntityFits (entity_of entity.now) }
+    ensures open { OnOk result (IsOpen block.new) }
+    ensures pending { (es : List EntitySpec) → Holds block.old es → OnOk result (Holds block.new (then_pending es (entity_of entity.now))) }
+    ensures written { (es : List EntitySpec) → Holds block.old es → OnOk result (D.taken drain.new ≡ append (D.taken drain.old) (then_written es (entity_of entity.now))) }
+    ensures front { (es : List EntitySpec) → Holds block.old es → IsFront (D.taken drain.old) (D.taken drain.new) (then_written es (entity_of entity.now)) }
+    ensures stops { IfErr result (IsPackStop (D.failures drain.old) (D.failures drain.new)) }
+    ensures counts { D.failures drain.old ≤ D.failures drain.new }
+    ensures lender { D.lender drain.new ≡ D.lender drain.old }
+{
+    if !block.takes(entity) {
+        close_into(alloc, drain, block)?;
+    }
+    block.add(entity)?;
+    Ok(())
+}
+
+/// Writes a header.
+pub(crate) fn put_header_into<D: Drain>(alloc: Global, drain: &mut D, header: &Header) -> Result<(), Stop>
+    requires { length (header_message (header_out_for_convert (header_of header.now))) < 33554432 }
+    ensures written { OnOk result (D.taken drain.new ≡ append (D.taken drain.old) (header_frame (header_of header.now))) }
+    ensures front { IsFront (D.taken drain.old) (D.taken drain.new) (header_frame (header_of header.now)) }
+    ensures stops { IfErr result (IsPackStop (D.failures drain.old) (D.failures drain.new)) }
+    ensures counts { D.failures drain.old ≤ D.failures drain.new }
+    ensures lender { D.lender drain.new ≡ D.lender drain.old }
+{
+    let mut payload = Vec::new(alloc);
+    header.write(&mut payload)?;
+    put_frame(drain, FrameKind::Header, &payload)?;
+    Ok(())
+}
+
+/// Writes a block, if it has entities.
+pub(crate) fn finish_into<D: Drain, S: BuildHasher>(
+    alloc: Global,
+    drain: &mut D,
+    block: &mut Block<S>,
+) -> Result<(), Stop>
+    requires { IsOpen block.old }
+    ensures written { (es : List EntitySpec) → Holds block.old es → OnOk result (D.taken drain.new ≡ append (D.taken drain.old) (at_end es)) }
+    ensures open { OnOk result (IsOpen block.new) }
+    ensures empty { OnOk result (Holds block.new []) }
+    ensures front { (es : List EntitySpec) → Holds block.old es → IsFront (D.taken drain.old) (D.taken drain.new) (at_end es) }
+    ensures stops { IfErr result (IsPackStop (D.failures drain.old) (D.failures drain.new)) }
+    ensures counts { D.failures drain.old ≤ D.failures drain.new }
+    ensures lender { D.lender drain.new ≡ D.lender drain.old }
+{
+    if !block.is_empty() {
+        close_into(alloc, drain, block)?;
+    }
+    Ok(())
+}
