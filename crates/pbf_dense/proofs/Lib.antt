@@ -10,3 +10,5 @@ pub mod WeightLemmas
 pub mod DenseOutLemmas
 pub mod Counts
 pub mod MetaLaw
+pub mod InfoLaw
+pub mod DenseLaw
