@@ -15,7 +15,7 @@ use Rattle.pbf_wire.specs.Occurrence.{Bytes}
 use Rattle.pbf_wire.specs.Columns.{joined, column}
 use Rattle.pbf_wire.specs.Signed.{zigzag, unzigzag, low_sint32, sign_extended, IsWithin}
 use Rattle.pbf_wire.specs.Sums.{sums, differences, deltas}
-use Rattle.pbf_wire.specs.Faults.{fault_where, entered, fields_in, leaf_faults, column_count, index_faults, sum_faults, index_sum_faults, is_index}
+use Rattle.pbf_wire.specs.Faults.{fault_where, entered, fields_in, leaf_faults, column_count, index_faults, sum_faults, index_sum_faults, is_index, twice}
 use Rattle.pbf_wire.specs.Message.{Slot, Column, Each, message, unless_empty, SlotFits, SlotIs, SlotBelow, numbers_at, scalars_at, messages_at}
 use Rattle.pbf_wire.proofs.MessageLemmas.{all_append, all_left, all_right, column_written, embedded_below}
 use Rattle.pbf_wire.proofs.SumLemmas.{IsSmall, deltas_fit, sums_of_deltas, signs_fit}
@@ -166,3 +166,166 @@ named_all P false (x ∷ xs) h = by (low_32 x.0 == 0) (named_all P false xs h.1)
     by : (b : Bool) → AllByRecursion P (map (λ p. p.0) (texts_named false xs)) → AllByRecursion P (map (λ p. p.0) (texts_named true xs)) → AllByRecursion P (map (λ p. p.0) (if b then texts_named false xs else x ∷ texts_named true xs))
     by true skipped taken = skipped
     by false skipped taken = (h.0, taken)
+
+-- ---- the message
+
+unless_all : (P : List ℕ → Type 0) (m : List ℕ) → P m → AllByRecursion P (unless_empty m)
+unless_all P [] p = tt
+unless_all P (b ∷ bs) p = (p, tt)
+
+unless_below : (n : ℕ) (m : List ℕ) → 0 < n → AllByRecursion (λ m. length m < n) (unless_empty m) → length m < n
+unless_below n [] positive h = positive
+unless_below n (b ∷ bs) positive h = h.0
+
+metas_good : (texts : List (List ℕ)) (ns : List NodeSpec) → AllByRecursion NodeFits ns → AllByRecursion (λ n. IfPresent IsInt32 n.meta.version) ns → AllByRecursion (NamedNode texts) ns → AllByRecursion (Good texts) (map (λ n. n.meta) ns)
+metas_good texts [] fit versions named = tt
+metas_good texts (n ∷ ns) fit versions named = ((versions.0, fit.0.meta, named.0.1), metas_good texts ns fit.1 versions.1 named.1)
+
+stored_all : (f : NodeSpec → ℤ) (ns : List NodeSpec) → ((n : NodeSpec) → NodeFits n → IsStored (f n)) → AllByRecursion NodeFits ns → AllByRecursion IsStored (map f ns)
+stored_all f [] each h = tt
+stored_all f (n ∷ ns) each h = (each n h.0, stored_all f ns each h.1)
+
+column_long : (f : NodeSpec → ℤ) (ns : List NodeSpec) → length (deltas (map f ns) ++ []) ≡ length ns
+column_long f ns = ap (λ (w : List ℕ). length w) (append-nil (deltas (map f ns))) ∙ deltas_length (map f ns) ∙ length-map ns f
+
+-- only the DenseInfo is a message
+no_messages : (k number : ℕ) (values : List ℕ) (rest others : List (List ℕ)) → (number == k) ≡ false → rest ≡ others → messages_at k (Column number values) ++ rest ≡ others
+no_messages k number [] rest others e h = h
+no_messages k number (v ∷ vs) rest others e h = rw e h
+
+infos_are : (c : DenseColumns) → flat_map (messages_at DENSEINFO) (dense_slots c) ≡ unless_empty (info_message c.info)
+infos_are c =
+    no_messages DENSEINFO ID (deltas c.ids) _ _ refl
+    (ap (λ (w : List (List ℕ)). unless_empty (info_message c.info) ++ w)
+    (no_messages DENSEINFO LAT (deltas c.lats) _ [] refl (no_messages DENSEINFO LON (deltas c.lons) _ [] refl (no_messages DENSEINFO KEYS_VALS (written_runs c.tagged c.runs) [] [] refl refl)))
+    ∙ append-nil _)
+
+one_at_most : (m : List ℕ) → length (unless_empty m) ≤ 1
+one_at_most [] = omega arith
+one_at_most (b ∷ bs) = omega arith
+
+module _ (texts : List (List ℕ)) (scale : Scale) (ns : List NodeSpec) (h : NodesHeld texts scale ns) where
+  abbrev written : DenseColumns
+  written = columns_of texts ns
+
+  named : AllByRecursion (NamedNode texts) ns
+  named = nodes_named texts ns h.named
+
+  short : length (message (dense_slots (columns_of texts ns))) < 2 ^ 64
+  unfolding dense_message
+  short = h.short
+
+  info_short : length (message (info_slots written.info)) < 2 ^ 64
+  unfolding info_message
+  info_short = unless_below (2 ^ 64) (info_message written.info) (omega arith) (embedded_below (2 ^ 64) (dense_slots written) short).1.0
+
+  pub info_fit : InfoFits (length (table_of texts)) written.info
+  info_fit = info_fits texts (map (λ n. n.meta) ns) (metas_good texts ns h.fit h.versions named)
+
+  runs_fit : AllByRecursion (λ n. n < length (table_of texts)) (written_runs written.tagged written.runs)
+  runs_fit = if_written (λ n. n < length (table_of texts)) written.tagged written.runs (runs_below texts ns named)
+
+  dense_fits : AllByRecursion SlotFits (dense_slots written)
+  dense_fits =
+      ((omega arith, omega arith, deltas_fit written.ids (stored_all (λ n. n.id) ns (λ n f. f.id) h.fit)),
+      ((omega arith, omega arith),
+      ((omega arith, omega arith, deltas_fit written.lats (stored_all (λ n. n.lat) ns (λ n f. f.lat) h.fit)),
+      ((omega arith, omega arith, deltas_fit written.lons (stored_all (λ n. n.lon) ns (λ n f. f.lon) h.fit)),
+      ((omega arith, omega arith, below_more (length (table_of texts)) (2 ^ 64) _ (omega (arith, h.few)) runs_fit), tt)))))
+
+  dense_are : AllByRecursion (SlotIs DENSE_KINDS) (dense_slots written)
+  dense_are = (refl, (refl, (refl, (refl, (refl, tt)))))
+
+  -- what is asked of DenseInfos is asked of the written one
+  only_info : (g : ℕ → ℕ → List ℕ → List Fault) → ((place begin : ℕ) → g place begin (info_message written.info) ≡ []) → AllByRecursion (SlotQuiet (entered DENSEINFO g)) (dense_slots written)
+  only_info g e =
+      (column_quiet (entered DENSEINFO g) ID (deltas written.ids) (λ place begin bytes. refl),
+      (unless_all (λ m. (place begin : ℕ) → entered DENSEINFO g (field_at place DENSEINFO (Bytes m begin)) ≡ []) (info_message written.info) e,
+      (column_quiet (entered DENSEINFO g) LAT (deltas written.lats) (λ place begin bytes. refl),
+      (column_quiet (entered DENSEINFO g) LON (deltas written.lons) (λ place begin bytes. refl),
+      (column_quiet (entered DENSEINFO g) KEYS_VALS (written_runs written.tagged written.runs) (λ place begin bytes. refl), tt)))))
+
+  info_wire : (place at : ℕ) → leaf_faults DENSEINFO_KINDS place at (info_message written.info) ≡ []
+  unfolding info_message
+  info_wire = info_leaf (length (table_of texts)) written.info info_fit h.few info_short
+
+  pub wire_written : (place at : ℕ) → dense_wire place at (dense_message texts ns) ≡ []
+  unfolding dense_wire dense_message
+  wire_written place at =
+      no_fault_within DENSE_KINDS (entered DENSEINFO (leaf_faults DENSEINFO_KINDS)) at (dense_slots written) dense_are (only_info (leaf_faults DENSEINFO_KINDS) info_wire) dense_fits short
+
+  -- ---- structure
+
+  count_of : (k at : ℕ) → kind_of DENSE_KINDS k ≡ Some kind.Column → column_count k (fields_in at (message (dense_slots written))) ≡ length (flat_map (numbers_at k) (dense_slots written))
+  count_of k at known = counted_written DENSE_KINDS k at (dense_slots written) known dense_are dense_fits short
+
+  ids_counted : (at : ℕ) → column_count ID (fields_in at (message (dense_slots written))) ≡ length ns
+  ids_counted at = count_of ID at refl ∙ column_long (λ n. n.id) ns
+
+  lats_counted : (at : ℕ) → column_count LAT (fields_in at (message (dense_slots written))) ≡ length ns
+  lats_counted at = count_of LAT at refl ∙ column_long (λ n. n.lat) ns
+
+  lons_counted : (at : ℕ) → column_count LON (fields_in at (message (dense_slots written))) ≡ length ns
+  lons_counted at = count_of LON at refl ∙ column_long (λ n. n.lon) ns
+
+  pub dense_column : (k at : ℕ) → column k (fields_in at (message (dense_slots written))) ≡ flat_map (numbers_at k) (dense_slots written)
+  dense_column k at = column_written k at (dense_slots written) dense_fits short
+
+  coordinates_counted : (place at : ℕ) → coordinate_counts place (fields_in at (message (dense_slots written))) ≡ []
+  coordinates_counted place at = both_go _ _ _ (lats_counted at ∙ sym (ids_counted at)) (lons_counted at ∙ sym (ids_counted at))
+    where
+      both_go : (n a b : ℕ) → a ≡ n → b ≡ n → fault_where (not ((a == n) && (b == n))) place ColumnLengths ≡ []
+      both_go n a b p q = grind arith
+
+  pub low_runs : (at : ℕ) → map low_32 (column KEYS_VALS (fields_in at (message (dense_slots written)))) ≡ written_runs written.tagged written.runs
+  low_runs at =
+      ap (λ (w : List ℕ). map low_32 w) (dense_column KEYS_VALS at ∙ append-nil (written_runs written.tagged written.runs))
+      ∙ all_low (written_runs written.tagged written.runs) (below_more (length (table_of texts)) (2 ^ 32) _ (omega (arith, h.few)) runs_fit)
+
+  runs_sound : (place at : ℕ) → run_faults place (fields_in at (message (dense_slots written))) ≡ []
+  runs_sound place at =
+      ap₂ (λ (n : ℕ) (w : List ℕ). fault_where (not (are_tags n w)) place KeysVals) (ids_counted at) (low_runs at)
+      ∙ ap (λ b. fault_where (not b) place KeysVals) (tags_are written.tagged (length ns) written.runs (runs_are texts ns))
+
+  info_once : (at : ℕ) → twice DENSEINFO (fields_in at (message (dense_slots written))) ≡ []
+  info_once at = once_written DENSEINFO at (dense_slots written) dense_fits short (omega (arith, ap (λ (w : List (List ℕ)). length w) (infos_are written), one_at_most (info_message written.info)))
+
+  info_sound : (n place at : ℕ) → n ≡ length ns → info_counts n place at (info_message written.info) ≡ []
+  unfolding info_message
+  info_sound n place at e =
+      info_counted (length (table_of texts)) written.info info_fit h.few info_short n place at
+      (subst (λ n. InfoCounts n written.info) (length-map ns (λ n. n.meta) ∙ sym e) (info_counts_are texts (map (λ n. n.meta) ns) h.alike))
+
+  infos_sound : (at : ℕ) → flat_map (entered DENSEINFO (info_counts (column_count ID (fields_in at (message (dense_slots written)))))) (fields_in at (message (dense_slots written))) ≡ []
+  infos_sound at =
+      let n = column_count ID (fields_in at (message (dense_slots written))) in
+      fields_quiet (entered DENSEINFO (info_counts n)) at (dense_slots written) (only_info (info_counts n) (λ place begin. info_sound n place begin (ids_counted at))) dense_fits short
+
+  pub structure_written : (place at : ℕ) → dense_structure place at (dense_message texts ns) ≡ []
+  unfolding dense_structure dense_message
+  structure_written place at =
+      no_faults_joined _ _ (coordinates_counted place at) (no_faults_joined _ _ (runs_sound place at) (no_faults_joined _ _ (info_once at) (infos_sound at)))
+
+  -- ---- values
+
+  info_good : (place at : ℕ) → info_values (length (table_of texts)) place at (info_message written.info) ≡ []
+  unfolding info_message
+  info_good = info_valued (length (table_of texts)) written.info info_fit h.few info_short
+
+  infos_good : (at : ℕ) → flat_map (entered DENSEINFO (info_values (length (table_of texts)))) (fields_in at (message (dense_slots written))) ≡ []
+  infos_good at = fields_quiet (entered DENSEINFO (info_values (length (table_of texts)))) at (dense_slots written) (only_info (info_values (length (table_of texts))) info_good) dense_fits short
+
+  runs_good : (at : ℕ) → index_faults (length (table_of texts)) (texts_named false (joined KEYS_VALS (fields_in at (message (dense_slots written))))) ≡ []
+  runs_good at =
+      let limit = length (table_of texts) in
+      let all = low_below limit _ runs_fit (omega (arith, h.few)) in
+      indexes_good limit _ (named_all (λ n. n % 2 ^ 32 < limit) false (joined KEYS_VALS (fields_in at (message (dense_slots written))))
+      (subst (λ (w : List ℕ). AllByRecursion (λ n. n % 2 ^ 32 < limit) w) (sym (dense_column KEYS_VALS at ∙ append-nil (written_runs written.tagged written.runs))) all))
+
+  pub values_written : (place at : ℕ) → dense_values (length (table_of texts)) place at (dense_message texts ns) ≡ []
+  unfolding dense_values dense_message
+  values_written place at =
+      no_faults_joined _ _ (wide_good (pos (2 ^ 62)) _ written.ids (dense_column ID at ∙ append-nil _) (stored_all (λ n. n.id) ns (λ n f. f.id) h.fit))
+      (no_faults_joined _ _ (wide_good (pos (2 ^ 62)) _ written.lats (dense_column LAT at ∙ append-nil _) (stored_all (λ n. n.lat) ns (λ n f. f.lat) h.fit))
+      (no_faults_joined _ _ (wide_good (pos (2 ^ 62)) _ written.lons (dense_column LON at ∙ append-nil _) (stored_all (λ n. n.lon) ns (λ n f. f.lon) h.fit))
+      (no_faults_joined _ _ (runs_good at) (infos_good at))))
