@@ -2,24 +2,24 @@
 use Rattle.pbf_dense.proofs.RunLemmas.{runs_on}
 use Rattle.pbf_wire.specs.Wire.{kind_of}
 use Rattle.pbf_wire.specs.declared.kind.Kind.TheVariants as kind
-use Rattle.std.proofs.Common.{◌≡◌, ◌⊎◌, inl, inr, ℕ, zero, suc, ◌+◌, ◌%◌, ◌^◌, ◌<◌, ◌≤◌, ◌==◌, ◌&&◌, ◌||◌, ℤ, pos, Bool, true, false, cond, List, [], ◌∷◌, ◌++◌, length, map, Option, Some, None, refl, sym, ap, ap₂, subst, ◌∙◌, arith, negsuc}
+use Rattle.std.proofs.Common.{◌≡◌, ℕ, suc, ◌%◌, ◌^◌, ◌<◌, ◌≤◌, ◌==◌, ◌&&◌, ℤ, pos, Bool, true, false, List, [], ◌∷◌, ◌++◌, length, map, Option, Some, None, refl, sym, ap, ap₂, subst, ◌∙◌, arith}
 use Rattle.std.specs.Prelude.{not, if◌then◌else◌}
-use Rattle.std.specs.List.{flat_map, filter_map, cons_option, list_any, AllByRecursion}
+use Rattle.std.specs.List.{flat_map, filter_map, cons_option, AllByRecursion}
 use Rattle.std.specs.Option.{option_map, option_to_list}
 use Rattle.std.proofs.lemmas.Int.{ints}
-use Rattle.std.proofs.lemmas.Bool.{lt-ltb, ltb-true}
+use Rattle.std.proofs.lemmas.Bool.{lt-ltb}
 use Rattle.std.proofs.lemmas.List.{append-nil, length-map}
 use Rattle.pbf_wire.specs.declared.fault.Fault.{Fault}
 use Rattle.pbf_wire.specs.declared.fault.Reason.TheVariants.{ColumnLengths, KeysVals}
 use Rattle.pbf_wire.specs.Occurrence.{Bytes}
 use Rattle.pbf_wire.specs.Columns.{joined, column}
-use Rattle.pbf_wire.specs.Signed.{zigzag, unzigzag, low_sint32, sign_extended, IsWithin}
-use Rattle.pbf_wire.specs.Sums.{sums, differences, deltas}
-use Rattle.pbf_wire.specs.Faults.{fault_where, entered, fields_in, leaf_faults, column_count, index_faults, sum_faults, index_sum_faults, is_index, twice}
-use Rattle.pbf_wire.specs.Message.{Slot, Column, Each, message, unless_empty, SlotFits, SlotIs, SlotBelow, numbers_at, scalars_at, messages_at}
+use Rattle.pbf_wire.specs.Signed.{sign_extended}
+use Rattle.pbf_wire.specs.Sums.{deltas}
+use Rattle.pbf_wire.specs.Faults.{fault_where, entered, fields_in, leaf_faults, column_count, index_faults, is_index, twice}
+use Rattle.pbf_wire.specs.Message.{Column, message, unless_empty, SlotFits, SlotIs, numbers_at, messages_at}
 use Rattle.pbf_wire.proofs.MessageLemmas.{all_append, all_left, all_right, column_written, embedded_below}
-use Rattle.pbf_wire.proofs.SumLemmas.{IsSmall, deltas_fit, sums_of_deltas, signs_fit}
-use Rattle.pbf_wire.proofs.QuietLemmas.{SlotQuiet, field_at, column_quiet, fields_quiet, no_fault_within, leaf_quiet, counted_written, indexes_good, sums_good_written, index_sums_good, field_count, once_written}
+use Rattle.pbf_wire.proofs.SumLemmas.{deltas_fit, signs_fit}
+use Rattle.pbf_wire.proofs.QuietLemmas.{SlotQuiet, field_at, column_quiet, fields_quiet, no_fault_within, counted_written, indexes_good, once_written}
 use Rattle.pbf_strings.specs.TableOut.{has_text, index_in, table_of}
 use Rattle.pbf_strings.proofs.UsedTexts.{index_below}
 use Rattle.osm_entity.specs.Entity.{TagSpec, MetaSpec, NodeSpec}
@@ -27,12 +27,11 @@ use Rattle.osm_entity.specs.EntityTexts.{tag_texts, node_texts}
 use Rattle.osm_entity.specs.Ranges.{NodeFits, MetaFits, IfPresent, IsInt32, IsStored, IsUid}
 use Rattle.osm_entity.specs.Sources.{low_32}
 use Rattle.osm_entity.specs.declared.scale.Scale.{Scale}
-use Rattle.pbf_dense.specs.declared.message.TheConstants.{DENSE_KINDS, DENSEINFO_KINDS, ID, DENSEINFO, LAT, LON, KEYS_VALS, VERSION, TIMESTAMP, CHANGESET, UID, USER_SID, VISIBLE}
-use Rattle.pbf_dense.specs.Info.{InfoSpec, info_of}
-use Rattle.pbf_dense.specs.Judged.{dense_wire, dense_structure, dense_values, has_count, coordinate_counts, are_runs, are_tags, run_faults, goes_with, info_counts, texts_named, range_faults, info_values}
-use Rattle.pbf_dense.specs.WrittenDense.{bit_of, info_columns, info_slots, info_message, tag_numbers, run_of, DenseColumns, columns_of, dense_slots, dense_message, InAllOrNone, AreAlike, NodesHeld}
-use Rattle.pbf_dense.proofs.InfoLaw.{InfoFits, InfoCounts, no_faults_joined, wide_good, deltas_length, info_leaf, info_counted, info_valued, info_slots_fit}
-use Rattle.pbf_dense.proofs.MetaLaw.{all_or_none, mapped, narrow_sums, info_same}
+use Rattle.pbf_dense.specs.declared.message.TheConstants.{DENSE_KINDS, DENSEINFO_KINDS, ID, DENSEINFO, LAT, LON, KEYS_VALS}
+use Rattle.pbf_dense.specs.Judged.{dense_wire, dense_structure, dense_values, coordinate_counts, are_runs, are_tags, run_faults, info_counts, texts_named, info_values}
+use Rattle.pbf_dense.specs.WrittenDense.{bit_of, info_columns, info_slots, info_message, tag_numbers, run_of, DenseColumns, columns_of, dense_slots, dense_message, AreAlike, NodesHeld}
+use Rattle.pbf_dense.proofs.InfoLaw.{InfoFits, InfoCounts, no_faults_joined, wide_good, deltas_length, info_leaf, info_counted, info_valued}
+use Rattle.pbf_dense.proofs.MetaLaw.{all_or_none, mapped}
 
 -- ---- what each node has
 
@@ -43,9 +42,10 @@ NamedNode texts n = AllByRecursion (λ text. has_text texts text ≡ true) (tag_
 pub nodes_named : (texts : List (List ℕ)) (ns : List NodeSpec) → AllByRecursion (λ text. has_text texts text ≡ true) (flat_map node_texts ns) → AllByRecursion (NamedNode texts) ns
 nodes_named texts [] h = tt
 nodes_named texts (n ∷ ns) h =
-    let own = all_left (λ text. has_text texts text ≡ true) (node_texts n) (flat_map node_texts ns) h in
-    ((all_left (λ text. has_text texts text ≡ true) (tag_texts n.tags) (option_to_list n.meta.user) own, all_right (λ text. has_text texts text ≡ true) (tag_texts n.tags) (option_to_list n.meta.user) own),
-    nodes_named texts ns (all_right (λ text. has_text texts text ≡ true) (node_texts n) (flat_map node_texts ns) h))
+    let own = all_left (λ text. has_text texts text ≡ true) (node_texts n) (flat_map node_texts ns) h in (
+      (all_left (λ text. has_text texts text ≡ true) (tag_texts n.tags) (option_to_list n.meta.user) own, all_right (λ text. has_text texts text ≡ true) (tag_texts n.tags) (option_to_list n.meta.user) own),
+      nodes_named texts ns (all_right (λ text. has_text texts text ≡ true) (node_texts n) (flat_map node_texts ns) h),
+    )
 
 -- what holds of a field of each
 present_all : {X Y : Type 0} (P : Y → Type 0) (Q : X → Type 0) (f : X → Option Y) (xs : List X) → ((x : X) (y : Y) → Q x → f x ≡ Some y → P y) → AllByRecursion Q xs → AllByRecursion P (filter_map f xs)
@@ -185,7 +185,7 @@ stored_all : (f : NodeSpec → ℤ) (ns : List NodeSpec) → ((n : NodeSpec) →
 stored_all f [] each h = tt
 stored_all f (n ∷ ns) each h = (each n h.0, stored_all f ns each h.1)
 
-column_long : (f : NodeSpec → ℤ) (ns : List NodeSpec) → length (deltas (map f ns) ++ []) ≡ length ns
+pub column_long : (f : NodeSpec → ℤ) (ns : List NodeSpec) → length (deltas (map f ns) ++ []) ≡ length ns
 column_long f ns = ap (λ (w : List ℕ). length w) (append-nil (deltas (map f ns))) ∙ deltas_length (map f ns) ∙ length-map ns f
 
 -- only the DenseInfo is a message
@@ -193,7 +193,7 @@ no_messages : (k number : ℕ) (values : List ℕ) (rest others : List (List ℕ
 no_messages k number [] rest others e h = h
 no_messages k number (v ∷ vs) rest others e h = rw e h
 
-infos_are : (c : DenseColumns) → flat_map (messages_at DENSEINFO) (dense_slots c) ≡ unless_empty (info_message c.info)
+pub infos_are : (c : DenseColumns) → flat_map (messages_at DENSEINFO) (dense_slots c) ≡ unless_empty (info_message c.info)
 infos_are c =
     no_messages DENSEINFO ID (deltas c.ids) _ _ refl
     (ap (λ (w : List (List ℕ)). unless_empty (info_message c.info) ++ w)
@@ -211,11 +211,11 @@ module _ (texts : List (List ℕ)) (scale : Scale) (ns : List NodeSpec) (h : Nod
   named : AllByRecursion (NamedNode texts) ns
   named = nodes_named texts ns h.named
 
-  short : length (message (dense_slots (columns_of texts ns))) < 2 ^ 64
+  pub short : length (message (dense_slots (columns_of texts ns))) < 2 ^ 64
   unfolding dense_message
   short = h.short
 
-  info_short : length (message (info_slots written.info)) < 2 ^ 64
+  pub info_short : length (message (info_slots written.info)) < 2 ^ 64
   unfolding info_message
   info_short = unless_below (2 ^ 64) (info_message written.info) (omega arith) (embedded_below (2 ^ 64) (dense_slots written) short).1.0
 
@@ -225,25 +225,39 @@ module _ (texts : List (List ℕ)) (scale : Scale) (ns : List NodeSpec) (h : Nod
   runs_fit : AllByRecursion (λ n. n < length (table_of texts)) (written_runs written.tagged written.runs)
   runs_fit = if_written (λ n. n < length (table_of texts)) written.tagged written.runs (runs_below texts ns named)
 
-  dense_fits : AllByRecursion SlotFits (dense_slots written)
-  dense_fits =
-      ((omega arith, omega arith, deltas_fit written.ids (stored_all (λ n. n.id) ns (λ n f. f.id) h.fit)),
-      ((omega arith, omega arith),
-      ((omega arith, omega arith, deltas_fit written.lats (stored_all (λ n. n.lat) ns (λ n f. f.lat) h.fit)),
-      ((omega arith, omega arith, deltas_fit written.lons (stored_all (λ n. n.lon) ns (λ n f. f.lon) h.fit)),
-      ((omega arith, omega arith, below_more (length (table_of texts)) (2 ^ 64) _ (omega (arith, h.few)) runs_fit), tt)))))
+  pub dense_fits : AllByRecursion SlotFits (dense_slots written)
+  dense_fits = (
+    (omega arith, omega arith, deltas_fit written.ids (stored_all (λ n. n.id) ns (λ n f. f.id) h.fit)),
+    (
+      (omega arith, omega arith),
+      (
+        (omega arith, omega arith, deltas_fit written.lats (stored_all (λ n. n.lat) ns (λ n f. f.lat) h.fit)),
+        (
+          (omega arith, omega arith, deltas_fit written.lons (stored_all (λ n. n.lon) ns (λ n f. f.lon) h.fit)),
+          ((omega arith, omega arith, below_more (length (table_of texts)) (2 ^ 64) _ (omega (arith, h.few)) runs_fit), tt),
+        ),
+      ),
+    ),
+  )
 
   dense_are : AllByRecursion (SlotIs DENSE_KINDS) (dense_slots written)
   dense_are = (refl, (refl, (refl, (refl, (refl, tt)))))
 
   -- what is asked of DenseInfos is asked of the written one
   only_info : (g : ℕ → ℕ → List ℕ → List Fault) → ((place begin : ℕ) → g place begin (info_message written.info) ≡ []) → AllByRecursion (SlotQuiet (entered DENSEINFO g)) (dense_slots written)
-  only_info g e =
-      (column_quiet (entered DENSEINFO g) ID (deltas written.ids) (λ place begin bytes. refl),
-      (unless_all (λ m. (place begin : ℕ) → entered DENSEINFO g (field_at place DENSEINFO (Bytes m begin)) ≡ []) (info_message written.info) e,
-      (column_quiet (entered DENSEINFO g) LAT (deltas written.lats) (λ place begin bytes. refl),
-      (column_quiet (entered DENSEINFO g) LON (deltas written.lons) (λ place begin bytes. refl),
-      (column_quiet (entered DENSEINFO g) KEYS_VALS (written_runs written.tagged written.runs) (λ place begin bytes. refl), tt)))))
+  only_info g e = (
+    column_quiet (entered DENSEINFO g) ID (deltas written.ids) (λ place begin bytes. refl),
+    (
+      unless_all (λ m. (place begin : ℕ) → entered DENSEINFO g (field_at place DENSEINFO (Bytes m begin)) ≡ []) (info_message written.info) e,
+      (
+        column_quiet (entered DENSEINFO g) LAT (deltas written.lats) (λ place begin bytes. refl),
+        (
+          column_quiet (entered DENSEINFO g) LON (deltas written.lons) (λ place begin bytes. refl),
+          (column_quiet (entered DENSEINFO g) KEYS_VALS (written_runs written.tagged written.runs) (λ place begin bytes. refl), tt),
+        ),
+      ),
+    ),
+  )
 
   info_wire : (place at : ℕ) → leaf_faults DENSEINFO_KINDS place at (info_message written.info) ≡ []
   unfolding info_message

@@ -1,36 +1,28 @@
 -- A DenseInfo that is written has no fault, and its columns are read back.
 use Rattle.pbf_wire.specs.Wire.{kind_of}
 use Rattle.pbf_wire.specs.declared.kind.Kind.TheVariants as kind
-use Rattle.std.proofs.Common.{◌≡◌, ◌⊎◌, inl, inr, ℕ, zero, suc, ◌+◌, ◌%◌, ◌^◌, ◌<◌, ◌≤◌, ◌==◌, ◌&&◌, ◌||◌, ℤ, pos, Bool, true, false, cond, List, [], ◌∷◌, ◌++◌, length, map, Option, Some, None, refl, sym, ap, ap₂, subst, ◌∙◌, arith, negsuc}
-use Rattle.std.specs.Prelude.{not, if◌then◌else◌}
-use Rattle.std.specs.List.{flat_map, filter_map, cons_option, list_any, AllByRecursion}
-use Rattle.std.specs.Option.{option_map, option_to_list}
+use Rattle.std.proofs.Common.{◌≡◌, ◌⊎◌, inl, inr, ℕ, suc, ◌^◌, ◌<◌, ◌≤◌, ◌==◌, ◌&&◌, ◌||◌, ℤ, pos, Bool, true, false, List, [], ◌∷◌, ◌++◌, length, map, Some, refl, sym, ap, ap₂, subst, ◌∙◌, arith, negsuc}
+use Rattle.std.specs.Prelude.{not}
+use Rattle.std.specs.List.{flat_map, AllByRecursion}
 use Rattle.std.proofs.lemmas.Int.{ints}
-use Rattle.std.proofs.lemmas.Bool.{lt-ltb, ltb-true}
-use Rattle.std.proofs.lemmas.List.{append-nil, length-map}
+use Rattle.std.proofs.lemmas.Bool.{ltb-true}
+use Rattle.std.proofs.lemmas.List.{append-nil}
 use Rattle.pbf_wire.specs.declared.fault.Fault.{Fault}
-use Rattle.pbf_wire.specs.declared.fault.Reason.TheVariants.{ColumnLengths, KeysVals}
-use Rattle.pbf_wire.specs.Occurrence.{Bytes}
-use Rattle.pbf_wire.specs.Columns.{joined, column}
-use Rattle.pbf_wire.specs.Signed.{zigzag, unzigzag, low_sint32, sign_extended, IsWithin}
+use Rattle.pbf_wire.specs.declared.fault.Reason.TheVariants.{ColumnLengths}
+use Rattle.pbf_wire.specs.Columns.{column}
+use Rattle.pbf_wire.specs.Signed.{zigzag, unzigzag, low_sint32, IsWithin}
 use Rattle.pbf_wire.specs.Sums.{sums, differences, deltas}
-use Rattle.pbf_wire.specs.Faults.{fault_where, entered, fields_in, leaf_faults, column_count, index_faults, sum_faults, index_sum_faults, is_index}
-use Rattle.pbf_wire.specs.Message.{Slot, Column, Each, message, unless_empty, SlotFits, SlotIs, SlotBelow, numbers_at, scalars_at, messages_at}
-use Rattle.pbf_wire.proofs.MessageLemmas.{all_append, all_left, all_right, column_written, embedded_below}
-use Rattle.pbf_wire.proofs.SumLemmas.{IsSmall, deltas_fit, sums_of_deltas, signs_fit}
-use Rattle.pbf_wire.proofs.QuietLemmas.{SlotQuiet, field_at, column_quiet, fields_quiet, no_fault_within, leaf_quiet, counted_written, indexes_good, sums_good_written, index_sums_good, field_count, once_written}
-use Rattle.pbf_strings.specs.TableOut.{has_text, index_in, table_of}
-use Rattle.pbf_strings.proofs.UsedTexts.{index_below}
-use Rattle.osm_entity.specs.Entity.{TagSpec, MetaSpec, NodeSpec}
-use Rattle.osm_entity.specs.EntityTexts.{tag_texts, node_texts}
-use Rattle.osm_entity.specs.Ranges.{NodeFits, MetaFits, IfPresent, IsInt32, IsStored, IsUid}
-use Rattle.osm_entity.specs.Sources.{low_32}
-use Rattle.osm_entity.specs.declared.scale.Scale.{Scale}
-use Rattle.pbf_dense.specs.declared.message.TheConstants.{DENSE_KINDS, DENSEINFO_KINDS, ID, DENSEINFO, LAT, LON, KEYS_VALS, VERSION, TIMESTAMP, CHANGESET, UID, USER_SID, VISIBLE}
+use Rattle.pbf_wire.specs.Faults.{fault_where, fields_in, leaf_faults, column_count, sum_faults, index_sum_faults, is_index}
+use Rattle.pbf_wire.specs.Message.{message, SlotFits, SlotIs, numbers_at}
+use Rattle.pbf_wire.proofs.MessageLemmas.{column_written}
+use Rattle.pbf_wire.proofs.SumLemmas.{IsSmall, deltas_fit, sums_of_deltas}
+use Rattle.pbf_wire.proofs.QuietLemmas.{leaf_quiet, counted_written, sums_good_written, index_sums_good}
+use Rattle.osm_entity.specs.Ranges.{IsStored, IsUid}
+use Rattle.pbf_dense.specs.declared.message.TheConstants.{DENSEINFO_KINDS, VERSION, TIMESTAMP, CHANGESET, UID, USER_SID, VISIBLE}
 use Rattle.pbf_dense.specs.Info.{InfoSpec, info_of}
-use Rattle.pbf_dense.specs.Judged.{dense_wire, dense_structure, dense_values, has_count, coordinate_counts, are_runs, are_tags, run_faults, goes_with, info_counts, texts_named, range_faults, info_values}
-use Rattle.pbf_dense.specs.WrittenDense.{bit_of, info_columns, info_slots, info_message, tag_numbers, run_of, DenseColumns, columns_of, dense_slots, dense_message, InAllOrNone, AreAlike, NodesHeld}
-use Rattle.pbf_dense.proofs.MetaLaw.{all_or_none, mapped, narrow_sums, info_same}
+use Rattle.pbf_dense.specs.Judged.{goes_with, info_counts, info_values}
+use Rattle.pbf_dense.specs.WrittenDense.{info_slots}
+use Rattle.pbf_dense.proofs.MetaLaw.{narrow_sums, info_same}
 
 -- ---- the columns of a DenseInfo
 

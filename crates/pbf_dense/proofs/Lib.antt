@@ -12,3 +12,4 @@ pub mod Counts
 pub mod MetaLaw
 pub mod InfoLaw
 pub mod DenseLaw
+pub mod NodesLaw
