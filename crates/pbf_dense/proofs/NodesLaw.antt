@@ -1,5 +1,8 @@
 -- The nodes of a written dense message are those that it was written of.
-use Rattle.std.proofs.Common.{◌≡◌, ℕ, suc, ◌<◌, ◌||◌, ℤ, Bool, true, false, List, [], ◌∷◌, ◌++◌, length, map, Option, refl, sym, ap, ap₂, ◌∙◌, arith, true≢false, zero}
+use Rattle.pbf_wire.specs.declared.fault.Reason.TheVariants.{EntityLarge}
+use Rattle.std.proofs.lemmas.Bool.{le-ltb}
+use Rattle.pbf_dense.specs.Judged.{weight_fault, dense_weights, as_stored, early_fault, dense_fault}
+use Rattle.std.proofs.Common.{◌≡◌, ℕ, suc, ◌<◌, ◌||◌, ℤ, Bool, true, false, List, [], ◌∷◌, ◌++◌, length, map, Option, refl, sym, ap, ap₂, ◌∙◌, arith, true≢false, zero, None}
 use Rattle.std.specs.Prelude.{unwrap_or}
 use Rattle.std.specs.List.{flat_map, list_any, range_with_len, AllByRecursion}
 use Rattle.std.proofs.lemmas.List.{append-nil, length-map}
@@ -7,7 +10,7 @@ use Rattle.pbf_wire.specs.Occurrence.{Occurrence}
 use Rattle.pbf_wire.specs.Columns.{column}
 use Rattle.pbf_wire.specs.Signed.{unzigzag}
 use Rattle.pbf_wire.specs.Sums.{sums, sum_at, deltas}
-use Rattle.pbf_wire.specs.Faults.{fields_in, embedded}
+use Rattle.pbf_wire.specs.Faults.{fields_in, embedded, fault_where}
 use Rattle.pbf_wire.specs.Message.{message, numbers_at}
 use Rattle.pbf_wire.proofs.SumLemmas.{sums_of_deltas}
 use Rattle.pbf_wire.proofs.QuietLemmas.{embedded_or_none}
@@ -16,7 +19,7 @@ use Rattle.pbf_strings.proofs.UsedTexts.{text_at_index}
 use Rattle.osm_entity.specs.declared.scale.Scale.{Scale}
 use Rattle.osm_entity.specs.Entity.{TagSpec, MetaSpec, NodeSpec}
 use Rattle.osm_entity.specs.EntityTexts.{tag_texts}
-use Rattle.osm_entity.specs.Ranges.{IfPresent, IsInt32}
+use Rattle.osm_entity.specs.Ranges.{IfPresent, IsInt32, NodeFits}
 use Rattle.osm_entity.specs.Sources.{low_32, tag_of, run}
 use Rattle.pbf_dense.specs.declared.message.TheConstants.{ID, DENSEINFO, LAT, LON, KEYS_VALS}
 use Rattle.pbf_dense.specs.Info.{InfoSpec, info_of}
@@ -26,8 +29,8 @@ use Rattle.pbf_dense.specs.WrittenDense.{info_columns, info_message, run_of, are
 use Rattle.pbf_dense.proofs.IndexLemmas.{moving_same, moving_by_index}
 use Rattle.pbf_dense.proofs.MovingLemmas.{run_on}
 use Rattle.pbf_dense.proofs.MetaLaw.{alike_later, meta_given, info_later}
-use Rattle.pbf_dense.proofs.InfoLaw.{info_read}
-use Rattle.pbf_dense.proofs.DenseLaw.{NamedNode, nodes_named, written_runs, info_fit, info_short, dense_fits, short, infos_are, column_long, dense_column, low_runs}
+use Rattle.pbf_dense.proofs.InfoLaw.{info_read, no_faults_joined}
+use Rattle.pbf_dense.proofs.DenseLaw.{NamedNode, nodes_named, written_runs, info_fit, info_short, dense_fits, short, infos_are, column_long, dense_column, low_runs, wire_written, structure_written, values_written}
 
 -- ---- by index is by columns that move together, whatever is in them
 
@@ -96,19 +99,34 @@ tags_given texts ns h = by (list_any has_tag ns) refl
 
 -- ---- nodes
 
-node_same : (n : NodeSpec) (meta : MetaSpec) (tags : List TagSpec) (scale : Scale) → meta ≡ n.meta → tags ≡ n.tags → n.scale ≡ scale
-    → ◌≡◌ {A = NodeSpec} (record { id = n.id; lat = n.lat; lon = n.lon; meta = meta; tags = tags; scale = scale }) n
-node_same n meta tags scale p q r = rw (p, q, ← r) refl
+-- the node with the numbers that it has at another scale
+abbrev at_scale : Scale → NodeSpec → NodeSpec
+at_scale scale n = record n { scale = scale }
 
-columns_give : (texts : List (List ℕ)) (scale : Scale) (ns : List NodeSpec) (column : List ℕ) → AreAlike (map (λ n. n.meta) ns) → AllByRecursion (λ n. IfPresent IsInt32 n.meta.version) ns → AllByRecursion (λ n. n.scale ≡ scale) ns → AllByRecursion (NamedNode texts) ns
-    → GivesTags (table_of texts) column ns → moving (table_of texts) scale (map (λ n. n.id) ns) (map (λ n. n.lat) ns) (map (λ n. n.lon) ns) (info_columns texts (map (λ n. n.meta) ns)) column ≡ ns
-columns_give texts scale [] column alike versions scaled named given = refl
-columns_give texts scale (n ∷ ns) column alike versions scaled named given =
+node_same : (n : NodeSpec) (meta : MetaSpec) (tags : List TagSpec) (scale : Scale) → meta ≡ n.meta → tags ≡ n.tags
+    → ◌≡◌ {A = NodeSpec} (record { id = n.id; lat = n.lat; lon = n.lon; meta = meta; tags = tags; scale = scale }) (at_scale scale n)
+node_same n meta tags scale p q = rw (p, q) refl
+
+columns_give : (texts : List (List ℕ)) (scale : Scale) (ns : List NodeSpec) (column : List ℕ) → AreAlike (map (λ n. n.meta) ns) → AllByRecursion (λ n. IfPresent IsInt32 n.meta.version) ns → AllByRecursion (NamedNode texts) ns
+    → GivesTags (table_of texts) column ns → moving (table_of texts) scale (map (λ n. n.id) ns) (map (λ n. n.lat) ns) (map (λ n. n.lon) ns) (info_columns texts (map (λ n. n.meta) ns)) column ≡ map (at_scale scale) ns
+columns_give texts scale [] column alike versions named given = refl
+columns_give texts scale (n ∷ ns) column alike versions named given =
     let metas = map (λ n. n.meta) ns in
     ap₂ (λ (x : NodeSpec) (xs : List NodeSpec). x ∷ xs)
-    (node_same n _ _ scale (meta_given texts n.meta metas alike versions.0 named.0.1) given.0 scaled.0)
+    (node_same n _ _ scale (meta_given texts n.meta metas alike versions.0 named.0.1) given.0)
     (ap (λ (info : InfoSpec). moving (table_of texts) scale (map (λ n. n.id) ns) (map (λ n. n.lat) ns) (map (λ n. n.lon) ns) info (after_run column)) (info_later texts n.meta metas alike)
-    ∙ columns_give texts scale ns (after_run column) (alike_later n.meta metas alike) versions.1 scaled.1 named.1 given.1)
+    ∙ columns_give texts scale ns (after_run column) (alike_later n.meta metas alike) versions.1 named.1 given.1)
+
+one_scaled : (scale : Scale) (n : NodeSpec) → n.scale ≡ scale → at_scale scale n ≡ n
+one_scaled scale n e = ap (λ (s : Scale). at_scale s n) (sym e)
+
+all_scaled : (scale : Scale) (ns : List NodeSpec) → AllByRecursion (λ n. n.scale ≡ scale) ns → map (at_scale scale) ns ≡ ns
+all_scaled scale [] h = refl
+all_scaled scale (n ∷ ns) h = ap₂ (λ (x : NodeSpec) (xs : List NodeSpec). x ∷ xs) (one_scaled scale n h.0) (all_scaled scale ns h.1)
+
+all_light : (place : ℕ) (scale : Scale) (ns : List NodeSpec) → AllByRecursion NodeFits ns → flat_map (weight_fault place) (map (at_scale scale) ns) ≡ []
+all_light place scale [] h = refl
+all_light place scale (n ∷ ns) h = no_faults_joined _ _ (ap (λ b. fault_where b place EntityLarge) (le-ltb _ _ h.0.light)) (all_light place scale ns h.1)
 
 -- ---- the message
 
@@ -129,14 +147,26 @@ module _ (texts : List (List ℕ)) (scale : Scale) (ns : List NodeSpec) (h : Nod
   long : (k at : ℕ) (f : NodeSpec → ℤ) → column k (fields_in at (message (dense_slots (columns_of texts ns)))) ≡ deltas (map f ns) ++ [] → length (column k (fields_in at (message (dense_slots (columns_of texts ns))))) ≡ length ns
   long k at f e = ap (λ (w : List ℕ). length w) e ∙ column_long f ns
 
-  -- the nodes are read back
-  pub nodes_written : (at : ℕ) → nodes (table_of texts) scale (fields_in at (dense_message texts ns)) ≡ ns
+  nodes_at_scale : (other : Scale) (at : ℕ) → nodes (table_of texts) other (fields_in at (dense_message texts ns)) ≡ map (at_scale other) ns
   unfolding dense_message
-  nodes_written at =
+  nodes_at_scale other at =
       let at_column : (k : ℕ) → column k (fields_in at (message (dense_slots (columns_of texts ns)))) ≡ flat_map (numbers_at k) (dense_slots (columns_of texts ns)) = λ k. dense_column texts scale ns h k at in
       let ids = long ID at (λ n. n.id) (at_column ID) in
       let named = nodes_named texts ns h.named in
-      nodes_moving (table_of texts) scale _ (long LAT at (λ n. n.lat) (at_column LAT) ∙ sym ids) (long LON at (λ n. n.lon) (at_column LON) ∙ sym ids)
-      ∙ (moving_same (table_of texts) scale _ _ _ _ _ _ _ _ _ (values_back ID at _ (at_column ID)) (values_back LAT at _ (at_column LAT)) (values_back LON at _ (at_column LON)) (info_held at)
-      ∙ (ap (moving (table_of texts) scale (map (λ n. n.id) ns) (map (λ n. n.lat) ns) (map (λ n. n.lon) ns) (info_columns texts (map (λ n. n.meta) ns))) (low_runs texts scale ns h at)
-      ∙ columns_give texts scale ns _ h.alike h.versions h.scaled named (tags_given texts ns named)))
+      nodes_moving (table_of texts) other _ (long LAT at (λ n. n.lat) (at_column LAT) ∙ sym ids) (long LON at (λ n. n.lon) (at_column LON) ∙ sym ids)
+      ∙ (moving_same (table_of texts) other _ _ _ _ _ _ _ _ _ (values_back ID at _ (at_column ID)) (values_back LAT at _ (at_column LAT)) (values_back LON at _ (at_column LON)) (info_held at)
+      ∙ (ap (moving (table_of texts) other (map (λ n. n.id) ns) (map (λ n. n.lat) ns) (map (λ n. n.lon) ns) (info_columns texts (map (λ n. n.meta) ns))) (low_runs texts scale ns h at)
+      ∙ columns_give texts other ns _ h.alike h.versions named (tags_given texts ns named)))
+
+  -- the nodes are read back
+  pub nodes_written : (at : ℕ) → nodes (table_of texts) scale (fields_in at (dense_message texts ns)) ≡ ns
+  nodes_written at = nodes_at_scale scale at ∙ all_scaled scale ns h.scaled
+
+  weights_written : (place at : ℕ) → dense_weights place (nodes (table_of texts) as_stored (fields_in at (dense_message texts ns))) ≡ []
+  unfolding dense_weights
+  weights_written place at = ap (flat_map (weight_fault place)) (nodes_at_scale as_stored at) ∙ all_light place as_stored ns h.fit
+
+  -- and the message has no fault
+  pub dense_sound : (place at : ℕ) → dense_fault place at (table_of texts) (dense_message texts ns) ≡ None
+  unfolding dense_fault early_fault
+  dense_sound place at = rw (wire_written texts scale ns h place at, structure_written texts scale ns h place at, values_written texts scale ns h place at, weights_written place at) refl
