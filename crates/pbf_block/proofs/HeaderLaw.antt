@@ -16,7 +16,7 @@ use Rattle.pbf_block.specs.declared.header.HeaderBox.{HeaderBox}
 use Rattle.pbf_block.specs.declared.header.TheConstants.{BBOX, REQUIRED_FEATURES, OPTIONAL_FEATURES, WRITINGPROGRAM, SOURCE, REPLICATION_TIMESTAMP, REPLICATION_SEQUENCE, REPLICATION_URL, LEFT, RIGHT, TOP, BOTTOM}
 use Rattle.pbf_block.specs.Header.{HeaderSpec, edge, box_in, last_text, last_int64, header_in}
 use Rattle.pbf_block.specs.WrittenHeader.{EdgesTyped, BoxTyped, HeaderFits, box_slots, box_message, header_slots, header_message}
-use Rattle.pbf_block.proofs.SlotLemmas.{IfSome, option_read, last_text_of, scalar_fits, last_given}
+use Rattle.pbf_block.proofs.SlotLemmas.{IfSome, present, option_read, last_text_of, scalar_fits, last_given}
 
 -- ---- the box
 
@@ -58,10 +58,6 @@ int64_fits z h = signs_fit z h.0 h.1
 
 int64_read : (z : ℤ) → IsInt64 z → low_i64 (sign_extended z) ≡ z
 int64_read z h = signs_read z h.0 h.1
-
-present : (P : ℤ → Type 0) (z : Option ℤ) → IfPresent P z → IfSome P z
-present P None h = tt
-present P (Some z) h = h
 
 pub header_slots_fit : (h : HeaderSpec) → HeaderFits h → AllByRecursion SlotFits (header_slots h)
 header_slots_fit h fits =

@@ -2,6 +2,7 @@
 use Rattle.std.proofs.Common.{◌≡◌, ℕ, ◌^◌, ◌<◌, true, false, eqb, List, [], ◌∷◌, ◌++◌, Option, Some, None, refl, ap, ◌∙◌}
 use Rattle.std.specs.List.{flat_map, last_or, AllByRecursion}
 use Rattle.std.specs.Option.{option_map, option_to_list}
+use Rattle.osm_entity.specs.Ranges.{IfPresent}
 use Rattle.pbf_wire.specs.Message.{Slot, Scalar, Column, Each, SlotFits, scalars_at}
 
 -- ---- options
@@ -9,6 +10,10 @@ use Rattle.pbf_wire.specs.Message.{Slot, Scalar, Column, Each, SlotFits, scalars
 abbrev pub IfSome : {X : Type 0} → (X → Type 0) → Option X → Type 0
 IfSome P None = Unit {0}
 IfSome P (Some x) = P x
+
+pub present : (P : ℤ → Type 0) (z : Option ℤ) → IfPresent P z → IfSome P z
+present P None h = tt
+present P (Some z) h = h
 
 -- what is read of an option that was written
 pub option_read : {X Y : Type 0} (f : X → Y) (g : Y → X) (P : X → Type 0) → ((x : X) → P x → g (f x) ≡ x) → (o : Option X) → IfSome P o → option_map g (option_map f o) ≡ o
