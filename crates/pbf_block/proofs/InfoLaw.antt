@@ -1,21 +1,21 @@
 -- A written Info is read as the metadata that it was written for.
-use Rattle.std.proofs.Common.{◌≡◌, ℕ, ◌+◌, ◌%◌, ◌^◌, ◌<◌, ◌≤◌, ◌==◌, Bool, true, false, not, ℤ, pos, negsuc, List, [], ◌∷◌, length, take, drop, Option, Some, None, unwrap_or, refl, ap, ap₂, ◌∙◌, subst, arith}
+use Rattle.std.proofs.Common.{◌≡◌, ℕ, ◌%◌, ◌^◌, ◌<◌, ◌≤◌, ◌==◌, Bool, true, false, not, ℤ, List, [], length, take, drop, Option, Some, None, unwrap_or, refl, ap, ◌∙◌, subst, arith}
 use Rattle.std.specs.Prelude.{slice_get}
 use Rattle.std.specs.List.{AllByRecursion}
-use Rattle.std.specs.Option.{option_map, option_to_list}
+use Rattle.std.specs.Option.{option_map}
 use Rattle.std.proofs.lemmas.Int.{ints}
 use Rattle.std.proofs.lemmas.Option.{slice_get_within}
 use Rattle.pbf_wire.specs.Faults.{fields_in}
 use Rattle.pbf_wire.specs.Message.{SlotFits, message}
 use Rattle.pbf_wire.specs.Reading.{last_number}
-use Rattle.pbf_wire.specs.Signed.{low_i32, low_i64, sign_extended, IsWithin}
+use Rattle.pbf_wire.specs.Signed.{low_i32, low_i64, sign_extended}
 use Rattle.pbf_wire.proofs.MessageLemmas.{last_written}
 use Rattle.pbf_wire.proofs.SumLemmas.{signs_read, signs_fit, low_signs_read}
 use Rattle.pbf_strings.specs.Texts.{text}
 use Rattle.pbf_strings.specs.TableOut.{has_text, with_text, index_in, table_of}
 use Rattle.pbf_strings.proofs.UsedTexts.{text_named}
 use Rattle.osm_entity.specs.Entity.{MetaSpec}
-use Rattle.osm_entity.specs.Ranges.{IsInt32, IsInt64, IsStored, IsUid, IfPresent, MetaFits}
+use Rattle.osm_entity.specs.Ranges.{IsInt32, IsStored, IsUid, IfPresent, MetaFits}
 use Rattle.osm_entity.specs.Sources.{named}
 use Rattle.pbf_dense.specs.WrittenDense.{bit_of}
 use Rattle.pbf_block.specs.declared.message.TheConstants.{VERSION, TIMESTAMP, CHANGESET, UID, USER_SID, VISIBLE}

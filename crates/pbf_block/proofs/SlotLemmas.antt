@@ -1,9 +1,9 @@
 -- What is read at one field of a list of slots.
-use Rattle.std.proofs.Common.{ℤ, ◌≡◌, ℕ, ◌^◌, ◌<◌, true, false, eqb, List, [], ◌∷◌, ◌++◌, Option, Some, None, refl, ap, ◌∙◌}
+use Rattle.std.proofs.Common.{length, ◌≡◌, ◌≤◌, arith, ℤ, ℕ, ◌^◌, ◌<◌, true, false, eqb, List, [], ◌∷◌, ◌++◌, Option, Some, None, refl, ap, ◌∙◌}
 use Rattle.std.specs.List.{flat_map, last_or, AllByRecursion}
 use Rattle.std.specs.Option.{option_map, option_to_list}
 use Rattle.osm_entity.specs.Ranges.{IfPresent}
-use Rattle.pbf_wire.specs.Message.{Slot, Scalar, Column, Each, SlotFits, scalars_at}
+use Rattle.pbf_wire.specs.Message.{Slot, Scalar, Column, Each, SlotFits, unless_empty, scalars_at}
 
 -- ---- options
 
@@ -55,3 +55,17 @@ one_at k (Some value) h = rw h refl
 pub last_given : (k : ℕ) (value : Option ℕ) (before after : List Slot) → eqb k k ≡ true → AllByRecursion (IsOther k) before → AllByRecursion (IsOther k) after → last_or None (flat_map (scalars_at k) (before ++ Scalar k value ∷ after)) ≡ value
 last_given k value [] after same b a = ap (λ (xs : List ℕ). last_or None (scalars_at k (Scalar k value) ++ xs)) (none_of k after a) ∙ one_at k value same
 last_given k value (s ∷ before) after same b a = ap (λ (xs : List ℕ). last_or None xs) (none_at k s (flat_map (scalars_at k) (before ++ Scalar k value ∷ after)) b.0) ∙ last_given k value before after same b.1 a
+
+pub none_given : (k : ℕ) (slots : List Slot) → AllByRecursion (IsOther k) slots → length (flat_map (scalars_at k) slots) ≡ 0
+none_given k slots h = ap (λ (ns : List ℕ). length ns) (none_of k slots h)
+
+-- ---- messages
+
+pub unless_all : (P : List ℕ → Type 0) (m : List ℕ) → P m → AllByRecursion P (unless_empty m)
+unless_all P [] h = tt
+unless_all P (b ∷ bs) h = (h, tt)
+
+-- one at most
+pub option_few : {X : Type 0} (o : Option X) → length (option_to_list o ++ []) ≤ 1
+option_few None = omega arith
+option_few (Some x) = omega arith
