@@ -9,3 +9,4 @@ pub mod Phases
 pub mod WeightLemmas
 pub mod DenseOutLemmas
 pub mod Counts
+pub mod MetaLaw
