@@ -1,53 +1,46 @@
 -- A written Info is read as the metadata that it was written for.
-use Rattle.std.proofs.Common.{◌≡◌, ℕ, ◌%◌, ◌^◌, ◌<◌, ◌≤◌, ◌==◌, Bool, true, false, not, ℤ, List, [], length, take, drop, Option, Some, None, unwrap_or, refl, ap, ◌∙◌, subst, arith}
-use Rattle.std.specs.Prelude.{slice_get}
-use Rattle.std.specs.List.{AllByRecursion}
-use Rattle.std.specs.Option.{option_map}
+use Rattle.std.proofs.Common.{pos, sym, [], ◌≡◌, ℕ, ◌%◌, ◌^◌, ◌<◌, ◌≤◌, ◌==◌, Bool, true, false, not, ℤ, List, [], length, take, drop, Option, Some, None, unwrap_or, refl, ap, ◌∙◌, subst, arith}
+use Rattle.std.specs.List.{flat_map, AllByRecursion}
+use Rattle.std.specs.Option.{option_map, option_to_list}
 use Rattle.std.proofs.lemmas.Int.{ints}
-use Rattle.std.proofs.lemmas.Option.{slice_get_within}
-use Rattle.pbf_wire.specs.Faults.{fields_in}
-use Rattle.pbf_wire.specs.Message.{SlotFits, message}
+use Rattle.pbf_wire.specs.declared.fault.Fault.{Fault}
+use Rattle.pbf_wire.specs.Faults.{fields_in, leaf_faults}
+use Rattle.pbf_wire.proofs.QuietLemmas.{leaf_quiet, in_last_written}
+use Rattle.std.proofs.lemmas.Bool.{lt-ltb}
+use Rattle.pbf_wire.specs.Message.{scalars_at, SlotFits, message}
 use Rattle.pbf_wire.specs.Reading.{last_number}
-use Rattle.pbf_wire.specs.Signed.{low_i32, low_i64, sign_extended}
+use Rattle.pbf_wire.specs.Signed.{is_within, low_i32, low_i64, sign_extended}
 use Rattle.pbf_wire.proofs.MessageLemmas.{last_written}
-use Rattle.pbf_wire.proofs.SumLemmas.{signs_read, signs_fit, low_signs_read}
+use Rattle.pbf_wire.proofs.SumLemmas.{within_true, signs_read, signs_fit, low_signs_read}
 use Rattle.pbf_strings.specs.Texts.{text}
-use Rattle.pbf_strings.specs.TableOut.{has_text, with_text, index_in, table_of}
-use Rattle.pbf_strings.proofs.UsedTexts.{text_named}
+use Rattle.pbf_strings.specs.TableOut.{has_text, index_in, table_of}
+use Rattle.pbf_strings.proofs.UsedTexts.{text_at_index, index_below}
 use Rattle.osm_entity.specs.Entity.{MetaSpec}
 use Rattle.osm_entity.specs.Ranges.{IsInt32, IsStored, IsUid, IfPresent, MetaFits}
 use Rattle.osm_entity.specs.Sources.{named}
 use Rattle.pbf_dense.specs.WrittenDense.{bit_of}
-use Rattle.pbf_block.specs.declared.message.TheConstants.{VERSION, TIMESTAMP, CHANGESET, UID, USER_SID, VISIBLE}
+use Rattle.pbf_block.specs.declared.message.TheConstants.{INFO_KINDS, VERSION, TIMESTAMP, CHANGESET, UID, USER_SID, VISIBLE}
+use Rattle.pbf_block.specs.ValueFaults.{stored_limit, wide_range, uid_range, user_range, info_values}
 use Rattle.pbf_block.specs.Info.{info_in}
 use Rattle.pbf_block.specs.WrittenEntity.{info_slots, info_message}
-use Rattle.pbf_block.proofs.SlotLemmas.{IfSome, present, option_read, scalar_fits, last_given}
+use Rattle.pbf_block.proofs.SlotLemmas.{IfSome, scalar_given, given_all, present, option_read, scalar_fits, last_given}
 
 -- ---- texts and their indexes
 
 abbrev pub IsAmong : List (List ℕ) → List ℕ → Type 0
 IsAmong texts t = has_text texts t ≡ true
 
-got : (texts : List (List ℕ)) (t : List ℕ) → IsAmong texts t → slice_get (table_of texts) (index_in texts t) ≡ Some t
-got texts t h =
-    let same : with_text texts t ≡ texts = rw h refl in
-    subst (λ (ts : List (List ℕ)). slice_get (table_of ts) (index_in ts t) ≡ Some t) same (text_named texts t)
-
--- an index is below the length of its table
-pub index_within : (texts : List (List ℕ)) (t : List ℕ) → IsAmong texts t → index_in texts t < length (table_of texts)
-index_within texts t h = slice_get_within (table_of texts) (index_in texts t) t (got texts t h)
-
 module _ (texts : List (List ℕ)) (few : length (table_of texts) ≤ 1048576) where
   pub low_index : (t : List ℕ) → IsAmong texts t → index_in texts t % 2 ^ 32 ≡ index_in texts t
-  low_index t h = omega (arith, few, index_within texts t h)
+  low_index t h = omega (arith, few, index_below texts t h)
 
   pub index_fits : (t : List ℕ) → IsAmong texts t → index_in texts t < 2 ^ 64
-  index_fits t h = omega (arith, few, index_within texts t h)
+  index_fits t h = omega (arith, few, index_below texts t h)
 
   -- and names the text
   pub named_read : (t : List ℕ) → IsAmong texts t → named (table_of texts) (index_in texts t) ≡ t
   named_read t h =
-      ap (λ i. text (table_of texts) i) (low_index t h) ∙ ap (λ (o : Option (List ℕ)). unwrap_or o []) (got texts t h)
+      ap (λ i. text (table_of texts) i) (low_index t h) ∙ ap (λ (o : Option (List ℕ)). unwrap_or o []) (text_at_index texts t h)
 
 -- ---- numbers
 
@@ -129,3 +122,37 @@ module _ (texts : List (List ℕ)) (meta : MetaSpec) (h : MetaReady texts meta) 
       ap (option_map (λ n. not (n == 0))) (last_written VISIBLE at slots fits room ∙ last_given VISIBLE _ (take 5 slots) (drop 6 slots) refl (refl, (refl, (refl, (refl, (refl, tt))))) tt)
       ∙ option_read bit_of (λ n. not (n == 0)) IsAny bit_read meta.visible (any meta.visible) in
       rw (version, timestamp, changeset, uid, user, visible) refl
+
+  -- ---- it has no fault
+
+  pub info_wire : (place at : ℕ) → length (info_message texts meta) < 2 ^ 64 → leaf_faults INFO_KINDS place at (info_message texts meta) ≡ []
+  unfolding info_message
+  info_wire place at room = leaf_quiet INFO_KINDS place at (info_slots texts meta) (refl, (refl, (refl, (refl, (refl, (refl, tt)))))) info_fits room
+
+  stored_quiet : (z : ℤ) → IsStored z → (place : ℕ) → wide_range place (sign_extended z) ≡ []
+  stored_quiet z s place = let e : is_within stored_limit (low_i64 (sign_extended z)) ≡ true = ap (is_within stored_limit) (stored_read z s) ∙ within_true stored_limit z s in rw e refl
+
+  uid_quiet : (z : ℤ) → IsUid z → (place : ℕ) → uid_range place (sign_extended z) ≡ []
+  uid_quiet z s place = let e : is_within (pos (2 ^ 30)) (low_i32 (sign_extended z)) ≡ true = ap (is_within (pos (2 ^ 30))) (uid_read z s) ∙ within_true (pos (2 ^ 30)) z s in rw e refl
+
+  user_quiet : (t : List ℕ) → IsAmong texts t → (place : ℕ) → user_range (length (table_of texts)) place (index_in texts t) ≡ []
+  user_quiet t s place =
+      let below : index_in texts t % 2 ^ 32 < length (table_of texts) = omega (arith, low_index texts h.few t s, index_below texts t s) in
+      rw (lt-ltb (index_in texts t % 2 ^ 32) (length (table_of texts)) below) refl
+
+  pub info_quiet : (place at : ℕ) → length (info_message texts meta) < 2 ^ 64 → info_values (length (table_of texts)) place at (info_message texts meta) ≡ []
+  unfolding info_message
+  info_quiet place at room =
+      let slots = info_slots texts meta in
+      let fits = info_fits in
+      let all = λ (k : ℕ) (f : ℕ → ℕ → List Fault) (value : Option ℕ) (e : flat_map (scalars_at k) slots ≡ option_to_list value) (g : AllByRecursion (λ v. (place : ℕ) → f place v ≡ []) (option_to_list value)).
+      in_last_written k f at slots fits room (subst (λ (vs : List ℕ). AllByRecursion (λ v. (place : ℕ) → f place v ≡ []) vs) (sym e) g) in
+      let timestamp = all TIMESTAMP wide_range _ (scalar_given TIMESTAMP _ (take 1 slots) (drop 2 slots) refl (refl, tt) (refl, (refl, (refl, (refl, tt)))))
+      (given_all sign_extended IsStored (λ v. (place : ℕ) → wide_range place v ≡ []) stored_quiet meta.timestamp (present IsStored meta.timestamp h.fits.timestamp)) in
+      let changeset = all CHANGESET wide_range _ (scalar_given CHANGESET _ (take 2 slots) (drop 3 slots) refl (refl, (refl, tt)) (refl, (refl, (refl, tt))))
+      (given_all sign_extended IsStored (λ v. (place : ℕ) → wide_range place v ≡ []) stored_quiet meta.changeset (present IsStored meta.changeset h.fits.changeset)) in
+      let uid = all UID uid_range _ (scalar_given UID _ (take 3 slots) (drop 4 slots) refl (refl, (refl, (refl, tt))) (refl, (refl, tt)))
+      (given_all sign_extended IsUid (λ v. (place : ℕ) → uid_range place v ≡ []) uid_quiet meta.uid (present IsUid meta.uid h.fits.uid)) in
+      let user = all USER_SID (user_range (length (table_of texts))) _ (scalar_given USER_SID _ (take 4 slots) (drop 5 slots) refl (refl, (refl, (refl, (refl, tt)))) (refl, tt))
+      (given_all (index_in texts) (IsAmong texts) (λ v. (place : ℕ) → user_range (length (table_of texts)) place v ≡ []) user_quiet meta.user h.user) in
+      rw (timestamp, changeset, uid, user) refl
