@@ -10,3 +10,6 @@ pub mod WeightLemmas
 pub mod DenseOutLemmas
 pub mod Counts
 pub mod MetaLaw
+pub mod InfoLaw
+pub mod DenseLaw
+pub mod NodesLaw

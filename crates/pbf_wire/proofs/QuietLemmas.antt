@@ -1,4 +1,6 @@
 -- A written message gives no faults where its slots give none.
+use Rattle.pbf_wire.specs.Reading.{last_of}
+use Rattle.std.proofs.lemmas.Grind.{flat_map-append}
 use Rattle.std.proofs.Common.{◌≡◌, ℕ, ◌+◌, ◌*◌, ◌%◌, ◌^◌, ◌<◌, ℤ, pos, ◌+ℤ◌, Bool, true, List, [], ◌∷◌, ◌++◌, length, map, Option, Some, None, refl, sym, ap, ap₂, subst, ◌∙◌, ◌||◌, drop, ◌==◌, arith, ◌≤◌, false}
 use Rattle.std.specs.Prelude.{Ok, Err, not, filter, if◌then◌else◌}
 use Rattle.std.specs.List.{flat_map, AllByRecursion, list_any, last_or}
@@ -28,7 +30,7 @@ use Rattle.pbf_wire.proofs.RisingLemmas.{running, running_is}
 abbrev pub field_at : ℕ → ℕ → Content → Occurrence
 field_at place number content = record { place = place; number = number; content = content }
 
-module _ (f : Occurrence → List Fault) where
+module _ {X : Type 0} (f : Occurrence → List X) where
   -- the field gives nothing, wherever it stands
   abbrev PartQuiet : Part → Type 0
   PartQuiet (Single number value) = (place : ℕ) → f (field_at place number (Number value)) ≡ []
@@ -57,9 +59,9 @@ module _ (f : Occurrence → List Fault) where
   parts_quiet : (at : ℕ) (ps : List Part) → AllByRecursion PartQuiet ps → flat_map f (occurrences_of at ps) ≡ []
   parts_quiet at [] h = refl
   parts_quiet at (Single number value ∷ ps) h =
-      ap₂ (λ (xs ys : List Fault). xs ++ ys) (h.0 at) (parts_quiet (at + length (spelling (Single number value))) ps h.1)
+      ap₂ (λ (xs ys : List X). xs ++ ys) (h.0 at) (parts_quiet (at + length (spelling (Single number value))) ps h.1)
   parts_quiet at (Whole number bytes ∷ ps) h =
-      ap₂ (λ (xs ys : List Fault). xs ++ ys) (h.0 at (at + length (shortest (number * 8 + 2)) + length (shortest (length bytes)))) (parts_quiet (at + length (spelling (Whole number bytes))) ps h.1)
+      ap₂ (λ (xs ys : List X). xs ++ ys) (h.0 at (at + length (shortest (number * 8 + 2)) + length (shortest (length bytes)))) (parts_quiet (at + length (spelling (Whole number bytes))) ps h.1)
 
   wholes_quiet : (number : ℕ) (ms : List (List ℕ)) → AllByRecursion (λ m. (place begin : ℕ) → f (field_at place number (Bytes m begin)) ≡ []) ms → AllByRecursion PartQuiet (map (Whole number) ms)
   wholes_quiet number [] h = tt
@@ -79,6 +81,39 @@ module _ (f : Occurrence → List Fault) where
   -- quiet slots give nothing
   pub fields_quiet : (at : ℕ) (slots : List Slot) → AllByRecursion SlotQuiet slots → AllByRecursion SlotFits slots → length (message slots) < 2 ^ 64 → flat_map f (fields_in at (message slots)) ≡ []
   fields_quiet at slots h fits lt = ap (flat_map f) (fields_written at slots fits lt) ∙ parts_quiet at (flat_map parts_of slots) (slots_quiet slots h)
+
+  -- the fields of the slot give these, wherever they stand
+  abbrev pub SlotGives : Slot → List X → Type 0
+  SlotGives s xs = (at : ℕ) → flat_map f (occurrences_of at (parts_of s)) ≡ xs
+
+  pub quiet_gives : (s : Slot) → SlotQuiet s → SlotGives s []
+  quiet_gives s h at = parts_quiet at (parts_of s) (slot_quiet s h)
+
+  pub each_gives : {W : Type 0} (message_of : W → List ℕ) (out : W → List X) (number : ℕ) (ws : List W) → AllByRecursion (λ w. (place begin : ℕ) → f (field_at place number (Bytes (message_of w) begin)) ≡ out w) ws
+      → SlotGives (Each number (map message_of ws)) (flat_map out ws)
+  each_gives message_of out number [] h at = refl
+  each_gives message_of out number (w ∷ ws) h at =
+      let m = message_of w in
+      ap₂ (λ (xs ys : List X). xs ++ ys) (h.0 at (at + length (shortest (number * 8 + 2)) + length (shortest (length m)))) (each_gives message_of out number ws h.1 (at + length (spelling (Whole number m))))
+
+  split : (at : ℕ) (ps qs : List Part) → (to : ℕ) × (occurrences_of at (ps ++ qs) ≡ occurrences_of at ps ++ occurrences_of to qs)
+  split at [] qs = (at, refl)
+  split at (p ∷ ps) qs =
+      let others = split (at + length (spelling p)) ps qs in
+      (others.0, ap (λ (os : List Occurrence). occurrence_of at p ∷ os) others.1)
+
+  slots_give : (at : ℕ) (given : List (Slot × List X)) → AllByRecursion (λ g. SlotGives g.0 g.1) given → flat_map f (occurrences_of at (flat_map parts_of (map (λ g. g.0) given))) ≡ flat_map (λ g. g.1) given
+  slots_give at [] h = refl
+  slots_give at (g ∷ given) h =
+      let slots = map (λ (g : Slot × List X). g.0) given in
+      let parts = split at (parts_of g.0) (flat_map parts_of slots) in
+      ap (flat_map f) parts.1 ∙ flat_map-append f (occurrences_of at (parts_of g.0)) (occurrences_of parts.0 (flat_map parts_of slots))
+      ∙ ap₂ (λ (xs ys : List X). xs ++ ys) (h.0 at) (slots_give parts.0 given h.1)
+
+  -- what the fields give is what the slots give, in order
+  pub fields_give : (at : ℕ) (given : List (Slot × List X)) → AllByRecursion (λ g. SlotGives g.0 g.1) given → AllByRecursion SlotFits (map (λ g. g.0) given) → length (message (map (λ g. g.0) given)) < 2 ^ 64
+      → flat_map f (fields_in at (message (map (λ g. g.0) given))) ≡ flat_map (λ g. g.1) given
+  fields_give at given h fits lt = ap (flat_map f) (fields_written at (map (λ g. g.0) given) fits lt) ∙ slots_give at given h
 
 -- ---- wire form
 
@@ -216,19 +251,20 @@ no_fields k at ps e h = none (all_of k (occurrences_of at ps)) (parts_counted k 
     none [] e = refl
     none (o ∷ os) e = absurd (omega arith)
 
-abbrev Begins : Option Occurrence → List ℕ → Type 0
-Begins o m = (begin : ℕ) × (fields_of o ≡ fields_in begin m)
+-- the field k with these bytes, somewhere
+abbrev pub Holds : ℕ → List ℕ → Option Occurrence → Type 0
+Holds k m o = (place : ℕ) × (begin : ℕ) × (o ≡ Some (field_at place k (Bytes m begin)))
 
 abbrev last_from : Option Occurrence → List Occurrence → Option Occurrence
 last_from before os = last_or before os
 
-one_field : (k at : ℕ) (m : List ℕ) (ps : List Part) (before : Option Occurrence) → flat_map (part_messages k) ps ≡ m ∷ [] → flat_map (part_scalars k) ps ≡ [] → Begins (last_from before (all_of k (occurrences_of at ps))) m
+one_field : (k at : ℕ) (m : List ℕ) (ps : List Part) (before : Option Occurrence) → flat_map (part_messages k) ps ≡ m ∷ [] → flat_map (part_scalars k) ps ≡ [] → Holds k m (last_from before (all_of k (occurrences_of at ps)))
 one_field k at m [] before e h = absurd cc
 one_field k at m (Single number value ∷ ps) before e h = by (number == k) refl h (λ h. one_field k (at + length (spelling (Single number value))) m ps before e h)
   where
     by : (b : Bool) → (number == k) ≡ b → (if b then value ∷ [] else []) ++ flat_map (part_scalars k) ps ≡ []
-        → (flat_map (part_scalars k) ps ≡ [] → Begins (last_from before (all_of k (occurrences_of (at + length (spelling (Single number value))) ps))) m)
-        → Begins (last_from before (all_of k (occurrences_of at (Single number value ∷ ps)))) m
+        → (flat_map (part_scalars k) ps ≡ [] → Holds k m (last_from before (all_of k (occurrences_of (at + length (spelling (Single number value))) ps))))
+        → Holds k m (last_from before (all_of k (occurrences_of at (Single number value ∷ ps))))
     by true is h more = absurd cc
     by false is h more = rw is (more h)
 one_field k at m (Whole number bytes ∷ ps) before e h = by (number == k) refl e (λ e. one_field k (at + length (spelling (Whole number bytes))) m ps before e h)
@@ -236,27 +272,31 @@ one_field k at m (Whole number bytes ∷ ps) before e h = by (number == k) refl 
     next : ℕ
     next = at + length (spelling (Whole number bytes))
 
-    here : Occurrence
-    here = occurrence_of at (Whole number bytes)
+    begin : ℕ
+    begin = at + length (shortest (number * 8 + 2)) + length (shortest (length bytes))
 
     by : (b : Bool) → (number == k) ≡ b → (if b then bytes ∷ [] else []) ++ flat_map (part_messages k) ps ≡ m ∷ []
-        → (flat_map (part_messages k) ps ≡ m ∷ [] → Begins (last_from before (all_of k (occurrences_of next ps))) m)
-        → Begins (last_from before (all_of k (occurrences_of at (Whole number bytes ∷ ps)))) m
+        → (flat_map (part_messages k) ps ≡ m ∷ [] → Holds k m (last_from before (all_of k (occurrences_of next ps))))
+        → Holds k m (last_from before (all_of k (occurrences_of at (Whole number bytes ∷ ps))))
     by true is e more =
         let same : bytes ≡ m = cc in
         let none : flat_map (part_messages k) ps ≡ [] = cc in
-        let left = no_fields k next ps none h in (
-          at + length (shortest (number * 8 + 2)) + length (shortest (length bytes)),
-          rw (is, left) (ap (λ (w : List ℕ). fields_in (at + length (shortest (number * 8 + 2)) + length (shortest (length bytes))) w) same),
-        )
+        let left = no_fields k next ps none h in
+        let numbered : number ≡ k = grind arith in
+        (at, begin, rw (is, left) (ap₂ (λ (n : ℕ) (w : List ℕ). Some (field_at at n (Bytes w begin))) numbered same))
     by false is e more = rw is (more e)
 
--- the only message at a field is read where it begins
+-- the last field of a number whose only message was written holds it
+pub last_held : (k at : ℕ) (slots : List Slot) (m : List ℕ) → AllByRecursion SlotFits slots → length (message slots) < 2 ^ 64 → flat_map (messages_at k) slots ≡ m ∷ [] → flat_map (scalars_at k) slots ≡ []
+    → Holds k m (last_of k (fields_in at (message slots)))
+last_held k at slots m fits lt e h =
+    let held = one_field k at m (flat_map parts_of slots) None (slots_messages k slots ∙ e) (slots_scalars k slots ∙ h) in
+    (held.0, held.1, ap (last_of k) (fields_written at slots fits lt) ∙ held.2)
+
+-- and is read where it begins
 pub embedded_written : (k at : ℕ) (slots : List Slot) (m : List ℕ) → AllByRecursion SlotFits slots → length (message slots) < 2 ^ 64 → flat_map (messages_at k) slots ≡ m ∷ [] → flat_map (scalars_at k) slots ≡ []
     → (begin : ℕ) × (embedded k (fields_in at (message slots)) ≡ fields_in begin m)
-embedded_written k at slots m fits lt e h =
-    let held = one_field k at m (flat_map parts_of slots) None (slots_messages k slots ∙ e) (slots_scalars k slots ∙ h) in
-    (held.0, ap (embedded k) (fields_written at slots fits lt) ∙ held.1)
+embedded_written k at slots m fits lt e h = let held = last_held k at slots m fits lt e h in (held.1, ap fields_of held.2)
 
 -- and nothing where there is none
 pub embedded_none : (k at : ℕ) (slots : List Slot) → AllByRecursion SlotFits slots → length (message slots) < 2 ^ 64 → flat_map (messages_at k) slots ≡ [] → flat_map (scalars_at k) slots ≡ [] → embedded k (fields_in at (message slots)) ≡ []
