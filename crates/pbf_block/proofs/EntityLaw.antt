@@ -116,13 +116,6 @@ user_among texts user h = user_of (IsAmong texts) user h
 
 -- ---- columns of differences
 
-differences_long : (start : ℤ) (values : List ℤ) → length (map zigzag (differences start values)) ≡ length values
-differences_long start [] = refl
-differences_long start (v ∷ vs) = ap suc (differences_long v vs)
-
-pub deltas_length : (values : List ℤ) → length (deltas values) ≡ length values
-deltas_length values = differences_long (pos 0) values
-
 pub values_read : (k : ℕ) (os : List Occurrence) (values : List ℤ) → column k os ≡ deltas values → values_in by_index k os ≡ values
 values_read k os values e = ap (λ (ns : List ℕ). sums (map unzigzag ns)) e ∙ sums_of_deltas values
 

@@ -20,6 +20,7 @@ use Rattle.osm_entity.specs.Entity.{MemberSpec, RelationSpec, relation}
 use Rattle.osm_entity.specs.EntityTexts.{tag_texts, relation_texts}
 use Rattle.osm_entity.specs.Ranges.{IsStored, MemberFits, RelationFits, EntityTyped}
 use Rattle.osm_entity.specs.Sources.{member_kind, column_members}
+use Rattle.pbf_dense.proofs.InfoLaw.{deltas_length}
 use Rattle.pbf_block.specs.declared.message.TheConstants.{RELATION_KINDS, ROLES_SID, MEMIDS, TYPES}
 use Rattle.pbf_block.specs.Members.{relation_in}
 use Rattle.pbf_block.specs.Payload.{by_index}
@@ -28,7 +29,7 @@ use Rattle.pbf_block.specs.ValueFaults.{relation_values}
 use Rattle.pbf_block.specs.WireFaults.{relation_wire}
 use Rattle.pbf_block.specs.WrittenEntity.{kind_number, role_index, relation_slots, relation_message}
 use Rattle.pbf_block.proofs.InfoLaw.{named_read}
-use Rattle.pbf_block.proofs.EntityLaw.{AreAmong, IsNamed, AreKnown, IsOwn, IsReady, all_such, user_among, named_fit, named_good, deltas_length, values_read, count_is, sums_good, entity_fits, id_read, tags_read, meta_read, entity_wire, no_structure, id_quiet, no_value}
+use Rattle.pbf_block.proofs.EntityLaw.{AreAmong, IsNamed, AreKnown, IsOwn, IsReady, all_such, user_among, named_fit, named_good, values_read, count_is, sums_good, entity_fits, id_read, tags_read, meta_read, entity_wire, no_structure, id_quiet, no_value}
 
 -- ---- members
 
