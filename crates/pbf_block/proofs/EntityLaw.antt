@@ -1,5 +1,5 @@
 -- What ways and relations have alike as they are written: an id, tags and an Info, before the columns of their own.
-use Rattle.std.proofs.Common.{pos, ◌≡◌, ℕ, ◌%◌, ◌^◌, ◌<◌, ◌≤◌, ◌==◌, true, false, eqb, ℤ, List, [], ◌∷◌, ◌++◌, length, map, Option, Some, None, refl, sym, ap, ap₂, subst, ◌∙◌, arith}
+use Rattle.std.proofs.Common.{suc, None, pos, ◌≡◌, ℕ, ◌%◌, ◌^◌, ◌<◌, ◌≤◌, ◌==◌, true, false, eqb, ℤ, List, [], ◌∷◌, ◌++◌, length, map, Option, Some, None, refl, sym, ap, ap₂, subst, ◌∙◌, arith}
 use Rattle.std.specs.List.{flat_map, last_or, AllByRecursion}
 use Rattle.std.proofs.lemmas.Bool.Decides.{nat_tests}
 use Rattle.std.proofs.lemmas.List.{append-nil, length-map}
@@ -8,13 +8,15 @@ use Rattle.pbf_wire.specs.declared.kind.Kind.{Kind}
 use Rattle.pbf_wire.specs.declared.kind.Kind.TheVariants as kind
 use Rattle.pbf_wire.specs.Occurrence.{Occurrence}
 use Rattle.pbf_wire.specs.Columns.{column, joined}
-use Rattle.pbf_wire.specs.Faults.{fields_in, entered, embedded, leaf_faults, nested_faults, in_last, missing, twice, column_count, index_faults}
+use Rattle.pbf_wire.specs.Faults.{sum_faults, fields_in, entered, embedded, leaf_faults, nested_faults, in_last, missing, twice, column_count, index_faults}
 use Rattle.pbf_wire.specs.Message.{Slot, Scalar, Column, Each, message, unless_empty, SlotFits, SlotIs, numbers_at, scalars_at, messages_at}
-use Rattle.pbf_wire.specs.Signed.{is_within, low_i64, sign_extended}
+use Rattle.pbf_wire.specs.Signed.{zigzag, unzigzag, delta_in, IsWithin, is_within, low_i64, sign_extended}
+use Rattle.pbf_wire.specs.Sums.{sums, differences, deltas}
+use Rattle.std.specs.Option.{option_to_list}
 use Rattle.pbf_wire.specs.Wire.{kind_of}
 use Rattle.pbf_wire.proofs.MessageLemmas.{column_written, last_written, embedded_below}
-use Rattle.pbf_wire.proofs.QuietLemmas.{SlotQuiet, column_quiet, fields_quiet, no_fault_within, counted_written, indexes_good, present_written, once_written, embedded_or_none, in_last_written}
-use Rattle.pbf_wire.proofs.SumLemmas.{within_true}
+use Rattle.pbf_wire.proofs.QuietLemmas.{sums_good_written, SlotQuiet, column_quiet, fields_quiet, no_fault_within, counted_written, indexes_good, present_written, once_written, embedded_or_none, in_last_written}
+use Rattle.pbf_wire.proofs.SumLemmas.{sums_of_deltas, within_true}
 use Rattle.pbf_strings.specs.TableOut.{table_of}
 use Rattle.pbf_strings.proofs.UsedTexts.{index_below}
 use Rattle.osm_entity.specs.Entity.{TagSpec, MetaSpec}
@@ -23,13 +25,14 @@ use Rattle.osm_entity.specs.Ranges.{IsStored}
 use Rattle.osm_entity.specs.Sources.{paired_tags}
 use Rattle.pbf_block.specs.declared.message.TheConstants.{ID, KEYS, VALS, INFO, INFO_KINDS}
 use Rattle.pbf_block.specs.Info.{info_in}
-use Rattle.pbf_block.specs.Members.{wide_in, tags_in}
+use Rattle.pbf_block.specs.Members.{values_in, wide_in, tags_in}
+use Rattle.pbf_block.specs.Payload.{by_index}
 use Rattle.pbf_block.specs.Scale.{read_or}
 use Rattle.pbf_block.specs.StructureFaults.{entity_structure}
 use Rattle.pbf_block.specs.ValueFaults.{stored_limit, wide_range, info_values, entity_values}
 use Rattle.pbf_block.specs.WrittenEntity.{key_index, value_index, info_message, entity_slots}
 use Rattle.pbf_block.proofs.InfoLaw.{IsAmong, MetaReady, named_read, stored_fits, stored_read, info_read, info_wire, info_quiet}
-use Rattle.pbf_block.proofs.SlotLemmas.{unless_all}
+use Rattle.pbf_block.proofs.SlotLemmas.{IfSome, unless_all}
 
 -- ---- columns of other fields
 
@@ -103,6 +106,24 @@ module _ (texts : List (List ℕ)) (few : length (table_of texts) ≤ 1048576) w
   tags_given [] h = refl
   tags_given (tag ∷ tags) h =
       ap₂ (λ (x : TagSpec) (xs : List TagSpec). x ∷ xs) (ap₂ (λ (k v : List ℕ). (k, v)) (named_read texts few tag.0 h.0) (named_read texts few tag.1 h.1.0)) (tags_given tags h.1.1)
+
+user_of : {X : Type 0} (P : X → Type 0) (o : Option X) → AllByRecursion P (option_to_list o) → IfSome P o
+user_of P None h = tt
+user_of P (Some x) h = h.0
+
+pub user_among : (texts : List (List ℕ)) (user : Option (List ℕ)) → AreAmong texts (option_to_list user) → IfSome (IsAmong texts) user
+user_among texts user h = user_of (IsAmong texts) user h
+
+-- ---- columns of differences
+
+pub values_read : (k : ℕ) (os : List Occurrence) (values : List ℤ) → column k os ≡ deltas values → values_in by_index k os ≡ values
+values_read k os values e = ap (λ (ns : List ℕ). sums (map unzigzag ns)) e ∙ sums_of_deltas values
+
+-- a column of values in range
+pub sums_good : (entries : List (ℕ × ℕ)) (values : List ℤ) → map (λ p. p.0) entries ≡ deltas values → AllByRecursion IsStored values → sum_faults stored_limit false entries ≡ []
+sums_good entries values e h =
+    let same : sums (map (delta_in false) (map (λ p. p.0) entries)) ≡ values = ap (λ (ns : List ℕ). sums (map unzigzag ns)) e ∙ sums_of_deltas values in
+    sums_good_written stored_limit false entries (subst (λ (zs : List ℤ). AllByRecursion (IsWithin stored_limit) zs) (sym same) h)
 
 -- ---- an entity
 
@@ -187,14 +208,20 @@ module _ (kinds : List (ℕ × Kind)) (known : AreKnown kinds) (texts : List (Li
         no_fault_within kinds (entered INFO f) at (entity_slots texts id meta tags own) entity_known
         ((λ place. refl), (quiet KEYS _ refl, (quiet VALS _ refl, (infos, own_quiet INFO f own others.infos)))) entity_fits room
 
+    -- a column counts what was written
+    pub count_is : (k : ℕ) (numbers : List ℕ) → kind_of kinds k ≡ Some kind.Column → column k (fields_in at (message (entity_slots texts id meta tags own))) ≡ numbers → column_count k (fields_in at (message (entity_slots texts id meta tags own))) ≡ length numbers
+    count_is k numbers column_known e =
+        counted_written kinds k at (entity_slots texts id meta tags own) column_known entity_known entity_fits room
+        ∙ ap (λ (ns : List ℕ). length ns) (sym (column_written k at (entity_slots texts id meta tags own) entity_fits room) ∙ e)
+
     pub no_structure : (place : ℕ) → entity_structure place (fields_in at (message (entity_slots texts id meta tags own))) ≡ []
     no_structure place =
         let slots = entity_slots texts id meta tags own in
         let there : missing ID place (fields_in at (message slots)) ≡ [] = present_written ID place at slots entity_fits room (omega arith) in
         let once : twice INFO (fields_in at (message slots)) ≡ [] =
         once_written INFO at slots entity_fits room (omega (arith, few_messages (info_message texts meta), ap (λ (ms : List (List ℕ)). length ms) info_messages, ap (λ (vs : List ℕ). length vs) info_scalars)) in
-        let keys = counted_written kinds KEYS at slots known.keys entity_known entity_fits room ∙ sym (ap (λ (vs : List ℕ). length vs) (column_written KEYS at slots entity_fits room)) ∙ ap (λ (vs : List ℕ). length vs) keys_column ∙ length-map tags (key_index texts) in
-        let values = counted_written kinds VALS at slots known.vals entity_known entity_fits room ∙ sym (ap (λ (vs : List ℕ). length vs) (column_written VALS at slots entity_fits room)) ∙ ap (λ (vs : List ℕ). length vs) values_column ∙ length-map tags (value_index texts) in
+        let keys = count_is KEYS (map (key_index texts) tags) known.keys keys_column ∙ length-map tags (key_index texts) in
+        let values = count_is VALS (map (value_index texts) tags) known.vals values_column ∙ length-map tags (value_index texts) in
         let same : (column_count KEYS (fields_in at (message slots)) == column_count VALS (fields_in at (message slots))) ≡ true = grind (arith, nat_tests, keys, values) in
         rw (there, once, same) refl
 
