@@ -1,8 +1,9 @@
 -- The header that is written for a header that was read.
-use Rattle.std.specs.Prelude.{ℕ, Bool, List, [], ◌∷◌, Option, Some, filter, codes, nat_eq}
+use Rattle.std.specs.Prelude.{◌≡◌, ℕ, Bool, List, [], ◌∷◌, Option, Some, None, filter, codes, nat_eq}
 use Rattle.std.specs.List.{list_any}
 use Rattle.std.specs.Option.{option_map, option_to_list}
 use Rattle.std.specs.Cmp.Lexicographic.{pointwise}
+use Rattle.osm_entity.specs.Ranges.{IsInt64, IfPresent}
 use Rattle.osm_entity.specs.declared.bounding_box.BoundingBox.{BoundingBox}
 use Rattle.pbf_wire.specs.Message.{Slot, Scalar, Each, message}
 use Rattle.pbf_wire.specs.Signed.{zigzag, sign_extended}
@@ -73,3 +74,23 @@ header_slots h =
 
 unfoldable pub header_message : HeaderSpec → List ℕ
 header_message h = message (header_slots h)
+
+-- ---- what can be written
+
+-- the edges of a box are numbers of 64 bits
+pub record EdgesTyped (b : HeaderBox) : Type 0 where
+  pub left : IsInt64 b.left
+  pub right : IsInt64 b.right
+  pub top : IsInt64 b.top
+  pub bottom : IsInt64 b.bottom
+
+abbrev pub BoxTyped : Option HeaderBox → Type 0
+BoxTyped None = Unit {0}
+BoxTyped (Some b) = EdgesTyped b
+
+-- a header as one that is written is: its features and its program are those of a written header, and its numbers fit their types
+pub record HeaderFits (h : HeaderSpec) : Type 0 where
+  pub canonical : header_out_for_convert h ≡ h
+  pub bbox : BoxTyped h.bbox
+  pub timestamp : IfPresent IsInt64 h.timestamp
+  pub sequence : IfPresent IsInt64 h.sequence

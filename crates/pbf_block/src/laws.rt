@@ -1,15 +1,28 @@
 //! The laws of headers and blocks. Each is the contract of a function that does nothing: a proof that needs the law calls it, or
 //! takes the lemma of that name from this crate's `proofs/`.
 
-ghost use Rattle.std.specs.Prelude.{◌≡◌, ℕ, List, Option};
+ghost use Rattle.std.specs.Prelude.{◌≡◌, ℕ, ◌+◌, ◌^◌, ◌<◌, ◌≤◌, true, List, [], length, Option, None};
+ghost use Rattle.std.specs.List.{AllByRecursion};
 ghost use Rattle.std.specs.Option.{option_map};
+ghost use Rattle.pbf_wire.specs.Faults.{fields_in};
 ghost use Rattle.pbf_wire.specs.Least.{least_by};
+ghost use Rattle.pbf_strings.specs.TableOut.{has_text, table_of};
+ghost use Rattle.osm_entity.specs.Entity.{WaySpec, RelationSpec, way, relation};
+ghost use Rattle.osm_entity.specs.EntityTexts.{way_texts, relation_texts};
+ghost use Rattle.osm_entity.specs.Ranges.{IsInt64, IfPresent, WayFits, RelationFits, EntityTyped};
+ghost use Rattle.osm_entity.specs.Weight.{text_weight};
 ghost use Rattle.osm_entity.specs.declared.bounding_box.BoundingBox.{BoundingBox};
 ghost use Rattle.pbf_block.specs.declared.header.HeaderBox.{HeaderBox};
-ghost use Rattle.pbf_block.specs.Header.{HeaderSpec};
+ghost use Rattle.pbf_block.specs.Header.{HeaderSpec, header_in};
 ghost use Rattle.pbf_block.specs.HeaderFaults.{header_fault, all_header_faults};
 ghost use Rattle.pbf_block.specs.Judgement.{block_fault, all_faults, phase_rank};
-ghost use Rattle.pbf_block.specs.WrittenHeader.{header_out, header_out_for_box, header_out_for_convert};
+ghost use Rattle.pbf_block.specs.Members.{way_in, relation_in};
+ghost use Rattle.pbf_block.specs.Payload.{by_index};
+ghost use Rattle.pbf_block.specs.StructureFaults.{way_structure, relation_structure};
+ghost use Rattle.pbf_block.specs.ValueFaults.{way_values, relation_values};
+ghost use Rattle.pbf_block.specs.WireFaults.{way_wire, relation_wire};
+ghost use Rattle.pbf_block.specs.WrittenEntity.{way_message, relation_message};
+ghost use Rattle.pbf_block.specs.WrittenHeader.{BoxTyped, HeaderFits, header_message, header_out, header_out_for_box, header_out_for_convert};
 
 /// The first fault of a payload, phase by phase, is the least of all its faults by phase, then offset, then the reason's
 /// number, then the field that is missing.
@@ -28,4 +41,32 @@ pub fn header_out_twice_is_once()
     ensures area { (area : BoundingBox) (h : HeaderSpec) → header_out_for_box area (header_out_for_box area h) ≡ header_out_for_box area h }
     ensures convert { (h : HeaderSpec) → header_out_for_convert (header_out_for_convert h) ≡ header_out_for_convert h }
     ensures later { (bbox other : Option HeaderBox) (h : HeaderSpec) → header_out bbox (header_out other h) ≡ header_out bbox h }
+{}
+
+/// A written header has no fault of any phase and is read, at every place, as the header that it was written for. It fits a frame
+/// where its source and its URL have together at most 12,000,000 bytes.
+pub fn written_header_is_read()
+    ensures out { (bbox : Option HeaderBox) (h : HeaderSpec) → BoxTyped bbox → IfPresent IsInt64 h.timestamp → IfPresent IsInt64 h.sequence → HeaderFits (header_out bbox h) }
+    ensures read { (at : ℕ) (h : HeaderSpec) → HeaderFits h → length (header_message h) < 2 ^ 64 → header_in at (header_message h) ≡ h }
+    ensures sound { (at : ℕ) (h : HeaderSpec) → HeaderFits h → length (header_message h) < 2 ^ 64 → header_fault at (header_message h) ≡ None }
+    ensures short { (h : HeaderSpec) → HeaderFits h → text_weight h.source + text_weight h.url ≤ 12000000 → length (header_message h) < 33554432 }
+    ensures light_read { (at : ℕ) (h : HeaderSpec) → HeaderFits h → text_weight h.source + text_weight h.url ≤ 12000000 → header_in at (header_message h) ≡ h }
+    ensures light_sound { (at : ℕ) (h : HeaderSpec) → HeaderFits h → text_weight h.source + text_weight h.url ≤ 12000000 → header_fault at (header_message h) ≡ None }
+{}
+
+/// A written way has no fault of any phase and is read, at every place, as the way that it was written for: with every table that
+/// has all its texts and isn't too long.
+pub fn written_way_is_read()
+    ensures read { (texts : List (List ℕ)) (w : WaySpec) → WayFits w → EntityTyped (way w) → AllByRecursion (λ text. has_text texts text ≡ true) (way_texts w) → length (table_of texts) ≤ 1048576 → (at : ℕ) → length (way_message texts w) < 2 ^ 64 → way_in by_index (table_of texts) w.scale (fields_in at (way_message texts w)) ≡ w }
+    ensures wire { (texts : List (List ℕ)) (w : WaySpec) → WayFits w → EntityTyped (way w) → AllByRecursion (λ text. has_text texts text ≡ true) (way_texts w) → length (table_of texts) ≤ 1048576 → (place at : ℕ) → length (way_message texts w) < 2 ^ 64 → way_wire place at (way_message texts w) ≡ [] }
+    ensures structure { (texts : List (List ℕ)) (w : WaySpec) → WayFits w → EntityTyped (way w) → AllByRecursion (λ text. has_text texts text ≡ true) (way_texts w) → length (table_of texts) ≤ 1048576 → (place at : ℕ) → length (way_message texts w) < 2 ^ 64 → way_structure place at (way_message texts w) ≡ [] }
+    ensures values { (texts : List (List ℕ)) (w : WaySpec) → WayFits w → EntityTyped (way w) → AllByRecursion (λ text. has_text texts text ≡ true) (way_texts w) → length (table_of texts) ≤ 1048576 → (place at : ℕ) → length (way_message texts w) < 2 ^ 64 → way_values (length (table_of texts)) place at (way_message texts w) ≡ [] }
+{}
+
+/// The same of a relation.
+pub fn written_relation_is_read()
+    ensures read { (texts : List (List ℕ)) (r : RelationSpec) → RelationFits r → EntityTyped (relation r) → AllByRecursion (λ text. has_text texts text ≡ true) (relation_texts r) → length (table_of texts) ≤ 1048576 → (at : ℕ) → length (relation_message texts r) < 2 ^ 64 → relation_in by_index (table_of texts) r.scale (fields_in at (relation_message texts r)) ≡ r }
+    ensures wire { (texts : List (List ℕ)) (r : RelationSpec) → RelationFits r → EntityTyped (relation r) → AllByRecursion (λ text. has_text texts text ≡ true) (relation_texts r) → length (table_of texts) ≤ 1048576 → (place at : ℕ) → length (relation_message texts r) < 2 ^ 64 → relation_wire place at (relation_message texts r) ≡ [] }
+    ensures structure { (texts : List (List ℕ)) (r : RelationSpec) → RelationFits r → EntityTyped (relation r) → AllByRecursion (λ text. has_text texts text ≡ true) (relation_texts r) → length (table_of texts) ≤ 1048576 → (place at : ℕ) → length (relation_message texts r) < 2 ^ 64 → relation_structure place at (relation_message texts r) ≡ [] }
+    ensures values { (texts : List (List ℕ)) (r : RelationSpec) → RelationFits r → EntityTyped (relation r) → AllByRecursion (λ text. has_text texts text ≡ true) (relation_texts r) → length (table_of texts) ≤ 1048576 → (place at : ℕ) → length (relation_message texts r) < 2 ^ 64 → relation_values (length (table_of texts)) place at (relation_message texts r) ≡ [] }
 {}

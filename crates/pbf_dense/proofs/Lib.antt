@@ -9,3 +9,7 @@ pub mod Phases
 pub mod WeightLemmas
 pub mod DenseOutLemmas
 pub mod Counts
+pub mod MetaLaw
+pub mod InfoLaw
+pub mod DenseLaw
+pub mod NodesLaw

@@ -1,12 +1,15 @@
 -- Dense nodes as they are written. Indexes are those in a table that has all texts of the nodes.
-use Rattle.std.specs.Prelude.{◌≡◌, ℕ, ◌+◌, ℤ, pos, Bool, true, false, if◌then◌else◌, List, [], ◌∷◌, ◌++◌, length, map}
-use Rattle.std.specs.List.{flat_map, filter_map, list_any}
-use Rattle.std.specs.Option.{option_map}
+use Rattle.osm_entity.specs.declared.scale.Scale.{Scale}
+use Rattle.osm_entity.specs.Ranges.{NodeFits, IfPresent, IsInt32}
+use Rattle.osm_entity.specs.EntityTexts.{node_texts}
+use Rattle.std.specs.Prelude.{◌≡◌, ℕ, ◌+◌, ℤ, pos, Bool, true, false, if◌then◌else◌, List, [], ◌∷◌, ◌++◌, length, map, ◌≤◌, ◌<◌, ◌^◌, Option}
+use Rattle.std.specs.List.{flat_map, filter_map, list_any, AllByRecursion}
+use Rattle.std.specs.Option.{option_map, is_some}
 use Rattle.pbf_wire.specs.Columns.{packed}
 use Rattle.pbf_wire.specs.Message.{Slot, Column, Each, message, unless_empty}
 use Rattle.pbf_wire.specs.Signed.{sign_extended}
 use Rattle.pbf_wire.specs.Sums.{deltas}
-use Rattle.pbf_strings.specs.TableOut.{texts_after, index_in}
+use Rattle.pbf_strings.specs.TableOut.{texts_after, index_in, has_text, table_of}
 use Rattle.osm_entity.specs.Entity.{TagSpec, MetaSpec, NodeSpec}
 use Rattle.pbf_dense.specs.declared.message.TheConstants.{ID, DENSEINFO, LAT, LON, KEYS_VALS, VERSION, TIMESTAMP, CHANGESET, UID, USER_SID, VISIBLE}
 use Rattle.pbf_dense.specs.declared.info_out.InfoOut.{InfoOut}
@@ -91,6 +94,31 @@ dense_slots columns =
 
 unfoldable pub dense_message : List (List ℕ) → List NodeSpec → List ℕ
 dense_message texts ns = message (dense_slots (columns_of texts ns))
+
+-- ---- the nodes that a dense message can hold
+
+-- a field is in all of them or in none
+abbrev pub InAllOrNone : {X : Type 0} → (MetaSpec → Option X) → List MetaSpec → Type 0
+InAllOrNone f metas = (there : Bool) × AllByRecursion (λ m. is_some (f m) ≡ there) metas
+
+-- all have the same fields
+pub record AreAlike (metas : List MetaSpec) : Type 0 where
+  pub version : InAllOrNone (λ m. m.version) metas
+  pub timestamp : InAllOrNone (λ m. m.timestamp) metas
+  pub changeset : InAllOrNone (λ m. m.changeset) metas
+  pub uid : InAllOrNone (λ m. m.uid) metas
+  pub user : InAllOrNone (λ m. m.user) metas
+  pub visible : InAllOrNone (λ m. m.visible) metas
+
+-- they are in range, of one scale and with the same fields of metadata; the table has their texts, and it isn't too long
+pub record NodesHeld (texts : List (List ℕ)) (scale : Scale) (ns : List NodeSpec) : Type 0 where
+  pub fit : AllByRecursion NodeFits ns
+  pub versions : AllByRecursion (λ n. IfPresent IsInt32 n.meta.version) ns
+  pub scaled : AllByRecursion (λ n. n.scale ≡ scale) ns
+  pub alike : AreAlike (map (λ n. n.meta) ns)
+  pub named : AllByRecursion (λ text. has_text texts text ≡ true) (flat_map node_texts ns)
+  pub few : length (table_of texts) ≤ 1048576
+  pub short : length (dense_message texts ns) < 2 ^ 64
 
 -- ---- as the code has them
 

@@ -7,6 +7,7 @@ mod entries;
 mod info;
 mod info_out;
 mod judge;
+pub mod laws;
 mod message;
 mod phase;
 mod structure;

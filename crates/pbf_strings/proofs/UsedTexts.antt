@@ -1,7 +1,7 @@
 -- Texts, and the keys that hold them.
-use Rattle.std.proofs.Common.{◌≡◌, ℕ, suc, arith, ◌+◌, ◌≤◌, length, length-append, add_comm, List, [], ◌∷◌, ◌++◌, Bool, true, false, cond, ◌||◌, Some, map, refl, sym, ap, ◌∙◌, subst, position}
+use Rattle.std.proofs.Common.{◌≡◌, ℕ, suc, arith, ◌+◌, ◌≤◌, length, length-append, add_comm, List, [], ◌∷◌, ◌++◌, Bool, true, false, cond, ◌||◌, Some, map, refl, sym, ap, ◌∙◌, subst, position, ◌<◌}
 use Rattle.std.proofs.lemmas.List.{map-append}
-use Rattle.std.specs.List.{list_any, position_or_len}
+use Rattle.std.specs.List.{list_any, position_or_len, AllByRecursion}
 use Rattle.std.specs.Str.{bytes_eq}
 use Rattle.std.specs.Cmp.Lexicographic.{nat_list_eq_equiv}
 use Rattle.std.proofs.lemmas.Slice.Eq.{bytes_eq-Decides}
@@ -77,10 +77,23 @@ found_at (first ∷ texts) text h = by (bytes_eq text first) refl h (found_at te
     by true e h more = ap Some (sym (same_if text first e))
     by false e h more = at_next first texts (place_in texts text) ∙ more h
 
+-- the table has a text that is among the texts at its index
+pub text_at_index : (texts : List (List ℕ)) (text : List ℕ) → has_text texts text ≡ true → slice_get (table_of texts) (index_in texts text) ≡ Some text
+text_at_index texts text h = ap (λ (n : ℕ). slice_get (table_of texts) n) (add_comm (place_in texts text) 1) ∙ at_next [] texts (place_in texts text) ∙ found_at texts text h
+
 pub text_named : (texts : List (List ℕ)) (text : List ℕ) → slice_get (table_of (with_text texts text)) (index_in (with_text texts text) text) ≡ Some text
-text_named texts text =
-    ap (λ (n : ℕ). slice_get (table_of (with_text texts text)) n) (add_comm (place_in (with_text texts text) text) 1)
-    ∙ at_next [] (with_text texts text) (place_in (with_text texts text) text) ∙ found_at (with_text texts text) text (any_with texts text)
+text_named texts text = text_at_index (with_text texts text) text (any_with texts text)
+
+place_below : (texts : List (List ℕ)) (text : List ℕ) → has_text texts text ≡ true → place_in texts text < length texts
+place_below [] text h = absurd cc
+place_below (first ∷ texts) text h = by (bytes_eq text first) h (place_below texts text)
+  where
+    by : (b : Bool) → (b || list_any (bytes_eq text) texts) ≡ true → (list_any (bytes_eq text) texts ≡ true → place_in texts text < length texts) → cond b 0 (1 + place_in texts text) < suc (length texts)
+    by true h more = omega arith
+    by false h more = omega (arith, more h)
+
+pub index_below : (texts : List (List ℕ)) (text : List ℕ) → has_text texts text ≡ true → index_in texts text < length (table_of texts)
+index_below texts text h = omega (arith, place_below texts text h)
 
 -- ---- a text keeps its index as more texts are used
 
@@ -109,6 +122,11 @@ place_kept texts text other h = elim (has_text texts other) as (λ b. place_in (
 pub has_after : (used texts : List (List ℕ)) (text : List ℕ) → has_text texts text ≡ true → has_text (texts_after texts used) text ≡ true
 has_after [] texts text h = h
 has_after (other ∷ used) texts text h = has_after used (with_text texts other) text (has_more texts text other h)
+
+-- each text that is used is among the texts
+pub has_used : (used texts : List (List ℕ)) → AllByRecursion (λ text. has_text (texts_after texts used) text ≡ true) used
+has_used [] texts = tt
+has_used (text ∷ used) texts = (has_after used (with_text texts text) text (any_with texts text), has_used used (with_text texts text))
 
 pub index_after : (used texts : List (List ℕ)) (text : List ℕ) → has_text texts text ≡ true → index_in (texts_after texts used) text ≡ index_in texts text
 index_after [] texts text h = refl

@@ -15,3 +15,4 @@ pub mod MessageLemmas
 pub mod FaultLemmas
 pub mod RisingLemmas
 pub mod SoundLemmas
+pub mod QuietLemmas

@@ -121,7 +121,7 @@ column_written k at slots h lt =
 
 -- ---- single numbers
 
-abbrev part_scalars : ℕ → Part → List ℕ
+abbrev pub part_scalars : ℕ → Part → List ℕ
 part_scalars k (Single number value) = cond (eqb number k) (value ∷ []) []
 part_scalars k (Whole number bytes) = []
 
@@ -153,7 +153,7 @@ slot_scalars k (Column number []) = refl
 slot_scalars k (Column number (v ∷ vs)) = refl
 slot_scalars k (Each number messages) = no_scalars k number messages
 
-slots_scalars : (k : ℕ) (slots : List Slot) → flat_map (part_scalars k) (flat_map parts_of slots) ≡ flat_map (scalars_at k) slots
+pub slots_scalars : (k : ℕ) (slots : List Slot) → flat_map (part_scalars k) (flat_map parts_of slots) ≡ flat_map (scalars_at k) slots
 slots_scalars k [] = refl
 slots_scalars k (s ∷ slots) =
     flat_map-append (part_scalars k) (parts_of s) (flat_map parts_of slots)
@@ -166,7 +166,7 @@ last_written k at slots h lt =
 
 -- ---- texts and embedded messages
 
-abbrev part_messages : ℕ → Part → List (List ℕ)
+abbrev pub part_messages : ℕ → Part → List (List ℕ)
 part_messages k (Single number value) = []
 part_messages k (Whole number bytes) = cond (eqb number k) (bytes ∷ []) []
 
@@ -200,7 +200,7 @@ slot_messages k (Column number []) = refl
 slot_messages k (Column number (v ∷ vs)) = append-nil _
 slot_messages k (Each number messages) = whole_messages k number messages (eqb number k) refl
 
-slots_messages : (k : ℕ) (slots : List Slot) → flat_map (part_messages k) (flat_map parts_of slots) ≡ flat_map (messages_at k) slots
+pub slots_messages : (k : ℕ) (slots : List Slot) → flat_map (part_messages k) (flat_map parts_of slots) ≡ flat_map (messages_at k) slots
 slots_messages k [] = refl
 slots_messages k (s ∷ slots) =
     flat_map-append (part_messages k) (parts_of s) (flat_map parts_of slots)
