@@ -31,11 +31,13 @@ extra_kept (suc most) e es h =
 pub extra_longest : (most : ℕ) (e : EntitySpec) (es : List EntitySpec) (n : ℕ) → n ≤ most → is_block (e ∷ take n es) ≡ true → n ≤ extra most e es
 extra_longest zero e es n h k = omega arith
 extra_longest (suc most) e es n h k =
-    elim (is_block (e ∷ take (suc most) es)) as (λ b. is_block (e ∷ take (suc most) es) ≡ b → n ≤ cond b (suc most) (extra most e es))
-    [ true ↦ λ _. h | false ↦ λ stops. elim (cases_eq n (suc most)) [
-        inl same ↦ absurd (true≢false (sym (subst (λ m. is_block (e ∷ take m es) ≡ true) same k) ∙ stops))
-      | inr other ↦ extra_longest most e es n (omega arith) k
-      ] ] refl
+    elim (is_block (e ∷ take (suc most) es)) as (λ b. is_block (e ∷ take (suc most) es) ≡ b → n ≤ cond b (suc most) (extra most e es)) [
+      | true ↦ λ _. h
+      | false ↦ λ stops. elim (cases_eq n (suc most)) [
+        | inl same ↦ absurd (true≢false (sym (subst (λ m. is_block (e ∷ take m es) ≡ true) same k) ∙ stops))
+        | inr other ↦ extra_longest most e es n (omega arith) k
+      ]
+    ] refl
 
 each_kept : (most : ℕ) (es : List EntitySpec) → AllByRecursion (λ e. entity_weight e ≤ 12000000) es → AllByRecursion (λ block. is_block block ≡ true) (cuts_at_most most es)
 each_kept zero es h = tt

@@ -67,8 +67,8 @@ pub extra_is : (most k : ℕ) (e : EntitySpec) (es : List EntitySpec) → k ≤ 
 extra_is zero k e es h keep ends = omega arith
 extra_is (suc most) k e es h keep ends =
     elim (cases_eq k (suc most)) [
-      inl same ↦ rw (subst (λ n. is_block (e ∷ take n es) ≡ true) same keep) (sym same)
-    | inr other ↦ rw (ends (suc most) (omega arith) (omega arith)) (extra_is most k e es (omega arith) keep (λ n l m. ends n l (omega arith)))
+      | inl same ↦ rw (subst (λ n. is_block (e ∷ take n es) ≡ true) same keep) (sym same)
+      | inr other ↦ rw (ends (suc most) (omega arith) (omega arith)) (extra_is most k e es (omega arith) keep (λ n l m. ends n l (omega arith)))
     ]
 
 fuel : (n m : ℕ) (es : List EntitySpec) → length es ≤ n → length es ≤ m → cuts_at_most n es ≡ cuts_at_most m es
@@ -96,10 +96,10 @@ cuts_closed x xs e rest keep ends =
     let longer : length all ≡ length xs + (length rest + 1) = omega (arith, length-append xs (e ∷ rest)) in
     let front : take (length xs) all ≡ xs = take_at xs (e ∷ rest) (length xs) refl in
     let one_more : take (length xs + 1) all ≡ xs ++ e ∷ [] =
-        ap (take (length xs + 1)) (sym (append_assoc xs (e ∷ []) rest)) ∙ take_at (xs ++ e ∷ []) rest (length xs + 1) (length_push xs e) in
+    ap (take (length xs + 1)) (sym (append_assoc xs (e ∷ []) rest)) ∙ take_at (xs ++ e ∷ []) rest (length xs + 1) (length_push xs e) in
     let stops : (n : ℕ) → length xs < n → n ≤ length all → is_block (x ∷ take n all) ≡ false = (λ n l m.
-        elim (is_block (x ∷ take n all)) as (λ b. is_block (x ∷ take n all) ≡ b → b ≡ false)
-        [ true ↦ λ k. sym (subst (λ ys. is_block (x ∷ ys) ≡ true) one_more (kept_front x all (length xs + 1) n (omega arith) k)) ∙ ends | false ↦ λ k. refl ] refl) in
+    elim (is_block (x ∷ take n all)) as (λ b. is_block (x ∷ take n all) ≡ b → b ≡ false)
+    [ true ↦ λ k. sym (subst (λ ys. is_block (x ∷ ys) ≡ true) one_more (kept_front x all (length xs + 1) n (omega arith) k)) ∙ ends | false ↦ λ k. refl ] refl) in
     let k : extra (length all) x all ≡ length xs = extra_is (length all) (length xs) x all (omega arith) (subst (λ ys. is_block (x ∷ ys) ≡ true) (sym front) keep) stops in
     ap (λ n. (x ∷ take n all) ∷ cuts_at_most (length all) (drop n all)) k
     ∙ (ap (λ ys. (x ∷ ys) ∷ cuts_at_most (length all) (drop (length xs) all)) front
@@ -133,7 +133,7 @@ unfolding is_block
 joins_more e es f h =
     let kept = kept_parts e es h in
     let kinds : list_all (λ g. are_alike e g) (es ++ f ∷ []) ≡ are_alike e f =
-        all_append (λ g. are_alike e g) es (f ∷ []) ∙ (ap (λ b. b && (are_alike e f && true)) kept.kinds ∙ and-true _) in
+    all_append (λ g. are_alike e g) es (f ∷ []) ∙ (ap (λ b. b && (are_alike e f && true)) kept.kinds ∙ and-true _) in
     let count : suc (length (es ++ f ∷ [])) ≡ suc (length es) + 1 = omega (arith, length_push es f) in
     let weight : sum_by entity_weight (e ∷ (es ++ f ∷ [])) ≡ sum_by entity_weight (e ∷ es) + entity_weight f = sum_by_push entity_weight (e ∷ es) f in
     rw (kinds, count, weight) refl

@@ -177,7 +177,7 @@ pushed number f xs x = sym (each_joined number (map f xs) (f x ∷ [])) ∙ ap (
 messages_way : (texts : List (List ℕ)) (es : List EntitySpec) (w : WaySpec) → relations_among es ≡ [] → messages_among texts es ++ slot_bytes (Each 3 (way_message texts w ∷ [])) ≡ messages_among texts (es ++ way w ∷ [])
 messages_way texts es w none =
     rw (ways_way es w, relations_way es w, none, each_none 4)
-      (ap (λ (bs : List ℕ). bs ++ slot_bytes (Each 3 (way_message texts w ∷ []))) (append-nil (slot_bytes (Each 3 (map (way_message texts) (ways_among es))))) ∙ (pushed 3 (way_message texts) (ways_among es) w ∙ sym (append-nil _)))
+    (ap (λ (bs : List ℕ). bs ++ slot_bytes (Each 3 (way_message texts w ∷ []))) (append-nil (slot_bytes (Each 3 (map (way_message texts) (ways_among es))))) ∙ (pushed 3 (way_message texts) (ways_among es) w ∙ sym (append-nil _)))
 
 messages_relation : (texts : List (List ℕ)) (es : List EntitySpec) (r : RelationSpec) → messages_among texts es ++ slot_bytes (Each 4 (relation_message texts r ∷ [])) ≡ messages_among texts (es ++ relation r ∷ [])
 messages_relation texts es r =
@@ -253,7 +253,7 @@ module _ {S H : Type 0} where
         weight = k.weight;
         texts = now;
         nodes = subst (λ ts. HoldsNodes new.nodes ts (nodes_among (es ++ node n ∷ []))) now
-          (subst (λ ns. HoldsNodes new.nodes new.texts ns) (sym (nodes_node es n)) (d (nodes_among es) (subst (λ ts. HoldsNodes old.nodes ts (nodes_among es)) (sym h.texts) h.nodes)));
+            (subst (λ ns. HoldsNodes new.nodes new.texts ns) (sym (nodes_node es n)) (d (nodes_among es) (subst (λ ts. HoldsNodes old.nodes ts (nodes_among es)) (sym h.texts) h.nodes)));
         messages = λ used. ap (λ g. g.items) g ∙ (messages_now old es (node n) used h ∙ messages_node _ es n);
       }
 
@@ -269,9 +269,9 @@ module _ {S H : Type 0} where
         texts = now;
         nodes = subst (λ ns. HoldsNodes new.nodes (texts_of_all (es ++ way w ∷ [])) ns) (sym (nodes_way es w)) (subst (λ out. HoldsNodes out (texts_of_all (es ++ way w ∷ [])) (nodes_among es)) (sym d) (nodes_now old es (way w) h));
         messages = λ used.
-          g used ∙ (ap (λ ts. old.group.items ++ slot_bytes (Each 3 (way_message (texts_after ts used) w ∷ []))) now
-          ∙ (ap (λ (bs : List ℕ). bs ++ slot_bytes (Each 3 (way_message (texts_after (texts_of_all (es ++ way w ∷ [])) used) w ∷ []))) (messages_now old es (way w) used h)
-          ∙ messages_way _ es w (before_way es w h.block join)));
+            g used ∙ (ap (λ ts. old.group.items ++ slot_bytes (Each 3 (way_message (texts_after ts used) w ∷ []))) now
+            ∙ (ap (λ (bs : List ℕ). bs ++ slot_bytes (Each 3 (way_message (texts_after (texts_of_all (es ++ way w ∷ [])) used) w ∷ []))) (messages_now old es (way w) used h)
+            ∙ messages_way _ es w (before_way es w h.block join)));
       }
 
   pub relation_encoded : (old new : Block S H) (es : List EntitySpec) (r : RelationSpec) → Holds old es → Kept old new
@@ -286,9 +286,9 @@ module _ {S H : Type 0} where
         texts = now;
         nodes = subst (λ ns. HoldsNodes new.nodes (texts_of_all (es ++ relation r ∷ [])) ns) (sym (nodes_relation es r)) (subst (λ out. HoldsNodes out (texts_of_all (es ++ relation r ∷ [])) (nodes_among es)) (sym d) (nodes_now old es (relation r) h));
         messages = λ used.
-          g used ∙ (ap (λ ts. old.group.items ++ slot_bytes (Each 4 (relation_message (texts_after ts used) r ∷ []))) now
-          ∙ (ap (λ (bs : List ℕ). bs ++ slot_bytes (Each 4 (relation_message (texts_after (texts_of_all (es ++ relation r ∷ [])) used) r ∷ []))) (messages_now old es (relation r) used h)
-          ∙ messages_relation _ es r));
+            g used ∙ (ap (λ ts. old.group.items ++ slot_bytes (Each 4 (relation_message (texts_after ts used) r ∷ []))) now
+            ∙ (ap (λ (bs : List ℕ). bs ++ slot_bytes (Each 4 (relation_message (texts_after (texts_of_all (es ++ relation r ∷ [])) used) r ∷ []))) (messages_now old es (relation r) used h)
+            ∙ messages_relation _ es r));
       }
 
   -- an entity that is encoded and counted
@@ -296,14 +296,14 @@ module _ {S H : Type 0} where
       → block.sort ≡ Some (unwrap_or new.sort (sort_of e)) → block.count ≡ new.count + 1 → block.weight ≡ new.weight + entity_weight e → block.texts ≡ new.texts → block.nodes ≡ new.nodes → block.group ≡ new.group
       → Holds block (es ++ e ∷ [])
   added old new block es e h join n s c w t d g = record {
-      block = join;
-      sort = s ∙ (ap (λ o. Some (unwrap_or o (sort_of e))) (n.sort ∙ h.sort) ∙ sym (sort_push es e));
-      count = c ∙ (ap (λ k. k + 1) (n.count ∙ h.count) ∙ sym (length_push es e));
-      weight = w ∙ (ap (λ k. k + entity_weight e) (n.weight ∙ h.weight) ∙ sym (sum_by_push entity_weight es e));
-      texts = t ∙ n.texts;
-      nodes = subst (λ out. HoldsNodes out (texts_of_all (es ++ e ∷ [])) (nodes_among (es ++ e ∷ []))) (sym d) n.nodes;
-      messages = λ used. ap (λ g. g.items) g ∙ n.messages used;
-    }
+    block = join;
+    sort = s ∙ (ap (λ o. Some (unwrap_or o (sort_of e))) (n.sort ∙ h.sort) ∙ sym (sort_push es e));
+    count = c ∙ (ap (λ k. k + 1) (n.count ∙ h.count) ∙ sym (length_push es e));
+    weight = w ∙ (ap (λ k. k + entity_weight e) (n.weight ∙ h.weight) ∙ sym (sum_by_push entity_weight es e));
+    texts = t ∙ n.texts;
+    nodes = subst (λ out. HoldsNodes out (texts_of_all (es ++ e ∷ [])) (nodes_among (es ++ e ∷ []))) (sym d) n.nodes;
+    messages = λ used. ap (λ g. g.items) g ∙ n.messages used;
+  }
 
   pub room_held : (b : Block S H) (es : List EntitySpec) (e : EntitySpec) → Holds b es → is_block (es ++ e ∷ []) ≡ true → length b.texts + length (entity_texts e) ≤ 1048575
   room_held b es e h join = rw h.texts (room es e join)
@@ -326,7 +326,7 @@ module _ {S H : Type 0} where
   unfolding block_message
   closed b es scale table dense group payload h s t d g p =
       let whole : group ≡ group_message (texts_of_all es) es =
-        g ∙ (ap (λ (bs : List ℕ). b.group.items ++ slot_bytes (Each 2 (unless_empty bs))) d ∙ (ap (λ (bs : List ℕ). bs ++ slot_bytes (Each 2 (unless_empty (dense_message (texts_of_all es) (nodes_among es))))) (h.messages []) ∙ group_closed (texts_of_all es) es h.block)) in
+      g ∙ (ap (λ (bs : List ℕ). b.group.items ++ slot_bytes (Each 2 (unless_empty bs))) d ∙ (ap (λ (bs : List ℕ). bs ++ slot_bytes (Each 2 (unless_empty (dense_message (texts_of_all es) (nodes_among es))))) (h.messages []) ∙ group_closed (texts_of_all es) es h.block)) in
       p (texts_of_all es) (t ∙ ap table_message h.texts) ∙ rw (s, whole) refl
 
   -- a block without entities holds no others

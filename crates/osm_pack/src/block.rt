@@ -120,8 +120,7 @@ impl<S: BuildHasher> Block<S> {
         match entity {
             EntityRef::Node(node) => self.nodes.push(node, &mut self.texts)?,
             EntityRef::Way(way) => {
-                self.writer
-                    .put_way(&mut self.group, way, &mut self.texts)?;
+                self.writer.put_way(&mut self.group, way, &mut self.texts)?;
             }
             EntityRef::Relation(relation) => {
                 self.writer

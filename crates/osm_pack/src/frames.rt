@@ -1,11 +1,11 @@
 //! Headers and blocks, written as frames.
 
-ghost use Rattle.std.specs.Prelude.{◌≡◌, ◌≤◌, ◌<◌, ◌++◌, ◌∷◌, [], List, length, true, IfErr, OnOk};
+ghost use Rattle.std.specs.Prelude.{◌≡◌, ◌+◌, ◌≤◌, ◌++◌, ◌∷◌, [], List, length, true, IfErr, OnOk};
 ghost use Rattle.osm_entity.specs.Entity.{EntitySpec};
 ghost use Rattle.osm_entity.specs.Ranges.{EntityFits};
 ghost use Rattle.osm_entity.specs.Views.{entity_of};
+ghost use Rattle.osm_entity.specs.Weight.{text_weight};
 ghost use Rattle.pbf_block.specs.Header.{header_of};
-ghost use Rattle.pbf_block.specs.WrittenHeader.{header_message, header_out_for_convert};
 ghost use Rattle.pbf_frame.specs.Devices.{append, IsFront};
 ghost use Rattle.osm_pack.specs.Cuts.{block_frame, header_frame, then_pending, then_written, at_end};
 ghost use Rattle.osm_pack.specs.Open.{Holds, IsOpen};
@@ -62,8 +62,12 @@ pub(crate) fn push_into<D: Drain, S: BuildHasher>(
 }
 
 /// Writes a header.
-pub(crate) fn put_header_into<D: Drain>(alloc: Global, drain: &mut D, header: &Header) -> Result<(), Stop>
-    requires { length (header_message (header_out_for_convert (header_of header.now))) < 33554432 }
+pub(crate) fn put_header_into<D: Drain>(
+    alloc: Global,
+    drain: &mut D,
+    header: &Header,
+) -> Result<(), Stop>
+    requires { text_weight (header_of header.now).source + text_weight (header_of header.now).url ≤ 12000000 }
     ensures written { OnOk result (D.taken drain.new ≡ append (D.taken drain.old) (header_frame (header_of header.now))) }
     ensures front { IsFront (D.taken drain.old) (D.taken drain.new) (header_frame (header_of header.now)) }
     ensures stops { IfErr result (IsPackStop (D.failures drain.old) (D.failures drain.new)) }

@@ -36,13 +36,13 @@ impl<D: Drain, S: BuildHasher> Model for Packer<D, S> {
 }
 
 impl<D: Drain, S: BuildHasher> Packer<D, S> {
-    ghost use Rattle.std.specs.Prelude.{◌≡◌, ◌≤◌, ◌<◌, ◌⊎◌, ◌++◌, ◌∷◌, [], List, length, true, false, Err, IfErr, OnOk, OnErr};
+    ghost use Rattle.std.specs.Prelude.{◌≡◌, ◌+◌, ◌≤◌, ◌⊎◌, ◌++◌, ◌∷◌, [], List, length, true, false, Err, IfErr, OnOk, OnErr};
     ghost use Rattle.osm_entity.specs.Entity.{EntitySpec};
     ghost use Rattle.osm_entity.specs.Ranges.{EntityFits};
     ghost use Rattle.osm_entity.specs.Views.{entity_of};
     ghost use Rattle.pbf_block.specs.Header.{header_of};
     ghost use Rattle.pbf_block.specs.WrittenBlock.{is_block};
-    ghost use Rattle.pbf_block.specs.WrittenHeader.{header_message, header_out_for_convert};
+    ghost use Rattle.osm_entity.specs.Weight.{text_weight};
     ghost use Rattle.pbf_frame.specs.declared.stop.Stop.{Stop};
     ghost use Rattle.pbf_frame.specs.Devices.{append, IsFront};
     ghost use Rattle.osm_pack.specs.Cuts.{header_frame, then_pending, then_written, at_end};
@@ -73,25 +73,14 @@ impl<D: Drain, S: BuildHasher> Packer<D, S> {
         self.begun
     }
 
-    /// The packer is spent, by this stop; the entities that waited are let go.
-    fn spend(&mut self, stop: Stop)
-        ensures stopped { HasStopped self.new stop }
-        ensures drain { self.new.drain ≡ self.old.drain }
-        ensures lender { D.lender self.new.drain ≡ D.lender self.old.drain }
-        ensures header { has_header self.new ≡ has_header self.old }
-    {
-        self.stop = Some(stop);
-        self.block.clear(self.alloc);
-    }
-
     /// Writes the header of the file, in the form that [`Header::write`] gives it. It comes first and once. The caller sees that
-    /// the header is short enough for a frame.
+    /// its source and its base URL have at most 12,000,000 bytes together.
     ///
     /// After a stop a beginning of its frame went out, and the packer is spent: it answers the same stop again, and touches no
     /// device.
     pub fn put_header(&mut self, header: &Header) -> Result<(), Stop>
         requires once { has_header self.old ≡ false }
-        requires short { length (header_message (header_out_for_convert (header_of header.now))) < 33554432 }
+        requires kept { text_weight (header_of header.now).source + text_weight (header_of header.now).url ≤ 12000000 }
         ensures begun { has_header self.new ≡ true }
         ensures written { IsPacking self.old → OnOk result (D.taken self.new.drain ≡ append (D.taken self.old.drain) (header_frame (header_of header.now))) }
         ensures pending { (es : List EntitySpec) → Pending self.old es → OnOk result (Pending self.new es) }
@@ -109,7 +98,8 @@ impl<D: Drain, S: BuildHasher> Packer<D, S> {
         }
         let outcome = put_header_into(self.alloc, &mut self.drain, header);
         if let Err(stop) = outcome {
-            self.spend(stop);
+            self.stop = Some(stop);
+            self.block.clear(self.alloc);
         }
         outcome
     }
@@ -137,7 +127,8 @@ impl<D: Drain, S: BuildHasher> Packer<D, S> {
         }
         let outcome = push_into(self.alloc, &mut self.drain, &mut self.block, entity);
         if let Err(stop) = outcome {
-            self.spend(stop);
+            self.stop = Some(stop);
+            self.block.clear(self.alloc);
         }
         outcome
     }
@@ -162,7 +153,8 @@ impl<D: Drain, S: BuildHasher> Packer<D, S> {
         }
         let outcome = finish_into(self.alloc, &mut self.drain, &mut self.block);
         if let Err(stop) = outcome {
-            self.spend(stop);
+            self.stop = Some(stop);
+            self.block.clear(self.alloc);
         }
         outcome
     }

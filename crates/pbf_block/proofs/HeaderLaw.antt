@@ -19,7 +19,7 @@ use Rattle.pbf_block.specs.declared.header.HeaderBox.{HeaderBox}
 use Rattle.pbf_block.specs.declared.header.TheConstants.{HEADER_KINDS, BBOX_KINDS, BBOX, REQUIRED_FEATURES, OPTIONAL_FEATURES, WRITINGPROGRAM, SOURCE, REPLICATION_TIMESTAMP, REPLICATION_SEQUENCE, REPLICATION_URL, LEFT, RIGHT, TOP, BOTTOM}
 use Rattle.pbf_block.specs.Header.{HeaderSpec, edge, box_in, last_text, last_int64, header_in}
 use Rattle.pbf_block.specs.HeaderFaults.{wire_faults, edge_faults, structure_faults, feature_faults, value_faults, header_fault}
-use Rattle.pbf_block.specs.WrittenHeader.{known_features, header_out, kept_features, has, EdgesTyped, BoxTyped, HeaderFits, box_slots, box_message, header_slots, header_message}
+use Rattle.pbf_block.specs.WrittenHeader.{known_features, header_out, header_out_for_convert, kept_features, has, EdgesTyped, BoxTyped, HeaderFits, box_slots, box_message, header_slots, header_message}
 use Rattle.pbf_block.proofs.HeaderLemmas.{header_again}
 use Rattle.pbf_block.proofs.RoomLemmas.{each_room, message_short}
 use Rattle.pbf_block.proofs.SlotLemmas.{IfSome, present, none_given, option_few, option_read, last_text_of, scalar_fits, last_given}
@@ -220,13 +220,20 @@ text_short : (text : Option (List ℕ)) → text_room text ≤ 20 + text_weight 
 text_short None = omega arith
 text_short (Some t) = omega arith
 
-pub header_short : (h : HeaderSpec) → HeaderFits h → text_weight h.source + text_weight h.url ≤ 12000000 → length (header_message h) < 33554432
+canonical_short : (h : HeaderSpec) → header_out_for_convert h ≡ h → text_weight h.source + text_weight h.url ≤ 12000000 → length (header_message h) < 33554432
 unfolding header_message
-header_short h fits light =
-    let required = ap (λ (g : HeaderSpec). each_room g.required) fits.canonical in
-    let optional = ap (λ (g : HeaderSpec). each_room g.optional) fits.canonical in
-    let program = ap (λ (g : HeaderSpec). text_room g.program) fits.canonical in
+canonical_short h canonical light =
+    let required = ap (λ (g : HeaderSpec). each_room g.required) canonical in
+    let optional = ap (λ (g : HeaderSpec). each_room g.optional) canonical in
+    let program = ap (λ (g : HeaderSpec). text_room g.program) canonical in
     omega (arith, message_short (header_slots h), box_room h.bbox, required, optional, kept_room h.optional, program, text_short h.source, text_short h.url, light)
+
+pub header_short : (h : HeaderSpec) → HeaderFits h → text_weight h.source + text_weight h.url ≤ 12000000 → length (header_message h) < 33554432
+header_short h fits light = canonical_short h fits.canonical light
+
+-- what is written for any header
+pub out_short : (h : HeaderSpec) → text_weight h.source + text_weight h.url ≤ 12000000 → length (header_message (header_out_for_convert h)) < 33554432
+out_short h light = canonical_short (header_out_for_convert h) (header_again h.bbox h.bbox h) light
 
 -- a header that is written out is one that can be written
 pub out_fits : (bbox : Option HeaderBox) (h : HeaderSpec) → BoxTyped bbox → IfPresent IsInt64 h.timestamp → IfPresent IsInt64 h.sequence → HeaderFits (header_out bbox h)

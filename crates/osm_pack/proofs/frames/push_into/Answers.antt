@@ -8,8 +8,8 @@ use Rattle.osm_pack.proofs.frames.push_into.Goals.{then-not-takes+in_ok-close_in
 
 pub add-requires-clause-joins : goal.add-requires-clause-joins
 add-requires-clause-joins g c = λ es h. elim c.if-not-takes.branch [
-    then-not-takes+in_ok-close_into w ↦
+  | then-not-takes+in_ok-close_into w ↦
       let none = only_none _ es (subst (λ b. Holds b []) (sym w.block-is) w.in_ok-close_into.ensures.empty) h in
       rw none (alone (entity_of c.args.entity.now) c.requires.fits)
   | else-not-takes w ↦ sym (c.takes.ensures es (subst (λ b. Holds b es) w.block-is h)) ∙ w.if-not-takes.false
-  ]
+]
