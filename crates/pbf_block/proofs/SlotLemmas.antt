@@ -43,7 +43,7 @@ none_at k (Scalar number (Some value)) rest h = rw h refl
 none_at k (Column number values) rest h = refl
 none_at k (Each number messages) rest h = refl
 
-none_of : (k : ℕ) (slots : List Slot) → AllByRecursion (IsOther k) slots → flat_map (scalars_at k) slots ≡ []
+pub none_of : (k : ℕ) (slots : List Slot) → AllByRecursion (IsOther k) slots → flat_map (scalars_at k) slots ≡ []
 none_of k [] h = refl
 none_of k (s ∷ slots) h = none_at k s (flat_map (scalars_at k) slots) h.0 ∙ none_of k slots h.1
 
