@@ -1,5 +1,5 @@
 -- What ways and relations have alike as they are written: an id, tags and an Info, before the columns of their own.
-use Rattle.std.proofs.Common.{suc, None, pos, ◌≡◌, ℕ, ◌%◌, ◌^◌, ◌<◌, ◌≤◌, ◌==◌, true, false, eqb, ℤ, List, [], ◌∷◌, ◌++◌, length, map, Option, Some, None, refl, sym, ap, ap₂, subst, ◌∙◌, arith}
+use Rattle.std.proofs.Common.{None, pos, ◌≡◌, ℕ, ◌%◌, ◌^◌, ◌<◌, ◌≤◌, ◌==◌, true, false, eqb, ℤ, List, [], ◌∷◌, ◌++◌, length, map, Option, Some, None, refl, sym, ap, ap₂, subst, ◌∙◌, arith}
 use Rattle.std.specs.List.{flat_map, last_or, AllByRecursion}
 use Rattle.std.proofs.lemmas.Bool.Decides.{nat_tests}
 use Rattle.std.proofs.lemmas.List.{append-nil, length-map}
@@ -10,8 +10,8 @@ use Rattle.pbf_wire.specs.Occurrence.{Occurrence}
 use Rattle.pbf_wire.specs.Columns.{column, joined}
 use Rattle.pbf_wire.specs.Faults.{sum_faults, fields_in, entered, embedded, leaf_faults, nested_faults, in_last, missing, twice, column_count, index_faults}
 use Rattle.pbf_wire.specs.Message.{Slot, Scalar, Column, Each, message, unless_empty, SlotFits, SlotIs, numbers_at, scalars_at, messages_at}
-use Rattle.pbf_wire.specs.Signed.{zigzag, unzigzag, delta_in, IsWithin, is_within, low_i64, sign_extended}
-use Rattle.pbf_wire.specs.Sums.{sums, differences, deltas}
+use Rattle.pbf_wire.specs.Signed.{unzigzag, delta_in, IsWithin, is_within, low_i64, sign_extended}
+use Rattle.pbf_wire.specs.Sums.{sums, deltas}
 use Rattle.std.specs.Option.{option_to_list}
 use Rattle.pbf_wire.specs.Wire.{kind_of}
 use Rattle.pbf_wire.proofs.MessageLemmas.{column_written, last_written, embedded_below}

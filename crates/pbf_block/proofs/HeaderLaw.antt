@@ -46,9 +46,6 @@ edge_read : (k : ℕ) (b : HeaderBox) (z : ℤ) → EdgesTyped b → length (box
 unfolding box_message
 edge_read k b z h room e = ap (λ (v : Option ℕ). unzigzag (unwrap_or v 0)) (last_written k 0 (box_slots b) (box_fits b h) room ∙ e) ∙ unzigzag_zigzag z
 
-abbrev box_with : ℤ → ℤ → ℤ → ℤ → HeaderBox
-box_with left right top bottom = record { left = left; right = right; top = top; bottom = bottom }
-
 pub box_read : (b : HeaderBox) → EdgesTyped b → length (box_message b) < 2 ^ 64 → box_in (box_message b) ≡ b
 box_read b h room =
     let left = edge_read LEFT b b.left h room refl in

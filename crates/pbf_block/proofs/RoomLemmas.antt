@@ -20,6 +20,10 @@ varint_short : (v : ℕ) → length (shortest v) ≤ 10
 unfolding shortest
 varint_short v = spelled_short 9 v
 
+pub packed_short : (values : List ℕ) → length (packed values) ≤ 10 * length values
+packed_short [] = omega arith
+packed_short (v ∷ vs) = let rest = packed_short vs in omega (arith, length-append (shortest v) (packed vs), varint_short v, rest)
+
 number_short : (number value : ℕ) → length (spelling (Single number value)) ≤ 20
 number_short number value = omega (arith, length-append (shortest (number * 8)) (shortest value), varint_short (number * 8), varint_short value)
 

@@ -1,16 +1,16 @@
 //! The laws of headers and blocks. Each is the contract of a function that does nothing: a proof that needs the law calls it, or
 //! takes the lemma of that name from this crate's `proofs/`.
 
-ghost use Rattle.std.specs.Prelude.{◌≡◌, ℕ, ◌+◌, ◌^◌, ◌<◌, ◌≤◌, true, List, [], length, Option, None};
-ghost use Rattle.std.specs.List.{AllByRecursion};
+ghost use Rattle.std.specs.Prelude.{◌≡◌, ℕ, ◌+◌, ◌*◌, ◌^◌, ◌<◌, ◌≤◌, true, List, [], length, Option, None};
+ghost use Rattle.std.specs.List.{AllByRecursion, sum_by};
 ghost use Rattle.std.specs.Option.{option_map};
 ghost use Rattle.pbf_wire.specs.Faults.{fields_in};
 ghost use Rattle.pbf_wire.specs.Least.{least_by};
 ghost use Rattle.pbf_strings.specs.TableOut.{has_text, table_of};
-ghost use Rattle.osm_entity.specs.Entity.{WaySpec, RelationSpec, way, relation};
+ghost use Rattle.osm_entity.specs.Entity.{WaySpec, RelationSpec, EntitySpec, way, relation};
 ghost use Rattle.osm_entity.specs.EntityTexts.{way_texts, relation_texts};
 ghost use Rattle.osm_entity.specs.Ranges.{IsInt64, IfPresent, WayFits, RelationFits, EntityTyped};
-ghost use Rattle.osm_entity.specs.Weight.{text_weight};
+ghost use Rattle.osm_entity.specs.Weight.{text_weight, entity_weight};
 ghost use Rattle.osm_entity.specs.declared.bounding_box.BoundingBox.{BoundingBox};
 ghost use Rattle.pbf_block.specs.declared.header.HeaderBox.{HeaderBox};
 ghost use Rattle.pbf_block.specs.Header.{HeaderSpec, header_in};
@@ -21,6 +21,7 @@ ghost use Rattle.pbf_block.specs.Payload.{by_index};
 ghost use Rattle.pbf_block.specs.StructureFaults.{way_structure, relation_structure};
 ghost use Rattle.pbf_block.specs.ValueFaults.{way_values, relation_values};
 ghost use Rattle.pbf_block.specs.WireFaults.{way_wire, relation_wire};
+ghost use Rattle.pbf_block.specs.WrittenBlock.{is_block, block_message};
 ghost use Rattle.pbf_block.specs.WrittenEntity.{way_message, relation_message};
 ghost use Rattle.pbf_block.specs.WrittenHeader.{BoxTyped, HeaderFits, header_message, header_out, header_out_for_box, header_out_for_convert};
 
@@ -57,16 +58,22 @@ pub fn written_header_is_read()
 /// A written way has no fault of any phase and is read, at every place, as the way that it was written for: with every table that
 /// has all its texts and isn't too long.
 pub fn written_way_is_read()
-    ensures read { (texts : List (List ℕ)) (w : WaySpec) → WayFits w → EntityTyped (way w) → AllByRecursion (λ text. has_text texts text ≡ true) (way_texts w) → length (table_of texts) ≤ 1048576 → (at : ℕ) → length (way_message texts w) < 2 ^ 64 → way_in by_index (table_of texts) w.scale (fields_in at (way_message texts w)) ≡ w }
-    ensures wire { (texts : List (List ℕ)) (w : WaySpec) → WayFits w → EntityTyped (way w) → AllByRecursion (λ text. has_text texts text ≡ true) (way_texts w) → length (table_of texts) ≤ 1048576 → (place at : ℕ) → length (way_message texts w) < 2 ^ 64 → way_wire place at (way_message texts w) ≡ [] }
-    ensures structure { (texts : List (List ℕ)) (w : WaySpec) → WayFits w → EntityTyped (way w) → AllByRecursion (λ text. has_text texts text ≡ true) (way_texts w) → length (table_of texts) ≤ 1048576 → (place at : ℕ) → length (way_message texts w) < 2 ^ 64 → way_structure place at (way_message texts w) ≡ [] }
-    ensures values { (texts : List (List ℕ)) (w : WaySpec) → WayFits w → EntityTyped (way w) → AllByRecursion (λ text. has_text texts text ≡ true) (way_texts w) → length (table_of texts) ≤ 1048576 → (place at : ℕ) → length (way_message texts w) < 2 ^ 64 → way_values (length (table_of texts)) place at (way_message texts w) ≡ [] }
+    ensures read { (texts : List (List ℕ)) (w : WaySpec) → WayFits w → EntityTyped (way w) → AllByRecursion (λ text. has_text texts text ≡ true) (way_texts w) → length (table_of texts) ≤ 1048576 → (at : ℕ) → way_in by_index (table_of texts) w.scale (fields_in at (way_message texts w)) ≡ w }
+    ensures wire { (texts : List (List ℕ)) (w : WaySpec) → WayFits w → EntityTyped (way w) → AllByRecursion (λ text. has_text texts text ≡ true) (way_texts w) → length (table_of texts) ≤ 1048576 → (place at : ℕ) → way_wire place at (way_message texts w) ≡ [] }
+    ensures structure { (texts : List (List ℕ)) (w : WaySpec) → WayFits w → EntityTyped (way w) → AllByRecursion (λ text. has_text texts text ≡ true) (way_texts w) → length (table_of texts) ≤ 1048576 → (place at : ℕ) → way_structure place at (way_message texts w) ≡ [] }
+    ensures values { (texts : List (List ℕ)) (w : WaySpec) → WayFits w → EntityTyped (way w) → AllByRecursion (λ text. has_text texts text ≡ true) (way_texts w) → length (table_of texts) ≤ 1048576 → (place at : ℕ) → way_values (length (table_of texts)) place at (way_message texts w) ≡ [] }
 {}
 
 /// The same of a relation.
 pub fn written_relation_is_read()
-    ensures read { (texts : List (List ℕ)) (r : RelationSpec) → RelationFits r → EntityTyped (relation r) → AllByRecursion (λ text. has_text texts text ≡ true) (relation_texts r) → length (table_of texts) ≤ 1048576 → (at : ℕ) → length (relation_message texts r) < 2 ^ 64 → relation_in by_index (table_of texts) r.scale (fields_in at (relation_message texts r)) ≡ r }
-    ensures wire { (texts : List (List ℕ)) (r : RelationSpec) → RelationFits r → EntityTyped (relation r) → AllByRecursion (λ text. has_text texts text ≡ true) (relation_texts r) → length (table_of texts) ≤ 1048576 → (place at : ℕ) → length (relation_message texts r) < 2 ^ 64 → relation_wire place at (relation_message texts r) ≡ [] }
-    ensures structure { (texts : List (List ℕ)) (r : RelationSpec) → RelationFits r → EntityTyped (relation r) → AllByRecursion (λ text. has_text texts text ≡ true) (relation_texts r) → length (table_of texts) ≤ 1048576 → (place at : ℕ) → length (relation_message texts r) < 2 ^ 64 → relation_structure place at (relation_message texts r) ≡ [] }
-    ensures values { (texts : List (List ℕ)) (r : RelationSpec) → RelationFits r → EntityTyped (relation r) → AllByRecursion (λ text. has_text texts text ≡ true) (relation_texts r) → length (table_of texts) ≤ 1048576 → (place at : ℕ) → length (relation_message texts r) < 2 ^ 64 → relation_values (length (table_of texts)) place at (relation_message texts r) ≡ [] }
+    ensures read { (texts : List (List ℕ)) (r : RelationSpec) → RelationFits r → EntityTyped (relation r) → AllByRecursion (λ text. has_text texts text ≡ true) (relation_texts r) → length (table_of texts) ≤ 1048576 → (at : ℕ) → relation_in by_index (table_of texts) r.scale (fields_in at (relation_message texts r)) ≡ r }
+    ensures wire { (texts : List (List ℕ)) (r : RelationSpec) → RelationFits r → EntityTyped (relation r) → AllByRecursion (λ text. has_text texts text ≡ true) (relation_texts r) → length (table_of texts) ≤ 1048576 → (place at : ℕ) → relation_wire place at (relation_message texts r) ≡ [] }
+    ensures structure { (texts : List (List ℕ)) (r : RelationSpec) → RelationFits r → EntityTyped (relation r) → AllByRecursion (λ text. has_text texts text ≡ true) (relation_texts r) → length (table_of texts) ≤ 1048576 → (place at : ℕ) → relation_structure place at (relation_message texts r) ≡ [] }
+    ensures values { (texts : List (List ℕ)) (r : RelationSpec) → RelationFits r → EntityTyped (relation r) → AllByRecursion (λ text. has_text texts text ≡ true) (relation_texts r) → length (table_of texts) ≤ 1048576 → (place at : ℕ) → relation_values (length (table_of texts)) place at (relation_message texts r) ≡ [] }
+{}
+
+/// A written block is at most 380 bytes longer than twice its weight; so entities that may stand in one block fit a frame.
+pub fn written_block_fits()
+    ensures short { (es : List EntitySpec) → length (block_message es) ≤ 380 + 2 * sum_by entity_weight es }
+    ensures fits { (es : List EntitySpec) → is_block es ≡ true → length (block_message es) < 33554432 }
 {}
