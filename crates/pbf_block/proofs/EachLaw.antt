@@ -54,7 +54,7 @@ module _ {W : Type 0} (table : List (List ℕ)) (scale : Scale) (k : ℕ) (messa
         (subst (λ (ms : List (List ℕ)). GroupGood table scale (message (Each k ms ∷ [])) (flat_map (λ h. h.1) (map with_entity ws))) (messages_are ws) good)
 
 -- no nodes are no dense message
-no_dense : (texts : List (List ℕ)) → dense_message texts [] ≡ []
+pub no_dense : (texts : List (List ℕ)) → dense_message texts [] ≡ []
 unfolding dense_message info_message message
 no_dense texts = refl
 

@@ -173,7 +173,7 @@ unless_all : (P : List ℕ → Type 0) (m : List ℕ) → P m → AllByRecursion
 unless_all P [] p = tt
 unless_all P (b ∷ bs) p = (p, tt)
 
-unless_below : (n : ℕ) (m : List ℕ) → 0 < n → AllByRecursion (λ m. length m < n) (unless_empty m) → length m < n
+pub unless_below : (n : ℕ) (m : List ℕ) → 0 < n → AllByRecursion (λ m. length m < n) (unless_empty m) → length m < n
 unless_below n [] positive h = positive
 unless_below n (b ∷ bs) positive h = h.0
 
