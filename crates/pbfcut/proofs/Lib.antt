@@ -1,3 +1,4 @@
 pub mod ListingLemmas
 pub mod CountLemmas
 pub mod StepLemmas
+pub mod DayLemmas

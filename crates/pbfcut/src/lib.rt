@@ -5,6 +5,8 @@ mod blobs;
 #[cfg(test)]
 mod check_tests;
 mod counts;
+mod dates;
+mod entity_text;
 mod hashed;
 mod number;
 mod passes;
