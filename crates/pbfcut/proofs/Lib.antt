@@ -2,3 +2,4 @@ pub mod ListingLemmas
 pub mod CountLemmas
 pub mod StepLemmas
 pub mod DayLemmas
+pub mod TextLemmas

@@ -32,7 +32,7 @@ visible_part (Some true) = 32 ∷ 100 ∷ 49 ∷ []
 visible_part (Some false) = 32 ∷ 100 ∷ 48 ∷ []
 
 -- the version, the time in milliseconds, the changeset, the uid, the user and whether it is visible: v, t, c, u, s, d
-abbrev pub meta_text : Bool → MetaSpec → List ℕ
+unfoldable pub meta_text : Bool → MetaSpec → List ℕ
 meta_text dates meta =
     number_part 118 meta.version ++ time_part dates meta.timestamp ++ number_part 99 meta.changeset
     ++ number_part 117 meta.uid ++ user_part meta.user ++ visible_part meta.visible
@@ -69,10 +69,20 @@ member_text member = 32 ∷ kind_mark member.kind ∷ [] ++ signed_decimal membe
 
 -- ---- the line: N, W or R, the id, for a node latitude and longitude in nanodegrees, and the parts
 
+abbrev pub start_text : ℕ → ℤ → List ℕ
+start_text letter id = letter ∷ [] ++ spaced id
+
+abbrev pub place_text : ℤ → ℤ → List ℕ
+place_text lat lon = spaced lat ++ spaced lon
+
+-- metadata, then tags
+unfoldable pub common_text : Bool → MetaSpec → List TagSpec → List ℕ
+common_text dates meta tags = meta_text dates meta ++ flat_map tag_text tags
+
 abbrev pub line_of : Bool → Decoded → List ℕ
-line_of dates (node_at id lat lon meta tags) = 78 ∷ [] ++ spaced id ++ spaced lat ++ spaced lon ++ meta_text dates meta ++ flat_map tag_text tags ++ 10 ∷ []
-line_of dates (way_through id meta tags refs locations) = 87 ∷ [] ++ spaced id ++ meta_text dates meta ++ flat_map tag_text tags ++ refs_text refs locations ++ 10 ∷ []
-line_of dates (relation_among id meta tags members) = 82 ∷ [] ++ spaced id ++ meta_text dates meta ++ flat_map tag_text tags ++ flat_map member_text members ++ 10 ∷ []
+line_of dates (node_at id lat lon meta tags) = start_text 78 id ++ place_text lat lon ++ common_text dates meta tags ++ 10 ∷ []
+line_of dates (way_through id meta tags refs locations) = start_text 87 id ++ common_text dates meta tags ++ refs_text refs locations ++ 10 ∷ []
+line_of dates (relation_among id meta tags members) = start_text 82 id ++ common_text dates meta tags ++ flat_map member_text members ++ 10 ∷ []
 
 abbrev pub entity_line : Bool → EntitySpec → List ℕ
 entity_line dates e = line_of dates (decoded e)

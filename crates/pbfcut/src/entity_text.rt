@@ -3,17 +3,17 @@
 ghost use Rattle.std.specs.Prelude.{◌≡◌, ◌++◌, OnOk, map, []};
 ghost use Rattle.std.specs.List.{flat_map};
 ghost use Rattle.std.specs.Option.{option_map};
-ghost use Rattle.osm_entity.specs.Entity.{node, way, relation};
+ghost use Rattle.osm_entity.specs.Entity.{node, way, relation, meta_in_millis};
 ghost use Rattle.osm_entity.specs.Sources.{tags_left, refs_left, nano_locations_left, members_left, lent_member};
 ghost use Rattle.osm_entity.specs.Views.{meta_of, node_of, way_of, relation_of, entity_of};
-ghost use Rattle.pbfcut.specs.EntityText.{number_part, time_part, user_part, visible_part, meta_text, tag_text, ref_text, location_text, refs_text, kind_mark, member_text, entity_line};
+ghost use Rattle.pbfcut.specs.EntityText.{number_part, time_part, user_part, visible_part, meta_text, tag_text, ref_text, location_text, refs_text, kind_mark, member_text, start_text, place_text, common_text, entity_line};
 
 use crate::dates::put_time;
 use crate::number::{put_signed, put_spaced};
 use crate::quoted::put_quoted;
 use osm_entity::{
     EntityRef, MemberKind, MemberRef, Members, MetaRef, NanoLocations, NodeRef, Refs, RelationRef,
-    Tags, WayRef,
+    Scale, Tags, WayRef,
 };
 use std::alloc::AllocError;
 
@@ -45,7 +45,7 @@ fn put_time_part(
 
 /// Appends a space, `s` and a user, where there is one.
 fn put_user_part(out: &mut Vec<u8>, user: Option<&[u8]>) -> Result<(), AllocError>
-    ensures { OnOk result (out.new.items ≡ out.old.items ++ user_part (option_map (λ text. text.now) user)) }
+    ensures { OnOk result (out.new.items ≡ out.old.items ++ user_part (option_map (λ text. text.now) user.entry)) }
 {
     if let Some(user) = user {
         out.extend_from_slice(b" s")?;
@@ -76,17 +76,18 @@ fn widened(number: Option<i32>) -> Option<i64>
     }
 }
 
-/// Appends the metadata, the time in milliseconds.
+/// Appends the metadata.
+#[tactic(auto, unfolding(crate::specs::EntityText::meta_text))]
 fn put_meta(
     out: &mut Vec<u8>,
     meta: &MetaRef<'_>,
-    millis: Option<i128>,
+    scale: Scale,
     dates: bool,
 ) -> Result<(), AllocError>
-    ensures { OnOk result (out.new.items ≡ out.old.items ++ meta_text dates (record (meta_of meta.now) { timestamp = millis })) }
+    ensures { OnOk result (out.new.items ≡ out.old.items ++ meta_text dates (meta_in_millis scale (meta_of meta.now))) }
 {
     put_number_part(out, b'v', widened(meta.version))?;
-    put_time_part(out, millis, dates)?;
+    put_time_part(out, meta.millis(scale), dates)?;
     put_number_part(out, b'c', meta.changeset)?;
     put_number_part(out, b'u', widened(meta.uid))?;
     put_user_part(out, meta.user)?;
@@ -185,16 +186,44 @@ fn put_members(out: &mut Vec<u8>, members: Members<'_>) -> Result<(), AllocError
     Ok(())
 }
 
+/// Appends the letter of an entity, and its id.
+fn put_start(out: &mut Vec<u8>, letter: u8, id: i64) -> Result<(), AllocError>
+    ensures { OnOk result (out.new.items ≡ out.old.items ++ start_text letter id) }
+{
+    out.push(letter)?;
+    put_spaced(out, i128::from(id))
+}
+
+/// Appends a place in nanodegrees.
+fn put_place(out: &mut Vec<u8>, lat: i128, lon: i128) -> Result<(), AllocError>
+    ensures { OnOk result (out.new.items ≡ out.old.items ++ place_text lat lon) }
+{
+    put_spaced(out, lat)?;
+    put_spaced(out, lon)
+}
+
+/// Appends what every entity has: its metadata and its tags.
+#[tactic(auto, unfolding(crate::specs::EntityText::common_text))]
+fn put_common(
+    out: &mut Vec<u8>,
+    meta: &MetaRef<'_>,
+    scale: Scale,
+    tags: Tags<'_>,
+    dates: bool,
+) -> Result<(), AllocError>
+    ensures { OnOk result (out.new.items ≡ out.old.items ++ common_text dates (meta_in_millis scale (meta_of meta.now)) (tags_left tags.entry)) }
+{
+    put_meta(out, meta, scale, dates)?;
+    put_tags(out, tags)
+}
+
 /// Appends the line of a node.
 fn put_node(out: &mut Vec<u8>, view: &NodeRef<'_>, dates: bool) -> Result<(), AllocError>
     ensures { OnOk result (out.new.items ≡ out.old.items ++ entity_line dates (node (node_of view.now))) }
 {
-    out.push(b'N')?;
-    put_spaced(out, i128::from(view.id()))?;
-    put_spaced(out, view.nano_lat())?;
-    put_spaced(out, view.nano_lon())?;
-    put_meta(out, &view.meta(), view.millis(), dates)?;
-    put_tags(out, view.tags())?;
+    put_start(out, b'N', view.id())?;
+    put_place(out, view.nano_lat(), view.nano_lon())?;
+    put_common(out, &view.meta(), view.scale(), view.tags(), dates)?;
     out.push(b'\n')?;
     Ok(())
 }
@@ -203,10 +232,8 @@ fn put_node(out: &mut Vec<u8>, view: &NodeRef<'_>, dates: bool) -> Result<(), Al
 fn put_way(out: &mut Vec<u8>, view: &WayRef<'_>, dates: bool) -> Result<(), AllocError>
     ensures { OnOk result (out.new.items ≡ out.old.items ++ entity_line dates (way (way_of view.now))) }
 {
-    out.push(b'W')?;
-    put_spaced(out, i128::from(view.id()))?;
-    put_meta(out, &view.meta(), view.millis(), dates)?;
-    put_tags(out, view.tags())?;
+    put_start(out, b'W', view.id())?;
+    put_common(out, &view.meta(), view.scale(), view.tags(), dates)?;
     put_refs(out, view.refs(), view.nano_locations())?;
     out.push(b'\n')?;
     Ok(())
@@ -216,10 +243,8 @@ fn put_way(out: &mut Vec<u8>, view: &WayRef<'_>, dates: bool) -> Result<(), Allo
 fn put_relation(out: &mut Vec<u8>, view: &RelationRef<'_>, dates: bool) -> Result<(), AllocError>
     ensures { OnOk result (out.new.items ≡ out.old.items ++ entity_line dates (relation (relation_of view.now))) }
 {
-    out.push(b'R')?;
-    put_spaced(out, i128::from(view.id()))?;
-    put_meta(out, &view.meta(), view.millis(), dates)?;
-    put_tags(out, view.tags())?;
+    put_start(out, b'R', view.id())?;
+    put_common(out, &view.meta(), view.scale(), view.tags(), dates)?;
     put_members(out, view.members())?;
     out.push(b'\n')?;
     Ok(())
