@@ -3,3 +3,4 @@ pub mod CountLemmas
 pub mod StepLemmas
 pub mod DayLemmas
 pub mod TextLemmas
+pub mod ShowingLemmas

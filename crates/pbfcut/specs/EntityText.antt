@@ -12,6 +12,9 @@ use Rattle.pbfcut.specs.Quoted.{quoted}
 abbrev pub spaced : ℤ → List ℕ
 spaced number = 32 ∷ [] ++ signed_decimal number
 
+abbrev pub spaced_pair : ℤ → ℤ → List ℕ
+spaced_pair first second = spaced first ++ spaced second
+
 -- ---- metadata: each field that is present behind a space and its mark
 
 abbrev pub number_part : ℕ → Option ℤ → List ℕ
@@ -72,15 +75,12 @@ member_text member = 32 ∷ kind_mark member.kind ∷ [] ++ signed_decimal membe
 abbrev pub start_text : ℕ → ℤ → List ℕ
 start_text letter id = letter ∷ [] ++ spaced id
 
-abbrev pub place_text : ℤ → ℤ → List ℕ
-place_text lat lon = spaced lat ++ spaced lon
-
 -- metadata, then tags
 unfoldable pub common_text : Bool → MetaSpec → List TagSpec → List ℕ
 common_text dates meta tags = meta_text dates meta ++ flat_map tag_text tags
 
 abbrev pub line_of : Bool → Decoded → List ℕ
-line_of dates (node_at id lat lon meta tags) = start_text 78 id ++ place_text lat lon ++ common_text dates meta tags ++ 10 ∷ []
+line_of dates (node_at id lat lon meta tags) = start_text 78 id ++ spaced_pair lat lon ++ common_text dates meta tags ++ 10 ∷ []
 line_of dates (way_through id meta tags refs locations) = start_text 87 id ++ common_text dates meta tags ++ refs_text refs locations ++ 10 ∷ []
 line_of dates (relation_among id meta tags members) = start_text 82 id ++ common_text dates meta tags ++ flat_map member_text members ++ 10 ∷ []
 

@@ -8,3 +8,4 @@ pub mod Hashing
 pub mod Dates
 pub mod EntityText
 pub mod HeaderText
+pub mod Showing

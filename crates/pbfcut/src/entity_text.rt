@@ -6,10 +6,10 @@ ghost use Rattle.std.specs.Option.{option_map};
 ghost use Rattle.osm_entity.specs.Entity.{node, way, relation, meta_in_millis};
 ghost use Rattle.osm_entity.specs.Sources.{tags_left, refs_left, nano_locations_left, members_left, lent_member};
 ghost use Rattle.osm_entity.specs.Views.{meta_of, node_of, way_of, relation_of, entity_of};
-ghost use Rattle.pbfcut.specs.EntityText.{number_part, time_part, user_part, visible_part, meta_text, tag_text, ref_text, location_text, refs_text, kind_mark, member_text, start_text, place_text, common_text, entity_line};
+ghost use Rattle.pbfcut.specs.EntityText.{number_part, time_part, user_part, visible_part, meta_text, tag_text, ref_text, location_text, refs_text, kind_mark, member_text, start_text, common_text, entity_line};
 
 use crate::dates::put_time;
-use crate::number::{put_signed, put_spaced};
+use crate::number::{put_signed, put_spaced, put_spaced_pair};
 use crate::quoted::put_quoted;
 use osm_entity::{
     EntityRef, MemberKind, MemberRef, Members, MetaRef, NanoLocations, NodeRef, Refs, RelationRef,
@@ -194,14 +194,6 @@ fn put_start(out: &mut Vec<u8>, letter: u8, id: i64) -> Result<(), AllocError>
     put_spaced(out, i128::from(id))
 }
 
-/// Appends a place in nanodegrees.
-fn put_place(out: &mut Vec<u8>, lat: i128, lon: i128) -> Result<(), AllocError>
-    ensures { OnOk result (out.new.items ≡ out.old.items ++ place_text lat lon) }
-{
-    put_spaced(out, lat)?;
-    put_spaced(out, lon)
-}
-
 /// Appends what every entity has: its metadata and its tags.
 #[tactic(auto, unfolding(crate::specs::EntityText::common_text))]
 fn put_common(
@@ -222,7 +214,7 @@ fn put_node(out: &mut Vec<u8>, view: &NodeRef<'_>, dates: bool) -> Result<(), Al
     ensures { OnOk result (out.new.items ≡ out.old.items ++ entity_line dates (node (node_of view.now))) }
 {
     put_start(out, b'N', view.id())?;
-    put_place(out, view.nano_lat(), view.nano_lon())?;
+    put_spaced_pair(out, view.nano_lat(), view.nano_lon())?;
     put_common(out, &view.meta(), view.scale(), view.tags(), dates)?;
     out.push(b'\n')?;
     Ok(())

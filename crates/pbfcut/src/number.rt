@@ -2,7 +2,7 @@
 
 ghost use Rattle.std.specs.Prelude.{◌≡◌, ◌++◌, decimal, OnOk};
 ghost use Rattle.std.specs.Fmt.{signed_decimal};
-ghost use Rattle.pbfcut.specs.EntityText.{spaced};
+ghost use Rattle.pbfcut.specs.EntityText.{spaced, spaced_pair};
 
 use itoa::Buffer;
 use std::alloc::AllocError;
@@ -31,4 +31,12 @@ pub(crate) fn put_spaced(out: &mut Vec<u8>, number: i128) -> Result<(), AllocErr
 {
     out.push(b' ')?;
     put_signed(out, number)
+}
+
+/// Appends two signed numbers, each behind a space.
+pub(crate) fn put_spaced_pair(out: &mut Vec<u8>, first: i128, second: i128) -> Result<(), AllocError>
+    ensures { OnOk result (out.new.items ≡ out.old.items ++ spaced_pair first second) }
+{
+    put_spaced(out, first)?;
+    put_spaced(out, second)
 }
