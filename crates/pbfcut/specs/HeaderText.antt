@@ -1,6 +1,5 @@
 -- The lines of `show` for a header.
 use Rattle.std.specs.Prelude.{ℕ, ℤ, List, [], ◌∷◌, ◌++◌, codes, Option, Some, None}
-use Rattle.std.specs.Fmt.{signed_decimal}
 use Rattle.std.specs.List.{flat_map}
 use Rattle.pbf_block.specs.declared.header.HeaderBox.{HeaderBox}
 use Rattle.pbf_block.specs.Header.{HeaderSpec}

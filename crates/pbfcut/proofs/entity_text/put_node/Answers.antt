@@ -1,4 +1,4 @@
-use Rattle.std.proofs.Common.{◌≡◌, [], ◌∷◌, ◌++◌, ap, ◌∙◌, rules}
+use Rattle.std.proofs.Common.{◌≡◌, [], ◌∷◌, ◌++◌, rules}
 use Rattle.osm_entity.specs.Entity.{meta_in_millis}
 use Rattle.osm_entity.specs.Scale.{nano_lat, nano_lon}
 use Rattle.osm_entity.specs.Views.{node_of}
