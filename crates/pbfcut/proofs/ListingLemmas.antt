@@ -1,5 +1,6 @@
--- Lines that went out.
-use Rattle.std.proofs.Common.{◌≡◌, ℕ, List, [], ◌∷◌, ◌++◌, Bool, true, Option, subst, inl, inr, sym, ap, ◌∙◌}
+-- Texts of frames that went out one after another.
+use Rattle.std.proofs.Common.{◌≡◌, ◌⊎◌, ℕ, List, [], ◌∷◌, ◌++◌, Bool, true, Option, Some, subst, inl, inr, sym, ap, ◌∙◌}
+use Rattle.std.specs.List.{flat_map}
 use Rattle.std.proofs.lemmas.List.{append-nil}
 use Rattle.std.proofs.lemmas.Grind.{flat_map-append}
 use Rattle.pbf_frame.specs.Devices.{append, IsFront}
@@ -8,24 +9,30 @@ use Rattle.pbf_frame.specs.Verdict.{Verdict, Gone, with_first_known}
 use Rattle.pbf_frame.proofs.KnownBytes.{append_append}
 use Rattle.pbf_frame.proofs.Beginnings.{front_whole, front_longer, front_then}
 use Rattle.pbf_frame.proofs.VerdictLemmas.{gone_more, gone_split}
-use Rattle.pbfcut.specs.Blobs.{line, lines}
-use Rattle.pbfcut.specs.Listing.{TookLine, StoppedIn, ListsFront}
+use Rattle.pbfcut.specs.Blobs.{line}
+use Rattle.pbfcut.specs.Listing.{TookLine}
 
-lines_one : (fs : List FrameSpec) (f : FrameSpec) → lines (fs ++ f ∷ []) ≡ lines fs ++ line f
-lines_one fs f = flat_map-append line fs (f ∷ []) ∙ ap (λ (l : List ℕ). lines fs ++ l) (append-nil (line f))
+-- what is written for one more of anything
+pub text_one : {A : Type 0} (text : A → List ℕ) (xs : List A) (x : A) → flat_map text (xs ++ x ∷ []) ≡ flat_map text xs ++ text x
+text_one text xs x = flat_map-append text xs (x ∷ []) ∙ ap (λ (l : List ℕ). flat_map text xs ++ l) (append-nil (text x))
 
-pub lines_more : (before mid now : Option (List ℕ)) (fs : List FrameSpec) (f : FrameSpec) → mid ≡ append before (lines fs) → now ≡ append mid (line f) → now ≡ append before (lines (fs ++ f ∷ []))
-lines_more before mid now fs f e e2 = e2 ∙ ap (λ (k : Option (List ℕ)). append k (line f)) e ∙ append_append before (lines fs) (line f) ∙ ap (append before) (sym (lines_one fs f))
+pub texts_more : {A : Type 0} (text : A → List ℕ) (before mid now : Option (List ℕ)) (xs : List A) (x : A) → mid ≡ append before (flat_map text xs) → now ≡ append mid (text x) → now ≡ append before (flat_map text (xs ++ x ∷ []))
+texts_more text before mid now xs x e e2 = e2 ∙ ap (λ (k : Option (List ℕ)). append k (text x)) e ∙ append_append before (flat_map text xs) (text x) ∙ ap (append before) (sym (text_one text xs x))
 
 pub took_line : (old_verdict verdict : Option Verdict) (old new : Option (List ℕ)) (more : Bool) → more ≡ true → TookLine old_verdict verdict old new more → (f : FrameSpec) × (old_verdict ≡ with_first_known f verdict) × (new ≡ append old (line f))
 took_line old_verdict verdict old new more e took = subst (TookLine old_verdict verdict old new) e took
 
--- whatever a step that stopped wrote, a beginning of all lines went out
-pub lists_front : (first mid : Option Verdict) (fs : List FrameSpec) (before now after : Option (List ℕ)) → Gone first fs mid → now ≡ append before (lines fs) → StoppedIn mid now after → ListsFront first before after
-lists_front first mid fs before now after gone went (inl same) all known =
+-- of the next frame nothing went out, or a beginning of its text
+abbrev pub StoppedWithin : (FrameSpec → List ℕ) → Option Verdict → Option (List ℕ) → Option (List ℕ) → Type 0
+StoppedWithin text known old new = (new ≡ old) ⊎ ((f : FrameSpec) × (rest : Option Verdict) × (known ≡ with_first_known f rest) × IsFront old new (text f))
+
+-- whatever a step that stopped wrote, a beginning of all texts went out
+pub texts_front : (text : FrameSpec → List ℕ) (first mid : Option Verdict) (fs : List FrameSpec) (before now after : Option (List ℕ)) → Gone first fs mid → now ≡ append before (flat_map text fs) → StoppedWithin text mid now after
+    → (all : Verdict) → first ≡ Some all → IsFront before after (flat_map text all.0)
+texts_front text first mid fs before now after gone went (inl same) all known =
     let (rest, is, split) = gone_split first mid fs all gone known in
-    subst (λ (l : List ℕ). IsFront before after l) (sym (ap lines split ∙ flat_map-append line fs rest.0)) (front_longer before after (lines fs) (lines rest.0) (front_whole before after (lines fs) (same ∙ went)))
-lists_front first mid fs before now after gone went (inr (f, rest, is, front)) all known =
+    subst (λ (l : List ℕ). IsFront before after l) (sym (ap (flat_map text) split ∙ flat_map-append text fs rest.0)) (front_longer before after (flat_map text fs) (flat_map text rest.0) (front_whole before after (flat_map text fs) (same ∙ went)))
+texts_front text first mid fs before now after gone went (inr (f, rest, is, front)) all known =
     let (left, e, split) = gone_split first rest (fs ++ f ∷ []) all (gone_more first mid rest fs f gone is) known in
-    let more : IsFront before after (lines fs ++ line f) = front_then before now after (lines fs) (line f) went front in
-    subst (λ (l : List ℕ). IsFront before after l) (sym (ap lines split ∙ flat_map-append line (fs ++ f ∷ []) left.0 ∙ ap (λ (l : List ℕ). l ++ lines left.0) (lines_one fs f))) (front_longer before after (lines fs ++ line f) (lines left.0) more)
+    let more : IsFront before after (flat_map text fs ++ text f) = front_then before now after (flat_map text fs) (text f) went front in
+    subst (λ (l : List ℕ). IsFront before after l) (sym (ap (flat_map text) split ∙ flat_map-append text (fs ++ f ∷ []) left.0 ∙ ap (λ (l : List ℕ). l ++ flat_map text left.0) (text_one text fs f))) (front_longer before after (flat_map text fs ++ text f) (flat_map text left.0) more)

@@ -5,3 +5,7 @@ pub mod Judged
 pub mod Counting
 pub mod Steps
 pub mod Hashing
+pub mod Dates
+pub mod EntityText
+pub mod HeaderText
+pub mod Showing

@@ -5,10 +5,14 @@ mod blobs;
 #[cfg(test)]
 mod check_tests;
 mod counts;
+mod dates;
+mod entity_text;
 mod hashed;
+mod header_text;
 mod number;
 mod passes;
 mod quoted;
+mod showing;
 mod steps;
 #[cfg(test)]
 mod tests;
@@ -16,4 +20,5 @@ mod tests;
 pub use blobs::list_blobs;
 pub use counts::{Counts, Pass};
 pub use passes::check;
+pub use showing::show;
 pub use steps::step_count;

@@ -2,7 +2,7 @@
 #![tactic(auto)]
 
 use pbf_frame::{FromRead, Stop, ToWrite};
-use pbfcut::{Counts, check, list_blobs};
+use pbfcut::{Counts, check, list_blobs, show};
 use std::env;
 use std::fs::File;
 use std::io::{BufWriter, Write};
@@ -11,6 +11,9 @@ use std::rt::Env;
 
 /// The length of the buffer in front of standard output.
 const OUTPUT_BUFFER: usize = 65_536;
+
+/// What is told where the words are no command.
+const USAGE: &str = "usage: pbfcut blobs IN | pbfcut show [--dates] IN | pbfcut check IN";
 
 /// Why the program ends otherwise than well.
 #[derive(Drop)]
@@ -41,7 +44,7 @@ impl Ending {
 /// Prints the ending's line on standard error. Where that can't be written, nothing more can be told.
 fn tell(rt: &HostRuntime, ending: &Ending) {
     let _ = match ending {
-        Ending::Words => eprintln!(rt; "usage: pbfcut blobs IN | pbfcut check IN"),
+        Ending::Words => eprintln!(rt; "{USAGE}"),
         Ending::CannotOpen => eprintln!(rt; "pbfcut: cannot open"),
         Ending::Memory => eprintln!(rt; "pbfcut: out of memory"),
         Ending::Stopped(stop) => eprintln!(rt; "pbfcut: {stop}"),
@@ -82,6 +85,35 @@ fn blobs(rt: &HostRuntime, input: &str) -> Result<(), Ending> {
     }
 }
 
+/// `show [--dates] IN`: IN is opened for each of the two passes, and the text goes to standard output through a buffer.
+/// Nothing is written of a file that is refused.
+fn show_file(rt: &HostRuntime, input: &str, dates: bool) -> Result<(), Ending> {
+    let Ok(first) = File::open(rt, input) else {
+        return Err(Ending::CannotOpen);
+    };
+    let Ok(second) = File::open(rt, input) else {
+        return Err(Ending::CannotOpen);
+    };
+    let Ok(mut output) = BufWriter::with_capacity(rt.alloc(), OUTPUT_BUFFER, rt.stdout()) else {
+        return Err(Ending::Memory);
+    };
+    let mut feeds = (FromRead::new(first), FromRead::new(second));
+    let outcome = show(
+        rt.alloc(),
+        &mut feeds.0,
+        &mut feeds.1,
+        &mut ToWrite::new(&mut output),
+        dates,
+    );
+    if output.flush().is_err() {
+        return Err(Ending::Stopped(Stop::Write));
+    }
+    match outcome {
+        Ok(_) => Ok(()),
+        Err(stop) => Err(Ending::Stopped(stop)),
+    }
+}
+
 /// Prints the line of counts.
 fn print_counts(rt: &HostRuntime, counts: Counts) -> Result<(), Ending> {
     let Counts {
@@ -110,6 +142,10 @@ fn work(rt: &HostRuntime) -> Result<(), Ending> {
     let words = words(rt)?;
     match words.as_slice() {
         [command, input] if command.as_str() == "blobs" => blobs(rt, input.as_str()),
+        [command, input] if command.as_str() == "show" => show_file(rt, input.as_str(), false),
+        [command, option, input] if command.as_str() == "show" && option.as_str() == "--dates" => {
+            show_file(rt, input.as_str(), true)
+        }
         [command, input] if command.as_str() == "check" => check_file(rt, input.as_str()),
         _ => Err(Ending::Words),
     }

@@ -1,14 +1,15 @@
 use Rattle.std.proofs.Common.{[], ◌∷◌, ◌++◌, ◌∙◌, arith, rules, length-append}
 use Rattle.std.proofs.lemmas.Result.{err_from_is_err_and}
 use Rattle.pbf_frame.proofs.VerdictLemmas.{gone_more}
-use Rattle.pbfcut.proofs.ListingLemmas.{lines_more, took_line, lists_front}
+use Rattle.pbfcut.specs.Blobs.{line}
+use Rattle.pbfcut.proofs.ListingLemmas.{texts_more, took_line, texts_front}
 use Rattle.pbfcut.proofs.blobs.list_all.Goals as goal
 
 pub returns-in_err-step_line-clause-beginning : goal.returns-in_err-step_line-clause-beginning
 returns-in_err-step_line-clause-beginning g c =
     let p = err_from_is_err_and c.from_residual.result c.from_residual.ensures.1 in
     let so_far = c.frames.invariant in
-    rw p.1 (lists_front _ _ so_far.done.0 _ _ _ so_far.done.1 so_far.done.2 c.in_err-step_line.ensures.stopped)
+    rw p.1 (texts_front line _ _ so_far.done.0 _ _ _ so_far.done.1 so_far.done.2 c.in_err-step_line.ensures.stopped)
 
 pub frames-preserved : goal.frames-preserved
 frames-preserved g c =
@@ -17,7 +18,7 @@ frames-preserved g c =
     let frames = so_far.done.0 in
     let (f, is, went) = took_line _ _ _ _ _ c.if-branch.true step.took in
     record {
-      done = (frames ++ f ∷ [], gone_more _ _ _ frames f so_far.done.1 is, lines_more _ _ _ frames f so_far.done.2 went, omega (arith, so_far.done.3, length-append frames (f ∷ [])));
+      done = (frames ++ f ∷ [], gone_more _ _ _ frames f so_far.done.1 is, texts_more line _ _ _ frames f so_far.done.2 went, omega (arith, so_far.done.3, length-append frames (f ∷ [])));
       few = search rules;
       reading = search rules;
       limited = c.step_line.ensures.limited;

@@ -1,0 +1,112 @@
+-- The text of `show`, what a call does to its drain, and why it stops.
+use Rattle.std.specs.Prelude.{◌≡◌, ◌⊎◌, ℕ, List, [], Bool, true, false, Option, Some, None}
+use Rattle.std.specs.List.{flat_map}
+use Rattle.pbf_wire.specs.declared.fault.Fault.{Fault}
+use Rattle.pbf_block.specs.Header.{header_in}
+use Rattle.pbf_block.specs.Payload.{entities}
+use Rattle.pbf_frame.specs.declared.frame.FrameKind.{FrameKind}
+use Rattle.pbf_frame.specs.declared.frame.FrameKind.TheVariants as kind
+use Rattle.pbf_frame.specs.declared.stop.Stop.{Stop}
+use Rattle.pbf_frame.specs.declared.stop.Stop.TheVariants.{Refused, Read, Write, Memory, Changed}
+use Rattle.pbf_frame.specs.Devices.{append, HasRisen, IsFront}
+use Rattle.pbf_frame.specs.Frames.{FrameSpec, frame_kind, frame_payload, frame_payload_at}
+use Rattle.pbf_frame.specs.Verdict.{Verdict, with_first_known, Says}
+use Rattle.pbfcut.specs.EntityText.{entity_line}
+use Rattle.pbfcut.specs.HeaderText.{header_text}
+use Rattle.pbfcut.specs.Judged.{payload_fault, fully_known}
+
+-- ---- the text
+
+-- of a payload that begins at this place: the lines of its header, or of its entities
+abbrev pub payload_text : Bool → FrameKind → ℕ → List ℕ → List ℕ
+payload_text dates kind.Header at payload = header_text (header_in at payload)
+payload_text dates kind.Data at payload = flat_map (entity_line dates) (entities at payload)
+payload_text dates kind.Other at payload = []
+
+unfoldable pub frame_text : Bool → FrameSpec → List ℕ
+frame_text dates f = payload_text dates (frame_kind f) (frame_payload_at f) (frame_payload f)
+
+-- of all frames, in order
+abbrev pub file_text : Bool → List FrameSpec → List ℕ
+file_text dates frames = flat_map (frame_text dates) frames
+
+-- what is to be written for a file with this verdict: nothing where it has a fault
+abbrev pub answer_text : Bool → Verdict → List ℕ
+answer_text dates (frames, None) = file_text dates frames
+answer_text dates (frames, Some e) = []
+
+-- ---- a whole call
+
+-- the file has no fault, and the text of its frames went out
+abbrev pub Shown : Bool → Option Verdict → Option (List ℕ) → Option (List ℕ) → Type 0
+Shown dates known old new = (frames : List FrameSpec) × Says known (frames, None) × (new ≡ append old (file_text dates frames))
+
+-- a beginning of what is to be written for the file went out
+abbrev pub ShowsFront : Bool → Option Verdict → Option (List ℕ) → Option (List ℕ) → Type 0
+ShowsFront dates known old new = (all : Verdict) → known ≡ Some all → IsFront old new (answer_text dates all)
+
+-- the bytes of two feeds aren't the same
+abbrev pub Differ : Option (List ℕ) → Option (List ℕ) → Type 0
+Differ first second = (b c : List ℕ) → first ≡ Some b → second ≡ Some c → b ≡ c → ⊥
+
+-- each stop has its cause: the first fault of the first feed's file, and then nothing went out; a failure of a feed or of the
+-- drain; memory; or that the second feed's bytes aren't those of the first
+abbrev pub ShowStops : Option (List ℕ) → Option (List ℕ) → Option Verdict → (read wrote : Type 0) → Option (List ℕ) → Option (List ℕ) → Stop → Type 0
+ShowStops first second known read wrote old new (Refused e) = ((frames : List FrameSpec) × Says known (frames, Some e)) × (new ≡ old)
+ShowStops first second known read wrote old new Read = read
+ShowStops first second known read wrote old new Write = wrote
+ShowStops first second known read wrote old new Memory = Unit {0}
+ShowStops first second known read wrote old new (Changed pass) = (pass ≡ 2) × Differ first second
+
+-- a fault that a later pass meets is a change
+abbrev pub as_change : Stop → Stop
+as_change (Refused e) = Changed 2
+as_change Read = Read
+as_change Write = Write
+as_change Memory = Memory
+as_change (Changed pass) = Changed pass
+
+-- ---- the pass that writes
+
+-- a beginning of the text of the frames before the first fault went out
+abbrev pub WritesFront : Bool → Option Verdict → Option (List ℕ) → Option (List ℕ) → Type 0
+WritesFront dates known old new = (all : Verdict) → known ≡ Some all → IsFront old new (file_text dates all.0)
+
+-- each stop has its cause; a refusal is the first fault of the file
+abbrev pub WriteStops : Option Verdict → (before now drain_before drain_now : ℕ) → Stop → Type 0
+WriteStops known before now drain_before drain_now (Refused e) = (frames : List FrameSpec) × Says known (frames, Some e)
+WriteStops known before now drain_before drain_now Read = HasRisen before now
+WriteStops known before now drain_before drain_now Write = HasRisen drain_before drain_now
+WriteStops known before now drain_before drain_now Memory = Unit {0}
+WriteStops known before now drain_before drain_now (Changed pass) = ⊥
+
+-- ---- one frame of it
+
+-- the next frame has no fault, and its text went out; or there was none
+abbrev pub TookText : Bool → Option Verdict → Option Verdict → Option (List ℕ) → Option (List ℕ) → Bool → Type 0
+TookText dates old_verdict verdict old new true = (f : FrameSpec) × (old_verdict ≡ with_first_known f verdict) × (payload_fault f ≡ None) × (new ≡ append old (frame_text dates f))
+TookText dates old_verdict verdict old new false = Says old_verdict ([], None) × (new ≡ old)
+
+-- of the next frame nothing went out; or it has no fault, and a beginning of its text went out
+abbrev pub StoppedInText : Bool → Option Verdict → Option (List ℕ) → Option (List ℕ) → Type 0
+StoppedInText dates known old new = (new ≡ old) ⊎ ((f : FrameSpec) × (rest : Option Verdict) × (known ≡ with_first_known f rest) × (payload_fault f ≡ None) × IsFront old new (frame_text dates f))
+
+abbrev pub TextStops : Option Verdict → (before now drain_before drain_now : ℕ) → Stop → Type 0
+TextStops known before now drain_before drain_now (Refused e) = Says (fully_known known) ([], Some e)
+TextStops known before now drain_before drain_now Read = HasRisen before now
+TextStops known before now drain_before drain_now Write = HasRisen drain_before drain_now
+TextStops known before now drain_before drain_now Memory = Unit {0}
+TextStops known before now drain_before drain_now (Changed pass) = ⊥
+
+-- ---- one payload
+
+-- of a payload with a fault nothing went out, else a beginning of its text
+abbrev pub StoppedInPayload : Option Fault → List ℕ → Option (List ℕ) → Option (List ℕ) → Type 0
+StoppedInPayload fault text old new = (new ≡ old) ⊎ ((fault ≡ None) × IsFront old new text)
+
+abbrev pub PayloadStops : Option Fault → (drain_before drain_now : ℕ) → Stop → Type 0
+PayloadStops fault drain_before drain_now (Refused e) = fault ≡ Some e
+PayloadStops fault drain_before drain_now Read = ⊥
+PayloadStops fault drain_before drain_now Write = HasRisen drain_before drain_now
+PayloadStops fault drain_before drain_now Memory = Unit {0}
+PayloadStops fault drain_before drain_now (Changed pass) = ⊥

@@ -1,0 +1,252 @@
+//! `show`: a line for each field of the header and for each entity.
+
+ghost use Rattle.std.specs.Prelude.{false, ◌≡◌, ◌+◌, ◌<◌, ◌≤◌, ◌^◌, ◌⊎◌, ℕ, List, None, Some, IsTrue, IfOk, IfErr, IfSome, OnOk, OnErr, length};
+ghost use Rattle.std.specs.List.{flat_map};
+ghost use Rattle.sha2.specs.Sha256.{sha256};
+ghost use Rattle.osm_entity.specs.Views.{entity_of};
+ghost use Rattle.pbf_block.specs.Cursors.{entities_left};
+ghost use Rattle.pbf_block.specs.Header.{header_in};
+ghost use Rattle.pbfcut.specs.HeaderText.{header_text};
+ghost use Rattle.pbf_frame.specs.declared.frame.FrameKind.TheVariants as kind;
+ghost use Rattle.pbf_frame.specs.Devices.{IsAtEnd, IsFront, HasRisen, append};
+ghost use Rattle.pbf_frame.specs.Next.{IsReading, place_of, verdict};
+ghost use Rattle.pbfcut.specs.EntityText.{entity_line};
+ghost use Rattle.pbfcut.specs.Judged.{payload_fault_of, fully_known, judged_file};
+ghost use Rattle.pbfcut.specs.Showing.{payload_text, Shown, ShowsFront, ShowStops, as_change, WritesFront, WriteStops, TookText, StoppedInText, TextStops, StoppedInPayload, PayloadStops};
+ghost use Rattle.pbfcut.specs.Steps.{CountsFile};
+
+use crate::counts::Counts;
+use crate::entity_text::put_entity;
+use crate::hashed::Hashed;
+use crate::header_text::put_header;
+use crate::passes::pass_count;
+use osm_entity::EntityRef;
+use pbf_block::{Block, Entities, Header};
+use pbf_frame::{Drain, Feed, Frame, FrameKind, FrameReader, Stop, write_all};
+use std::alloc::Global;
+
+/// Writes the line of an entity, which is put together in `text`.
+fn write_entity<D: Drain>(
+    entity: &EntityRef<'_>,
+    text: &mut Vec<u8>,
+    drain: &mut D,
+    dates: bool,
+) -> Result<(), Stop>
+    ensures shown { OnOk result (D.taken drain.new ≡ append (D.taken drain.old) (entity_line dates (entity_of entity.now))) }
+    ensures front { IsFront (D.taken drain.old) (D.taken drain.new) (entity_line dates (entity_of entity.now)) }
+    ensures stops { IfErr result (PayloadStops None (D.failures drain.old) (D.failures drain.new)) }
+    ensures drain_counts { D.failures drain.old ≤ D.failures drain.new }
+{
+    text.clear();
+    put_entity(text, entity, dates)?;
+    write_all(drain, text)?;
+    Ok(())
+}
+
+/// Writes the lines of entities.
+fn write_entities<D: Drain>(
+    entities: Entities<'_>,
+    text: &mut Vec<u8>,
+    drain: &mut D,
+    dates: bool,
+) -> Result<(), Stop>
+    ensures shown { OnOk result (D.taken drain.new ≡ append (D.taken drain.old) (flat_map (entity_line dates) (entities_left entities.entry))) }
+    ensures front { OnErr result (IsFront (D.taken drain.old) (D.taken drain.new) (flat_map (entity_line dates) (entities_left entities.entry))) }
+    ensures stops { IfErr result (PayloadStops None (D.failures drain.old) (D.failures drain.new)) }
+    ensures drain_counts { D.failures drain.old ≤ D.failures drain.new }
+{
+    for entity in entities {
+        write_entity(&entity, text, drain, dates)?;
+    }
+    Ok(())
+}
+
+/// Judges a HeaderBlock whose first byte stands at `at` in the file, and writes its lines.
+fn write_header<D: Drain>(
+    alloc: Global,
+    payload: &[u8],
+    at: u64,
+    text: &mut Vec<u8>,
+    drain: &mut D,
+) -> Result<(), Stop>
+    requires { at + length payload.now ≤ 2 ^ 63 }
+    ensures shown { OnOk result (D.taken drain.new ≡ append (D.taken drain.old) (header_text (header_in at payload.now))) }
+    ensures sound { OnOk result (payload_fault_of kind.Header at payload.now ≡ None) }
+    ensures stopped { OnErr result (StoppedInPayload (payload_fault_of kind.Header at payload.now) (header_text (header_in at payload.now)) (D.taken drain.old) (D.taken drain.new)) }
+    ensures stops { IfErr result (PayloadStops (payload_fault_of kind.Header at payload.now) (D.failures drain.old) (D.failures drain.new)) }
+    ensures drain_counts { D.failures drain.old ≤ D.failures drain.new }
+{
+    let header = Header::read(alloc, payload, at)?;
+    text.clear();
+    put_header(text, &header)?;
+    write_all(drain, text)?;
+    Ok(())
+}
+
+/// Judges a PrimitiveBlock whose first byte stands at `at` in the file, and writes the lines of its entities.
+fn write_block<D: Drain>(
+    alloc: Global,
+    payload: &[u8],
+    at: u64,
+    text: &mut Vec<u8>,
+    drain: &mut D,
+    dates: bool,
+) -> Result<(), Stop>
+    requires placed { at + length payload.now ≤ 2 ^ 63 }
+    requires short { length payload.now < 33554432 }
+    ensures shown { OnOk result (D.taken drain.new ≡ append (D.taken drain.old) (payload_text dates kind.Data at payload.now)) }
+    ensures sound { OnOk result (payload_fault_of kind.Data at payload.now ≡ None) }
+    ensures stopped { OnErr result (StoppedInPayload (payload_fault_of kind.Data at payload.now) (payload_text dates kind.Data at payload.now) (D.taken drain.old) (D.taken drain.new)) }
+    ensures stops { IfErr result (PayloadStops (payload_fault_of kind.Data at payload.now) (D.failures drain.old) (D.failures drain.new)) }
+    ensures drain_counts { D.failures drain.old ≤ D.failures drain.new }
+{
+    let block = Block::read(alloc, payload, at)?;
+    write_entities(block.entities(), text, drain, dates)?;
+    Ok(())
+}
+
+/// Judges the payload of a frame, and writes its lines. Nothing is written of one that has a fault.
+fn write_payload<D: Drain>(
+    alloc: Global,
+    frame: &Frame<'_>,
+    text: &mut Vec<u8>,
+    drain: &mut D,
+    dates: bool,
+) -> Result<(), Stop>
+    ensures shown { OnOk result (D.taken drain.new ≡ append (D.taken drain.old) (payload_text dates frame.now.kind frame.now.payload_at frame.now.payload.now)) }
+    ensures sound { OnOk result (payload_fault_of frame.now.kind frame.now.payload_at frame.now.payload.now ≡ None) }
+    ensures stopped { OnErr result (StoppedInPayload (payload_fault_of frame.now.kind frame.now.payload_at frame.now.payload.now) (payload_text dates frame.now.kind frame.now.payload_at frame.now.payload.now) (D.taken drain.old) (D.taken drain.new)) }
+    ensures stops { IfErr result (PayloadStops (payload_fault_of frame.now.kind frame.now.payload_at frame.now.payload.now) (D.failures drain.old) (D.failures drain.new)) }
+    ensures drain_counts { D.failures drain.old ≤ D.failures drain.new }
+{
+    match frame.kind {
+        FrameKind::Header => write_header(alloc, frame.payload, frame.payload_at, text, drain)?,
+        FrameKind::Data => {
+            write_block(alloc, frame.payload, frame.payload_at, text, drain, dates)?;
+        }
+        FrameKind::Other => {}
+    }
+    Ok(())
+}
+
+/// Writes the text of the next frame; false at the end of an input that had its header.
+#[tactic(auto, unfolding(crate::specs::Showing::frame_text))]
+fn step_show<F: Feed, D: Drain>(
+    alloc: Global,
+    reader: &mut FrameReader<F>,
+    text: &mut Vec<u8>,
+    drain: &mut D,
+    dates: bool,
+) -> Result<bool, Stop>
+    requires { IsReading reader.old }
+    ensures took { IfOk result (TookText dates (verdict F.remaining reader.old) (verdict F.remaining reader.new) (D.taken drain.old) (D.taken drain.new)) }
+    ensures stopped { OnErr result (StoppedInText dates (verdict F.remaining reader.old) (D.taken drain.old) (D.taken drain.new)) }
+    ensures stops { IfErr result (TextStops (verdict F.remaining reader.old) (F.failures reader.old.feed) (F.failures reader.new.feed) (D.failures drain.old) (D.failures drain.new)) }
+    ensures end { IfOk result (λ more. more ≡ false → IsAtEnd (F.remaining reader.new.feed)) }
+    ensures rises { IfOk result (λ more. IsTrue more → place_of reader.old < place_of reader.new) }
+    ensures reading { IfOk result (λ more. IsTrue more → IsReading reader.new) }
+    ensures limited { place_of reader.new ≤ 2 ^ 62 }
+    ensures carries { OnOk result ((b : List ℕ) → F.carries reader.old.feed b → F.carries reader.new.feed b) }
+    ensures counts { F.failures reader.old.feed ≤ F.failures reader.new.feed }
+    ensures drain_counts { D.failures drain.old ≤ D.failures drain.new }
+    ensures lender { F.lender reader.new.feed ≡ F.lender reader.old.feed }
+{
+    let Some(frame) = reader.next()? else {
+        return Ok(false);
+    };
+    write_payload(alloc, &frame, text, drain, dates)?;
+    Ok(true)
+}
+
+/// Writes the text of the frames that are left.
+fn show_all<F: Feed, D: Drain>(
+    alloc: Global,
+    reader: &mut FrameReader<F>,
+    drain: &mut D,
+    dates: bool,
+) -> Result<(), Stop>
+    requires { IsReading reader.old }
+    ensures shown { OnOk result (Shown dates (fully_known (verdict F.remaining reader.old)) (D.taken drain.old) (D.taken drain.new)) }
+    ensures beginning { OnErr result (WritesFront dates (fully_known (verdict F.remaining reader.old)) (D.taken drain.old) (D.taken drain.new)) }
+    ensures stops { IfErr result (WriteStops (fully_known (verdict F.remaining reader.old)) (F.failures reader.old.feed) (F.failures reader.new.feed) (D.failures drain.old) (D.failures drain.new)) }
+    ensures carries { OnOk result ((b : List ℕ) → F.carries reader.old.feed b → F.carries reader.new.feed b) }
+    ensures end { OnOk result (IsAtEnd (F.remaining reader.new.feed)) }
+    ensures lender { F.lender reader.new.feed ≡ F.lender reader.old.feed }
+{
+    let mut text = Vec::new(alloc);
+    'frames: while step_show(alloc, reader, &mut text, drain, dates)? {}
+    Ok(())
+}
+
+/// Writes the text of a whole file, and answers the digest of its bytes.
+fn pass_show<F: Feed, D: Drain>(
+    alloc: Global,
+    feed: &mut F,
+    drain: &mut D,
+    dates: bool,
+) -> Result<[u8; 32], Stop>
+    ensures shown { OnOk result (Shown dates (judged_file (F.remaining feed.old)) (D.taken drain.old) (D.taken drain.new)) }
+    ensures beginning { OnErr result (WritesFront dates (judged_file (F.remaining feed.old)) (D.taken drain.old) (D.taken drain.new)) }
+    ensures digest { IfOk result (λ digest. IfSome (F.remaining feed.old) (λ bytes. digest ≡ sha256 bytes)) }
+    ensures stops { IfErr result (WriteStops (judged_file (F.remaining feed.old)) (F.failures feed.old) (F.failures feed.new) (D.failures drain.old) (D.failures drain.new)) }
+{
+    let mut reader = FrameReader::new(alloc, Hashed::new(&mut *feed));
+    let outcome = show_all(alloc, &mut reader, drain, dates);
+    let digest = reader.feed.digest();
+    // What is known of the feed comes back with the reference itself.
+    let _feed = reader.into_feed().into_inner();
+    outcome?;
+    Ok(digest)
+}
+
+/// A fault that the pass which judges didn't meet is a change.
+fn changed(stop: Stop) -> Stop
+    ensures { result ≡ as_change stop }
+{
+    match stop {
+        Stop::Refused(_) => Stop::Changed(2),
+        other => other,
+    }
+}
+
+/// Writes a line for each field of the header and for each entity, and answers the numbers of entities. With `dates` times
+/// are written as dates.
+///
+/// Both feeds have to supply the same bytes. The first is judged as a whole before anything is written: `Refused` names its
+/// first fault, of any phase. The second is written from. `Changed(2)` says that it had a fault or another digest, so that
+/// its bytes aren't those of the first; what was written then has no meaning. Holds one frame at a time, with the places of
+/// its texts, and one line.
+pub fn show<F: Feed, G: Feed, D: Drain>(
+    alloc: Global,
+    first: &mut F,
+    second: &mut G,
+    drain: &mut D,
+    dates: bool,
+) -> Result<Counts, Stop>
+    // The first file has no fault, and the counts are those of its entities.
+    ensures counted { IfOk result (CountsFile (judged_file (F.remaining first.old))) }
+    // The drain took exactly the text of the second file, which has no fault.
+    ensures shown { OnOk result (Shown dates (judged_file (G.remaining second.old)) (D.taken drain.old) (D.taken drain.new)) }
+    // So where the feeds are alike, it took exactly the text of that file.
+    ensures alike { OnOk result (F.remaining first.old ≡ G.remaining second.old → Shown dates (judged_file (F.remaining first.old)) (D.taken drain.old) (D.taken drain.new)) }
+    // No files that differ, unless two unlike lists share a digest.
+    ensures digests { OnOk result ((b c : List ℕ) → F.remaining first.old ≡ Some b → G.remaining second.old ≡ Some c → sha256 b ≡ sha256 c) }
+    // Each stop has its cause; what is refused is the first file, by its first fault, and then the drain took nothing.
+    ensures stops { IfErr result (ShowStops (F.remaining first.old) (G.remaining second.old) (judged_file (F.remaining first.old))
+        (HasRisen (F.failures first.old) (F.failures first.new) ⊎ HasRisen (G.failures second.old) (G.failures second.new))
+        (HasRisen (D.failures drain.old) (D.failures drain.new)) (D.taken drain.old) (D.taken drain.new)) }
+    // Whatever stopped it, where the feeds are alike a beginning of that file's text went out, and nothing where it has a fault.
+    ensures beginning { OnErr result (F.remaining first.old ≡ G.remaining second.old → ShowsFront dates (judged_file (F.remaining first.old)) (D.taken drain.old) (D.taken drain.new)) }
+{
+    let told = pass_count(alloc, first)?;
+    match pass_show(alloc, second, drain, dates) {
+        Ok(digest) => {
+            if digest == told.1 {
+                Ok(told.0.counts)
+            } else {
+                Err(Stop::Changed(2))
+            }
+        }
+        Err(stop) => Err(changed(stop)),
+    }
+}
