@@ -57,3 +57,15 @@ then_written es e = if is_block (es ++ e ∷ []) then [] else block_frame es
 abbrev pub at_end : List EntitySpec → List ℕ
 at_end [] = []
 at_end (e ∷ es) = block_frame (e ∷ es)
+
+-- ---- a run of entities
+
+-- what is pending once entities came one by one behind those that were
+abbrev pub pending_after : List EntitySpec → List EntitySpec → List EntitySpec
+pending_after es [] = es
+pending_after es (e ∷ more) = pending_after (then_pending es e) more
+
+-- what went out by then
+abbrev pub written_after : List EntitySpec → List EntitySpec → List ℕ
+written_after es [] = []
+written_after es (e ∷ more) = then_written es e ++ written_after (then_pending es e) more
