@@ -9,3 +9,4 @@ pub mod Dates
 pub mod EntityText
 pub mod HeaderText
 pub mod Showing
+pub mod Converting

@@ -4,6 +4,7 @@
 mod blobs;
 #[cfg(test)]
 mod check_tests;
+mod converting;
 mod counts;
 mod dates;
 mod entity_text;
