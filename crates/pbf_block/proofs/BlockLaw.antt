@@ -1,6 +1,6 @@
 -- A written block has no fault and holds its entities, where its group does.
-use Rattle.std.proofs.Common.{◌≡◌, ℕ, ◌+◌, ◌^◌, ◌<◌, ◌≤◌, ◌==◌, ℤ, pos, Bool, true, false, List, [], ◌∷◌, ◌++◌, length, map, take, drop, Option, Some, None, refl, sym, ap, ap₂, subst, ◌∙◌, arith}
-use Rattle.std.specs.Prelude.{neg_ℤ, ◌<ℤ◌, ◌≤ℤ◌, int_lt, nat_lt, if◌then◌else◌}
+use Rattle.std.proofs.Common.{◌≡◌, ℕ, ◌^◌, ◌<◌, ◌≤◌, ◌==◌, ℤ, pos, Bool, true, false, List, [], ◌∷◌, ◌++◌, length, take, drop, Option, Some, None, refl, sym, ap, ap₂, subst, ◌∙◌, arith}
+use Rattle.std.specs.Prelude.{◌≤ℤ◌, int_lt, nat_lt, if◌then◌else◌}
 use Rattle.std.specs.List.{flat_map, AllByRecursion}
 use Rattle.std.specs.Option.{option_to_list}
 use Rattle.std.specs.Ordering.{int_eq}
@@ -12,21 +12,20 @@ use Rattle.pbf_wire.specs.declared.fault.Fault.{Fault}
 use Rattle.pbf_wire.specs.declared.fault.Reason.{Reason}
 use Rattle.pbf_wire.specs.declared.fault.Reason.TheVariants.{Granularity, DateGranularity}
 use Rattle.pbf_wire.specs.Occurrence.{Bytes, Occurrence, Number}
-use Rattle.pbf_wire.specs.Reading.{last_of, last_number}
+use Rattle.pbf_wire.specs.Reading.{last_number}
 use Rattle.pbf_wire.specs.Signed.{low_i32, low_i64, sign_extended}
 use Rattle.pbf_wire.specs.Faults.{fault_where, fields_in, leaf_faults, missing, twice, in_last, entered, inside}
-use Rattle.pbf_wire.specs.Least.{least}
-use Rattle.pbf_wire.specs.Message.{Slot, Scalar, Each, message, SlotFits, SlotIs, scalars_at, messages_at}
+use Rattle.pbf_wire.specs.Message.{Slot, Scalar, Each, message, SlotFits, SlotIs, scalars_at}
 use Rattle.pbf_wire.proofs.MessageLemmas.{last_written, embedded_below}
 use Rattle.pbf_wire.proofs.SumLemmas.{signs_fit, signs_read, low_signs_read}
-use Rattle.pbf_wire.proofs.QuietLemmas.{field_at, SlotQuiet, SlotGives, scalar_quiet, quiet_gives, each_gives, fields_quiet, fields_give, no_fault_within, leaf_quiet, present_written, once_written, last_held, in_last_written}
+use Rattle.pbf_wire.proofs.QuietLemmas.{field_at, SlotQuiet, SlotGives, scalar_quiet, quiet_gives, fields_quiet, fields_give, no_fault_within, leaf_quiet, present_written, once_written, last_held, in_last_written}
 use Rattle.pbf_strings.specs.Texts.{texts, table_kinds, count_fault}
 use Rattle.pbf_strings.specs.TableOut.{table_message}
 use Rattle.pbf_strings.specs.TableOut.{table_of as written_table}
 use Rattle.pbf_strings.proofs.WrittenTable.{written_texts}
 use Rattle.osm_entity.specs.declared.scale.Scale.{Scale}
 use Rattle.osm_entity.specs.Scale.{ScaleFits}
-use Rattle.osm_entity.specs.Ranges.{IsInt32, IsInt64, ScaleTyped}
+use Rattle.osm_entity.specs.Ranges.{IsInt32, ScaleTyped}
 use Rattle.osm_entity.specs.Entity.{EntitySpec}
 use Rattle.pbf_block.specs.declared.message.TheConstants.{STRINGTABLE, PRIMITIVEGROUP, BLOCK_KINDS, GRANULARITY, DATE_GRANULARITY, LAT_OFFSET, LON_OFFSET}
 use Rattle.pbf_block.specs.Scale.{read_or, scale_of, held_by, table_of}

@@ -1,11 +1,11 @@
 -- Written groups of ways and of relations: a message for each.
 use Rattle.pbf_wire.specs.Faults.{fields_in}
-use Rattle.std.proofs.Common.{◌≡◌, ℕ, ◌+◌, ◌^◌, ◌<◌, ◌≤◌, ◌==◌, false, true, List, [], ◌∷◌, ◌++◌, length, map, Some, refl, sym, ap, ap₂, subst, ◌∙◌, arith}
+use Rattle.std.proofs.Common.{◌≡◌, ℕ, ◌^◌, ◌<◌, ◌≤◌, ◌==◌, false, true, List, [], ◌∷◌, length, map, Some, refl, sym, ap, subst, ◌∙◌, arith}
 use Rattle.std.specs.List.{flat_map, AllByRecursion}
 use Rattle.std.proofs.lemmas.Bool.{le-ltb}
 use Rattle.pbf_wire.specs.declared.kind.Kind.TheVariants as kind
 use Rattle.pbf_wire.specs.Wire.{kind_of}
-use Rattle.pbf_wire.specs.Message.{Each, message, unless_empty}
+use Rattle.pbf_wire.specs.Message.{Each, message}
 use Rattle.pbf_wire.proofs.MessageLemmas.{embedded_below}
 use Rattle.pbf_wire.proofs.QuietLemmas.{field_count}
 use Rattle.pbf_strings.specs.TableOut.{table_of}

@@ -23,6 +23,7 @@ use Rattle.osm_entity.specs.Entity.{TagSpec, MetaSpec}
 use Rattle.osm_entity.specs.EntityTexts.{tag_texts}
 use Rattle.osm_entity.specs.Ranges.{IsStored}
 use Rattle.osm_entity.specs.Sources.{paired_tags}
+use Rattle.pbf_dense.proofs.DenseLaw.{unless_below}
 use Rattle.pbf_block.specs.declared.message.TheConstants.{ID, KEYS, VALS, INFO, INFO_KINDS}
 use Rattle.pbf_block.specs.Info.{info_in}
 use Rattle.pbf_block.specs.Members.{values_in, wide_in, tags_in}
@@ -153,10 +154,6 @@ few_messages : (m : List ℕ) → length (unless_empty m) ≤ 1
 few_messages [] = omega arith
 few_messages (b ∷ bs) = omega arith
 
-below_all : (m : List ℕ) → AllByRecursion (λ m. length m < 2 ^ 64) (unless_empty m) → length m < 2 ^ 64
-below_all [] h = omega arith
-below_all (b ∷ bs) h = h.0
-
 module _ (kinds : List (ℕ × Kind)) (known : AreKnown kinds) (texts : List (List ℕ)) (id : ℤ) (meta : MetaSpec) (tags : List TagSpec) (own : List Slot) (ready : IsReady texts id meta tags) (others : IsOwn kinds own) where
   pub entity_fits : AllByRecursion SlotFits (entity_slots texts id meta tags own)
   entity_fits =
@@ -169,7 +166,7 @@ module _ (kinds : List (ℕ × Kind)) (known : AreKnown kinds) (texts : List (Li
 
   module _ (at : ℕ) (room : length (message (entity_slots texts id meta tags own)) < 2 ^ 64) where
     info_short : length (info_message texts meta) < 2 ^ 64
-    info_short = below_all (info_message texts meta) (embedded_below (2 ^ 64) (entity_slots texts id meta tags own) room).1.1.1.0
+    info_short = unless_below (2 ^ 64) (info_message texts meta) (omega arith) (embedded_below (2 ^ 64) (entity_slots texts id meta tags own) room).1.1.1.0
 
     pub id_read : wide_in ID (fields_in at (message (entity_slots texts id meta tags own))) ≡ id
     id_read =

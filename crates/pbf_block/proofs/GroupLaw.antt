@@ -1,19 +1,19 @@
 -- A written group has no fault and holds the entities that it was written of, where each message in it does.
 use Rattle.pbf_wire.specs.declared.fault.Reason.TheVariants.{MixedGroup, Changesets}
-use Rattle.std.proofs.Common.{◌≡◌, ℕ, suc, ◌+◌, ◌*◌, ◌^◌, ◌<◌, ◌≤◌, ◌==◌, ◌&&◌, Bool, true, false, List, [], ◌∷◌, ◌++◌, length, map, Option, Some, None, refl, sym, ap, ap₂, subst, ◌∙◌, arith}
+use Rattle.std.proofs.Common.{◌≡◌, ℕ, ◌+◌, ◌^◌, ◌<◌, ◌≤◌, ◌==◌, ◌&&◌, Bool, true, false, List, [], ◌∷◌, ◌++◌, length, map, Option, Some, refl, sym, ap, subst, ◌∙◌, arith}
 use Rattle.std.specs.Prelude.{not, filter, if◌then◌else◌}
 use Rattle.std.specs.List.{flat_map, find, AllByRecursion}
 use Rattle.std.specs.Option.{option_map}
 use Rattle.std.proofs.lemmas.List.{append-nil}
 use Rattle.pbf_wire.specs.declared.fault.Fault.{Fault}
 use Rattle.pbf_wire.specs.declared.kind.Kind.TheVariants as kind
-use Rattle.pbf_wire.specs.Occurrence.{Bytes, Occurrence, items, items_past}
+use Rattle.pbf_wire.specs.Occurrence.{Bytes, Occurrence}
 use Rattle.pbf_wire.specs.Wire.{kind_of}
-use Rattle.pbf_wire.specs.Writing.{Part, Whole, spelling, occurrences_of}
+use Rattle.pbf_wire.specs.Writing.{Whole, spelling, occurrences_of}
 use Rattle.pbf_wire.specs.Faults.{fields_in, twice, fault}
-use Rattle.pbf_wire.specs.Message.{Slot, Each, message, unless_empty, SlotFits}
+use Rattle.pbf_wire.specs.Message.{Slot, Each, message, SlotFits}
 use Rattle.pbf_wire.proofs.MessageLemmas.{fields_written}
-use Rattle.pbf_wire.proofs.QuietLemmas.{field_at, SlotQuiet, SlotGives, each_gives, fields_quiet, fields_give, no_fault_within, field_count, once_written}
+use Rattle.pbf_wire.proofs.QuietLemmas.{field_at, SlotQuiet, each_gives, fields_quiet, fields_give, no_fault_within, field_count, once_written}
 use Rattle.osm_entity.specs.declared.scale.Scale.{Scale}
 use Rattle.osm_entity.specs.Entity.{EntitySpec}
 use Rattle.pbf_block.specs.declared.message.TheConstants.{GROUP_KINDS, DENSE, CHANGESETS}

@@ -1,15 +1,14 @@
 -- A written group of nodes: one dense message, or nothing.
-use Rattle.pbf_wire.specs.declared.fault.Fault.{Fault}
-use Rattle.std.proofs.Common.{◌≡◌, ℕ, ◌+◌, ◌^◌, ◌<◌, ◌≤◌, List, [], ◌∷◌, ◌++◌, length, map, refl, sym, ap, ap₂, subst, ◌∙◌, arith}
+use Rattle.std.proofs.Common.{◌≡◌, ℕ, ◌^◌, ◌<◌, List, [], ◌∷◌, length, map, refl, sym, ap, subst, ◌∙◌, arith}
 use Rattle.std.specs.List.{flat_map, AllByRecursion}
 use Rattle.std.proofs.lemmas.List.{append-nil}
 use Rattle.std.proofs.lemmas.Bool.{le-ltb}
 use Rattle.pbf_wire.specs.Occurrence.{items_past}
-use Rattle.pbf_wire.specs.Faults.{fault_where, fields_in}
+use Rattle.pbf_wire.specs.Faults.{fields_in}
 use Rattle.pbf_wire.specs.Message.{Each, message, unless_empty}
 use Rattle.pbf_strings.specs.TableOut.{table_of}
 use Rattle.osm_entity.specs.declared.scale.Scale.{Scale}
-use Rattle.osm_entity.specs.Entity.{NodeSpec, WaySpec, RelationSpec, EntitySpec, node}
+use Rattle.osm_entity.specs.Entity.{NodeSpec, EntitySpec, node}
 use Rattle.osm_entity.specs.Ranges.{NodeFits}
 use Rattle.pbf_dense.specs.Nodes.{nodes}
 use Rattle.pbf_dense.specs.WrittenDense.{dense_message, NodesHeld}

@@ -1,6 +1,6 @@
 -- Entities that may stand in one block are written as a block that has no fault and holds them.
-use Rattle.std.proofs.Common.{◌≡◌, ℕ, ◌+◌, ◌*◌, ◌^◌, ◌<◌, ◌≤◌, ◌&&◌, ℤ, pos, Bool, true, false, List, [], ◌∷◌, ◌++◌, length, length-append, map, Option, Some, None, refl, sym, ap, ap₂, subst, ◌∙◌, arith, true≢false}
-use Rattle.std.specs.Prelude.{neg_ℤ, ◌<ℤ◌, ◌≤ℤ◌, nat_le, not}
+use Rattle.std.proofs.Common.{◌≡◌, ℕ, ◌*◌, ◌^◌, ◌<◌, ◌≤◌, ◌&&◌, ℤ, Bool, true, false, List, [], ◌∷◌, ◌++◌, length, length-append, map, None, refl, sym, ap, subst, arith, true≢false}
+use Rattle.std.specs.Prelude.{nat_le}
 use Rattle.std.specs.List.{flat_map, list_all, sum_by, AllByRecursion}
 use Rattle.std.specs.Option.{is_some}
 use Rattle.std.specs.Ordering.{int_eq}
@@ -10,16 +10,16 @@ use Rattle.std.proofs.lemmas.Bool.Decides.{Decides-int_eq}
 use Rattle.std.proofs.lemmas.List.Sums.{sum_by-cons}
 use Rattle.pbf_wire.specs.Message.{Each, message, unless_empty}
 use Rattle.pbf_wire.proofs.MessageLemmas.{all_left, all_right, embedded_below}
-use Rattle.pbf_strings.specs.TableOut.{has_text, texts_after, table_of}
+use Rattle.pbf_strings.specs.TableOut.{has_text, table_of}
 use Rattle.pbf_strings.proofs.UsedTexts.{has_used, length_after}
 use Rattle.osm_entity.specs.declared.scale.Scale.{Scale}
 use Rattle.osm_entity.specs.Scale.{ScaleFits}
 use Rattle.osm_entity.specs.Entity.{MetaSpec, NodeSpec, WaySpec, RelationSpec, EntitySpec, node, way, relation, entity_scale}
-use Rattle.osm_entity.specs.EntityTexts.{node_texts, way_texts, relation_texts, entity_texts}
-use Rattle.osm_entity.specs.Ranges.{IsInt32, IsInt64, IfPresent, NodeFits, EntityFits, EntityTyped, ScaleTyped}
+use Rattle.osm_entity.specs.EntityTexts.{way_texts, relation_texts, entity_texts}
+use Rattle.osm_entity.specs.Ranges.{IsInt32, IfPresent, EntityFits, EntityTyped, ScaleTyped}
 use Rattle.osm_entity.specs.Weight.{entity_weight}
 use Rattle.osm_entity.proofs.TextCounts.{node_count, way_count, relation_count}
-use Rattle.pbf_dense.specs.WrittenDense.{dense_message, InAllOrNone, AreAlike, NodesHeld}
+use Rattle.pbf_dense.specs.WrittenDense.{dense_message, AreAlike}
 use Rattle.pbf_dense.proofs.DenseLaw.{unless_below}
 use Rattle.pbf_block.specs.declared.message.TheConstants.{DENSE}
 use Rattle.pbf_block.specs.Judgement.{block_fault}
@@ -28,7 +28,8 @@ use Rattle.pbf_block.specs.WrittenBlock.{same_scale, both, same_fields, are_alik
 use Rattle.pbf_block.proofs.EntityLaw.{all_such}
 use Rattle.pbf_block.proofs.GroupLaw.{GroupGood}
 use Rattle.pbf_block.proofs.NodesLaw.{group_of_nodes, nodes_good}
-use Rattle.pbf_block.proofs.EachLaw.{no_dense, WayHeld, ways_good, RelationHeld, relations_good}
+use Rattle.pbf_block.proofs.EachLaw.{WayHeld, ways_good, RelationHeld, relations_good}
+use Rattle.pbf_block.proofs.LengthLaw.{block_fits}
 use Rattle.pbf_block.proofs.BlockLaw.{block_sound, block_read}
 
 -- ---- what the tests of likeness say
@@ -269,13 +270,13 @@ block_parts es e =
     let second = two (nat_le (length es) 8000) (nat_le (sum_by entity_weight es) 12000000) first.1 in
     record { alike = first.0; light = leb-true _ _ second.1 }
 
-module _ (es : List EntitySpec) (is : is_block es ≡ true) (fit : AllByRecursion EntityFits es) (typed : AllByRecursion EntityTyped es) (short : length (block_message es) < 2 ^ 64) where
+module _ (es : List EntitySpec) (is : is_block es ≡ true) (fit : AllByRecursion EntityFits es) (typed : AllByRecursion EntityTyped es) where
   abbrev used : List (List ℕ)
   used = texts_of_all es
 
   slots_short : length (message (block_slots (scale_among es) (texts_of_all es) (group_message (texts_of_all es) es))) < 2 ^ 64
   unfolding block_message
-  slots_short = short
+  slots_short = omega (arith, block_fits es is)
 
   few : length (texts_of_all es) ≤ 750000
   few = omega (arith, length_after (flat_map entity_texts es) [], all_count es, (block_parts es is).light)

@@ -9,7 +9,7 @@ ghost use Rattle.pbf_wire.specs.Least.{least_by};
 ghost use Rattle.pbf_strings.specs.TableOut.{has_text, table_of};
 ghost use Rattle.osm_entity.specs.Entity.{WaySpec, RelationSpec, EntitySpec, way, relation};
 ghost use Rattle.osm_entity.specs.EntityTexts.{way_texts, relation_texts};
-ghost use Rattle.osm_entity.specs.Ranges.{IsInt64, IfPresent, WayFits, RelationFits, EntityTyped};
+ghost use Rattle.osm_entity.specs.Ranges.{IsInt64, IfPresent, WayFits, RelationFits, EntityFits, EntityTyped};
 ghost use Rattle.osm_entity.specs.Weight.{text_weight, entity_weight};
 ghost use Rattle.osm_entity.specs.declared.bounding_box.BoundingBox.{BoundingBox};
 ghost use Rattle.pbf_block.specs.declared.header.HeaderBox.{HeaderBox};
@@ -17,7 +17,7 @@ ghost use Rattle.pbf_block.specs.Header.{HeaderSpec, header_in};
 ghost use Rattle.pbf_block.specs.HeaderFaults.{header_fault, all_header_faults};
 ghost use Rattle.pbf_block.specs.Judgement.{block_fault, all_faults, phase_rank};
 ghost use Rattle.pbf_block.specs.Members.{way_in, relation_in};
-ghost use Rattle.pbf_block.specs.Payload.{by_index};
+ghost use Rattle.pbf_block.specs.Payload.{by_index, entities};
 ghost use Rattle.pbf_block.specs.StructureFaults.{way_structure, relation_structure};
 ghost use Rattle.pbf_block.specs.ValueFaults.{way_values, relation_values};
 ghost use Rattle.pbf_block.specs.WireFaults.{way_wire, relation_wire};
@@ -76,4 +76,11 @@ pub fn written_relation_is_read()
 pub fn written_block_fits()
     ensures short { (es : List EntitySpec) → length (block_message es) ≤ 380 + 2 * sum_by entity_weight es }
     ensures fits { (es : List EntitySpec) → is_block es ≡ true → length (block_message es) < 33554432 }
+{}
+
+/// Entities that may stand in one block are written as a block that has no fault of any phase, and that holds those entities,
+/// wherever in a file it stands.
+pub fn written_block_is_read()
+    ensures sound { (at : ℕ) (es : List EntitySpec) → is_block es ≡ true → AllByRecursion EntityFits es → AllByRecursion EntityTyped es → block_fault at (block_message es) ≡ None }
+    ensures read { (at : ℕ) (es : List EntitySpec) → is_block es ≡ true → AllByRecursion EntityFits es → AllByRecursion EntityTyped es → entities at (block_message es) ≡ es }
 {}
