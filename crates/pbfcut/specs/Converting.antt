@@ -75,6 +75,10 @@ pub record HasPacked {D S H : Type 0} (start : Option (List ℕ)) (done : List E
 abbrev pub BeginsAll : Option (List ℕ) → List EntitySpec → Option (List ℕ) → Type 0
 BeginsAll start done taken = (rest : List EntitySpec) → IsFront start taken (written_entities (done ++ rest))
 
+-- of a payload with a fault nothing went out, else a beginning of what is written for its entities too
+abbrev pub StoppedInBlock : Option Fault → List EntitySpec → Option (List ℕ) → List EntitySpec → Option (List ℕ) → Type 0
+StoppedInBlock fault es start done taken = BeginsAll start done taken ⊎ ((fault ≡ None) × BeginsAll start (done ++ es) taken)
+
 -- ---- one frame
 
 -- the next frame has no fault, and its entities were packed; or there was none

@@ -16,7 +16,7 @@ ghost use Rattle.osm_pack.specs.Packing.{IsPacking, has_header, Pending};
 ghost use Rattle.osm_pack.specs.Cuts.{written_file};
 ghost use Rattle.pbfcut.specs.Counting.{entities_of};
 ghost use Rattle.pbfcut.specs.Judged.{payload_fault_of, fully_known, judged_file};
-ghost use Rattle.pbfcut.specs.Converting.{is_short, HasPacked, BeginsAll, TookEntities, StoppedPacking, Packed, PacksFront, Converted, judged_writable, answer_bytes};
+ghost use Rattle.pbfcut.specs.Converting.{is_short, HasPacked, BeginsAll, StoppedInBlock, TookEntities, StoppedPacking, Packed, PacksFront, Converted, judged_writable, answer_bytes};
 ghost use Rattle.pbfcut.specs.Showing.{PayloadStops, TextStops, WriteStops, ShowStops};
 
 use osm_pack::Packer;
@@ -45,4 +45,91 @@ fn pack_entities<D: Drain, S: BuildHasher>(
         packer.push(&entity)?;
     }
     Ok(())
+}
+
+/// Judges a PrimitiveBlock whose first byte stands at `at` in the file, and packs its entities.
+fn pack_block<D: Drain, S: BuildHasher>(
+    alloc: Global,
+    payload: &[u8],
+    at: u64,
+    packer: &mut Packer<D, S>,
+) -> Result<(), Stop>
+    requires placed { at + length payload.now ≤ 2 ^ 63 }
+    requires short { length payload.now < 33554432 }
+    requires begun { has_header packer.old ≡ true }
+    requires packing { IsPacking packer.old }
+    ensures packed { (start : _) (done : List EntitySpec) → HasPacked start done (D.taken packer.old.drain) packer.old → OnOk result (HasPacked start (done ++ entities_of kind.Data at payload.now) (D.taken packer.new.drain) packer.new) }
+    ensures sound { OnOk result (payload_fault_of kind.Data at payload.now ≡ None) }
+    ensures stopped { (start : _) (done : List EntitySpec) → HasPacked start done (D.taken packer.old.drain) packer.old
+        → OnErr result (StoppedInBlock (payload_fault_of kind.Data at payload.now) (entities_of kind.Data at payload.now) start done (D.taken packer.new.drain)) }
+    ensures stops { IfErr result (PayloadStops (payload_fault_of kind.Data at payload.now) (D.failures packer.old.drain) (D.failures packer.new.drain)) }
+    ensures going { OnOk result (IsPacking packer.new) }
+    ensures header { has_header packer.new ≡ true }
+    ensures drain_counts { D.failures packer.old.drain ≤ D.failures packer.new.drain }
+    ensures drain_lender { D.lender packer.new.drain ≡ D.lender packer.old.drain }
+{
+    let block = Block::read(alloc, payload, at)?;
+    pack_entities(block.entities(), packer)?;
+    Ok(())
+}
+
+/// Judges the payload of a frame, and packs its entities.
+fn pack_payload<D: Drain, S: BuildHasher>(
+    alloc: Global,
+    frame: &Frame<'_>,
+    packer: &mut Packer<D, S>,
+) -> Result<(), Stop>
+    requires begun { has_header packer.old ≡ true }
+    requires packing { IsPacking packer.old }
+    ensures packed { (start : _) (done : List EntitySpec) → HasPacked start done (D.taken packer.old.drain) packer.old → OnOk result (HasPacked start (done ++ entities_of frame.now.kind frame.now.payload_at frame.now.payload.now) (D.taken packer.new.drain) packer.new) }
+    ensures sound { OnOk result (payload_fault_of frame.now.kind frame.now.payload_at frame.now.payload.now ≡ None) }
+    ensures stopped { (start : _) (done : List EntitySpec) → HasPacked start done (D.taken packer.old.drain) packer.old
+        → OnErr result (StoppedInBlock (payload_fault_of frame.now.kind frame.now.payload_at frame.now.payload.now) (entities_of frame.now.kind frame.now.payload_at frame.now.payload.now) start done (D.taken packer.new.drain)) }
+    ensures stops { IfErr result (PayloadStops (payload_fault_of frame.now.kind frame.now.payload_at frame.now.payload.now) (D.failures packer.old.drain) (D.failures packer.new.drain)) }
+    ensures going { OnOk result (IsPacking packer.new) }
+    ensures header { has_header packer.new ≡ true }
+    ensures drain_counts { D.failures packer.old.drain ≤ D.failures packer.new.drain }
+    ensures drain_lender { D.lender packer.new.drain ≡ D.lender packer.old.drain }
+{
+    match frame.kind {
+        FrameKind::Header => {
+            Header::read(alloc, frame.payload, frame.payload_at)?;
+        }
+        FrameKind::Data => pack_block(alloc, frame.payload, frame.payload_at, packer)?,
+        FrameKind::Other => {}
+    }
+    Ok(())
+}
+
+/// Packs the entities of the next frame; false at the end of an input that had its header.
+fn step_pack<F: Feed, D: Drain, S: BuildHasher>(
+    alloc: Global,
+    reader: &mut FrameReader<F>,
+    packer: &mut Packer<D, S>,
+) -> Result<bool, Stop>
+    requires reading { IsReading reader.old }
+    requires begun { has_header packer.old ≡ true }
+    requires packing { IsPacking packer.old }
+    ensures took { (start : _) (done : List EntitySpec) → HasPacked start done (D.taken packer.old.drain) packer.old
+        → IfOk result (TookEntities (verdict F.remaining reader.old) (verdict F.remaining reader.new) start done (D.taken packer.new.drain) packer.new) }
+    ensures stopped { (start : _) (done : List EntitySpec) → HasPacked start done (D.taken packer.old.drain) packer.old
+        → OnErr result (StoppedPacking (verdict F.remaining reader.old) start done (D.taken packer.new.drain)) }
+    ensures stops { IfErr result (TextStops (verdict F.remaining reader.old) (F.failures reader.old.feed) (F.failures reader.new.feed) (D.failures packer.old.drain) (D.failures packer.new.drain)) }
+    ensures end { IfOk result (λ more. more ≡ false → IsAtEnd (F.remaining reader.new.feed)) }
+    ensures rises { IfOk result (λ more. IsTrue more → place_of reader.old < place_of reader.new) }
+    ensures reading { IfOk result (λ more. IsTrue more → IsReading reader.new) }
+    ensures limited { place_of reader.new ≤ 2 ^ 62 }
+    ensures carries { OnOk result ((b : List ℕ) → F.carries reader.old.feed b → F.carries reader.new.feed b) }
+    ensures counts { F.failures reader.old.feed ≤ F.failures reader.new.feed }
+    ensures lender { F.lender reader.new.feed ≡ F.lender reader.old.feed }
+    ensures going { OnOk result (IsPacking packer.new) }
+    ensures header { has_header packer.new ≡ true }
+    ensures drain_counts { D.failures packer.old.drain ≤ D.failures packer.new.drain }
+    ensures drain_lender { D.lender packer.new.drain ≡ D.lender packer.old.drain }
+{
+    let Some(frame) = reader.next()? else {
+        return Ok(false);
+    };
+    pack_payload(alloc, &frame, packer)?;
+    Ok(true)
 }
