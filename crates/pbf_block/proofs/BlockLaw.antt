@@ -38,6 +38,7 @@ use Rattle.pbf_block.specs.Payload.{by_index, entities}
 use Rattle.pbf_block.specs.Judgement.{payload_values, payload_weights, block_fault}
 use Rattle.pbf_block.specs.WrittenBlock.{unless_default, block_slots}
 use Rattle.pbf_block.proofs.SlotLemmas.{none_of, scalar_given, last_given}
+use Rattle.pbf_block.proofs.InfoLaw.{int32_fits}
 use Rattle.pbf_block.proofs.GroupLaw.{GroupGood}
 
 -- ---- a number that is left out where it is the default
@@ -54,9 +55,6 @@ default_read read default z back = by (int_eq z default) refl
 
 default_all : (P : ℕ → Type 0) (default z : ℤ) → P (sign_extended z) → AllByRecursion P (option_to_list (unless_default default z))
 default_all P default z p = elim (int_eq z default) as (λ b. AllByRecursion P (option_to_list (if b then None else Some (sign_extended z)))) [ true ↦ tt | false ↦ (p, tt) ]
-
-narrow_fits : (z : ℤ) → IsInt32 z → sign_extended z < 2 ^ 64
-narrow_fits z h = signs_fit z (omega (arith, ints, h.0)) (omega (arith, ints, h.1))
 
 positive_quiet : (reason : Reason) (z : ℤ) → IsInt32 z → pos 1 ≤ℤ z → (place : ℕ) → positive reason place (sign_extended z) ≡ []
 positive_quiet reason z h le place =
@@ -82,9 +80,9 @@ module _ (scale : Scale) (used : List (List ℕ)) (group : List ℕ) (es : List 
     (
       (omega arith, omega arith),
       (
-        default_fits GRANULARITY (pos 100) scale.granularity (omega arith) (omega arith) (narrow_fits scale.granularity typed.granularity),
+        default_fits GRANULARITY (pos 100) scale.granularity (omega arith) (omega arith) (int32_fits scale.granularity typed.granularity),
         (
-          default_fits DATE_GRANULARITY (pos 1000) scale.date_granularity (omega arith) (omega arith) (narrow_fits scale.date_granularity typed.date_granularity),
+          default_fits DATE_GRANULARITY (pos 1000) scale.date_granularity (omega arith) (omega arith) (int32_fits scale.date_granularity typed.date_granularity),
           (
             default_fits LAT_OFFSET (pos 0) scale.lat_offset (omega arith) (omega arith) (signs_fit scale.lat_offset typed.lat_offset.0 typed.lat_offset.1),
             (default_fits LON_OFFSET (pos 0) scale.lon_offset (omega arith) (omega arith) (signs_fit scale.lon_offset typed.lon_offset.0 typed.lon_offset.1), tt),

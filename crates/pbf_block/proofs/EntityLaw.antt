@@ -15,7 +15,7 @@ use Rattle.pbf_wire.specs.Sums.{sums, deltas}
 use Rattle.std.specs.Option.{option_to_list}
 use Rattle.pbf_wire.specs.Wire.{kind_of}
 use Rattle.pbf_wire.proofs.MessageLemmas.{column_written, last_written, embedded_below}
-use Rattle.pbf_wire.proofs.QuietLemmas.{sums_good_written, SlotQuiet, column_quiet, fields_quiet, no_fault_within, counted_written, indexes_good, present_written, once_written, embedded_or_none, in_last_written}
+use Rattle.pbf_wire.proofs.QuietLemmas.{sums_good_written, SlotQuiet, column_quiet, fields_quiet, no_fault_within, counted_written, indexes_good, present_written, once_written, embedded_or_none, in_last_written, unless_all, unless_below, unless_few, column_passed}
 use Rattle.pbf_wire.proofs.SumLemmas.{sums_of_deltas, within_true}
 use Rattle.pbf_strings.specs.TableOut.{table_of}
 use Rattle.pbf_strings.proofs.UsedTexts.{index_below}
@@ -23,7 +23,6 @@ use Rattle.osm_entity.specs.Entity.{TagSpec, MetaSpec}
 use Rattle.osm_entity.specs.EntityTexts.{tag_texts}
 use Rattle.osm_entity.specs.Ranges.{IsStored}
 use Rattle.osm_entity.specs.Sources.{paired_tags}
-use Rattle.pbf_dense.proofs.DenseLaw.{unless_below}
 use Rattle.pbf_block.specs.declared.message.TheConstants.{ID, KEYS, VALS, INFO, INFO_KINDS}
 use Rattle.pbf_block.specs.Info.{info_in}
 use Rattle.pbf_block.specs.Members.{values_in, wide_in, tags_in}
@@ -33,7 +32,7 @@ use Rattle.pbf_block.specs.StructureFaults.{entity_structure}
 use Rattle.pbf_block.specs.ValueFaults.{stored_limit, wide_range, info_values, entity_values}
 use Rattle.pbf_block.specs.WrittenEntity.{key_index, value_index, info_message, entity_slots}
 use Rattle.pbf_block.proofs.InfoLaw.{IsAmong, MetaReady, named_read, stored_fits, stored_read, info_read, info_wire, info_quiet}
-use Rattle.pbf_block.proofs.SlotLemmas.{IfSome, unless_all}
+use Rattle.pbf_block.proofs.SlotLemmas.{IfSome}
 
 -- ---- columns of other fields
 
@@ -54,14 +53,10 @@ no_scalar k (Scalar number value ∷ own) h = absurd h.0
 no_scalar k (Column number values ∷ own) h = no_scalar k own h.1
 no_scalar k (Each number messages ∷ own) h = absurd h.0
 
-passed : (k number : ℕ) (values : List ℕ) (rest : List (List ℕ)) → eqb number k ≡ false → messages_at k (Column number values) ++ rest ≡ rest
-passed k number [] rest e = refl
-passed k number (v ∷ vs) rest e = rw e refl
-
 no_message : (k : ℕ) (own : List Slot) → AllByRecursion (IsColumn k) own → flat_map (messages_at k) own ≡ []
 no_message k [] h = refl
 no_message k (Scalar number value ∷ own) h = absurd h.0
-no_message k (Column number values ∷ own) h = passed k number values (flat_map (messages_at k) own) h.0 ∙ no_message k own h.1
+no_message k (Column number values ∷ own) h = column_passed k number values (flat_map (messages_at k) own) h.0 ∙ no_message k own h.1
 no_message k (Each number messages ∷ own) h = absurd h.0
 
 abbrev Judge : Type 0
@@ -150,10 +145,6 @@ pub record IsReady (texts : List (List ℕ)) (id : ℤ) (meta : MetaSpec) (tags 
   pub good : MetaReady texts meta
   pub named : AreAmong texts (tag_texts tags)
 
-few_messages : (m : List ℕ) → length (unless_empty m) ≤ 1
-few_messages [] = omega arith
-few_messages (b ∷ bs) = omega arith
-
 module _ (kinds : List (ℕ × Kind)) (known : AreKnown kinds) (texts : List (List ℕ)) (id : ℤ) (meta : MetaSpec) (tags : List TagSpec) (own : List Slot) (ready : IsReady texts id meta tags) (others : IsOwn kinds own) where
   pub entity_fits : AllByRecursion SlotFits (entity_slots texts id meta tags own)
   entity_fits =
@@ -184,7 +175,7 @@ module _ (kinds : List (ℕ × Kind)) (known : AreKnown kinds) (texts : List (Li
 
     info_messages : flat_map (messages_at INFO) (entity_slots texts id meta tags own) ≡ unless_empty (info_message texts meta)
     info_messages =
-        passed INFO KEYS (map (key_index texts) tags) _ refl ∙ passed INFO VALS (map (value_index texts) tags) _ refl
+        column_passed INFO KEYS (map (key_index texts) tags) _ refl ∙ column_passed INFO VALS (map (value_index texts) tags) _ refl
         ∙ ap (λ (ms : List (List ℕ)). unless_empty (info_message texts meta) ++ ms) (no_message INFO own others.infos) ∙ append-nil _
 
     info_scalars : flat_map (scalars_at INFO) (entity_slots texts id meta tags own) ≡ []
@@ -216,7 +207,7 @@ module _ (kinds : List (ℕ × Kind)) (known : AreKnown kinds) (texts : List (Li
         let slots = entity_slots texts id meta tags own in
         let there : missing ID place (fields_in at (message slots)) ≡ [] = present_written ID place at slots entity_fits room (omega arith) in
         let once : twice INFO (fields_in at (message slots)) ≡ [] =
-        once_written INFO at slots entity_fits room (omega (arith, few_messages (info_message texts meta), ap (λ (ms : List (List ℕ)). length ms) info_messages, ap (λ (vs : List ℕ). length vs) info_scalars)) in
+        once_written INFO at slots entity_fits room (omega (arith, unless_few (info_message texts meta), ap (λ (ms : List (List ℕ)). length ms) info_messages, ap (λ (vs : List ℕ). length vs) info_scalars)) in
         let keys = count_is KEYS (map (key_index texts) tags) known.keys keys_column ∙ length-map tags (key_index texts) in
         let values = count_is VALS (map (value_index texts) tags) known.vals values_column ∙ length-map tags (value_index texts) in
         let same : (column_count KEYS (fields_in at (message slots)) == column_count VALS (fields_in at (message slots))) ≡ true = grind (arith, nat_tests, keys, values) in

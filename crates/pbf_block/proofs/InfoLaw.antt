@@ -44,7 +44,7 @@ module _ (texts : List (List ℕ)) (few : length (table_of texts) ≤ 1048576) w
 
 -- ---- numbers
 
-int32_fits : (z : ℤ) → IsInt32 z → sign_extended z < 2 ^ 64
+pub int32_fits : (z : ℤ) → IsInt32 z → sign_extended z < 2 ^ 64
 int32_fits z h = signs_fit z (omega (arith, ints, h.0)) (omega (arith, ints, h.1))
 
 int32_read : (z : ℤ) → IsInt32 z → low_i32 (sign_extended z) ≡ z

@@ -3,9 +3,9 @@ use Rattle.std.proofs.Common.{◌≡◌, ℕ, ◌^◌, ◌<◌, List, [], ◌∷
 use Rattle.std.specs.List.{flat_map, AllByRecursion}
 use Rattle.std.proofs.lemmas.List.{append-nil}
 use Rattle.std.proofs.lemmas.Bool.{le-ltb}
-use Rattle.pbf_wire.specs.Occurrence.{items_past}
 use Rattle.pbf_wire.specs.Faults.{fields_in}
 use Rattle.pbf_wire.specs.Message.{Each, message, unless_empty}
+use Rattle.pbf_wire.proofs.QuietLemmas.{no_items}
 use Rattle.pbf_strings.specs.TableOut.{table_of}
 use Rattle.osm_entity.specs.declared.scale.Scale.{Scale}
 use Rattle.osm_entity.specs.Entity.{NodeSpec, EntitySpec, node}
@@ -32,10 +32,6 @@ module _ (texts : List (List ℕ)) (scale : Scale) (ns : List NodeSpec) (h : Nod
     entities = λ place begin. ap (map node) (nodes_written texts scale ns h begin);
     light = λ place. nodes_light place ns h.fit;
   }
-
-  no_items : fields_in 0 [] ≡ []
-  unfolding items_past
-  no_items = refl
 
   no_nodes : nodes (table_of texts) scale [] ≡ []
   unfolding nodes

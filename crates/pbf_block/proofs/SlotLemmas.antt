@@ -3,7 +3,7 @@ use Rattle.std.proofs.Common.{length, ◌≡◌, ◌≤◌, arith, ℤ, ℕ, ◌
 use Rattle.std.specs.List.{flat_map, last_or, AllByRecursion}
 use Rattle.std.specs.Option.{option_map, option_to_list}
 use Rattle.osm_entity.specs.Ranges.{IfPresent}
-use Rattle.pbf_wire.specs.Message.{Slot, Scalar, Column, Each, SlotFits, unless_empty, scalars_at}
+use Rattle.pbf_wire.specs.Message.{Slot, Scalar, Column, Each, SlotFits, scalars_at}
 
 -- ---- options
 
@@ -70,12 +70,6 @@ given_all f P Q each (Some x) h = (each x h, tt)
 
 pub none_given : (k : ℕ) (slots : List Slot) → AllByRecursion (IsOther k) slots → length (flat_map (scalars_at k) slots) ≡ 0
 none_given k slots h = ap (λ (ns : List ℕ). length ns) (none_of k slots h)
-
--- ---- messages
-
-pub unless_all : (P : List ℕ → Type 0) (m : List ℕ) → P m → AllByRecursion P (unless_empty m)
-unless_all P [] h = tt
-unless_all P (b ∷ bs) h = (h, tt)
 
 -- one at most
 pub option_few : {X : Type 0} (o : Option X) → length (option_to_list o ++ []) ≤ 1

@@ -1,4 +1,5 @@
 -- Entities that may stand in one block are written as a block that has no fault and holds them.
+use Rattle.pbf_wire.proofs.QuietLemmas.{unless_below}
 use Rattle.std.proofs.Common.{◌≡◌, ℕ, ◌*◌, ◌^◌, ◌<◌, ◌≤◌, ◌&&◌, ℤ, Bool, true, false, List, [], ◌∷◌, ◌++◌, length, length-append, map, None, refl, sym, ap, subst, arith, true≢false}
 use Rattle.std.specs.Prelude.{nat_le}
 use Rattle.std.specs.List.{flat_map, list_all, sum_by, AllByRecursion}
@@ -20,12 +21,11 @@ use Rattle.osm_entity.specs.Ranges.{IsInt32, IfPresent, EntityFits, EntityTyped,
 use Rattle.osm_entity.specs.Weight.{entity_weight}
 use Rattle.osm_entity.proofs.TextCounts.{node_count, way_count, relation_count}
 use Rattle.pbf_dense.specs.WrittenDense.{dense_message, AreAlike}
-use Rattle.pbf_dense.proofs.DenseLaw.{unless_below}
 use Rattle.pbf_block.specs.declared.message.TheConstants.{DENSE}
 use Rattle.pbf_block.specs.Judgement.{block_fault}
 use Rattle.pbf_block.specs.Payload.{entities}
 use Rattle.pbf_block.specs.WrittenBlock.{same_scale, both, same_fields, are_alike, all_alike, is_block, scale_among, texts_of_all, group_message, block_slots, block_message}
-use Rattle.pbf_block.proofs.EntityLaw.{all_such}
+use Rattle.pbf_block.proofs.EntityLaw.{all_such, AreAmong}
 use Rattle.pbf_block.proofs.GroupLaw.{GroupGood}
 use Rattle.pbf_block.proofs.NodesLaw.{group_of_nodes, nodes_good}
 use Rattle.pbf_block.proofs.EachLaw.{WayHeld, ways_good, RelationHeld, relations_good}
@@ -143,10 +143,7 @@ like_relation q (relation r ∷ es) e = let h = two (same_scale q.scale r.scale)
 
 -- ---- the group
 
-abbrev Among : List (List ℕ) → List (List ℕ) → Type 0
-Among texts used = AllByRecursion (λ text. has_text texts text ≡ true) used
-
-each_among : {X : Type 0} (texts : List (List ℕ)) (used : X → List (List ℕ)) (xs : List X) → Among texts (flat_map used xs) → AllByRecursion (λ x. Among texts (used x)) xs
+each_among : {X : Type 0} (texts : List (List ℕ)) (used : X → List (List ℕ)) (xs : List X) → AreAmong texts (flat_map used xs) → AllByRecursion (λ x. AreAmong texts (used x)) xs
 each_among texts used [] h = tt
 each_among texts used (x ∷ xs) h =
     (all_left (λ text. has_text texts text ≡ true) (used x) (flat_map used xs) h, each_among texts used xs (all_right (λ text. has_text texts text ≡ true) (used x) (flat_map used xs) h))
@@ -193,7 +190,7 @@ nodes_ready texts m ns alike h = nodes_good texts m.scale (m ∷ ns) (record {
   scaled = (refl, all_such (λ n. (same_scale m.scale n.scale && same_fields m.meta n.meta) ≡ true) (λ n. n.scale ≡ m.scale) (λ n e. scale_same m.scale n.scale (two (same_scale m.scale n.scale) (same_fields m.meta n.meta) e).0) ns alike);
   alike = alike_fields m.meta (map (λ n. n.meta) ns) (map_of_all (SameFields m.meta) (λ n. n.meta) ns
       (all_such (λ n. (same_scale m.scale n.scale && same_fields m.meta n.meta) ≡ true) (λ n. SameFields m.meta n.meta) (λ n e. fields_same m.meta n.meta (two (same_scale m.scale n.scale) (same_fields m.meta n.meta) e).1) ns alike));
-  named = subst (λ (ts : List (List ℕ)). Among texts ts) (used_of_map node (m ∷ ns)) h.among;
+  named = subst (λ (ts : List (List ℕ)). AreAmong texts ts) (used_of_map node (m ∷ ns)) h.among;
   few = h.few;
   short = dense_short texts (m ∷ ns) h.short;
 }) h.short
@@ -201,18 +198,18 @@ nodes_ready texts m ns alike h = nodes_good texts m.scale (m ∷ ns) (record {
 ways_ready : (texts : List (List ℕ)) (v : WaySpec) (ws : List WaySpec) → AllByRecursion (λ w. same_scale v.scale w.scale ≡ true) ws → Ready texts (map way (v ∷ ws)) → Good texts v.scale (map way (v ∷ ws))
 ways_ready texts v ws alike h =
     let scaled : AllByRecursion (λ w. w.scale ≡ v.scale) (v ∷ ws) = (refl, all_such (λ w. same_scale v.scale w.scale ≡ true) (λ w. w.scale ≡ v.scale) (λ w e. scale_same v.scale w.scale e) ws alike) in
-    let among = each_among texts way_texts (v ∷ ws) (subst (λ (ts : List (List ℕ)). Among texts ts) (used_of_map way (v ∷ ws)) h.among) in
-    let all = all_four (λ w. EntityFits (way w)) (λ w. EntityTyped (way w)) (λ w. w.scale ≡ v.scale) (λ w. Among texts (way_texts w)) (v ∷ ws) (all_of_map EntityFits way (v ∷ ws) h.fit) (all_of_map EntityTyped way (v ∷ ws) h.typed) scaled among in
+    let among = each_among texts way_texts (v ∷ ws) (subst (λ (ts : List (List ℕ)). AreAmong texts ts) (used_of_map way (v ∷ ws)) h.among) in
+    let all = all_four (λ w. EntityFits (way w)) (λ w. EntityTyped (way w)) (λ w. w.scale ≡ v.scale) (λ w. AreAmong texts (way_texts w)) (v ∷ ws) (all_of_map EntityFits way (v ∷ ws) h.fit) (all_of_map EntityTyped way (v ∷ ws) h.typed) scaled among in
     ways_good texts v.scale (v ∷ ws)
-    (all_such (λ w. EntityFits (way w) × EntityTyped (way w) × (w.scale ≡ v.scale) × Among texts (way_texts w)) (WayHeld texts v.scale) (λ w p. record { fits = p.0; typed = p.1; scaled = p.2; among = p.3; few = h.few }) (v ∷ ws) all) h.short
+    (all_such (λ w. EntityFits (way w) × EntityTyped (way w) × (w.scale ≡ v.scale) × AreAmong texts (way_texts w)) (WayHeld texts v.scale) (λ w p. record { fits = p.0; typed = p.1; scaled = p.2; among = p.3; few = h.few }) (v ∷ ws) all) h.short
 
 relations_ready : (texts : List (List ℕ)) (q : RelationSpec) (rs : List RelationSpec) → AllByRecursion (λ r. same_scale q.scale r.scale ≡ true) rs → Ready texts (map relation (q ∷ rs)) → Good texts q.scale (map relation (q ∷ rs))
 relations_ready texts q rs alike h =
     let scaled : AllByRecursion (λ r. r.scale ≡ q.scale) (q ∷ rs) = (refl, all_such (λ r. same_scale q.scale r.scale ≡ true) (λ r. r.scale ≡ q.scale) (λ r e. scale_same q.scale r.scale e) rs alike) in
-    let among = each_among texts relation_texts (q ∷ rs) (subst (λ (ts : List (List ℕ)). Among texts ts) (used_of_map relation (q ∷ rs)) h.among) in
-    let all = all_four (λ r. EntityFits (relation r)) (λ r. EntityTyped (relation r)) (λ r. r.scale ≡ q.scale) (λ r. Among texts (relation_texts r)) (q ∷ rs) (all_of_map EntityFits relation (q ∷ rs) h.fit) (all_of_map EntityTyped relation (q ∷ rs) h.typed) scaled among in
+    let among = each_among texts relation_texts (q ∷ rs) (subst (λ (ts : List (List ℕ)). AreAmong texts ts) (used_of_map relation (q ∷ rs)) h.among) in
+    let all = all_four (λ r. EntityFits (relation r)) (λ r. EntityTyped (relation r)) (λ r. r.scale ≡ q.scale) (λ r. AreAmong texts (relation_texts r)) (q ∷ rs) (all_of_map EntityFits relation (q ∷ rs) h.fit) (all_of_map EntityTyped relation (q ∷ rs) h.typed) scaled among in
     relations_good texts q.scale (q ∷ rs)
-    (all_such (λ r. EntityFits (relation r) × EntityTyped (relation r) × (r.scale ≡ q.scale) × Among texts (relation_texts r)) (RelationHeld texts q.scale) (λ r p. record { fits = p.0; typed = p.1; scaled = p.2; among = p.3; few = h.few }) (q ∷ rs) all) h.short
+    (all_such (λ r. EntityFits (relation r) × EntityTyped (relation r) × (r.scale ≡ q.scale) × AreAmong texts (relation_texts r)) (RelationHeld texts q.scale) (λ r p. record { fits = p.0; typed = p.1; scaled = p.2; among = p.3; few = h.few }) (q ∷ rs) all) h.short
 
 -- what is like the first is a good group
 alike_good : (texts : List (List ℕ)) (es : List EntitySpec) → all_alike es ≡ true → Ready texts es → Good texts (scale_among es) es

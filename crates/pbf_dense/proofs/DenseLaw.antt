@@ -16,10 +16,10 @@ use Rattle.pbf_wire.specs.Columns.{joined, column}
 use Rattle.pbf_wire.specs.Signed.{sign_extended}
 use Rattle.pbf_wire.specs.Sums.{deltas}
 use Rattle.pbf_wire.specs.Faults.{fault_where, entered, fields_in, leaf_faults, column_count, index_faults, is_index, twice}
-use Rattle.pbf_wire.specs.Message.{Column, message, unless_empty, SlotFits, SlotIs, numbers_at, messages_at}
+use Rattle.pbf_wire.specs.Message.{message, unless_empty, SlotFits, SlotIs, numbers_at, messages_at}
 use Rattle.pbf_wire.proofs.MessageLemmas.{all_append, all_left, all_right, column_written, embedded_below}
 use Rattle.pbf_wire.proofs.SumLemmas.{deltas_fit, signs_fit}
-use Rattle.pbf_wire.proofs.QuietLemmas.{SlotQuiet, field_at, column_quiet, fields_quiet, no_fault_within, counted_written, indexes_good, once_written}
+use Rattle.pbf_wire.proofs.QuietLemmas.{SlotQuiet, field_at, column_quiet, fields_quiet, no_fault_within, counted_written, indexes_good, once_written, unless_all, unless_below, unless_few, column_passed}
 use Rattle.pbf_strings.specs.TableOut.{has_text, index_in, table_of}
 use Rattle.pbf_strings.proofs.UsedTexts.{index_below}
 use Rattle.osm_entity.specs.Entity.{TagSpec, MetaSpec, NodeSpec}
@@ -169,14 +169,6 @@ named_all P false (x ∷ xs) h = by (low_32 x.0 == 0) (named_all P false xs h.1)
 
 -- ---- the message
 
-unless_all : (P : List ℕ → Type 0) (m : List ℕ) → P m → AllByRecursion P (unless_empty m)
-unless_all P [] p = tt
-unless_all P (b ∷ bs) p = (p, tt)
-
-pub unless_below : (n : ℕ) (m : List ℕ) → 0 < n → AllByRecursion (λ m. length m < n) (unless_empty m) → length m < n
-unless_below n [] positive h = positive
-unless_below n (b ∷ bs) positive h = h.0
-
 metas_good : (texts : List (List ℕ)) (ns : List NodeSpec) → AllByRecursion NodeFits ns → AllByRecursion (λ n. IfPresent IsInt32 n.meta.version) ns → AllByRecursion (NamedNode texts) ns → AllByRecursion (Good texts) (map (λ n. n.meta) ns)
 metas_good texts [] fit versions named = tt
 metas_good texts (n ∷ ns) fit versions named = ((versions.0, fit.0.meta, named.0.1), metas_good texts ns fit.1 versions.1 named.1)
@@ -189,20 +181,12 @@ pub column_long : (f : NodeSpec → ℤ) (ns : List NodeSpec) → length (deltas
 column_long f ns = ap (λ (w : List ℕ). length w) (append-nil (deltas (map f ns))) ∙ deltas_length (map f ns) ∙ length-map ns f
 
 -- only the DenseInfo is a message
-no_messages : (k number : ℕ) (values : List ℕ) (rest others : List (List ℕ)) → (number == k) ≡ false → rest ≡ others → messages_at k (Column number values) ++ rest ≡ others
-no_messages k number [] rest others e h = h
-no_messages k number (v ∷ vs) rest others e h = rw e h
-
 pub infos_are : (c : DenseColumns) → flat_map (messages_at DENSEINFO) (dense_slots c) ≡ unless_empty (info_message c.info)
 infos_are c =
-    no_messages DENSEINFO ID (deltas c.ids) _ _ refl
-    (ap (λ (w : List (List ℕ)). unless_empty (info_message c.info) ++ w)
-    (no_messages DENSEINFO LAT (deltas c.lats) _ [] refl (no_messages DENSEINFO LON (deltas c.lons) _ [] refl (no_messages DENSEINFO KEYS_VALS (written_runs c.tagged c.runs) [] [] refl refl)))
-    ∙ append-nil _)
-
-one_at_most : (m : List ℕ) → length (unless_empty m) ≤ 1
-one_at_most [] = omega arith
-one_at_most (b ∷ bs) = omega arith
+    column_passed DENSEINFO ID (deltas c.ids) _ refl
+    ∙ ap (λ (w : List (List ℕ)). unless_empty (info_message c.info) ++ w)
+    (column_passed DENSEINFO LAT (deltas c.lats) _ refl ∙ column_passed DENSEINFO LON (deltas c.lons) _ refl ∙ column_passed DENSEINFO KEYS_VALS (written_runs c.tagged c.runs) [] refl)
+    ∙ append-nil _
 
 module _ (texts : List (List ℕ)) (scale : Scale) (ns : List NodeSpec) (h : NodesHeld texts scale ns) where
   abbrev written : DenseColumns
@@ -302,7 +286,7 @@ module _ (texts : List (List ℕ)) (scale : Scale) (ns : List NodeSpec) (h : Nod
       ∙ ap (λ b. fault_where (not b) place KeysVals) (tags_are written.tagged (length ns) written.runs (runs_are texts ns))
 
   info_once : (at : ℕ) → twice DENSEINFO (fields_in at (message (dense_slots written))) ≡ []
-  info_once at = once_written DENSEINFO at (dense_slots written) dense_fits short (omega (arith, ap (λ (w : List (List ℕ)). length w) (infos_are written), one_at_most (info_message written.info)))
+  info_once at = once_written DENSEINFO at (dense_slots written) dense_fits short (omega (arith, ap (λ (w : List (List ℕ)). length w) (infos_are written), unless_few (info_message written.info)))
 
   info_sound : (n place at : ℕ) → n ≡ length ns → info_counts n place at (info_message written.info) ≡ []
   unfolding info_message

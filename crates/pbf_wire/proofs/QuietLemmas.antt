@@ -304,7 +304,7 @@ embedded_none k at slots fits lt e h =
     ap (embedded k) (fields_written at slots fits lt)
     ∙ ap (λ (os : List Occurrence). fields_of (last_or None os)) (no_fields k at (flat_map parts_of slots) (slots_messages k slots ∙ e) (slots_scalars k slots ∙ h))
 
-no_items : fields_in 0 [] ≡ []
+pub no_items : fields_in 0 [] ≡ []
 unfolding items_past
 no_items = refl
 
@@ -313,6 +313,23 @@ pub embedded_or_none : (k at : ℕ) (slots : List Slot) (m : List ℕ) → AllBy
     → (begin : ℕ) × (embedded k (fields_in at (message slots)) ≡ fields_in begin m)
 embedded_or_none k at slots [] fits lt e h = (0, embedded_none k at slots fits lt e h ∙ sym no_items)
 embedded_or_none k at slots (b ∷ bs) fits lt e h = embedded_written k at slots (b ∷ bs) fits lt e h
+
+pub unless_all : (P : List ℕ → Type 0) (m : List ℕ) → P m → AllByRecursion P (unless_empty m)
+unless_all P [] p = tt
+unless_all P (b ∷ bs) p = (p, tt)
+
+pub unless_below : (n : ℕ) (m : List ℕ) → 0 < n → AllByRecursion (λ m. length m < n) (unless_empty m) → length m < n
+unless_below n [] positive h = positive
+unless_below n (b ∷ bs) positive h = h.0
+
+pub unless_few : (m : List ℕ) → length (unless_empty m) ≤ 1
+unless_few [] = omega arith
+unless_few (b ∷ bs) = omega arith
+
+-- a column of another field gives no message
+pub column_passed : (k number : ℕ) (values : List ℕ) (rest : List (List ℕ)) → (number == k) ≡ false → messages_at k (Column number values) ++ rest ≡ rest
+column_passed k number [] rest e = refl
+column_passed k number (v ∷ vs) rest e = rw e refl
 
 -- ---- the last number of a field
 
