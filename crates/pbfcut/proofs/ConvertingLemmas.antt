@@ -1,5 +1,5 @@
 -- Entities on their way into the drain.
-use Rattle.std.proofs.Common.{◌≡◌, ◌⊎◌, ℕ, ◌+◌, ◌-◌, ◌^◌, ◌≤◌, List, [], ◌∷◌, ◌++◌, append_assoc, append-nil, Bool, true, Option, Some, None, subst, inl, inr, refl, sym, ap, ◌∙◌, arith, tt}
+use Rattle.std.proofs.Common.{◌≡◌, ◌⊎◌, ℕ, ◌+◌, ◌-◌, ◌^◌, ◌≤◌, List, [], ◌∷◌, ◌++◌, append_assoc, append-nil, Bool, true, Option, Some, None, subst, inl, inr, refl, sym, ap, ◌∙◌, arith}
 use Rattle.std.specs.Prelude.{min}
 use Rattle.std.specs.List.{AllByRecursion}
 use Rattle.osm_entity.specs.Entity.{EntitySpec}
@@ -24,18 +24,18 @@ all_push : {A : Type 0} (P : A → Type 0) (xs : List A) (x : A) → AllByRecurs
 all_push P [] x h p = (p, tt)
 all_push P (y ∷ xs) x h p = (h.0, all_push P xs x h.1 p)
 
-pub all_gone : (gone left all : List EntitySpec) → left ≡ [] → gone ++ left ≡ all → gone ≡ all
+all_gone : (gone left all : List EntitySpec) → left ≡ [] → gone ++ left ≡ all → gone ≡ all
 all_gone gone left all is split = sym (append-nil gone) ∙ (ap (λ (l : List EntitySpec). gone ++ l) (sym is) ∙ split)
 
 -- an entity stands behind those that are gone
-pub split_here : (done gone left later all rest : List EntitySpec) (e : EntitySpec) → left ≡ e ∷ later → gone ++ left ≡ all → (done ++ gone) ++ e ∷ (later ++ rest) ≡ (done ++ all) ++ rest
+split_here : (done gone left later all rest : List EntitySpec) (e : EntitySpec) → left ≡ e ∷ later → gone ++ left ≡ all → (done ++ gone) ++ e ∷ (later ++ rest) ≡ (done ++ all) ++ rest
 split_here done gone left later all rest e is split =
     append_assoc done gone (e ∷ (later ++ rest))
     ∙ (ap (λ (l : List EntitySpec). done ++ l) (sym (append_assoc gone (e ∷ later) rest) ∙ ap (λ (l : List EntitySpec). l ++ rest) (ap (λ (l : List EntitySpec). gone ++ l) (sym is) ∙ split)) ∙ sym (append_assoc done all rest))
 
 module _ {D S H : Type 0} where
   -- one entity more is packed
-  pub packed_push : (start : Option (List ℕ)) (done : List EntitySpec) (e : EntitySpec) (before now : Option (List ℕ)) (old new : Packing D S H) → HasPacked start done before old → EntityFits e
+  packed_push : (start : Option (List ℕ)) (done : List EntitySpec) (e : EntitySpec) (before now : Option (List ℕ)) (old new : Packing D S H) → HasPacked start done before old → EntityFits e
       → ((es : List EntitySpec) → Pending old es → Pending new (then_pending es e)) → ((es : List EntitySpec) → Pending old es → now ≡ append before (then_written es e)) → HasPacked start (done ++ e ∷ []) now new
   packed_push start done e before now old new h fits p t = record {
       fits = all_push EntityFits done e h.fits fits;
@@ -52,7 +52,7 @@ module _ {D S H : Type 0} where
       (front_longer start taken (written_after [] done) (written_entities (pending_after [] done ++ rest)) (front_whole start taken (written_after [] done) h.taken_is))
 
   -- the same where a push stopped
-  pub begins_push : (start : Option (List ℕ)) (done : List EntitySpec) (e : EntitySpec) (before now : Option (List ℕ)) (packer : Packing D S H) → HasPacked start done before packer → EntityFits e
+  begins_push : (start : Option (List ℕ)) (done : List EntitySpec) (e : EntitySpec) (before now : Option (List ℕ)) (packer : Packing D S H) → HasPacked start done before packer → EntityFits e
       → ((es : List EntitySpec) → Pending packer es → IsFront before now (then_written es e)) → (rest : List EntitySpec) → IsFront start now (written_entities (done ++ e ∷ rest))
   begins_push start done e before now packer h fits f rest =
       let es = pending_after [] done in
@@ -61,6 +61,25 @@ module _ {D S H : Type 0} where
         ∙ (ap (λ (l : List ℕ). written_after [] done ++ l) (push_keeps es e rest (run_kept [] done kept_none h.fits) (alone e fits)) ∙ run_keeps [] done (e ∷ rest) kept_none h.fits) in
       subst (λ (l : List ℕ). IsFront start now l) all
       (front_longer start now (written_after [] done ++ then_written es e) (written_entities (then_pending es e ++ rest)) (front_then start before now (written_after [] done) (then_written es e) h.taken_is (f es h.pending)))
+
+  -- ---- in a loop over entities, of which some are gone
+
+  pub none_gone : (start : Option (List ℕ)) (done : List EntitySpec) (taken : Option (List ℕ)) (packer : Packing D S H) → HasPacked start done taken packer → HasPacked start (done ++ []) taken packer
+  none_gone start done taken packer h = subst (λ (l : List EntitySpec). HasPacked start l taken packer) (sym (append-nil done)) h
+
+  pub one_gone : (start : Option (List ℕ)) (done gone : List EntitySpec) (e : EntitySpec) (before now : Option (List ℕ)) (old new : Packing D S H) → HasPacked start (done ++ gone) before old → EntityFits e
+      → ((es : List EntitySpec) → Pending old es → Pending new (then_pending es e)) → ((es : List EntitySpec) → Pending old es → now ≡ append before (then_written es e)) → HasPacked start (done ++ (gone ++ e ∷ [])) now new
+  one_gone start done gone e before now old new h fits p t =
+      subst (λ (l : List EntitySpec). HasPacked start l now new) (append_assoc done gone (e ∷ [])) (packed_push start (done ++ gone) e before now old new h fits p t)
+
+  pub all_are_gone : (start : Option (List ℕ)) (done gone left all : List EntitySpec) (taken : Option (List ℕ)) (packer : Packing D S H) → left ≡ [] → gone ++ left ≡ all → HasPacked start (done ++ gone) taken packer → BeginsAll start (done ++ all) taken
+  all_are_gone start done gone left all taken packer is split h =
+      begins_packed start (done ++ all) taken packer (subst (λ (l : List EntitySpec). HasPacked start (done ++ l) taken packer) (all_gone gone left all is split) h)
+
+  pub stopped_here : (start : Option (List ℕ)) (done gone left later all : List EntitySpec) (e : EntitySpec) (before now : Option (List ℕ)) (packer : Packing D S H) → left ≡ e ∷ later → gone ++ left ≡ all
+      → HasPacked start (done ++ gone) before packer → EntityFits e → ((es : List EntitySpec) → Pending packer es → IsFront before now (then_written es e)) → BeginsAll start (done ++ all) now
+  stopped_here start done gone left later all e before now packer is split h fits f rest =
+      subst (λ (l : List EntitySpec). IsFront start now (written_entities l)) (split_here done gone left later all rest e is split) (begins_push start (done ++ gone) e before now packer h fits f (later ++ rest))
 
 -- a packer's stop is one of a payload without a fault
 pub pack_stop : (first before now : ℕ) (s : Stop) → first ≤ before → IsPackStop before now s → PayloadStops None first now s

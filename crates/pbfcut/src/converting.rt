@@ -133,3 +133,73 @@ fn step_pack<F: Feed, D: Drain, S: BuildHasher>(
     pack_payload(alloc, &frame, packer)?;
     Ok(true)
 }
+
+/// Writes a header and the entities of the frames that are left.
+fn pack_all<F: Feed, D: Drain, S: BuildHasher>(
+    alloc: Global,
+    reader: &mut FrameReader<F>,
+    packer: &mut Packer<D, S>,
+    header: &Header,
+) -> Result<(), Stop>
+    requires reading { IsReading reader.old }
+    requires fresh { has_header packer.old ≡ false }
+    requires packing { IsPacking packer.old }
+    requires none { Pending packer.old [] }
+    requires short { text_weight (header_of header.now).source + text_weight (header_of header.now).url ≤ 12000000 }
+    ensures packed { OnOk result (Packed (header_of header.now) (fully_known (verdict F.remaining reader.old)) (D.taken packer.old.drain) (D.taken packer.new.drain)) }
+    ensures beginning { OnErr result (PacksFront (header_of header.now) (fully_known (verdict F.remaining reader.old)) (D.taken packer.old.drain) (D.taken packer.new.drain)) }
+    ensures stops { IfErr result (WriteStops (fully_known (verdict F.remaining reader.old)) (F.failures reader.old.feed) (F.failures reader.new.feed) (D.failures packer.old.drain) (D.failures packer.new.drain)) }
+    ensures carries { OnOk result ((b : List ℕ) → F.carries reader.old.feed b → F.carries reader.new.feed b) }
+    ensures end { OnOk result (IsAtEnd (F.remaining reader.new.feed)) }
+    ensures lender { F.lender reader.new.feed ≡ F.lender reader.old.feed }
+    ensures drain_lender { D.lender packer.new.drain ≡ D.lender packer.old.drain }
+{
+    packer.put_header(header)?;
+    'frames: while step_pack(alloc, reader, packer)? {}
+    packer.finish()?;
+    Ok(())
+}
+
+/// Writes a header and the entities of a whole file, and answers the digest of its bytes.
+fn pass_convert<F: Feed, D: Drain, S: BuildHasher + Drop>(
+    alloc: Global,
+    feed: &mut F,
+    drain: &mut D,
+    hasher: S,
+    header: &Header,
+) -> Result<[u8; 32], Stop>
+    requires { text_weight (header_of header.now).source + text_weight (header_of header.now).url ≤ 12000000 }
+    ensures packed { OnOk result (Packed (header_of header.now) (judged_file (F.remaining feed.old)) (D.taken drain.old) (D.taken drain.new)) }
+    ensures beginning { OnErr result (PacksFront (header_of header.now) (judged_file (F.remaining feed.old)) (D.taken drain.old) (D.taken drain.new)) }
+    ensures digest { IfOk result (λ digest. IfSome (F.remaining feed.old) (λ bytes. digest ≡ sha256 bytes)) }
+    ensures stops { IfErr result (WriteStops (judged_file (F.remaining feed.old)) (F.failures feed.old) (F.failures feed.new) (D.failures drain.old) (D.failures drain.new)) }
+{
+    let mut packer = Packer::new(alloc, &mut *drain, hasher);
+    let mut reader = FrameReader::new(alloc, Hashed::new(&mut *feed));
+    let outcome = pack_all(alloc, &mut reader, &mut packer, header);
+    let digest = reader.feed.digest();
+    // What is known of the devices comes back with the references themselves.
+    let _feed = reader.into_feed().into_inner();
+    let _drain = packer.into_drain();
+    outcome?;
+    Ok(digest)
+}
+
+/// The header that a pass took, if it can be written; a file without a fault has one.
+fn writable_header(pass: &Pass) -> Result<&Header, Stop>
+    ensures { (header : _) → HoldsHeader header pass.now → IsWritable header result }
+{
+    let Some(header) = &pass.header else {
+        return Err(Stop::Refused(Fault {
+            offset: 0,
+            reason: Reason::NoHeader,
+        }));
+    };
+    if text_length(&header.source) + text_length(&header.url) > MOST_TEXT {
+        return Err(Stop::Refused(Fault {
+            offset: pass.header_at,
+            reason: Reason::EntityLarge,
+        }));
+    }
+    Ok(header)
+}

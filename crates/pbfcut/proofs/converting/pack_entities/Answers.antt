@@ -1,14 +1,10 @@
-use Rattle.std.proofs.Common.{◌≡◌, [], ◌∷◌, ◌++◌, ◌∙◌, List, ℕ, arith, rules, refl, sym, ap, subst, append_assoc, append-nil}
+use Rattle.std.proofs.Common.{[], ◌∷◌, ◌++◌, ◌∙◌, List, arith, rules, refl, subst}
 use Rattle.std.specs.List.{AllByRecursion}
-use Rattle.std.proofs.lemmas.Result.{err_from_is_err_and}
 use Rattle.osm_entity.specs.Entity.{EntitySpec}
 use Rattle.osm_entity.specs.Ranges.{EntityFits}
 use Rattle.osm_entity.specs.Views.{entity_of}
-use Rattle.pbf_frame.specs.Devices.{IsFront}
-use Rattle.osm_pack.specs.Cuts.{written_entities}
-use Rattle.pbfcut.specs.Converting.{HasPacked}
 use Rattle.pbfcut.proofs.ShowingLemmas.{entities_more}
-use Rattle.pbfcut.proofs.ConvertingLemmas.{packed_push, begins_packed, begins_push, all_gone, split_here}
+use Rattle.pbfcut.proofs.ConvertingLemmas.{none_gone, one_gone, all_are_gone, stopped_here}
 use Rattle.pbfcut.proofs.converting.pack_entities.Goals as goal
 
 pub loop-entity-init : goal.loop-entity-init
@@ -18,7 +14,7 @@ loop-entity-init g c = record {
   gone = [];
   split = search rules;
   fits = search rules;
-  packed = λ start done h. subst (λ l. HasPacked start l _ _) (sym (append-nil done)) h;
+  packed = λ start done h. none_gone start done _ _ h;
   going = c.requires.packing;
   begun = c.requires.begun;
   drain_counts = search rules;
@@ -36,9 +32,7 @@ loop-entity-preserved g c =
       gone = so_far.gone ++ e ∷ [];
       split = entities_more so_far.gone _ _ _ e c.in-Some.ensures.steps so_far.split;
       fits = fits.1;
-      packed = λ start done h.
-        subst (λ l. HasPacked start l _ _) (append_assoc done so_far.gone (e ∷ []))
-        (packed_push start (done ++ so_far.gone) e _ _ _ _ (so_far.packed start done h) fits.0 c.in_ok-push.ensures.pending c.in_ok-push.ensures.written);
+      packed = λ start done h. one_gone start done so_far.gone e _ _ c.loop-entity.packer _ (so_far.packed start done h) fits.0 c.in_ok-push.ensures.pending c.in_ok-push.ensures.written;
       going = c.in_ok-push.ensures.packing.1;
       begun = c.push.ensures.header;
       drain_counts = omega (arith, so_far.drain_counts, c.push.ensures.counts);
@@ -46,14 +40,12 @@ loop-entity-preserved g c =
     }
 
 pub returns-in_err-push-clause-front : goal.returns-in_err-push-clause-front
-returns-in_err-push-clause-front g c = λ start done h rest.
+returns-in_err-push-clause-front g c = λ start done h.
     let so_far = c.loop-entity.invariant in
-    let e = entity_of c.in-Some.entity in
     let fits = subst (λ (l : List EntitySpec). AllByRecursion EntityFits l) c.in-Some.ensures.steps so_far.fits in
-    subst (λ (l : List EntitySpec). IsFront start _ (written_entities l)) (split_here done so_far.gone _ _ _ rest e c.in-Some.ensures.steps so_far.split)
-    (begins_push start (done ++ so_far.gone) e _ _ _ (so_far.packed start done h) fits.0 (c.in_err-push.ensures.front so_far.going) _)
+    stopped_here start done so_far.gone _ _ _ (entity_of c.in-Some.entity) _ _ c.loop-entity.packer c.in-Some.ensures.steps so_far.split (so_far.packed start done h) fits.0 (c.in_err-push.ensures.front so_far.going)
 
 pub returns-clause-front : goal.returns-clause-front
 returns-clause-front g c = λ start done h.
     let so_far = c.loop-entity.invariant in
-    begins_packed start _ _ _ (subst (λ l. HasPacked start (done ++ l) _ _) (all_gone so_far.gone _ _ c.in-None.ensures.steps so_far.split) (so_far.packed start done h))
+    all_are_gone start done so_far.gone _ _ _ c.loop-entity.packer (search rules) so_far.split (so_far.packed start done h)
