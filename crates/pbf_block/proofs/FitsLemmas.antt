@@ -1,17 +1,15 @@
 -- The entities of a payload without faults can be written again.
-use Rattle.std.proofs.Common.{◌≡◌, ◌⊎◌, inl, inr, ◌==◌, ◌&&◌, ◌||◌, ℕ, ◌≤◌, ◌^◌, ℤ, pos, negsuc, Bool, true, false, cond, eqb, List, [], ◌∷◌, length, map, refl, sym, ap, ◌∙◌, arith, rules}
-use Rattle.std.specs.Prelude.{◌≤ℤ◌, int_lt, Option, Some, None, filter_map, if◌then◌else◌}
+use Rattle.std.proofs.Common.{◌≡◌, inl, inr, ◌==◌, ◌&&◌, ◌||◌, ℕ, ◌≤◌, ◌^◌, ℤ, pos, Bool, true, false, List, [], ◌∷◌, length, map, refl, sym, ap, ◌∙◌, arith}
+use Rattle.std.specs.Prelude.{Option, Some, None, if◌then◌else◌}
 use Rattle.std.specs.Option.{option_map}
 use Rattle.std.specs.List.{flat_map, zip, last_or, cons_option, AllByRecursion}
-use Rattle.std.proofs.lemmas.Int.{ints}
-use Rattle.std.proofs.lemmas.Bool.{eqb-true, ltb-false}
+use Rattle.std.proofs.lemmas.Bool.{eqb-true}
 use Rattle.std.proofs.lemmas.Bool.Decides.{nat_tests}
 use Rattle.std.proofs.lemmas.List.{length-map}
 use Rattle.std.proofs.lemmas.List.FromFn.{length-map-range_with_len}
 use Rattle.std.proofs.lemmas.Slice.Zip.{length-zip}
 use Rattle.pbf_wire.specs.declared.fault.Fault.{Fault}
-use Rattle.pbf_wire.specs.declared.fault.Reason.{Reason}
-use Rattle.pbf_wire.specs.declared.fault.Reason.TheVariants.{Granularity, DateGranularity, EntityLarge, LocationColumns, OutOfRange}
+use Rattle.pbf_wire.specs.declared.fault.Reason.TheVariants.{LocationColumns, OutOfRange}
 use Rattle.pbf_wire.specs.declared.kind.Kind.{Kind}
 use Rattle.pbf_wire.specs.declared.kind.Kind.TheVariants as kind
 use Rattle.pbf_wire.specs.Occurrence.{Content, Number, Eight, Four, Bytes, Occurrence, items}
@@ -21,41 +19,32 @@ use Rattle.pbf_wire.specs.Reading.{last_of, number_in, numbers, last_number}
 use Rattle.pbf_wire.specs.Signed.{IsWithin, is_within, unzigzag, low_i32, low_i64}
 use Rattle.pbf_wire.specs.Sums.{sum_at}
 use Rattle.pbf_wire.specs.Faults.{inside, entered, fields_in, fields_of, embedded, leaf_faults, column_count, sum_faults, range_fault, value_in, of_value, in_last}
-use Rattle.pbf_wire.proofs.MessageLemmas.{all_append}
 use Rattle.pbf_wire.proofs.SumLemmas.{small_zero, within_is}
-use Rattle.pbf_wire.proofs.SoundLemmas.{both_nil, all_nil, not_wrong, is_right, sums_within_limit, count_is_length, fields_sound, IsSound, last_holds}
+use Rattle.pbf_wire.proofs.SoundLemmas.{both_nil, all_nil, is_right, sums_within_limit, count_is_length, fields_sound, IsSound, last_holds}
 use Rattle.osm_entity.specs.declared.scale.Scale.{Scale}
-use Rattle.osm_entity.specs.declared.weight.TheConstants.{HIGHEST_WEIGHT}
 use Rattle.osm_entity.specs.Scale.{ScaleFits}
 use Rattle.osm_entity.specs.Entity.{EntitySpec, node, way, relation}
 use Rattle.osm_entity.specs.Ranges.{IsStored, IsUid, IfPresent, MetaFits, LocationFits, MemberFits, AreLocated, EntityFits}
 use Rattle.osm_entity.specs.Sources.{column_members}
 use Rattle.osm_entity.specs.Weight.{entity_weight}
-use Rattle.pbf_dense.specs.Judged.{dense_wire, dense_structure, dense_values}
-use Rattle.pbf_dense.proofs.FitsLemmas.{nodes_fit}
-use Rattle.pbf_block.specs.declared.message.TheConstants.{PRIMITIVEGROUP, GRANULARITY, DATE_GRANULARITY, BLOCK_KINDS, GROUP_KINDS, NODES, DENSE, WAYS, RELATIONS, NODE_KINDS, WAY_KINDS, RELATION_KINDS, INFO_KINDS, ID, INFO, NODE_LAT, NODE_LON, REFS, WAY_LAT, WAY_LON, MEMIDS, TYPES, ROLES_SID, TIMESTAMP, CHANGESET, UID, USER_SID}
+use Rattle.pbf_block.specs.declared.message.TheConstants.{NODE_KINDS, WAY_KINDS, RELATION_KINDS, INFO_KINDS, ID, INFO, NODE_LAT, NODE_LON, REFS, WAY_LAT, WAY_LON, MEMIDS, TYPES, ROLES_SID, TIMESTAMP, CHANGESET, UID, USER_SID}
 use Rattle.pbf_block.specs.Info.{info_in}
-use Rattle.pbf_block.specs.Members.{signed_in, wide_in, values_in, node_in, way_in, relation_in, message_entities, member_entities, group_entities, entities_by}
-use Rattle.pbf_block.specs.Payload.{by_index, entities}
-use Rattle.pbf_block.specs.Scale.{read_or, scale_of, table_of}
-use Rattle.pbf_block.specs.Judgement.{payload_values, payload_weights, block_fault}
-use Rattle.pbf_block.specs.WireFaults.{node_wire, way_wire, relation_wire, member_wire, group_wire, part_wire, wire_faults}
-use Rattle.pbf_block.specs.StructureFaults.{are_located, entity_structure, node_structure, way_structure, relation_structure, member_structure, group_structure, part_structure, structure_faults}
-use Rattle.pbf_block.specs.ValueFaults.{stored_limit, signed_range, wide_range, uid_range, user_range, positive, info_values, entity_values, node_values, way_values, relation_values, member_values, group_values, value_faults}
-use Rattle.pbf_block.specs.Weights.{weight_fault, member_weights, group_weights, weight_faults}
+use Rattle.pbf_block.specs.Members.{signed_in, wide_in, values_in, node_in, way_in, relation_in}
+use Rattle.pbf_block.specs.Payload.{by_index}
+use Rattle.pbf_block.specs.Scale.{read_or}
+use Rattle.pbf_block.specs.WireFaults.{node_wire, way_wire, relation_wire}
+use Rattle.pbf_block.specs.StructureFaults.{are_located, entity_structure, way_structure}
+use Rattle.pbf_block.specs.ValueFaults.{stored_limit, signed_range, wide_range, uid_range, user_range, info_values, entity_values, node_values, way_values, relation_values}
 use Rattle.pbf_block.proofs.SlotLemmas.{IfSome}
-use Rattle.pbf_block.proofs.EntityLaw.{all_such}
 use Rattle.pbf_block.proofs.ValueLemmas.{later_value, last_is}
 use Rattle.pbf_block.proofs.ReadsLemmas.{entered_nil}
-use Rattle.pbf_block.proofs.TableLemmas.{table_few}
-use Rattle.pbf_block.proofs.PhaseLemmas.{no_fault}
 
 -- ---- the last number of a field
 
 abbrev IsNumber : ℕ → Occurrence → Type 0
 IsNumber k o = o.number ≡ k → reason_in (Some kind.Number) o.content ≡ None
 
-are_numbers : (kinds : List (ℕ × Kind)) (inner : Occurrence → List Fault) (k : ℕ) (os : List Occurrence) → kind_of kinds k ≡ Some kind.Number → AllByRecursion (IsSound kinds inner) os → AllByRecursion (IsNumber k) os
+pub are_numbers : (kinds : List (ℕ × Kind)) (inner : Occurrence → List Fault) (k : ℕ) (os : List Occurrence) → kind_of kinds k ≡ Some kind.Number → AllByRecursion (IsSound kinds inner) os → AllByRecursion (IsNumber k) os
 are_numbers kinds inner k [] known h = tt
 are_numbers kinds inner k (o ∷ os) known h =
     (λ same. ap (λ (t : Option Kind). reason_in t o.content) (sym known ∙ ap (kind_of kinds) (sym same)) ∙ h.0.0, are_numbers kinds inner k os known h.1)
@@ -80,7 +69,7 @@ module _ (k : ℕ) (f : ℕ → ℕ → List Fault) (P : ℕ → Type 0) (clean 
   holds_after (o ∷ os) before all e = content_holds (o.number == k) o.place o.content before os (λ t. all.0 (eqb-true o.number k t)) e (λ before e. holds_after os before all.1 e)
 
   -- what a number without a fault shows holds of the last
-  number_holds : (os : List Occurrence) → AllByRecursion (IsNumber k) os → in_last k f os ≡ [] → IfSome P (last_number k os)
+  pub number_holds : (os : List Occurrence) → AllByRecursion (IsNumber k) os → in_last k f os ≡ [] → IfSome P (last_number k os)
   number_holds os all e = holds_after os None all (ap (of_value f) (last_is k os) ∙ e)
 
 in_range : (limit : ℤ) (place : ℕ) (z : ℤ) → range_fault limit place z ≡ [] → IsWithin limit z
@@ -90,7 +79,7 @@ if_present : (P : ℤ → Type 0) (read : ℕ → ℤ) (o : Option ℕ) → IfSo
 if_present P read None h = tt
 if_present P read (Some v) h = h
 
-or_else : (P : ℤ → Type 0) (otherwise : ℤ) (read : ℕ → ℤ) (o : Option ℕ) → P otherwise → IfSome (λ v. P (read v)) o → P (read_or otherwise read o)
+pub or_else : (P : ℤ → Type 0) (otherwise : ℤ) (read : ℕ → ℤ) (o : Option ℕ) → P otherwise → IfSome (λ v. P (read v)) o → P (read_or otherwise read o)
 or_else P otherwise read None d h = d
 or_else P otherwise read (Some v) d h = h
 
@@ -163,15 +152,15 @@ values_fit k os e = sums_within_limit stored_limit OutOfRange false (joined k os
 
 -- ---- entities, where they are light
 
-abbrev IsLight : EntitySpec → Type 0
+abbrev pub IsLight : EntitySpec → Type 0
 IsLight e = entity_weight e ≤ 12000000
 
 -- an entity that is light can be written
-abbrev FitsLight : EntitySpec → Type 0
+abbrev pub FitsLight : EntitySpec → Type 0
 FitsLight e = IsLight e → EntityFits e
 
 module _ (limit : ℕ) (table : List (List ℕ)) (scale : Scale) (scaled : ScaleFits scale) where
-  node_fits : (place at : ℕ) (m : List ℕ) → node_wire place at m ≡ [] → node_values limit place at m ≡ [] → FitsLight (node (node_in table scale (fields_in at m)))
+  pub node_fits : (place at : ℕ) (m : List ℕ) → node_wire place at m ≡ [] → node_values limit place at m ≡ [] → FitsLight (node (node_in table scale (fields_in at m)))
   unfolding node_in
   node_fits place at m w v light =
       let os = fields_in at m in
@@ -188,7 +177,7 @@ module _ (limit : ℕ) (table : List (List ℕ)) (scale : Scale) (scaled : Scale
   wide_fits kinds inner os known sound e =
       or_else IsStored (pos 0) low_i64 _ small_zero (number_holds ID wide_range (λ v. IsStored (low_i64 v)) (λ place v e. in_range stored_limit place (low_i64 v) e) os (are_numbers kinds inner ID os known sound) e)
 
-  way_fits : (place at : ℕ) (m : List ℕ) → way_wire place at m ≡ [] → way_structure place at m ≡ [] → way_values limit place at m ≡ [] → FitsLight (way (way_in by_index table scale (fields_in at m)))
+  pub way_fits : (place at : ℕ) (m : List ℕ) → way_wire place at m ≡ [] → way_structure place at m ≡ [] → way_values limit place at m ≡ [] → FitsLight (way (way_in by_index table scale (fields_in at m)))
   unfolding way_in
   way_fits place at m w s v light =
       let os = fields_in at m in
@@ -210,7 +199,7 @@ module _ (limit : ℕ) (table : List (List ℕ)) (scale : Scale) (scaled : Scale
         light = light;
       }
 
-  relation_fits : (place at : ℕ) (m : List ℕ) → relation_wire place at m ≡ [] → relation_values limit place at m ≡ [] → FitsLight (relation (relation_in by_index table scale (fields_in at m)))
+  pub relation_fits : (place at : ℕ) (m : List ℕ) → relation_wire place at m ≡ [] → relation_values limit place at m ≡ [] → FitsLight (relation (relation_in by_index table scale (fields_in at m)))
   unfolding relation_in
   relation_fits place at m w v light =
       let os = fields_in at m in
