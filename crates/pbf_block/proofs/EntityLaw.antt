@@ -74,6 +74,10 @@ pub all_such : {X : Type 0} (P Q : X → Type 0) → ((x : X) → P x → Q x) �
 all_such P Q each [] h = tt
 all_such P Q each (x ∷ xs) h = (each x h.0, all_such P Q each xs h.1)
 
+pub map_of_all : {X Y : Type 0} (P : Y → Type 0) (f : X → Y) (xs : List X) → AllByRecursion (λ x. P (f x)) xs → AllByRecursion P (map f xs)
+map_of_all P f [] h = tt
+map_of_all P f (x ∷ xs) h = (h.0, map_of_all P f xs h.1)
+
 abbrev pub AreAmong : List (List ℕ) → List (List ℕ) → Type 0
 AreAmong texts used = AllByRecursion (IsAmong texts) used
 

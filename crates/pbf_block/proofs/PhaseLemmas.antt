@@ -32,15 +32,15 @@ pub first_late : (r : Option Fault) (at : ℕ) (m : List ℕ) → wire_faults at
 unfolding block_fault
 first_late r at m w s e = ap₂ (λ w s. option_or (least w) (option_or (least s) (option_or (least (payload_values at m)) (least (payload_weights at m))))) w s ∙ sym e
 
-no_later : (w s v x : List Fault) → option_or (least w) (option_or (least s) (option_or (least v) (least x))) ≡ None → (w ≡ []) × (s ≡ []) × (v ≡ [])
+no_later : (w s v x : List Fault) → option_or (least w) (option_or (least s) (option_or (least v) (least x))) ≡ None → (w ≡ []) × (s ≡ []) × (v ≡ []) × (x ≡ [])
 no_later w s v x e =
     let one = both_none (least w) _ e in
     let two = both_none (least s) _ one.1 in
     let three = both_none (least v) _ two.1 in
-    (no_least w one.0, no_least s two.0, no_least v three.0)
+    (no_least w one.0, no_least s two.0, no_least v three.0, no_least x three.1)
 
 -- no fault is no fault of any phase
-pub no_fault : (at : ℕ) (m : List ℕ) → block_fault at m ≡ None → (wire_faults at m ≡ []) × (structure_faults at m ≡ []) × (payload_values at m ≡ [])
+pub no_fault : (at : ℕ) (m : List ℕ) → block_fault at m ≡ None → (wire_faults at m ≡ []) × (structure_faults at m ≡ []) × (payload_values at m ≡ []) × (payload_weights at m ≡ [])
 unfolding block_fault
 no_fault at m e = no_later (wire_faults at m) (structure_faults at m) (payload_values at m) (payload_weights at m) e
 

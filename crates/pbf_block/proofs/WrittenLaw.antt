@@ -25,7 +25,7 @@ use Rattle.pbf_block.specs.declared.message.TheConstants.{DENSE}
 use Rattle.pbf_block.specs.Judgement.{block_fault}
 use Rattle.pbf_block.specs.Payload.{entities}
 use Rattle.pbf_block.specs.WrittenBlock.{same_scale, both, same_fields, are_alike, all_alike, is_block, scale_among, texts_of_all, group_message, block_slots, block_message}
-use Rattle.pbf_block.proofs.EntityLaw.{all_such, AreAmong}
+use Rattle.pbf_block.proofs.EntityLaw.{all_such, AreAmong, map_of_all}
 use Rattle.pbf_block.proofs.GroupLaw.{GroupGood}
 use Rattle.pbf_block.proofs.NodesLaw.{group_of_nodes, nodes_good}
 use Rattle.pbf_block.proofs.EachLaw.{WayHeld, ways_good, RelationHeld, relations_good}
@@ -98,10 +98,6 @@ fields_same m n e =
 all_of_map : {X Y : Type 0} (P : Y → Type 0) (f : X → Y) (xs : List X) → AllByRecursion P (map f xs) → AllByRecursion (λ x. P (f x)) xs
 all_of_map P f [] h = tt
 all_of_map P f (x ∷ xs) h = (h.0, all_of_map P f xs h.1)
-
-map_of_all : {X Y : Type 0} (P : Y → Type 0) (f : X → Y) (xs : List X) → AllByRecursion (λ x. P (f x)) xs → AllByRecursion P (map f xs)
-map_of_all P f [] h = tt
-map_of_all P f (x ∷ xs) h = (h.0, map_of_all P f xs h.1)
 
 alike_fields : (m : MetaSpec) (metas : List MetaSpec) → AllByRecursion (SameFields m) metas → AreAlike (m ∷ metas)
 alike_fields m metas h = record {

@@ -13,3 +13,4 @@ pub mod MetaLaw
 pub mod InfoLaw
 pub mod DenseLaw
 pub mod NodesLaw
+pub mod FitsLemmas

@@ -96,7 +96,7 @@ wire_anywhere place at m = refl
 
 -- ---- the whole message
 
-dense_reads : (table : List (List ℕ)) (at : ℕ) (m : List ℕ) → IsSound table at m → DenseReads (fields_in at m)
+pub dense_reads : (table : List (List ℕ)) (at : ℕ) (m : List ℕ) → IsSound table at m → DenseReads (fields_in at m)
 unfolding dense_structure dense_values
 dense_reads table at m h =
     let os = fields_in at m in
