@@ -83,6 +83,7 @@ day_follows t d is before = in_month (nat_lt d.day (days_in_month (pos d.year) d
       let month = december t d is e in
       let next = next_year t month (last_of_december t month (past t d is last)) before in
       (next.0, next.1, (next.2 ∙ ap (λ (y : ℤ). y +ℤ pos 1) is.0, next.3, next.4))
+
   in_month : (b : Bool) → nat_lt d.day (days_in_month (pos d.year) d.month) ≡ b
       → DayAfter t (if b then record { year = d.year; month = d.month; day = d.day + 1 } else (if nat_lt d.month 12 then record { year = d.year; month = d.month + 1; day = 1 } else record { year = d.year + 1; month = 1; day = 1 }))
   in_month true e =

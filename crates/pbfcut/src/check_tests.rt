@@ -7,7 +7,7 @@ use pbf_wire::{Fault, Reason};
 use std::process::Abort;
 use std::test::Fail;
 
-fn counts(nodes: u64, ways: u64, relations: u64) -> Result<Counts, Stop> {
+pub(crate) fn counts(nodes: u64, ways: u64, relations: u64) -> Result<Counts, Stop> {
     Ok(Counts {
         nodes,
         ways,

@@ -37,7 +37,7 @@ impl Counts {
     }
 
     /// Counts one entity more.
-    fn take(&mut self, entity: &EntityRef<'_>)
+    pub(crate) fn take(&mut self, entity: &EntityRef<'_>)
         ensures { self.new ≡ count_one self.old (entity_of entity.now) }
     {
         match entity {
@@ -48,7 +48,7 @@ impl Counts {
     }
 
     /// Counts what the other counts.
-    fn add(&mut self, other: Counts)
+    pub(crate) fn add(&mut self, other: Counts)
         ensures { self.new ≡ counted_with self.old other }
     {
         self.nodes = self.nodes.saturating_add(other.nodes);

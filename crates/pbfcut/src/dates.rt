@@ -5,9 +5,8 @@ ghost use Rattle.pbfcut.specs.Dates.{day_number, two_digits, three_digits, four_
 ghost use Rattle.jiff.specs.Words.{epoch_day};
 
 use crate::number::put_signed;
-use jiff::ToSpan;
-use jiff::civil;
 use jiff::civil::Date;
+use jiff::{ToSpan, civil};
 use std::alloc::AllocError;
 
 /// The last millisecond that is printed as a date: the last one of the year 2099.

@@ -29,11 +29,7 @@ fn put_number_part(out: &mut Vec<u8>, mark: u8, number: Option<i64>) -> Result<(
 }
 
 /// Appends a space, `t` and a time, where there is one.
-fn put_time_part(
-    out: &mut Vec<u8>,
-    millis: Option<i128>,
-    dates: bool,
-) -> Result<(), AllocError>
+fn put_time_part(out: &mut Vec<u8>, millis: Option<i128>, dates: bool) -> Result<(), AllocError>
     ensures { OnOk result (out.new.items ≡ out.old.items ++ time_part dates millis) }
 {
     if let Some(millis) = millis {

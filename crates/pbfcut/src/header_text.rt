@@ -33,11 +33,7 @@ fn put_text_lines(out: &mut Vec<u8>, word: &[u8], texts: &[Vec<u8>]) -> Result<(
 }
 
 /// Appends the line of a text, where there is one.
-fn put_maybe_text(
-    out: &mut Vec<u8>,
-    word: &[u8],
-    text: &Option<Vec<u8>>,
-) -> Result<(), AllocError>
+fn put_maybe_text(out: &mut Vec<u8>, word: &[u8], text: &Option<Vec<u8>>) -> Result<(), AllocError>
     ensures { OnOk result (out.new.items ≡ out.old.items ++ maybe_text_line word.now (option_map text_of text.now)) }
 {
     if let Some(text) = text {
@@ -47,11 +43,7 @@ fn put_maybe_text(
 }
 
 /// Appends the line of a number, where there is one.
-fn put_maybe_number(
-    out: &mut Vec<u8>,
-    word: &[u8],
-    number: Option<i64>,
-) -> Result<(), AllocError>
+fn put_maybe_number(out: &mut Vec<u8>, word: &[u8], number: Option<i64>) -> Result<(), AllocError>
     ensures { OnOk result (out.new.items ≡ out.old.items ++ maybe_number_line word.now number) }
 {
     if let Some(number) = number {

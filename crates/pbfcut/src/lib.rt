@@ -13,6 +13,8 @@ mod header_text;
 mod number;
 mod passes;
 mod quoted;
+#[cfg(test)]
+mod show_tests;
 mod showing;
 mod steps;
 #[cfg(test)]

@@ -34,7 +34,11 @@ pub(crate) fn put_spaced(out: &mut Vec<u8>, number: i128) -> Result<(), AllocErr
 }
 
 /// Appends two signed numbers, each behind a space.
-pub(crate) fn put_spaced_pair(out: &mut Vec<u8>, first: i128, second: i128) -> Result<(), AllocError>
+pub(crate) fn put_spaced_pair(
+    out: &mut Vec<u8>,
+    first: i128,
+    second: i128,
+) -> Result<(), AllocError>
     ensures { OnOk result (out.new.items ≡ out.old.items ++ spaced_pair first second) }
 {
     put_spaced(out, first)?;

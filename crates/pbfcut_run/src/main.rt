@@ -142,7 +142,9 @@ fn work(rt: &HostRuntime) -> Result<(), Ending> {
     let words = words(rt)?;
     match words.as_slice() {
         [command, input] if command.as_str() == "blobs" => blobs(rt, input.as_str()),
-        [command, input] if command.as_str() == "show" => show_file(rt, input.as_str(), false),
+        [command, input] if command.as_str() == "show" && input.as_str() != "--dates" => {
+            show_file(rt, input.as_str(), false)
+        }
         [command, option, input] if command.as_str() == "show" && option.as_str() == "--dates" => {
             show_file(rt, input.as_str(), true)
         }
