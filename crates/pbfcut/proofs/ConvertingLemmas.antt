@@ -72,9 +72,8 @@ module _ {D S H : Type 0} where
   one_gone start done gone e before now old new h fits p t =
       subst (λ (l : List EntitySpec). HasPacked start l now new) (append_assoc done gone (e ∷ [])) (packed_push start (done ++ gone) e before now old new h fits p t)
 
-  pub all_are_gone : (start : Option (List ℕ)) (done gone left all : List EntitySpec) (taken : Option (List ℕ)) (packer : Packing D S H) → left ≡ [] → gone ++ left ≡ all → HasPacked start (done ++ gone) taken packer → BeginsAll start (done ++ all) taken
-  all_are_gone start done gone left all taken packer is split h =
-      begins_packed start (done ++ all) taken packer (subst (λ (l : List EntitySpec). HasPacked start (done ++ l) taken packer) (all_gone gone left all is split) h)
+  pub all_are_gone : (start : Option (List ℕ)) (done gone left all : List EntitySpec) (taken : Option (List ℕ)) (packer : Packing D S H) → left ≡ [] → gone ++ left ≡ all → HasPacked start (done ++ gone) taken packer → HasPacked start (done ++ all) taken packer
+  all_are_gone start done gone left all taken packer is split h = subst (λ (l : List EntitySpec). HasPacked start (done ++ l) taken packer) (all_gone gone left all is split) h
 
   pub stopped_here : (start : Option (List ℕ)) (done gone left later all : List EntitySpec) (e : EntitySpec) (before now : Option (List ℕ)) (packer : Packing D S H) → left ≡ e ∷ later → gone ++ left ≡ all
       → HasPacked start (done ++ gone) before packer → EntityFits e → ((es : List EntitySpec) → Pending packer es → IsFront before now (then_written es e)) → BeginsAll start (done ++ all) now

@@ -75,23 +75,30 @@ pub record HasPacked {D S H : Type 0} (start : Option (List ℕ)) (done : List E
 abbrev pub BeginsAll : Option (List ℕ) → List EntitySpec → Option (List ℕ) → Type 0
 BeginsAll start done taken = (rest : List EntitySpec) → IsFront start taken (written_entities (done ++ rest))
 
--- of a payload with a fault nothing went out, else a beginning of what is written for its entities too
-abbrev pub StoppedInBlock : Option Fault → List EntitySpec → Option (List ℕ) → List EntitySpec → Option (List ℕ) → Type 0
-StoppedInBlock fault es start done taken = BeginsAll start done taken ⊎ ((fault ≡ None) × BeginsAll start (done ++ es) taken)
+-- these entities were packed behind those that were
+pub record Packs {D S H : Type 0} (before now : Option (List ℕ)) (old new : Packing D S H) (es : List EntitySpec) : Type 0 where
+  pub packed : (start : Option (List ℕ)) (done : List EntitySpec) → HasPacked start done before old → HasPacked start (done ++ es) now new
+
+-- of these entities, behind those that were, a beginning went out
+pub record Begins {D S H : Type 0} (before now : Option (List ℕ)) (old : Packing D S H) (es : List EntitySpec) : Type 0 where
+  pub begun : (start : Option (List ℕ)) (done : List EntitySpec) → HasPacked start done before old → BeginsAll start (done ++ es) now
+
+-- of a payload with a fault nothing went out, else a beginning of its entities
+abbrev pub StoppedInBlock : {D S H : Type 0} → Option Fault → List EntitySpec → Option (List ℕ) → Option (List ℕ) → Packing D S H → Type 0
+StoppedInBlock fault es before now old = (now ≡ before) ⊎ ((fault ≡ None) × Begins before now old es)
 
 -- ---- one frame
 
 -- the next frame has no fault, and its entities were packed; or there was none
-abbrev pub TookEntities : {D S H : Type 0} → Option Verdict → Option Verdict → Option (List ℕ) → List EntitySpec → Option (List ℕ) → Packing D S H → Bool → Type 0
-TookEntities old_verdict verdict start done taken packer true =
-    (f : FrameSpec) × (old_verdict ≡ with_first_known f verdict) × (payload_fault f ≡ None) × HasPacked start (done ++ frame_entities f) taken packer
-TookEntities old_verdict verdict start done taken packer false = Says old_verdict ([], None) × HasPacked start done taken packer
+abbrev pub TookEntities : {D S H : Type 0} → Option Verdict → Option Verdict → Option (List ℕ) → Option (List ℕ) → Packing D S H → Packing D S H → Bool → Type 0
+TookEntities old_verdict verdict before now old new true =
+    (f : FrameSpec) × (old_verdict ≡ with_first_known f verdict) × (payload_fault f ≡ None) × Packs before now old new (frame_entities f)
+TookEntities old_verdict verdict before now old new false = Says old_verdict ([], None) × (now ≡ before) × (new ≡ old)
 
--- of the next frame nothing went out; or it has no fault, and a beginning of what is written for its entities too
-abbrev pub StoppedPacking : Option Verdict → Option (List ℕ) → List EntitySpec → Option (List ℕ) → Type 0
-StoppedPacking known start done taken =
-    BeginsAll start done taken
-    ⊎ ((f : FrameSpec) × (rest : Option Verdict) × (known ≡ with_first_known f rest) × (payload_fault f ≡ None) × BeginsAll start (done ++ frame_entities f) taken)
+-- of the next frame nothing went out; or it has no fault, and a beginning of its entities
+abbrev pub StoppedPacking : {D S H : Type 0} → Option Verdict → Option (List ℕ) → Option (List ℕ) → Packing D S H → Type 0
+StoppedPacking known before now old =
+    (now ≡ before) ⊎ ((f : FrameSpec) × (rest : Option Verdict) × (known ≡ with_first_known f rest) × (payload_fault f ≡ None) × Begins before now old (frame_entities f))
 
 -- ---- the pass that writes
 

@@ -1,14 +1,15 @@
 //! `convert`: all entities, in canonical form.
 
-ghost use Rattle.std.specs.Prelude.{false, true, ◌≡◌, ◌<◌, ◌≤◌, ◌+◌, ◌^◌, ◌++◌, ◌⊎◌, ℕ, List, Some, None, IsTrue, IfOk, IfErr, IfSome, OnOk, OnErr, nat_le, length};
+ghost use Rattle.std.specs.Prelude.{false, true, [], Err, ◌≡◌, ◌<◌, ◌≤◌, ◌+◌, ◌^◌, ◌++◌, ◌⊎◌, ℕ, List, Some, None, IsTrue, IfOk, IfErr, IfSome, OnOk, OnErr, nat_le, length};
 ghost use Rattle.std.specs.List.{AllByRecursion};
 ghost use Rattle.std.specs.Option.{option_map};
 ghost use Rattle.sha2.specs.Sha256.{sha256};
-ghost use Rattle.osm_entity.specs.Entity.{EntitySpec};
+ghost use Rattle.pbf_wire.specs.declared.fault.Fault.{Fault};
+ghost use Rattle.pbf_wire.specs.declared.fault.ReadFault.TheVariants.{Refused};
 ghost use Rattle.osm_entity.specs.Ranges.{EntityFits};
 ghost use Rattle.osm_entity.specs.Weight.{text_weight};
 ghost use Rattle.pbf_block.specs.Cursors.{entities_left};
-ghost use Rattle.pbf_block.specs.Header.{header_of};
+ghost use Rattle.pbf_block.specs.Header.{header_of, text_of};
 ghost use Rattle.pbf_frame.specs.declared.frame.FrameKind.TheVariants as kind;
 ghost use Rattle.pbf_frame.specs.Devices.{IsAtEnd, IsFront, HasRisen, append};
 ghost use Rattle.pbf_frame.specs.Next.{IsReading, place_of, verdict};
@@ -16,14 +17,19 @@ ghost use Rattle.osm_pack.specs.Packing.{IsPacking, has_header, Pending};
 ghost use Rattle.osm_pack.specs.Cuts.{written_file};
 ghost use Rattle.pbfcut.specs.Counting.{entities_of};
 ghost use Rattle.pbfcut.specs.Judged.{payload_fault_of, fully_known, judged_file};
-ghost use Rattle.pbfcut.specs.Converting.{is_short, HasPacked, BeginsAll, StoppedInBlock, TookEntities, StoppedPacking, Packed, PacksFront, Converted, judged_writable, answer_bytes};
+ghost use Rattle.pbfcut.specs.Converting.{is_short, Packs, Begins, StoppedInBlock, TookEntities, StoppedPacking, Packed, PacksFront};
 ghost use Rattle.pbfcut.specs.Showing.{PayloadStops, TextStops, WriteStops, ShowStops};
 
+use crate::hashed::Hashed;
 use osm_pack::Packer;
 use pbf_block::{Block, Entities, Header};
 use pbf_frame::{Drain, Feed, Frame, FrameKind, FrameReader, Stop};
+use pbf_wire::ReadFault;
 use std::alloc::Global;
 use std::hash::BuildHasher;
+
+/// The most bytes that the source and the base URL of a header that is written have together.
+const MOST_HEADER_TEXT: u64 = 12_000_000;
 
 /// Packs entities, one by one.
 fn pack_entities<D: Drain, S: BuildHasher>(
@@ -33,8 +39,8 @@ fn pack_entities<D: Drain, S: BuildHasher>(
     requires begun { has_header packer.old ≡ true }
     requires packing { IsPacking packer.old }
     requires fits { AllByRecursion EntityFits (entities_left entities) }
-    ensures packed { (start : _) (done : List EntitySpec) → HasPacked start done (D.taken packer.old.drain) packer.old → OnOk result (HasPacked start (done ++ entities_left entities.entry) (D.taken packer.new.drain) packer.new) }
-    ensures front { (start : _) (done : List EntitySpec) → HasPacked start done (D.taken packer.old.drain) packer.old → BeginsAll start (done ++ entities_left entities.entry) (D.taken packer.new.drain) }
+    ensures packed { OnOk result (Packs (D.taken packer.old.drain) (D.taken packer.new.drain) packer.old packer.new (entities_left entities.entry)) }
+    ensures front { OnErr result (Begins (D.taken packer.old.drain) (D.taken packer.new.drain) packer.old (entities_left entities.entry)) }
     ensures stops { IfErr result (PayloadStops None (D.failures packer.old.drain) (D.failures packer.new.drain)) }
     ensures going { OnOk result (IsPacking packer.new) }
     ensures header { has_header packer.new ≡ true }
@@ -58,10 +64,9 @@ fn pack_block<D: Drain, S: BuildHasher>(
     requires short { length payload.now < 33554432 }
     requires begun { has_header packer.old ≡ true }
     requires packing { IsPacking packer.old }
-    ensures packed { (start : _) (done : List EntitySpec) → HasPacked start done (D.taken packer.old.drain) packer.old → OnOk result (HasPacked start (done ++ entities_of kind.Data at payload.now) (D.taken packer.new.drain) packer.new) }
+    ensures packed { OnOk result (Packs (D.taken packer.old.drain) (D.taken packer.new.drain) packer.old packer.new (entities_of kind.Data at payload.now)) }
     ensures sound { OnOk result (payload_fault_of kind.Data at payload.now ≡ None) }
-    ensures stopped { (start : _) (done : List EntitySpec) → HasPacked start done (D.taken packer.old.drain) packer.old
-        → OnErr result (StoppedInBlock (payload_fault_of kind.Data at payload.now) (entities_of kind.Data at payload.now) start done (D.taken packer.new.drain)) }
+    ensures stopped { OnErr result (StoppedInBlock (payload_fault_of kind.Data at payload.now) (entities_of kind.Data at payload.now) (D.taken packer.old.drain) (D.taken packer.new.drain) packer.old) }
     ensures stops { IfErr result (PayloadStops (payload_fault_of kind.Data at payload.now) (D.failures packer.old.drain) (D.failures packer.new.drain)) }
     ensures going { OnOk result (IsPacking packer.new) }
     ensures header { has_header packer.new ≡ true }
@@ -73,6 +78,16 @@ fn pack_block<D: Drain, S: BuildHasher>(
     Ok(())
 }
 
+/// Judges a HeaderBlock whose first byte stands at `at` in the file.
+fn judge_header(alloc: Global, payload: &[u8], at: u64) -> Result<(), ReadFault>
+    requires { at + length payload.now ≤ 2 ^ 63 }
+    ensures sound { OnOk result (payload_fault_of kind.Header at payload.now ≡ None) }
+    ensures refused { (fault : Fault) → result ≡ Err (Refused fault) → payload_fault_of kind.Header at payload.now ≡ Some fault }
+{
+    Header::read(alloc, payload, at)?;
+    Ok(())
+}
+
 /// Judges the payload of a frame, and packs its entities.
 fn pack_payload<D: Drain, S: BuildHasher>(
     alloc: Global,
@@ -81,10 +96,9 @@ fn pack_payload<D: Drain, S: BuildHasher>(
 ) -> Result<(), Stop>
     requires begun { has_header packer.old ≡ true }
     requires packing { IsPacking packer.old }
-    ensures packed { (start : _) (done : List EntitySpec) → HasPacked start done (D.taken packer.old.drain) packer.old → OnOk result (HasPacked start (done ++ entities_of frame.now.kind frame.now.payload_at frame.now.payload.now) (D.taken packer.new.drain) packer.new) }
+    ensures packed { OnOk result (Packs (D.taken packer.old.drain) (D.taken packer.new.drain) packer.old packer.new (entities_of frame.now.kind frame.now.payload_at frame.now.payload.now)) }
     ensures sound { OnOk result (payload_fault_of frame.now.kind frame.now.payload_at frame.now.payload.now ≡ None) }
-    ensures stopped { (start : _) (done : List EntitySpec) → HasPacked start done (D.taken packer.old.drain) packer.old
-        → OnErr result (StoppedInBlock (payload_fault_of frame.now.kind frame.now.payload_at frame.now.payload.now) (entities_of frame.now.kind frame.now.payload_at frame.now.payload.now) start done (D.taken packer.new.drain)) }
+    ensures stopped { OnErr result (StoppedInBlock (payload_fault_of frame.now.kind frame.now.payload_at frame.now.payload.now) (entities_of frame.now.kind frame.now.payload_at frame.now.payload.now) (D.taken packer.old.drain) (D.taken packer.new.drain) packer.old) }
     ensures stops { IfErr result (PayloadStops (payload_fault_of frame.now.kind frame.now.payload_at frame.now.payload.now) (D.failures packer.old.drain) (D.failures packer.new.drain)) }
     ensures going { OnOk result (IsPacking packer.new) }
     ensures header { has_header packer.new ≡ true }
@@ -92,9 +106,7 @@ fn pack_payload<D: Drain, S: BuildHasher>(
     ensures drain_lender { D.lender packer.new.drain ≡ D.lender packer.old.drain }
 {
     match frame.kind {
-        FrameKind::Header => {
-            Header::read(alloc, frame.payload, frame.payload_at)?;
-        }
+        FrameKind::Header => judge_header(alloc, frame.payload, frame.payload_at)?,
         FrameKind::Data => pack_block(alloc, frame.payload, frame.payload_at, packer)?,
         FrameKind::Other => {}
     }
@@ -110,10 +122,8 @@ fn step_pack<F: Feed, D: Drain, S: BuildHasher>(
     requires reading { IsReading reader.old }
     requires begun { has_header packer.old ≡ true }
     requires packing { IsPacking packer.old }
-    ensures took { (start : _) (done : List EntitySpec) → HasPacked start done (D.taken packer.old.drain) packer.old
-        → IfOk result (TookEntities (verdict F.remaining reader.old) (verdict F.remaining reader.new) start done (D.taken packer.new.drain) packer.new) }
-    ensures stopped { (start : _) (done : List EntitySpec) → HasPacked start done (D.taken packer.old.drain) packer.old
-        → OnErr result (StoppedPacking (verdict F.remaining reader.old) start done (D.taken packer.new.drain)) }
+    ensures took { IfOk result (TookEntities (verdict F.remaining reader.old) (verdict F.remaining reader.new) (D.taken packer.old.drain) (D.taken packer.new.drain) packer.old packer.new) }
+    ensures stopped { OnErr result (StoppedPacking (verdict F.remaining reader.old) (D.taken packer.old.drain) (D.taken packer.new.drain) packer.old) }
     ensures stops { IfErr result (TextStops (verdict F.remaining reader.old) (F.failures reader.old.feed) (F.failures reader.new.feed) (D.failures packer.old.drain) (D.failures packer.new.drain)) }
     ensures end { IfOk result (λ more. more ≡ false → IsAtEnd (F.remaining reader.new.feed)) }
     ensures rises { IfOk result (λ more. IsTrue more → place_of reader.old < place_of reader.new) }
@@ -185,21 +195,19 @@ fn pass_convert<F: Feed, D: Drain, S: BuildHasher + Drop>(
     Ok(digest)
 }
 
-/// The header that a pass took, if it can be written; a file without a fault has one.
-fn writable_header(pass: &Pass) -> Result<&Header, Stop>
-    ensures { (header : _) → HoldsHeader header pass.now → IsWritable header result }
+/// Whether a header's source and base URL are not too long together to be written.
+fn is_short(header: &Header) -> bool
+    ensures value { result ≡ is_short (header_of header.now) }
 {
-    let Some(header) = &pass.header else {
-        return Err(Stop::Refused(Fault {
-            offset: 0,
-            reason: Reason::NoHeader,
-        }));
-    };
-    if text_length(&header.source) + text_length(&header.url) > MOST_TEXT {
-        return Err(Stop::Refused(Fault {
-            offset: pass.header_at,
-            reason: Reason::EntityLarge,
-        }));
+    text_len(&header.source).saturating_add(text_len(&header.url)) <= MOST_HEADER_TEXT
+}
+
+/// The length of a text, and 0 where there is none.
+fn text_len(text: &Option<Vec<u8>>) -> u64
+    ensures { result ≡ text_weight (option_map text_of text.now) }
+{
+    match text {
+        Some(text) => text.len() as u64,
+        None => 0,
     }
-    Ok(header)
 }

@@ -3,6 +3,7 @@ use Rattle.std.specs.List.{AllByRecursion}
 use Rattle.osm_entity.specs.Entity.{EntitySpec}
 use Rattle.osm_entity.specs.Ranges.{EntityFits}
 use Rattle.osm_entity.specs.Views.{entity_of}
+use Rattle.std.proofs.lemmas.Result.{err_from_is_err_and}
 use Rattle.pbfcut.proofs.ShowingLemmas.{entities_more}
 use Rattle.pbfcut.proofs.ConvertingLemmas.{none_gone, one_gone, all_are_gone, stopped_here}
 use Rattle.pbfcut.proofs.converting.pack_entities.Goals as goal
@@ -40,12 +41,14 @@ loop-entity-preserved g c =
     }
 
 pub returns-in_err-push-clause-front : goal.returns-in_err-push-clause-front
-returns-in_err-push-clause-front g c = λ start done h.
+returns-in_err-push-clause-front g c =
+    let p = err_from_is_err_and c.from_residual.result c.from_residual.ensures.1 in
     let so_far = c.loop-entity.invariant in
     let fits = subst (λ (l : List EntitySpec). AllByRecursion EntityFits l) c.in-Some.ensures.steps so_far.fits in
-    stopped_here start done so_far.gone _ _ _ (entity_of c.in-Some.entity) _ _ c.loop-entity.packer c.in-Some.ensures.steps so_far.split (so_far.packed start done h) fits.0 (c.in_err-push.ensures.front so_far.going)
+    rw p.1 (record { begun = λ start done h.
+      stopped_here start done so_far.gone _ _ _ (entity_of c.in-Some.entity) _ _ c.loop-entity.packer c.in-Some.ensures.steps so_far.split (so_far.packed start done h) fits.0 (c.in_err-push.ensures.front so_far.going) })
 
-pub returns-clause-front : goal.returns-clause-front
-returns-clause-front g c = λ start done h.
+pub returns-clause-packed : goal.returns-clause-packed
+returns-clause-packed g c =
     let so_far = c.loop-entity.invariant in
-    all_are_gone start done so_far.gone _ _ _ c.loop-entity.packer (search rules) so_far.split (so_far.packed start done h)
+    record { packed = λ start done h. all_are_gone start done so_far.gone _ _ _ c.loop-entity.packer c.in-None.ensures.steps.0 so_far.split (so_far.packed start done h) }
