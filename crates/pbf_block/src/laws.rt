@@ -89,4 +89,5 @@ pub fn written_block_is_read()
 /// of the format.
 pub fn sound_entities_fit()
     ensures fits { (at : ℕ) (m : List ℕ) → block_fault at m ≡ None → AllByRecursion EntityFits (entities at m) }
+    ensures typed { (at : ℕ) (m : List ℕ) → block_fault at m ≡ None → AllByRecursion EntityTyped (entities at m) }
 {}
