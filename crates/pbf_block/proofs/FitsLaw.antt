@@ -1,6 +1,6 @@
 -- The entities of a payload without faults can be written again, and their numbers have the types of the format.
 use Rattle.std.proofs.Common.{◌≡◌, ℕ, ◌≤◌, ◌^◌, ℤ, pos, Bool, true, false, cond, eqb, List, [], ◌∷◌, length, refl, arith}
-use Rattle.std.specs.Prelude.{◌≤ℤ◌, int_lt, None}
+use Rattle.std.specs.Prelude.{◌≤ℤ◌, int_lt, None, Option, Some}
 use Rattle.std.specs.List.{flat_map, AllByRecursion}
 use Rattle.std.proofs.lemmas.Int.{ints}
 use Rattle.std.proofs.lemmas.Bool.{eqb-true, ltb-false}
@@ -9,22 +9,22 @@ use Rattle.pbf_wire.specs.declared.fault.Reason.{Reason}
 use Rattle.pbf_wire.specs.declared.fault.Reason.TheVariants.{Granularity, DateGranularity, EntityLarge}
 use Rattle.pbf_wire.specs.Occurrence.{Content, Number, Eight, Four, Bytes, Occurrence, items}
 use Rattle.pbf_wire.specs.Reading.{last_number}
-use Rattle.pbf_wire.specs.Signed.{low_i32}
-use Rattle.pbf_wire.specs.Faults.{inside, entered, fields_in, in_last}
+use Rattle.pbf_wire.specs.Signed.{low_i32, low_i64}
+use Rattle.pbf_wire.specs.Faults.{inside, entered, fields_in, in_last, embedded}
 use Rattle.pbf_wire.proofs.MessageLemmas.{all_append}
 use Rattle.pbf_wire.proofs.SoundLemmas.{both_nil, all_nil, not_wrong, fields_sound, IsSound}
 use Rattle.osm_entity.specs.declared.scale.Scale.{Scale}
 use Rattle.osm_entity.specs.declared.weight.TheConstants.{HIGHEST_WEIGHT}
 use Rattle.osm_entity.specs.Scale.{ScaleFits}
-use Rattle.osm_entity.specs.Entity.{EntitySpec, node}
-use Rattle.osm_entity.specs.Ranges.{EntityFits}
+use Rattle.osm_entity.specs.Entity.{EntitySpec, node, way, relation}
+use Rattle.osm_entity.specs.Ranges.{EntityFits, IsInt32, IsInt64, ScaleTyped, EntityTyped}
 use Rattle.osm_entity.specs.Weight.{entity_weight}
 use Rattle.pbf_dense.specs.Judged.{dense_wire, dense_structure, dense_values}
-use Rattle.pbf_dense.proofs.FitsLemmas.{nodes_fit}
-use Rattle.pbf_block.specs.declared.message.TheConstants.{PRIMITIVEGROUP, GRANULARITY, DATE_GRANULARITY, BLOCK_KINDS, GROUP_KINDS, NODES, DENSE, WAYS, RELATIONS}
-use Rattle.pbf_block.specs.Members.{message_entities, member_entities, group_entities, entities_by}
+use Rattle.pbf_dense.proofs.FitsLemmas.{nodes_fit, nodes_typed, version_typed, int32_typed, int64_typed}
+use Rattle.pbf_block.specs.declared.message.TheConstants.{PRIMITIVEGROUP, GRANULARITY, DATE_GRANULARITY, BLOCK_KINDS, GROUP_KINDS, NODES, DENSE, WAYS, RELATIONS, INFO, VERSION, LAT_OFFSET, LON_OFFSET}
+use Rattle.pbf_block.specs.Members.{message_entities, member_entities, group_entities, entities_by, node_in, way_in, relation_in}
 use Rattle.pbf_block.specs.Payload.{by_index, entities}
-use Rattle.pbf_block.specs.Scale.{scale_of, table_of}
+use Rattle.pbf_block.specs.Scale.{scale_of, table_of, read_or}
 use Rattle.pbf_block.specs.Judgement.{payload_values, payload_weights, block_fault}
 use Rattle.pbf_block.specs.WireFaults.{node_wire, way_wire, relation_wire, member_wire, group_wire, part_wire, wire_faults}
 use Rattle.pbf_block.specs.StructureFaults.{node_structure, way_structure, relation_structure, member_structure, group_structure, part_structure, structure_faults}
@@ -201,3 +201,62 @@ entities_fit at m e =
     let few : length (table_of os) ≤ 2 ^ 62 = omega (arith, table_few at m none.0 none.1) in
     let scaled = scale_fits (length (table_of os)) at m none.0 none.2 in
     both (entities_by by_index (table_of os) (scale_of os) os) (payload_fits (table_of os) few (scale_of os) scaled at m none.0 none.1 none.2) (payload_light (table_of os) (scale_of os) os none.3)
+
+-- ---- types
+
+all_flat : {X Y : Type 0} (P : Y → Type 0) (f : X → List Y) (xs : List X) → ((x : X) → AllByRecursion P (f x)) → AllByRecursion P (flat_map f xs)
+all_flat P f [] each = tt
+all_flat P f (x ∷ xs) each = all_append P (f x) (flat_map f xs) (each x) (all_flat P f xs each)
+
+module _ (table : List (List ℕ)) (scale : Scale) (scaled : ScaleTyped scale) where
+  node_typed : (os : List Occurrence) → EntityTyped (node (node_in table scale os))
+  unfolding node_in
+  node_typed os = record { version = version_typed (last_number VERSION (embedded INFO os)); scale = scaled }
+
+  way_typed : (os : List Occurrence) → EntityTyped (way (way_in by_index table scale os))
+  unfolding way_in
+  way_typed os = record { version = version_typed (last_number VERSION (embedded INFO os)); scale = scaled }
+
+  relation_typed : (os : List Occurrence) → EntityTyped (relation (relation_in by_index table scale os))
+  unfolding relation_in
+  relation_typed os = record { version = version_typed (last_number VERSION (embedded INFO os)); scale = scaled }
+
+  message_typed : (k : ℕ) (os : List Occurrence) → AllByRecursion EntityTyped (message_entities by_index table scale k os)
+  message_typed k os =
+      cond_all EntityTyped (eqb k NODES) _ _ (λ t. (node_typed os, tt)) (cond_all EntityTyped (eqb k DENSE) _ _ (λ t. map_of_all EntityTyped node _ (nodes_typed table scale scaled os))
+      (cond_all EntityTyped (eqb k WAYS) _ _ (λ t. (way_typed os, tt)) (cond_all EntityTyped (eqb k RELATIONS) _ _ (λ t. (relation_typed os, tt)) tt)))
+
+  inside_typed : (f : ℕ → List ℕ → List EntitySpec) (c : Content) → ((at : ℕ) (m : List ℕ) → AllByRecursion EntityTyped (f at m)) → AllByRecursion EntityTyped (inside f c)
+  inside_typed f (Number v) each = tt
+  inside_typed f (Eight bytes) each = tt
+  inside_typed f (Four bytes) each = tt
+  inside_typed f (Bytes bytes at) each = each at bytes
+
+  member_typed : (o : Occurrence) → AllByRecursion EntityTyped (member_entities by_index table scale o)
+  member_typed o = inside_typed _ o.content (λ at m. message_typed o.number (fields_in at m))
+
+  group_typed : (o : Occurrence) → AllByRecursion EntityTyped (group_entities by_index table scale o)
+  group_typed o = cond_all EntityTyped (eqb o.number PRIMITIVEGROUP) _ _ (λ t. inside_typed _ o.content (λ at m. all_flat EntityTyped (member_entities by_index table scale) (fields_in at m) member_typed)) tt
+
+int32_or : (otherwise : ℤ) (o : Option ℕ) → IsInt32 otherwise → IsInt32 (read_or otherwise low_i32 o)
+int32_or otherwise None h = h
+int32_or otherwise (Some v) h = int32_typed v
+
+int64_or : (otherwise : ℤ) (o : Option ℕ) → IsInt64 otherwise → IsInt64 (read_or otherwise low_i64 o)
+int64_or otherwise None h = h
+int64_or otherwise (Some v) h = int64_typed v
+
+scale_typed : (os : List Occurrence) → ScaleTyped (scale_of os)
+scale_typed os = record {
+  granularity = int32_or (pos 100) (last_number GRANULARITY os) (omega (arith, ints), omega (arith, ints));
+  date_granularity = int32_or (pos 1000) (last_number DATE_GRANULARITY os) (omega (arith, ints), omega (arith, ints));
+  lat_offset = int64_or (pos 0) (last_number LAT_OFFSET os) (omega (arith, ints), omega (arith, ints));
+  lon_offset = int64_or (pos 0) (last_number LON_OFFSET os) (omega (arith, ints), omega (arith, ints));
+}
+
+-- whatever is wrong with the payload
+pub entities_typed : (at : ℕ) (m : List ℕ) → AllByRecursion EntityTyped (entities at m)
+unfolding entities
+entities_typed at m =
+    let os = fields_in at m in
+    all_flat EntityTyped (group_entities by_index (table_of os) (scale_of os)) os (group_typed (table_of os) (scale_of os) (scale_typed os))

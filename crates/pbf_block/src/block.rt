@@ -1,11 +1,13 @@
 //! A PrimitiveBlock that is judged and read.
 
 ghost use Rattle.std.specs.Prelude.{◌≡◌, ◌+◌, ◌*◌, ◌≤◌, ◌<◌, ◌^◌, [], None, Some, Err, ℕ, List, IfOk, OnOk, length};
+ghost use Rattle.std.specs.List.{AllByRecursion};
 ghost use Rattle.std.specs.Option.{option_or, option_map};
 ghost use Rattle.pbf_wire.specs.declared.fault.Fault.{Fault};
 ghost use Rattle.pbf_wire.specs.declared.fault.ReadFault.TheVariants.{Refused};
 ghost use Rattle.pbf_wire.specs.Faults.{fields_in};
 ghost use Rattle.pbf_wire.specs.Least.{least, least_by};
+ghost use Rattle.osm_entity.specs.Ranges.{EntityFits};
 ghost use Rattle.pbf_block.specs.Judgement.{payload_values, payload_weights, block_fault, all_faults, phase_rank};
 ghost use Rattle.pbf_block.specs.Cursors.{entities_left};
 ghost use Rattle.pbf_block.specs.Payload.{entities};
@@ -124,9 +126,10 @@ impl<'a> Block<'a> {
         })
     }
 
-    /// The entities in order. Takes no memory.
+    /// The entities in order. Each can be written again. Takes no memory.
     pub fn entities(&self) -> Entities<'_>
-        ensures { entities_left result ≡ entities self.now.at self.now.payload.now }
+        ensures exact { entities_left result ≡ entities self.now.at self.now.payload.now }
+        ensures fits { AllByRecursion EntityFits (entities_left result) }
     {
         Entities::over(self.payload, self.at, &self.table, self.scale)
     }

@@ -84,3 +84,10 @@ pub fn written_block_is_read()
     ensures sound { (at : ℕ) (es : List EntitySpec) → is_block es ≡ true → AllByRecursion EntityFits es → AllByRecursion EntityTyped es → block_fault at (block_message es) ≡ None }
     ensures read { (at : ℕ) (es : List EntitySpec) → is_block es ≡ true → AllByRecursion EntityFits es → AllByRecursion EntityTyped es → entities at (block_message es) ≡ es }
 {}
+
+/// The entities of a payload without a fault are in their ranges and light enough to be written, and their numbers have the types
+/// of the format.
+pub fn sound_entities_fit()
+    ensures fits { (at : ℕ) (m : List ℕ) → block_fault at m ≡ None → AllByRecursion EntityFits (entities at m) }
+    ensures typed { (at : ℕ) (m : List ℕ) → block_fault at m ≡ None → AllByRecursion EntityTyped (entities at m) }
+{}

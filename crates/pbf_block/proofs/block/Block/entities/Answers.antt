@@ -1,5 +1,8 @@
-use Rattle.std.proofs.Common.{◌≡◌, ◌≤◌, ◌^◌, ap₂, ◌∙◌, List, ℕ, length, arith}
+use Rattle.std.proofs.Common.{◌≡◌, ◌≤◌, ◌^◌, ap₂, sym, subst, ◌∙◌, List, ℕ, length, arith}
 use Rattle.std.specs.Prelude.{None}
+use Rattle.std.specs.List.{AllByRecursion}
+use Rattle.osm_entity.specs.Entity.{EntitySpec}
+use Rattle.osm_entity.specs.Ranges.{EntityFits}
 use Rattle.pbf_block.specs.Judgement.{block_fault, payload_values}
 use Rattle.pbf_block.proofs.TableLemmas.{table_few}
 use Rattle.pbf_block.proofs.ByIndexLemmas.{entities_same}
@@ -10,6 +13,7 @@ use Rattle.pbf_block.specs.Scale.{table_of, scale_of}
 use Rattle.pbf_block.specs.Members.{entities_by}
 use Rattle.pbf_block.specs.Payload.{along, entities}
 use Rattle.pbf_block.proofs.PhaseLemmas.{no_fault}
+use Rattle.pbf_block.proofs.FitsLaw.{entities_fit}
 use Rattle.pbf_block.proofs.block.Block.entities.Goals as goal
 
 module _ (at : ℕ) (m : List ℕ) (sound : block_fault at m ≡ None) where
@@ -22,7 +26,16 @@ module _ (at : ℕ) (m : List ℕ) (sound : block_fault at m ≡ None) where
       ap₂ (λ (t : List (List ℕ)) (s : Scale). entities_by along t s os) texts scaled
       ∙ entities_same (table_of os) (scale_of os) os (payload_reads (table_of os) (scale_of os) few at m none.0 none.1 none.2)
 
-pub returns : goal.returns
-returns c =
+module _ (at : ℕ) (m : List ℕ) (sound : block_fault at m ≡ None) (es : List EntitySpec) (is : es ≡ entities at m) where
+  all_fit : AllByRecursion EntityFits es
+  all_fit = subst (λ (es : List EntitySpec). AllByRecursion EntityFits es) (sym is) (entities_fit at m sound)
+
+pub returns-clause-exact : goal.returns-clause-exact
+returns-clause-exact c =
     let block = c.args.self.now in
     c.over.ensures ∙ same block.at block.payload.now block.sound block.table block.scale block.texts block.scaled
+
+pub returns-clause-fits : goal.returns-clause-fits
+returns-clause-fits c =
+    let block = c.args.self.now in
+    all_fit block.at block.payload.now block.sound _ (c.over.ensures ∙ same block.at block.payload.now block.sound block.table block.scale block.texts block.scaled)
