@@ -5,3 +5,4 @@ pub mod DayLemmas
 pub mod TextLemmas
 pub mod ShowingLemmas
 pub mod ConvertingLemmas
+pub mod FileLaw

@@ -10,6 +10,7 @@ mod dates;
 mod entity_text;
 mod hashed;
 mod header_text;
+pub mod laws;
 mod number;
 mod passes;
 mod quoted;

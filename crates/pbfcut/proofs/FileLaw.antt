@@ -1,0 +1,274 @@
+-- A file that is written is read as its header and its entities.
+use Rattle.std.proofs.Common.{◌≡◌, ℕ, ◌+◌, ◌^◌, ◌<◌, ◌≤◌, nat_lt, nat_le, Bool, true, false, List, [], ◌∷◌, ◌++◌, length, Option, Some, None, refl, sym, ap, ◌∙◌, subst, append-nil, length-append, arith}
+use Rattle.std.specs.Prelude.{if◌then◌else◌}
+use Rattle.std.specs.List.{flat_map, last_or, AllByRecursion}
+use Rattle.std.specs.Option.{option_map}
+use Rattle.std.proofs.lemmas.Bool.Decides.{nat_tests}
+use Rattle.std.proofs.lemmas.List.Sums.{sum_by-cons}
+use Rattle.pbf_wire.specs.declared.fault.Fault.{Fault}
+use Rattle.pbf_wire.specs.declared.fault.Reason.TheVariants.{FileLong, EntityLarge}
+use Rattle.pbf_wire.specs.Faults.{fault, fault_where}
+use Rattle.pbf_wire.specs.Least.{least}
+use Rattle.pbf_wire.proofs.MessageLemmas.{all_left, all_right}
+use Rattle.osm_entity.specs.Entity.{EntitySpec}
+use Rattle.osm_entity.specs.Ranges.{EntityFits, EntityTyped}
+use Rattle.osm_entity.specs.Weight.{text_weight, entity_weight}
+use Rattle.pbf_frame.specs.declared.frame.FrameKind.{FrameKind}
+use Rattle.pbf_frame.specs.declared.frame.FrameKind.TheVariants as kind
+use Rattle.pbf_frame.specs.Frames.{FrameSpec, frame_end, frame_kind, frame_payload, frame_payload_at, order_faults, is_header, prefix_at, after_prefix, next_of}
+use Rattle.pbf_frame.specs.Sound.{IsFrame, AreFrames, had_after, place_after}
+use Rattle.pbf_frame.specs.Verdict.{Verdict, judged_within, judged, with_first, with_all, joined}
+use Rattle.pbf_frame.specs.Writing.{written_at, written_frame}
+use Rattle.pbf_frame.proofs.Longest.{frames_then_rest}
+use Rattle.pbf_frame.proofs.ReadBack.{written_is_frame, written_kind, written_payload, written_bytes}
+use Rattle.pbf_block.specs.Header.{HeaderSpec}
+use Rattle.pbf_block.specs.HeaderFaults.{header_fault}
+use Rattle.pbf_block.specs.Judgement.{block_fault}
+use Rattle.pbf_block.specs.Payload.{entities}
+use Rattle.pbf_block.specs.WrittenBlock.{is_block, block_message}
+use Rattle.pbf_block.specs.WrittenHeader.{HeaderFits, header_message, header_out_for_convert}
+use Rattle.pbf_block.proofs.HeaderLemmas.{header_again}
+use Rattle.pbf_block.proofs.HeaderLaw.{header_short, light_read, light_sound}
+use Rattle.pbf_block.proofs.LengthLaw.{block_fits}
+use Rattle.pbf_block.proofs.WrittenLaw.{written_sound, written_read}
+use Rattle.osm_pack.specs.Cuts.{cuts, block_frame, written_entities, header_frame, written_file}
+use Rattle.osm_pack.proofs.CutLaws.{cuts_joined, cuts_kept}
+use Rattle.osm_pack.proofs.CutLemmas.{kept_bounds}
+use Rattle.osm_pack.proofs.OpenLemmas.{alone}
+use Rattle.pbfcut.specs.Converting.{conversion, header_limit, with_limit, limited, judged_writable, answer_bytes}
+use Rattle.pbfcut.specs.Counting.{entities_of, frame_entities, decoded}
+use Rattle.pbfcut.specs.Judged.{payload_fault_of, payload_fault, sound_first, sound_front, fully, judged_file}
+use Rattle.pbfcut.specs.Steps.{headers_of, frame_headers, file_header}
+
+-- ---- one frame
+
+-- where a written frame ends
+end_is : (place : ℕ) (k : FrameKind) (payload : List ℕ) → frame_end (written_at place k payload) ≡ place + length (written_frame k payload)
+end_is place k payload =
+    let f = written_at place k payload in
+    let four : length f.prefix ≡ 4 = refl in
+    omega (arith, four, ap length (written_bytes place k payload), length-append (f.prefix ++ f.header) f.blob, length-append f.prefix f.header)
+
+-- a frame of data behind a header frame is in order
+data_ordered : (place last : ℕ) → last ≤ 2 ^ 62 → least (order_faults true place kind.Data last) ≡ None
+data_ordered place last low =
+    let within : nat_lt (2 ^ 62) last ≡ false = grind (arith, nat_tests, low) in
+    ap (λ (b : Bool). least (fault_where b place FileLong)) within
+
+-- a header frame at the beginning is in order
+header_ordered : (last : ℕ) → last ≤ 2 ^ 62 → least (order_faults false 0 kind.Header last) ≡ None
+header_ordered last low =
+    let within : nat_lt (2 ^ 62) last ≡ false = grind (arith, nat_tests, low) in
+    ap (λ (b : Bool). least (fault_where b 0 FileLong)) within
+
+known_data : kind.Data ≡ kind.Other → ⊥
+known_data e = cc
+
+known_header : kind.Header ≡ kind.Other → ⊥
+known_header e = cc
+
+-- ---- the frame of a block
+
+-- entities that stand in one block as it is written
+pub record IsWritten (block : List EntitySpec) : Type 0 where
+  pub together : is_block block ≡ true
+  pub fit : AllByRecursion EntityFits block
+  pub typed : AllByRecursion EntityTyped block
+
+abbrev block_at : ℕ → List EntitySpec → FrameSpec
+block_at place block = written_at place kind.Data (block_message block)
+
+module _ (place : ℕ) (block : List EntitySpec) (is : IsWritten block) where
+  block_kind : frame_kind (block_at place block) ≡ kind.Data
+  block_kind = written_kind place kind.Data (block_message block) known_data (block_fits block is.together)
+
+  block_payload : frame_payload (block_at place block) ≡ block_message block
+  block_payload = written_payload place kind.Data (block_message block) known_data (block_fits block is.together)
+
+  block_is_frame : frame_end (block_at place block) ≤ 2 ^ 62 → IsFrame true place (block_at place block)
+  block_is_frame low =
+      written_is_frame place kind.Data (block_message block) known_data (block_fits block is.together) true (data_ordered place (frame_end (block_at place block)) low)
+
+  block_sound : payload_fault (block_at place block) ≡ None
+  block_sound =
+      let at = frame_payload_at (block_at place block) in
+      ap (λ (k : FrameKind). payload_fault_of k at (frame_payload (block_at place block))) block_kind
+      ∙ (ap (λ (m : List ℕ). block_fault at m) block_payload ∙ written_sound block is.together is.fit is.typed at)
+
+  block_entities : frame_entities (block_at place block) ≡ block
+  block_entities =
+      let at = frame_payload_at (block_at place block) in
+      ap (λ (k : FrameKind). entities_of k at (frame_payload (block_at place block))) block_kind
+      ∙ (ap (λ (m : List ℕ). entities at m) block_payload ∙ written_read block is.together is.fit is.typed at)
+
+  block_headers : frame_headers (block_at place block) ≡ []
+  block_headers = ap (λ (k : FrameKind). headers_of k (frame_payload_at (block_at place block)) (frame_payload (block_at place block))) block_kind
+
+-- ---- the frames of blocks
+
+-- one after the other, the first at this place
+abbrev blocks_at : ℕ → List (List EntitySpec) → List FrameSpec
+blocks_at place [] = []
+blocks_at place (block ∷ blocks) = block_at place block ∷ blocks_at (frame_end (block_at place block)) blocks
+
+blocks_joined : (place : ℕ) (blocks : List (List EntitySpec)) → joined (blocks_at place blocks) ≡ flat_map block_frame blocks
+blocks_joined place [] = refl
+blocks_joined place (block ∷ blocks) =
+    ap (λ (l : List ℕ). l ++ joined (blocks_at (frame_end (block_at place block)) blocks)) (written_bytes place kind.Data (block_message block))
+    ∙ ap (λ (l : List ℕ). block_frame block ++ l) (blocks_joined (frame_end (block_at place block)) blocks)
+
+blocks_are_frames : (place : ℕ) (blocks : List (List EntitySpec)) → AllByRecursion IsWritten blocks → place + length (flat_map block_frame blocks) ≤ 2 ^ 62 → AreFrames true place (blocks_at place blocks)
+blocks_are_frames place [] are low = tt
+blocks_are_frames place (block ∷ blocks) are low =
+    let end = end_is place kind.Data (block_message block) in
+    let both = length-append (block_frame block) (flat_map block_frame blocks) in
+    (block_is_frame place block are.0 (omega (arith, low, end, both)), blocks_are_frames (frame_end (block_at place block)) blocks are.1 (omega (arith, low, end, both)))
+
+blocks_sound : (place : ℕ) (blocks : List (List EntitySpec)) → AllByRecursion IsWritten blocks → sound_front (blocks_at place blocks) None ≡ (blocks_at place blocks, None)
+blocks_sound place [] are = refl
+blocks_sound place (block ∷ blocks) are =
+    let f = block_at place block in
+    let later = blocks_at (frame_end f) blocks in
+    ap (λ (o : Option Fault). sound_first o f (sound_front later None)) (block_sound place block are.0) ∙ ap (λ (v : Verdict). with_first f v) (blocks_sound (frame_end f) blocks are.1)
+
+blocks_decoded : (place : ℕ) (blocks : List (List EntitySpec)) → AllByRecursion IsWritten blocks → decoded (blocks_at place blocks) ≡ flat_map (λ block. block) blocks
+blocks_decoded place [] are = refl
+blocks_decoded place (block ∷ blocks) are =
+    let f = block_at place block in
+    ap (λ (l : List EntitySpec). l ++ decoded (blocks_at (frame_end f) blocks)) (block_entities place block are.0)
+    ∙ ap (λ (l : List EntitySpec). block ++ l) (blocks_decoded (frame_end f) blocks are.1)
+
+blocks_headers : (place : ℕ) (blocks : List (List EntitySpec)) → AllByRecursion IsWritten blocks → flat_map frame_headers (blocks_at place blocks) ≡ []
+blocks_headers place [] are = refl
+blocks_headers place (block ∷ blocks) are =
+    let f = block_at place block in
+    ap (λ (l : List (ℕ × HeaderSpec)). l ++ flat_map frame_headers (blocks_at (frame_end f) blocks)) (block_headers place block are.0) ∙ blocks_headers (frame_end f) blocks are.1
+
+-- ---- the blocks of entities
+
+light : (es : List EntitySpec) → AllByRecursion EntityFits es → AllByRecursion (λ e. entity_weight e ≤ 12000000) es
+light [] fits = tt
+light (e ∷ es) fits = (omega (arith, (kept_bounds (e ∷ []) (alone e fits.0)).1, sum_by-cons entity_weight e []), light es fits.1)
+
+each_written : (blocks : List (List EntitySpec)) → AllByRecursion (λ block. is_block block ≡ true) blocks → AllByRecursion EntityFits (flat_map (λ block. block) blocks) → AllByRecursion EntityTyped (flat_map (λ block. block) blocks)
+    → AllByRecursion IsWritten blocks
+each_written [] are fits typed = tt
+each_written (block ∷ blocks) are fits typed =
+    let later = flat_map (λ block. block) blocks in (
+      record { together = are.0; fit = all_left EntityFits block later fits; typed = all_left EntityTyped block later typed },
+      each_written blocks are.1 (all_right EntityFits block later fits) (all_right EntityTyped block later typed),
+    )
+
+cuts_written : (es : List EntitySpec) → AllByRecursion EntityFits es → AllByRecursion EntityTyped es → AllByRecursion IsWritten (cuts es)
+cuts_written es fits typed =
+    let all = sym (cuts_joined es) in
+    each_written (cuts es) (cuts_kept es (light es fits)) (subst (λ (l : List EntitySpec). AllByRecursion EntityFits l) all fits) (subst (λ (l : List EntitySpec). AllByRecursion EntityTyped l) all typed)
+
+-- ---- the whole file
+
+header_stays : (frames : List FrameSpec) → had_after true frames ≡ true
+header_stays [] = refl
+header_stays (f ∷ frames) = header_stays frames
+
+nothing_left : (place : ℕ) → judged true place [] ≡ ([], None)
+unfolding judged judged_within next_of prefix_at after_prefix
+nothing_left place = refl
+
+module _ (h : HeaderSpec) (es : List EntitySpec) (fits : HeaderFits (header_out_for_convert h)) (short : text_weight h.source + text_weight h.url ≤ 12000000) (fit : AllByRecursion EntityFits es) (typed : AllByRecursion EntityTyped es) (small : length (written_file h es) ≤ 2 ^ 62) where
+  abbrev message : List ℕ
+  message = header_message (header_out_for_convert h)
+
+  abbrev first : FrameSpec
+  first = written_at 0 kind.Header message
+
+  abbrev later : List FrameSpec
+  later = blocks_at (frame_end first) (cuts es)
+
+  abbrev pub file_frames : List FrameSpec
+  file_frames = first ∷ later
+
+  message_short : length message < 33554432
+  message_short = header_short (header_out_for_convert h) fits short
+
+  first_kind : frame_kind first ≡ kind.Header
+  first_kind = written_kind 0 kind.Header message known_header message_short
+
+  first_payload : frame_payload first ≡ message
+  first_payload = written_payload 0 kind.Header message known_header message_short
+
+  first_sound : payload_fault first ≡ None
+  first_sound =
+      let at = frame_payload_at first in
+      ap (λ (k : FrameKind). payload_fault_of k at (frame_payload first)) first_kind ∙ (ap (λ (m : List ℕ). header_fault at m) first_payload ∙ light_sound at (header_out_for_convert h) fits short)
+
+  first_entities : frame_entities first ≡ []
+  first_entities = ap (λ (k : FrameKind). entities_of k (frame_payload_at first) (frame_payload first)) first_kind
+
+  abbrev placed : ℕ × HeaderSpec
+  placed = (frame_payload_at first, header_out_for_convert h)
+
+  first_headers : frame_headers first ≡ placed ∷ []
+  first_headers =
+      let at = frame_payload_at first in
+      ap (λ (k : FrameKind). headers_of k at (frame_payload first)) first_kind
+      ∙ (ap (λ (m : List ℕ). headers_of kind.Header at m) first_payload ∙ ap (λ (g : HeaderSpec). let p : ℕ × HeaderSpec = (at, g) in p ∷ []) (light_read at (header_out_for_convert h) fits short))
+
+  written : AllByRecursion IsWritten (cuts es)
+  written = cuts_written es fit typed
+
+  joined_all : joined file_frames ≡ written_file h es
+  joined_all = ap (λ (l : List ℕ). l ++ joined later) (written_bytes 0 kind.Header message) ∙ ap (λ (l : List ℕ). header_frame h ++ l) (blocks_joined (frame_end first) (cuts es))
+
+  are_frames : AreFrames false 0 file_frames
+  are_frames =
+      let end = end_is 0 kind.Header message in
+      let both = length-append (header_frame h) (written_entities es) in (
+        written_is_frame 0 kind.Header message known_header message_short false (header_ordered (frame_end first) (omega (arith, small, end, both))),
+        subst (λ (k : FrameKind). AreFrames (is_header k) (frame_end first) later) (sym first_kind) (blocks_are_frames (frame_end first) (cuts es) written (omega (arith, small, end, both))),
+      )
+
+  had_header : had_after false file_frames ≡ true
+  had_header = ap (λ (k : FrameKind). had_after (is_header k) later) first_kind ∙ header_stays later
+
+  file_judged : judged false 0 (written_file h es) ≡ (file_frames, None)
+  file_judged =
+      let last = place_after 0 file_frames in
+      ap (λ (l : List ℕ). judged false 0 l) (sym (append-nil (joined file_frames) ∙ joined_all))
+      ∙ (frames_then_rest false 0 file_frames [] are_frames
+      ∙ (ap (λ (b : Bool). with_all file_frames (judged b last [])) had_header
+      ∙ (ap (λ (v : Verdict). with_all file_frames v) (nothing_left last) ∙ ap (λ (l : List FrameSpec). let v : Verdict = (l, None) in v) (append-nil file_frames))))
+
+  file_sound : fully (file_frames, None) ≡ (file_frames, None)
+  file_sound = ap (λ (o : Option Fault). sound_first o first (sound_front later None)) first_sound ∙ ap (λ (v : Verdict). with_first first v) (blocks_sound (frame_end first) (cuts es) written)
+
+  pub file_verdict : judged_file (Some (written_file h es)) ≡ Some (file_frames, None)
+  file_verdict = ap (λ (v : Verdict). Some (fully v)) file_judged ∙ ap (λ (v : Verdict). Some v) file_sound
+
+  pub file_decoded : decoded file_frames ≡ es
+  file_decoded = ap (λ (l : List EntitySpec). l ++ decoded later) first_entities ∙ (blocks_decoded (frame_end first) (cuts es) written ∙ cuts_joined es)
+
+  pub file_placed : file_header file_frames ≡ Some placed
+  file_placed =
+      ap (λ (l : List (ℕ × HeaderSpec)). last_or None (l ++ flat_map frame_headers later)) first_headers ∙ ap (λ (l : List (ℕ × HeaderSpec)). last_or None (placed ∷ l)) (blocks_headers (frame_end first) (cuts es) written)
+
+  pub file_read : (frames : List FrameSpec) × (judged_file (Some (written_file h es)) ≡ Some (frames, None)) × (decoded frames ≡ es) × (option_map (λ p. p.1) (file_header frames) ≡ Some (header_out_for_convert h))
+  file_read = (file_frames, file_verdict, file_decoded, ap (λ (o : Option (ℕ × HeaderSpec)). option_map (λ p. p.1) o) file_placed)
+
+  -- ---- written again
+
+  header_within : header_limit (file_header file_frames) ≡ None
+  header_within =
+      let light : nat_le (text_weight h.source + text_weight h.url) 12000000 ≡ true = grind (arith, nat_tests, short) in
+      ap header_limit file_placed ∙ ap (λ (b : Bool). if b then None else Some (fault placed.0 EntityLarge)) light
+
+  pub file_writable : judged_writable (Some (written_file h es)) ≡ Some (file_frames, None)
+  file_writable = ap (λ (o : Option Verdict). option_map limited o) file_verdict ∙ ap (λ (o : Option Fault). Some (with_limit o file_frames)) header_within
+
+  pub file_again : answer_bytes (file_frames, None) ≡ written_file h es
+  file_again =
+      ap (λ (o : Option (ℕ × HeaderSpec)). conversion o (decoded file_frames)) file_placed
+      ∙ (ap (λ (l : List EntitySpec). written_file (header_out_for_convert h) l) file_decoded
+      ∙ ap (λ (g : HeaderSpec). written_frame kind.Header (header_message g) ++ written_entities es) (header_again h.bbox h.bbox h))
+
+  pub file_kept : (frames : List FrameSpec) × (judged_writable (Some (written_file h es)) ≡ Some (frames, None)) × (answer_bytes (frames, None) ≡ written_file h es)
+  file_kept = (file_frames, file_writable, file_again)
