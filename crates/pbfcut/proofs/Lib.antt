@@ -4,5 +4,4 @@ pub mod StepLemmas
 pub mod DayLemmas
 pub mod TextLemmas
 pub mod ShowingLemmas
-pub mod ConvertingLemmas
 pub mod FileLaw

@@ -4,7 +4,6 @@
 mod blobs;
 #[cfg(test)]
 mod check_tests;
-mod converting;
 mod counts;
 mod dates;
 mod entity_text;
