@@ -1,5 +1,5 @@
 -- An open block, entity by entity.
-use Rattle.std.proofs.Common.{◌≡◌, ◌⊎◌, inl, inr, ℕ, ◌+◌, ◌*◌, ◌^◌, ◌<◌, ◌≤◌, List, [], ◌∷◌, ◌++◌, Bool, true, false, ◌&&◌, length, map, Option, Some, None, refl, sym, ap, ◌∙◌, subst, arith, append_assoc, append-nil, length-append, true≢false}
+use Rattle.std.proofs.Common.{◌≡◌, ◌⊎◌, inl, inr, ℕ, ◌+◌, ◌*◌, ◌^◌, ◌≤◌, List, [], ◌∷◌, ◌++◌, Bool, true, ◌&&◌, length, map, Some, None, refl, sym, ap, ◌∙◌, subst, arith, append_assoc, append-nil, length-append, true≢false}
 use Rattle.std.specs.Prelude.{unwrap_or, nat_le, min, ◌-◌}
 use Rattle.osm_entity.specs.declared.scale.Scale.{Scale}
 use Rattle.std.specs.List.{sum_by, flat_map, list_all}
@@ -7,7 +7,7 @@ use Rattle.std.proofs.lemmas.List.{length_push, map_push}
 use Rattle.std.proofs.lemmas.List.Sums.{sum_by_push, sum_by-cons}
 use Rattle.std.proofs.Math.Bool.{and-true}
 use Rattle.pbf_wire.specs.Message.{Each, slot_bytes, message, unless_empty}
-use Rattle.pbf_wire.proofs.WritingLemmas.{each_none, each_joined, message_first, message_none, message_one}
+use Rattle.pbf_wire.proofs.WritingLemmas.{each_none, each_joined, message_first, message_one}
 use Rattle.pbf_strings.specs.TableOut.{texts_after, table_message}
 use Rattle.pbf_strings.proofs.UsedTexts.{after_both, used_later, length_after}
 use Rattle.osm_entity.specs.Entity.{NodeSpec, WaySpec, RelationSpec, EntitySpec, node, way, relation}
@@ -20,7 +20,6 @@ use Rattle.pbf_dense.specs.WrittenDense.{HoldsNodes, columns_of, dense_message, 
 use Rattle.pbf_block.specs.WrittenBlock.{are_alike, is_block, nodes_among, ways_among, relations_among, texts_of_all, messages_among, group_message, scale_among, block_slots, block_message}
 use Rattle.pbf_block.specs.WrittenEntity.{way_message, relation_message}
 use Rattle.osm_pack.specs.declared.block.Block.{Block}
-use Rattle.osm_pack.specs.declared.sort.Sort.{Sort}
 use Rattle.osm_pack.specs.Sorts.{sort_of, same_sort, is_like}
 use Rattle.osm_pack.specs.Open.{sort_among, Holds, Encodes}
 use Rattle.osm_pack.proofs.CutLemmas.{like_first, joins, both, kept_parts, kept_bounds, kept_none, kept_one}

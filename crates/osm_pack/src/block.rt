@@ -162,9 +162,10 @@ impl<S: BuildHasher> Block<S> {
     {
         let scale = self.scale();
         let mut table = Vec::new(alloc);
-        self.texts.write(&mut table)?;
+        let texts = &mut self.texts;
+        texts.write(&mut table)?;
         // The texts go before the payload is put together, so that no more than two copies of them are held at a time.
-        self.texts.clear();
+        texts.clear();
         let dense = mem::replace(&mut self.nodes, DenseOut::new(alloc)).finish(alloc)?;
         put_dense(&mut self.group, &dense)?;
         let mut payload = Vec::new(alloc);

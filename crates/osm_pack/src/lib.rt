@@ -6,5 +6,7 @@ mod frames;
 pub mod laws;
 mod packer;
 mod sort;
+#[cfg(test)]
+mod tests;
 
 pub use packer::Packer;

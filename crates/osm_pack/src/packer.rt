@@ -12,8 +12,8 @@ use std::marker::Model;
 /// Packs entities into blocks, and writes each block when the next entity does not fit into it.
 ///
 /// Each block is the longest front of what is left that is of one kind and one scale, for nodes with one set of metadata
-/// fields, of at most 8,000 entities that weigh at most 12,000,000 together. An entity is encoded when it is pushed, and takes
-/// no memory of its own once the columns have grown.
+/// fields, of at most 8,000 entities that weigh at most 12,000,000 together. An entity is encoded when it is pushed, and only the
+/// columns and the texts of one block are held.
 #[derive(Drop)]
 pub struct Packer<D: Drain, S: BuildHasher> {
     drain: D,
@@ -138,6 +138,7 @@ impl<D: Drain, S: BuildHasher> Packer<D, S> {
     /// After a stop a beginning of their block went out, and the packer is spent.
     pub fn finish(&mut self) -> Result<(), Stop>
         requires { has_header self.old ≡ true }
+        ensures header { has_header self.new ≡ true }
         ensures pending { OnOk result (Pending self.new []) }
         ensures written { (es : List EntitySpec) → Pending self.old es → OnOk result (D.taken self.new.drain ≡ append (D.taken self.old.drain) (at_end es)) }
         ensures packing { OnOk result (IsPacking self.old × IsPacking self.new) }

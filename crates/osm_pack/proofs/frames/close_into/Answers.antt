@@ -1,5 +1,4 @@
-use Rattle.std.proofs.Common.{◌≡◌, ◌∙◌, ◌<◌, List, ℕ, length, ap, sym, subst}
-use Rattle.pbf_block.specs.WrittenBlock.{block_message}
+use Rattle.std.proofs.Common.{◌∙◌, ◌<◌, List, ℕ, length, sym, subst}
 use Rattle.pbf_block.proofs.LengthLaw.{block_fits}
 use Rattle.osm_pack.proofs.frames.close_into.Goals as goal
 

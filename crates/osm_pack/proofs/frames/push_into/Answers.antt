@@ -1,6 +1,5 @@
-use Rattle.std.proofs.Common.{◌≡◌, ◌∙◌, ◌++◌, ◌∷◌, [], true, ap, sym, subst, rules}
+use Rattle.std.proofs.Common.{◌∙◌, [], sym, subst}
 use Rattle.osm_entity.specs.Views.{entity_of}
-use Rattle.pbf_block.specs.WrittenBlock.{is_block}
 use Rattle.osm_pack.specs.Open.{Holds}
 use Rattle.osm_pack.proofs.OpenLemmas.{alone, only_none}
 use Rattle.osm_pack.proofs.frames.push_into.Goals as goal

@@ -1,4 +1,4 @@
-use Rattle.std.proofs.Common.{◌≡◌, ◌∙◌, ◌++◌, ◌<◌, List, ℕ, length, ap, sym, subst}
+use Rattle.std.proofs.Common.{◌∙◌, ◌++◌, ◌<◌, List, ℕ, length, ap, sym, subst}
 use Rattle.pbf_block.specs.Header.{header_of}
 use Rattle.pbf_block.specs.WrittenHeader.{header_message, header_out_for_convert}
 use Rattle.pbf_block.proofs.HeaderLaw.{out_short}

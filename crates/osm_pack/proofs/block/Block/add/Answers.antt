@@ -1,4 +1,4 @@
-use Rattle.std.proofs.Common.{◌≡◌, ◌∙◌, ◌+◌, ap, arith, refl, Some}
+use Rattle.std.proofs.Common.{◌∙◌, ◌+◌, ap, arith, refl, Some}
 use Rattle.std.specs.Prelude.{unwrap_or}
 use Rattle.osm_entity.specs.Views.{entity_of}
 use Rattle.osm_pack.proofs.OpenLemmas.{added, bounds, exact}

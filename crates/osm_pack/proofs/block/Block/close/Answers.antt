@@ -1,4 +1,4 @@
-use Rattle.std.proofs.Common.{◌≡◌, ◌∙◌, ◌++◌, List, ℕ, ap, sym, subst, []}
+use Rattle.std.proofs.Common.{◌∙◌, ◌++◌, List, ℕ, ap, sym, subst, []}
 use Rattle.pbf_wire.specs.Message.{message}
 use Rattle.pbf_dense.specs.WrittenDense.{HoldsNodes}
 use Rattle.pbf_strings.specs.TableOut.{table_message}

@@ -2,7 +2,7 @@ use Rattle.std.proofs.Common.{◌≡◌, ◌+◌, ◌≤◌, ◌++◌, ◌∷◌
 use Rattle.osm_entity.specs.EntityTexts.{entity_texts}
 use Rattle.osm_entity.specs.Views.{entity_of}
 use Rattle.pbf_block.specs.WrittenBlock.{is_block}
-use Rattle.osm_pack.proofs.OpenLemmas.{Kept, room_held, node_encoded, way_encoded, relation_encoded}
+use Rattle.osm_pack.proofs.OpenLemmas.{room_held, node_encoded, way_encoded, relation_encoded}
 use Rattle.osm_pack.proofs.block.Block.put.Goals as goal
 
 pub push-requires-clause-room : goal.push-requires-clause-room
