@@ -10,3 +10,4 @@ pub mod EntityText
 pub mod HeaderText
 pub mod Showing
 pub mod Converting
+pub mod Extracting

@@ -1,0 +1,34 @@
+-- What `extract` writes for a file: its header with the box, and of its entities those that a choice keeps.
+use Rattle.std.specs.Prelude.{ℕ, List, [], Option, Some, None}
+use Rattle.osm_entity.specs.declared.bounding_box.BoundingBox.{BoundingBox}
+use Rattle.osm_entity.specs.Entity.{EntitySpec}
+use Rattle.osm_ways.specs.Selection.{extract}
+use Rattle.osm_ways.specs.Parents.{extract_with_parents}
+use Rattle.osm_ways.specs.Seen.{seen_entity}
+use Rattle.osm_pack.specs.Cuts.{written_file}
+use Rattle.pbf_block.specs.Header.{HeaderSpec}
+use Rattle.pbf_block.specs.WrittenHeader.{header_out_for_box}
+use Rattle.pbf_frame.specs.Verdict.{Verdict}
+use Rattle.pbfcut.specs.Counting.{decoded}
+use Rattle.pbfcut.specs.Steps.{file_header}
+
+abbrev pub Choice : Type 0
+Choice = List EntitySpec → List EntitySpec
+
+-- the complete-ways extract
+abbrev pub complete_ways : BoundingBox → Choice
+complete_ways area es = extract (seen_entity area) es
+
+-- the complete-ways extract with all parents
+abbrev pub all_parents : BoundingBox → Choice
+all_parents area es = extract_with_parents (seen_entity area) es
+
+-- the header in written form, with the box, and the entities that are kept, cut into blocks
+abbrev pub extraction : Choice → BoundingBox → Option (ℕ × HeaderSpec) → List EntitySpec → List ℕ
+extraction choose area None es = []
+extraction choose area (Some header) es = written_file (header_out_for_box area header.1) (choose es)
+
+-- what is to be written for a file with this verdict: nothing where it has a fault
+abbrev pub extract_bytes : Choice → BoundingBox → Verdict → List ℕ
+extract_bytes choose area (frames, None) = extraction choose area (file_header frames) (decoded frames)
+extract_bytes choose area (frames, Some e) = []
