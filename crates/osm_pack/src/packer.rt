@@ -73,6 +73,13 @@ impl<D: Drain, S: BuildHasher> Packer<D, S> {
         self.begun
     }
 
+    /// Why the packer stopped, once it has: it is spent then.
+    pub fn stop(&self) -> Option<Stop>
+        ensures { result ≡ self.now.stop }
+    {
+        self.stop
+    }
+
     /// Writes the header of the file, in the form that [`Header::write`] gives it. It comes first and once. The caller sees that
     /// its source and its base URL have at most 12,000,000 bytes together.
     ///

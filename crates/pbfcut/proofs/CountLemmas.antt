@@ -18,7 +18,7 @@ pub record CountedOn (now : Counts) (left all : List EntitySpec) : Type 0 where
   pub few_ways : now.ways ≤ 2 ^ 64 - 1
   pub few_relations : now.relations ≤ 2 ^ 64 - 1
 
-same_counts : (c d : Counts) → c.nodes ≡ d.nodes → c.ways ≡ d.ways → c.relations ≡ d.relations → c ≡ d
+pub same_counts : (c d : Counts) → c.nodes ≡ d.nodes → c.ways ≡ d.ways → c.relations ≡ d.relations → c ≡ d
 same_counts c d a b e =
     ap (λ (n : ℕ). let x : Counts = record { nodes = n; ways = c.ways; relations = c.relations } in x) a
     ∙ ap (λ (n : ℕ). let x : Counts = record { nodes = d.nodes; ways = n; relations = c.relations } in x) b

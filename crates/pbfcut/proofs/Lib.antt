@@ -5,3 +5,5 @@ pub mod DayLemmas
 pub mod TextLemmas
 pub mod ShowingLemmas
 pub mod FileLaw
+pub mod GatherLemmas
+pub mod PickingLemmas

@@ -1,16 +1,21 @@
--- The conversion of a file: all its entities in canonical form.
-use Rattle.std.specs.Prelude.{ℕ, ◌+◌, nat_le, if◌then◌else◌, List, [], Bool, Option, Some, None}
+-- The conversion of a file: all its entities in canonical form; what a call does to its drain, and why it stops.
+use Rattle.std.specs.Prelude.{◌≡◌, ℕ, ◌+◌, nat_le, if◌then◌else◌, List, [], Bool, Option, Some, None}
 use Rattle.std.specs.Option.{option_map}
 use Rattle.pbf_wire.specs.declared.fault.Fault.{Fault}
 use Rattle.pbf_wire.specs.declared.fault.Reason.TheVariants.{NoHeader, EntityLarge}
 use Rattle.pbf_wire.specs.Faults.{fault}
 use Rattle.osm_entity.specs.Entity.{EntitySpec}
 use Rattle.osm_entity.specs.Weight.{text_weight}
-use Rattle.pbf_block.specs.Header.{HeaderSpec}
+use Rattle.pbf_block.specs.Header.{HeaderSpec, header_of}
+use Rattle.pbf_frame.specs.declared.stop.Stop.{Stop}
+use Rattle.pbf_frame.specs.declared.stop.Stop.TheVariants.{Refused, Read, Write, Memory, Changed}
+use Rattle.pbf_frame.specs.Devices.{append, IsFront}
 use Rattle.pbf_frame.specs.Frames.{FrameSpec}
-use Rattle.pbf_frame.specs.Verdict.{Verdict}
+use Rattle.pbf_frame.specs.Verdict.{Verdict, Says}
 use Rattle.osm_pack.specs.Cuts.{written_file}
-use Rattle.pbfcut.specs.Counting.{decoded}
+use Rattle.pbfcut.specs.declared.counts.Counts.{Counts}
+use Rattle.pbfcut.specs.declared.counts.Pass.{Pass}
+use Rattle.pbfcut.specs.Counting.{counts_of, decoded}
 use Rattle.pbfcut.specs.Judged.{judged_file}
 use Rattle.pbfcut.specs.Steps.{file_header}
 
@@ -48,3 +53,37 @@ judged_writable known = option_map limited (judged_file known)
 abbrev pub answer_bytes : Verdict → List ℕ
 answer_bytes (frames, None) = conversion (file_header frames) (decoded frames)
 answer_bytes (frames, Some e) = []
+
+-- ---- the header that a pass took
+
+abbrev pub held_header : Pass → Option (ℕ × HeaderSpec)
+held_header pass = option_map (λ h. (pass.header_at, header_of h)) pass.header
+
+-- the stop is that of the limit
+abbrev pub IsLimit : Option Fault → Stop → Type 0
+IsLimit limit (Refused e) = limit ≡ Some e
+IsLimit limit Read = ⊥
+IsLimit limit Write = ⊥
+IsLimit limit Memory = ⊥
+IsLimit limit (Changed pass) = ⊥
+
+-- ---- a whole call
+
+-- the file has no fault, and its header can be written
+abbrev pub CanBeWritten : Option Verdict → Type 0
+CanBeWritten known = (frames : List FrameSpec) × Says known (frames, None)
+
+-- each of the feeds supplies these bytes
+abbrev pub BothSupply : List ℕ → Option (List ℕ) → Option (List ℕ) → Type 0
+BothSupply b first second = (first ≡ Some b) × (second ≡ Some b)
+
+-- the file has no fault, these are the numbers of its entities, and its conversion went out
+pub record Converted (known : Option Verdict) (counts : Counts) (old new : Option (List ℕ)) : Type 0 where
+  pub frames : List FrameSpec
+  pub judged : known ≡ Some (frames, None)
+  pub counted : counts ≡ counts_of (decoded frames)
+  pub taken : new ≡ append old (answer_bytes (frames, None))
+
+-- a beginning of what is to be written for the file went out
+abbrev pub ConvertsFront : Option Verdict → Option (List ℕ) → Option (List ℕ) → Type 0
+ConvertsFront known old new = (all : Verdict) → known ≡ Some all → IsFront old new (answer_bytes all)

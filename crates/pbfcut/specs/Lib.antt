@@ -4,6 +4,8 @@ pub mod Listing
 pub mod Judged
 pub mod Counting
 pub mod Steps
+pub mod Gathering
+pub mod Picking
 pub mod Hashing
 pub mod Dates
 pub mod EntityText

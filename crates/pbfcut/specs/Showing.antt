@@ -58,13 +58,13 @@ ShowStops first second known read wrote old new Write = wrote
 ShowStops first second known read wrote old new Memory = Unit {0}
 ShowStops first second known read wrote old new (Changed pass) = (pass ≡ 2) × Differ first second
 
--- a fault that a later pass meets is a change
-abbrev pub as_change : Stop → Stop
-as_change (Refused e) = Changed 2
-as_change Read = Read
-as_change Write = Write
-as_change Memory = Memory
-as_change (Changed pass) = Changed pass
+-- a fault that the pass of this number meets behind the first is a change
+abbrev pub as_change : ℕ → Stop → Stop
+as_change number (Refused e) = Changed number
+as_change number Read = Read
+as_change number Write = Write
+as_change number Memory = Memory
+as_change number (Changed pass) = Changed pass
 
 -- ---- the pass that writes
 

@@ -2,6 +2,7 @@
 use Rattle.std.specs.Prelude.{◌≡◌, ℕ, List, [], ◌∷◌, Bool, true, false, Option, Some, None}
 use Rattle.std.specs.List.{flat_map, last_or}
 use Rattle.std.specs.Option.{option_map}
+use Rattle.osm_entity.specs.Entity.{EntitySpec}
 use Rattle.pbf_block.specs.Header.{HeaderSpec, header_of, header_in}
 use Rattle.pbf_frame.specs.declared.frame.FrameKind.{FrameKind}
 use Rattle.pbf_frame.specs.declared.frame.FrameKind.TheVariants as kind
@@ -21,11 +22,15 @@ use Rattle.pbfcut.specs.Judged.{payload_fault, fully_known}
 abbrev pub IsFresh : Pass → Type 0
 IsFresh pass = (pass.header ≡ None) × (pass.header_at ≡ 0) × (pass.counts ≡ counts_of [])
 
--- a pass took the header of a payload that begins at this place, or counts its entities; or left it
+-- a pass took the header of a payload that begins at this place, or counts these entities of it; or left it
+abbrev pub TakesSome : FrameKind → ℕ → List ℕ → List EntitySpec → Pass → Pass → Type 0
+TakesSome kind.Header at payload es old new = (option_map header_of new.header ≡ Some (header_in at payload)) × (new.header_at ≡ at) × (new.counts ≡ old.counts)
+TakesSome kind.Data at payload es old new = (new.header ≡ old.header) × (new.header_at ≡ old.header_at) × (new.counts ≡ counted_with old.counts (counts_of es))
+TakesSome kind.Other at payload es old new = new ≡ old
+
+-- it counts all of them
 abbrev pub TakesPayload : FrameKind → ℕ → List ℕ → Pass → Pass → Type 0
-TakesPayload kind.Header at payload old new = (option_map header_of new.header ≡ Some (header_in at payload)) × (new.header_at ≡ at) × (new.counts ≡ old.counts)
-TakesPayload kind.Data at payload old new = (new.header ≡ old.header) × (new.header_at ≡ old.header_at) × (new.counts ≡ counted_with old.counts (counts_of (entities_of kind.Data at payload)))
-TakesPayload kind.Other at payload old new = new ≡ old
+TakesPayload k at payload old new = TakesSome k at payload (entities_of k at payload) old new
 
 abbrev pub Takes : FrameSpec → Pass → Pass → Type 0
 Takes f old new = TakesPayload (frame_kind f) (frame_payload_at f) (frame_payload f) old new

@@ -1,20 +1,22 @@
 //! What a pass takes of the frames: the header, and the numbers of entities.
 
-ghost use Rattle.std.specs.Prelude.{◌≡◌, ◌+◌, ◌≤◌, ◌<◌, ◌^◌, [], None, Some, Err, OnOk, length};
+ghost use Rattle.std.specs.Prelude.{◌≡◌, ◌+◌, ◌≤◌, ◌<◌, ◌^◌, [], None, Some, Err, IfOk, OnOk, length};
+ghost use Rattle.std.specs.List.{fold};
 ghost use Rattle.pbf_frame.specs.declared.frame.FrameKind.TheVariants as kind;
 ghost use Rattle.pbf_wire.specs.declared.fault.Fault.{Fault};
 ghost use Rattle.pbf_wire.specs.declared.fault.ReadFault.TheVariants.{Refused};
 ghost use Rattle.osm_entity.specs.Views.{entity_of};
 ghost use Rattle.pbf_block.specs.Cursors.{entities_left};
 ghost use Rattle.pbfcut.specs.Judged.{payload_fault_of};
-ghost use Rattle.pbfcut.specs.Counting.{counted_with, count_one, counts_of};
+ghost use Rattle.pbfcut.specs.Counting.{counted_with, count_one, counts_of, entities_of};
 ghost use Rattle.pbfcut.specs.Steps.{IsFresh, TakesPayload};
 
+use crate::gathering::Gather;
 use osm_entity::EntityRef;
 use pbf_block::{Block, Entities, Header};
 use pbf_frame::{Frame, FrameKind};
 use pbf_wire::ReadFault;
-use std::alloc::Global;
+use std::alloc::{AllocError, Global};
 
 /// The numbers of nodes, ways and relations, each the greatest `u64` where there are more.
 #[derive(Clone, Copy, Debug, PartialEq, Eq)]
@@ -26,7 +28,7 @@ pub struct Counts {
 
 impl Counts {
     /// Nothing is counted yet.
-    fn none() -> Counts
+    pub(crate) fn none() -> Counts
         ensures { result ≡ counts_of [] }
     {
         Counts {
@@ -57,15 +59,20 @@ impl Counts {
     }
 }
 
-/// How many entities there are.
-fn count_entities(entities: Entities<'_>) -> Counts
-    ensures { result ≡ counts_of (entities_left entities.entry) }
+/// Gathers entities, and answers how many there are.
+fn take_entities<G: Gather>(
+    entities: Entities<'_>,
+    gathering: &mut G,
+) -> Result<Counts, AllocError>
+    ensures counted { IfOk result (λ counts. counts ≡ counts_of (entities_left entities.entry)) }
+    ensures gathered { OnOk result (gathering.new ≡ fold G.gathered gathering.old (entities_left entities.entry)) }
 {
     let mut counts = Counts::none();
     for entity in entities {
+        gathering.gather(&entity)?;
         counts.take(&entity);
     }
-    counts
+    Ok(counts)
 }
 
 /// What lasts from frame to frame of a pass.
@@ -91,22 +98,30 @@ impl Pass {
         }
     }
 
-    /// Takes the header of a frame, or counts its entities. Refuses the first fault of its payload.
-    pub(crate) fn take(&mut self, alloc: Global, frame: &Frame<'_>) -> Result<(), ReadFault>
+    /// Takes the header of a frame, or counts its entities and gathers them. Refuses the first fault of its payload.
+    pub(crate) fn take<G: Gather>(
+        &mut self,
+        alloc: Global,
+        frame: &Frame<'_>,
+        gathering: &mut G,
+    ) -> Result<(), ReadFault>
         ensures taken { OnOk result (TakesPayload frame.now.kind frame.now.payload_at frame.now.payload.now self.old self.new) }
+        ensures gathered { OnOk result (gathering.new ≡ fold G.gathered gathering.old (entities_of frame.now.kind frame.now.payload_at frame.now.payload.now)) }
         ensures sound { OnOk result (payload_fault_of frame.now.kind frame.now.payload_at frame.now.payload.now ≡ None) }
         ensures refused { (fault : Fault) → result ≡ Err (Refused fault) → payload_fault_of frame.now.kind frame.now.payload_at frame.now.payload.now ≡ Some fault }
     {
         match frame.kind {
             FrameKind::Header => self.take_header(alloc, frame.payload, frame.payload_at)?,
-            FrameKind::Data => self.take_block(alloc, frame.payload, frame.payload_at)?,
+            FrameKind::Data => {
+                self.take_block(alloc, frame.payload, frame.payload_at, gathering)?;
+            }
             FrameKind::Other => {}
         }
         Ok(())
     }
 
     /// Takes the header of a HeaderBlock.
-    fn take_header(&mut self, alloc: Global, payload: &[u8], at: u64) -> Result<(), ReadFault>
+    pub(crate) fn take_header(&mut self, alloc: Global, payload: &[u8], at: u64) -> Result<(), ReadFault>
         requires { at + length payload.now ≤ 2 ^ 63 }
         ensures taken { OnOk result (TakesPayload kind.Header at payload.now self.old self.new) }
         ensures sound { OnOk result (payload_fault_of kind.Header at payload.now ≡ None) }
@@ -117,16 +132,23 @@ impl Pass {
         Ok(())
     }
 
-    /// Counts the entities of a PrimitiveBlock.
-    fn take_block(&mut self, alloc: Global, payload: &[u8], at: u64) -> Result<(), ReadFault>
+    /// Counts the entities of a PrimitiveBlock, and gathers them.
+    fn take_block<G: Gather>(
+        &mut self,
+        alloc: Global,
+        payload: &[u8],
+        at: u64,
+        gathering: &mut G,
+    ) -> Result<(), ReadFault>
         requires placed { at + length payload.now ≤ 2 ^ 63 }
         requires short { length payload.now < 33554432 }
         ensures taken { OnOk result (TakesPayload kind.Data at payload.now self.old self.new) }
+        ensures gathered { OnOk result (gathering.new ≡ fold G.gathered gathering.old (entities_of kind.Data at payload.now)) }
         ensures sound { OnOk result (payload_fault_of kind.Data at payload.now ≡ None) }
         ensures refused { (fault : Fault) → result ≡ Err (Refused fault) → payload_fault_of kind.Data at payload.now ≡ Some fault }
     {
         let block = Block::read(alloc, payload, at)?;
-        self.counts.add(count_entities(block.entities()));
+        self.counts.add(take_entities(block.entities(), gathering)?);
         Ok(())
     }
 }

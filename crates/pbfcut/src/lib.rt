@@ -4,14 +4,19 @@
 mod blobs;
 #[cfg(test)]
 mod check_tests;
+mod converting;
 mod counts;
 mod dates;
 mod entity_text;
+mod gathering;
 mod hashed;
+mod header_limit;
 mod header_text;
+mod later;
 pub mod laws;
 mod number;
 mod passes;
+mod picking;
 mod quoted;
 #[cfg(test)]
 mod show_tests;
@@ -21,7 +26,9 @@ mod steps;
 mod tests;
 
 pub use blobs::list_blobs;
+pub use converting::convert;
 pub use counts::{Counts, Pass};
 pub use passes::check;
+pub use picking::{step_write, step_write_parents};
 pub use showing::show;
-pub use steps::step_count;
+pub use steps::{step_count, step_nodes, step_relations, step_ways};

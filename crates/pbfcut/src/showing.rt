@@ -12,13 +12,14 @@ ghost use Rattle.pbf_frame.specs.Devices.{IsAtEnd, IsFront, HasRisen, append};
 ghost use Rattle.pbf_frame.specs.Next.{IsReading, place_of, verdict};
 ghost use Rattle.pbfcut.specs.EntityText.{entity_line};
 ghost use Rattle.pbfcut.specs.Judged.{payload_fault_of, fully_known, judged_file};
-ghost use Rattle.pbfcut.specs.Showing.{payload_text, Shown, ShowsFront, ShowStops, as_change, WritesFront, WriteStops, TookText, StoppedInText, TextStops, StoppedInPayload, PayloadStops};
+ghost use Rattle.pbfcut.specs.Showing.{payload_text, Shown, ShowsFront, ShowStops, WritesFront, WriteStops, TookText, StoppedInText, TextStops, StoppedInPayload, PayloadStops};
 ghost use Rattle.pbfcut.specs.Steps.{CountsFile};
 
 use crate::counts::Counts;
 use crate::entity_text::put_entity;
 use crate::hashed::Hashed;
 use crate::header_text::put_header;
+use crate::later::changed;
 use crate::passes::pass_count;
 use osm_entity::EntityRef;
 use pbf_block::{Block, Entities, Header};
@@ -199,16 +200,6 @@ fn pass_show<F: Feed, D: Drain>(
     Ok(digest)
 }
 
-/// A fault that the pass which judges didn't meet is a change.
-fn changed(stop: Stop) -> Stop
-    ensures { result ≡ as_change stop }
-{
-    match stop {
-        Stop::Refused(_) => Stop::Changed(2),
-        other => other,
-    }
-}
-
 /// Writes a line for each field of the header and for each entity, and answers the numbers of entities. With `dates` times
 /// are written as dates.
 ///
@@ -247,6 +238,6 @@ pub fn show<F: Feed, G: Feed, D: Drain>(
                 Err(Stop::Changed(2))
             }
         }
-        Err(stop) => Err(changed(stop)),
+        Err(stop) => Err(changed(2, stop)),
     }
 }

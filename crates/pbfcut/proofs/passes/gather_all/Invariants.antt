@@ -1,11 +1,12 @@
 use Rattle.std.proofs.Common.{◌≡◌, ◌≤◌, ◌-◌, ◌^◌, ℕ, List}
+use Rattle.std.specs.List.{fold}
 use Rattle.pbf_frame.specs.Frames.{FrameSpec}
 use Rattle.pbf_frame.specs.Verdict.{Gone}
 use Rattle.pbf_frame.specs.Next.{verdict, place_of, IsReading}
 use Rattle.pbfcut.specs.Judged.{fully_known}
 use Rattle.pbfcut.specs.Counting.{counts_of, decoded}
 use Rattle.pbfcut.specs.Steps.{HoldsHeader, file_header}
-use Rattle.pbfcut.proofs.passes.count_all.Given as goal
+use Rattle.pbfcut.proofs.passes.gather_all.Given as goal
 
 -- the frames done are counted, and the verdict is that they come and then those of what is left
 abbrev pub invariant-frames : goal.invariant-frames
@@ -13,7 +14,8 @@ invariant-frames g l =
     let remaining = g.F.Feed.remaining in
     let first = l.initial.reader in
     record {
-      done : (frames : List FrameSpec) × Gone (fully_known (verdict remaining first)) frames (fully_known (verdict remaining l.reader)) × (l.pass.counts ≡ counts_of (decoded frames)) × HoldsHeader (file_header frames) l.pass;
+      done : (frames : List FrameSpec) × Gone (fully_known (verdict remaining first)) frames (fully_known (verdict remaining l.reader)) × (l.pass.counts ≡ counts_of (decoded frames)) × HoldsHeader (file_header frames) l.pass
+        × (l.gathering ≡ fold g.G.Gather.gathered l.initial.gathering (decoded frames));
       carries : (b : List ℕ) → g.F.Feed.carries first.feed b → g.F.Feed.carries l.reader.feed b;
       reading : IsReading l.reader;
       counts : g.F.Feed.failures first.feed ≤ g.F.Feed.failures l.reader.feed;

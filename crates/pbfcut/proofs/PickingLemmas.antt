@@ -1,0 +1,233 @@
+-- Entities that are picked, on their way into the drain.
+use Rattle.std.proofs.Common.{◌≡◌, ◌⊎◌, ℕ, ◌+◌, ◌-◌, ◌^◌, ◌≤◌, List, [], ◌∷◌, ◌++◌, append_assoc, append-nil, Bool, true, false, Option, Some, None, subst, inl, inr, refl, sym, ap, ◌∙◌, arith}
+use Rattle.std.specs.Prelude.{min, cond}
+use Rattle.std.proofs.lemmas.List.Elements.{filter-append}
+use Rattle.std.proofs.lemmas.List.Sums.{sum_by-cons}
+use Rattle.std.specs.List.{AllByRecursion, filter, sum_by}
+use Rattle.osm_entity.specs.Entity.{EntitySpec, node, way, relation}
+use Rattle.osm_entity.specs.Ranges.{EntityFits}
+use Rattle.pbf_block.specs.Header.{HeaderSpec}
+use Rattle.pbf_frame.specs.declared.stop.Stop.{Stop}
+use Rattle.pbf_frame.specs.declared.stop.Stop.TheVariants as stop
+use Rattle.pbf_frame.specs.Devices.{append, IsFront, HasRisen}
+use Rattle.pbf_frame.specs.Frames.{FrameSpec}
+use Rattle.pbf_frame.specs.Verdict.{Verdict, with_first_known}
+use Rattle.pbf_frame.proofs.Beginnings.{front_whole, front_longer, front_then}
+use Rattle.pbf_frame.proofs.KnownBytes.{append_append, append_none}
+use Rattle.osm_pack.specs.Cuts.{header_frame, written_file, written_entities, then_pending, then_written, at_end, pending_after, written_after}
+use Rattle.osm_pack.specs.Packing.{Packing, Pending}
+use Rattle.osm_pack.specs.Stops.{IsPackStop}
+use Rattle.osm_pack.proofs.CutLemmas.{push_keeps, kept_none}
+use Rattle.osm_pack.proofs.OpenLemmas.{alone}
+use Rattle.osm_pack.proofs.RunLemmas.{run_keeps, run_kept, run_ends, pending_push, written_push}
+use Rattle.std.proofs.lemmas.Grind.{flat_map-append}
+use Rattle.pbf_frame.specs.Verdict.{Gone, Says, with_all}
+use Rattle.pbf_frame.proofs.VerdictLemmas.{gone_more, gone_split}
+use Rattle.pbfcut.specs.Counting.{decoded, frame_entities}
+use Rattle.pbfcut.specs.Judged.{payload_fault, fully, fully_known}
+use Rattle.pbfcut.proofs.CountLemmas.{CountedOn, same_counts}
+use Rattle.pbfcut.proofs.StepLemmas.{fully_first, picked_one}
+use Rattle.pbfcut.specs.declared.counts.Counts.{Counts}
+use Rattle.pbfcut.specs.Counting.{nodes_of, ways_of, relations_of, capped, counts_of, count_one}
+use Rattle.pbfcut.specs.Picking.{Pick, HasPacked, BeginsAll, Packs, Begins, StoppedPacking, Packed, PacksFront}
+use Rattle.pbfcut.specs.Showing.{PayloadStops}
+
+all_push : {A : Type 0} (P : A → Type 0) (xs : List A) (x : A) → AllByRecursion P xs → P x → AllByRecursion P (xs ++ x ∷ [])
+all_push P [] x h p = (p, tt)
+all_push P (y ∷ xs) x h p = (h.0, all_push P xs x h.1 p)
+
+all_gone : (gone left all : List EntitySpec) → left ≡ [] → gone ++ left ≡ all → gone ≡ all
+all_gone gone left all is split = sym (append-nil gone) ∙ (ap (λ (l : List EntitySpec). gone ++ l) (sym is) ∙ split)
+
+-- an entity stands behind those that are gone
+split_here : (done gone left later all rest : List EntitySpec) (e : EntitySpec) → left ≡ e ∷ later → gone ++ left ≡ all → (done ++ gone) ++ e ∷ (later ++ rest) ≡ (done ++ all) ++ rest
+split_here done gone left later all rest e is split =
+    append_assoc done gone (e ∷ (later ++ rest))
+    ∙ (ap (λ (l : List EntitySpec). done ++ l) (sym (append_assoc gone (e ∷ later) rest) ∙ ap (λ (l : List EntitySpec). l ++ rest) (ap (λ (l : List EntitySpec). gone ++ l) (sym is) ∙ split)) ∙ sym (append_assoc done all rest))
+
+front_of : (pick : Pick) (start now : Option (List ℕ)) (fs rest : List FrameSpec) (all : Verdict) → all.0 ≡ fs ++ rest → BeginsAll start (filter pick (decoded fs)) now → IsFront start now (written_entities (filter pick (decoded all.0)))
+front_of pick start now fs rest all split begins =
+    subst (λ (l : List EntitySpec). IsFront start now (written_entities l))
+    (sym (filter-append pick (decoded fs) (decoded rest)) ∙ ap (λ (l : List EntitySpec). filter pick l) (sym (flat_map-append frame_entities fs rest) ∙ ap decoded (sym split)))
+    (begins (filter pick (decoded rest)))
+
+-- at the end of a file without a fault its frames are those done
+pub says_end : (first mid : Option Verdict) (fs : List FrameSpec) → Gone first fs (fully_known mid) → Says mid ([], None) → Says first (fs, None)
+says_end first None fs gone says = subst (λ (k : Option Verdict). Says k (fs, None)) (sym gone) tt
+says_end first (Some v) fs gone says =
+    subst (λ (k : Option Verdict). Says k (fs, None)) (sym gone) (ap (λ (v : Verdict). with_all fs (fully v)) says ∙ ap (λ (l : List FrameSpec). (l, None)) (append-nil fs))
+
+pub told_frames : (first : Option Verdict) (fs : List FrameSpec) (all : Verdict) → Says first (fs, None) → first ≡ Some all → all.0 ≡ fs
+told_frames first fs all says is = ap (λ (v : Verdict). v.0) (subst (λ (k : Option Verdict). Says k (fs, None)) is says)
+
+-- ---- which are picked
+
+picked_next : (pick : Pick) (e : EntitySpec) (rest : List EntitySpec) → pick e ≡ true → filter pick (e ∷ rest) ≡ e ∷ filter pick rest
+picked_next pick e rest is = ap (λ (b : Bool). cond b (e ∷ filter pick rest) (filter pick rest)) is
+
+left_next : (pick : Pick) (e : EntitySpec) (rest : List EntitySpec) → pick e ≡ false → filter pick (e ∷ rest) ≡ filter pick rest
+left_next pick e rest is = ap (λ (b : Bool). cond b (e ∷ filter pick rest) (filter pick rest)) is
+
+pub picked_behind : (pick : Pick) (gone : List EntitySpec) (e : EntitySpec) → pick e ≡ true → filter pick (gone ++ e ∷ []) ≡ filter pick gone ++ e ∷ []
+picked_behind pick gone e is = filter-append pick gone (e ∷ []) ∙ ap (λ (l : List EntitySpec). filter pick gone ++ l) (picked_next pick e [] is)
+
+pub left_behind : (pick : Pick) (gone : List EntitySpec) (e : EntitySpec) → pick e ≡ false → filter pick (gone ++ e ∷ []) ≡ filter pick gone
+left_behind pick gone e is = filter-append pick gone (e ∷ []) ∙ (ap (λ (l : List EntitySpec). filter pick gone ++ l) (left_next pick e [] is) ∙ append-nil (filter pick gone))
+
+-- an entity that is picked stands behind those that are gone
+picked_here : (pick : Pick) (gone left later all : List EntitySpec) (e : EntitySpec) → left ≡ e ∷ later → gone ++ left ≡ all → pick e ≡ true → filter pick gone ++ e ∷ filter pick later ≡ filter pick all
+picked_here pick gone left later all e is split picked =
+    ap (λ (l : List EntitySpec). filter pick gone ++ l) (sym (picked_next pick e later picked)) ∙ (sym (filter-append pick gone (e ∷ later)) ∙ ap (λ (l : List EntitySpec). filter pick l) (ap (λ (l : List EntitySpec). gone ++ l) (sym is) ∙ split))
+
+-- ---- their numbers
+
+count_next : (now : Counts) (e : EntitySpec) (left all : List EntitySpec) → CountedOn now (e ∷ left) all → CountedOn (count_one now e) left all
+count_next now (node n) left all h = record {
+  nodes = omega (arith, h.nodes, h.few_nodes, sum_by-cons nodes_of (node n) left);
+  ways = omega (arith, h.ways, h.few_ways, sum_by-cons ways_of (node n) left);
+  relations = omega (arith, h.relations, h.few_relations, sum_by-cons relations_of (node n) left);
+  few_nodes = omega (arith, h.few_nodes);
+  few_ways = h.few_ways;
+  few_relations = h.few_relations;
+}
+count_next now (way w) left all h = record {
+  nodes = omega (arith, h.nodes, h.few_nodes, sum_by-cons nodes_of (way w) left);
+  ways = omega (arith, h.ways, h.few_ways, sum_by-cons ways_of (way w) left);
+  relations = omega (arith, h.relations, h.few_relations, sum_by-cons relations_of (way w) left);
+  few_nodes = h.few_nodes;
+  few_ways = omega (arith, h.few_ways);
+  few_relations = h.few_relations;
+}
+count_next now (relation r) left all h = record {
+  nodes = omega (arith, h.nodes, h.few_nodes, sum_by-cons nodes_of (relation r) left);
+  ways = omega (arith, h.ways, h.few_ways, sum_by-cons ways_of (relation r) left);
+  relations = omega (arith, h.relations, h.few_relations, sum_by-cons relations_of (relation r) left);
+  few_nodes = h.few_nodes;
+  few_ways = h.few_ways;
+  few_relations = omega (arith, h.few_relations);
+}
+
+pub count_picked : (pick : Pick) (now next : Counts) (e : EntitySpec) (left rest all : List EntitySpec) → left ≡ e ∷ rest → pick e ≡ true → next ≡ count_one now e → CountedOn now (filter pick left) all → CountedOn next (filter pick rest) all
+count_picked pick now next e left rest all is picked counts h =
+    subst (λ (c : Counts). CountedOn c (filter pick rest) all) (sym counts)
+    (count_next now e (filter pick rest) all (subst (λ (l : List EntitySpec). CountedOn now l all) (ap (λ (l : List EntitySpec). filter pick l) is ∙ picked_next pick e rest picked) h))
+
+pub count_left : (pick : Pick) (now : Counts) (e : EntitySpec) (left rest all : List EntitySpec) → left ≡ e ∷ rest → pick e ≡ false → CountedOn now (filter pick left) all → CountedOn now (filter pick rest) all
+count_left pick now e left rest all is picked h = subst (λ (l : List EntitySpec). CountedOn now l all) (ap (λ (l : List EntitySpec). filter pick l) is ∙ left_next pick e rest picked) h
+
+pub count_all : (pick : Pick) (now : Counts) (left all : List EntitySpec) → left ≡ [] → CountedOn now (filter pick left) all → now ≡ counts_of all
+count_all pick now left all is h =
+    let k = subst (λ (l : List EntitySpec). CountedOn now (filter pick l) all) is h in
+    same_counts now (counts_of all) (omega (arith, k.nodes, k.few_nodes)) (omega (arith, k.ways, k.few_ways)) (omega (arith, k.relations, k.few_relations))
+
+pub last_front : (pick : Pick) (start now : Option (List ℕ)) (first : Option Verdict) (fs : List FrameSpec) (all : Verdict) → Says first (fs, None) → first ≡ Some all → IsFront start now (written_entities (filter pick (decoded fs)))
+    → IsFront start now (written_entities (filter pick (decoded all.0)))
+last_front pick start now first fs all says is front = subst (λ (l : List FrameSpec). IsFront start now (written_entities (filter pick (decoded l)))) (sym (told_frames first fs all says is)) front
+
+-- the whole is a beginning of itself
+pub packed_front : (pick : Pick) (h : HeaderSpec) (known : Option Verdict) (counts : Counts) (old new : Option (List ℕ)) → Packed pick h known counts old new → PacksFront pick h known old new
+packed_front pick h known counts old new (frames, says, counted, went) all is =
+    subst (λ (l : List FrameSpec). IsFront old new (written_file h (filter pick (decoded l)))) (sym (told_frames known frames all says is)) (front_whole old new (written_file h (filter pick (decoded frames))) went)
+
+module _ {D S H : Type 0} where
+  -- one entity more is packed
+  packed_push : (start : Option (List ℕ)) (done : List EntitySpec) (e : EntitySpec) (before now : Option (List ℕ)) (old new : Packing D S H) → HasPacked start done before old → EntityFits e
+      → ((es : List EntitySpec) → Pending old es → Pending new (then_pending es e)) → ((es : List EntitySpec) → Pending old es → now ≡ append before (then_written es e)) → HasPacked start (done ++ e ∷ []) now new
+  packed_push start done e before now old new h fits p t = record {
+      fits = all_push EntityFits done e h.fits fits;
+      taken_is = t (pending_after [] done) h.pending
+        ∙ (ap (λ (k : Option (List ℕ)). append k (then_written (pending_after [] done) e)) h.taken_is
+        ∙ (append_append start (written_after [] done) (then_written (pending_after [] done) e) ∙ ap (append start) (sym (written_push [] done e))));
+      pending = subst (λ es. Pending new es) (sym (pending_push [] done e)) (p (pending_after [] done) h.pending);
+    }
+
+  -- what went out begins what is written for all that come
+  pub begins_packed : (start : Option (List ℕ)) (done : List EntitySpec) (taken : Option (List ℕ)) (packer : Packing D S H) → HasPacked start done taken packer → BeginsAll start done taken
+  begins_packed start done taken packer h rest =
+      subst (λ (l : List ℕ). IsFront start taken l) (run_keeps [] done rest kept_none h.fits)
+      (front_longer start taken (written_after [] done) (written_entities (pending_after [] done ++ rest)) (front_whole start taken (written_after [] done) h.taken_is))
+
+  -- the same where a push stopped
+  begins_push : (start : Option (List ℕ)) (done : List EntitySpec) (e : EntitySpec) (before now : Option (List ℕ)) (packer : Packing D S H) → HasPacked start done before packer → EntityFits e
+      → ((es : List EntitySpec) → Pending packer es → IsFront before now (then_written es e)) → (rest : List EntitySpec) → IsFront start now (written_entities (done ++ e ∷ rest))
+  begins_push start done e before now packer h fits f rest =
+      let es = pending_after [] done in
+      let all : (written_after [] done ++ then_written es e) ++ written_entities (then_pending es e ++ rest) ≡ written_entities (done ++ e ∷ rest) =
+        append_assoc (written_after [] done) (then_written es e) _
+        ∙ (ap (λ (l : List ℕ). written_after [] done ++ l) (push_keeps es e rest (run_kept [] done kept_none h.fits) (alone e fits)) ∙ run_keeps [] done (e ∷ rest) kept_none h.fits) in
+      subst (λ (l : List ℕ). IsFront start now l) all
+      (front_longer start now (written_after [] done ++ then_written es e) (written_entities (then_pending es e ++ rest)) (front_then start before now (written_after [] done) (then_written es e) h.taken_is (f es h.pending)))
+
+  -- ---- in a loop over entities, of which some are gone
+
+  pub none_gone : (start : Option (List ℕ)) (done : List EntitySpec) (taken : Option (List ℕ)) (packer : Packing D S H) → HasPacked start done taken packer → HasPacked start (done ++ []) taken packer
+  none_gone start done taken packer h = subst (λ (l : List EntitySpec). HasPacked start l taken packer) (sym (append-nil done)) h
+
+  pub one_picked : (pick : Pick) (start : Option (List ℕ)) (done gone : List EntitySpec) (e : EntitySpec) (before now : Option (List ℕ)) (old new : Packing D S H) → pick e ≡ true → HasPacked start (done ++ filter pick gone) before old → EntityFits e
+      → ((es : List EntitySpec) → Pending old es → Pending new (then_pending es e)) → ((es : List EntitySpec) → Pending old es → now ≡ append before (then_written es e)) → HasPacked start (done ++ filter pick (gone ++ e ∷ [])) now new
+  one_picked pick start done gone e before now old new is h fits p t =
+      subst (λ (l : List EntitySpec). HasPacked start l now new) (append_assoc done (filter pick gone) (e ∷ []) ∙ ap (λ (l : List EntitySpec). done ++ l) (sym (picked_behind pick gone e is))) (packed_push start (done ++ filter pick gone) e before now old new h fits p t)
+
+  pub one_left : (pick : Pick) (start : Option (List ℕ)) (done gone : List EntitySpec) (e : EntitySpec) (taken : Option (List ℕ)) (packer : Packing D S H) → pick e ≡ false → HasPacked start (done ++ filter pick gone) taken packer → HasPacked start (done ++ filter pick (gone ++ e ∷ [])) taken packer
+  one_left pick start done gone e taken packer is h = subst (λ (l : List EntitySpec). HasPacked start (done ++ l) taken packer) (sym (left_behind pick gone e is)) h
+
+  pub all_are_gone : (pick : Pick) (start : Option (List ℕ)) (done gone left all : List EntitySpec) (taken : Option (List ℕ)) (packer : Packing D S H) → left ≡ [] → gone ++ left ≡ all → HasPacked start (done ++ filter pick gone) taken packer → HasPacked start (done ++ filter pick all) taken packer
+  all_are_gone pick start done gone left all taken packer is split h = subst (λ (l : List EntitySpec). HasPacked start (done ++ filter pick l) taken packer) (all_gone gone left all is split) h
+
+  pub stopped_here : (pick : Pick) (start : Option (List ℕ)) (done gone left later all : List EntitySpec) (e : EntitySpec) (before now : Option (List ℕ)) (packer : Packing D S H) → left ≡ e ∷ later → gone ++ left ≡ all → pick e ≡ true
+      → HasPacked start (done ++ filter pick gone) before packer → EntityFits e → ((es : List EntitySpec) → Pending packer es → IsFront before now (then_written es e)) → BeginsAll start (done ++ filter pick all) now
+  stopped_here pick start done gone left later all e before now packer is split picked h fits f rest =
+      subst (λ (l : List EntitySpec). IsFront start now (written_entities l)) (split_here done (filter pick gone) (e ∷ filter pick later) (filter pick later) (filter pick all) rest e refl (picked_here pick gone left later all e is split picked))
+      (begins_push start (done ++ filter pick gone) e before now packer h fits f (filter pick later ++ rest))
+
+  -- ---- in a loop over frames
+
+  pub none_packed : (taken : Option (List ℕ)) (packer : Packing D S H) → Pending packer [] → HasPacked taken [] taken packer
+  none_packed taken packer p = record { fits = tt; taken_is = sym (append_none taken); pending = p }
+
+  pub frame_packed : (pick : Pick) (start : Option (List ℕ)) (fs : List FrameSpec) (f : FrameSpec) (before now : Option (List ℕ)) (old new : Packing D S H) → HasPacked start (filter pick (decoded fs)) before old → Packs before now old new (filter pick (frame_entities f))
+      → HasPacked start (filter pick (decoded (fs ++ f ∷ []))) now new
+  frame_packed pick start fs f before now old new h p = subst (λ (l : List EntitySpec). HasPacked start l now new) (sym (picked_one pick fs f)) (p.packed start (filter pick (decoded fs)) h)
+
+  -- whatever a step that stopped wrote, a beginning of all went out
+  pub frames_front : (pick : Pick) (start : Option (List ℕ)) (first mid : Option Verdict) (fs : List FrameSpec) (before now : Option (List ℕ)) (old : Packing D S H) → Gone first fs (fully_known mid) → HasPacked start (filter pick (decoded fs)) before old → StoppedPacking pick mid before now old
+      → (all : Verdict) → first ≡ Some all → IsFront start now (written_entities (filter pick (decoded all.0)))
+  frames_front pick start first mid fs before now old gone h (inl same) all is =
+      let (rest, e, split) = gone_split first (fully_known mid) fs all gone is in
+      front_of pick start now fs rest.0 all split (begins_packed start (filter pick (decoded fs)) now old (subst (λ (k : Option (List ℕ)). HasPacked start (filter pick (decoded fs)) k old) (sym same) h))
+  frames_front pick start first mid fs before now old gone h (inr (f, later, e, sound, begins)) all is =
+      let (rest, e2, split) = gone_split first (fully_known later) (fs ++ f ∷ []) all (gone_more first (fully_known mid) (fully_known later) fs f gone (fully_first mid later f e sound)) is in
+      front_of pick start now (fs ++ f ∷ []) rest.0 all split (subst (λ (l : List EntitySpec). BeginsAll start l now) (sym (picked_one pick fs f)) (begins.begun start (filter pick (decoded fs)) h))
+
+  pub same_packed : (start : Option (List ℕ)) (es : List EntitySpec) (before now : Option (List ℕ)) (old new : Packing D S H) → now ≡ before → new ≡ old → HasPacked start es before old → HasPacked start es now new
+  same_packed start es before now old new t p h = subst (λ (k : Option (List ℕ)). HasPacked start es k new) (sym t) (subst (λ (q : Packing D S H). HasPacked start es before q) (sym p) h)
+
+  -- the block that is closed at the end
+  pub ended : (start : Option (List ℕ)) (es : List EntitySpec) (before now : Option (List ℕ)) (packer : Packing D S H) → HasPacked start es before packer → ((es : List EntitySpec) → Pending packer es → now ≡ append before (at_end es))
+      → now ≡ append start (written_entities es)
+  ended start es before now packer h w =
+      w (pending_after [] es) h.pending ∙ (ap (λ (k : Option (List ℕ)). append k (at_end (pending_after [] es))) h.taken_is
+      ∙ (append_append start (written_after [] es) (at_end (pending_after [] es)) ∙ ap (append start) (run_ends es h.fits)))
+
+  pub end_front : (start : Option (List ℕ)) (es : List EntitySpec) (before now : Option (List ℕ)) (packer : Packing D S H) → HasPacked start es before packer → ((es : List EntitySpec) → Pending packer es → IsFront before now (at_end es))
+      → IsFront start now (written_entities es)
+  end_front start es before now packer h f =
+      subst (λ (l : List ℕ). IsFront start now l) (run_ends es h.fits) (front_then start before now (written_after [] es) (at_end (pending_after [] es)) h.taken_is (f (pending_after [] es) h.pending))
+
+-- the header first, and then what begins all entities
+pub behind_header : (h : HeaderSpec) (old start now : Option (List ℕ)) (es : List EntitySpec) → start ≡ append old (header_frame h) → IsFront start now (written_entities es) → IsFront old now (written_file h es)
+behind_header h old start now es e f = front_then old start now (header_frame h) (written_entities es) e f
+
+pub header_alone : (h : HeaderSpec) (old now : Option (List ℕ)) (es : List EntitySpec) → IsFront old now (header_frame h) → IsFront old now (written_file h es)
+header_alone h old now es f = front_longer old now (header_frame h) (written_entities es) f
+
+pub whole_file : (h : HeaderSpec) (old start now : Option (List ℕ)) (es : List EntitySpec) → start ≡ append old (header_frame h) → now ≡ append start (written_entities es) → now ≡ append old (written_file h es)
+whole_file h old start now es e f = f ∙ (ap (λ (k : Option (List ℕ)). append k (written_entities es)) e ∙ append_append old (header_frame h) (written_entities es))
+
+-- a packer's stop is one of a payload without a fault
+pub pack_stop : (first before now : ℕ) (s : Stop) → first ≤ before → IsPackStop before now s → PayloadStops None first now s
+pack_stop first before now (stop.Refused e) l h = absurd h
+pack_stop first before now stop.Read l h = absurd h
+pack_stop first before now stop.Write l h = omega (arith, l, h)
+pack_stop first before now stop.Memory l h = tt
+pack_stop first before now (stop.Changed pass) l h = absurd h

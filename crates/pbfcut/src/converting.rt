@@ -1,0 +1,61 @@
+//! `convert`: all entities, in canonical form.
+
+ghost use Rattle.std.specs.Prelude.{◌≡◌, ◌⊎◌, ℕ, List, Some, None, IfOk, IfErr, IfSome, OnOk, OnErr};
+ghost use Rattle.sha2.specs.Sha256.{sha256};
+ghost use Rattle.pbf_frame.specs.Devices.{HasRisen};
+ghost use Rattle.pbfcut.specs.Converting.{BothSupply, CanBeWritten, judged_writable, Converted, ConvertsFront};
+ghost use Rattle.pbfcut.specs.Judged.{judged_file};
+ghost use Rattle.pbfcut.specs.Showing.{ShowStops};
+ghost use Rattle.pbfcut.specs.Steps.{CountsFile};
+
+use crate::counts::Counts;
+use crate::header_limit::writable_header;
+use crate::later::later_pack;
+use crate::passes::pass_count;
+use crate::picking::Selection;
+use pbf_frame::{Drain, Feed, Stop};
+use std::alloc::Global;
+use std::hash::BuildHasher;
+
+/// Writes all entities in canonical form, behind the header in written form, and answers their numbers.
+///
+/// Both feeds have to supply the same bytes. The first is judged as a whole before anything is written: `Refused` names its
+/// first fault, of any phase, or `EntityLarge` at its HeaderBlock where the header's source and base URL have more than
+/// 12,000,000 bytes together. The second is written from. `Changed(2)` says that it had a fault or another digest, so that its
+/// bytes aren't those of the first; what was written then has no meaning. Strangers choose the texts of a file, so the hasher
+/// should be seeded.
+///
+/// A conversion of what was written is the same bytes: see [`crate::laws`].
+pub fn convert<F: Feed, G: Feed, D: Drain, S: BuildHasher + Drop>(
+    alloc: Global,
+    first: &mut F,
+    second: &mut G,
+    drain: &mut D,
+    hasher: S,
+) -> Result<Counts, Stop>
+    // The first file has no fault, and its header can be written.
+    ensures judged { OnOk result (CanBeWritten (judged_writable (F.remaining first.old))) }
+    // Where both feeds supply these bytes, the drain took exactly their conversion, and the counts are those of their entities.
+    ensures converted { IfOk result (λ counts. (b : List ℕ) → BothSupply b (F.remaining first.old) (G.remaining second.old) → Converted (judged_writable (Some b)) counts (D.taken drain.old) (D.taken drain.new)) }
+    // No files that differ, unless two unlike lists share a digest.
+    ensures digests { OnOk result ((b c : List ℕ) → F.remaining first.old ≡ Some b → G.remaining second.old ≡ Some c → sha256 b ≡ sha256 c) }
+    // Each stop has its cause; what is refused is the first file, by its first fault, and then the drain took nothing.
+    ensures stops { IfErr result (ShowStops (F.remaining first.old) (G.remaining second.old) (judged_writable (F.remaining first.old))
+        (HasRisen (F.failures first.old) (F.failures first.new) ⊎ HasRisen (G.failures second.old) (G.failures second.new))
+        (HasRisen (D.failures drain.old) (D.failures drain.new)) (D.taken drain.old) (D.taken drain.new)) }
+    // Whatever stopped it, where both feeds supply these bytes a beginning of their conversion went out, and nothing where they have a fault.
+    ensures beginning { OnErr result ((b : List ℕ) → BothSupply b (F.remaining first.old) (G.remaining second.old) → ConvertsFront (judged_writable (Some b)) (D.taken drain.old) (D.taken drain.new)) }
+{
+    let told = pass_count(alloc, first)?;
+    let header = writable_header(&told.0)?;
+    later_pack(
+        alloc,
+        second,
+        drain,
+        hasher,
+        header,
+        Selection::Everything,
+        told.1,
+        2,
+    )
+}
