@@ -7,3 +7,5 @@ pub mod ShowingLemmas
 pub mod FileLaw
 pub mod GatherLemmas
 pub mod PickingLemmas
+pub mod ConvertingLemmas
+pub mod ExtractingLemmas

@@ -8,6 +8,7 @@ mod converting;
 mod counts;
 mod dates;
 mod entity_text;
+mod extracting;
 mod gathering;
 mod hashed;
 mod header_limit;
@@ -27,6 +28,7 @@ mod tests;
 
 pub use blobs::list_blobs;
 pub use converting::convert;
+pub use extracting::extract;
 pub use counts::{Counts, Pass};
 pub use passes::check;
 pub use picking::{step_write, step_write_parents};

@@ -42,7 +42,18 @@ pub(crate) enum Selection<'a> {
     Parents(&'a ChosenParents),
 }
 
-impl Selection<'_> {
+impl<'a> Selection<'a> {
+    /// What was chosen, or everything.
+    #[tactic(auto, unfolding(crate::specs::Picking::pick_of))]
+    fn of(chosen: Option<&'a Chosen>) -> Selection<'a>
+        ensures { pick_of result ≡ picked_by_some (option_map (λ c. c.now) chosen.entry) }
+    {
+        match chosen {
+            Some(chosen) => Selection::Ways(chosen),
+            None => Selection::Everything,
+        }
+    }
+
     /// Whether an entity is written.
     #[tactic(auto, unfolding(crate::specs::Picking::pick_of))]
     fn picks(&self, entity: &EntityRef<'_>) -> bool
@@ -174,6 +185,7 @@ fn step_pack<F: Feed, D: Drain, S: BuildHasher>(
     ensures header { has_header packer.new ≡ true }
     ensures drain_counts { D.failures packer.old.drain ≤ D.failures packer.new.drain }
     ensures drain_lender { D.lender packer.new.drain ≡ D.lender packer.old.drain }
+    ensures spent { (stop : Stop) → packing.HasStopped packer.old stop → result ≡ Err stop }
 {
     if let Some(stop) = packer.stop() {
         return Err(stop);
@@ -212,11 +224,7 @@ pub fn step_write<F: Feed, D: Drain, S: BuildHasher>(
     ensures drain_counts { D.failures packer.old.drain ≤ D.failures packer.new.drain }
     ensures spent { (stop : Stop) → packing.HasStopped packer.old stop → result ≡ Err stop }
 {
-    let selection = match chosen {
-        Some(chosen) => Selection::Ways(chosen),
-        None => Selection::Everything,
-    };
-    step_pack(alloc, reader, pass, selection, packer)
+    step_pack(alloc, reader, pass, Selection::of(chosen), packer)
 }
 
 /// As [`step_write`], of the extract with all parents.

@@ -1,0 +1,140 @@
+-- A file's conversion, from what its passes say.
+use Rattle.std.proofs.Common.{◌≡◌, ℕ, ◌+◌, ◌-◌, List, [], ◌∷◌, Bool, true, false, Option, Some, None, subst, refl, sym, ap, ◌∙◌}
+use Rattle.std.specs.List.{filter}
+use Rattle.std.specs.Option.{option_map}
+use Rattle.pbf_wire.specs.declared.fault.Fault.{Fault}
+use Rattle.osm_entity.specs.Entity.{EntitySpec}
+use Rattle.osm_pack.specs.Cuts.{written_file}
+use Rattle.pbf_block.specs.declared.header.Header.{Header}
+use Rattle.pbf_block.specs.Header.{HeaderSpec, header_of}
+use Rattle.pbf_frame.specs.declared.stop.Stop.{Stop}
+use Rattle.pbf_frame.specs.declared.stop.Stop.TheVariants as stop
+use Rattle.pbf_frame.specs.Devices.{append, IsFront}
+use Rattle.pbf_frame.specs.Frames.{FrameSpec}
+use Rattle.pbf_frame.specs.Verdict.{Verdict, Says}
+use Rattle.pbf_frame.proofs.KnownBytes.{append_none}
+use Rattle.pbf_frame.proofs.Parting.{none_some}
+use Rattle.pbfcut.specs.declared.counts.Counts.{Counts}
+use Rattle.pbfcut.specs.declared.counts.Pass.{Pass}
+use Rattle.pbfcut.specs.declared.picking.Selection.TheVariants as selection
+use Rattle.pbfcut.specs.Converting.{header_limit, with_limit, limited, judged_writable, held_header, answer_bytes, conversion, CanBeWritten, IsLimit, Converted, ConvertsFront}
+use Rattle.pbfcut.specs.Counting.{counts_of, decoded}
+use Rattle.pbfcut.specs.Judged.{judged_file}
+use Rattle.pbfcut.specs.Picking.{everything, pick_of, Packed, PacksFront}
+use Rattle.pbfcut.specs.Showing.{ShowStops}
+use Rattle.pbfcut.specs.Steps.{HoldsHeader, PassesFile, file_header}
+
+-- ---- the header
+
+abbrev placed_at : ℕ → Header → ℕ × HeaderSpec
+placed_at at x = (at, header_of x)
+
+pub held_is : (told : Option (ℕ × HeaderSpec)) (pass : Pass) → HoldsHeader told pass → held_header pass ≡ told
+held_is None pass h = ap (λ (o : Option Header). option_map (placed_at pass.header_at) o) h
+held_is (Some header) pass h = of pass.header h.0 ∙ ap (λ (n : ℕ). let p : ℕ × HeaderSpec = (n, header.1) in Some p) h.1 where
+  of : (o : Option Header) → option_map header_of o ≡ Some header.1 → option_map (placed_at pass.header_at) o ≡ Some (pass.header_at, header.1)
+  of None e = absurd (none_some _ _ refl e)
+  of (Some x) e = ap (λ (o : Option HeaderSpec). option_map (λ (y : HeaderSpec). let p : ℕ × HeaderSpec = (pass.header_at, y) in p) o) e
+
+-- ---- the verdict, and the limit of the header
+
+pub limited_sound : (known : Option Verdict) (frames : List FrameSpec) → Says known (frames, None) → header_limit (file_header frames) ≡ None → Says (option_map limited known) (frames, None)
+limited_sound None frames says within = tt
+limited_sound (Some v) frames says within = ap limited says ∙ ap (λ (o : Option Fault). with_limit o frames) within
+
+pub limited_fault : (known : Option Verdict) (frames : List FrameSpec) (e : Fault) → Says known (frames, Some e) → Says (option_map limited known) (frames, Some e)
+limited_fault None frames e says = tt
+limited_fault (Some v) frames e says = ap limited says
+
+pub limited_limit : (known : Option Verdict) (frames : List FrameSpec) (e : Fault) → Says known (frames, None) → header_limit (file_header frames) ≡ Some e → Says (option_map limited known) ([], Some e)
+limited_limit None frames e says limit = tt
+limited_limit (Some v) frames e says limit = ap limited says ∙ ap (λ (o : Option Fault). with_limit o frames) limit
+
+-- a header that can't be written is refused
+pub limit_refused : (known : Option Verdict) (pass : Pass) (e : Fault) → PassesFile known pass → IsLimit (header_limit (held_header pass)) (stop.Refused e) → (frames : List FrameSpec) × Says (option_map limited known) (frames, Some e)
+limit_refused known pass e (frames, says, counted, holds) limit = ([], limited_limit known frames e says (ap header_limit (sym (held_is (file_header frames) pass holds)) ∙ limit))
+
+pub limit_stops : (first second : Option (List ℕ)) (known : Option Verdict) (read wrote : Type 0) (old : Option (List ℕ)) (pass : Pass) (s : Stop) → PassesFile known pass → IsLimit (header_limit (held_header pass)) s → ShowStops first second (option_map limited known) read wrote old old s
+limit_stops first second known read wrote old pass (stop.Refused e) p limit = (limit_refused known pass e p limit, refl)
+limit_stops first second known read wrote old pass stop.Read p limit = absurd limit
+limit_stops first second known read wrote old pass stop.Write p limit = absurd limit
+limit_stops first second known read wrote old pass stop.Memory p limit = absurd limit
+limit_stops first second known read wrote old pass (stop.Changed n) p limit = absurd limit
+
+-- nothing went out
+pub nothing_out : (old : Option (List ℕ)) (whole : List ℕ) → IsFront old old whole
+nothing_out old whole = record { count = 0; taken = sym (append_none old) }
+
+-- where the bytes are known, so is their verdict
+pub judged_sound : (b : List ℕ) (frames : List FrameSpec) → judged_file (Some b) ≡ Some (frames, None) → header_limit (file_header frames) ≡ None → judged_writable (Some b) ≡ Some (frames, None)
+judged_sound b frames judged within = ap (λ (o : Option Verdict). option_map limited o) judged ∙ ap (λ (o : Option Fault). Some (with_limit o frames)) within
+
+-- two passes over these bytes met the same frames
+pub same_frames : (b : List ℕ) (frames others : List FrameSpec) → judged_file (Some b) ≡ Some (frames, None) → judged_file (Some b) ≡ Some (others, None) → others ≡ frames
+same_frames b frames others e f = ap frames_of (sym f ∙ e) where
+  frames_of : Option Verdict → List FrameSpec
+  frames_of None = []
+  frames_of (Some v) = v.0
+
+pub known_says : (b : List ℕ) (v : Verdict) → Says (judged_file (Some b)) v → judged_file (Some b) ≡ Some v
+known_says b v says = ap (λ (w : Verdict). Some w) says
+
+-- ---- everything
+
+all_picked : (es : List EntitySpec) → filter everything es ≡ es
+all_picked [] = refl
+all_picked (e ∷ es) = ap (λ (l : List EntitySpec). e ∷ l) (all_picked es)
+
+pick_everything : pick_of selection.Everything ≡ everything
+unfolding pick_of
+pick_everything = refl
+
+pub everything_picked : (es : List EntitySpec) → filter (pick_of selection.Everything) es ≡ es
+everything_picked es = ap (λ p. filter p es) pick_everything ∙ all_picked es
+
+-- ---- a whole call
+
+-- what a pass over these bytes says of their header
+pub record Passed (b : List ℕ) (pass : Pass) (h : HeaderSpec) : Type 0 where
+  pub frames : List FrameSpec
+  pub judged : judged_file (Some b) ≡ Some (frames, None)
+  pub writable : judged_writable (Some b) ≡ Some (frames, None)
+  pub header : file_header frames ≡ Some (pass.header_at, h)
+
+pub passed : (b : List ℕ) (pass : Pass) (h : HeaderSpec) (known : Option Verdict) → known ≡ judged_file (Some b) → PassesFile known pass → held_header pass ≡ Some (pass.header_at, h) → header_limit (held_header pass) ≡ None → Passed b pass h
+passed b pass h known is (frames, says, counted, holds) held within =
+    let judged = known_says b (frames, None) (subst (λ (k : Option Verdict). Says k (frames, None)) is says) in
+    let same = held_is (file_header frames) pass holds in
+    record {
+      frames = frames;
+      judged = judged;
+      writable = judged_sound b frames judged (ap header_limit (sym same) ∙ within);
+      header = sym same ∙ held;
+    }
+
+-- the bytes that are to be written
+answer_is : (frames : List FrameSpec) (at : ℕ) (h : HeaderSpec) → file_header frames ≡ Some (at, h) → written_file h (filter (pick_of selection.Everything) (decoded frames)) ≡ answer_bytes (frames, None)
+answer_is frames at h e = ap (λ (l : List EntitySpec). written_file h l) (everything_picked (decoded frames)) ∙ ap (λ (o : Option (ℕ × HeaderSpec)). conversion o (decoded frames)) (sym e)
+
+pub converted : (b : List ℕ) (pass : Pass) (h : HeaderSpec) (counts : Counts) (known : Option Verdict) (old new : Option (List ℕ)) → known ≡ judged_file (Some b) → Passed b pass h → Packed (pick_of selection.Everything) h known counts old new
+    → Converted (judged_writable (Some b)) counts old new
+converted b pass h counts known old new is p (others, says, counted, went) =
+    let same = same_frames b p.frames others p.judged (known_says b (others, None) (subst (λ (k : Option Verdict). Says k (others, None)) is says)) in
+    let all = ap decoded same in
+    record {
+      frames = p.frames;
+      judged = p.writable;
+      counted = counted ∙ ap (λ (l : List EntitySpec). counts_of l) (everything_picked (decoded others) ∙ all);
+      taken = went ∙ ap (λ (l : List ℕ). append old l) (ap (λ (l : List EntitySpec). written_file h (filter (pick_of selection.Everything) l)) all ∙ answer_is p.frames pass.header_at h p.header);
+    }
+
+pub verdict_is : (known : Option Verdict) (v w : Verdict) → known ≡ Some v → known ≡ Some w → v ≡ w
+verdict_is known v w e f = ap of (sym e ∙ f) where
+  of : Option Verdict → Verdict
+  of None = v
+  of (Some u) = u
+
+pub converts_front : (b : List ℕ) (pass : Pass) (h : HeaderSpec) (known : Option Verdict) (old new : Option (List ℕ)) → known ≡ judged_file (Some b) → Passed b pass h → PacksFront (pick_of selection.Everything) h known old new → ConvertsFront (judged_writable (Some b)) old new
+converts_front b pass h known old new is p front all e =
+    subst (λ (v : Verdict). IsFront old new (answer_bytes v)) (verdict_is _ (p.frames, None) all p.writable e)
+    (subst (λ (l : List ℕ). IsFront old new l) (answer_is p.frames pass.header_at h p.header) (front (p.frames, None) (is ∙ p.judged)))

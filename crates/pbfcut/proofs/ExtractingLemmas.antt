@@ -1,0 +1,106 @@
+-- A file's extract, from what its passes say.
+use Rattle.std.proofs.Common.{◌≡◌, ℕ, ◌+◌, ◌-◌, List, [], ◌∷◌, map, Bool, true, false, Option, Some, None, subst, refl, sym, ap, ◌∙◌}
+use Rattle.std.specs.List.{fold, filter}
+use Rattle.std.specs.Option.{option_map}
+use Rattle.std.proofs.lemmas.List.Elements.{filter_agree}
+use Rattle.osm_entity.specs.declared.bounding_box.BoundingBox.{BoundingBox}
+use Rattle.osm_entity.specs.Entity.{EntitySpec, node, way, relation}
+use Rattle.osm_ways.specs.Phases.{NodeSets, WaySets, node_step, way_step, start_nodes, start_ways, node_pass, way_pass, is_chosen}
+use Rattle.osm_ways.specs.Seen.{seen_entity}
+use Rattle.osm_ways.specs.Selection.{Seen, keeps}
+use Rattle.osm_ways.proofs.Passes.{chosen_is_kept}
+use Rattle.osm_pack.specs.Cuts.{written_file}
+use Rattle.pbf_block.specs.Header.{HeaderSpec}
+use Rattle.pbf_block.specs.WrittenHeader.{header_out_for_box}
+use Rattle.pbf_frame.specs.Devices.{append, IsFront}
+use Rattle.pbf_frame.specs.Frames.{FrameSpec}
+use Rattle.pbf_frame.specs.Verdict.{Verdict, Says}
+use Rattle.pbf_frame.proofs.Parting.{none_some}
+use Rattle.pbfcut.specs.declared.counts.Counts.{Counts}
+use Rattle.pbfcut.specs.Converting.{judged_writable}
+use Rattle.pbfcut.specs.Counting.{counts_of, decoded}
+use Rattle.pbfcut.specs.Extracting.{Choice, complete_ways, extraction, extract_bytes, Extracted, ExtractsFront, Chooses}
+use Rattle.pbfcut.specs.Gathering.{with_node, with_way}
+use Rattle.pbfcut.specs.Judged.{judged_file}
+use Rattle.pbfcut.specs.Picking.{Pick, picked_by, Packed, PacksFront}
+use Rattle.pbfcut.specs.Steps.{file_header}
+use Rattle.pbfcut.proofs.ConvertingLemmas.{judged_sound, same_frames, known_says, verdict_is}
+
+-- ---- what was chosen
+
+nodes_folded : (sets : NodeSets) (es : List EntitySpec) → (fold with_node sets es).box_ids ≡ fold node_step sets.box_ids (map (seen_entity sets.area) es)
+nodes_folded sets [] = refl
+nodes_folded sets (node n ∷ es) = nodes_folded (with_node sets (node n)) es
+nodes_folded sets (way w ∷ es) = nodes_folded sets es
+nodes_folded sets (relation r ∷ es) = nodes_folded sets es
+
+ways_folded : (area : BoundingBox) (sets : WaySets) (es : List EntitySpec) → fold with_way sets es ≡ fold way_step sets (map (seen_entity area) es)
+ways_folded area sets [] = refl
+ways_folded area sets (node n ∷ es) = ways_folded area sets es
+ways_folded area sets (way w ∷ es) = ways_folded area (with_way sets (way w)) es
+ways_folded area sets (relation r ∷ es) = ways_folded area sets es
+
+-- over one list the two passes gather what the passes of the selection do
+pub sets_are : (area : BoundingBox) (es : List EntitySpec) → fold with_way (start_ways (fold with_node (start_nodes area) es).box_ids) es ≡ way_pass (map (seen_entity area) es)
+sets_are area es = ap (λ ids. fold with_way (start_ways ids) es) (nodes_folded (start_nodes area) es) ∙ ways_folded area (start_ways (node_pass (map (seen_entity area) es))) es
+
+picked_is_chosen : (area : BoundingBox) (sets : WaySets) (e : EntitySpec) → picked_by sets e ≡ is_chosen sets (seen_entity area e)
+picked_is_chosen area sets (node n) = refl
+picked_is_chosen area sets (way w) = refl
+picked_is_chosen area sets (relation r) = refl
+
+-- what the sets keep is the complete-ways extract
+pub picked_are : (area : BoundingBox) (es : List EntitySpec) → filter (picked_by (way_pass (map (seen_entity area) es))) es ≡ complete_ways area es
+picked_are area es =
+    let seen = map (seen_entity area) es in
+    filter_agree (picked_by (way_pass seen)) (λ e. keeps seen (seen_entity area e)) (λ e. picked_is_chosen area (way_pass seen) e ∙ ap (λ (k : Seen → Bool). k (seen_entity area e)) (chosen_is_kept seen)) es
+
+-- ---- the bytes that are to be written
+
+-- the header of a file that has one
+header_from : (area : BoundingBox) (o : Option (ℕ × HeaderSpec)) (h : HeaderSpec) → option_map (λ p. header_out_for_box area p.1) o ≡ Some h → (choose : Choice) (es : List EntitySpec) → extraction choose area o es ≡ written_file h (choose es)
+header_from area None h e choose es = absurd (none_some _ _ refl e)
+header_from area (Some header) h e choose es = ap (λ (g : HeaderSpec). written_file g (choose es)) (some_same e) where
+  some_same : Some (header_out_for_box area header.1) ≡ Some h → header_out_for_box area header.1 ≡ h
+  some_same e = cc
+
+-- a selection that keeps what the choice does of the frames that the passes met
+pub record Selects (b : List ℕ) (choose : Choice) (area : BoundingBox) (pick : Pick) (h : HeaderSpec) : Type 0 where
+  pub frames : List FrameSpec
+  pub judged : judged_file (Some b) ≡ Some (frames, None)
+  pub writable : judged_writable (Some b) ≡ Some (frames, None)
+  pub bytes : extract_bytes choose area (frames, None) ≡ written_file h (choose (decoded frames))
+  pub picked : filter pick (decoded frames) ≡ choose (decoded frames)
+
+-- the passes over nodes and ways choose the complete-ways extract
+pub selects_ways : (area : BoundingBox) (b : List ℕ) (first second : Option Verdict) (sets : WaySets) (h : HeaderSpec) → first ≡ judged_file (Some b) → second ≡ judged_file (Some b) → Chooses area first second sets h → Selects b (complete_ways area) area (picked_by sets) h
+selects_ways area b first second sets h is too c =
+    let judged = known_says b (c.frames, None) (subst (λ (k : Option Verdict). Says k (c.frames, None)) is c.judged) in
+    let same = same_frames b c.frames c.others judged (known_says b (c.others, None) (subst (λ (k : Option Verdict). Says k (c.others, None)) too c.read)) in
+    let gathered = c.chosen ∙ (ap (λ (l : List FrameSpec). fold with_way (start_ways (fold with_node (start_nodes area) (decoded c.frames)).box_ids) (decoded l)) same ∙ sets_are area (decoded c.frames)) in
+    record {
+      frames = c.frames;
+      judged = judged;
+      writable = judged_sound b c.frames judged c.within;
+      bytes = header_from area (file_header c.frames) h c.header (complete_ways area) (decoded c.frames);
+      picked = ap (λ (s : WaySets). filter (picked_by s) (decoded c.frames)) gathered ∙ picked_are area (decoded c.frames);
+    }
+
+-- ---- a whole call
+
+pub extracted : (choose : Choice) (area : BoundingBox) (b : List ℕ) (pick : Pick) (h : HeaderSpec) (counts : Counts) (known : Option Verdict) (old new : Option (List ℕ)) → known ≡ judged_file (Some b) → Selects b choose area pick h → Packed pick h known counts old new
+    → Extracted choose area (judged_writable (Some b)) counts old new
+extracted choose area b pick h counts known old new is s (others, says, counted, went) =
+    let same = ap (λ (l : List FrameSpec). filter pick (decoded l)) (same_frames b s.frames others s.judged (known_says b (others, None) (subst (λ (k : Option Verdict). Says k (others, None)) is says))) ∙ s.picked in
+    record {
+      frames = s.frames;
+      judged = s.writable;
+      counted = counted ∙ ap (λ (l : List EntitySpec). counts_of l) same;
+      taken = went ∙ ap (λ (l : List ℕ). append old l) (ap (λ (l : List EntitySpec). written_file h l) same ∙ sym s.bytes);
+    }
+
+pub extracts_front : (choose : Choice) (area : BoundingBox) (b : List ℕ) (pick : Pick) (h : HeaderSpec) (known : Option Verdict) (old new : Option (List ℕ)) → known ≡ judged_file (Some b) → Selects b choose area pick h → PacksFront pick h known old new
+    → ExtractsFront choose area (judged_writable (Some b)) old new
+extracts_front choose area b pick h known old new is s front all e =
+    subst (λ (v : Verdict). IsFront old new (extract_bytes choose area v)) (verdict_is _ (s.frames, None) all s.writable e)
+    (subst (λ (l : List ℕ). IsFront old new l) (ap (λ (l : List EntitySpec). written_file h l) s.picked ∙ sym s.bytes) (front (s.frames, None) (is ∙ s.judged)))
