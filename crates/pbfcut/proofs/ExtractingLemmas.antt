@@ -1,10 +1,13 @@
 -- A file's extract, from what its passes say.
-use Rattle.std.proofs.Common.{◌≡◌, ℕ, ◌+◌, ◌-◌, List, [], ◌∷◌, map, Bool, true, false, Option, Some, None, subst, refl, sym, ap, ◌∙◌}
+use Rattle.std.proofs.Common.{◌≡◌, ℕ, ◌+◌, ◌-◌, List, [], ◌∷◌, map, Bor, Bool, true, false, Option, Some, None, subst, refl, sym, ap, ◌∙◌}
 use Rattle.std.specs.List.{fold, filter}
+use Rattle.std.specs.Prelude.{IfSome}
 use Rattle.std.specs.Option.{option_map}
+use Rattle.sha2.specs.Sha256.{sha256}
 use Rattle.std.proofs.lemmas.List.Elements.{filter_agree}
 use Rattle.osm_entity.specs.declared.bounding_box.BoundingBox.{BoundingBox}
 use Rattle.osm_entity.specs.Entity.{EntitySpec, node, way, relation}
+use Rattle.osm_ways.specs.declared.phases.Chosen.{Chosen}
 use Rattle.osm_ways.specs.Phases.{NodeSets, WaySets, node_step, way_step, start_nodes, start_ways, node_pass, way_pass, is_chosen}
 use Rattle.osm_ways.specs.Seen.{seen_entity}
 use Rattle.osm_ways.specs.Selection.{Seen, keeps}
@@ -12,19 +15,24 @@ use Rattle.osm_ways.proofs.Passes.{chosen_is_kept}
 use Rattle.osm_pack.specs.Cuts.{written_file}
 use Rattle.pbf_block.specs.Header.{HeaderSpec}
 use Rattle.pbf_block.specs.WrittenHeader.{header_out_for_box}
+use Rattle.pbf_frame.specs.declared.stop.Stop.{Stop}
+use Rattle.pbf_frame.specs.declared.stop.Stop.TheVariants as stop
 use Rattle.pbf_frame.specs.Devices.{append, IsFront}
 use Rattle.pbf_frame.specs.Frames.{FrameSpec}
 use Rattle.pbf_frame.specs.Verdict.{Verdict, Says}
 use Rattle.pbf_frame.proofs.Parting.{none_some}
 use Rattle.pbfcut.specs.declared.counts.Counts.{Counts}
-use Rattle.pbfcut.specs.Converting.{judged_writable}
+use Rattle.pbfcut.specs.declared.counts.Pass.{Pass}
+use Rattle.pbfcut.specs.declared.picking.Selection.TheVariants as selection
+use Rattle.pbfcut.specs.Converting.{header_limit, limited, judged_writable, held_header, IsLimit}
 use Rattle.pbfcut.specs.Counting.{counts_of, decoded}
-use Rattle.pbfcut.specs.Extracting.{Choice, complete_ways, extraction, extract_bytes, Extracted, ExtractsFront, Chooses}
-use Rattle.pbfcut.specs.Gathering.{with_node, with_way}
+use Rattle.pbfcut.specs.Extracting.{Choice, complete_ways, extraction, extract_bytes, Extracted, ExtractsFront, ExtractStops, Chooses, ChooseStops}
+use Rattle.pbfcut.specs.Gathering.{with_node, with_way, GathersFile, GathersLater, Unlike, LaterStops}
 use Rattle.pbfcut.specs.Judged.{judged_file}
-use Rattle.pbfcut.specs.Picking.{Pick, picked_by, Packed, PacksFront}
-use Rattle.pbfcut.specs.Steps.{file_header}
-use Rattle.pbfcut.proofs.ConvertingLemmas.{judged_sound, same_frames, known_says, verdict_is}
+use Rattle.pbfcut.specs.Picking.{Pick, picked_by, pick_of, Packed, PacksFront}
+use Rattle.pbfcut.specs.Showing.{Differ}
+use Rattle.pbfcut.specs.Steps.{PassesFile, file_header}
+use Rattle.pbfcut.proofs.ConvertingLemmas.{held_is, limit_refused, judged_sound, same_frames, known_says, verdict_is}
 
 -- ---- what was chosen
 
@@ -104,3 +112,56 @@ pub extracts_front : (choose : Choice) (area : BoundingBox) (b : List ℕ) (pick
 extracts_front choose area b pick h known old new is s front all e =
     subst (λ (v : Verdict). IsFront old new (extract_bytes choose area v)) (verdict_is _ (s.frames, None) all s.writable e)
     (subst (λ (l : List ℕ). IsFront old new l) (ap (λ (l : List EntitySpec). written_file h l) s.picked ∙ sym s.bytes) (front (s.frames, None) (is ∙ s.judged)))
+
+-- ---- the passes that choose
+
+pub chooses : (area : BoundingBox) (first second : Option Verdict) (pass : Pass) (header h : HeaderSpec) (begun nodes : NodeSets) (started ways sets : WaySets) → GathersFile with_node first pass begun nodes → begun ≡ start_nodes area
+    → held_header pass ≡ Some (pass.header_at, header) → header_limit (held_header pass) ≡ None → h ≡ header_out_for_box area header → started ≡ start_ways nodes.box_ids → GathersLater with_way second started ways → sets ≡ ways → Chooses area first second sets h
+chooses area first second pass header h begun nodes started ways sets (frames, says, counted, holds, gathered) new held within is starts (others, too, more) ends =
+    let told = held_is (file_header frames) pass holds in
+    record {
+      frames = frames;
+      others = others;
+      judged = says;
+      read = too;
+      within = ap header_limit (sym told) ∙ within;
+      header = ap (λ (o : Option (ℕ × HeaderSpec)). option_map (λ p. header_out_for_box area p.1) o) (sym told ∙ held) ∙ ap (λ (g : HeaderSpec). Some g) (sym is);
+      chosen = ends ∙ (more ∙ ap (λ (s : WaySets). fold with_way s (decoded others)) (starts ∙ ap (λ (s : NodeSets). start_ways s.box_ids) (gathered ∙ ap (λ (s : NodeSets). fold with_node s (decoded frames)) new)));
+    }
+
+-- ---- why a call stops
+
+-- the bytes of a later pass that are unlike the digest are unlike the first pass's bytes
+pub later_differs : (first other : Option (List ℕ)) (digest : List ℕ) (frames : List FrameSpec) → IfSome first (λ bytes. digest ≡ sha256 bytes) → Says (judged_file first) (frames, None) → Unlike other digest → Differ first other
+later_differs first other digest frames same says unlike b c is too e =
+    let known = subst (λ (o : Option (List ℕ)). IfSome o (λ bytes. digest ≡ sha256 bytes)) is same in
+    let judged = known_says b (frames, None) (subst (λ (o : Option (List ℕ)). Says (judged_file o) (frames, None)) is says) in
+    unlike c frames too (known ∙ ap sha256 e) (ap (λ (l : List ℕ). judged_file (Some l)) (sym e) ∙ judged)
+
+pub choose_limit : (known : Option Verdict) (read : Type 0) (changed : ℕ → Type 0) (pass : Pass) (s : Stop) → PassesFile known pass → IsLimit (header_limit (held_header pass)) s → ChooseStops (option_map limited known) read changed s
+choose_limit known read changed pass (stop.Refused e) p limit = limit_refused known pass e p limit
+choose_limit known read changed pass stop.Read p limit = absurd limit
+choose_limit known read changed pass stop.Write p limit = absurd limit
+choose_limit known read changed pass stop.Memory p limit = absurd limit
+choose_limit known read changed pass (stop.Changed n) p limit = absurd limit
+
+pub choose_later : (number : ℕ) (first other : Option (List ℕ)) (known : Option Verdict) (digest : List ℕ) (read later : Type 0) (changed : ℕ → Type 0) (s : Stop) → (later → read) → ((pass : ℕ) → pass ≡ number → Unlike other digest → changed pass)
+    → LaterStops number other digest later ⊥ s → ChooseStops known read changed s
+choose_later number first other known digest read later changed (stop.Refused e) r d h = absurd h
+choose_later number first other known digest read later changed stop.Read r d h = r h
+choose_later number first other known digest read later changed stop.Write r d h = absurd h
+choose_later number first other known digest read later changed stop.Memory r d h = tt
+choose_later number first other known digest read later changed (stop.Changed n) r d h = d n h.0 h.1
+
+pub extract_later : (number : ℕ) (other : Option (List ℕ)) (known : Option Verdict) (digest : List ℕ) (read later wrote : Type 0) (changed : ℕ → Type 0) (old new : Option (List ℕ)) (s : Stop) → (later → read) → ((pass : ℕ) → pass ≡ number → Unlike other digest → changed pass)
+    → LaterStops number other digest later wrote s → ExtractStops known read wrote changed old new s
+extract_later number other known digest read later wrote changed old new (stop.Refused e) r d h = absurd h
+extract_later number other known digest read later wrote changed old new stop.Read r d h = r h
+extract_later number other known digest read later wrote changed old new stop.Write r d h = h
+extract_later number other known digest read later wrote changed old new stop.Memory r d h = tt
+extract_later number other known digest read later wrote changed old new (stop.Changed n) r d h = d n h.0 h.1
+
+-- a selection by what was chosen
+pub selects_chosen : (chosen : Bor Chosen) (area : BoundingBox) (b : List ℕ) (first second : Option Verdict) (h : HeaderSpec) → first ≡ judged_file (Some b) → second ≡ judged_file (Some b) → Chooses area first second chosen.now h → Selects b (complete_ways area) area (pick_of (selection.Ways chosen)) h
+unfolding pick_of
+selects_chosen chosen area b first second h is too c = selects_ways area b first second chosen.now h is too c

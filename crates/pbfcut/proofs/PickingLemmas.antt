@@ -1,5 +1,5 @@
 -- Entities that are picked, on their way into the drain.
-use Rattle.std.proofs.Common.{◌≡◌, ◌⊎◌, ℕ, ◌+◌, ◌-◌, ◌^◌, ◌≤◌, List, [], ◌∷◌, ◌++◌, append_assoc, append-nil, Bool, true, false, Option, Some, None, subst, inl, inr, refl, sym, ap, ◌∙◌, arith}
+use Rattle.std.proofs.Common.{◌≡◌, ◌⊎◌, ℕ, ◌+◌, ◌-◌, ◌^◌, ◌≤◌, List, [], ◌∷◌, ◌++◌, append_assoc, append-nil, Bor, Bool, true, false, Option, Some, None, subst, inl, inr, refl, sym, ap, ◌∙◌, arith}
 use Rattle.std.specs.Prelude.{min, cond}
 use Rattle.std.proofs.lemmas.List.Elements.{filter-append}
 use Rattle.std.proofs.lemmas.List.Sums.{sum_by-cons}
@@ -27,9 +27,11 @@ use Rattle.pbfcut.specs.Counting.{decoded, frame_entities}
 use Rattle.pbfcut.specs.Judged.{payload_fault, fully, fully_known}
 use Rattle.pbfcut.proofs.CountLemmas.{CountedOn, same_counts}
 use Rattle.pbfcut.proofs.StepLemmas.{fully_first, picked_one}
+use Rattle.osm_ways.specs.declared.parents.ChosenParents.{ChosenParents}
 use Rattle.pbfcut.specs.declared.counts.Counts.{Counts}
+use Rattle.pbfcut.specs.declared.picking.Selection.TheVariants as selection
 use Rattle.pbfcut.specs.Counting.{nodes_of, ways_of, relations_of, capped, counts_of, count_one}
-use Rattle.pbfcut.specs.Picking.{Pick, HasPacked, BeginsAll, Packs, Begins, StoppedPacking, Packed, PacksFront}
+use Rattle.pbfcut.specs.Picking.{Pick, pick_of, picked_with_parents, HasPacked, BeginsAll, Packs, Begins, StoppedPacking, Packed, PacksFront}
 use Rattle.pbfcut.specs.Showing.{PayloadStops}
 
 all_push : {A : Type 0} (P : A → Type 0) (xs : List A) (x : A) → AllByRecursion P xs → P x → AllByRecursion P (xs ++ x ∷ [])
@@ -231,3 +233,7 @@ pack_stop first before now stop.Read l h = absurd h
 pack_stop first before now stop.Write l h = omega (arith, l, h)
 pack_stop first before now stop.Memory l h = tt
 pack_stop first before now (stop.Changed pass) l h = absurd h
+
+pub pick_parents : (chosen : Bor ChosenParents) → picked_with_parents chosen.now ≡ pick_of (selection.Parents chosen)
+unfolding pick_of
+pick_parents chosen = refl

@@ -30,7 +30,7 @@ fn choose<F: Feed, G: Feed>(
     second: &mut G,
     area: BoundingBox,
 ) -> Result<(Chosen, Header, [u8; 32]), Stop>
-    ensures chosen { IfOk result (λ told. Chooses area.entry (judged_file (F.remaining first.old)) (judged_file (G.remaining second.old)) told.0 (header_of told.1)) }
+    ensures chosen { IfOk result (λ told. Chooses area (judged_file (F.remaining first.old)) (judged_file (G.remaining second.old)) told.0 (header_of told.1)) }
     ensures short { IfOk result (λ told. text_weight (header_of told.1).source + text_weight (header_of told.1).url ≤ 12000000) }
     ensures digest { IfOk result (λ told. IfSome (F.remaining first.old) (λ bytes. told.2 ≡ sha256 bytes)) }
     ensures digests { OnOk result (SameDigest (F.remaining first.old) (G.remaining second.old)) }
@@ -72,7 +72,7 @@ pub fn extract<F: Feed, G: Feed, H: Feed, D: Drain, S: BuildHasher + Drop>(
     ensures judged { OnOk result (CanBeWritten (judged_writable (F.remaining first.old))) }
     // Where all feeds supply these bytes, the drain took exactly the complete-ways extract of the decoded bytes, in input order and
     // in canonical form, behind the header of the box; the counts are those of its entities.
-    ensures extracted { IfOk result (λ counts. (b : List ℕ) → AllSupply b (F.remaining first.old) (G.remaining second.old) (H.remaining third.old) → Extracted (complete_ways area.entry) area.entry (judged_writable (Some b)) counts (D.taken drain.old) (D.taken drain.new)) }
+    ensures extracted { IfOk result (λ counts. (b : List ℕ) → AllSupply b (F.remaining first.old) (G.remaining second.old) (H.remaining third.old) → Extracted (complete_ways area) area (judged_writable (Some b)) counts (D.taken drain.old) (D.taken drain.new)) }
     // No files that differ, unless two unlike lists share a digest.
     ensures digests { OnOk result (SameDigest (F.remaining first.old) (G.remaining second.old) × SameDigest (F.remaining first.old) (H.remaining third.old)) }
     // Each stop has its cause; what is refused is the first file, by its first fault, and then the drain took nothing.
@@ -82,7 +82,7 @@ pub fn extract<F: Feed, G: Feed, H: Feed, D: Drain, S: BuildHasher + Drop>(
         (λ pass. ChangedBefore 2 (F.remaining first.old) (G.remaining second.old) (D.taken drain.old) (D.taken drain.new) pass ⊎ ChangedLast 3 (F.remaining first.old) (H.remaining third.old) pass)
         (D.taken drain.old) (D.taken drain.new)) }
     // Whatever stopped it, where all feeds supply these bytes a beginning of the answer went out, and nothing where they have a fault.
-    ensures beginning { OnErr result ((b : List ℕ) → AllSupply b (F.remaining first.old) (G.remaining second.old) (H.remaining third.old) → ExtractsFront (complete_ways area.entry) area.entry (judged_writable (Some b)) (D.taken drain.old) (D.taken drain.new)) }
+    ensures beginning { OnErr result ((b : List ℕ) → AllSupply b (F.remaining first.old) (G.remaining second.old) (H.remaining third.old) → ExtractsFront (complete_ways area) area (judged_writable (Some b)) (D.taken drain.old) (D.taken drain.new)) }
 {
     let told = choose(alloc, first, second, area)?;
     later_pack(
