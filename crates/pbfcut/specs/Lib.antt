@@ -1,13 +1,9 @@
-pub mod Quoted
 pub mod Blobs
 pub mod Listing
 pub mod Judged
 pub mod Counting
 pub mod Steps
 pub mod Hashing
-pub mod Dates
-pub mod EntityText
-pub mod HeaderText
 pub mod Showing
 pub mod Converting
 pub mod Extracting

@@ -5,14 +5,9 @@ mod blobs;
 #[cfg(test)]
 mod check_tests;
 mod counts;
-mod dates;
-mod entity_text;
 mod hashed;
-mod header_text;
 pub mod laws;
-mod number;
 mod passes;
-mod quoted;
 #[cfg(test)]
 mod show_tests;
 mod showing;
