@@ -13,7 +13,7 @@ use Rattle.pbf_frame.specs.Verdict.{Verdict, with_first_known}
 use Rattle.pbfcut.specs.Judged.{payload_fault, fully_known}
 use Rattle.pbfcut.specs.Showing.{frame_text, TookText, StoppedInText, PayloadStops}
 use Rattle.pbf_frame.proofs.Beginnings.{front_longer, front_then}
-use Rattle.pbfcut.specs.EntityText.{entity_line}
+use Rattle.osm_text.specs.EntityText.{entity_line}
 use Rattle.pbfcut.proofs.ListingLemmas.{StoppedWithin, text_one}
 use Rattle.pbfcut.proofs.StepLemmas.{fully_first}
 

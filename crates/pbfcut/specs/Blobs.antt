@@ -4,7 +4,7 @@ use Rattle.std.specs.List.{flat_map}
 use Rattle.pbf_frame.specs.declared.frame.FrameKind.{FrameKind}
 use Rattle.pbf_frame.specs.declared.frame.FrameKind.TheVariants as kind
 use Rattle.pbf_frame.specs.Frames.{FrameSpec, frame_kind, frame_name, frame_payload}
-use Rattle.pbfcut.specs.Quoted.{quoted}
+use Rattle.osm_text.specs.Quoted.{quoted}
 
 -- the type as it stands, where it is known
 abbrev pub shown_name : FrameKind → List ℕ → List ℕ

@@ -1,4 +1,3 @@
-pub mod Quoted
 pub mod Blobs
 pub mod Listing
 pub mod Judged
@@ -7,9 +6,6 @@ pub mod Steps
 pub mod Gathering
 pub mod Picking
 pub mod Hashing
-pub mod Dates
-pub mod EntityText
-pub mod HeaderText
 pub mod Showing
 pub mod Converting
 pub mod Extracting

@@ -11,8 +11,8 @@ use Rattle.pbf_frame.specs.declared.stop.Stop.TheVariants.{Refused, Read, Write,
 use Rattle.pbf_frame.specs.Devices.{append, HasRisen, IsFront}
 use Rattle.pbf_frame.specs.Frames.{FrameSpec, frame_kind, frame_payload, frame_payload_at}
 use Rattle.pbf_frame.specs.Verdict.{Verdict, with_first_known, Says}
-use Rattle.pbfcut.specs.EntityText.{entity_line}
-use Rattle.pbfcut.specs.HeaderText.{header_text}
+use Rattle.osm_text.specs.EntityText.{entity_line}
+use Rattle.osm_text.specs.HeaderText.{header_text}
 use Rattle.pbfcut.specs.Judged.{payload_fault, fully_known}
 
 -- ---- the text

@@ -7,8 +7,7 @@ ghost use Rattle.pbf_frame.specs.Next.{Shows, IsReading, place_of, verdict};
 ghost use Rattle.pbfcut.specs.Blobs.{line, shown_name, shown_length};
 ghost use Rattle.pbfcut.specs.Listing.{Lists, ListsFront, ListStops, TookLine, StoppedIn, LineStops};
 
-use crate::number::put_number;
-use crate::quoted::put_quoted;
+use osm_text::{put_number, put_quoted};
 use pbf_frame::{Drain, Feed, Frame, FrameKind, FrameReader, Stop, write_all};
 use std::alloc::{AllocError, Global};
 

@@ -1,7 +1,7 @@
 use Rattle.std.proofs.Common.{[], ◌∷◌, ◌++◌, arith, rules}
 use Rattle.std.proofs.lemmas.Result.{err_from_is_err_and}
 use Rattle.osm_entity.specs.Views.{entity_of}
-use Rattle.pbfcut.specs.EntityText.{entity_line}
+use Rattle.osm_text.specs.EntityText.{entity_line}
 use Rattle.pbfcut.proofs.ListingLemmas.{texts_more}
 use Rattle.pbfcut.proofs.ShowingLemmas.{entities_more, entities_front}
 use Rattle.pbfcut.proofs.showing.write_entities.Goals as goal

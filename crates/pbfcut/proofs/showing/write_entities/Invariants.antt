@@ -3,7 +3,7 @@ use Rattle.std.specs.List.{flat_map}
 use Rattle.osm_entity.specs.Entity.{EntitySpec}
 use Rattle.pbf_block.specs.Cursors.{entities_left}
 use Rattle.pbf_frame.specs.Devices.{append}
-use Rattle.pbfcut.specs.EntityText.{entity_line}
+use Rattle.osm_text.specs.EntityText.{entity_line}
 use Rattle.pbfcut.proofs.showing.write_entities.Given as goal
 
 -- the lines of the entities that are gone went out

@@ -1,0 +1,4 @@
+pub mod Dates
+pub mod Quoted
+pub mod EntityText
+pub mod HeaderText

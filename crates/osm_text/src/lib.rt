@@ -1,0 +1,16 @@
+//! What a file holds, as text for people: the lines of a header and of an entity, texts in quotation marks, numbers, times.
+//! It appends to a vector of bytes, and knows nothing of files, frames and devices.
+#![tactic(auto)]
+
+mod dates;
+mod entity_text;
+mod header_text;
+mod number;
+mod quoted;
+#[cfg(test)]
+mod tests;
+
+pub use entity_text::put_entity;
+pub use header_text::put_header;
+pub use number::put_number;
+pub use quoted::put_quoted;

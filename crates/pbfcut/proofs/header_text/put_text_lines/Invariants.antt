@@ -1,8 +1,0 @@
-use Rattle.std.proofs.Common.{◌≡◌, ◌++◌, map, take}
-use Rattle.pbf_block.specs.Header.{text_of}
-use Rattle.pbfcut.specs.HeaderText.{text_lines}
-use Rattle.pbfcut.proofs.header_text.put_text_lines.Given as goal
-
--- the lines of the texts that are gone were put
-abbrev pub invariant-loop-text : goal.invariant-loop-text
-invariant-loop-text l = l.out.items ≡ l.fn.out.items ++ text_lines l.word (map text_of (take l.text-index l.texts))
