@@ -5,3 +5,4 @@ pub mod DayLemmas
 pub mod TextLemmas
 pub mod ShowingLemmas
 pub mod FileLaw
+pub mod KeptLaw

@@ -11,3 +11,4 @@ pub mod HeaderText
 pub mod Showing
 pub mod Converting
 pub mod Extracting
+pub mod Kept
