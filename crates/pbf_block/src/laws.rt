@@ -23,7 +23,7 @@ ghost use Rattle.pbf_block.specs.ValueFaults.{way_values, relation_values};
 ghost use Rattle.pbf_block.specs.WireFaults.{way_wire, relation_wire};
 ghost use Rattle.pbf_block.specs.WrittenBlock.{is_block, block_message};
 ghost use Rattle.pbf_block.specs.WrittenEntity.{way_message, relation_message};
-ghost use Rattle.pbf_block.specs.WrittenHeader.{BoxTyped, HeaderFits, header_message, header_out, header_out_for_box, header_out_for_convert};
+ghost use Rattle.pbf_block.specs.WrittenHeader.{BoxTyped, EdgesTyped, HeaderFits, edges_of, header_message, header_out, header_out_for_box, header_out_for_convert};
 
 /// The first fault of a payload, phase by phase, is the least of all its faults by phase, then offset, then the reason's
 /// number, then the field that is missing.
@@ -53,6 +53,13 @@ pub fn written_header_is_read()
     ensures short { (h : HeaderSpec) → HeaderFits h → text_weight h.source + text_weight h.url ≤ 12000000 → length (header_message h) < 33554432 }
     ensures light_read { (at : ℕ) (h : HeaderSpec) → HeaderFits h → text_weight h.source + text_weight h.url ≤ 12000000 → header_in at (header_message h) ≡ h }
     ensures light_sound { (at : ℕ) (h : HeaderSpec) → HeaderFits h → text_weight h.source + text_weight h.url ≤ 12000000 → header_fault at (header_message h) ≡ None }
+{}
+
+/// The header of every payload can be written, whatever is wrong with the payload: its numbers fit the types of the format. So it
+/// can with the box of an extract, whose edges are numbers of 64 bits.
+pub fn read_header_fits()
+    ensures convert { (at : ℕ) (m : List ℕ) → HeaderFits (header_out_for_convert (header_in at m)) }
+    ensures area { (area : BoundingBox) (at : ℕ) (m : List ℕ) → EdgesTyped (edges_of area) → HeaderFits (header_out_for_box area (header_in at m)) }
 {}
 
 /// A written way has no fault of any phase and is read, at every place, as the way that it was written for: with every table that

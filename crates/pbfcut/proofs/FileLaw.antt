@@ -27,7 +27,6 @@ use Rattle.pbf_block.specs.Judgement.{block_fault}
 use Rattle.pbf_block.specs.Payload.{entities}
 use Rattle.pbf_block.specs.WrittenBlock.{is_block, block_message}
 use Rattle.pbf_block.specs.WrittenHeader.{HeaderFits, header_message, header_out_for_convert}
-use Rattle.pbf_block.proofs.HeaderLemmas.{header_again}
 use Rattle.pbf_block.proofs.HeaderLaw.{header_short, light_read, light_sound}
 use Rattle.pbf_block.proofs.LengthLaw.{block_fits}
 use Rattle.pbf_block.proofs.WrittenLaw.{written_sound, written_read}
@@ -35,10 +34,21 @@ use Rattle.osm_pack.specs.Cuts.{cuts, block_frame, written_entities, header_fram
 use Rattle.osm_pack.proofs.CutLaws.{cuts_joined, cuts_kept}
 use Rattle.osm_pack.proofs.CutLemmas.{kept_bounds}
 use Rattle.osm_pack.proofs.OpenLemmas.{alone}
-use Rattle.pbfcut.specs.Converting.{conversion, header_limit, with_limit, limited, judged_writable, answer_bytes}
+use Rattle.pbfcut.specs.Converting.{header_limit, with_limit, limited}
 use Rattle.pbfcut.specs.Counting.{entities_of, frame_entities, decoded}
+use Rattle.pbfcut.specs.Kept.{verdict_on}
 use Rattle.pbfcut.specs.Judged.{payload_fault_of, payload_fault, sound_first, sound_front, fully, judged_file}
 use Rattle.pbfcut.specs.Steps.{headers_of, frame_headers, file_header}
+
+-- ---- what a file says
+
+-- these bytes are a file of this header and of these entities, which can be written again
+pub record IsFileOf (file : List ℕ) (h : HeaderSpec) (es : List EntitySpec) : Type 0 where
+  pub frames : List FrameSpec
+  pub verdict : verdict_on file ≡ (frames, None)
+  pub place : ℕ
+  pub placed : file_header frames ≡ Some (place, h)
+  pub entities : decoded frames ≡ es
 
 -- ---- one frame
 
@@ -254,21 +264,17 @@ module _ (h : HeaderSpec) (es : List EntitySpec) (fits : HeaderFits (header_out_
   pub file_read : (frames : List FrameSpec) × (judged_file (Some (written_file h es)) ≡ Some (frames, None)) × (decoded frames ≡ es) × (option_map (λ p. p.1) (file_header frames) ≡ Some (header_out_for_convert h))
   file_read = (file_frames, file_verdict, file_decoded, ap (λ (o : Option (ℕ × HeaderSpec)). option_map (λ p. p.1) o) file_placed)
 
-  -- ---- written again
+  -- ---- with the limit of its header
 
   header_within : header_limit (file_header file_frames) ≡ None
   header_within =
       let light : nat_le (text_weight h.source + text_weight h.url) 12000000 ≡ true = grind (arith, nat_tests, short) in
       ap header_limit file_placed ∙ ap (λ (b : Bool). if b then None else Some (fault placed.0 EntityLarge)) light
 
-  pub file_writable : judged_writable (Some (written_file h es)) ≡ Some (file_frames, None)
-  file_writable = ap (λ (o : Option Verdict). option_map limited o) file_verdict ∙ ap (λ (o : Option Fault). Some (with_limit o file_frames)) header_within
+  file_limited : verdict_on (written_file h es) ≡ (file_frames, None)
+  file_limited =
+      ap (λ (v : Verdict). limited (fully v)) file_judged ∙ (ap limited file_sound ∙ ap (λ (o : Option Fault). with_limit o file_frames) header_within)
 
-  pub file_again : answer_bytes (file_frames, None) ≡ written_file h es
-  file_again =
-      ap (λ (o : Option (ℕ × HeaderSpec)). conversion o (decoded file_frames)) file_placed
-      ∙ (ap (λ (l : List EntitySpec). written_file (header_out_for_convert h) l) file_decoded
-      ∙ ap (λ (g : HeaderSpec). written_frame kind.Header (header_message g) ++ written_entities es) (header_again h.bbox h.bbox h))
-
-  pub file_kept : (frames : List FrameSpec) × (judged_writable (Some (written_file h es)) ≡ Some (frames, None)) × (answer_bytes (frames, None) ≡ written_file h es)
-  file_kept = (file_frames, file_writable, file_again)
+  -- it is a file of what was written
+  pub written_is_file : IsFileOf (written_file h es) (header_out_for_convert h) es
+  written_is_file = record { frames = file_frames; verdict = file_limited; place = frame_payload_at first; placed = file_placed; entities = file_decoded }

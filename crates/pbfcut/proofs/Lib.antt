@@ -7,3 +7,4 @@ pub mod GatherLemmas
 pub mod PickingLemmas
 pub mod ConvertingLemmas
 pub mod ExtractingLemmas
+pub mod KeptLaw

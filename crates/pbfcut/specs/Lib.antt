@@ -9,3 +9,4 @@ pub mod Hashing
 pub mod Showing
 pub mod Converting
 pub mod Extracting
+pub mod Kept

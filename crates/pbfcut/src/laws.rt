@@ -1,19 +1,24 @@
-//! The laws of writing for whole files. Each is the contract of a function that does nothing: a proof that needs the law calls
+//! The laws of whole files that are written. Each is the contract of a function that does nothing: a proof that needs the law calls
 //! it, or takes the lemma of that name from this crate's `proofs/`.
 
-ghost use Rattle.std.specs.Prelude.{◌≡◌, ◌+◌, ◌^◌, ◌≤◌, List, length, Some, None};
+ghost use Rattle.std.specs.Prelude.{◌≡◌, ℕ, ◌+◌, ◌^◌, ◌≤◌, List, length, Some, None};
 ghost use Rattle.std.specs.List.{AllByRecursion};
 ghost use Rattle.std.specs.Option.{option_map};
+ghost use Rattle.osm_entity.specs.declared.bounding_box.BoundingBox.{BoundingBox};
 ghost use Rattle.osm_entity.specs.Entity.{EntitySpec};
 ghost use Rattle.osm_entity.specs.Ranges.{EntityFits, EntityTyped};
 ghost use Rattle.osm_entity.specs.Weight.{text_weight};
+ghost use Rattle.osm_ways.specs.Parents.{extract_with_parents};
+ghost use Rattle.osm_ways.specs.Seen.{seen_decoded};
+ghost use Rattle.osm_ways.specs.Selection.{extract};
 ghost use Rattle.osm_pack.specs.Cuts.{written_file};
 ghost use Rattle.pbf_block.specs.Header.{HeaderSpec};
-ghost use Rattle.pbf_block.specs.WrittenHeader.{HeaderFits, header_out_for_convert};
+ghost use Rattle.pbf_block.specs.WrittenHeader.{edges_of, EdgesTyped, HeaderFits, header_out_for_convert};
 ghost use Rattle.pbf_frame.specs.Frames.{FrameSpec};
-ghost use Rattle.pbfcut.specs.Converting.{answer_bytes, judged_writable};
 ghost use Rattle.pbfcut.specs.Counting.{decoded};
+ghost use Rattle.pbfcut.specs.Extracting.{complete_ways, all_parents};
 ghost use Rattle.pbfcut.specs.Judged.{judged_file};
+ghost use Rattle.pbfcut.specs.Kept.{IsWritable, conversion_of, extract_of, IsConversion, IsExtract};
 ghost use Rattle.pbfcut.specs.Steps.{file_header};
 
 /// A file that is written is read back: where it is at most 2^62 bytes long, it has no fault of any phase, its header is the
@@ -23,9 +28,20 @@ pub fn written_file_is_read()
         → (frames : List FrameSpec) × (judged_file (Some (written_file h es)) ≡ Some (frames, None)) × (decoded frames ≡ es) × (option_map (λ p. p.1) (file_header frames) ≡ Some (header_out_for_convert h)) }
 {}
 
-/// A conversion of a conversion is the same bytes: a file that was written, at most 2^62 bytes long, can be converted, and what
-/// is written for it is that file again.
-pub fn written_file_is_kept()
-    ensures { (h : HeaderSpec) (es : List EntitySpec) → HeaderFits (header_out_for_convert h) → text_weight h.source + text_weight h.url ≤ 12000000 → AllByRecursion EntityFits es → AllByRecursion EntityTyped es → length (written_file h es) ≤ 2 ^ 62
-        → (frames : List FrameSpec) × (judged_writable (Some (written_file h es)) ≡ Some (frames, None)) × (answer_bytes (frames, None) ≡ written_file h es) }
+/// A conversion of a file that can be converted, at most 2^62 bytes long, is a file without a fault that has the file's header in
+/// written form and the file's entities, in order, with all that is stored of them; and a conversion of it is the same bytes.
+pub fn converted_file_is_kept()
+    ensures { (file : List ℕ) → IsWritable file → length (conversion_of file) ≤ 2 ^ 62 → IsConversion file (conversion_of file) }
+{}
+
+/// The complete-ways extract of such a file, at most 2^62 bytes long, is a file without a fault that has the file's header in
+/// written form with the box, and of the file's entities those that the selection keeps, in order, with all that is stored of
+/// them; it means the complete-ways extract of what the file means; and an extract of it by the same box is the same bytes.
+pub fn extracted_file_is_kept()
+    ensures { (area : BoundingBox) → EdgesTyped (edges_of area) → (file : List ℕ) → IsWritable file → length (extract_of (complete_ways area) area file) ≤ 2 ^ 62 → IsExtract (complete_ways area) (extract (seen_decoded area)) area file (extract_of (complete_ways area) area file) }
+{}
+
+/// The same of the extract with all parents.
+pub fn file_extracted_with_parents_is_kept()
+    ensures { (area : BoundingBox) → EdgesTyped (edges_of area) → (file : List ℕ) → IsWritable file → length (extract_of (all_parents area) area file) ≤ 2 ^ 62 → IsExtract (all_parents area) (extract_with_parents (seen_decoded area)) area file (extract_of (all_parents area) area file) }
 {}

@@ -1,0 +1,8 @@
+use Rattle.pbf_block.proofs.ReadHeaderLaw.{header_fits, header_fits_box}
+use Rattle.pbf_block.proofs.laws.read_header_fits.Goals as goal
+
+pub returns-clause-convert : goal.returns-clause-convert
+returns-clause-convert c = header_fits
+
+pub returns-clause-area : goal.returns-clause-area
+returns-clause-area c = header_fits_box

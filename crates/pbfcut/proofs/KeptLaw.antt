@@ -1,0 +1,286 @@
+-- What is written for a file without a fault is read as what was to be written, and for it the same bytes are written again.
+use Rattle.std.proofs.Common.{◌≡◌, ℕ, ◌+◌, ◌^◌, ◌≤◌, Bool, true, false, cond, List, [], ◌∷◌, ◌++◌, length, map, Option, Some, None, refl, sym, ap, ◌∙◌, subst}
+use Rattle.std.specs.Prelude.{if◌then◌else◌, unwrap_or}
+use Rattle.std.specs.List.{flat_map, last_or, filter, AllByRecursion}
+use Rattle.std.specs.Option.{option_map, IfSome}
+use Rattle.std.proofs.lemmas.Bool.{leb-true}
+use Rattle.pbf_wire.specs.declared.fault.Fault.{Fault}
+use Rattle.pbf_wire.specs.declared.fault.Reason.TheVariants.{EntityLarge}
+use Rattle.pbf_wire.specs.Faults.{fault}
+use Rattle.pbf_wire.proofs.MessageLemmas.{all_append}
+use Rattle.osm_entity.specs.declared.bounding_box.BoundingBox.{BoundingBox}
+use Rattle.osm_entity.specs.Entity as entity
+use Rattle.osm_entity.specs.Entity.{EntitySpec, Decoded}
+use Rattle.osm_entity.specs.Ranges.{EntityFits, EntityTyped}
+use Rattle.osm_entity.specs.Weight.{text_weight}
+use Rattle.osm_ways.specs.Selection.{keeps, extract}
+use Rattle.osm_ways.specs.Parents.{keeps_with_parents, extract_with_parents}
+use Rattle.osm_ways.specs.Seen.{seen_entity, seen_decoded}
+use Rattle.osm_ways.proofs.Decoding.{seen_alike}
+use Rattle.osm_ways.proofs.Extracts.{chosen_twice, chosen_viewed, keeps_settled}
+use Rattle.osm_ways.proofs.ParentLaws.{keeps_with_parents_settled}
+use Rattle.pbf_frame.specs.declared.frame.FrameKind.{FrameKind}
+use Rattle.pbf_frame.specs.declared.frame.FrameKind.TheVariants as kind
+use Rattle.pbf_frame.specs.Frames.{FrameSpec, frame_kind, frame_payload, frame_payload_at}
+use Rattle.pbf_frame.specs.Verdict.{Verdict, judged}
+use Rattle.pbf_frame.specs.Writing.{written_frame}
+use Rattle.pbf_block.specs.Header.{HeaderSpec}
+use Rattle.pbf_block.specs.WrittenHeader.{edges_of, header_message, header_out_for_box, header_out_for_convert, EdgesTyped, HeaderFits}
+use Rattle.pbf_block.proofs.FitsLaw.{entities_fit, entities_typed}
+use Rattle.pbf_block.proofs.HeaderLaw.{out_fits}
+use Rattle.pbf_block.proofs.HeaderLemmas.{header_again}
+use Rattle.pbf_block.proofs.ReadHeaderLaw.{header_fits}
+use Rattle.osm_pack.specs.Cuts.{written_entities, written_file}
+use Rattle.pbfcut.specs.Converting.{header_limit, is_short, with_limit, limited, conversion, judged_writable, answer_bytes}
+use Rattle.pbfcut.specs.Counting.{entities_of, frame_entities, decoded}
+use Rattle.pbfcut.specs.Extracting.{Choice, complete_ways, all_parents, extraction, extract_bytes}
+use Rattle.pbfcut.specs.Judged.{payload_fault_of, payload_fault, sound_first, sound_front, fully}
+use Rattle.pbfcut.specs.Kept.{verdict_on, IsWritable, header_in_file, entities_in_file, conversion_of, extract_of, IsConversion, IsExtract}
+use Rattle.pbfcut.specs.Steps.{headers_of, frame_headers, file_header}
+use Rattle.pbfcut.proofs.FileLaw.{IsFileOf, written_is_file}
+
+-- ---- the payloads of a file without a fault
+
+abbrev IsSound : FrameSpec → Type 0
+IsSound f = payload_fault f ≡ None
+
+first_sound : (o : Option Fault) (f : FrameSpec) (v : Verdict) → payload_fault f ≡ o → (sound_first o f v).1 ≡ None → (v.1 ≡ None → AllByRecursion IsSound v.0) → AllByRecursion IsSound (sound_first o f v).0
+first_sound None f v is e later = (is, later e)
+first_sound (Some x) f v is e later = tt
+
+front_sound : (frames : List FrameSpec) (ending : Option Fault) → (sound_front frames ending).1 ≡ None → AllByRecursion IsSound (sound_front frames ending).0
+front_sound [] ending e = tt
+front_sound (f ∷ frames) ending e = first_sound (payload_fault f) f (sound_front frames ending) refl e (front_sound frames ending)
+
+kind_fits : (k : FrameKind) (at : ℕ) (m : List ℕ) → payload_fault_of k at m ≡ None → AllByRecursion EntityFits (entities_of k at m)
+kind_fits kind.Header at m e = tt
+kind_fits kind.Data at m e = entities_fit at m e
+kind_fits kind.Other at m e = tt
+
+kind_typed : (k : FrameKind) (at : ℕ) (m : List ℕ) → AllByRecursion EntityTyped (entities_of k at m)
+kind_typed kind.Header at m = tt
+kind_typed kind.Data at m = entities_typed at m
+kind_typed kind.Other at m = tt
+
+all_fit : (frames : List FrameSpec) → AllByRecursion IsSound frames → AllByRecursion EntityFits (decoded frames)
+all_fit [] sound = tt
+all_fit (f ∷ frames) sound = all_append EntityFits (frame_entities f) (decoded frames) (kind_fits (frame_kind f) (frame_payload_at f) (frame_payload f) sound.0) (all_fit frames sound.1)
+
+all_typed : (frames : List FrameSpec) → AllByRecursion EntityTyped (decoded frames)
+all_typed [] = tt
+all_typed (f ∷ frames) = all_append EntityTyped (frame_entities f) (decoded frames) (kind_typed (frame_kind f) (frame_payload_at f) (frame_payload f)) (all_typed frames)
+
+-- ---- its header
+
+abbrev Placed : Type 0
+Placed = ℕ × HeaderSpec
+
+abbrev HeadFits : Placed → Type 0
+HeadFits p = HeaderFits (header_out_for_convert p.1)
+
+kind_header : (k : FrameKind) (at : ℕ) (m : List ℕ) → AllByRecursion HeadFits (headers_of k at m)
+kind_header kind.Header at m = (header_fits at m, tt)
+kind_header kind.Data at m = tt
+kind_header kind.Other at m = tt
+
+all_headers : (frames : List FrameSpec) → AllByRecursion HeadFits (flat_map frame_headers frames)
+all_headers [] = tt
+all_headers (f ∷ frames) = all_append HeadFits (frame_headers f) (flat_map frame_headers frames) (kind_header (frame_kind f) (frame_payload_at f) (frame_payload f)) (all_headers frames)
+
+last_fits : (ps : List Placed) (before : Option Placed) → AllByRecursion HeadFits ps → IfSome before HeadFits → IfSome (last_or before ps) HeadFits
+last_fits [] before all h = h
+last_fits (p ∷ ps) before all h = last_fits ps (Some p) all.1 all.0
+
+-- the header of a file that can be written again
+record HasHeader (found : Option Placed) : Type 0 where
+  place : ℕ
+  header : HeaderSpec
+  is : found ≡ Some (place, header)
+  short : text_weight header.source + text_weight header.url ≤ 12000000
+  fits : HeaderFits (header_out_for_convert header)
+
+within : (b : Bool) (place : ℕ) → (if b then None else Some (fault place EntityLarge)) ≡ None → b ≡ true
+within true place e = refl
+within false place e = absurd (cc)
+
+has_header : (found : Option Placed) → header_limit found ≡ None → IfSome found HeadFits → HasHeader found
+has_header None e h = absurd (cc)
+has_header (Some p) e h =
+    let weight = text_weight p.1.source + text_weight p.1.url in
+    record { place = p.0; header = p.1; is = refl; short = leb-true weight 12000000 (within (is_short p.1) p.0 e); fits = h }
+
+-- ---- the limit of the header
+
+record Passes (v : Verdict) : Type 0 where
+  sound : v.1 ≡ None
+  same : limited v ≡ (v.0, None)
+  limit : header_limit (file_header v.0) ≡ None
+
+passes_with : (frames : List FrameSpec) (o : Option Fault) → header_limit (file_header frames) ≡ o → (with_limit o frames).1 ≡ None → Passes (frames, None)
+passes_with frames None is e = record { sound = refl; same = ap (λ (o : Option Fault). with_limit o frames) is; limit = is }
+passes_with frames (Some x) is e = absurd (cc)
+
+passes : (v : Verdict) → (limited v).1 ≡ None → Passes v
+passes (frames, None) e = passes_with frames (header_limit (file_header frames)) refl e
+passes (frames, Some x) e = absurd (cc)
+
+-- ---- a file that can be written again
+
+-- of this header and of these entities a file can be written
+record CanWrite (h : HeaderSpec) (es : List EntitySpec) : Type 0 where
+  fits : HeaderFits (header_out_for_convert h)
+  short : text_weight h.source + text_weight h.url ≤ 12000000
+  fit : AllByRecursion EntityFits es
+  typed : AllByRecursion EntityTyped es
+
+record IsReadable (file : List ℕ) : Type 0 where
+  header : HeaderSpec
+  entities : List EntitySpec
+  is : IsFileOf file header entities
+  can : CanWrite header entities
+
+readable : (file : List ℕ) → IsWritable file → IsReadable file
+readable file sound =
+    let front = judged false 0 file in
+    let v = fully front in
+    let p = passes v sound in
+    let found = has_header (file_header v.0) p.limit (last_fits (flat_map frame_headers v.0) None (all_headers v.0) tt) in
+    record {
+      header = found.header;
+      entities = decoded v.0;
+      is = record { frames = v.0; verdict = p.same; place = found.place; placed = found.is; entities = refl };
+      can = record { fits = found.fits; short = found.short; fit = all_fit v.0 (front_sound front.0 front.1 p.sound); typed = all_typed v.0 };
+    }
+
+is_again : (h : HeaderSpec) (es : List EntitySpec) → CanWrite h es → length (written_file h es) ≤ 2 ^ 62 → IsFileOf (written_file h es) (header_out_for_convert h) es
+is_again h es can small = written_is_file h es can.fits can.short can.fit can.typed small
+
+module _ (file : List ℕ) (h : HeaderSpec) (es : List EntitySpec) (is : IsFileOf file h es) where
+  is_sound : IsWritable file
+  is_sound = ap (λ (v : Verdict). v.1) is.verdict
+
+  header_is : header_in_file file ≡ Some h
+  header_is = ap (λ (v : Verdict). option_map (λ p. p.1) (file_header v.0)) is.verdict ∙ ap (λ (o : Option Placed). option_map (λ p. p.1) o) is.placed
+
+  entities_are : entities_in_file file ≡ es
+  entities_are = ap (λ (v : Verdict). decoded v.0) is.verdict ∙ is.entities
+
+  converted_is : conversion_of file ≡ written_file h es
+  converted_is =
+      ap answer_bytes is.verdict
+      ∙ (ap (λ (o : Option Placed). conversion o (decoded is.frames)) is.placed
+      ∙ ap (λ (l : List EntitySpec). written_file h l) is.entities)
+
+  extracted_is : (choose : Choice) (area : BoundingBox) → extract_of choose area file ≡ written_file (header_out_for_box area h) (choose es)
+  extracted_is choose area =
+      ap (λ (v : Verdict). extract_bytes choose area v) is.verdict
+      ∙ (ap (λ (o : Option Placed). extraction choose area o (decoded is.frames)) is.placed
+      ∙ ap (λ (l : List EntitySpec). written_file (header_out_for_box area h) (choose l)) is.entities)
+
+same_verdict : (file : List ℕ) (frames : List FrameSpec) → judged_writable (Some file) ≡ Some (frames, None) → verdict_on file ≡ (frames, None)
+same_verdict file frames is = ap (λ (o : Option Verdict). unwrap_or o (frames, None)) is
+
+-- ---- a conversion
+
+written_for_out : (h : HeaderSpec) (es : List EntitySpec) → written_file (header_out_for_convert h) es ≡ written_file h es
+written_for_out h es = ap (λ (g : HeaderSpec). written_frame kind.Header (header_message g) ++ written_entities es) (header_again h.bbox h.bbox h)
+
+conversion_written : (file : List ℕ) (h : HeaderSpec) (es : List EntitySpec) → IsFileOf file h es → CanWrite h es → length (written_file h es) ≤ 2 ^ 62 → IsConversion file (written_file h es)
+conversion_written file h es is can small =
+    let again = is_again h es can small in
+    let out = header_out_for_convert h in
+    let written = written_file h es in
+    record {
+      sound = is_sound written out es again;
+      header = header_is written out es again ∙ sym (ap (λ (o : Option HeaderSpec). option_map header_out_for_convert o) (header_is file h es is));
+      entities = entities_are written out es again ∙ sym (entities_are file h es is);
+      same = converted_is written out es again ∙ written_for_out h es;
+    }
+
+pub conversion_kept : (file : List ℕ) → IsWritable file → length (conversion_of file) ≤ 2 ^ 62 → IsConversion file (conversion_of file)
+conversion_kept file sound small =
+    let r = readable file sound in
+    let e = converted_is file r.header r.entities r.is in
+    subst (λ (w : List ℕ). IsConversion file w) (sym e) (conversion_written file r.header r.entities r.is r.can (subst (λ (w : List ℕ). length w ≤ 2 ^ 62) e small))
+
+-- the same by the frames of the file's verdict, as a call knows it
+pub conversion_by_frames : (file : List ℕ) (frames : List FrameSpec) (written : List ℕ) → judged_writable (Some file) ≡ Some (frames, None) → written ≡ answer_bytes (frames, None) → length written ≤ 2 ^ 62 → IsConversion file written
+conversion_by_frames file frames written is taken small =
+    let says = same_verdict file frames is in
+    let whole : written ≡ conversion_of file = taken ∙ ap answer_bytes (sym says) in
+    subst (λ (w : List ℕ). IsConversion file w) (sym whole) (conversion_kept file (ap (λ (v : Verdict). v.1) says) (subst (λ (w : List ℕ). length w ≤ 2 ^ 62) whole small))
+
+-- ---- an extract
+
+-- a choice of stored entities that is a choice of what they mean, and of which the same is chosen again
+pub record IsSelection (choose : Choice) (select : List Decoded → List Decoded) : Type 0 where
+  pub fit : (es : List EntitySpec) → AllByRecursion EntityFits es → AllByRecursion EntityFits (choose es)
+  pub typed : (es : List EntitySpec) → AllByRecursion EntityTyped es → AllByRecursion EntityTyped (choose es)
+  pub twice : (es : List EntitySpec) → choose (choose es) ≡ choose es
+  pub meaning : (es : List EntitySpec) → map entity.decoded (choose es) ≡ select (map entity.decoded es)
+
+module _ (choose : Choice) (select : List Decoded → List Decoded) (selection : IsSelection choose select) (area : BoundingBox) (edges : EdgesTyped (edges_of area)) where
+  can_extract : (h : HeaderSpec) (es : List EntitySpec) → CanWrite h es → CanWrite (header_out_for_box area h) (choose es)
+  can_extract h es can = record {
+    fits = out_fits (Some (edges_of area)) (header_out_for_box area h) edges can.fits.timestamp can.fits.sequence;
+    short = can.short;
+    fit = selection.fit es can.fit;
+    typed = selection.typed es can.typed;
+  }
+
+  extract_written : (file : List ℕ) (h : HeaderSpec) (es : List EntitySpec) → IsFileOf file h es → CanWrite h es → length (written_file (header_out_for_box area h) (choose es)) ≤ 2 ^ 62
+      → IsExtract choose select area file (written_file (header_out_for_box area h) (choose es))
+  extract_written file h es is can small =
+      let out = header_out_for_box area h in
+      let kept = choose es in
+      let written = written_file out kept in
+      let once : header_out_for_convert out ≡ out = header_again (Some (edges_of area)) (Some (edges_of area)) h in
+      let again = subst (λ (g : HeaderSpec). IsFileOf written g kept) once (is_again out kept (can_extract h es can) small) in
+      let entities = entities_are written out kept again ∙ ap choose (sym (entities_are file h es is)) in
+      record {
+        sound = is_sound written out kept again;
+        header = header_is written out kept again ∙ sym (ap (λ (o : Option HeaderSpec). option_map (header_out_for_box area) o) (header_is file h es is));
+        entities = entities;
+        meaning = ap (λ (l : List EntitySpec). map entity.decoded l) entities ∙ selection.meaning (entities_in_file file);
+        same = extracted_is written out kept again choose area ∙ (ap (λ (g : HeaderSpec). written_file g (choose kept)) once ∙ ap (λ (l : List EntitySpec). written_file out l) (selection.twice es));
+      }
+
+  pub extract_kept : (file : List ℕ) → IsWritable file → length (extract_of choose area file) ≤ 2 ^ 62 → IsExtract choose select area file (extract_of choose area file)
+  extract_kept file sound small =
+      let r = readable file sound in
+      let e = extracted_is file r.header r.entities r.is choose area in
+      subst (λ (w : List ℕ). IsExtract choose select area file w) (sym e) (extract_written file r.header r.entities r.is r.can (subst (λ (w : List ℕ). length w ≤ 2 ^ 62) e small))
+
+  -- the same by the frames of the file's verdict, as a call knows it
+  pub extract_by_frames : (file : List ℕ) (frames : List FrameSpec) (written : List ℕ) → judged_writable (Some file) ≡ Some (frames, None) → written ≡ extract_bytes choose area (frames, None) → length written ≤ 2 ^ 62
+      → IsExtract choose select area file written
+  extract_by_frames file frames written is taken small =
+      let says = same_verdict file frames is in
+      let whole : written ≡ extract_of choose area file = taken ∙ ap (λ (v : Verdict). extract_bytes choose area v) (sym says) in
+      subst (λ (w : List ℕ). IsExtract choose select area file w) (sym whole) (extract_kept file (ap (λ (v : Verdict). v.1) says) (subst (λ (w : List ℕ). length w ≤ 2 ^ 62) whole small))
+
+-- ---- the complete ways, without and with all parents
+
+kept_or_not : {X : Type 0} (P : X → Type 0) (b : Bool) (x : X) (xs : List X) → P x → AllByRecursion P xs → AllByRecursion P (cond b (x ∷ xs) xs)
+kept_or_not P true x xs h all = (h, all)
+kept_or_not P false x xs h all = all
+
+all_filter : {X : Type 0} (P : X → Type 0) (k : X → Bool) (xs : List X) → AllByRecursion P xs → AllByRecursion P (filter k xs)
+all_filter P k [] all = tt
+all_filter P k (x ∷ xs) all = kept_or_not P (k x) x (filter k xs) all.0 (all_filter P k xs all.1)
+
+pub complete_ways_select : (area : BoundingBox) → IsSelection (complete_ways area) (λ meant. extract (seen_decoded area) meant)
+complete_ways_select area = record {
+  fit = λ es fit. all_filter EntityFits _ es fit;
+  typed = λ es typed. all_filter EntityTyped _ es typed;
+  twice = chosen_twice keeps keeps_settled (seen_entity area);
+  meaning = chosen_viewed keeps entity.decoded (seen_entity area) (seen_decoded area) (seen_alike area);
+}
+
+pub all_parents_select : (area : BoundingBox) → IsSelection (all_parents area) (λ meant. extract_with_parents (seen_decoded area) meant)
+all_parents_select area = record {
+  fit = λ es fit. all_filter EntityFits _ es fit;
+  typed = λ es typed. all_filter EntityTyped _ es typed;
+  twice = chosen_twice keeps_with_parents keeps_with_parents_settled (seen_entity area);
+  meaning = chosen_viewed keeps_with_parents entity.decoded (seen_entity area) (seen_decoded area) (seen_alike area);
+}

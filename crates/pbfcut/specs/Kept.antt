@@ -1,0 +1,69 @@
+-- What is written for a file is kept: it says what it was to say, and for it the same bytes are written again.
+use Rattle.std.specs.Prelude.{◌≡◌, ℕ, false, List, map, Option, None}
+use Rattle.std.specs.Option.{option_map}
+use Rattle.osm_entity.specs.declared.bounding_box.BoundingBox.{BoundingBox}
+use Rattle.osm_entity.specs.Entity as entity
+use Rattle.osm_entity.specs.Entity.{EntitySpec, Decoded}
+use Rattle.pbf_block.specs.Header.{HeaderSpec}
+use Rattle.pbf_block.specs.WrittenHeader.{header_out_for_box, header_out_for_convert}
+use Rattle.pbf_frame.specs.Verdict.{Verdict, judged}
+use Rattle.pbfcut.specs.Converting.{limited, answer_bytes}
+use Rattle.pbfcut.specs.Counting.{decoded}
+use Rattle.pbfcut.specs.Extracting.{Choice, extract_bytes}
+use Rattle.pbfcut.specs.Judged.{fully}
+use Rattle.pbfcut.specs.Steps.{file_header}
+
+-- ---- what a file says
+
+-- the verdict of all phases on a file, and then of the limit of its header: that of `judged_writable`, where the bytes are known
+abbrev pub verdict_on : List ℕ → Verdict
+verdict_on file = limited (fully (judged false 0 file))
+
+-- it has no fault, and its header isn't too long to be written
+abbrev pub IsWritable : List ℕ → Type 0
+IsWritable file = (verdict_on file).1 ≡ None
+
+abbrev pub header_in_file : List ℕ → Option HeaderSpec
+header_in_file file = option_map (λ p. p.1) (file_header (verdict_on file).0)
+
+-- its entities as they are stored: their numbers, and the scale that says what these mean
+abbrev pub entities_in_file : List ℕ → List EntitySpec
+entities_in_file file = decoded (verdict_on file).0
+
+-- what its entities mean: places in nanodegrees and times in milliseconds
+abbrev pub meant_in_file : List ℕ → List Decoded
+meant_in_file file = map entity.decoded (entities_in_file file)
+
+-- ---- what is written for it
+
+abbrev pub conversion_of : List ℕ → List ℕ
+conversion_of file = answer_bytes (verdict_on file)
+
+abbrev pub extract_of : Choice → BoundingBox → List ℕ → List ℕ
+extract_of choose area file = extract_bytes choose area (verdict_on file)
+
+-- ---- what that says
+
+-- these bytes are a conversion of the file
+pub record IsConversion (file written : List ℕ) : Type 0 where
+  -- they are a file without a fault, which can be converted
+  pub sound : IsWritable written
+  -- its header is the file's in written form
+  pub header : header_in_file written ≡ option_map header_out_for_convert (header_in_file file)
+  -- it has the file's entities, in order, with all that is stored of them
+  pub entities : entities_in_file written ≡ entities_in_file file
+  -- a conversion of it is the same bytes
+  pub same : conversion_of written ≡ written
+
+-- these bytes are an extract of the file: by this choice of stored entities, which is this choice of what entities mean
+pub record IsExtract (choose : Choice) (select : List Decoded → List Decoded) (area : BoundingBox) (file written : List ℕ) : Type 0 where
+  -- they are a file without a fault, of which an extract can be written
+  pub sound : IsWritable written
+  -- its header is the file's in written form, with the box
+  pub header : header_in_file written ≡ option_map (header_out_for_box area) (header_in_file file)
+  -- it has the entities that are chosen of the file's, in order, with all that is stored of them
+  pub entities : entities_in_file written ≡ choose (entities_in_file file)
+  -- it means what is selected of what the file means
+  pub meaning : meant_in_file written ≡ select (meant_in_file file)
+  -- an extract of it by the same choice is the same bytes
+  pub same : extract_of choose area written ≡ written
