@@ -17,9 +17,12 @@ use Rattle.pbf_frame.proofs.Parting.{none_some}
 use Rattle.pbfcut.specs.declared.counts.Counts.{Counts}
 use Rattle.pbfcut.specs.declared.counts.Pass.{Pass}
 use Rattle.pbfcut.specs.declared.picking.Selection.TheVariants as selection
-use Rattle.pbfcut.specs.Converting.{header_limit, with_limit, limited, judged_writable, held_header, answer_bytes, conversion, CanBeWritten, IsLimit, Converted, ConvertsFront}
+use Rattle.pbfcut.specs.Calls.{Converted}
+use Rattle.pbfcut.specs.Converting.{header_limit, with_limit, limited, judged_writable, held_header, answer_bytes, conversion, IsLimit}
 use Rattle.pbfcut.specs.Counting.{counts_of, decoded}
 use Rattle.pbfcut.specs.Judged.{judged_file}
+use Rattle.pbfcut.specs.Kept.{conversion_of}
+use Rattle.pbfcut.proofs.KeptLaw.{same_verdict, conversion_kept}
 use Rattle.pbfcut.specs.Picking.{everything, pick_of, Packed, PacksFront}
 use Rattle.pbfcut.specs.Showing.{ShowStops}
 use Rattle.pbfcut.specs.Steps.{HoldsHeader, PassesFile, file_header}
@@ -117,24 +120,19 @@ answer_is : (frames : List FrameSpec) (at : ℕ) (h : HeaderSpec) → file_heade
 answer_is frames at h e = ap (λ (l : List EntitySpec). written_file h l) (everything_picked (decoded frames)) ∙ ap (λ (o : Option (ℕ × HeaderSpec)). conversion o (decoded frames)) (sym e)
 
 pub converted : (b : List ℕ) (pass : Pass) (h : HeaderSpec) (counts : Counts) (known : Option Verdict) (old new : Option (List ℕ)) → known ≡ judged_file (Some b) → Passed b pass h → Packed (pick_of selection.Everything) h known counts old new
-    → Converted (judged_writable (Some b)) counts old new
+    → Converted b counts old new
 converted b pass h counts known old new is p (others, says, counted, went) =
     let same = same_frames b p.frames others p.judged (known_says b (others, None) (subst (λ (k : Option Verdict). Says k (others, None)) is says)) in
     let all = ap decoded same in
+    let verdict = same_verdict b p.frames p.writable in
+    let sound = ap (λ (v : Verdict). v.1) verdict in
     record {
-      frames = p.frames;
-      judged = p.writable;
-      counted = counted ∙ ap (λ (l : List EntitySpec). counts_of l) (everything_picked (decoded others) ∙ all);
-      taken = went ∙ ap (λ (l : List ℕ). append old l) (ap (λ (l : List EntitySpec). written_file h (filter (pick_of selection.Everything) l)) all ∙ answer_is p.frames pass.header_at h p.header);
+      sound = sound;
+      taken = went ∙ ap (λ (l : List ℕ). append old l) (ap (λ (l : List EntitySpec). written_file h (filter (pick_of selection.Everything) l)) all ∙ (answer_is p.frames pass.header_at h p.header ∙ ap answer_bytes (sym verdict)));
+      counted = counted ∙ ap (λ (l : List EntitySpec). counts_of l) (everything_picked (decoded others) ∙ (all ∙ ap (λ (v : Verdict). decoded v.0) (sym verdict)));
+      kept = λ small. conversion_kept b sound small;
     }
 
-pub verdict_is : (known : Option Verdict) (v w : Verdict) → known ≡ Some v → known ≡ Some w → v ≡ w
-verdict_is known v w e f = ap of (sym e ∙ f) where
-  of : Option Verdict → Verdict
-  of None = v
-  of (Some u) = u
-
-pub converts_front : (b : List ℕ) (pass : Pass) (h : HeaderSpec) (known : Option Verdict) (old new : Option (List ℕ)) → known ≡ judged_file (Some b) → Passed b pass h → PacksFront (pick_of selection.Everything) h known old new → ConvertsFront (judged_writable (Some b)) old new
-converts_front b pass h known old new is p front all e =
-    subst (λ (v : Verdict). IsFront old new (answer_bytes v)) (verdict_is _ (p.frames, None) all p.writable e)
-    (subst (λ (l : List ℕ). IsFront old new l) (answer_is p.frames pass.header_at h p.header) (front (p.frames, None) (is ∙ p.judged)))
+pub converts_front : (b : List ℕ) (pass : Pass) (h : HeaderSpec) (known : Option Verdict) (old new : Option (List ℕ)) → known ≡ judged_file (Some b) → Passed b pass h → PacksFront (pick_of selection.Everything) h known old new → IsFront old new (conversion_of b)
+converts_front b pass h known old new is p front =
+    subst (λ (l : List ℕ). IsFront old new l) (answer_is p.frames pass.header_at h p.header ∙ ap answer_bytes (sym (same_verdict b p.frames p.writable))) (front (p.frames, None) (is ∙ p.judged))

@@ -6,7 +6,7 @@ use Rattle.std.specs.Option.{option_map}
 use Rattle.sha2.specs.Sha256.{sha256}
 use Rattle.std.proofs.lemmas.List.Elements.{filter_agree}
 use Rattle.osm_entity.specs.declared.bounding_box.BoundingBox.{BoundingBox}
-use Rattle.osm_entity.specs.Entity.{EntitySpec, node, way, relation}
+use Rattle.osm_entity.specs.Entity.{EntitySpec, Decoded, node, way, relation}
 use Rattle.osm_ways.specs.declared.phases.Chosen.{Chosen}
 use Rattle.osm_ways.specs.Phases.{NodeSets, WaySets, node_step, way_step, start_nodes, start_ways, node_pass, way_pass, is_chosen}
 use Rattle.osm_ways.specs.Seen.{seen_entity}
@@ -14,7 +14,7 @@ use Rattle.osm_ways.specs.Selection.{Seen, keeps}
 use Rattle.osm_ways.proofs.Passes.{chosen_is_kept}
 use Rattle.osm_pack.specs.Cuts.{written_file}
 use Rattle.pbf_block.specs.Header.{HeaderSpec}
-use Rattle.pbf_block.specs.WrittenHeader.{header_out_for_box}
+use Rattle.pbf_block.specs.WrittenHeader.{header_out_for_box, edges_of, EdgesTyped}
 use Rattle.pbf_frame.specs.declared.stop.Stop.{Stop}
 use Rattle.pbf_frame.specs.declared.stop.Stop.TheVariants as stop
 use Rattle.pbf_frame.specs.Devices.{append, IsFront}
@@ -26,13 +26,16 @@ use Rattle.pbfcut.specs.declared.counts.Pass.{Pass}
 use Rattle.pbfcut.specs.declared.picking.Selection.TheVariants as selection
 use Rattle.pbfcut.specs.Converting.{header_limit, limited, judged_writable, held_header, IsLimit}
 use Rattle.pbfcut.specs.Counting.{counts_of, decoded}
-use Rattle.pbfcut.specs.Extracting.{Choice, complete_ways, extraction, extract_bytes, Extracted, ExtractsFront, ExtractStops, Chooses, ChooseStops}
+use Rattle.pbfcut.specs.Calls.{Extracted, ExtractStops, ChooseStops}
+use Rattle.pbfcut.specs.Extracting.{Choice, complete_ways, extraction, extract_bytes, Chooses}
+use Rattle.pbfcut.specs.Kept.{verdict_on, extract_of}
+use Rattle.pbfcut.proofs.KeptLaw.{IsSelection, same_verdict, extract_kept}
 use Rattle.pbfcut.specs.Gathering.{with_node, with_way, GathersFile, GathersLater, Unlike, LaterStops}
 use Rattle.pbfcut.specs.Judged.{judged_file}
 use Rattle.pbfcut.specs.Picking.{Pick, picked_by, pick_of, Packed, PacksFront}
 use Rattle.pbfcut.specs.Showing.{Differ}
 use Rattle.pbfcut.specs.Steps.{PassesFile, file_header}
-use Rattle.pbfcut.proofs.ConvertingLemmas.{held_is, limit_refused, judged_sound, same_frames, known_says, verdict_is}
+use Rattle.pbfcut.proofs.ConvertingLemmas.{held_is, limit_refused, judged_sound, same_frames, known_says}
 
 -- ---- what was chosen
 
@@ -96,22 +99,26 @@ selects_ways area b first second sets h is too c =
 
 -- ---- a whole call
 
-pub extracted : (choose : Choice) (area : BoundingBox) (b : List ℕ) (pick : Pick) (h : HeaderSpec) (counts : Counts) (known : Option Verdict) (old new : Option (List ℕ)) → known ≡ judged_file (Some b) → Selects b choose area pick h → Packed pick h known counts old new
-    → Extracted choose area (judged_writable (Some b)) counts old new
-extracted choose area b pick h counts known old new is s (others, says, counted, went) =
-    let same = ap (λ (l : List FrameSpec). filter pick (decoded l)) (same_frames b s.frames others s.judged (known_says b (others, None) (subst (λ (k : Option Verdict). Says k (others, None)) is says))) ∙ s.picked in
-    record {
-      frames = s.frames;
-      judged = s.writable;
-      counted = counted ∙ ap (λ (l : List EntitySpec). counts_of l) same;
-      taken = went ∙ ap (λ (l : List ℕ). append old l) (ap (λ (l : List EntitySpec). written_file h l) same ∙ sym s.bytes);
-    }
+module _ (choose : Choice) (select : List Decoded → List Decoded) (selection : IsSelection choose select) (area : BoundingBox) (edges : EdgesTyped (edges_of area)) (b : List ℕ) (pick : Pick) (h : HeaderSpec) (s : Selects b choose area pick h) where
+  verdict : verdict_on b ≡ (s.frames, None)
+  verdict = same_verdict b s.frames s.writable
 
-pub extracts_front : (choose : Choice) (area : BoundingBox) (b : List ℕ) (pick : Pick) (h : HeaderSpec) (known : Option Verdict) (old new : Option (List ℕ)) → known ≡ judged_file (Some b) → Selects b choose area pick h → PacksFront pick h known old new
-    → ExtractsFront choose area (judged_writable (Some b)) old new
-extracts_front choose area b pick h known old new is s front all e =
-    subst (λ (v : Verdict). IsFront old new (extract_bytes choose area v)) (verdict_is _ (s.frames, None) all s.writable e)
-    (subst (λ (l : List ℕ). IsFront old new l) (ap (λ (l : List EntitySpec). written_file h l) s.picked ∙ sym s.bytes) (front (s.frames, None) (is ∙ s.judged)))
+  answer : written_file h (filter pick (decoded s.frames)) ≡ extract_of choose area b
+  answer = ap (λ (l : List EntitySpec). written_file h l) s.picked ∙ (sym s.bytes ∙ ap (λ (v : Verdict). extract_bytes choose area v) (sym verdict))
+
+  pub extracted : (counts : Counts) (known : Option Verdict) (old new : Option (List ℕ)) → known ≡ judged_file (Some b) → Packed pick h known counts old new → Extracted choose select area b counts old new
+  extracted counts known old new is (others, says, counted, went) =
+      let same = same_frames b s.frames others s.judged (known_says b (others, None) (subst (λ (k : Option Verdict). Says k (others, None)) is says)) in
+      let sound = ap (λ (v : Verdict). v.1) verdict in
+      record {
+        sound = sound;
+        taken = went ∙ ap (λ (l : List ℕ). append old l) (ap (λ (l : List FrameSpec). written_file h (filter pick (decoded l))) same ∙ answer);
+        counted = counted ∙ ap (λ (l : List EntitySpec). counts_of l) (ap (λ (l : List FrameSpec). filter pick (decoded l)) same ∙ (s.picked ∙ ap (λ (v : Verdict). choose (decoded v.0)) (sym verdict)));
+        kept = λ small. extract_kept choose select selection area edges b sound small;
+      }
+
+  pub extracts_front : (known : Option Verdict) (old new : Option (List ℕ)) → known ≡ judged_file (Some b) → PacksFront pick h known old new → IsFront old new (extract_of choose area b)
+  extracts_front known old new is front = subst (λ (l : List ℕ). IsFront old new l) answer (front (s.frames, None) (is ∙ s.judged))
 
 -- ---- the passes that choose
 

@@ -177,7 +177,7 @@ module _ (file : List ℕ) (h : HeaderSpec) (es : List EntitySpec) (is : IsFileO
       ∙ (ap (λ (o : Option Placed). extraction choose area o (decoded is.frames)) is.placed
       ∙ ap (λ (l : List EntitySpec). written_file (header_out_for_box area h) (choose l)) is.entities)
 
-same_verdict : (file : List ℕ) (frames : List FrameSpec) → judged_writable (Some file) ≡ Some (frames, None) → verdict_on file ≡ (frames, None)
+pub same_verdict : (file : List ℕ) (frames : List FrameSpec) → judged_writable (Some file) ≡ Some (frames, None) → verdict_on file ≡ (frames, None)
 same_verdict file frames is = ap (λ (o : Option Verdict). unwrap_or o (frames, None)) is
 
 -- ---- a conversion

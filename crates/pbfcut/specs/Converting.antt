@@ -1,4 +1,4 @@
--- The conversion of a file: all its entities in canonical form; what a call does to its drain, and why it stops.
+-- The conversion of a file: all its entities in canonical form.
 use Rattle.std.specs.Prelude.{◌≡◌, ℕ, ◌+◌, nat_le, if◌then◌else◌, List, [], Bool, Option, Some, None}
 use Rattle.std.specs.Option.{option_map}
 use Rattle.pbf_wire.specs.declared.fault.Fault.{Fault}
@@ -9,13 +9,11 @@ use Rattle.osm_entity.specs.Weight.{text_weight}
 use Rattle.pbf_block.specs.Header.{HeaderSpec, header_of}
 use Rattle.pbf_frame.specs.declared.stop.Stop.{Stop}
 use Rattle.pbf_frame.specs.declared.stop.Stop.TheVariants.{Refused, Read, Write, Memory, Changed}
-use Rattle.pbf_frame.specs.Devices.{append, IsFront}
 use Rattle.pbf_frame.specs.Frames.{FrameSpec}
 use Rattle.pbf_frame.specs.Verdict.{Verdict, Says}
 use Rattle.osm_pack.specs.Cuts.{written_file}
-use Rattle.pbfcut.specs.declared.counts.Counts.{Counts}
 use Rattle.pbfcut.specs.declared.counts.Pass.{Pass}
-use Rattle.pbfcut.specs.Counting.{counts_of, decoded}
+use Rattle.pbfcut.specs.Counting.{decoded}
 use Rattle.pbfcut.specs.Judged.{judged_file}
 use Rattle.pbfcut.specs.Steps.{file_header}
 
@@ -67,23 +65,8 @@ IsLimit limit Write = ⊥
 IsLimit limit Memory = ⊥
 IsLimit limit (Changed pass) = ⊥
 
--- ---- a whole call
+-- ---- a whole file
 
--- the file has no fault, and its header can be written
+-- it has no fault, and its header can be written
 abbrev pub CanBeWritten : Option Verdict → Type 0
 CanBeWritten known = (frames : List FrameSpec) × Says known (frames, None)
-
--- each of the feeds supplies these bytes
-abbrev pub BothSupply : List ℕ → Option (List ℕ) → Option (List ℕ) → Type 0
-BothSupply b first second = (first ≡ Some b) × (second ≡ Some b)
-
--- the file has no fault, these are the numbers of its entities, and its conversion went out
-pub record Converted (known : Option Verdict) (counts : Counts) (old new : Option (List ℕ)) : Type 0 where
-  pub frames : List FrameSpec
-  pub judged : known ≡ Some (frames, None)
-  pub counted : counts ≡ counts_of (decoded frames)
-  pub taken : new ≡ append old (answer_bytes (frames, None))
-
--- a beginning of what is to be written for the file went out
-abbrev pub ConvertsFront : Option Verdict → Option (List ℕ) → Option (List ℕ) → Type 0
-ConvertsFront known old new = (all : Verdict) → known ≡ Some all → IsFront old new (answer_bytes all)

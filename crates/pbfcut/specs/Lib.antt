@@ -10,3 +10,4 @@ pub mod Showing
 pub mod Converting
 pub mod Extracting
 pub mod Kept
+pub mod Calls

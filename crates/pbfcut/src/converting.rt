@@ -2,8 +2,10 @@
 
 ghost use Rattle.std.specs.Prelude.{◌≡◌, ◌⊎◌, ℕ, List, Some, None, IfOk, IfErr, IfSome, OnOk, OnErr};
 ghost use Rattle.sha2.specs.Sha256.{sha256};
-ghost use Rattle.pbf_frame.specs.Devices.{HasRisen};
-ghost use Rattle.pbfcut.specs.Converting.{BothSupply, CanBeWritten, judged_writable, Converted, ConvertsFront};
+ghost use Rattle.pbf_frame.specs.Devices.{HasRisen, IsFront};
+ghost use Rattle.pbfcut.specs.Calls.{BothSupply, SameDigest, Converted};
+ghost use Rattle.pbfcut.specs.Converting.{CanBeWritten, judged_writable};
+ghost use Rattle.pbfcut.specs.Kept.{conversion_of};
 ghost use Rattle.pbfcut.specs.Judged.{judged_file};
 ghost use Rattle.pbfcut.specs.Showing.{ShowStops};
 ghost use Rattle.pbfcut.specs.Steps.{CountsFile};
@@ -35,16 +37,17 @@ pub fn convert<F: Feed, G: Feed, D: Drain, S: BuildHasher + Drop>(
 ) -> Result<Counts, Stop>
     // The first file has no fault, and its header can be written.
     ensures judged { OnOk result (CanBeWritten (judged_writable (F.remaining first.old))) }
-    // Where both feeds supply these bytes, the drain took exactly their conversion, and the counts are those of their entities.
-    ensures converted { IfOk result (λ counts. (b : List ℕ) → BothSupply b (F.remaining first.old) (G.remaining second.old) → Converted (judged_writable (Some b)) counts (D.taken drain.old) (D.taken drain.new)) }
+    // Where both feeds supply these bytes, the drain took exactly their conversion: a file that is read as the same entities. The
+    // counts are theirs.
+    ensures converted { IfOk result (λ counts. (b : List ℕ) → BothSupply b (F.remaining first.old) (G.remaining second.old) → Converted b counts (D.taken drain.old) (D.taken drain.new)) }
     // No files that differ, unless two unlike lists share a digest.
-    ensures digests { OnOk result ((b c : List ℕ) → F.remaining first.old ≡ Some b → G.remaining second.old ≡ Some c → sha256 b ≡ sha256 c) }
+    ensures digests { OnOk result (SameDigest (F.remaining first.old) (G.remaining second.old)) }
     // Each stop has its cause; what is refused is the first file, by its first fault, and then the drain took nothing.
     ensures stops { IfErr result (ShowStops (F.remaining first.old) (G.remaining second.old) (judged_writable (F.remaining first.old))
         (HasRisen (F.failures first.old) (F.failures first.new) ⊎ HasRisen (G.failures second.old) (G.failures second.new))
         (HasRisen (D.failures drain.old) (D.failures drain.new)) (D.taken drain.old) (D.taken drain.new)) }
     // Whatever stopped it, where both feeds supply these bytes a beginning of their conversion went out, and nothing where they have a fault.
-    ensures beginning { OnErr result ((b : List ℕ) → BothSupply b (F.remaining first.old) (G.remaining second.old) → ConvertsFront (judged_writable (Some b)) (D.taken drain.old) (D.taken drain.new)) }
+    ensures beginning { OnErr result ((b : List ℕ) → BothSupply b (F.remaining first.old) (G.remaining second.old) → IsFront (D.taken drain.old) (D.taken drain.new) (conversion_of b)) }
 {
     let told = pass_count(alloc, first)?;
     let header = writable_header(&told.0)?;

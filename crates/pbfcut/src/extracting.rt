@@ -2,11 +2,17 @@
 
 ghost use Rattle.std.specs.Prelude.{◌≡◌, ◌⊎◌, ◌≤◌, ◌+◌, ℕ, List, Some, None, IfOk, IfErr, IfSome, OnOk, OnErr};
 ghost use Rattle.sha2.specs.Sha256.{sha256};
+ghost use Rattle.osm_entity.specs.Ranges.{IsInt64};
 ghost use Rattle.osm_entity.specs.Weight.{text_weight};
 ghost use Rattle.pbf_block.specs.Header.{header_of};
-ghost use Rattle.pbf_frame.specs.Devices.{HasRisen};
+ghost use Rattle.pbf_block.specs.WrittenHeader.{edges_of, EdgesTyped};
+ghost use Rattle.pbf_frame.specs.Devices.{HasRisen, IsFront};
 ghost use Rattle.pbfcut.specs.Converting.{CanBeWritten, judged_writable};
-ghost use Rattle.pbfcut.specs.Extracting.{complete_ways, AllSupply, Extracted, ExtractsFront, SameDigest, ExtractStops, ChangedBefore, ChangedLast, Chooses, ChooseStops};
+ghost use Rattle.osm_ways.specs.Seen.{seen_decoded};
+ghost use Rattle.osm_ways.specs.Selection.{extract};
+ghost use Rattle.pbfcut.specs.Calls.{AllSupply, Extracted, SameDigest, ExtractStops, ChangedBefore, ChangedLast, ChooseStops};
+ghost use Rattle.pbfcut.specs.Extracting.{complete_ways, Chooses};
+ghost use Rattle.pbfcut.specs.Kept.{extract_of};
 ghost use Rattle.pbfcut.specs.Judged.{judged_file};
 ghost use Rattle.pbfcut.specs.Showing.{Differ};
 
@@ -22,6 +28,12 @@ use pbf_frame::{Drain, Feed, Stop};
 use std::alloc::Global;
 use std::hash::BuildHasher;
 
+/// A number's type, in the words of the format: what is written of a box is read as its edges.
+fn is_int64(number: i64)
+    ensures { IsInt64 number }
+{
+}
+
 /// The passes before the one that writes: the first judges the file and takes the nodes of the box, the second takes the ways.
 /// Answers what was chosen, the header that is written, and the digest of the first pass.
 fn choose<F: Feed, G: Feed>(
@@ -31,6 +43,7 @@ fn choose<F: Feed, G: Feed>(
     area: BoundingBox,
 ) -> Result<(Chosen, Header, [u8; 32]), Stop>
     ensures chosen { IfOk result (λ told. Chooses area (judged_file (F.remaining first.old)) (judged_file (G.remaining second.old)) told.0 (header_of told.1)) }
+    ensures typed { OnOk result (EdgesTyped (edges_of area)) }
     ensures short { IfOk result (λ told. text_weight (header_of told.1).source + text_weight (header_of told.1).url ≤ 12000000) }
     ensures digest { IfOk result (λ told. IfSome (F.remaining first.old) (λ bytes. told.2 ≡ sha256 bytes)) }
     ensures digests { OnOk result (SameDigest (F.remaining first.old) (G.remaining second.old)) }
@@ -38,6 +51,10 @@ fn choose<F: Feed, G: Feed>(
         (HasRisen (F.failures first.old) (F.failures first.new) ⊎ HasRisen (G.failures second.old) (G.failures second.new))
         (λ pass. (pass ≡ 2) × Differ (F.remaining first.old) (G.remaining second.old))) }
 {
+    is_int64(area.left);
+    is_int64(area.right);
+    is_int64(area.top);
+    is_int64(area.bottom);
     let mut nodes = NodePhase::new(alloc, area);
     let told = pass_gather(alloc, first, &mut nodes)?;
     let header = writable_header(&told.0)?.for_box(alloc, area)?;
@@ -72,7 +89,7 @@ pub fn extract<F: Feed, G: Feed, H: Feed, D: Drain, S: BuildHasher + Drop>(
     ensures judged { OnOk result (CanBeWritten (judged_writable (F.remaining first.old))) }
     // Where all feeds supply these bytes, the drain took exactly the complete-ways extract of the decoded bytes, in input order and
     // in canonical form, behind the header of the box; the counts are those of its entities.
-    ensures extracted { IfOk result (λ counts. (b : List ℕ) → AllSupply b (F.remaining first.old) (G.remaining second.old) (H.remaining third.old) → Extracted (complete_ways area) area (judged_writable (Some b)) counts (D.taken drain.old) (D.taken drain.new)) }
+    ensures extracted { IfOk result (λ counts. (b : List ℕ) → AllSupply b (F.remaining first.old) (G.remaining second.old) (H.remaining third.old) → Extracted (complete_ways area) (extract (seen_decoded area)) area b counts (D.taken drain.old) (D.taken drain.new)) }
     // No files that differ, unless two unlike lists share a digest.
     ensures digests { OnOk result (SameDigest (F.remaining first.old) (G.remaining second.old) × SameDigest (F.remaining first.old) (H.remaining third.old)) }
     // Each stop has its cause; what is refused is the first file, by its first fault, and then the drain took nothing.
@@ -82,7 +99,7 @@ pub fn extract<F: Feed, G: Feed, H: Feed, D: Drain, S: BuildHasher + Drop>(
         (λ pass. ChangedBefore 2 (F.remaining first.old) (G.remaining second.old) (D.taken drain.old) (D.taken drain.new) pass ⊎ ChangedLast 3 (F.remaining first.old) (H.remaining third.old) pass)
         (D.taken drain.old) (D.taken drain.new)) }
     // Whatever stopped it, where all feeds supply these bytes a beginning of the answer went out, and nothing where they have a fault.
-    ensures beginning { OnErr result ((b : List ℕ) → AllSupply b (F.remaining first.old) (G.remaining second.old) (H.remaining third.old) → ExtractsFront (complete_ways area) area (judged_writable (Some b)) (D.taken drain.old) (D.taken drain.new)) }
+    ensures beginning { OnErr result ((b : List ℕ) → AllSupply b (F.remaining first.old) (G.remaining second.old) (H.remaining third.old) → IsFront (D.taken drain.old) (D.taken drain.new) (extract_of (complete_ways area) area b)) }
 {
     let told = choose(alloc, first, second, area)?;
     later_pack(

@@ -13,7 +13,7 @@ returns-in_err-header-clause-stops g c =
 pub returns-in_err-header-clause-beginning : goal.returns-in_err-header-clause-beginning
 returns-in_err-header-clause-beginning g c =
     let p = err_from_is_err_and c.from_residual-in_err-header.result c.from_residual-in_err-header.ensures.1 in
-    rw p.1 (λ b supply all is. nothing_out _ _)
+    rw p.1 (λ b supply. nothing_out _ _)
 
 pub returns-clause-converted : goal.returns-clause-converted
 returns-clause-converted g c =

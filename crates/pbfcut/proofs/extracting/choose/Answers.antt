@@ -1,4 +1,6 @@
-use Rattle.std.proofs.Common.{◌≡◌, inr}
+use Rattle.std.proofs.Common.{◌≡◌, inr, subst, rules, w64}
+use Rattle.std.proofs.lemmas.Int.{to_z-of_z}
+use Rattle.osm_entity.specs.Ranges.{IsInt64}
 use Rattle.std.proofs.lemmas.Result.{err_from_is_err_and}
 use Rattle.pbfcut.specs.Showing.{Differ}
 use Rattle.pbfcut.proofs.ExtractingLemmas.{chooses, choose_limit, choose_later, later_differs}
@@ -22,3 +24,13 @@ pub returns-clause-chosen : goal.returns-clause-chosen
 returns-clause-chosen g c =
     chooses c.args.area _ _ c.in_ok-told.told.0 _ _ _ _ _ _ _ c.in_ok-told.ensures.gathered c.new-nodes.ensures c.in_ok-writable_header.ensures.header c.in_ok-writable_header.ensures.within c.in_ok-header.ensures c.in_ok-ways.ensures
       c.in_ok-later_gather.ensures.gathered c.in_ok-end_ways.ensures
+
+pub returns-clause-typed : goal.returns-clause-typed
+returns-clause-typed g c =
+    let area = c.args.area in
+    record {
+      left = subst IsInt64 (to_z-of_z w64 area.left (search rules)) c.is_int64.ensures;
+      right = subst IsInt64 (to_z-of_z w64 area.right (search rules)) c.is_int64-2.ensures;
+      top = subst IsInt64 (to_z-of_z w64 area.top (search rules)) c.is_int64-3.ensures;
+      bottom = subst IsInt64 (to_z-of_z w64 area.bottom (search rules)) c.is_int64-4.ensures;
+    }

@@ -1,24 +1,29 @@
 use Rattle.std.proofs.Common.{ap, inr}
 use Rattle.std.proofs.lemmas.Result.{IfOk-weaker, IfErr-weaker, on_err_weaker}
 use Rattle.pbf_block.specs.Header.{header_of}
+use Rattle.osm_ways.specs.Seen.{seen_decoded}
+use Rattle.osm_ways.specs.Selection.{extract}
 use Rattle.pbfcut.specs.Extracting.{complete_ways}
 use Rattle.pbfcut.specs.Judged.{judged_file}
 use Rattle.pbfcut.proofs.ExtractingLemmas.{selects_chosen, extracted, extracts_front, extract_later, later_differs}
+use Rattle.pbfcut.proofs.KeptLaw.{complete_ways_select}
 use Rattle.pbfcut.proofs.extracting.extract.Goals as goal
 
 pub returns-clause-extracted : goal.returns-clause-extracted
 returns-clause-extracted g c =
     let area = c.args.area in
     let h = header_of c.in_ok-told.told.1 in
+    let edges = c.in_ok-told.ensures.typed in
     IfOk-weaker c.later_pack.result _ _ (λ counts packed b supply.
-      extracted (complete_ways area) area b _ h counts _ _ _ (ap judged_file supply.2) (selects_chosen _ area b _ _ h (ap judged_file supply.0) (ap judged_file supply.1) c.in_ok-told.ensures.chosen) packed) c.later_pack.ensures.packed
+      extracted (complete_ways area) (λ meant. extract (seen_decoded area) meant) (complete_ways_select area) area edges b _ h (selects_chosen _ area b _ _ h (ap judged_file supply.0) (ap judged_file supply.1) c.in_ok-told.ensures.chosen) counts _ _ _ (ap judged_file supply.2) packed) c.later_pack.ensures.packed
 
 pub returns-clause-beginning : goal.returns-clause-beginning
 returns-clause-beginning g c =
     let area = c.args.area in
     let h = header_of c.in_ok-told.told.1 in
+    let edges = c.in_ok-told.ensures.typed in
     on_err_weaker c.later_pack.result (λ front b supply.
-      extracts_front (complete_ways area) area b _ h _ _ _ (ap judged_file supply.2) (selects_chosen _ area b _ _ h (ap judged_file supply.0) (ap judged_file supply.1) c.in_ok-told.ensures.chosen) front) c.later_pack.ensures.beginning
+      extracts_front (complete_ways area) (λ meant. extract (seen_decoded area) meant) (complete_ways_select area) area edges b _ h (selects_chosen _ area b _ _ h (ap judged_file supply.0) (ap judged_file supply.1) c.in_ok-told.ensures.chosen) _ _ _ (ap judged_file supply.2) front) c.later_pack.ensures.beginning
 
 pub returns-clause-stops : goal.returns-clause-stops
 returns-clause-stops g c =
