@@ -1,5 +1,6 @@
 -- A file's extract, from what its passes say.
 use Rattle.std.proofs.Common.{◌≡◌, ℕ, ◌+◌, ◌-◌, List, [], ◌∷◌, map, Bor, Bool, true, false, Option, Some, None, subst, refl, sym, ap, ◌∙◌}
+use Rattle.std.specs.FinSet as set
 use Rattle.std.specs.List.{fold, filter}
 use Rattle.std.specs.Prelude.{IfSome}
 use Rattle.std.specs.Option.{option_map}
@@ -8,10 +9,13 @@ use Rattle.std.proofs.lemmas.List.Elements.{filter_agree}
 use Rattle.osm_entity.specs.declared.bounding_box.BoundingBox.{BoundingBox}
 use Rattle.osm_entity.specs.Entity.{EntitySpec, Decoded, node, way, relation}
 use Rattle.osm_ways.specs.declared.phases.Chosen.{Chosen}
-use Rattle.osm_ways.specs.Phases.{NodeSets, WaySets, node_step, way_step, start_nodes, start_ways, node_pass, way_pass, is_chosen}
+use Rattle.osm_ways.specs.declared.parents.ChosenParents.{ChosenParents}
+use Rattle.osm_ids.specs.Links.{IsLeast}
+use Rattle.osm_ways.specs.Parents.{keeps_with_parents}
+use Rattle.osm_ways.specs.Phases.{NodeSets, WaySets, RelationSets, ParentSets, node_step, way_step, relation_step, start_nodes, start_ways, start_relations, node_pass, way_pass, relation_pass, is_chosen, is_chosen_with_parents}
 use Rattle.osm_ways.specs.Seen.{seen_entity}
 use Rattle.osm_ways.specs.Selection.{Seen, keeps}
-use Rattle.osm_ways.proofs.Passes.{chosen_is_kept}
+use Rattle.osm_ways.proofs.Passes.{chosen_is_kept, chosen_with_parents}
 use Rattle.osm_pack.specs.Cuts.{written_file}
 use Rattle.pbf_block.specs.Header.{HeaderSpec}
 use Rattle.pbf_block.specs.WrittenHeader.{header_out_for_box, edges_of, EdgesTyped}
@@ -24,18 +28,18 @@ use Rattle.pbf_frame.proofs.Parting.{none_some}
 use Rattle.pbfcut.specs.declared.counts.Counts.{Counts}
 use Rattle.pbfcut.specs.declared.counts.Pass.{Pass}
 use Rattle.pbfcut.specs.declared.picking.Selection.TheVariants as selection
-use Rattle.pbfcut.specs.Converting.{header_limit, limited, judged_writable, held_header, IsLimit}
+use Rattle.pbfcut.specs.Converting.{header_limit, limited, judged_writable, held_header, CanBeWritten, IsLimit}
 use Rattle.pbfcut.specs.Counting.{counts_of, decoded}
 use Rattle.pbfcut.specs.Calls.{Extracted, ExtractStops, ChooseStops}
-use Rattle.pbfcut.specs.Extracting.{Choice, complete_ways, extraction, extract_bytes, Chooses}
+use Rattle.pbfcut.specs.Extracting.{Choice, complete_ways, all_parents, extraction, extract_bytes, Chooses, ChoosesParents}
 use Rattle.pbfcut.specs.Kept.{verdict_on, extract_of}
 use Rattle.pbfcut.proofs.KeptLaw.{IsSelection, same_verdict, extract_kept}
-use Rattle.pbfcut.specs.Gathering.{with_node, with_way, GathersFile, GathersLater, Unlike, LaterStops}
+use Rattle.pbfcut.specs.Gathering.{with_node, with_way, with_relation, GathersFile, GathersLater, Unlike, LaterStops}
 use Rattle.pbfcut.specs.Judged.{judged_file}
-use Rattle.pbfcut.specs.Picking.{Pick, picked_by, pick_of, Packed, PacksFront}
+use Rattle.pbfcut.specs.Picking.{Pick, picked_by, picked_with_parents, pick_of, Packed, PacksFront}
 use Rattle.pbfcut.specs.Showing.{Differ}
 use Rattle.pbfcut.specs.Steps.{PassesFile, file_header}
-use Rattle.pbfcut.proofs.ConvertingLemmas.{held_is, limit_refused, judged_sound, same_frames, known_says}
+use Rattle.pbfcut.proofs.ConvertingLemmas.{held_is, limited_sound, limit_refused, judged_sound, same_frames, known_says}
 
 -- ---- what was chosen
 
@@ -136,6 +140,9 @@ chooses area first second pass header h begun nodes started ways sets (frames, s
       chosen = ends ∙ (more ∙ ap (λ (s : WaySets). fold with_way s (decoded others)) (starts ∙ ap (λ (s : NodeSets). start_ways s.box_ids) (gathered ∙ ap (λ (s : NodeSets). fold with_node s (decoded frames)) new)));
     }
 
+pub can_be_written : (area : BoundingBox) (first second : Option Verdict) (sets : WaySets) (h : HeaderSpec) → Chooses area first second sets h → CanBeWritten (option_map limited first)
+can_be_written area first second sets h c = (c.frames, limited_sound first c.frames c.judged c.within)
+
 -- ---- why a call stops
 
 -- the bytes of a later pass that are unlike the digest are unlike the first pass's bytes
@@ -172,3 +179,65 @@ extract_later number other known digest read later wrote changed old new (stop.C
 pub selects_chosen : (chosen : Bor Chosen) (area : BoundingBox) (b : List ℕ) (first second : Option Verdict) (h : HeaderSpec) → first ≡ judged_file (Some b) → second ≡ judged_file (Some b) → Chooses area first second chosen.now h → Selects b (complete_ways area) area (pick_of (selection.Ways chosen)) h
 unfolding pick_of
 selects_chosen chosen area b first second h is too c = selects_ways area b first second chosen.now h is too c
+
+-- ---- with all parents
+
+relations_folded : (area : BoundingBox) (sets : RelationSets) (es : List EntitySpec) → fold with_relation sets es ≡ fold relation_step sets (map (seen_entity area) es)
+relations_folded area sets [] = refl
+relations_folded area sets (node n ∷ es) = relations_folded area sets es
+relations_folded area sets (way w ∷ es) = relations_folded area sets es
+relations_folded area sets (relation r ∷ es) = relations_folded area (with_relation sets (relation r)) es
+
+picked_is_chosen_with_parents : (area : BoundingBox) (sets : ParentSets) (e : EntitySpec) → picked_with_parents sets e ≡ is_chosen_with_parents sets (seen_entity area e)
+picked_is_chosen_with_parents area sets (node n) = refl
+picked_is_chosen_with_parents area sets (way w) = refl
+picked_is_chosen_with_parents area sets (relation r) = refl
+
+-- what the sets keep is the extract with all parents
+parents_are : (area : BoundingBox) (es : List EntitySpec) (sets : ParentSets) → sets.ways ≡ (relation_pass (map (seen_entity area) es)).ways
+    → IsLeast (set.contains (relation_pass (map (seen_entity area) es)).links) (relation_pass (map (seen_entity area) es)).start sets.relation_ids → filter (picked_with_parents sets) es ≡ all_parents area es
+parents_are area es sets ways least =
+    let seen = map (seen_entity area) es in
+    let all : is_chosen_with_parents sets ≡ keeps_with_parents seen =
+      ap (λ (w : WaySets). is_chosen_with_parents (record { ways = w; relation_ids = sets.relation_ids })) ways ∙ chosen_with_parents seen sets.relation_ids least in
+    filter_agree (picked_with_parents sets) (λ e. keeps_with_parents seen (seen_entity area e)) (λ e. picked_is_chosen_with_parents area sets e ∙ ap (λ (k : Seen → Bool). k (seen_entity area e)) all) es
+
+pub selects_parents : (chosen : Bor ChosenParents) (area : BoundingBox) (b : List ℕ) (first second third : Option Verdict) (h : HeaderSpec) → first ≡ judged_file (Some b) → second ≡ judged_file (Some b) → third ≡ judged_file (Some b)
+    → ChoosesParents area first second third chosen.now h → Selects b (all_parents area) area (pick_of (selection.Parents chosen)) h
+unfolding pick_of
+selects_parents chosen area b first second third h is too more p =
+    let c = p.chosen in
+    let es = decoded c.frames in
+    let judged = known_says b (c.frames, None) (subst (λ (k : Option Verdict). Says k (c.frames, None)) is c.judged) in
+    let same = same_frames b c.frames c.others judged (known_says b (c.others, None) (subst (λ (k : Option Verdict). Says k (c.others, None)) too c.read)) in
+    let third_same = same_frames b c.frames p.frames judged (known_says b (p.frames, None) (subst (λ (k : Option Verdict). Says k (p.frames, None)) more p.read)) in
+    let ways = c.chosen ∙ (ap (λ (l : List FrameSpec). fold with_way (start_ways (fold with_node (start_nodes area) es).box_ids) (decoded l)) same ∙ sets_are area es) in
+    let relations : p.relations ≡ relation_pass (map (seen_entity area) es) =
+      p.gathered ∙ (ap (λ (l : List FrameSpec). fold with_relation (start_relations p.ways) (decoded l)) third_same ∙ (ap (λ (w : WaySets). fold with_relation (start_relations w) es) ways ∙ relations_folded area (start_relations (way_pass (map (seen_entity area) es))) es)) in
+    record {
+      frames = c.frames;
+      judged = judged;
+      writable = judged_sound b c.frames judged c.within;
+      bytes = header_from area (file_header c.frames) h c.header (all_parents area) es;
+      picked = parents_are area es chosen.now (p.kept ∙ ap (λ (r : RelationSets). r.ways) relations) (subst (λ (r : RelationSets). IsLeast (set.contains r.links) r.start chosen.now.relation_ids) relations p.least);
+    }
+
+pub choose_more : (known : Option Verdict) (read more : Type 0) (changed other : ℕ → Type 0) (s : Stop) → (read → more) → ((pass : ℕ) → changed pass → other pass) → ChooseStops known read changed s → ChooseStops known more other s
+choose_more known read more changed other (stop.Refused e) r d h = h
+choose_more known read more changed other stop.Read r d h = r h
+choose_more known read more changed other stop.Write r d h = h
+choose_more known read more changed other stop.Memory r d h = tt
+choose_more known read more changed other (stop.Changed n) r d h = d n h
+
+pub chooses_parents : (area : BoundingBox) (first second third : Option Verdict) (ways : WaySets) (h : HeaderSpec) (begun relations : RelationSets) (sets : ParentSets) → Chooses area first second ways h → begun ≡ start_relations ways → GathersLater with_relation third begun relations
+    → sets.ways ≡ relations.ways → IsLeast (set.contains relations.links) relations.start sets.relation_ids → ChoosesParents area first second third sets h
+chooses_parents area first second third ways h begun relations sets chosen starts (frames, says, gathered) kept least = record {
+  ways = ways;
+  chosen = chosen;
+  frames = frames;
+  read = says;
+  relations = relations;
+  gathered = gathered ∙ ap (λ (s : RelationSets). fold with_relation s (decoded frames)) starts;
+  kept = kept;
+  least = least;
+}

@@ -24,6 +24,10 @@ BothSupply b first second = (first ≡ Some b) × (second ≡ Some b)
 abbrev pub AllSupply : List ℕ → Option (List ℕ) → Option (List ℕ) → Option (List ℕ) → Type 0
 AllSupply b first second third = (first ≡ Some b) × (second ≡ Some b) × (third ≡ Some b)
 
+-- each of four feeds does
+abbrev pub FourSupply : List ℕ → Option (List ℕ) → Option (List ℕ) → Option (List ℕ) → Option (List ℕ) → Type 0
+FourSupply b first second third fourth = (first ≡ Some b) × (second ≡ Some b) × (third ≡ Some b) × (fourth ≡ Some b)
+
 -- where the bytes of the first feed are known, those of the other have their digest
 abbrev pub SameDigest : Option (List ℕ) → Option (List ℕ) → Type 0
 SameDigest first other = (b c : List ℕ) → first ≡ Some b → other ≡ Some c → sha256 b ≡ sha256 c

@@ -1,12 +1,14 @@
 -- What `extract` writes for a file: its header with the box, and of its entities those that a choice keeps.
 use Rattle.std.specs.Prelude.{◌≡◌, ℕ, List, [], Option, Some, None}
+use Rattle.std.specs.FinSet as set
 use Rattle.std.specs.List.{fold}
 use Rattle.std.specs.Option.{option_map}
 use Rattle.osm_entity.specs.declared.bounding_box.BoundingBox.{BoundingBox}
 use Rattle.osm_entity.specs.Entity.{EntitySpec}
+use Rattle.osm_ids.specs.Links.{IsLeast}
 use Rattle.osm_ways.specs.Selection.{extract}
 use Rattle.osm_ways.specs.Parents.{extract_with_parents}
-use Rattle.osm_ways.specs.Phases.{WaySets, start_nodes, start_ways}
+use Rattle.osm_ways.specs.Phases.{WaySets, RelationSets, ParentSets, start_nodes, start_ways, start_relations}
 use Rattle.osm_ways.specs.Seen.{seen_entity}
 use Rattle.osm_pack.specs.Cuts.{written_file}
 use Rattle.pbf_block.specs.Header.{HeaderSpec}
@@ -15,7 +17,7 @@ use Rattle.pbf_frame.specs.Frames.{FrameSpec}
 use Rattle.pbf_frame.specs.Verdict.{Verdict, Says}
 use Rattle.pbfcut.specs.Converting.{header_limit}
 use Rattle.pbfcut.specs.Counting.{decoded}
-use Rattle.pbfcut.specs.Gathering.{with_node, with_way}
+use Rattle.pbfcut.specs.Gathering.{with_node, with_way, with_relation}
 use Rattle.pbfcut.specs.Steps.{file_header}
 
 abbrev pub Choice : Type 0
@@ -50,3 +52,14 @@ pub record Chooses (area : BoundingBox) (first second : Option Verdict) (sets : 
   pub within : header_limit (file_header frames) ≡ None
   pub header : option_map (λ p. header_out_for_box area p.1) (file_header frames) ≡ Some h
   pub chosen : sets ≡ fold with_way (start_ways (fold with_node (start_nodes area) (decoded frames)).box_ids) (decoded others)
+
+-- and the relations of a third file, with all parents
+pub record ChoosesParents (area : BoundingBox) (first second third : Option Verdict) (sets : ParentSets) (h : HeaderSpec) : Type 0 where
+  pub ways : WaySets
+  pub chosen : Chooses area first second ways h
+  pub frames : List FrameSpec
+  pub read : Says third (frames, None)
+  pub relations : RelationSets
+  pub gathered : relations ≡ fold with_relation (start_relations ways) (decoded frames)
+  pub kept : sets.ways ≡ relations.ways
+  pub least : IsLeast (set.contains relations.links) relations.start sets.relation_ids

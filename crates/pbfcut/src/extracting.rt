@@ -36,7 +36,7 @@ fn is_int64(number: i64)
 
 /// The passes before the one that writes: the first judges the file and takes the nodes of the box, the second takes the ways.
 /// Answers what was chosen, the header that is written, and the digest of the first pass.
-fn choose<F: Feed, G: Feed>(
+pub(crate) fn choose<F: Feed, G: Feed>(
     alloc: Global,
     first: &mut F,
     second: &mut G,
