@@ -4,6 +4,7 @@
 mod files;
 mod output;
 mod readers;
+mod writers;
 
 use output::print_help;
 use pbf_frame::Stop;
@@ -11,6 +12,7 @@ use pbfcut_cli::{Command, Ending, read_words, status};
 use readers::{run_blobs, run_check, run_show};
 use std::process::ExitCode;
 use std::{env, io};
+use writers::{run_convert, run_extract, run_extract_parents};
 
 /// The words behind the program's name.
 fn words(rt: &HostRuntime) -> Result<Vec<String>, Ending> {
@@ -28,17 +30,6 @@ fn words(rt: &HostRuntime) -> Result<Vec<String>, Ending> {
     Ok(words)
 }
 
-/// How `convert` and `extract` end as long as they are not built.
-fn not_built(rt: &HostRuntime) -> Ending {
-    match String::from_str(
-        rt.alloc(),
-        "pbfcut: convert and extract are not built yet\n",
-    ) {
-        Ok(text) => Ending::Words(text),
-        Err(_) => Ending::Stopped(Stop::Memory),
-    }
-}
-
 /// Does what the words ask for.
 fn run(rt: &HostRuntime, words: &[&str]) -> Result<(), Ending> {
     match read_words(rt.alloc(), words)? {
@@ -46,7 +37,19 @@ fn run(rt: &HostRuntime, words: &[&str]) -> Result<(), Ending> {
         Command::Blobs { input } => run_blobs(rt, input),
         Command::Show { input, dates } => run_show(rt, input, dates),
         Command::Check { input } => run_check(rt, input),
-        Command::Convert { .. } | Command::Extract { .. } => Err(not_built(rt)),
+        Command::Convert { input, output } => run_convert(rt, input, output),
+        Command::Extract {
+            area,
+            parents: false,
+            input,
+            output,
+        } => run_extract(rt, area, input, output),
+        Command::Extract {
+            area,
+            parents: true,
+            input,
+            output,
+        } => run_extract_parents(rt, area, input, output),
     }
 }
 
