@@ -599,7 +599,7 @@ def main():
     paths = [word for word in words if word != "--readers-only"]
     program = paths[0] if paths else BUILT
     if len(paths) > 1 or not os.access(program, os.X_OK):
-        sys.exit(f"tests/program.py: no program at {program}; see --help in this file's first lines")
+        sys.exit(f"tests/program.py: no program at {program}\n{__doc__}")
     folder = tempfile.mkdtemp(prefix="pbfcut-program-")
     try:
         bench = Bench(program, folder, readers_only)
