@@ -242,15 +242,25 @@ class Case:
 
 
 def feed_pipe(process, path: str, content: bytes, readers: int):
-    """Gives a pipe at IN its content once it was opened for each pass, so that the first pass alone reads it."""
-    process_folder = f"/proc/{process.pid}/fd"
-    with open(path, "wb") as pipe:
-        for _ in range(SECONDS * 20):
-            ends = [os.path.realpath(os.path.join(process_folder, name)) for name in os.listdir(process_folder)]
+    """Gives a pipe at IN its content once it was opened for each pass, so that the first pass alone reads it. Where the
+    program ends before, it gets nothing."""
+    opened = f"/proc/{process.pid}/fd"
+    pipe = None
+    for _ in range(SECONDS * 20):
+        try:
+            # fails as long as nobody reads
+            pipe = pipe or os.open(path, os.O_WRONLY | os.O_NONBLOCK)
+            ends = [os.path.realpath(os.path.join(opened, name)) for name in os.listdir(opened)]
             if ends.count(os.path.realpath(path)) >= readers:
+                os.write(pipe, content)
                 break
-            time.sleep(0.05)
-        pipe.write(content)
+        except OSError:
+            pass
+        if process.poll() is not None:
+            break
+        time.sleep(0.05)
+    if pipe is not None:
+        os.close(pipe)
 
 
 def compare(what: str, expected, found):
