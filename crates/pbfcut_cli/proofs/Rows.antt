@@ -1,0 +1,68 @@
+-- What the getters read, by the rows.
+use Rattle.std.proofs.Common.{◌≡◌, ◌⊎◌, ◌∙◌, ap, refl, sym, inl, inr, List, [], ◌∷◌, map, Option, Some, None, unwrap_or, option_map, Bor, Bool, true, false, find, is_some}
+use Rattle.clap.specs.Words.{App, Row, Shape, Text, built, has_subcommand, is_simple, subcommand_of, subcommand_rows_of}
+use Rattle.clap.specs.declared.parser.matches.ArgMatches.{ArgMatches}
+use Rattle.clap.specs.declared.parser.matches.ArgMatches.TheViews.{out-ArgMatches}
+use Rattle.clap.proofs.TakesLemmas.{some_rows}
+use Rattle.clap.specs.Simple.{argument_words, entered, label_of, names_of, rows_at}
+use Rattle.clap.specs.Walk.{answers_to, stop_after}
+use Rattle.pbfcut_cli.specs.Words.{IsOffered, program_app}
+
+-- the text behind a reference, or the empty one
+pub text_or_empty : (o : Option (Bor Text)) (d : Bor Text) (v : Option Text)
+    → option_map (λ s. s.now) o ≡ v → d.now ≡ [] → (unwrap_or o d).now ≡ unwrap_or v []
+text_or_empty None d v e empty = rw (← e) empty
+text_or_empty (Some s) d v e empty = rw (← e) refl
+
+abbrev IsIn : Text → List Text → Type 0
+IsIn name [] = ⊥
+IsIn name (x ∷ xs) = (name ≡ x) ⊎ IsIn name xs
+
+-- a subcommand that is found has the name of one of them
+found_name : (f : Shape → Bool) (xs : List Shape) (ws : List Text) (p : Text × List Row)
+    → option_map (λ s. rows_at s ws) (find f xs) ≡ Some p → IsIn p.0 (map (λ s. s.name) xs)
+found_name f [] ws p e = cc
+found_name f (x ∷ xs) ws p e = go (f x) refl (found_name f xs ws p)
+  where
+    go : (b : Bool) → f x ≡ b
+        → (option_map (λ s. rows_at s ws) (find f xs) ≡ Some p → IsIn p.0 (map (λ s. s.name) xs))
+        → IsIn p.0 (map (λ s. s.name) (x ∷ xs))
+    go true t later =
+        let same : Some (rows_at x ws) ≡ Some p = rw t at e in
+        inl (sym (ap (λ (o : Option (Text × List Row)). (unwrap_or o p).0) same))
+    go false t later =
+        let rest : option_map (λ s. rows_at s ws) (find f xs) ≡ Some p = rw t at e in
+        inr (later rest)
+
+entered_name : (a : App) (stop : Option (Text × List Text)) (p : Text × List Row)
+    → entered a stop ≡ Some p → IsIn p.0 (map (λ s. s.name) a.subs)
+entered_name a None p e = cc
+entered_name a (Some q) p e = found_name (λ s. answers_to q.0 (label_of s)) a.subs q.1 p e
+
+-- the words name a command of the program
+pub named : (words : List Text) (p : Text × List Row)
+    → subcommand_of program_app words ≡ Some p → IsOffered (Some p)
+named words p e =
+    let stop = stop_after (built program_app).top.rules (names_of (built program_app))
+    (argument_words program_app words) in
+    elim (entered_name (built program_app) stop p e) [
+      | inl h ↦ inl h
+      | inr (inl h) ↦ inr (inl h)
+      | inr (inr (inl h)) ↦ inr (inr (inl h))
+      | inr (inr (inr (inl h))) ↦ inr (inr (inr (inl h)))
+      | inr (inr (inr (inr (inl h)))) ↦ inr (inr (inr (inr h)))
+      | inr (inr (inr (inr (inr h)))) ↦ absurd h
+    ]
+
+pub simple : is_simple program_app ≡ true
+simple = refl
+
+-- where the matches are those of the words and have a subcommand, it is a command of the program
+pub offered : (m : ArgMatches) (words : List Text) → has_subcommand m ≡ true
+    → subcommand_rows_of m ≡ subcommand_of program_app words → IsOffered (subcommand_rows_of m)
+offered m words has same =
+    go (subcommand_rows_of m) (sym (some_rows (out-ArgMatches m).subcommand) ∙ has) (sym same)
+  where
+    go : (o : Option (Text × List Row)) → is_some o ≡ true → subcommand_of program_app words ≡ o → IsOffered o
+    go None h e = cc
+    go (Some p) h e = named words p e

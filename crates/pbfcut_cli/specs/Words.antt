@@ -1,0 +1,141 @@
+-- The program's commands, as `clap` sees them.
+use Rattle.std.specs.Prelude.{◌≡◌, ◌⊎◌, Bool, true, false, codes, List, [], Option, Some, None, Result, Ok, Err, MatchResult, map, unwrap_or}
+use Rattle.std.specs.Borrow.{Bor}
+use Rattle.clap.specs.Words.{App, Row, Rule, Shape, Text, first_of, new_app, new_rule, one_of, subcommand_of, with_rule, with_subcommand}
+use Rattle.clap.specs.Simple.{on_top}
+use Rattle.clap.specs.declared.builder.ArgAction.TheVariants.{SetTrue}
+use Rattle.osm_entity.specs.Degrees.{box_of_text}
+use Rattle.osm_entity.specs.declared.bounding_box.BoxFault.{BoxFault}
+use Rattle.pbfcut_cli.specs.declared.words.Command.{Command}
+use Rattle.pbfcut_cli.specs.declared.words.Command.TheVariants.{Blobs, Show, Check, Convert, Extract, Help}
+use Rattle.pbfcut_cli.specs.declared.words.CliFault.{CliFault}
+use Rattle.pbfcut_cli.specs.declared.words.CliFault.TheVariants.{Line, Box}
+
+-- ---- arguments
+
+abbrev pub input_rule : Rule
+input_rule = record (new_rule (codes "IN")) { required = true }
+
+abbrev pub output_rule : Rule
+output_rule = record (new_rule (codes "OUT")) { required = true }
+
+abbrev pub dates_rule : Rule
+dates_rule = record (new_rule (codes "dates")) { long = Some (codes "dates"); action = Some SetTrue }
+
+abbrev pub parents_rule : Rule
+parents_rule =
+    record (new_rule (codes "parents")) { long = Some (codes "parents"); action = Some SetTrue }
+
+abbrev pub box_rule : Rule
+box_rule = record (new_rule (codes "box")) {
+  long = Some (codes "box");
+  value_names = 1;
+  required = true;
+}
+
+-- ---- commands
+
+abbrev pub blobs_app : App
+blobs_app = with_rule (new_app (codes "blobs")) input_rule
+
+abbrev pub show_app : App
+show_app = with_rule (with_rule (new_app (codes "show")) dates_rule) input_rule
+
+abbrev pub check_app : App
+check_app = with_rule (new_app (codes "check")) input_rule
+
+abbrev pub convert_app : App
+convert_app = with_rule (with_rule (new_app (codes "convert")) input_rule) output_rule
+
+-- `extract` with its options
+abbrev pub options_app : App
+options_app = with_rule (with_rule (new_app (codes "extract")) parents_rule) box_rule
+
+abbrev pub extract_app : App
+extract_app = with_rule (with_rule options_app input_rule) output_rule
+
+abbrev pub settled : Shape → Shape
+settled s = record s {
+  no_binary_name = true;
+  subcommand_required = true;
+  disable_help_subcommand = true;
+}
+
+abbrev pub bare_app : App
+bare_app = on_top settled (new_app (codes "pbfcut"))
+
+abbrev pub readers_app : App
+readers_app = with_subcommand (with_subcommand (with_subcommand bare_app blobs_app.top)
+    show_app.top) check_app.top
+
+abbrev pub program_app : App
+program_app = with_subcommand (with_subcommand readers_app convert_app.top) extract_app.top
+
+-- ---- what the words come to
+
+-- the value of an argument, empty where it has none
+abbrev pub value_of : Text → List Row → Text
+value_of id rows = unwrap_or (first_of id rows) []
+
+abbrev pub ReadsFlag : Bool → Text → List Row → Type 0
+ReadsFlag flag id rows = (one_of id rows ≡ None → flag ≡ false)
+    × (one_of id rows ≡ Some (codes "true") → flag ≡ true)
+    × (one_of id rows ≡ Some (codes "false") → flag ≡ false)
+
+-- the command has this name, and its values are those of the rows
+abbrev pub ReadsAs : Text → List Row → Command → Type 0
+ReadsAs name rows (Blobs input) = (name ≡ codes "blobs") × (input.now ≡ value_of (codes "IN") rows)
+ReadsAs name rows (Show input dates) = (name ≡ codes "show")
+    × (input.now ≡ value_of (codes "IN") rows) × ReadsFlag dates (codes "dates") rows
+ReadsAs name rows (Check input) = (name ≡ codes "check") × (input.now ≡ value_of (codes "IN") rows)
+ReadsAs name rows (Convert input output) = (name ≡ codes "convert")
+    × (input.now ≡ value_of (codes "IN") rows) × (output.now ≡ value_of (codes "OUT") rows)
+ReadsAs name rows (Extract area parents input output) = (name ≡ codes "extract")
+    × (box_of_text (value_of (codes "box") rows) ≡ Ok area) × ReadsFlag parents (codes "parents") rows
+    × (input.now ≡ value_of (codes "IN") rows) × (output.now ≡ value_of (codes "OUT") rows)
+ReadsAs name rows (Help text) = ⊥
+
+abbrev pub IsRead : Option (Text × List Row) → Command → Type 0
+IsRead None c = ⊥
+IsRead (Some p) c = ReadsAs p.0 p.1 c
+
+-- the words ask for `extract`, with a box that has this fault
+abbrev pub HasBoxFault : Option (Text × List Row) → BoxFault → Type 0
+HasBoxFault None fault = ⊥
+HasBoxFault (Some p) fault =
+    (p.0 ≡ codes "extract") × (box_of_text (value_of (codes "box") p.1) ≡ Err fault)
+
+-- the name is that of a command
+abbrev pub IsOffered : Option (Text × List Row) → Type 0
+IsOffered None = ⊥
+IsOffered (Some p) = (p.0 ≡ codes "blobs") ⊎ ((p.0 ≡ codes "show") ⊎ ((p.0 ≡ codes "check")
+    ⊎ ((p.0 ≡ codes "convert") ⊎ (p.0 ≡ codes "extract"))))
+
+abbrev pub IsHelp : Command → Type 0
+IsHelp (Help text) = Unit {0}
+IsHelp _ = ⊥
+
+abbrev pub IsBox : CliFault → Type 0
+IsBox (Box fault) = Unit {0}
+IsBox _ = ⊥
+
+-- a fault that may come where `clap` takes the words
+abbrev pub IsNoLine : CliFault → Type 0
+IsNoLine (Line text) = ⊥
+IsNoLine _ = Unit {0}
+
+-- neither help nor a refused line
+abbrev pub IsTaken : Result Command CliFault → Type 0
+IsTaken r = MatchResult r (λ c. IsHelp c → ⊥) IsNoLine
+
+abbrev pub FitsFault : Option (Text × List Row) → CliFault → Type 0
+FitsFault stop (Box fault) = HasBoxFault stop fault
+FitsFault stop _ = Unit {0}
+
+-- the texts of the words
+abbrev pub texts : List (Bor Text) → List Text
+texts = map (λ w. w.now)
+
+-- the subcommand that the words name, with its matches, as `clap` defines them
+abbrev pub words_of : List (Bor Text) → Option (Text × List Row)
+words_of words = subcommand_of program_app (texts words)

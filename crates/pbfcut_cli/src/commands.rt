@@ -1,0 +1,170 @@
+//! The commands and their arguments, told to `clap`.
+
+ghost use Rattle.std.specs.Prelude.{◌≡◌, IfOk, false};
+ghost use Rattle.clap.specs.Words.{app_of, rule_of};
+ghost use Rattle.clap.specs.declared.builder.command.Command.TheViews.{out-Command as fields_of};
+ghost use Rattle.pbfcut_cli.specs.Words.{
+  bare_app,
+  blobs_app,
+  box_rule,
+  check_app,
+  convert_app,
+  dates_rule,
+  extract_app,
+  input_rule,
+  options_app,
+  output_rule,
+  parents_rule,
+  program_app,
+  readers_app,
+  show_app,
+};
+
+use crate::help;
+use clap::{Arg, ArgAction, Command};
+use std::alloc::{AllocError, Global};
+
+/// The file that is read.
+fn input<'a>(alloc: Global) -> Arg<'a>
+    ensures rule { rule_of result ≡ input_rule }
+    ensures local { result.global ≡ false }
+{
+    Arg::new(alloc, "IN").required(true).help(help::INPUT)
+}
+
+/// The file that is written.
+fn output<'a>(alloc: Global) -> Arg<'a>
+    ensures rule { rule_of result ≡ output_rule }
+    ensures local { result.global ≡ false }
+{
+    Arg::new(alloc, "OUT").required(true).help(help::OUTPUT)
+}
+
+fn dates<'a>(alloc: Global) -> Arg<'a>
+    ensures rule { rule_of result ≡ dates_rule }
+    ensures local { result.global ≡ false }
+{
+    Arg::new(alloc, "dates")
+        .long("dates")
+        .action(ArgAction::SetTrue)
+        .help(help::DATES)
+}
+
+fn parents<'a>(alloc: Global) -> Arg<'a>
+    ensures rule { rule_of result ≡ parents_rule }
+    ensures local { result.global ≡ false }
+{
+    Arg::new(alloc, "parents")
+        .long("parents")
+        .action(ArgAction::SetTrue)
+        .help(help::PARENTS)
+}
+
+/// The box, as text.
+fn area<'a>(alloc: Global) -> Arg<'a>
+    ensures rule { rule_of result ≡ box_rule }
+    ensures local { result.global ≡ false }
+{
+    Arg::new(alloc, "box")
+        .long("box")
+        .value_name("WEST,SOUTH,EAST,NORTH")
+        .required(true)
+        .help(help::BOX)
+}
+
+fn blobs<'a>(alloc: Global) -> Result<Command<'a>, AllocError>
+    ensures app { IfOk result (λ c. app_of c ≡ blobs_app) }
+    ensures local { IfOk result (λ c. (fields_of c).has_globals ≡ false) }
+{
+    Command::new(alloc, "blobs")
+        .about(help::BLOBS)
+        .after_help(help::AFTER_BLOBS)
+        .arg(input(alloc))
+}
+
+fn show<'a>(alloc: Global) -> Result<Command<'a>, AllocError>
+    ensures app { IfOk result (λ c. app_of c ≡ show_app) }
+    ensures local { IfOk result (λ c. (fields_of c).has_globals ≡ false) }
+{
+    Command::new(alloc, "show")
+        .about(help::SHOW)
+        .after_help(help::AFTER_SHOW)
+        .arg(dates(alloc))?
+        .arg(input(alloc))
+}
+
+fn check<'a>(alloc: Global) -> Result<Command<'a>, AllocError>
+    ensures app { IfOk result (λ c. app_of c ≡ check_app) }
+    ensures local { IfOk result (λ c. (fields_of c).has_globals ≡ false) }
+{
+    Command::new(alloc, "check")
+        .about(help::CHECK)
+        .after_help(help::AFTER_CHECK)
+        .arg(input(alloc))
+}
+
+fn convert<'a>(alloc: Global) -> Result<Command<'a>, AllocError>
+    ensures app { IfOk result (λ c. app_of c ≡ convert_app) }
+    ensures local { IfOk result (λ c. (fields_of c).has_globals ≡ false) }
+{
+    Command::new(alloc, "convert")
+        .about(help::CONVERT)
+        .after_help(help::AFTER_CONVERT)
+        .arg(input(alloc))?
+        .arg(output(alloc))
+}
+
+/// `extract` with its options.
+fn options<'a>(alloc: Global) -> Result<Command<'a>, AllocError>
+    ensures app { IfOk result (λ c. app_of c ≡ options_app) }
+    ensures local { IfOk result (λ c. (fields_of c).has_globals ≡ false) }
+{
+    Command::new(alloc, "extract")
+        .about(help::EXTRACT)
+        .after_help(help::AFTER_EXTRACT)
+        .override_usage(help::USAGE_OF_EXTRACT)
+        .arg(parents(alloc))?
+        .arg(area(alloc))
+}
+
+fn extract<'a>(alloc: Global) -> Result<Command<'a>, AllocError>
+    ensures app { IfOk result (λ c. app_of c ≡ extract_app) }
+    ensures local { IfOk result (λ c. (fields_of c).has_globals ≡ false) }
+{
+    options(alloc)?.arg(input(alloc))?.arg(output(alloc))
+}
+
+/// The command line with no command yet.
+fn bare<'a>(alloc: Global) -> Result<Command<'a>, AllocError>
+    ensures app { IfOk result (λ c. app_of c ≡ bare_app) }
+    ensures local { IfOk result (λ c. (fields_of c).has_globals ≡ false) }
+{
+    Command::new(alloc, "pbfcut")
+        .about(help::PROGRAM)
+        .after_help(help::AFTER_PROGRAM)
+        .no_binary_name(true)
+        .subcommand_required(true)
+        .disable_help_subcommand(true)
+        .bin_name("pbfcut")
+}
+
+/// The command line with the commands that write no file.
+fn readers<'a>(alloc: Global) -> Result<Command<'a>, AllocError>
+    ensures app { IfOk result (λ c. app_of c ≡ readers_app) }
+    ensures local { IfOk result (λ c. (fields_of c).has_globals ≡ false) }
+{
+    bare(alloc)?
+        .subcommand(blobs(alloc)?)?
+        .subcommand(show(alloc)?)?
+        .subcommand(check(alloc)?)
+}
+
+/// The command line of the program.
+pub(crate) fn program<'a>(alloc: Global) -> Result<Command<'a>, AllocError>
+    ensures app { IfOk result (λ c. app_of c ≡ program_app) }
+    ensures local { IfOk result (λ c. (fields_of c).has_globals ≡ false) }
+{
+    readers(alloc)?
+        .subcommand(convert(alloc)?)?
+        .subcommand(extract(alloc)?)
+}

@@ -1,0 +1,12 @@
+//! The command line of pbfcut: what its words ask for, what help says, and how each ending is told.
+#![tactic(auto)]
+
+mod commands;
+mod endings;
+mod help;
+#[cfg(test)]
+mod tests;
+mod words;
+
+pub use endings::{Ending, line, status};
+pub use words::{CliFault, Command, read_words};

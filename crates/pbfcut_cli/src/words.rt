@@ -1,0 +1,161 @@
+//! The words of the command line, read into a command.
+
+ghost use Rattle.std.specs.Prelude.{◌≡◌, ◌⊎◌, Err, IfErr, IfOk, MatchResult, true};
+ghost use Rattle.clap.specs.Words.{found_of, kind_of, rows_of, subcommand_rows_of, takes};
+ghost use Rattle.pbfcut_cli.specs.Words.{
+  FitsFault,
+  HasBoxFault,
+  IsBox,
+  IsHelp,
+  IsOffered,
+  IsRead,
+  IsTaken,
+  ReadsFlag,
+  program_app,
+  texts,
+  value_of,
+  words_of,
+};
+ghost use Rattle.pbfcut_cli.specs.declared.words.CliFault.TheVariants as fault;
+
+use crate::commands::program;
+use clap::error::ErrorKind;
+use clap::{ArgMatches, Error};
+use osm_entity::{BoundingBox, BoxFault};
+use std::alloc::{AllocError, Global};
+
+/// What the words ask for. Paths are as they were given.
+#[derive(Debug, Drop)]
+pub enum Command<'a> {
+    /// `blobs IN`: list the frames of the file at `input`.
+    Blobs {
+        input: &'a str,
+    },
+    /// `show [--dates] IN`: print the file at `input`, with `dates` times as dates.
+    Show {
+        input: &'a str,
+        dates: bool,
+    },
+    /// `check IN`: judge the file at `input` and count its entities.
+    Check {
+        input: &'a str,
+    },
+    /// `convert IN OUT`: write all entities of the file at `input` to a new file at `output`.
+    Convert {
+        input: &'a str,
+        output: &'a str,
+    },
+    /// `extract [--parents] --box=L,B,R,T IN OUT`: cut `area` out of the file at `input` into a new file at `output`, with
+    /// `parents` all relations above the kept ones too.
+    Extract {
+        area: BoundingBox,
+        parents: bool,
+        input: &'a str,
+        output: &'a str,
+    },
+    /// Help was asked for: this text of it, with its line ends, for standard output.
+    Help(String),
+}
+
+/// Why the words ask for nothing.
+#[derive(Debug, Drop)]
+pub enum CliFault {
+    /// The words are no command: what `clap` says of it, with its line ends.
+    Line(String),
+    /// The box of `extract` is at fault.
+    Box(BoxFault),
+    /// A request for memory was refused.
+    Memory,
+}
+
+impl From<AllocError> for CliFault {
+    ghost from_gives = { λ _ e. e ≡ fault.Memory };
+
+    fn from(_error: AllocError) -> CliFault {
+        CliFault::Memory
+    }
+}
+
+/// The value of an argument, or the empty text where it has none.
+fn value<'a>(matches: &ArgMatches<'a>, id: &str) -> &'a str
+    ensures { result.now ≡ value_of id.now (rows_of (found_of matches.now)) }
+{
+    matches.get_str(id).unwrap_or("")
+}
+
+/// Whether the flag was used.
+fn flag(matches: &ArgMatches<'_>, id: &str) -> bool
+    ensures { ReadsFlag result id.now (rows_of (found_of matches.now)) }
+{
+    matches.get_flag(id)
+}
+
+/// The command that the matches name.
+fn command_in<'a>(matches: &ArgMatches<'a>) -> Result<Command<'a>, BoxFault>
+    requires { IsOffered (subcommand_rows_of matches.now) }
+    ensures { MatchResult result (IsRead (subcommand_rows_of matches.now))
+        (HasBoxFault (subcommand_rows_of matches.now)) }
+{
+    let Some((name, inner)) = matches.subcommand() else {
+        unreachable!();
+    };
+    let input = value(inner, "IN");
+    match name {
+        "blobs" => Ok(Command::Blobs { input }),
+        "show" => {
+            let dates = flag(inner, "dates");
+            Ok(Command::Show { input, dates })
+        }
+        "check" => Ok(Command::Check { input }),
+        "convert" => {
+            let output = value(inner, "OUT");
+            Ok(Command::Convert { input, output })
+        }
+        _ => {
+            let area = BoundingBox::parse(value(inner, "box"))?;
+            let parents = flag(inner, "parents");
+            let output = value(inner, "OUT");
+            Ok(Command::Extract {
+                area,
+                parents,
+                input,
+                output,
+            })
+        }
+    }
+}
+
+/// What an error of `clap` comes to.
+fn refused<'a>(alloc: Global, error: &Error) -> Result<Command<'a>, CliFault>
+    ensures help { IfOk result (λ c. IsHelp c × (kind_of error.now ≡ ErrorKind.DisplayHelp)) }
+    ensures memory { kind_of error.now ≡ ErrorKind.OutOfMemory → result ≡ Err fault.Memory }
+    ensures line { IfErr result (λ e. IsBox e → ⊥) }
+{
+    match error.kind() {
+        ErrorKind::OutOfMemory => Err(CliFault::Memory),
+        ErrorKind::DisplayHelp => Ok(Command::Help(error.to_string(alloc)?)),
+        _ => Err(CliFault::Line(error.to_string(alloc)?)),
+    }
+}
+
+/// The command that the words after the program's name ask for. Where it is another than `Help`, its name and values are those
+/// that `clap` reads in the words by its own definition, and the box is the one that `BoundingBox::parse` reads.
+///
+/// # Errors
+///
+/// `Line` where `clap` refuses the words, `Box` with the fault of the box of an `extract`, `Memory` where a request for memory
+/// was refused. Of words that `clap` takes neither `Line` nor `Help` is answered.
+pub fn read_words<'a>(alloc: Global, words: &'a [&'a str]) -> Result<Command<'a>, CliFault>
+    ensures read { IfOk result (λ c. IsHelp c ⊎ IsRead (words_of words.now) c) }
+    ensures fault { IfErr result (FitsFault (words_of words.now)) }
+    ensures taken { takes program_app (texts words.now) ≡ true → IsTaken result }
+{
+    let program = program(alloc)?;
+    match program.try_get_matches_from(words) {
+        Ok(matches) => match command_in(&matches) {
+            Ok(command) => Ok(command),
+            Err(fault) => Err(CliFault::Box(fault)),
+        },
+        Err(error) => refused(alloc, &error),
+    }
+}

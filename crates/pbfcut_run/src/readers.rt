@@ -1,0 +1,52 @@
+//! The commands that write no file: `blobs`, `show` and `check`.
+
+use crate::files::{OUTPUT_BUFFER, open_input};
+use crate::output::print_counts;
+use pbf_frame::{Stop, ToWrite};
+use pbfcut::{check, list_blobs, show};
+use pbfcut_cli::Ending;
+use std::io::{BufWriter, Write};
+
+/// `blobs IN`: the lines go to standard output through a buffer. They are written also where the file is refused; a line
+/// that can't be written is told in place of a later refusal, since it came first.
+pub(crate) fn run_blobs(rt: &HostRuntime, input: &str) -> Result<(), Ending> {
+    let mut feed = open_input(rt, input)?;
+    let Ok(mut output) = BufWriter::with_capacity(rt.alloc(), OUTPUT_BUFFER, rt.stdout()) else {
+        return Err(Ending::Stopped(Stop::Memory));
+    };
+    let outcome = list_blobs(rt.alloc(), &mut feed, &mut ToWrite::new(&mut output));
+    if output.flush().is_err() {
+        return Err(Ending::Stopped(Stop::Write));
+    }
+    outcome?;
+    Ok(())
+}
+
+/// `show [--dates] IN`: IN is opened for each of the two passes, and the text goes to standard output through a buffer.
+/// Nothing is written of a file that is refused.
+pub(crate) fn run_show(rt: &HostRuntime, input: &str, dates: bool) -> Result<(), Ending> {
+    let mut first = open_input(rt, input)?;
+    let mut second = open_input(rt, input)?;
+    let Ok(mut output) = BufWriter::with_capacity(rt.alloc(), OUTPUT_BUFFER, rt.stdout()) else {
+        return Err(Ending::Stopped(Stop::Memory));
+    };
+    let outcome = show(
+        rt.alloc(),
+        &mut first,
+        &mut second,
+        &mut ToWrite::new(&mut output),
+        dates,
+    );
+    if output.flush().is_err() {
+        return Err(Ending::Stopped(Stop::Write));
+    }
+    outcome?;
+    Ok(())
+}
+
+/// `check IN`: the numbers of entities go to standard output, where the file is accepted.
+pub(crate) fn run_check(rt: &HostRuntime, input: &str) -> Result<(), Ending> {
+    let mut feed = open_input(rt, input)?;
+    let counts = check(rt.alloc(), &mut feed)?;
+    print_counts(rt, counts)
+}
