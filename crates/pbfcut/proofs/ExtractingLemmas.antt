@@ -1,5 +1,5 @@
 -- A file's extract, from what its passes say.
-use Rattle.std.proofs.Common.{◌≡◌, ℕ, ◌+◌, ◌-◌, List, [], ◌∷◌, map, Bor, Bool, true, false, Option, Some, None, subst, refl, sym, ap, ◌∙◌}
+use Rattle.std.proofs.Common.{◌≡◌, ℕ, List, [], ◌∷◌, map, Bor, Bool, Option, Some, None, subst, refl, sym, ap, ◌∙◌}
 use Rattle.std.specs.FinSet as set
 use Rattle.std.specs.List.{fold, filter}
 use Rattle.std.specs.Prelude.{IfSome}
@@ -199,7 +199,7 @@ parents_are : (area : BoundingBox) (es : List EntitySpec) (sets : ParentSets) �
 parents_are area es sets ways least =
     let seen = map (seen_entity area) es in
     let all : is_chosen_with_parents sets ≡ keeps_with_parents seen =
-      ap (λ (w : WaySets). is_chosen_with_parents (record { ways = w; relation_ids = sets.relation_ids })) ways ∙ chosen_with_parents seen sets.relation_ids least in
+    ap (λ (w : WaySets). is_chosen_with_parents (record { ways = w; relation_ids = sets.relation_ids })) ways ∙ chosen_with_parents seen sets.relation_ids least in
     filter_agree (picked_with_parents sets) (λ e. keeps_with_parents seen (seen_entity area e)) (λ e. picked_is_chosen_with_parents area sets e ∙ ap (λ (k : Seen → Bool). k (seen_entity area e)) all) es
 
 pub selects_parents : (chosen : Bor ChosenParents) (area : BoundingBox) (b : List ℕ) (first second third : Option Verdict) (h : HeaderSpec) → first ≡ judged_file (Some b) → second ≡ judged_file (Some b) → third ≡ judged_file (Some b)
@@ -213,7 +213,7 @@ selects_parents chosen area b first second third h is too more p =
     let third_same = same_frames b c.frames p.frames judged (known_says b (p.frames, None) (subst (λ (k : Option Verdict). Says k (p.frames, None)) more p.read)) in
     let ways = c.chosen ∙ (ap (λ (l : List FrameSpec). fold with_way (start_ways (fold with_node (start_nodes area) es).box_ids) (decoded l)) same ∙ sets_are area es) in
     let relations : p.relations ≡ relation_pass (map (seen_entity area) es) =
-      p.gathered ∙ (ap (λ (l : List FrameSpec). fold with_relation (start_relations p.ways) (decoded l)) third_same ∙ (ap (λ (w : WaySets). fold with_relation (start_relations w) es) ways ∙ relations_folded area (start_relations (way_pass (map (seen_entity area) es))) es)) in
+    p.gathered ∙ (ap (λ (l : List FrameSpec). fold with_relation (start_relations p.ways) (decoded l)) third_same ∙ (ap (λ (w : WaySets). fold with_relation (start_relations w) es) ways ∙ relations_folded area (start_relations (way_pass (map (seen_entity area) es))) es)) in
     record {
       frames = c.frames;
       judged = judged;

@@ -1,17 +1,17 @@
 -- Entities that are picked, on their way into the drain.
-use Rattle.std.proofs.Common.{◌≡◌, ◌⊎◌, ℕ, ◌+◌, ◌-◌, ◌^◌, ◌≤◌, List, [], ◌∷◌, ◌++◌, append_assoc, append-nil, Bor, Bool, true, false, Option, Some, None, subst, inl, inr, refl, sym, ap, ◌∙◌, arith}
-use Rattle.std.specs.Prelude.{min, cond}
+use Rattle.std.proofs.Common.{◌≡◌, ℕ, ◌≤◌, List, [], ◌∷◌, ◌++◌, append_assoc, append-nil, Bor, Bool, true, false, Option, Some, None, subst, inl, inr, refl, sym, ap, ◌∙◌, arith}
+use Rattle.std.specs.Prelude.{cond}
 use Rattle.std.proofs.lemmas.List.Elements.{filter-append}
 use Rattle.std.proofs.lemmas.List.Sums.{sum_by-cons}
-use Rattle.std.specs.List.{AllByRecursion, filter, sum_by}
+use Rattle.std.specs.List.{AllByRecursion, filter}
 use Rattle.osm_entity.specs.Entity.{EntitySpec, node, way, relation}
 use Rattle.osm_entity.specs.Ranges.{EntityFits}
 use Rattle.pbf_block.specs.Header.{HeaderSpec}
 use Rattle.pbf_frame.specs.declared.stop.Stop.{Stop}
 use Rattle.pbf_frame.specs.declared.stop.Stop.TheVariants as stop
-use Rattle.pbf_frame.specs.Devices.{append, IsFront, HasRisen}
+use Rattle.pbf_frame.specs.Devices.{append, IsFront}
 use Rattle.pbf_frame.specs.Frames.{FrameSpec}
-use Rattle.pbf_frame.specs.Verdict.{Verdict, with_first_known}
+use Rattle.pbf_frame.specs.Verdict.{Verdict}
 use Rattle.pbf_frame.proofs.Beginnings.{front_whole, front_longer, front_then}
 use Rattle.pbf_frame.proofs.KnownBytes.{append_append, append_none}
 use Rattle.osm_pack.specs.Cuts.{header_frame, written_file, written_entities, then_pending, then_written, at_end, pending_after, written_after}
@@ -24,14 +24,14 @@ use Rattle.std.proofs.lemmas.Grind.{flat_map-append}
 use Rattle.pbf_frame.specs.Verdict.{Gone, Says, with_all}
 use Rattle.pbf_frame.proofs.VerdictLemmas.{gone_more, gone_split}
 use Rattle.pbfcut.specs.Counting.{decoded, frame_entities}
-use Rattle.pbfcut.specs.Judged.{payload_fault, fully, fully_known}
+use Rattle.pbfcut.specs.Judged.{fully, fully_known}
 use Rattle.pbfcut.proofs.CountLemmas.{CountedOn, same_counts}
 use Rattle.pbfcut.proofs.StepLemmas.{fully_first, picked_one}
 use Rattle.osm_ways.specs.declared.parents.ChosenParents.{ChosenParents}
 use Rattle.pbfcut.specs.declared.counts.Counts.{Counts}
 use Rattle.pbfcut.specs.declared.picking.Selection.TheVariants as selection
-use Rattle.pbfcut.specs.Counting.{nodes_of, ways_of, relations_of, capped, counts_of, count_one}
-use Rattle.pbfcut.specs.Picking.{Pick, pick_of, picked_with_parents, HasPacked, BeginsAll, Packs, Begins, StoppedPacking, Packed, PacksFront}
+use Rattle.pbfcut.specs.Counting.{nodes_of, ways_of, relations_of, counts_of, count_one}
+use Rattle.pbfcut.specs.Picking.{Pick, pick_of, picked_with_parents, HasPacked, BeginsAll, Packs, StoppedPacking, Packed, PacksFront}
 use Rattle.pbfcut.specs.Showing.{PayloadStops}
 
 all_push : {A : Type 0} (P : A → Type 0) (xs : List A) (x : A) → AllByRecursion P xs → P x → AllByRecursion P (xs ++ x ∷ [])
@@ -136,12 +136,12 @@ module _ {D S H : Type 0} where
   packed_push : (start : Option (List ℕ)) (done : List EntitySpec) (e : EntitySpec) (before now : Option (List ℕ)) (old new : Packing D S H) → HasPacked start done before old → EntityFits e
       → ((es : List EntitySpec) → Pending old es → Pending new (then_pending es e)) → ((es : List EntitySpec) → Pending old es → now ≡ append before (then_written es e)) → HasPacked start (done ++ e ∷ []) now new
   packed_push start done e before now old new h fits p t = record {
-      fits = all_push EntityFits done e h.fits fits;
-      taken_is = t (pending_after [] done) h.pending
+    fits = all_push EntityFits done e h.fits fits;
+    taken_is = t (pending_after [] done) h.pending
         ∙ (ap (λ (k : Option (List ℕ)). append k (then_written (pending_after [] done) e)) h.taken_is
         ∙ (append_append start (written_after [] done) (then_written (pending_after [] done) e) ∙ ap (append start) (sym (written_push [] done e))));
-      pending = subst (λ es. Pending new es) (sym (pending_push [] done e)) (p (pending_after [] done) h.pending);
-    }
+    pending = subst (λ es. Pending new es) (sym (pending_push [] done e)) (p (pending_after [] done) h.pending);
+  }
 
   -- what went out begins what is written for all that come
   pub begins_packed : (start : Option (List ℕ)) (done : List EntitySpec) (taken : Option (List ℕ)) (packer : Packing D S H) → HasPacked start done taken packer → BeginsAll start done taken
@@ -155,8 +155,8 @@ module _ {D S H : Type 0} where
   begins_push start done e before now packer h fits f rest =
       let es = pending_after [] done in
       let all : (written_after [] done ++ then_written es e) ++ written_entities (then_pending es e ++ rest) ≡ written_entities (done ++ e ∷ rest) =
-        append_assoc (written_after [] done) (then_written es e) _
-        ∙ (ap (λ (l : List ℕ). written_after [] done ++ l) (push_keeps es e rest (run_kept [] done kept_none h.fits) (alone e fits)) ∙ run_keeps [] done (e ∷ rest) kept_none h.fits) in
+      append_assoc (written_after [] done) (then_written es e) _
+      ∙ (ap (λ (l : List ℕ). written_after [] done ++ l) (push_keeps es e rest (run_kept [] done kept_none h.fits) (alone e fits)) ∙ run_keeps [] done (e ∷ rest) kept_none h.fits) in
       subst (λ (l : List ℕ). IsFront start now l) all
       (front_longer start now (written_after [] done ++ then_written es e) (written_entities (then_pending es e ++ rest)) (front_then start before now (written_after [] done) (then_written es e) h.taken_is (f es h.pending)))
 

@@ -1,5 +1,5 @@
 -- What `convert` and `extract` answer: what went out, how many entities that were, and why a call stops.
-use Rattle.std.specs.Prelude.{◌≡◌, ℕ, ◌^◌, ◌≤◌, List, length, Option, Some, None}
+use Rattle.std.specs.Prelude.{◌≡◌, ℕ, ◌^◌, ◌≤◌, List, length, Option, Some}
 use Rattle.sha2.specs.Sha256.{sha256}
 use Rattle.osm_entity.specs.declared.bounding_box.BoundingBox.{BoundingBox}
 use Rattle.osm_entity.specs.Entity.{Decoded}

@@ -1,5 +1,5 @@
 -- What passes gather of a file's entities, besides its header and their numbers.
-use Rattle.std.specs.Prelude.{◌≡◌, ◌⊎◌, ℕ, List, Option, None, Some}
+use Rattle.std.specs.Prelude.{◌≡◌, ℕ, List, Option, None, Some}
 use Rattle.std.specs.List.{fold}
 use Rattle.sha2.specs.Sha256.{sha256}
 use Rattle.osm_entity.specs.Entity.{EntitySpec, node, way, relation}
@@ -7,7 +7,6 @@ use Rattle.osm_ways.specs.Phases.{NodeSets, WaySets, RelationSets, node_step, wa
 use Rattle.osm_ways.specs.Seen.{seen_node, seen_way, seen_relation}
 use Rattle.pbf_frame.specs.declared.stop.Stop.{Stop}
 use Rattle.pbf_frame.specs.declared.stop.Stop.TheVariants.{Refused, Read, Write, Memory, Changed}
-use Rattle.pbf_frame.specs.Devices.{HasRisen}
 use Rattle.pbf_frame.specs.Frames.{FrameSpec}
 use Rattle.pbf_frame.specs.Verdict.{Verdict, Says}
 use Rattle.pbfcut.specs.declared.counts.Pass.{Pass}

@@ -60,10 +60,7 @@ impl Counts {
 }
 
 /// Gathers entities, and answers how many there are.
-fn take_entities<G: Gather>(
-    entities: Entities<'_>,
-    gathering: &mut G,
-) -> Result<Counts, AllocError>
+fn take_entities<G: Gather>(entities: Entities<'_>, gathering: &mut G) -> Result<Counts, AllocError>
     ensures counted { IfOk result (λ counts. counts ≡ counts_of (entities_left entities.entry)) }
     ensures gathered { OnOk result (gathering.new ≡ fold G.gathered gathering.old (entities_left entities.entry)) }
 {
@@ -121,7 +118,12 @@ impl Pass {
     }
 
     /// Takes the header of a HeaderBlock.
-    pub(crate) fn take_header(&mut self, alloc: Global, payload: &[u8], at: u64) -> Result<(), ReadFault>
+    pub(crate) fn take_header(
+        &mut self,
+        alloc: Global,
+        payload: &[u8],
+        at: u64,
+    ) -> Result<(), ReadFault>
         requires { at + length payload.now ≤ 2 ^ 63 }
         ensures taken { OnOk result (TakesPayload kind.Header at payload.now self.old self.new) }
         ensures sound { OnOk result (payload_fault_of kind.Header at payload.now ≡ None) }

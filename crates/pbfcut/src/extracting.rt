@@ -31,8 +31,7 @@ use std::hash::BuildHasher;
 /// A number's type, in the words of the format: what is written of a box is read as its edges.
 fn is_int64(number: i64)
     ensures { IsInt64 number }
-{
-}
+{}
 
 /// The passes before the one that writes: the first judges the file and takes the nodes of the box, the second takes the ways.
 /// Answers what was chosen, the header that is written, and the digest of the first pass.

@@ -20,11 +20,11 @@ returns-clause-converted g c =
     let pass = c.in_ok-told.told.0 in
     let h = header_of c.in_ok-header.header.now in
     IfOk-weaker c.later_pack.result _ _ (λ counts packed b supply.
-      converted b pass h counts _ _ _ (ap judged_file supply.1) (passed b pass h _ (ap judged_file supply.0) c.in_ok-told.ensures.counted c.in_ok-header.ensures.header c.in_ok-header.ensures.within) packed) c.later_pack.ensures.packed
+    converted b pass h counts _ _ _ (ap judged_file supply.1) (passed b pass h _ (ap judged_file supply.0) c.in_ok-told.ensures.counted c.in_ok-header.ensures.header c.in_ok-header.ensures.within) packed) c.later_pack.ensures.packed
 
 pub returns-clause-beginning : goal.returns-clause-beginning
 returns-clause-beginning g c =
     let pass = c.in_ok-told.told.0 in
     let h = header_of c.in_ok-header.header.now in
     on_err_weaker c.later_pack.result (λ front b supply.
-      converts_front b pass h _ _ _ (ap judged_file supply.1) (passed b pass h _ (ap judged_file supply.0) c.in_ok-told.ensures.counted c.in_ok-header.ensures.header c.in_ok-header.ensures.within) front) c.later_pack.ensures.beginning
+    converts_front b pass h _ _ _ (ap judged_file supply.1) (passed b pass h _ (ap judged_file supply.0) c.in_ok-told.ensures.counted c.in_ok-header.ensures.header c.in_ok-header.ensures.within) front) c.later_pack.ensures.beginning

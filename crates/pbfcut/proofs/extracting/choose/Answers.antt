@@ -23,7 +23,7 @@ returns-in_err-later_gather-clause-stops g c =
 pub returns-clause-chosen : goal.returns-clause-chosen
 returns-clause-chosen g c =
     chooses c.args.area _ _ c.in_ok-told.told.0 _ _ _ _ _ _ _ c.in_ok-told.ensures.gathered c.new-nodes.ensures c.in_ok-writable_header.ensures.header c.in_ok-writable_header.ensures.within c.in_ok-header.ensures c.in_ok-ways.ensures
-      c.in_ok-later_gather.ensures.gathered c.in_ok-end_ways.ensures
+    c.in_ok-later_gather.ensures.gathered c.in_ok-end_ways.ensures
 
 pub returns-clause-typed : goal.returns-clause-typed
 returns-clause-typed g c =

@@ -15,7 +15,7 @@ returns-clause-extracted g c =
     let h = header_of c.in_ok-told.told.1 in
     let edges = c.in_ok-told.ensures.typed in
     IfOk-weaker c.later_pack.result _ _ (λ counts packed b supply.
-      extracted (complete_ways area) (λ meant. extract (seen_decoded area) meant) (complete_ways_select area) area edges b _ h (selects_chosen _ area b _ _ h (ap judged_file supply.0) (ap judged_file supply.1) c.in_ok-told.ensures.chosen) counts _ _ _ (ap judged_file supply.2) packed) c.later_pack.ensures.packed
+    extracted (complete_ways area) (λ meant. extract (seen_decoded area) meant) (complete_ways_select area) area edges b _ h (selects_chosen _ area b _ _ h (ap judged_file supply.0) (ap judged_file supply.1) c.in_ok-told.ensures.chosen) counts _ _ _ (ap judged_file supply.2) packed) c.later_pack.ensures.packed
 
 pub returns-clause-beginning : goal.returns-clause-beginning
 returns-clause-beginning g c =
@@ -23,9 +23,9 @@ returns-clause-beginning g c =
     let h = header_of c.in_ok-told.told.1 in
     let edges = c.in_ok-told.ensures.typed in
     on_err_weaker c.later_pack.result (λ front b supply.
-      extracts_front (complete_ways area) (λ meant. extract (seen_decoded area) meant) (complete_ways_select area) area edges b _ h (selects_chosen _ area b _ _ h (ap judged_file supply.0) (ap judged_file supply.1) c.in_ok-told.ensures.chosen) _ _ _ (ap judged_file supply.2) front) c.later_pack.ensures.beginning
+    extracts_front (complete_ways area) (λ meant. extract (seen_decoded area) meant) (complete_ways_select area) area edges b _ h (selects_chosen _ area b _ _ h (ap judged_file supply.0) (ap judged_file supply.1) c.in_ok-told.ensures.chosen) _ _ _ (ap judged_file supply.2) front) c.later_pack.ensures.beginning
 
 pub returns-clause-stops : goal.returns-clause-stops
 returns-clause-stops g c =
     IfErr-weaker c.later_pack.result _ _ (λ stop h.
-      extract_later _ _ _ _ _ _ _ _ _ _ stop (λ r. inr (inr r)) (λ pass is unlike. inr (is, later_differs _ _ _ c.in_ok-told.ensures.chosen.frames c.in_ok-told.ensures.digest c.in_ok-told.ensures.chosen.judged unlike)) h) c.later_pack.ensures.stops
+    extract_later _ _ _ _ _ _ _ _ _ _ stop (λ r. inr (inr r)) (λ pass is unlike. inr (is, later_differs _ _ _ c.in_ok-told.ensures.chosen.frames c.in_ok-told.ensures.digest c.in_ok-told.ensures.chosen.judged unlike)) h) c.later_pack.ensures.stops

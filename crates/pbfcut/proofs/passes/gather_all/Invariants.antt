@@ -15,7 +15,7 @@ invariant-frames g l =
     let first = l.initial.reader in
     record {
       done : (frames : List FrameSpec) × Gone (fully_known (verdict remaining first)) frames (fully_known (verdict remaining l.reader)) × (l.pass.counts ≡ counts_of (decoded frames)) × HoldsHeader (file_header frames) l.pass
-        × (l.gathering ≡ fold g.G.Gather.gathered l.initial.gathering (decoded frames));
+          × (l.gathering ≡ fold g.G.Gather.gathered l.initial.gathering (decoded frames));
       carries : (b : List ℕ) → g.F.Feed.carries first.feed b → g.F.Feed.carries l.reader.feed b;
       reading : IsReading l.reader;
       counts : g.F.Feed.failures first.feed ≤ g.F.Feed.failures l.reader.feed;

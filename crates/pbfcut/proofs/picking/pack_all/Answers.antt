@@ -1,4 +1,4 @@
-use Rattle.std.proofs.Common.{[], ◌∷◌, ◌++◌, ◌∙◌, List, arith, rules, ap, refl}
+use Rattle.std.proofs.Common.{[], ◌∷◌, ◌++◌, ◌∙◌, arith, rules, ap, refl}
 use Rattle.std.specs.List.{filter}
 use Rattle.std.proofs.lemmas.Result.{err_from_is_err_and}
 use Rattle.pbf_frame.proofs.VerdictLemmas.{gone_more}
@@ -39,7 +39,7 @@ returns-in_err-step_pack-clause-beginning g c =
     let so_far = c.frames.invariant in
     let pick = pick_of c.args.selection in
     rw p.1 (λ all is. behind_header (header_of c.args.header.now) _ _ _ (filter pick (decoded all.0)) (c.in_ok-put_header.ensures.written c.requires.packing)
-      (frames_front pick _ _ _ so_far.done.0 _ _ c.frames.packer so_far.done.1 so_far.done.2 (c.in_err-step_pack.ensures.stopped so_far.reading so_far.going) all is))
+    (frames_front pick _ _ _ so_far.done.0 _ _ c.frames.packer so_far.done.1 so_far.done.2 (c.in_err-step_pack.ensures.stopped so_far.reading so_far.going) all is))
 
 pub returns-in_err-finish-clause-beginning : goal.returns-in_err-finish-clause-beginning
 returns-in_err-finish-clause-beginning g c =
@@ -51,8 +51,8 @@ returns-in_err-finish-clause-beginning g c =
     let same = (c.in_ok-step_pack.ensures.same c.if-branch.false).1 in
     let packed = same_packed _ (filter pick (decoded frames)) _ _ c.frames.packer _ (ap (λ p. g.D.Drain.taken p.drain) same) same so_far.done.2 in
     rw p.1 (λ all is. behind_header (header_of c.args.header.now) _ _ _ (filter pick (decoded all.0)) (c.in_ok-put_header.ensures.written c.requires.packing)
-      (last_front pick _ _ _ _ all (says_end _ _ frames so_far.done.1 says) is
-      (end_front _ (filter pick (decoded frames)) _ _ c.step_pack.new.packer packed (c.in_err-finish.ensures.front c.in_ok-step_pack.ensures.going))))
+    (last_front pick _ _ _ _ all (says_end _ _ frames so_far.done.1 says) is
+    (end_front _ (filter pick (decoded frames)) _ _ c.step_pack.new.packer packed (c.in_err-finish.ensures.front c.in_ok-step_pack.ensures.going))))
 
 pub returns-clause-packed : goal.returns-clause-packed
 returns-clause-packed g c =
@@ -61,9 +61,12 @@ returns-clause-packed g c =
     let pick = pick_of c.args.selection in
     let (says, left) = took_none _ _ _ _ (λ f. PacksFrame pick f (g.D.Drain.taken c.frames.packer.drain) (g.D.Drain.taken c.step_pack.new.packer.drain) c.frames.packer c.step_pack.new.packer c.frames.pass c.step_pack.new.pass) _ c.if-branch.false (c.in_ok-step_pack.ensures.took so_far.reading so_far.going) in
     let (same_pass, same) = c.in_ok-step_pack.ensures.same c.if-branch.false in
-    let packed = same_packed _ (filter pick (decoded frames)) _ _ c.frames.packer _ (ap (λ p. g.D.Drain.taken p.drain) same) same so_far.done.2 in
-    (frames, says_end _ _ frames so_far.done.1 says, ap (λ p. p.counts) same_pass ∙ so_far.done.3,
-      whole_file (header_of c.args.header.now) _ _ _ (filter pick (decoded frames)) (c.in_ok-put_header.ensures.written c.requires.packing) (ended _ (filter pick (decoded frames)) _ _ c.step_pack.new.packer packed c.in_ok-finish.ensures.written))
+    let packed = same_packed _ (filter pick (decoded frames)) _ _ c.frames.packer _ (ap (λ p. g.D.Drain.taken p.drain) same) same so_far.done.2 in (
+      frames,
+      says_end _ _ frames so_far.done.1 says,
+      ap (λ p. p.counts) same_pass ∙ so_far.done.3,
+      whole_file (header_of c.args.header.now) _ _ _ (filter pick (decoded frames)) (c.in_ok-put_header.ensures.written c.requires.packing) (ended _ (filter pick (decoded frames)) _ _ c.step_pack.new.packer packed c.in_ok-finish.ensures.written),
+    )
 
 pub frames-init : goal.frames-init
 frames-init g c = record {

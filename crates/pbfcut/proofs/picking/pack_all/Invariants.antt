@@ -16,8 +16,8 @@ invariant-frames g l =
     let first = l.initial.reader in
     record {
       done : (frames : List FrameSpec) × Gone (fully_known (verdict remaining first)) frames (fully_known (verdict remaining l.reader))
-        × HasPacked (g.D.Drain.taken l.initial.packer.drain) (filter (pick_of l.selection) (decoded frames)) (g.D.Drain.taken l.packer.drain) l.packer
-        × (l.pass.counts ≡ counts_of (filter (pick_of l.selection) (decoded frames)));
+          × HasPacked (g.D.Drain.taken l.initial.packer.drain) (filter (pick_of l.selection) (decoded frames)) (g.D.Drain.taken l.packer.drain) l.packer
+          × (l.pass.counts ≡ counts_of (filter (pick_of l.selection) (decoded frames)));
       carries : (b : List ℕ) → g.F.Feed.carries first.feed b → g.F.Feed.carries l.reader.feed b;
       reading : IsReading l.reader;
       going : IsPacking l.packer;

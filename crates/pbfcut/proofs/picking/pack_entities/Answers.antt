@@ -1,5 +1,5 @@
 use Rattle.std.proofs.Common.{[], ◌∷◌, ◌++◌, ◌∙◌, List, arith, rules, refl, sym, subst}
-use Rattle.std.specs.List.{AllByRecursion, filter}
+use Rattle.std.specs.List.{AllByRecursion}
 use Rattle.osm_entity.specs.Entity.{EntitySpec}
 use Rattle.osm_entity.specs.Ranges.{EntityFits}
 use Rattle.osm_entity.specs.Views.{entity_of}
@@ -73,5 +73,7 @@ returns-in_err-push-clause-front g c =
     let pick = pick_of c.args.selection in
     let picked = sym c.picks.ensures ∙ c.if-picks.true in
     let fits = subst (λ (l : List EntitySpec). AllByRecursion EntityFits l) c.in-Some.ensures.steps so_far.fits in
-    rw p.1 (record { begun = λ start done h.
-      stopped_here pick start done so_far.gone _ _ _ (entity_of c.in-Some.entity) _ _ c.loop-entity.packer c.in-Some.ensures.steps so_far.split picked (so_far.packed start done h) fits.0 (c.in_err-push.ensures.front so_far.going) })
+    rw p.1 (record {
+      begun = λ start done h.
+          stopped_here pick start done so_far.gone _ _ _ (entity_of c.in-Some.entity) _ _ c.loop-entity.packer c.in-Some.ensures.steps so_far.split picked (so_far.packed start done h) fits.0 (c.in_err-push.ensures.front so_far.going);
+    })

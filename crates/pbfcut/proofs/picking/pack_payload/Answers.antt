@@ -1,6 +1,5 @@
-use Rattle.std.proofs.Common.{Err, ap, rules}
+use Rattle.std.proofs.Common.{Err, ap}
 use Rattle.std.proofs.lemmas.Result.{err_from_is_err_and}
-use Rattle.pbfcut.specs.Judged.{payload_fault_of}
 use Rattle.pbfcut.proofs.ShowingLemmas.{read_stops}
 use Rattle.pbfcut.proofs.picking.pack_payload.Goals as goal
 
