@@ -2,10 +2,10 @@
 """Runs the built program and compares what it does with what it has to do: standard output, standard error, the bytes of
 OUT and the exit status.
 
-usage: tests/program.py [--readers-only] [PROGRAM]
+usage: tests/program.py [PROGRAM]
 
-PROGRAM is crates/pbfcut_run/out/pbfcut_run where it is left out. With --readers-only the cases of `convert` and `extract` are
-left out. The files that are read are made here. It stops at the first difference, with status 1.
+PROGRAM is crates/pbfcut_run/out/pbfcut_run where it is left out. The files that are read are made here, but for the sample. It stops
+at the first difference, with status 1.
 """
 
 import os
@@ -144,23 +144,16 @@ class Difference(Exception):
 class Bench:
     """The program in a folder of its own, and the cases that were run."""
 
-    def __init__(self, program: str, folder: str, readers_only: bool):
+    def __init__(self, program: str, folder: str):
         self.folder = folder
         self.program = os.path.join(folder, "pbfcut_run")
-        self.readers_only = readers_only
         self.count = 0
-        self.left_out = 0
         os.chmod(folder, 0o755)
         shutil.copy(program, self.program)
         os.chmod(self.program, 0o755)
 
     def case(self, name: str, words: list, **expected) -> bytes:
         """Runs one case, in a new folder; answers OUT's bytes, empty where there are none."""
-        if self.readers_only and words and words[0] in ("convert", "extract") and "--help" not in words:
-            if not expected.pop("words_alone", False):
-                self.left_out += 1
-                return b""
-        expected.pop("words_alone", None)
         self.count += 1
         try:
             return Case(self, name, words, **expected).run()
@@ -312,7 +305,7 @@ def words_of_all_kinds(bench: Bench):
             parts = [b"pbfcut " + command, b"<IN>"] + ([b"<OUT>"] if command in commands[3:] else [])
             parts += [b"--dates"] if command == b"show" else []
             parts += [b"--box", b"--parents", b"degrees", b"west,south,east,north"] if command == b"extract" else []
-            bench.case(f"help of {words[0]} by {asked}", words, stdout=helps(*parts), words_alone=True)
+            bench.case(f"help of {words[0]} by {asked}", words, stdout=helps(*parts))
     for words, part in [
         ([], b"subcommand"),
         (["cut", "in"], b"'cut'"),
@@ -328,10 +321,10 @@ def words_of_all_kinds(bench: Bench):
         (["extract", BOX, BOX, "in", "out"], b"--box"),
     ]:
         name = f"words that are no command: {words}"
-        bench.case(name, words, given=THREE_DENSE, status=2, stderr=refuses(part), words_alone=True)
+        bench.case(name, words, given=THREE_DENSE, status=2, stderr=refuses(part))
     for words in [[b"check", b"\xff"], [b"\xfe", b"in"], [b"extract", b"--box=\xff", b"in", b"out"]]:
         name = f"words that are not UTF-8: {words}"
-        bench.case(name, words, given=THREE_DENSE, status=2, stderr=refuses(b"UTF-8"), words_alone=True)
+        bench.case(name, words, given=THREE_DENSE, status=2, stderr=refuses(b"UTF-8"))
     bench.case("a file whose name is not ASCII", ["check", "höhe"], files={"höhe": THREE_DENSE}, stdout=counted(3, 0, 0))
     bench.case("a file whose name begins with -", ["check", "--", "-h"], files={"-h": THREE_DENSE},
                stdout=counted(3, 0, 0))
@@ -354,9 +347,9 @@ def boxes(bench: Bench):
         ("2,2,1,1", "LeftOverRight"),
     ]:
         bench.case(f"the box {text!r}", ["extract", f"--box={text}", "in", "out"], given=THREE_DENSE, status=2,
-                   stderr=told(f"box: {fault}"), words_alone=True)
+                   stderr=told(f"box: {fault}"))
     bench.case("a box at fault, no IN, and an OUT that exists", ["extract", "--box=1,1,0,0", "in", "out"],
-               files={"out": b"old"}, status=2, stderr=told("box: LeftOverRight"), out=b"old", words_alone=True)
+               files={"out": b"old"}, status=2, stderr=told("box: LeftOverRight"), out=b"old")
     london = field(1, scalar(1, zigzag(-500_000_000)) + scalar(2, zigzag(300_000_000))
                    + scalar(3, zigzag(51_700_000_000)) + scalar(4, zigzag(51_250_000_000)))
     bench.case("a box whose first number is negative", ["extract", "--box=-0.5,51.25,0.3,51.7", "in", "out"],
@@ -603,23 +596,40 @@ def conversions(bench: Bench):
     converts("a way before its nodes", WAY_BEFORE_NODES, (2, 1, 0), PLAIN_HEADER + WAY_FRAME + NODE_FRAME)
 
 
+def sample(bench: Bench):
+    """The town of sample/, whose script writes it again; the numbers are those of sample/README.md."""
+    made = os.path.join(bench.folder, "town.osm.pbf")
+    subprocess.run([sys.executable, os.path.join(TOP, "sample", "town.py"), made], check=True)
+    with open(made, "rb") as file:
+        town = file.read()
+    with open(os.path.join(TOP, "sample", "town.osm.pbf"), "rb") as file:
+        if file.read() != town:
+            sys.exit("tests/program.py: sample/town.osm.pbf isn't what sample/town.py writes")
+    bench.case("the sample", ["check", "in"], given=town, stdout=counted(272, 64, 13))
+    box = "--box=9.997,49.999,10.003,50.003"
+    for words, counts, size in [(["convert"], (272, 64, 13), 8742), (["extract", box], (121, 23, 7), 4729),
+                                (["extract", "--parents", box], (121, 23, 9), 4861)]:
+        name = " ".join(words)
+        out = bench.case(f"{name} of the sample", [*words, "in", "out"], given=town, stdout=counted(*counts), out="any")
+        if len(out) != size:
+            sys.exit(f"tests/program.py: {name} of the sample: OUT has {len(out)} bytes and not {size}")
+        bench.case(f"{name} of that", [*words, "in", "out"], given=out, stdout=counted(*counts), out=out)
+
+
 def main():
     words = sys.argv[1:]
-    readers_only = "--readers-only" in words
-    paths = [word for word in words if word != "--readers-only"]
-    program = paths[0] if paths else BUILT
-    if len(paths) > 1 or not os.access(program, os.X_OK):
+    program = words[0] if words else BUILT
+    if len(words) > 1 or not os.access(program, os.X_OK):
         sys.exit(f"tests/program.py: no program at {program}\n{__doc__}")
     folder = tempfile.mkdtemp(prefix="pbfcut-program-")
     try:
-        bench = Bench(program, folder, readers_only)
+        bench = Bench(program, folder)
         for part in [words_of_all_kinds, boxes, files_that_cannot_be, files_that_change, files_that_are_refused,
-                     files_that_are_accepted, extracts, conversions]:
+                     files_that_are_accepted, extracts, conversions, sample]:
             part(bench)
     finally:
         shutil.rmtree(folder)
-    left_out = f", {bench.left_out} left out" if bench.left_out else ""
-    print(f"tests/program.py: {bench.count} cases as they have to be{left_out}")
+    print(f"tests/program.py: {bench.count} cases as they have to be")
 
 
 if __name__ == "__main__":
