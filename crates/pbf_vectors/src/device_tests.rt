@@ -10,6 +10,9 @@ use std::test::Fail;
 /// More than any file of these tests comes to.
 const ROOM: usize = 4_096;
 
+/// A frame of an unknown type without a blob: it has no fault and holds no entity.
+const UNKNOWN_BLOB: &[u8] = b"\x00\x00\x00\x07\x0a\x03Foo\x18\x00";
+
 /// The pass of this number, and it alone, is supplied with the changed bytes: the call says so, and writes nothing where that pass
 /// isn't the last.
 fn says_changed<'a>(
@@ -37,7 +40,7 @@ fn says_changed<'a>(
     Ok(())
 }
 
-/// Each byte in turn is another one, or the first that is missing.
+/// Each byte in turn is another one, or the first that is missing; and a blob that says nothing stands behind all of them.
 fn says_each_change(
     rt: &(impl Abort + AllocGlobal),
     row: &Row,
@@ -52,7 +55,8 @@ fn says_each_change(
         changed[at] ^= 3;
         says_changed(rt, row, call, number, &input, &changed[..at])?;
     }
-    Ok(())
+    changed.extend_from_slice(UNKNOWN_BLOB)?;
+    says_changed(rt, row, call, number, &input, &changed)
 }
 
 #[test]
@@ -62,7 +66,7 @@ fn other_bytes_in_a_later_pass(rt: HostRuntime) -> Result<(), Fail> {
         "node_with_an_empty_key",
         "node_with_metadata_and_a_tag",
     ] {
-        let row = named(name);
+        let row = named(&rt, name);
         says_each_change(&rt, row, Call::Convert, 2)?;
         says_each_change(&rt, row, Call::Extract, 2)?;
         says_each_change(&rt, row, Call::Extract, 3)?;
@@ -77,7 +81,7 @@ fn goes_out_up_to_each_byte(
     call: Call,
     length: usize,
 ) -> Result<(), Fail> {
-    let row = named(name);
+    let row = named(rt, name);
     let input = joined(rt.alloc(), row.input)?;
     let wanted = joined(rt.alloc(), row.wanted(call).parts())?;
     assert_eq!(rt; wanted.len(), length);
@@ -141,7 +145,7 @@ fn says_each_read(
     call: Call,
     length: usize,
 ) -> Result<(), Fail> {
-    let row = named(name);
+    let row = named(rt, name);
     let input = joined(rt.alloc(), row.input)?;
     for pass in 0..usize::from(call.passes()) {
         let mut failed = 0_usize;

@@ -9,6 +9,7 @@ use crate::row::Part::Once;
 use crate::row::{HEADER_ALONE, HEADER_CONVERTED, HEADER_OF_THE_DEGREE, ONE_DEGREE, Row};
 use osm_entity::BoundingBox;
 use pbf_wire::Reason;
+use std::process::Abort;
 
 /// Files of a frame or a few.
 pub(crate) const FILES: &[Row] = &[
@@ -764,12 +765,12 @@ pub(crate) const FILES: &[Row] = &[
     },
 ];
 
-/// The row of this name, or else the first.
-pub(crate) fn named(name: &str) -> &'static Row {
+/// The row of this name.
+pub(crate) fn named(rt: &impl Abort, name: &str) -> &'static Row {
     for row in FILES {
         if row.name == name {
             return row;
         }
     }
-    &FILES[0]
+    panic!(rt; "no row {name}")
 }

@@ -139,6 +139,35 @@ pub(crate) const NODES: &[Row] = &[
 /// Relations as heavy as an entity and a block may be, and a byte more.
 pub(crate) const RELATIONS: &[Row] = &[
     Row {
+        name: "relation_of_the_greatest_weight",
+        input: &[
+            Once(HEADER_ALONE),
+            Once(
+                b"\x00\x00\x00\x0e\x0a\x07OSMData\x18\xc8\xb4\xdc\x05\x0a\xc3\xb4\xdc\x05\x0a\xa9\xb4\xdc\x05\x0a\x00\x0a\x01\x6b\x0a\x9f\xb4\xdc\x05",
+            ),
+            Times(b'v', 11_999_775),
+            Once(
+                b"\x12\x13\x22\x11\x08\x08\x12\x01\x01\x1a\x01\x02\x42\x01\x00\x4a\x01\x02\x52\x01\x00",
+            ),
+        ],
+        area: ONE_DEGREE,
+        converted: Written(
+            [0, 0, 1],
+            &[
+                Once(HEADER_CONVERTED),
+                Once(
+                    b"\x00\x00\x00\x0e\x0a\x07OSMData\x18\xca\xb4\xdc\x05\x0a\xc5\xb4\xdc\x05\x0a\xab\xb4\xdc\x05\x0a\x00\x0a\x01\x6b\x0a\x9f\xb4\xdc\x05",
+                ),
+                Times(b'v', 11_999_775),
+                Once(
+                    b"\x0a\x00\x12\x13\x22\x11\x08\x08\x12\x01\x01\x1a\x01\x02\x42\x01\x03\x4a\x01\x02\x52\x01\x00",
+                ),
+            ],
+        ),
+        extracted: Written([0, 0, 0], &[Once(HEADER_OF_THE_DEGREE)]),
+        with_parents: Written([0, 0, 0], &[Once(HEADER_OF_THE_DEGREE)]),
+    },
+    Row {
         name: "relation_of_the_greatest_weight_among_others",
         input: &[
             Once(HEADER_ALONE),

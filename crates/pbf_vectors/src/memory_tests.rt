@@ -9,7 +9,7 @@ use std::process::Abort;
 
 /// Whichever request for memory is refused: what went out is a beginning, and the answer is no other than that.
 fn says_memory(rt: &(impl Abort + AllocGlobal), name: &str, call: Call) -> Result<(), AllocError> {
-    let row = named(name);
+    let row = named(rt, name);
     let input = joined(rt.alloc(), row.input)?;
     let wanted = joined(rt.alloc(), row.wanted(call).parts())?;
     let mut sink = Sink::new(rt.alloc(), 200, 0)?;
