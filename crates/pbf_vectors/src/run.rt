@@ -1,0 +1,57 @@
+//! One run of a call over devices in memory.
+
+use crate::row::Call;
+use osm_entity::BoundingBox;
+use pbf_frame::{Pieces, Sink, Stop};
+use pbfcut::{Counts, convert, extract};
+use std::alloc::Global;
+use std::hash::{BuildHasherDefault, FoldHasher};
+
+/// What a pass is supplied with: bytes, in pieces of these lengths; the read of this number fails.
+#[derive(Clone, Copy)]
+pub(crate) struct Pass<'a> {
+    pub(crate) bytes: &'a [u8],
+    pub(crate) lengths: &'a [usize],
+    pub(crate) failing_call: Option<u64>,
+}
+
+impl<'a> Pass<'a> {
+    /// All of the bytes at once.
+    pub(crate) fn whole(bytes: &'a [u8]) -> Pass<'a> {
+        Pass {
+            bytes,
+            lengths: &[],
+            failing_call: None,
+        }
+    }
+
+    fn feed(&self) -> Pieces<'a> {
+        Pieces::new(self.bytes, self.lengths, self.failing_call)
+    }
+}
+
+/// Makes the call over these passes, as many as it has.
+pub(crate) fn run(
+    alloc: Global,
+    call: Call,
+    area: BoundingBox,
+    passes: &[Pass<'_>; 3],
+    sink: &mut Sink,
+) -> Result<Counts, Stop> {
+    let mut first = passes[0].feed();
+    let mut second = passes[1].feed();
+    let mut third = passes[2].feed();
+    let hasher: BuildHasherDefault<FoldHasher> = BuildHasherDefault::new();
+    match call {
+        Call::Convert => convert(alloc, &mut first, &mut second, sink, hasher),
+        Call::Extract => extract(
+            alloc,
+            &mut first,
+            &mut second,
+            &mut third,
+            area,
+            sink,
+            hasher,
+        ),
+    }
+}
