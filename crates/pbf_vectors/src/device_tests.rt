@@ -26,8 +26,9 @@ fn says_changed<'a>(
     let same = Pass::whole(input);
     let other = Pass::whole(changed);
     let passes = match number {
-        2 => [same, other, same],
-        _ => [same, same, other],
+        2 => [same, other, same, same],
+        3 => [same, same, other, same],
+        _ => [same, same, same, other],
     };
     let mut sink = Sink::new(rt.alloc(), ROOM, 0)?;
     let outcome = run(rt.alloc(), call, row.area, &passes, &mut sink);
@@ -71,6 +72,10 @@ fn other_bytes_in_a_later_pass(rt: HostRuntime) -> Result<(), Fail> {
         says_each_change(&rt, row, Call::Extract, 2)?;
         says_each_change(&rt, row, Call::Extract, 3)?;
     }
+    let row = named(&rt, "relation_and_its_parent");
+    for number in 2..=4 {
+        says_each_change(&rt, row, Call::ExtractParents, number)?;
+    }
     Ok(())
 }
 
@@ -85,7 +90,7 @@ fn goes_out_up_to_each_byte(
     let input = joined(rt.alloc(), row.input)?;
     let wanted = joined(rt.alloc(), row.wanted(call).parts())?;
     assert_eq!(rt; wanted.len(), length);
-    let passes = [Pass::whole(&input); 3];
+    let passes = [Pass::whole(&input); 4];
     for room in 0..wanted.len() {
         let mut sink = Sink::new(rt.alloc(), room, 0)?;
         let outcome = run(rt.alloc(), call, row.area, &passes, &mut sink);
@@ -102,6 +107,7 @@ fn goes_out_up_to_each_byte(
 #[test]
 fn drain_that_fails_after_each_byte(rt: HostRuntime) -> Result<(), Fail> {
     goes_out_up_to_each_byte(&rt, "three_dense_nodes", Call::Extract, 111)?;
+    goes_out_up_to_each_byte(&rt, "relation_and_its_parent", Call::ExtractParents, 159)?;
     goes_out_up_to_each_byte(&rt, "node_with_metadata_and_a_tag", Call::Convert, 130)
 }
 
@@ -121,8 +127,8 @@ fn says_read(
         lengths,
         failing_call: None,
     };
-    let mut passes = [supplied; 3];
-    if pass < 3 {
+    let mut passes = [supplied; 4];
+    if pass < 4 {
         passes[pass].failing_call = Some(failing);
     }
     let mut sink = Sink::new(rt.alloc(), ROOM, 0)?;
@@ -164,6 +170,7 @@ fn says_each_read(
 fn each_read_failing_in_turn(rt: HostRuntime) -> Result<(), Fail> {
     for length in [1, 7] {
         says_each_read(&rt, "three_dense_nodes", Call::Extract, length)?;
+        says_each_read(&rt, "relation_and_its_parent", Call::ExtractParents, length)?;
         says_each_read(&rt, "node_with_metadata_and_a_tag", Call::Convert, length)?;
     }
     Ok(())

@@ -17,14 +17,14 @@ fn is_same_however_supplied(
 ) -> Result<(), Fail> {
     let whole = Pass::whole(input);
     let mut wanted = Sink::new(rt.alloc(), 1_024, 0)?;
-    let answer = run(rt.alloc(), call, row.area, &[whole; 3], &mut wanted);
+    let answer = run(rt.alloc(), call, row.area, &[whole; 4], &mut wanted);
     for length in [1, 7] {
         let pass = Pass {
             lengths: &[length],
             ..whole
         };
         let mut sink = Sink::new(rt.alloc(), 1_024, 0)?;
-        let outcome = run(rt.alloc(), call, row.area, &[pass; 3], &mut sink);
+        let outcome = run(rt.alloc(), call, row.area, &[pass; 4], &mut sink);
         assert_eq!(rt; outcome, answer, "{}", row.name);
         assert_eq!(rt; sink.bytes(), wanted.bytes(), "{}", row.name);
     }

@@ -22,7 +22,7 @@ fn answers(
         ..Pass::whole(input)
     };
     let mut sink = Sink::new(rt.alloc(), input.len().saturating_add(4_096), 0)?;
-    let outcome = run(rt.alloc(), call, row.area, &[pass; 3], &mut sink);
+    let outcome = run(rt.alloc(), call, row.area, &[pass; 4], &mut sink);
     let wanted = row.wanted(call);
     assert_eq!(rt; outcome, wanted.outcome(), "{}", row.name);
     let bytes = joined(rt.alloc(), wanted.parts())?;

@@ -13,7 +13,7 @@ fn says_memory(rt: &(impl Abort + AllocGlobal), name: &str, call: Call) -> Resul
     let input = joined(rt.alloc(), row.input)?;
     let wanted = joined(rt.alloc(), row.wanted(call).parts())?;
     let mut sink = Sink::new(rt.alloc(), 200, 0)?;
-    let passes = [Pass::whole(&input); 3];
+    let passes = [Pass::whole(&input); 4];
     let outcome = run(rt.alloc(), call, row.area, &passes, &mut sink);
     assert!(rt; wanted.starts_with(sink.bytes()));
     if outcome.is_ok() {
@@ -30,6 +30,11 @@ fn says_memory(rt: &(impl Abort + AllocGlobal), name: &str, call: Call) -> Resul
 #[test]
 fn memory_refused_to_extract(rt: HostRuntime) {
     let _seen = says_memory(&rt, "three_dense_nodes", Call::Extract).is_ok();
+}
+
+#[test]
+fn memory_refused_to_extract_parents(rt: HostRuntime) {
+    let _seen = says_memory(&rt, "relation_and_its_parent", Call::ExtractParents).is_ok();
 }
 
 #[test]

@@ -27,10 +27,11 @@ pub(crate) enum Answer {
 pub(crate) enum Call {
     Convert,
     Extract,
+    ExtractParents,
 }
 
 /// All of them.
-pub(crate) const CALLS: [Call; 2] = [Call::Convert, Call::Extract];
+pub(crate) const CALLS: [Call; 3] = [Call::Convert, Call::Extract, Call::ExtractParents];
 
 impl Call {
     /// How many passes it makes. It writes in the last.
@@ -38,6 +39,7 @@ impl Call {
         match self {
             Call::Convert => 2,
             Call::Extract => 3,
+            Call::ExtractParents => 4,
         }
     }
 }
@@ -83,6 +85,7 @@ impl Row {
         match call {
             Call::Convert => &self.converted,
             Call::Extract => &self.extracted,
+            Call::ExtractParents => &self.with_parents,
         }
     }
 }

@@ -3,7 +3,7 @@
 use crate::row::Call;
 use osm_entity::BoundingBox;
 use pbf_frame::{Pieces, Sink, Stop};
-use pbfcut::{Counts, convert, extract};
+use pbfcut::{Counts, convert, extract, extract_parents};
 use std::alloc::Global;
 use std::hash::{BuildHasherDefault, FoldHasher};
 
@@ -35,12 +35,13 @@ pub(crate) fn run(
     alloc: Global,
     call: Call,
     area: BoundingBox,
-    passes: &[Pass<'_>; 3],
+    passes: &[Pass<'_>; 4],
     sink: &mut Sink,
 ) -> Result<Counts, Stop> {
     let mut first = passes[0].feed();
     let mut second = passes[1].feed();
     let mut third = passes[2].feed();
+    let mut fourth = passes[3].feed();
     let hasher: BuildHasherDefault<FoldHasher> = BuildHasherDefault::new();
     match call {
         Call::Convert => convert(alloc, &mut first, &mut second, sink, hasher),
@@ -49,6 +50,16 @@ pub(crate) fn run(
             &mut first,
             &mut second,
             &mut third,
+            area,
+            sink,
+            hasher,
+        ),
+        Call::ExtractParents => extract_parents(
+            alloc,
+            &mut first,
+            &mut second,
+            &mut third,
+            &mut fourth,
             area,
             sink,
             hasher,
