@@ -203,13 +203,6 @@ conversion_kept file sound small =
     let e = converted_is file r.header r.entities r.is in
     subst (λ (w : List ℕ). IsConversion file w) (sym e) (conversion_written file r.header r.entities r.is r.can (subst (λ (w : List ℕ). length w ≤ 2 ^ 62) e small))
 
--- the same by the frames of the file's verdict, as a call knows it
-pub conversion_by_frames : (file : List ℕ) (frames : List FrameSpec) (written : List ℕ) → judged_writable (Some file) ≡ Some (frames, None) → written ≡ answer_bytes (frames, None) → length written ≤ 2 ^ 62 → IsConversion file written
-conversion_by_frames file frames written is taken small =
-    let says = same_verdict file frames is in
-    let whole : written ≡ conversion_of file = taken ∙ ap answer_bytes (sym says) in
-    subst (λ (w : List ℕ). IsConversion file w) (sym whole) (conversion_kept file (ap (λ (v : Verdict). v.1) says) (subst (λ (w : List ℕ). length w ≤ 2 ^ 62) whole small))
-
 -- ---- an extract
 
 -- a choice of stored entities that is a choice of what they mean, and of which the same is chosen again
@@ -250,14 +243,6 @@ module _ (choose : Choice) (select : List Decoded → List Decoded) (selection :
       let r = readable file sound in
       let e = extracted_is file r.header r.entities r.is choose area in
       subst (λ (w : List ℕ). IsExtract choose select area file w) (sym e) (extract_written file r.header r.entities r.is r.can (subst (λ (w : List ℕ). length w ≤ 2 ^ 62) e small))
-
-  -- the same by the frames of the file's verdict, as a call knows it
-  pub extract_by_frames : (file : List ℕ) (frames : List FrameSpec) (written : List ℕ) → judged_writable (Some file) ≡ Some (frames, None) → written ≡ extract_bytes choose area (frames, None) → length written ≤ 2 ^ 62
-      → IsExtract choose select area file written
-  extract_by_frames file frames written is taken small =
-      let says = same_verdict file frames is in
-      let whole : written ≡ extract_of choose area file = taken ∙ ap (λ (v : Verdict). extract_bytes choose area v) (sym says) in
-      subst (λ (w : List ℕ). IsExtract choose select area file w) (sym whole) (extract_kept file (ap (λ (v : Verdict). v.1) says) (subst (λ (w : List ℕ). length w ≤ 2 ^ 62) whole small))
 
 -- ---- the complete ways, without and with all parents
 

@@ -25,12 +25,12 @@ use Rattle.pbf_frame.specs.Verdict.{Gone, Says, with_all}
 use Rattle.pbf_frame.proofs.VerdictLemmas.{gone_more, gone_split}
 use Rattle.pbfcut.specs.Counting.{decoded, frame_entities}
 use Rattle.pbfcut.specs.Judged.{fully, fully_known}
-use Rattle.pbfcut.proofs.CountLemmas.{CountedOn, same_counts}
+use Rattle.pbfcut.proofs.CountLemmas.{CountedOn}
 use Rattle.pbfcut.proofs.StepLemmas.{fully_first, picked_one}
 use Rattle.osm_ways.specs.declared.parents.ChosenParents.{ChosenParents}
 use Rattle.pbfcut.specs.declared.counts.Counts.{Counts}
 use Rattle.pbfcut.specs.declared.picking.Selection.TheVariants as selection
-use Rattle.pbfcut.specs.Counting.{nodes_of, ways_of, relations_of, counts_of, count_one}
+use Rattle.pbfcut.specs.Counting.{nodes_of, ways_of, relations_of, count_one}
 use Rattle.pbfcut.specs.Picking.{Pick, pick_of, picked_with_parents, HasPacked, BeginsAll, Packs, StoppedPacking, Packed, PacksFront}
 use Rattle.pbfcut.specs.Showing.{PayloadStops}
 
@@ -38,8 +38,6 @@ all_push : {A : Type 0} (P : A → Type 0) (xs : List A) (x : A) → AllByRecurs
 all_push P [] x h p = (p, tt)
 all_push P (y ∷ xs) x h p = (h.0, all_push P xs x h.1 p)
 
-all_gone : (gone left all : List EntitySpec) → left ≡ [] → gone ++ left ≡ all → gone ≡ all
-all_gone gone left all is split = sym (append-nil gone) ∙ (ap (λ (l : List EntitySpec). gone ++ l) (sym is) ∙ split)
 
 -- an entity stands behind those that are gone
 split_here : (done gone left later all rest : List EntitySpec) (e : EntitySpec) → left ≡ e ∷ later → gone ++ left ≡ all → (done ++ gone) ++ e ∷ (later ++ rest) ≡ (done ++ all) ++ rest
@@ -117,11 +115,6 @@ count_picked pick now next e left rest all is picked counts h =
 pub count_left : (pick : Pick) (now : Counts) (e : EntitySpec) (left rest all : List EntitySpec) → left ≡ e ∷ rest → pick e ≡ false → CountedOn now (filter pick left) all → CountedOn now (filter pick rest) all
 count_left pick now e left rest all is picked h = subst (λ (l : List EntitySpec). CountedOn now l all) (ap (λ (l : List EntitySpec). filter pick l) is ∙ left_next pick e rest picked) h
 
-pub count_all : (pick : Pick) (now : Counts) (left all : List EntitySpec) → left ≡ [] → CountedOn now (filter pick left) all → now ≡ counts_of all
-count_all pick now left all is h =
-    let k = subst (λ (l : List EntitySpec). CountedOn now (filter pick l) all) is h in
-    same_counts now (counts_of all) (omega (arith, k.nodes, k.few_nodes)) (omega (arith, k.ways, k.few_ways)) (omega (arith, k.relations, k.few_relations))
-
 pub last_front : (pick : Pick) (start now : Option (List ℕ)) (first : Option Verdict) (fs : List FrameSpec) (all : Verdict) → Says first (fs, None) → first ≡ Some all → IsFront start now (written_entities (filter pick (decoded fs)))
     → IsFront start now (written_entities (filter pick (decoded all.0)))
 last_front pick start now first fs all says is front = subst (λ (l : List FrameSpec). IsFront start now (written_entities (filter pick (decoded l)))) (sym (told_frames first fs all says is)) front
@@ -172,9 +165,6 @@ module _ {D S H : Type 0} where
 
   pub one_left : (pick : Pick) (start : Option (List ℕ)) (done gone : List EntitySpec) (e : EntitySpec) (taken : Option (List ℕ)) (packer : Packing D S H) → pick e ≡ false → HasPacked start (done ++ filter pick gone) taken packer → HasPacked start (done ++ filter pick (gone ++ e ∷ [])) taken packer
   one_left pick start done gone e taken packer is h = subst (λ (l : List EntitySpec). HasPacked start (done ++ l) taken packer) (sym (left_behind pick gone e is)) h
-
-  pub all_are_gone : (pick : Pick) (start : Option (List ℕ)) (done gone left all : List EntitySpec) (taken : Option (List ℕ)) (packer : Packing D S H) → left ≡ [] → gone ++ left ≡ all → HasPacked start (done ++ filter pick gone) taken packer → HasPacked start (done ++ filter pick all) taken packer
-  all_are_gone pick start done gone left all taken packer is split h = subst (λ (l : List EntitySpec). HasPacked start (done ++ filter pick l) taken packer) (all_gone gone left all is split) h
 
   pub stopped_here : (pick : Pick) (start : Option (List ℕ)) (done gone left later all : List EntitySpec) (e : EntitySpec) (before now : Option (List ℕ)) (packer : Packing D S H) → left ≡ e ∷ later → gone ++ left ≡ all → pick e ≡ true
       → HasPacked start (done ++ filter pick gone) before packer → EntityFits e → ((es : List EntitySpec) → Pending packer es → IsFront before now (then_written es e)) → BeginsAll start (done ++ filter pick all) now
