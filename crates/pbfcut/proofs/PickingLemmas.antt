@@ -38,7 +38,6 @@ all_push : {A : Type 0} (P : A → Type 0) (xs : List A) (x : A) → AllByRecurs
 all_push P [] x h p = (p, tt)
 all_push P (y ∷ xs) x h p = (h.0, all_push P xs x h.1 p)
 
-
 -- an entity stands behind those that are gone
 split_here : (done gone left later all rest : List EntitySpec) (e : EntitySpec) → left ≡ e ∷ later → gone ++ left ≡ all → (done ++ gone) ++ e ∷ (later ++ rest) ≡ (done ++ all) ++ rest
 split_here done gone left later all rest e is split =
