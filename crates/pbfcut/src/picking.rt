@@ -202,7 +202,7 @@ fn step_pack<F: Feed, D: Drain, S: BuildHasher>(
 ///
 /// `Refused` names the first fault of the frame, and then nothing went out; on another stop, of a frame without a fault, a
 /// beginning of its entities may have gone out. After a stop the reader and the packer may only be dropped or taken apart, and
-/// the pass may only be dropped. A spent packer answers its stop again, and a spent reader its own; no device is touched then.
+/// the pass may only be dropped. A spent packer answers its stop again, before the reader is asked.
 pub fn step_write<F: Feed, D: Drain, S: BuildHasher>(
     alloc: Global,
     reader: &mut FrameReader<F>,
