@@ -6,6 +6,8 @@ pub mod Info
 pub mod Members
 pub mod Payload
 pub mod Passes
+pub mod Kinds
+pub mod Numbers
 pub mod Cursors
 pub mod Weights
 pub mod Judgement

@@ -1,7 +1,7 @@
 //! A PrimitiveBlock that is judged and read.
 
 ghost use Rattle.std.specs.Prelude.{◌≡◌, ◌+◌, ◌*◌, ◌≤◌, ◌<◌, ◌^◌, [], None, Some, Err, ℕ, List, IfOk, OnOk, length};
-ghost use Rattle.std.specs.List.{AllByRecursion};
+ghost use Rattle.std.specs.List.{AllByRecursion, filter};
 ghost use Rattle.std.specs.Option.{option_or, option_map};
 ghost use Rattle.pbf_wire.specs.declared.fault.Fault.{Fault};
 ghost use Rattle.pbf_wire.specs.declared.fault.ReadFault.TheVariants.{Refused};
@@ -11,12 +11,16 @@ ghost use Rattle.osm_entity.specs.Ranges.{EntityFits};
 ghost use Rattle.pbf_block.specs.Judgement.{payload_values, payload_weights, block_fault, all_faults, phase_rank};
 ghost use Rattle.pbf_block.specs.Cursors.{entities_left};
 ghost use Rattle.pbf_block.specs.Payload.{entities};
+ghost use Rattle.pbf_block.specs.Kinds.{is_among};
+ghost use Rattle.pbf_block.specs.Numbers.{counts_of};
 ghost use Rattle.pbf_wire.specs.Fields.{occurrence};
 ghost use Rattle.pbf_block.specs.Scale.{scale_of, table_of, held_by, begin_of};
 ghost use Rattle.pbf_block.specs.StructureFaults.{structure_faults};
 ghost use Rattle.pbf_block.specs.WireFaults.{wire_faults};
 
+use crate::counts::{Counts, count_entities};
 use crate::entities::Entities;
+use crate::kinds::Kinds;
 use crate::message::STRINGTABLE;
 use crate::scale::scale_in;
 use crate::structure::judge_structure;
@@ -131,7 +135,22 @@ impl<'a> Block<'a> {
         ensures exact { entities_left result ≡ entities self.now.at self.now.payload.now }
         ensures fits { AllByRecursion EntityFits (entities_left result) }
     {
-        Entities::over(self.payload, self.at, &self.table, self.scale)
+        self.entities_among(Kinds::all())
+    }
+
+    /// The entities of these kinds, in order. Messages of other kinds aren't looked into. Takes no memory.
+    pub fn entities_among(&self, kinds: Kinds) -> Entities<'_>
+        ensures { entities_left result ≡ filter (is_among kinds) (entities self.now.at self.now.payload.now) }
+    {
+        Entities::over(self.payload, self.at, &self.table, self.scale, kinds)
+    }
+
+    /// How many entities there are. None is made, and of dense nodes the ids and coordinates alone are gone through. Takes no
+    /// memory.
+    pub fn counts(&self) -> Counts
+        ensures { result ≡ counts_of (entities self.now.at self.now.payload.now) }
+    {
+        count_entities(self.payload, self.at, &self.table, self.scale)
     }
 
     /// How many bytes the block holds beside the payload: four for each text of its table.

@@ -1,13 +1,14 @@
 //! The entities of a PrimitiveBlock.
 
 use crate::group::{Group, next_field};
+use crate::kinds::Kinds;
 use crate::message::PRIMITIVEGROUP;
 use osm_entity::{EntityRef, Scale};
 use pbf_strings::Table;
 use pbf_wire::{Fields, Payload};
 
-/// The entities of a block that are still to come, in the order of its groups: an iterator over the payload, which takes no
-/// memory. A copy of it goes on by itself.
+/// The entities of a block that are still to come, of the kinds asked for, in the order of its groups: an iterator over the
+/// payload, which takes no memory. A copy of it goes on by itself.
 #[derive(Clone, Copy, Debug)]
 pub struct Entities<'a> {
     /// What is left of the group that was begun.
@@ -15,12 +16,13 @@ pub struct Entities<'a> {
     groups: Fields<'a>,
     table: &'a Table<'a>,
     scale: Scale,
+    kinds: Kinds,
 }
 
 impl<'a> Entities<'a> {
     ghost use Rattle.std.specs.Prelude.{◌≡◌, ◌+◌, ◌≤◌, ◌^◌, length};
     ghost use Rattle.pbf_wire.specs.Faults.{fields_in};
-    ghost use Rattle.pbf_block.specs.Members.{entities_by};
+    ghost use Rattle.pbf_block.specs.Kinds.{entities_among};
     ghost use Rattle.pbf_block.specs.Payload.{along};
     ghost use Rattle.pbf_block.specs.Cursors.{entities_left};
 
@@ -31,15 +33,17 @@ impl<'a> Entities<'a> {
         at: u64,
         table: &'a Table<'a>,
         scale: Scale,
+        kinds: Kinds,
     ) -> Entities<'a>
         requires { at + length payload.now ≤ 2 ^ 63 }
-        ensures { entities_left result ≡ entities_by along table.now scale (fields_in at payload.now) }
+        ensures { entities_left result ≡ entities_among kinds along table.now scale (fields_in at payload.now) }
     {
         Entities {
             group: None,
             groups: Fields::new(payload, at),
             table,
             scale,
+            kinds,
         }
     }
 }
@@ -66,7 +70,8 @@ impl<'a> Iterator for Entities<'a> {
             let field = next_field(&mut self.groups)?;
             if field.number == PRIMITIVEGROUP {
                 if let Payload::Bytes(message, at) = field.payload {
-                    self.group = Some(Group::over(message, at, self.table, self.scale));
+                    let (table, scale) = (self.table, self.scale);
+                    self.group = Some(Group::over(message, at, table, scale, self.kinds));
                 }
             }
         }

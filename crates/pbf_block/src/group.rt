@@ -5,6 +5,7 @@ ghost use Rattle.pbf_wire.specs.Cursors.{fields_left};
 ghost use Rattle.pbf_wire.specs.Fields.{occurrence};
 ghost use Rattle.pbf_wire.specs.Occurrence.{found};
 
+use crate::kinds::Kinds;
 use crate::message::{DENSE, NODES, RELATIONS, WAYS};
 use crate::node::node_in;
 use crate::relation::relation_in;
@@ -29,7 +30,8 @@ pub(crate) fn next_field<'a>(fields: &mut Fields<'a>) -> Option<Field<'a>>
     }
 }
 
-/// The entities of a group that are still to come: an iterator over the group's fields, which takes no memory.
+/// The entities of a group that are still to come, of the kinds asked for: an iterator over the group's fields, which takes no
+/// memory. Fields that hold other kinds are passed over.
 #[derive(Clone, Copy, Debug)]
 pub(crate) struct Group<'a> {
     /// What is left of the dense message that was begun.
@@ -37,27 +39,35 @@ pub(crate) struct Group<'a> {
     fields: Fields<'a>,
     table: &'a Table<'a>,
     scale: Scale,
+    kinds: Kinds,
 }
 
 impl<'a> Group<'a> {
     ghost use Rattle.std.specs.Prelude.{◌+◌, ◌≤◌, ◌^◌, length};
     ghost use Rattle.std.specs.List.{flat_map};
     ghost use Rattle.pbf_wire.specs.Faults.{fields_in};
-    ghost use Rattle.pbf_block.specs.Members.{member_entities};
+    ghost use Rattle.pbf_block.specs.Kinds.{member_entities_among};
     ghost use Rattle.pbf_block.specs.Payload.{along};
     ghost use Rattle.pbf_block.specs.Cursors.{group_left};
 
     /// The entities of a group whose first byte stands at `at` in the file.
     #[tactic(auto, unfolding(crate::specs::Cursors::group_left))]
-    pub(crate) fn over(message: &'a [u8], at: u64, table: &'a Table<'a>, scale: Scale) -> Group<'a>
+    pub(crate) fn over(
+        message: &'a [u8],
+        at: u64,
+        table: &'a Table<'a>,
+        scale: Scale,
+        kinds: Kinds,
+    ) -> Group<'a>
         requires { at + length message.now ≤ 2 ^ 63 }
-        ensures { group_left result ≡ flat_map (member_entities along table.now scale) (fields_in at message.now) }
+        ensures { group_left result ≡ flat_map (member_entities_among kinds along table.now scale) (fields_in at message.now) }
     {
         Group {
             dense: None,
             fields: Fields::new(message, at),
             table,
             scale,
+            kinds,
         }
     }
 }
@@ -82,6 +92,9 @@ impl<'a> Iterator for Group<'a> {
                 }
             }
             let field = next_field(&mut self.fields)?;
+            if !self.kinds.are_in(field.number) {
+                continue 'fields;
+            }
             let (table, scale) = (self.table, self.scale);
             if let Payload::Bytes(message, at) = field.payload {
                 match field.number {

@@ -5,6 +5,7 @@ mod block;
 #[cfg(test)]
 mod block_tests;
 mod block_write;
+mod counts;
 mod entities;
 mod entity_counts;
 mod entity_fields;
@@ -21,6 +22,7 @@ mod header_tests;
 mod header_write;
 mod info;
 mod info_values;
+mod kinds;
 pub mod laws;
 mod message;
 mod node;
@@ -37,6 +39,8 @@ mod writing;
 
 pub use block::Block;
 pub use block_write::{put_block, put_dense};
+pub use counts::Counts;
 pub use entities::Entities;
 pub use entity_out::EntityOut;
 pub use header::{Header, HeaderBox};
+pub use kinds::Kinds;

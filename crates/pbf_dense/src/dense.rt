@@ -38,7 +38,7 @@ pub struct Dense<'a> {
 }
 
 impl<'a> Dense<'a> {
-    ghost use Rattle.std.specs.Prelude.{◌+◌, ◌≤◌, ◌^◌, length};
+    ghost use Rattle.std.specs.Prelude.{◌+◌, ◌-◌, ◌≤◌, ◌^◌, length, min};
     ghost use Rattle.pbf_wire.specs.Faults.{fields_in};
     ghost use Rattle.pbf_dense.specs.Nodes.{nodes_along};
     ghost use Rattle.pbf_dense.specs.Cursors.{dense_left};
@@ -60,6 +60,22 @@ impl<'a> Dense<'a> {
             table,
             scale,
         }
+    }
+
+    /// How many nodes are still to come, or the greatest `u64` where they are more. Goes through the ids and coordinates alone.
+    #[tactic(auto, using(crate::proofs::MovingLemmas::moving_length), unfolding(crate::specs::Cursors::dense_left))]
+    pub fn len(&self) -> u64
+        ensures { result ≡ min (length (dense_left self.now)) (2 ^ 64 - 1) }
+    {
+        let mut count = 0u64;
+        let (mut lats, mut lons) = (self.lats, self.lons);
+        for _id in self.ids {
+            if lats.next().is_none() || lons.next().is_none() {
+                return count;
+            }
+            count = count.saturating_add(1);
+        }
+        count
     }
 }
 

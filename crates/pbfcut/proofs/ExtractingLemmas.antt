@@ -25,7 +25,7 @@ use Rattle.pbf_frame.specs.Devices.{append, IsFront}
 use Rattle.pbf_frame.specs.Frames.{FrameSpec}
 use Rattle.pbf_frame.specs.Verdict.{Verdict, Says}
 use Rattle.pbf_frame.proofs.Parting.{none_some}
-use Rattle.pbfcut.specs.declared.counts.Counts.{Counts}
+use Rattle.pbf_block.specs.declared.counts.Counts.{Counts}
 use Rattle.pbfcut.specs.declared.counts.Pass.{Pass}
 use Rattle.pbfcut.specs.declared.picking.Selection.TheVariants as selection
 use Rattle.pbfcut.specs.Converting.{header_limit, limited, judged_writable, held_header, CanBeWritten, IsLimit}

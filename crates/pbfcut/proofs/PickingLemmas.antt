@@ -28,7 +28,7 @@ use Rattle.pbfcut.specs.Judged.{fully, fully_known}
 use Rattle.pbfcut.proofs.CountLemmas.{CountedOn}
 use Rattle.pbfcut.proofs.StepLemmas.{fully_first, picked_one}
 use Rattle.osm_ways.specs.declared.parents.ChosenParents.{ChosenParents}
-use Rattle.pbfcut.specs.declared.counts.Counts.{Counts}
+use Rattle.pbf_block.specs.declared.counts.Counts.{Counts}
 use Rattle.pbfcut.specs.declared.picking.Selection.TheVariants as selection
 use Rattle.pbfcut.specs.Counting.{nodes_of, ways_of, relations_of, count_one}
 use Rattle.pbfcut.specs.Picking.{Pick, pick_of, picked_with_parents, HasPacked, BeginsAll, Packs, StoppedPacking, Packed, PacksFront}

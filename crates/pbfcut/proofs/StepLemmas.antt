@@ -14,7 +14,7 @@ use Rattle.pbf_frame.specs.declared.frame.FrameKind.TheVariants as kind
 use Rattle.pbf_frame.specs.Devices.{prepend}
 use Rattle.pbf_frame.specs.Frames.{FrameSpec, frame_kind, frame_payload, frame_payload_at, frame_bytes}
 use Rattle.pbf_frame.specs.Verdict.{Verdict, with_first_known, Says}
-use Rattle.pbfcut.specs.declared.counts.Counts.{Counts}
+use Rattle.pbf_block.specs.declared.counts.Counts.{Counts}
 use Rattle.pbfcut.specs.declared.counts.Pass.{Pass}
 use Rattle.pbfcut.specs.Judged.{payload_fault, sound_first, fully, fully_known}
 use Rattle.pbfcut.specs.Counting.{counted_with, counts_of, entities_of, frame_entities, decoded}

@@ -8,7 +8,7 @@ use Rattle.pbf_frame.specs.declared.stop.Stop.TheVariants.{Refused, Read, Write,
 use Rattle.pbf_frame.specs.Devices.{append}
 use Rattle.pbf_frame.specs.Frames.{FrameSpec}
 use Rattle.pbf_frame.specs.Verdict.{Verdict, Says}
-use Rattle.pbfcut.specs.declared.counts.Counts.{Counts}
+use Rattle.pbf_block.specs.declared.counts.Counts.{Counts}
 use Rattle.pbfcut.specs.Counting.{counts_of}
 use Rattle.pbfcut.specs.Extracting.{Choice}
 use Rattle.pbfcut.specs.Kept.{IsWritable, entities_in_file, conversion_of, extract_of, IsConversion, IsExtract}

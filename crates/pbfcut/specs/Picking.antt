@@ -13,7 +13,7 @@ use Rattle.pbf_block.specs.Header.{HeaderSpec}
 use Rattle.pbf_frame.specs.Devices.{append, IsFront}
 use Rattle.pbf_frame.specs.Frames.{FrameSpec, frame_kind, frame_payload, frame_payload_at}
 use Rattle.pbf_frame.specs.Verdict.{Verdict, with_first_known, Says}
-use Rattle.pbfcut.specs.declared.counts.Counts.{Counts}
+use Rattle.pbf_block.specs.declared.counts.Counts.{Counts}
 use Rattle.pbfcut.specs.declared.counts.Pass.{Pass}
 use Rattle.pbfcut.specs.declared.picking.Selection.{Selection}
 use Rattle.pbfcut.specs.declared.picking.Selection.TheVariants as selection

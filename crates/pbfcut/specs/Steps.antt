@@ -11,7 +11,7 @@ use Rattle.pbf_frame.specs.declared.stop.Stop.TheVariants.{Refused, Read, Write,
 use Rattle.pbf_frame.specs.Devices.{prepend, HasRisen}
 use Rattle.pbf_frame.specs.Frames.{FrameSpec, frame_kind, frame_bytes, frame_payload, frame_payload_at}
 use Rattle.pbf_frame.specs.Verdict.{Verdict, with_first_known, Says}
-use Rattle.pbfcut.specs.declared.counts.Counts.{Counts}
+use Rattle.pbf_block.specs.declared.counts.Counts.{Counts}
 use Rattle.pbfcut.specs.declared.counts.Pass.{Pass}
 use Rattle.pbfcut.specs.Counting.{counted_with, counts_of, entities_of, decoded}
 use Rattle.pbfcut.specs.Judged.{payload_fault, fully_known}

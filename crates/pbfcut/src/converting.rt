@@ -10,11 +10,11 @@ ghost use Rattle.pbfcut.specs.Judged.{judged_file};
 ghost use Rattle.pbfcut.specs.Showing.{ShowStops};
 ghost use Rattle.pbfcut.specs.Steps.{CountsFile};
 
-use crate::counts::Counts;
 use crate::header_limit::writable_header;
 use crate::later::later_pack;
 use crate::passes::pass_count;
 use crate::picking::Selection;
+use pbf_block::Counts;
 use pbf_frame::{Drain, Feed, Stop};
 use std::alloc::Global;
 use std::hash::BuildHasher;

@@ -5,71 +5,25 @@ ghost use Rattle.std.specs.List.{fold};
 ghost use Rattle.pbf_frame.specs.declared.frame.FrameKind.TheVariants as kind;
 ghost use Rattle.pbf_wire.specs.declared.fault.Fault.{Fault};
 ghost use Rattle.pbf_wire.specs.declared.fault.ReadFault.TheVariants.{Refused};
-ghost use Rattle.osm_entity.specs.Views.{entity_of};
-ghost use Rattle.pbf_block.specs.Cursors.{entities_left};
+ghost use Rattle.pbf_block.specs.Payload.{entities};
 ghost use Rattle.pbfcut.specs.Judged.{payload_fault_of};
-ghost use Rattle.pbfcut.specs.Counting.{counted_with, count_one, counts_of, entities_of};
+ghost use Rattle.pbfcut.specs.Counting.{counts_of, entities_of};
 ghost use Rattle.pbfcut.specs.Steps.{IsFresh, TakesPayload};
 
 use crate::gathering::Gather;
-use osm_entity::EntityRef;
-use pbf_block::{Block, Entities, Header};
+use pbf_block::{Block, Counts, Header};
 use pbf_frame::{Frame, FrameKind};
 use pbf_wire::ReadFault;
 use std::alloc::{AllocError, Global};
 
-/// The numbers of nodes, ways and relations, each the greatest `u64` where there are more.
-#[derive(Clone, Copy, Debug, PartialEq, Eq)]
-pub struct Counts {
-    pub nodes: u64,
-    pub ways: u64,
-    pub relations: u64,
-}
-
-impl Counts {
-    /// Nothing is counted yet.
-    pub(crate) fn none() -> Counts
-        ensures { result ≡ counts_of [] }
-    {
-        Counts {
-            nodes: 0,
-            ways: 0,
-            relations: 0,
-        }
-    }
-
-    /// Counts one entity more.
-    pub(crate) fn take(&mut self, entity: &EntityRef<'_>)
-        ensures { self.new ≡ count_one self.old (entity_of entity.now) }
-    {
-        match entity {
-            EntityRef::Node(_) => self.nodes = self.nodes.saturating_add(1),
-            EntityRef::Way(_) => self.ways = self.ways.saturating_add(1),
-            EntityRef::Relation(_) => self.relations = self.relations.saturating_add(1),
-        }
-    }
-
-    /// Counts what the other counts.
-    pub(crate) fn add(&mut self, other: Counts)
-        ensures { self.new ≡ counted_with self.old other }
-    {
-        self.nodes = self.nodes.saturating_add(other.nodes);
-        self.ways = self.ways.saturating_add(other.ways);
-        self.relations = self.relations.saturating_add(other.relations);
-    }
-}
-
-/// Gathers entities, and answers how many there are.
-fn take_entities<G: Gather>(entities: Entities<'_>, gathering: &mut G) -> Result<Counts, AllocError>
-    ensures counted { IfOk result (λ counts. counts ≡ counts_of (entities_left entities.entry)) }
-    ensures gathered { OnOk result (gathering.new ≡ fold G.gathered gathering.old (entities_left entities.entry)) }
+/// Gathers those entities of a block that matter.
+fn gather_entities<G: Gather>(block: &Block<'_>, gathering: &mut G) -> Result<(), AllocError>
+    ensures { OnOk result (gathering.new ≡ fold G.gathered gathering.old (entities block.now.at block.now.payload.now)) }
 {
-    let mut counts = Counts::none();
-    for entity in entities {
+    for entity in block.entities_among(G::kinds()) {
         gathering.gather(&entity)?;
-        counts.take(&entity);
     }
-    Ok(counts)
+    Ok(())
 }
 
 /// What lasts from frame to frame of a pass.
@@ -150,7 +104,8 @@ impl Pass {
         ensures refused { (fault : Fault) → result ≡ Err (Refused fault) → payload_fault_of kind.Data at payload.now ≡ Some fault }
     {
         let block = Block::read(alloc, payload, at)?;
-        self.counts.add(take_entities(block.entities(), gathering)?);
+        gather_entities(&block, gathering)?;
+        self.counts.add(block.counts());
         Ok(())
     }
 }

@@ -16,14 +16,13 @@ ghost use Rattle.pbfcut.specs.Kept.{extract_of};
 ghost use Rattle.pbfcut.specs.Judged.{judged_file};
 ghost use Rattle.pbfcut.specs.Showing.{Differ};
 
-use crate::counts::Counts;
 use crate::header_limit::writable_header;
 use crate::later::{later_gather, later_pack};
 use crate::passes::pass_gather;
 use crate::picking::Selection;
 use osm_entity::BoundingBox;
 use osm_ways::{Chosen, NodePhase};
-use pbf_block::Header;
+use pbf_block::{Counts, Header};
 use pbf_frame::{Drain, Feed, Stop};
 use std::alloc::Global;
 use std::hash::BuildHasher;

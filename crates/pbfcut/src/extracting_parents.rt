@@ -15,13 +15,12 @@ ghost use Rattle.pbfcut.specs.Judged.{judged_file};
 ghost use Rattle.pbfcut.specs.Kept.{extract_of};
 ghost use Rattle.pbfcut.specs.Showing.{Differ};
 
-use crate::counts::Counts;
 use crate::extracting::choose;
 use crate::later::{later_gather, later_pack};
 use crate::picking::Selection;
 use osm_entity::BoundingBox;
 use osm_ways::ChosenParents;
-use pbf_block::Header;
+use pbf_block::{Counts, Header};
 use pbf_frame::{Drain, Feed, Stop};
 use std::alloc::Global;
 use std::hash::BuildHasher;

@@ -10,11 +10,10 @@ ghost use Rattle.pbfcut.specs.Judged.{judged_file};
 ghost use Rattle.pbfcut.specs.Picking.{pick_of, Packed, PacksFront};
 ghost use Rattle.pbfcut.specs.Showing.{as_change};
 
-use crate::counts::Counts;
 use crate::gathering::Gather;
 use crate::passes::pass_gather;
 use crate::picking::{Selection, pass_pack};
-use pbf_block::Header;
+use pbf_block::{Counts, Header};
 use pbf_frame::{Drain, Feed, Stop};
 use std::alloc::Global;
 use std::hash::BuildHasher;

@@ -24,10 +24,11 @@ mod tests;
 
 pub use blobs::list_blobs;
 pub use converting::convert;
-pub use counts::{Counts, Pass};
+pub use counts::Pass;
 pub use extracting::extract;
 pub use extracting_parents::extract_parents;
 pub use passes::check;
+pub use pbf_block::Counts;
 pub use picking::{step_write, step_write_parents};
 pub use showing::show;
 pub use steps::{step_count, step_nodes, step_relations, step_ways};

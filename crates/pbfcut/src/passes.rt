@@ -8,10 +8,11 @@ ghost use Rattle.pbfcut.specs.Gathering.{GathersFile, LaterStops};
 ghost use Rattle.pbfcut.specs.Judged.{fully_known, judged_file};
 ghost use Rattle.pbfcut.specs.Steps.{CountsFile, PassesFile, PassStops};
 
-use crate::counts::{Counts, Pass};
+use crate::counts::Pass;
 use crate::gathering::{Gather, Nothing};
 use crate::hashed::Hashed;
 use crate::steps::step_gather;
+use pbf_block::Counts;
 use pbf_frame::{Feed, FrameReader, Stop};
 use std::alloc::Global;
 

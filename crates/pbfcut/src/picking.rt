@@ -21,12 +21,12 @@ ghost use Rattle.pbfcut.specs.Picking.{pick_of, picked_by_some, picked_with_pare
 ghost use Rattle.pbfcut.specs.Steps.{TakesSome, Took};
 ghost use Rattle.pbfcut.specs.Showing.{PayloadStops, TextStops, WriteStops};
 
-use crate::counts::{Counts, Pass};
+use crate::counts::Pass;
 use crate::hashed::Hashed;
 use osm_entity::EntityRef;
 use osm_pack::Packer;
 use osm_ways::{Chosen, ChosenParents};
-use pbf_block::{Block, Entities, Header};
+use pbf_block::{Block, Counts, Entities, Header};
 use pbf_frame::{Drain, Feed, Frame, FrameKind, FrameReader, Stop};
 use std::alloc::Global;
 use std::hash::BuildHasher;

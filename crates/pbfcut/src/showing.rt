@@ -15,13 +15,12 @@ ghost use Rattle.pbfcut.specs.Judged.{payload_fault_of, fully_known, judged_file
 ghost use Rattle.pbfcut.specs.Showing.{payload_text, Shown, ShowsFront, ShowStops, WritesFront, WriteStops, TookText, StoppedInText, TextStops, StoppedInPayload, PayloadStops};
 ghost use Rattle.pbfcut.specs.Steps.{CountsFile};
 
-use crate::counts::Counts;
 use crate::hashed::Hashed;
 use crate::later::changed;
 use crate::passes::pass_count;
 use osm_entity::EntityRef;
 use osm_text::{put_entity, put_header};
-use pbf_block::{Block, Entities, Header};
+use pbf_block::{Block, Counts, Entities, Header};
 use pbf_frame::{Drain, Feed, Frame, FrameKind, FrameReader, Stop, write_all};
 use std::alloc::Global;
 

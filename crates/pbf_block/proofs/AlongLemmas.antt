@@ -1,0 +1,23 @@
+-- Of a payload without a fault the cursors give the entities that are said by index.
+use Rattle.std.proofs.Common.{◌≡◌, ◌≤◌, ◌^◌, ap₂, ◌∙◌, List, ℕ, length, arith}
+use Rattle.std.specs.Prelude.{None}
+use Rattle.osm_entity.specs.declared.scale.Scale.{Scale}
+use Rattle.pbf_wire.specs.Faults.{fields_in}
+use Rattle.pbf_block.specs.Judgement.{block_fault, payload_values}
+use Rattle.pbf_block.specs.Members.{entities_by}
+use Rattle.pbf_block.specs.Payload.{along, entities}
+use Rattle.pbf_block.specs.Scale.{table_of, scale_of}
+use Rattle.pbf_block.proofs.ByIndexLemmas.{entities_same}
+use Rattle.pbf_block.proofs.PhaseLemmas.{no_fault}
+use Rattle.pbf_block.proofs.ReadsLemmas.{payload_reads}
+use Rattle.pbf_block.proofs.TableLemmas.{table_few}
+
+pub along_same : (at : ℕ) (m : List ℕ) → block_fault at m ≡ None → (table : List (List ℕ)) (scale : Scale) → table ≡ table_of (fields_in at m) → scale ≡ scale_of (fields_in at m)
+    → entities_by along table scale (fields_in at m) ≡ entities at m
+unfolding entities payload_values
+along_same at m sound table scale texts scaled =
+    let none = no_fault at m sound in
+    let os = fields_in at m in
+    let few : length (table_of os) ≤ 2 ^ 62 = omega (arith, table_few at m none.0 none.1) in
+    ap₂ (λ (t : List (List ℕ)) (s : Scale). entities_by along t s os) texts scaled
+    ∙ entities_same (table_of os) (scale_of os) os (payload_reads (table_of os) (scale_of os) few at m none.0 none.1 none.2)

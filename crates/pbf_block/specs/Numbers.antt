@@ -1,0 +1,46 @@
+-- How many entities there are.
+use Rattle.std.specs.Prelude.{ℕ, ◌+◌, ◌-◌, ◌^◌, min, List}
+use Rattle.std.specs.List.{sum_by}
+use Rattle.osm_entity.specs.Entity.{EntitySpec, node, way, relation}
+use Rattle.pbf_block.specs.declared.counts.Counts.{Counts}
+
+abbrev pub nodes_of : EntitySpec → ℕ
+nodes_of (node n) = 1
+nodes_of (way w) = 0
+nodes_of (relation r) = 0
+
+abbrev pub ways_of : EntitySpec → ℕ
+ways_of (node n) = 0
+ways_of (way w) = 1
+ways_of (relation r) = 0
+
+abbrev pub relations_of : EntitySpec → ℕ
+relations_of (node n) = 0
+relations_of (way w) = 0
+relations_of (relation r) = 1
+
+-- a number as a u64, the greatest one where there are more
+abbrev pub capped : ℕ → ℕ
+capped n = min n (2 ^ 64 - 1)
+
+-- what two counts are together
+abbrev pub counted_with : Counts → Counts → Counts
+counted_with c d = record {
+  nodes = capped (c.nodes + d.nodes);
+  ways = capped (c.ways + d.ways);
+  relations = capped (c.relations + d.relations);
+}
+
+-- how many nodes, ways and relations there are
+abbrev pub counts_of : List EntitySpec → Counts
+counts_of es = record {
+  nodes = capped (sum_by nodes_of es);
+  ways = capped (sum_by ways_of es);
+  relations = capped (sum_by relations_of es);
+}
+
+-- one more
+abbrev pub count_one : Counts → EntitySpec → Counts
+count_one c (node n) = record c { nodes = capped (c.nodes + 1) }
+count_one c (way w) = record c { ways = capped (c.ways + 1) }
+count_one c (relation r) = record c { relations = capped (c.relations + 1) }

@@ -1,0 +1,124 @@
+//! How many entities there are.
+
+ghost use Rattle.std.specs.Prelude.{◌≡◌, ◌+◌, ◌≤◌, ◌^◌, [], length};
+ghost use Rattle.std.specs.List.{flat_map};
+ghost use Rattle.pbf_wire.specs.Fields.{occurrence};
+ghost use Rattle.pbf_wire.specs.Faults.{fields_in};
+ghost use Rattle.osm_entity.specs.Views.{entity_of};
+ghost use Rattle.pbf_block.specs.Members.{member_entities, group_entities, entities_by};
+ghost use Rattle.pbf_block.specs.Numbers.{counted_with, count_one, counts_of};
+ghost use Rattle.pbf_block.specs.Payload.{along};
+
+use crate::message::{DENSE, NODES, PRIMITIVEGROUP, RELATIONS, WAYS};
+use osm_entity::{EntityRef, Scale};
+use pbf_dense::Dense;
+use pbf_strings::Table;
+use pbf_wire::{Field, Fields, Payload};
+
+/// The numbers of nodes, ways and relations, each the greatest `u64` where there are more.
+#[derive(Clone, Copy, Debug, PartialEq, Eq)]
+pub struct Counts {
+    pub nodes: u64,
+    pub ways: u64,
+    pub relations: u64,
+}
+
+impl Counts {
+    /// Nothing is counted yet.
+    pub fn none() -> Counts
+        ensures { result ≡ counts_of [] }
+    {
+        Counts {
+            nodes: 0,
+            ways: 0,
+            relations: 0,
+        }
+    }
+
+    /// Counts one entity more.
+    pub fn take(&mut self, entity: &EntityRef<'_>)
+        ensures { self.new ≡ count_one self.old (entity_of entity.now) }
+    {
+        match entity {
+            EntityRef::Node(_) => self.nodes = self.nodes.saturating_add(1),
+            EntityRef::Way(_) => self.ways = self.ways.saturating_add(1),
+            EntityRef::Relation(_) => self.relations = self.relations.saturating_add(1),
+        }
+    }
+
+    /// Counts what the other counts.
+    pub fn add(&mut self, other: Counts)
+        ensures { self.new ≡ counted_with self.old other }
+    {
+        self.nodes = self.nodes.saturating_add(other.nodes);
+        self.ways = self.ways.saturating_add(other.ways);
+        self.relations = self.relations.saturating_add(other.relations);
+    }
+}
+
+/// Counts the entities of a field of a group. Of a dense message the ids and coordinates alone are gone through.
+fn count_member<'a>(field: Field<'a>, table: &'a Table<'a>, scale: Scale) -> Counts
+    ensures { result ≡ counts_of (member_entities along table.now scale (occurrence field.entry)) }
+{
+    let mut counts = Counts::none();
+    if let Payload::Bytes(message, at) = field.payload {
+        match field.number {
+            NODES => counts.nodes = 1,
+            DENSE => counts.nodes = Dense::over(message, at, table, scale).len(),
+            WAYS => counts.ways = 1,
+            RELATIONS => counts.relations = 1,
+            _ => {}
+        }
+    }
+    counts
+}
+
+/// Counts the entities of a group whose first byte stands at `at` in the file.
+#[tactic(auto, using(crate::proofs::NumberLemmas::counts_more, crate::proofs::NumberLemmas::counts_nothing))]
+fn count_group<'a>(message: &'a [u8], at: u64, table: &'a Table<'a>, scale: Scale) -> Counts
+    requires { at + length message.now ≤ 2 ^ 63 }
+    ensures { result ≡ counts_of (flat_map (member_entities along table.now scale) (fields_in at message.now)) }
+{
+    let mut counts = Counts::none();
+    for item in Fields::new(message, at) {
+        let Ok(field) = item else {
+            return counts;
+        };
+        counts.add(count_member(field, table, scale));
+    }
+    counts
+}
+
+/// Counts the entities of a field of the payload, which may be a group.
+fn count_part<'a>(field: Field<'a>, table: &'a Table<'a>, scale: Scale) -> Counts
+    ensures { result ≡ counts_of (group_entities along table.now scale (occurrence field.entry)) }
+{
+    if field.number != PRIMITIVEGROUP {
+        return Counts::none();
+    }
+    match field.payload {
+        Payload::Bytes(message, at) => count_group(message, at, table, scale),
+        _ => Counts::none(),
+    }
+}
+
+/// Counts the entities of a payload whose first byte stands at `at` in the file, whatever is wrong with it. No entity is made.
+#[tactic(auto, using(crate::proofs::NumberLemmas::counts_more, crate::proofs::NumberLemmas::counts_nothing))]
+pub(crate) fn count_entities<'a>(
+    payload: &'a [u8],
+    at: u64,
+    table: &'a Table<'a>,
+    scale: Scale,
+) -> Counts
+    requires { at + length payload.now ≤ 2 ^ 63 }
+    ensures { result ≡ counts_of (entities_by along table.now scale (fields_in at payload.now)) }
+{
+    let mut counts = Counts::none();
+    for item in Fields::new(payload, at) {
+        let Ok(field) = item else {
+            return counts;
+        };
+        counts.add(count_part(field, table, scale));
+    }
+    counts
+}
