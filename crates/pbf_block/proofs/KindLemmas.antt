@@ -36,7 +36,7 @@ kept_one kinds e false h = rw h refl
 choose : (p : EntitySpec → Bool) (is_node is_dense is_way is_relation nodes ways relations : Bool) (a b c d : List EntitySpec)
     → (if nodes then a else []) ≡ filter p a → (if nodes then b else []) ≡ filter p b → (if ways then c else []) ≡ filter p c → (if relations then d else []) ≡ filter p d
     → (if (if is_node then nodes else (if is_dense then nodes else (if is_way then ways else (if is_relation then relations else false)))) then (if is_node then a else (if is_dense then b else (if is_way then c else (if is_relation then d else [])))) else [])
-      ≡ filter p (if is_node then a else (if is_dense then b else (if is_way then c else (if is_relation then d else []))))
+    ≡ filter p (if is_node then a else (if is_dense then b else (if is_way then c else (if is_relation then d else []))))
 choose p true is_dense is_way is_relation nodes ways relations a b c d ha hb hc hd = ha
 choose p false true is_way is_relation nodes ways relations a b c d ha hb hc hd = hb
 choose p false false true is_relation nodes ways relations a b c d ha hb hc hd = hc

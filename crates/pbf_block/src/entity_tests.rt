@@ -1,6 +1,8 @@
 //! What no clause says of the reading of entities: values of known bytes.
 
+use crate::counts::{Counts, count_entities};
 use crate::entities::Entities;
+use crate::kinds::Kinds;
 use crate::node::node_in;
 use crate::relation::relation_in;
 use crate::scale::scale_in;
@@ -94,7 +96,7 @@ fn entities_in_order(rt: HostRuntime) -> Result<(), Fail> {
     let mut ids = Vec::new(rt.alloc());
     let mut weights = Vec::new(rt.alloc());
     let mut kinds = Vec::new(rt.alloc());
-    for entity in Entities::over(&payload, 0, &table, scale) {
+    for entity in Entities::over(&payload, 0, &table, scale, Kinds::all()) {
         ids.push(entity.id())?;
         weights.push(entity.weight())?;
         kinds.push(kind_of(entity))?;
@@ -110,6 +112,39 @@ fn entities_in_order(rt: HostRuntime) -> Result<(), Fail> {
         kinds.as_slice(),
         [node, node, way, way, node, node, relation].as_slice()
     );
+    Ok(())
+}
+
+/// Dense nodes and plain ones are passed over where only ways and relations are asked for.
+#[test]
+fn entities_of_some_kinds(rt: HostRuntime) -> Result<(), Fail> {
+    let payload = payload(rt.alloc())?;
+    let table = table_in(&rt, rt.alloc());
+    let kinds = Kinds {
+        nodes: false,
+        ways: true,
+        relations: true,
+    };
+    let mut ids = Vec::new(rt.alloc());
+    for entity in Entities::over(&payload, 0, &table, SCALE, kinds) {
+        ids.push(entity.id())?;
+    }
+    assert_eq!(rt; ids.as_slice(), [-9, 10, 12].as_slice());
+    Ok(())
+}
+
+/// The second dense message has ids alone, and so no node.
+#[test]
+fn numbers_of_entities(rt: HostRuntime) -> Result<(), Fail> {
+    let mut payload = payload(rt.alloc())?;
+    put_bytes(&mut payload, 2, b"\x12\x03\x0a\x01\x02")?;
+    let table = table_in(&rt, rt.alloc());
+    let counts = Counts {
+        nodes: 4,
+        ways: 2,
+        relations: 1,
+    };
+    assert_eq!(rt; count_entities(&payload, 0, &table, SCALE), counts);
     Ok(())
 }
 
