@@ -339,8 +339,8 @@ module _ {S H : Type 0} where
   only_none b (e ∷ es) h k = absurd (omega (arith, h.count, k.count))
 
   -- what it holds
-  pub held_light : (b : Block S H) → IsOpen b → block_held b ≤ 24000000
-  held_light b o =
+  pub held_bounded : (b : Block S H) → IsOpen b → block_held b ≤ 28000000
+  held_bounded b o =
       let es = o.entities in
       let h = o.held in
       let texts = ap (λ (ts : List (List ℕ)). sum_by text_held ts) h.texts in

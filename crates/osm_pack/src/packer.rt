@@ -176,6 +176,13 @@ impl<D: Drain, S: BuildHasher> Packer<D, S> {
         self.block.held()
     }
 
+    /// What is held is bounded, whatever was called before. This does nothing: it is a law, called where a proof needs it.
+    pub fn held_is_bounded(&self)
+        ensures { packer_held self.now ≤ 28000000 }
+    {
+        let _block = &self.block;
+    }
+
     /// Gives the drain back. Entities that wait are not written: this is for use behind [`Packer::finish`], or after a stop.
     pub fn into_drain(self) -> D
     where
