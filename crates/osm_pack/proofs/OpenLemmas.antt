@@ -8,7 +8,7 @@ use Rattle.std.proofs.lemmas.List.Sums.{sum_by_push, sum_by-cons}
 use Rattle.std.proofs.Math.Bool.{and-true}
 use Rattle.pbf_wire.specs.Message.{Each, slot_bytes, message, unless_empty}
 use Rattle.pbf_wire.proofs.WritingLemmas.{each_none, each_joined, message_first, message_one}
-use Rattle.pbf_strings.specs.TableOut.{texts_after, table_message}
+use Rattle.pbf_strings.specs.TableOut.{texts_after, table_message, text_held}
 use Rattle.pbf_strings.proofs.UsedTexts.{after_both, used_later, length_after}
 use Rattle.osm_entity.specs.Entity.{NodeSpec, WaySpec, RelationSpec, EntitySpec, node, way, relation}
 use Rattle.osm_entity.specs.EntityTexts.{node_texts, way_texts, relation_texts, entity_texts}
@@ -16,12 +16,13 @@ use Rattle.osm_entity.specs.Ranges.{EntityFits}
 use Rattle.osm_entity.specs.Weight.{entity_weight}
 use Rattle.osm_entity.proofs.TextCounts.{node_count, way_count, relation_count}
 use Rattle.pbf_dense.specs.declared.dense_out.DenseOut.{DenseOut}
-use Rattle.pbf_dense.specs.WrittenDense.{HoldsNodes, columns_of, dense_message, info_message}
+use Rattle.pbf_dense.specs.WrittenDense.{HoldsNodes, columns_of, dense_message, info_message, dense_length}
 use Rattle.pbf_block.specs.WrittenBlock.{are_alike, is_block, nodes_among, ways_among, relations_among, texts_of_all, messages_among, group_message, scale_among, block_slots, block_message}
-use Rattle.pbf_block.specs.WrittenEntity.{way_message, relation_message}
+use Rattle.pbf_block.specs.WrittenEntity.{way_message, relation_message, writer_length}
+use Rattle.pbf_block.proofs.LengthLaw.{open_short}
 use Rattle.osm_pack.specs.declared.block.Block.{Block}
 use Rattle.osm_pack.specs.Sorts.{sort_of, same_sort, is_like}
-use Rattle.osm_pack.specs.Open.{sort_among, Holds, Encodes}
+use Rattle.osm_pack.specs.Open.{sort_among, Holds, IsOpen, Encodes, block_held}
 use Rattle.osm_pack.proofs.CutLemmas.{like_first, joins, both, kept_parts, kept_bounds, kept_none, kept_one}
 
 -- ---- sorts
@@ -224,8 +225,8 @@ pub exact : (e : EntitySpec) (n : ℕ) → EntityFits e → n ≡ min (entity_we
 exact e n h m = let l = light e h in omega (arith, m, l)
 
 module _ {S H : Type 0} where
-  pub none_held : (b : Block S H) → b.sort ≡ None → b.count ≡ 0 → b.weight ≡ 0 → b.texts ≡ [] → ((texts : List (List ℕ)) → HoldsNodes b.nodes texts []) → b.group.items ≡ [] → Holds b []
-  none_held b s n w t d g = record { block = kept_none; sort = s; count = n; weight = w; texts = t; nodes = d []; messages = λ used. g ∙ sym (no_messages (texts_after [] used)) }
+  pub none_held : (b : Block S H) → b.sort ≡ None → b.count ≡ 0 → b.weight ≡ 0 → b.texts ≡ [] → ((texts : List (List ℕ)) → HoldsNodes b.nodes texts []) → b.group.items ≡ [] → writer_length b.writer ≡ 0 → Holds b []
+  none_held b s n w t d g e = record { block = kept_none; sort = s; count = n; weight = w; texts = t; nodes = d []; messages = λ used. g ∙ sym (no_messages (texts_after [] used)); writer = e }
 
   pub record Kept (old new : Block S H) : Type 0 where
     pub sort : new.sort ≡ old.sort
@@ -243,8 +244,8 @@ module _ {S H : Type 0} where
 
   pub node_encoded : (old new : Block S H) (es : List EntitySpec) (n : NodeSpec) → Holds old es → Kept old new
       → new.texts ≡ texts_after old.texts (node_texts n) → ((ns : List NodeSpec) → HoldsNodes old.nodes old.texts ns → HoldsNodes new.nodes new.texts (ns ++ n ∷ [])) → new.group ≡ old.group
-      → Encodes old new es (node n)
-  node_encoded old new es n h k t d g =
+      → new.writer ≡ old.writer → Encodes old new es (node n)
+  node_encoded old new es n h k t d g e =
       let now = used_now old new es (node n) h t in
       record {
         sort = k.sort;
@@ -254,12 +255,13 @@ module _ {S H : Type 0} where
         nodes = subst (λ ts. HoldsNodes new.nodes ts (nodes_among (es ++ node n ∷ []))) now
             (subst (λ ns. HoldsNodes new.nodes new.texts ns) (sym (nodes_node es n)) (d (nodes_among es) (subst (λ ts. HoldsNodes old.nodes ts (nodes_among es)) (sym h.texts) h.nodes)));
         messages = λ used. ap (λ g. g.items) g ∙ (messages_now old es (node n) used h ∙ messages_node _ es n);
+        writer = ap writer_length e ∙ h.writer;
       }
 
   pub way_encoded : (old new : Block S H) (es : List EntitySpec) (w : WaySpec) → Holds old es → Kept old new → is_block (es ++ way w ∷ []) ≡ true
       → new.texts ≡ texts_after old.texts (way_texts w) → new.nodes ≡ old.nodes → ((used : List (List ℕ)) → new.group.items ≡ old.group.items ++ slot_bytes (Each 3 (way_message (texts_after new.texts used) w ∷ [])))
-      → Encodes old new es (way w)
-  way_encoded old new es w h k join t d g =
+      → writer_length new.writer ≡ 0 → Encodes old new es (way w)
+  way_encoded old new es w h k join t d g e =
       let now = used_now old new es (way w) h t in
       record {
         sort = k.sort;
@@ -271,12 +273,13 @@ module _ {S H : Type 0} where
             g used ∙ (ap (λ ts. old.group.items ++ slot_bytes (Each 3 (way_message (texts_after ts used) w ∷ []))) now
             ∙ (ap (λ (bs : List ℕ). bs ++ slot_bytes (Each 3 (way_message (texts_after (texts_of_all (es ++ way w ∷ [])) used) w ∷ []))) (messages_now old es (way w) used h)
             ∙ messages_way _ es w (before_way es w h.block join)));
+        writer = e;
       }
 
   pub relation_encoded : (old new : Block S H) (es : List EntitySpec) (r : RelationSpec) → Holds old es → Kept old new
       → new.texts ≡ texts_after old.texts (relation_texts r) → new.nodes ≡ old.nodes → ((used : List (List ℕ)) → new.group.items ≡ old.group.items ++ slot_bytes (Each 4 (relation_message (texts_after new.texts used) r ∷ [])))
-      → Encodes old new es (relation r)
-  relation_encoded old new es r h k t d g =
+      → writer_length new.writer ≡ 0 → Encodes old new es (relation r)
+  relation_encoded old new es r h k t d g e =
       let now = used_now old new es (relation r) h t in
       record {
         sort = k.sort;
@@ -288,13 +291,14 @@ module _ {S H : Type 0} where
             g used ∙ (ap (λ ts. old.group.items ++ slot_bytes (Each 4 (relation_message (texts_after ts used) r ∷ []))) now
             ∙ (ap (λ (bs : List ℕ). bs ++ slot_bytes (Each 4 (relation_message (texts_after (texts_of_all (es ++ relation r ∷ [])) used) r ∷ []))) (messages_now old es (relation r) used h)
             ∙ messages_relation _ es r));
+        writer = e;
       }
 
   -- an entity that is encoded and counted
   pub added : (old new block : Block S H) (es : List EntitySpec) (e : EntitySpec) → Holds old es → is_block (es ++ e ∷ []) ≡ true → Encodes old new es e
-      → block.sort ≡ Some (unwrap_or new.sort (sort_of e)) → block.count ≡ new.count + 1 → block.weight ≡ new.weight + entity_weight e → block.texts ≡ new.texts → block.nodes ≡ new.nodes → block.group ≡ new.group
+      → block.sort ≡ Some (unwrap_or new.sort (sort_of e)) → block.count ≡ new.count + 1 → block.weight ≡ new.weight + entity_weight e → block.texts ≡ new.texts → block.nodes ≡ new.nodes → block.group ≡ new.group → block.writer ≡ new.writer
       → Holds block (es ++ e ∷ [])
-  added old new block es e h join n s c w t d g = record {
+  added old new block es e h join n s c w t d g r = record {
     block = join;
     sort = s ∙ (ap (λ o. Some (unwrap_or o (sort_of e))) (n.sort ∙ h.sort) ∙ sym (sort_push es e));
     count = c ∙ (ap (λ k. k + 1) (n.count ∙ h.count) ∙ sym (length_push es e));
@@ -302,6 +306,7 @@ module _ {S H : Type 0} where
     texts = t ∙ n.texts;
     nodes = subst (λ out. HoldsNodes out (texts_of_all (es ++ e ∷ [])) (nodes_among (es ++ e ∷ []))) (sym d) n.nodes;
     messages = λ used. ap (λ g. g.items) g ∙ n.messages used;
+    writer = ap writer_length r ∙ n.writer;
   }
 
   pub room_held : (b : Block S H) (es : List EntitySpec) (e : EntitySpec) → Holds b es → is_block (es ++ e ∷ []) ≡ true → length b.texts + length (entity_texts e) ≤ 1048575
@@ -332,3 +337,13 @@ module _ {S H : Type 0} where
   pub only_none : (b : Block S H) (es : List EntitySpec) → Holds b [] → Holds b es → es ≡ []
   only_none b [] h k = refl
   only_none b (e ∷ es) h k = absurd (omega (arith, h.count, k.count))
+
+  -- what it holds
+  pub held_bounded : (b : Block S H) → IsOpen b → block_held b ≤ 28000000
+  held_bounded b o =
+      let es = o.entities in
+      let h = o.held in
+      let texts = ap (λ (ts : List (List ℕ)). sum_by text_held ts) h.texts in
+      let columns = ap dense_length (h.nodes.columns []) in
+      let messages = ap (λ (bs : List ℕ). length bs) (h.messages []) in
+      omega (arith, texts, columns, messages, h.writer, open_short (texts_of_all es) es, (kept_bounds es h.block).1)

@@ -1,11 +1,12 @@
 -- The block that is open: what it holds of its entities.
-use Rattle.std.specs.Prelude.{◌≡◌, ℕ, List, [], ◌∷◌, ◌++◌, length, true, Option, Some, None}
+use Rattle.std.specs.Prelude.{◌≡◌, ℕ, ◌+◌, List, [], ◌∷◌, ◌++◌, length, true, Option, Some, None}
 use Rattle.std.specs.List.{sum_by}
-use Rattle.pbf_strings.specs.TableOut.{texts_after}
+use Rattle.pbf_strings.specs.TableOut.{texts_after, text_held}
 use Rattle.osm_entity.specs.Entity.{EntitySpec}
 use Rattle.osm_entity.specs.Weight.{entity_weight}
-use Rattle.pbf_dense.specs.WrittenDense.{HoldsNodes}
+use Rattle.pbf_dense.specs.WrittenDense.{HoldsNodes, columns_held, dense_length}
 use Rattle.pbf_block.specs.WrittenBlock.{is_block, texts_of_all, nodes_among, messages_among}
+use Rattle.pbf_block.specs.WrittenEntity.{writer_length}
 use Rattle.osm_pack.specs.declared.block.Block.{Block}
 use Rattle.osm_pack.specs.declared.sort.Sort.{Sort}
 use Rattle.osm_pack.specs.Sorts.{sort_of}
@@ -15,7 +16,8 @@ abbrev pub sort_among : List EntitySpec → Option Sort
 sort_among [] = None
 sort_among (e ∷ es) = Some (sort_of e)
 
--- its fields are those of these entities, which may stand in one block, whatever texts are used later
+-- its fields are those of these entities, which may stand in one block, whatever texts are used later; of none of them does
+-- anything stay in the writer
 pub record Holds {S H : Type 0} (b : Block S H) (es : List EntitySpec) : Type 0 where
   pub block : is_block es ≡ true
   pub sort : b.sort ≡ sort_among es
@@ -24,6 +26,7 @@ pub record Holds {S H : Type 0} (b : Block S H) (es : List EntitySpec) : Type 0 
   pub texts : b.texts ≡ texts_of_all es
   pub nodes : HoldsNodes b.nodes (texts_of_all es) (nodes_among es)
   pub messages : (used : List (List ℕ)) → b.group.items ≡ messages_among (texts_after (texts_of_all es) used) es
+  pub writer : writer_length b.writer ≡ 0
 
 -- it is open: these are its entities, for some
 pub record IsOpen {S H : Type 0} (b : Block S H) : Type 0 where
@@ -38,3 +41,8 @@ pub record Encodes {S H : Type 0} (old new : Block S H) (es : List EntitySpec) (
   pub texts : new.texts ≡ texts_of_all (es ++ e ∷ [])
   pub nodes : HoldsNodes new.nodes (texts_of_all (es ++ e ∷ [])) (nodes_among (es ++ e ∷ []))
   pub messages : (used : List (List ℕ)) → new.group.items ≡ messages_among (texts_after (texts_of_all (es ++ e ∷ [])) used) (es ++ e ∷ [])
+  pub writer : writer_length new.writer ≡ 0
+
+-- the bytes that it holds: the lengths of its texts, its columns and its messages, and four for each text
+abbrev pub block_held : {S H : Type 0} → Block S H → ℕ
+block_held b = sum_by text_held b.texts + dense_length (columns_held b.nodes) + length b.group.items + writer_length b.writer

@@ -1,8 +1,8 @@
 -- A packer, as contracts see it.
-use Rattle.std.specs.Prelude.{◌≡◌, Bool, List, Option, Some, None}
+use Rattle.std.specs.Prelude.{◌≡◌, ℕ, Bool, List, Option, Some, None}
 use Rattle.osm_entity.specs.Entity.{EntitySpec}
 use Rattle.pbf_frame.specs.declared.stop.Stop.{Stop}
-use Rattle.osm_pack.specs.Open.{Holds}
+use Rattle.osm_pack.specs.Open.{Holds, block_held}
 use Rattle.osm_pack.specs.declared.block.Block.{Block}
 
 -- the drain behind the frames that are written, the block that is open, whether a header was put, and why it stopped
@@ -27,3 +27,7 @@ HasStopped packer stop = packer.stop ≡ Some stop
 -- whether a header was put
 abbrev pub has_header : {D S H : Type 0} → Packing D S H → Bool
 has_header packer = packer.begun
+
+-- the bytes that it holds: those of its block, since no other field has any
+abbrev pub packer_held : {D S H : Type 0} → Packing D S H → ℕ
+packer_held packer = block_held packer.block

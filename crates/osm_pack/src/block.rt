@@ -1,12 +1,12 @@
 //! The block that is open.
 
-ghost use Rattle.std.specs.Prelude.{◌≡◌, ◌↔◌, ◌+◌, ◌≤◌, ◌<◌, ◌&&◌, ◌++◌, ◌∷◌, [], List, true, nat_le, length, map, IsTrue, IfOk, OnOk, Option, Some, None, MatchOption};
+ghost use Rattle.std.specs.Prelude.{◌≡◌, ◌↔◌, ◌+◌, ◌-◌, ◌≤◌, ◌<◌, ◌^◌, min, ◌&&◌, ◌++◌, ◌∷◌, [], List, true, nat_le, length, map, IsTrue, IfOk, OnOk, Option, Some, None, MatchOption};
 ghost use Rattle.osm_entity.specs.Entity.{EntitySpec, node, way, relation};
 ghost use Rattle.osm_entity.specs.Ranges.{EntityFits};
 ghost use Rattle.osm_entity.specs.Views.{entity_of};
 ghost use Rattle.osm_entity.specs.Weight.{entity_weight};
 ghost use Rattle.pbf_block.specs.WrittenBlock.{is_block, block_message, scale_among};
-ghost use Rattle.osm_pack.specs.Open.{Holds, IsOpen, Encodes};
+ghost use Rattle.osm_pack.specs.Open.{Holds, IsOpen, Encodes, block_held};
 ghost use Rattle.osm_pack.specs.Sorts.{sort_of, is_like};
 
 use crate::sort::Sort;
@@ -78,6 +78,7 @@ impl<S: BuildHasher> Block<S> {
         self.texts.clear();
         self.nodes = DenseOut::new(alloc);
         self.group.clear();
+        self.writer.clear();
     }
 
     /// Whether there are no entities.
@@ -152,6 +153,18 @@ impl<S: BuildHasher> Block<S> {
             Some(sort) => sort.scale,
             None => DEFAULT_SCALE,
         }
+    }
+
+    /// How many bytes the texts, columns and messages hold, four for each text with them, or the greatest number where they
+    /// are more.
+    pub(crate) fn held(&self) -> u64
+        ensures { result ≡ min (block_held self.now) (2 ^ 64 - 1) }
+    {
+        self.texts
+            .held()
+            .saturating_add(self.nodes.held())
+            .saturating_add(self.group.len() as u64)
+            .saturating_add(self.writer.held())
     }
 
     /// The PrimitiveBlock of the entities, which are taken out. After an `Err` the block has no stated content.

@@ -47,7 +47,7 @@ impl<D: Drain, S: BuildHasher> Packer<D, S> {
     ghost use Rattle.pbf_frame.specs.Devices.{append, IsFront};
     ghost use Rattle.osm_pack.specs.Cuts.{header_frame, then_pending, then_written, at_end};
     ghost use Rattle.osm_pack.specs.Stops.{IsPackStop};
-    ghost use Rattle.osm_pack.specs.Packing.{Pending, IsPacking, HasStopped, has_header};
+    ghost use Rattle.osm_pack.specs.Packing.{Pending, IsPacking, HasStopped, has_header, packer_held};
 
     /// A packer over a drain. Strangers choose the texts of a file, so the hasher should be seeded.
     pub fn new(alloc: Global, drain: D, hasher: S) -> Packer<D, S>
@@ -165,6 +165,22 @@ impl<D: Drain, S: BuildHasher> Packer<D, S> {
             self.block.clear(self.alloc);
         }
         outcome
+    }
+
+    /// The bytes held for the entities that wait: the lengths of their columns, messages and texts, and four for each text. While
+    /// a block is written its bytes are put together beside that; they are a local of the call.
+    pub fn held(&self) -> u64
+        ensures value { result ≡ packer_held self.now }
+        ensures bound { result ≤ 28000000 }
+    {
+        self.block.held()
+    }
+
+    /// What is held is bounded, whatever was called before. This does nothing: it is a law, called where a proof needs it.
+    pub fn held_is_bounded(&self)
+        ensures { packer_held self.now ≤ 28000000 }
+    {
+        let _block = &self.block;
     }
 
     /// Gives the drain back. Entities that wait are not written: this is for use behind [`Packer::finish`], or after a stop.

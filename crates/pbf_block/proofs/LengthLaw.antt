@@ -1,25 +1,26 @@
--- A written block is no longer than twice its weight and a little more.
+-- A written block is no longer than twice its weight and a little more, and what is held of it while it is open no longer than that.
 use Rattle.std.proofs.Common.{◌≡◌, ℕ, suc, ◌+◌, ◌*◌, ◌^◌, ◌<◌, ◌≤◌, ◌&&◌, Bool, true, false, cond, ℤ, pos, List, [], ◌∷◌, ◌++◌, length, map, Option, Some, None, arith, length-append}
 use Rattle.std.specs.Prelude.{nat_le}
-use Rattle.std.specs.List.{flat_map, filter_map, cons_option, list_any, sum_by}
+use Rattle.std.specs.List.{flat_map, filter_map, cons_option, sum_by}
 use Rattle.std.specs.Option.{option_map, option_to_list}
 use Rattle.std.proofs.lemmas.Bool.{leb-true, and_parts}
 use Rattle.std.proofs.lemmas.List.{length-map}
 use Rattle.std.proofs.lemmas.List.Sums.{sum_by-cons}
 use Rattle.pbf_wire.specs.Columns.{packed}
-use Rattle.pbf_wire.specs.Message.{Each, message, unless_empty}
+use Rattle.pbf_wire.specs.Message.{Each, slot_bytes, message, unless_empty}
 use Rattle.pbf_wire.specs.Signed.{sign_extended}
 use Rattle.pbf_wire.specs.Sums.{deltas}
-use Rattle.pbf_strings.specs.TableOut.{has_text, with_text, texts_after, index_in, table_of}
+use Rattle.pbf_strings.specs.TableOut.{has_text, with_text, texts_after, index_in, table_of, text_held}
 use Rattle.osm_entity.specs.Entity.{TagSpec, MetaSpec, MemberSpec, NodeSpec, WaySpec, RelationSpec, EntitySpec, node, way, relation}
 use Rattle.osm_entity.specs.EntityTexts.{tag_texts, node_texts, way_texts, relation_texts, entity_texts}
 use Rattle.osm_entity.specs.Weight.{tags_weight, members_weight, text_weight, node_weight, way_weight, relation_weight, entity_weight}
 use Rattle.osm_entity.specs.Ranges.{WayFits, RelationFits}
-use Rattle.pbf_dense.specs.WrittenDense.{bit_of, tag_numbers, run_of, has_tag, info_columns, info_slots as dense_info_slots, info_message as dense_info_message, columns_of, dense_slots, dense_message}
+use Rattle.pbf_dense.specs.Info.{InfoSpec}
+use Rattle.pbf_dense.specs.WrittenDense.{bit_of, tag_numbers, run_of, info_columns, info_slots as dense_info_slots, info_message as dense_info_message, columns_of, dense_slots, dense_message, info_length, dense_length}
 use Rattle.pbf_dense.proofs.InfoLaw.{deltas_length}
 use Rattle.pbf_block.specs.WrittenEntity.{key_index, value_index, role_index, kind_number, info_slots, info_message, way_slots, way_message, relation_slots, relation_message}
-use Rattle.pbf_block.specs.WrittenBlock.{all_alike, is_block, nodes_among, ways_among, relations_among, group_slots, group_message, block_slots, scale_among, texts_of_all, block_message}
-use Rattle.pbf_block.proofs.RoomLemmas.{packed_short, each_room, message_short}
+use Rattle.pbf_block.specs.WrittenBlock.{all_alike, is_block, nodes_among, ways_among, relations_among, group_slots, group_message, block_slots, scale_among, texts_of_all, messages_among, block_message}
+use Rattle.pbf_block.proofs.RoomLemmas.{packed_short, each_room, each_short, message_short}
 
 -- ---- parts
 
@@ -140,17 +141,20 @@ numbers_room f metas = omega (arith, packed_short (filter_map f metas), filter_s
 sums_room : (f : MetaSpec → Option ℤ) (metas : List MetaSpec) → length (packed (deltas (filter_map f metas))) ≤ 10 * length metas
 sums_room f metas = omega (arith, packed_short (deltas (filter_map f metas)), deltas_length (filter_map f metas), filter_short f metas)
 
-infos_room : (texts : List (List ℕ)) (metas : List MetaSpec) → each_room (unless_empty (dense_info_message (info_columns texts metas))) ≤ 140 + 60 * length metas
-unfolding dense_info_message
-infos_room texts metas =
+-- the columns of metadata
+info_columns_room : (texts : List (List ℕ)) (metas : List MetaSpec) → info_length (info_columns texts metas) ≤ 60 * length metas
+info_columns_room texts metas =
     let versions = numbers_room (λ m. option_map sign_extended m.version) metas in
     let timestamps = sums_room (λ m. m.timestamp) metas in
     let changesets = sums_room (λ m. m.changeset) metas in
     let uids = sums_room (λ m. m.uid) metas in
     let users = sums_room (λ m. option_map (λ text. pos (index_in texts text)) m.user) metas in
     let visible = numbers_room (λ m. option_map bit_of m.visible) metas in
-    let slots = dense_info_slots (info_columns texts metas) in
-    omega (arith, unless_room (message slots), message_short slots, versions, timestamps, changesets, uids, users, visible)
+    omega (arith, versions, timestamps, changesets, uids, users, visible)
+
+infos_room : (info : InfoSpec) → each_room (unless_empty (dense_info_message info)) ≤ 140 + info_length info
+unfolding dense_info_message
+infos_room info = omega (arith, unless_room (message (dense_info_slots info)), message_short (dense_info_slots info))
 
 abbrev tag_count : List NodeSpec → ℕ
 tag_count [] = 0
@@ -166,22 +170,28 @@ runs_long texts (n ∷ ns) =
     let rest = runs_long texts ns in
     omega (arith, length-append (run_of texts n.tags) (flat_map (λ n. run_of texts n.tags) ns), length-append (tag_numbers texts n.tags) (0 ∷ []), numbers_long texts n.tags, rest)
 
-runs_room : (tagged : Bool) (runs : List ℕ) → length (packed (cond tagged runs [])) ≤ 10 * length runs
-runs_room true runs = packed_short runs
+runs_room : (tagged : Bool) (runs : List ℕ) → length (packed (cond tagged runs [])) ≤ length (packed runs)
+runs_room true runs = omega arith
 runs_room false runs = omega arith
 
 column_room : (f : NodeSpec → ℤ) (ns : List NodeSpec) → length (packed (deltas (map f ns))) ≤ 10 * length ns
 column_room f ns = omega (arith, packed_short (deltas (map f ns)), deltas_length (map f ns), length-map ns f)
 
-dense_room : (texts : List (List ℕ)) (ns : List NodeSpec) → length (dense_message texts ns) ≤ 220 + 100 * length ns + 20 * tag_count ns
-unfolding dense_message
-dense_room texts ns =
+-- all columns
+columns_room : (texts : List (List ℕ)) (ns : List NodeSpec) → dense_length (columns_of texts ns) ≤ 100 * length ns + 20 * tag_count ns
+columns_room texts ns =
     let ids = column_room (λ n. n.id) ns in
     let lats = column_room (λ n. n.lat) ns in
     let lons = column_room (λ n. n.lon) ns in
-    let infos = infos_room texts (map (λ n. n.meta) ns) in
-    let runs = runs_room (list_any has_tag ns) (flat_map (λ n. run_of texts n.tags) ns) in
-    omega (arith, message_short (dense_slots (columns_of texts ns)), ids, lats, lons, infos, length-map ns (λ n. n.meta), runs, runs_long texts ns)
+    let infos = info_columns_room texts (map (λ n. n.meta) ns) in
+    let runs = packed_short (flat_map (λ n. run_of texts n.tags) ns) in
+    omega (arith, ids, lats, lons, infos, length-map ns (λ n. n.meta), runs, runs_long texts ns)
+
+dense_room : (texts : List (List ℕ)) (ns : List NodeSpec) → length (dense_message texts ns) ≤ 220 + 100 * length ns + 20 * tag_count ns
+unfolding dense_message
+dense_room texts ns =
+    let columns = columns_of texts ns in
+    omega (arith, message_short (dense_slots columns), infos_room columns.info, runs_room columns.tagged columns.runs, columns_room texts ns)
 
 -- ---- the block
 
@@ -224,6 +234,24 @@ block_fits es h =
     let few = (and_parts (all_alike es) (nat_le (length es) 8000 && nat_le (sum_by entity_weight es) 12000000) h).1 in
     let light = leb-true _ _ (and_parts (nat_le (length es) 8000) (nat_le (sum_by entity_weight es) 12000000) few).1 in
     omega (arith, light, block_short es)
+
+-- ---- a block that is open
+
+texts_room : (texts : List (List ℕ)) → sum_by text_held texts ≤ each_room texts
+texts_room [] = omega arith
+texts_room (text ∷ texts) = let rest = texts_room texts in omega (arith, rest, sum_by-cons text_held text texts)
+
+messages_room : (texts : List (List ℕ)) (es : List EntitySpec) → length (messages_among texts es) ≤ each_room (map (way_message texts) (ways_among es)) + each_room (map (relation_message texts) (relations_among es))
+unfolding slot_bytes
+messages_room texts es =
+    let ways = map (way_message texts) (ways_among es) in
+    let relations = map (relation_message texts) (relations_among es) in
+    omega (arith, length-append (slot_bytes (Each 3 ways)) (slot_bytes (Each 4 relations)), each_short 3 ways, each_short 4 relations)
+
+-- the texts of its entities, the columns of its nodes and the messages of the others are no longer than twice its weight
+pub open_short : (texts : List (List ℕ)) (es : List EntitySpec) → sum_by text_held (texts_of_all es) + dense_length (columns_of texts (nodes_among es)) + length (messages_among texts es) ≤ 2 * sum_by entity_weight es
+open_short texts es =
+    omega (arith, texts_room (texts_of_all es), after_room [] (flat_map entity_texts es), columns_room texts (nodes_among es), messages_room texts es, parts_room texts es)
 
 -- ---- entities that fit
 

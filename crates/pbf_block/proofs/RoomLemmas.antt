@@ -46,7 +46,7 @@ abbrev pub room : List Slot → ℕ
 room [] = 0
 room (s ∷ slots) = slot_room s + room slots
 
-each_short : (number : ℕ) (ms : List (List ℕ)) → length (written (map (Whole number) ms)) ≤ each_room ms
+pub each_short : (number : ℕ) (ms : List (List ℕ)) → length (written (map (Whole number) ms)) ≤ each_room ms
 each_short number [] = omega arith
 each_short number (m ∷ ms) = omega (arith, length-append (spelling (Whole number m)) (written (map (Whole number) ms)), whole_short number m, each_short number ms)
 

@@ -1,7 +1,8 @@
 -- Ways and relations as they are written, each a message of its own. Indexes are those in a table that has all texts of the
 -- entity: the one before it was written, with its texts used in order, or any later one.
-use Rattle.std.specs.Prelude.{ℕ, ℤ, List, [], ◌∷◌, Some, map}
+use Rattle.std.specs.Prelude.{ℕ, ◌+◌, ℤ, List, [], ◌∷◌, Some, length, map}
 use Rattle.std.specs.Option.{option_map}
+use Rattle.pbf_wire.specs.Columns.{packed}
 use Rattle.pbf_wire.specs.Message.{Slot, Scalar, Column, Each, message, unless_empty}
 use Rattle.pbf_wire.specs.Signed.{sign_extended}
 use Rattle.pbf_wire.specs.Sums.{deltas}
@@ -10,6 +11,7 @@ use Rattle.osm_entity.specs.declared.member.MemberKind.{MemberKind}
 use Rattle.osm_entity.specs.declared.member.MemberKind.TheVariants as kind
 use Rattle.osm_entity.specs.Entity.{TagSpec, MetaSpec, MemberSpec, WaySpec, RelationSpec}
 use Rattle.pbf_dense.specs.WrittenDense.{bit_of}
+use Rattle.pbf_block.specs.declared.entity_out.EntityOut.{EntityOut}
 use Rattle.pbf_block.specs.declared.message.TheConstants.{ID, KEYS, VALS, INFO, REFS, WAY_LAT, WAY_LON, ROLES_SID, MEMIDS, TYPES, VERSION, TIMESTAMP, CHANGESET, UID, USER_SID, VISIBLE}
 
 -- ---- what ways and relations have alike
@@ -76,3 +78,12 @@ relation_slots texts r =
 
 unfoldable pub relation_message : List (List ℕ) → RelationSpec → List ℕ
 relation_message texts r = message (relation_slots texts r)
+
+-- ---- as the code has them
+
+-- the lengths of a writer's columns and messages
+abbrev pub writer_length : EntityOut → ℕ
+writer_length out =
+    length (packed out.keys) + length (packed out.values) + length out.info.items
+    + length (packed (deltas out.refs)) + length (packed (deltas out.lats)) + length (packed (deltas out.lons))
+    + length (packed out.roles) + length (packed (deltas out.members)) + length (packed out.kinds) + length out.message.items

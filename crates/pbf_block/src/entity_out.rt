@@ -1,6 +1,6 @@
 //! Ways and relations, written.
 
-ghost use Rattle.std.specs.Prelude.{◌≡◌, ◌++◌, ◌∷◌, [], ◌+◌, ◌≤◌, ℕ, List, OnOk, length, map};
+ghost use Rattle.std.specs.Prelude.{◌≡◌, ◌++◌, ◌∷◌, [], ◌+◌, ◌-◌, ◌≤◌, ◌<◌, ◌^◌, min, ℕ, List, OnOk, length, map};
 ghost use Rattle.std.specs.Option.{option_to_list};
 ghost use Rattle.pbf_wire.specs.Message.{Each, slot_bytes, message};
 ghost use Rattle.pbf_strings.specs.TableOut.{texts_after};
@@ -8,7 +8,7 @@ ghost use Rattle.osm_entity.specs.EntityTexts.{tag_texts, way_texts, relation_te
 ghost use Rattle.osm_entity.specs.Ranges.{WayFits, RelationFits};
 ghost use Rattle.osm_entity.specs.Sources.{tags_left};
 ghost use Rattle.osm_entity.specs.Views.{meta_of, way_of, relation_of};
-ghost use Rattle.pbf_block.specs.WrittenEntity.{entity_slots, way_message, relation_message};
+ghost use Rattle.pbf_block.specs.WrittenEntity.{entity_slots, way_message, relation_message, writer_length};
 
 use crate::entity_write::{
     put_head, put_info, put_locations, put_members, put_refs, put_roles, put_tags,
@@ -21,7 +21,7 @@ use std::alloc::{AllocError, Global};
 use std::hash::BuildHasher;
 
 /// What writes ways and relations, each as a field of a group. It keeps the columns and the message of an entity while that is
-/// written, so that the next one is written into the same room; nothing of an entity stays.
+/// written, and takes them out then: the next one is written into the same room.
 #[derive(Drop)]
 pub struct EntityOut {
     keys: ColumnOut,
@@ -38,7 +38,9 @@ pub struct EntityOut {
 
 impl EntityOut {
     /// It takes no memory yet.
-    pub fn new(alloc: Global) -> EntityOut {
+    pub fn new(alloc: Global) -> EntityOut
+        ensures { writer_length result ≡ 0 }
+    {
         EntityOut {
             keys: ColumnOut::new(alloc),
             values: ColumnOut::new(alloc),
@@ -51,6 +53,39 @@ impl EntityOut {
             kinds: ColumnOut::new(alloc),
             message: Vec::new(alloc),
         }
+    }
+
+    /// Takes all of an entity out and keeps the room, also where writing it failed.
+    pub fn clear(&mut self)
+        ensures { writer_length self.new ≡ 0 }
+    {
+        self.keys.clear();
+        self.values.clear();
+        self.info.clear();
+        self.refs.clear();
+        self.lats.clear();
+        self.lons.clear();
+        self.roles.clear();
+        self.members.clear();
+        self.kinds.clear();
+        self.message.clear();
+    }
+
+    /// How many bytes the columns and messages hold, or the greatest number where they are more.
+    pub fn held(&self) -> u64
+        ensures { result ≡ min (writer_length self.now) (2 ^ 64 - 1) }
+    {
+        self.keys
+            .held()
+            .saturating_add(self.values.held())
+            .saturating_add(self.info.len() as u64)
+            .saturating_add(self.refs.held())
+            .saturating_add(self.lats.held())
+            .saturating_add(self.lons.held())
+            .saturating_add(self.roles.held())
+            .saturating_add(self.members.held())
+            .saturating_add(self.kinds.held())
+            .saturating_add(self.message.len() as u64)
     }
 
     /// Begins a message with the fields that ways and relations have alike.
@@ -114,10 +149,21 @@ impl EntityOut {
         Ok(())
     }
 
+    /// Appends the message as a field of a group, and takes all of the entity out.
+    fn put_message(&mut self, group: &mut Vec<u8>, number: u64) -> Result<(), AllocError>
+        requires { number < 2 ^ 29 }
+        ensures written { OnOk result (group.new.items ≡ group.old.items ++ slot_bytes (Each number (self.old.message.items ∷ []))) }
+        ensures empty { OnOk result (writer_length self.new ≡ 0) }
+    {
+        put_bytes(group, number, &self.message)?;
+        self.clear();
+        Ok(())
+    }
+
     /// Appends a way to a group, and adds its texts to the table: the keys and values of its tags in turn, then its user. The
     /// caller sees that the way fits, and that the table has room for its texts, repeats counted. The clause on the group
-    /// also says that the way is written as it would be with a table that more texts are added to later. After an `Err` group
-    /// and table have no stated content.
+    /// also says that the way is written as it would be with a table that more texts are added to later. Then nothing of the
+    /// way stays in the writer. After an `Err` group, table and writer have no stated content.
     pub fn put_way<S: BuildHasher>(
         &mut self,
         group: &mut Vec<u8>,
@@ -128,9 +174,10 @@ impl EntityOut {
         requires room { length table.old + length (way_texts (way_of way.now)) ≤ 1048575 }
         ensures texts { OnOk result (table.new ≡ texts_after table.old (way_texts (way_of way.now))) }
         ensures written { (used : List (List ℕ)) → OnOk result (group.new.items ≡ group.old.items ++ slot_bytes (Each WAYS (way_message (texts_after table.new used) (way_of way.now) ∷ []))) }
+        ensures empty { OnOk result (writer_length self.new ≡ 0) }
     {
         self.make_way(way, table)?;
-        put_bytes(group, WAYS, &self.message)?;
+        self.put_message(group, WAYS)?;
         Ok(())
     }
 
@@ -146,9 +193,10 @@ impl EntityOut {
         requires room { length table.old + length (relation_texts (relation_of relation.now)) ≤ 1048575 }
         ensures texts { OnOk result (table.new ≡ texts_after table.old (relation_texts (relation_of relation.now))) }
         ensures written { (used : List (List ℕ)) → OnOk result (group.new.items ≡ group.old.items ++ slot_bytes (Each RELATIONS (relation_message (texts_after table.new used) (relation_of relation.now) ∷ []))) }
+        ensures empty { OnOk result (writer_length self.new ≡ 0) }
     {
         self.make_relation(relation, table)?;
-        put_bytes(group, RELATIONS, &self.message)?;
+        self.put_message(group, RELATIONS)?;
         Ok(())
     }
 }

@@ -12,8 +12,8 @@ ghost use Rattle.pbf_block.specs.Header.{header_of};
 ghost use Rattle.pbf_frame.specs.declared.frame.FrameKind.TheVariants as kind;
 ghost use Rattle.pbf_frame.specs.declared.stop.Stop.{Stop};
 ghost use Rattle.pbf_frame.specs.Devices.{IsAtEnd};
-ghost use Rattle.pbf_frame.specs.Next.{IsReading, HasStopped, place_of, verdict};
-ghost use Rattle.osm_pack.specs.Packing.{IsPacking, has_header, Pending};
+ghost use Rattle.pbf_frame.specs.Next.{IsReading, HasStopped, place_of, held_by, verdict};
+ghost use Rattle.osm_pack.specs.Packing.{IsPacking, has_header, packer_held, Pending};
 ghost use Rattle.osm_pack.specs.Packing as packing;
 ghost use Rattle.pbfcut.specs.Counting.{counts_of, entities_of};
 ghost use Rattle.pbfcut.specs.Judged.{payload_fault_of, fully_known, judged_file};
@@ -223,8 +223,11 @@ pub fn step_write<F: Feed, D: Drain, S: BuildHasher>(
     ensures counts { F.failures reader.old.feed ≤ F.failures reader.new.feed }
     ensures drain_counts { D.failures packer.old.drain ≤ D.failures packer.new.drain }
     ensures spent { (stop : Stop) → packing.HasStopped packer.old stop → result ≡ Err stop }
+    ensures space { held_by reader.new + packer_held packer.new ≤ 61620990 }
 {
-    step_pack(alloc, reader, pass, Selection::of(chosen), packer)
+    let outcome = step_pack(alloc, reader, pass, Selection::of(chosen), packer);
+    packer.held_is_bounded();
+    outcome
 }
 
 /// As [`step_write`], of the extract with all parents.
@@ -248,8 +251,11 @@ pub fn step_write_parents<F: Feed, D: Drain, S: BuildHasher>(
     ensures counts { F.failures reader.old.feed ≤ F.failures reader.new.feed }
     ensures drain_counts { D.failures packer.old.drain ≤ D.failures packer.new.drain }
     ensures spent { (stop : Stop) → packing.HasStopped packer.old stop → result ≡ Err stop }
+    ensures space { held_by reader.new + packer_held packer.new ≤ 61620990 }
 {
-    step_pack(alloc, reader, pass, Selection::Parents(chosen), packer)
+    let outcome = step_pack(alloc, reader, pass, Selection::Parents(chosen), packer);
+    packer.held_is_bounded();
+    outcome
 }
 
 /// Writes a header and what is picked of the frames that are left, and answers the numbers of these entities.

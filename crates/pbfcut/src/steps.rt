@@ -3,7 +3,7 @@
 ghost use Rattle.std.specs.Prelude.{◌≡◌, ◌<◌, ◌≤◌, ◌^◌, ℕ, List, true, false, Ok, Err, IfOk, IfErr, OnOk, IsTrue};
 ghost use Rattle.pbf_frame.specs.declared.stop.Stop.{Stop};
 ghost use Rattle.pbf_frame.specs.Devices.{IsAtEnd};
-ghost use Rattle.pbf_frame.specs.Next.{IsReading, HasEnded, HasStopped, place_of, had_header_of, verdict};
+ghost use Rattle.pbf_frame.specs.Next.{IsReading, HasEnded, HasStopped, place_of, had_header_of, held_by, verdict};
 ghost use Rattle.pbfcut.specs.Gathering.{TakesAndGathers, with_node, with_way, with_relation};
 ghost use Rattle.pbfcut.specs.Steps.{Took, Takes, StepStops};
 
@@ -64,6 +64,7 @@ pub fn step_count<F: Feed>(
     ensures lender { F.lender reader.new.feed ≡ F.lender reader.old.feed }
     ensures ended { HasEnded reader.old → result ≡ Ok false }
     ensures spent { (stop : Stop) → HasStopped reader.old stop → result ≡ Err stop }
+    ensures space { held_by reader.new ≤ 33620990 }
 {
     step_gather(alloc, reader, pass, &mut Nothing)
 }
@@ -88,6 +89,7 @@ pub fn step_nodes<F: Feed>(
     ensures lender { F.lender reader.new.feed ≡ F.lender reader.old.feed }
     ensures ended { HasEnded reader.old → result ≡ Ok false }
     ensures spent { (stop : Stop) → HasStopped reader.old stop → result ≡ Err stop }
+    ensures space { held_by reader.new ≤ 33620990 }
 {
     step_gather(alloc, reader, pass, phase)
 }
@@ -112,6 +114,7 @@ pub fn step_ways<F: Feed>(
     ensures lender { F.lender reader.new.feed ≡ F.lender reader.old.feed }
     ensures ended { HasEnded reader.old → result ≡ Ok false }
     ensures spent { (stop : Stop) → HasStopped reader.old stop → result ≡ Err stop }
+    ensures space { held_by reader.new ≤ 33620990 }
 {
     step_gather(alloc, reader, pass, phase)
 }
@@ -136,6 +139,7 @@ pub fn step_relations<F: Feed>(
     ensures lender { F.lender reader.new.feed ≡ F.lender reader.old.feed }
     ensures ended { HasEnded reader.old → result ≡ Ok false }
     ensures spent { (stop : Stop) → HasStopped reader.old stop → result ≡ Err stop }
+    ensures space { held_by reader.new ≤ 33620990 }
 {
     step_gather(alloc, reader, pass, phase)
 }

@@ -19,4 +19,4 @@ overflow_add-self-2 g c =
 pub returns : goal.returns
 returns g c = λ es h.
     added c.args.self.now c.put.new.self _ es (entity_of c.args.entity.now) h (c.requires.joins es h) (c.in_ok-put.ensures es h) (ap Some (c.unwrap_or.ensures ∙ ap (unwrap_or c.put.new.self.sort) c.of.ensures)) refl
-    (ap (λ n. c.put.new.self.weight + n) (exact (entity_of c.args.entity.now) c.weight.result c.requires.fits c.weight.ensures)) refl refl refl
+    (ap (λ n. c.put.new.self.weight + n) (exact (entity_of c.args.entity.now) c.weight.result c.requires.fits c.weight.ensures)) refl refl refl refl

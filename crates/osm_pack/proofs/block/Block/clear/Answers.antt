@@ -3,4 +3,4 @@ use Rattle.osm_pack.proofs.OpenLemmas.{none_held}
 use Rattle.osm_pack.proofs.block.Block.clear.Goals as goal
 
 pub returns : goal.returns
-returns g c = none_held _ refl refl refl c.clear.ensures c.new.ensures (search rules)
+returns g c = none_held _ refl refl refl c.clear.ensures c.new.ensures (search rules) c.clear-3.ensures
