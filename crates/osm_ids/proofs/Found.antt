@@ -1,14 +1,20 @@
 -- The page in which an id can stand.
-use Rattle.std.proofs.Common.{◌≡◌, ℕ, zero, suc, ◌+◌, ◌-◌, ◌<◌, ◌≤◌, ◌⊎◌, Bool, true, false, List, [], ◌∷◌, ◌++◌, length, take, drop, get_or, ℤ, ◌<ℤ◌, ◌≤ℤ◌, int_le, inl, inr, refl, sym, ap, subst, ◌∙◌, arith, length-append}
+use Rattle.std.proofs.Common.{◌≡◌, ℕ, zero, suc, ◌+◌, ◌-◌, ◌<◌, ◌≤◌, ◌⊎◌, Bool, true, false, List, [], ◌∷◌, ◌++◌, length, take, drop, get_or, ℤ, ◌<ℤ◌, ◌≤ℤ◌, int_le, inl, inr, refl, sym, ap, subst, ◌∙◌, arith, length-append, true≢false}
 use Rattle.std.specs.List.{list_any}
 use Rattle.std.specs.List.Sorted.{IsPartitionedBy, IsPartitionPoint}
 use Rattle.std.specs.Ordering.{int_eq}
 use Rattle.std.proofs.lemmas.Int.{ints}
+use Rattle.std.proofs.lemmas.Bool.{false_from_ne_true}
 use Rattle.std.proofs.lemmas.Grind.{flat_map-append}
+use Rattle.std.proofs.lemmas.List.{get_or_default}
 use Rattle.std.proofs.Math.Seq.{drop-append_seam, take-append_seam}
 use Rattle.osm_ids.specs.declared.pages.PageStart.{PageStart}
+use Rattle.osm_ids.specs.declared.page.Cursor.{Cursor}
+use Rattle.osm_ids.specs.Cursors.{IsAt, IsPassedAt, Stands}
 use Rattle.osm_ids.specs.Pages.{Page, page_ids, page_bytes, ids_of_pages, bytes_of_pages, starts_from, Rises, IsRising, AllFit, IsSealed, ids_in}
 use Rattle.osm_ids.proofs.Gaps.{spelled_after}
+use Rattle.osm_ids.proofs.Reading as reading
+use Rattle.osm_ids.proofs.Reading.{cursor, IsAhead}
 use Rattle.osm_ids.proofs.Laid.{ids_in_sealed, fits_front, fits_back}
 use Rattle.osm_ids.proofs.Rising.{other_above, rises_front, rising_back, rising_tail, none_below, none_above, any_in_middle}
 
@@ -133,10 +139,6 @@ first_of_cons p q ps qs e = let same : p ≡ q = cc in ap (λ (x : Page). x.firs
 
 -- ---- a look-up, as the code makes it
 
--- the places at or below the id, and those above
-abbrev pub IsPassedAt : List PageStart → ℤ → ℕ → Type 0
-IsPassedAt index id n = IsPartitionPoint (λ (s : PageStart). int_le s.first id ≡ true) (λ (s : PageStart). int_le s.first id ≡ false) index n
-
 pub none_at_all : (index : List PageStart) (bytes : List ℕ) (pages : List Page) (id : ℤ) (n : ℕ) → IsSealed index bytes pages → IsPassedAt index id n → n ≡ 0 → list_any (int_eq id) (ids_in index bytes) ≡ false
 none_at_all index bytes pages id n sealed point zero_is =
     let above : (page : Page) (rest : List Page) → pages ≡ page ∷ rest → id <ℤ page.first = λ page rest e.
@@ -150,17 +152,18 @@ none_at_all index bytes pages id n sealed point zero_is =
 abbrev pub EndsAt : List PageStart → List ℕ → ℕ → ℕ → Type 0
 EndsAt index bytes n end = ((next : PageStart) × (n < length index) × (next ≡ get_or index n next) × (end ≡ next.place)) ⊎ ((length index ≤ n) × (end ≡ length bytes))
 
-pub record Looked (index : List PageStart) (bytes : List ℕ) (id : ℤ) (start : PageStart) (end : ℕ) : Type 0 where
+-- what lies in the last of so many pages
+pub record Looked (index : List PageStart) (bytes : List ℕ) (begun : ℕ) (start : PageStart) (end : ℕ) : Type 0 where
   pub others : List ℤ
   pub rises : Rises start.first others
   pub fits : AllFit (start.first ∷ others)
   pub ordered : start.place ≤ end
   pub within : end ≤ length bytes
   pub spelled : take (end - start.place) (drop start.place bytes) ≡ spelled_after start.first others
-  pub answer : list_any (int_eq id) (start.first ∷ others) ≡ list_any (int_eq id) (ids_in index bytes)
+  pub answer : (id : ℤ) → IsPassedAt index id begun → list_any (int_eq id) (start.first ∷ others) ≡ list_any (int_eq id) (ids_in index bytes)
 
-looked : (index : List PageStart) (bytes : List ℕ) (pages : List Page) (id : ℤ) (j : ℕ) (start : PageStart) (end : ℕ) → IsSealed index bytes pages → IsPassedAt index id (suc j) → suc j ≤ length index → start ≡ get_or index j start → EndsAt index bytes (suc j) end → Looked index bytes id start end
-looked index bytes pages id j start end sealed point lt is ends =
+looked : (index : List PageStart) (bytes : List ℕ) (pages : List Page) (j : ℕ) (start : PageStart) (end : ℕ) → IsSealed index bytes pages → suc j ≤ length index → start ≡ get_or index j start → EndsAt index bytes (suc j) end → Looked index bytes (suc j) start end
+looked index bytes pages j start end sealed lt is ends =
     let r = page_at 0 j pages (omega (arith, ap length sealed.starts)) in
     let page = r.page in
     let starts = sealed.starts in
@@ -179,8 +182,8 @@ looked index bytes pages id j start end sealed point lt is ends =
         | inr w ↦ absurd (omega (arith, w.0, more.3, ap length starts))
       ]
     ] in
-    let low : page.first ≤ℤ id = le_true page.first id (ap (λ z. int_le z id) (sym first ∙ ap (λ (s : PageStart). s.first) is) ∙ point.0 j start (omega arith) (omega arith)) in
-    let above : (later : Page) (rest : List Page) → r.after ≡ later ∷ rest → id <ℤ later.first = λ later rest e.
+    let low : (id : ℤ) → IsPassedAt index id (suc j) → page.first ≤ℤ id = λ id point. le_true page.first id (ap (λ z. int_le z id) (sym first ∙ ap (λ (s : PageStart). s.first) is) ∙ point.0 j start (omega arith) (omega arith)) in
+    let above : (id : ℤ) → IsPassedAt index id (suc j) → (later : Page) (rest : List Page) → r.after ≡ later ∷ rest → id <ℤ later.first = λ id point later rest e.
     elim r.next [
       | inl last ↦ absurd (omega (arith, ap length (sym last.0 ∙ e)))
       | inr more ↦
@@ -198,26 +201,63 @@ looked index bytes pages id j start end sealed point lt is ends =
       ordered = omega (arith, ended);
       within = omega (arith, ended, size, place);
       spelled = cut_page bytes pages r.before page r.after start.place end sealed.spelled r.whole place ended ∙ ap (λ z. spelled_after z page.others) (sym first);
-      answer =
+      answer = λ id point.
           ap (λ z. list_any (int_eq id) (z ∷ page.others)) first
-          ∙ sym (found_in_page pages r.before page r.after id r.whole sealed.rising low above)
+          ∙ sym (found_in_page pages r.before page r.after id r.whole sealed.rising (low id point) (above id point))
           ∙ ap (list_any (int_eq id)) (sym (ids_in_sealed index bytes pages sealed));
     }
 
--- what a search by halves answers, at an id and a list that the code names otherwise
-pub passed : (index seen_index : List PageStart) (bytes : List ℕ) (pages : List Page) (id seen : ℤ) (n : ℕ) → IsSealed index bytes pages → seen_index ≡ index → seen ≡ id → (IsPartitionedBy (λ (s : PageStart). int_le s.first seen) seen_index → IsPassedAt seen_index seen n) → IsPassedAt index id n
-passed index seen_index bytes pages id seen n sealed e f point =
-    let parted = partitioned seen_index pages seen (e ∙ sealed.starts) sealed.rising in
-    subst (λ z. IsPassedAt index z n) f (subst (λ i. IsPassedAt i seen n) e (point parted))
+-- the page before a place of the index
+pub looked_before : (index : List PageStart) (bytes : List ℕ) (pages : List Page) (begun : ℕ) (start : PageStart) (end : ℕ) → IsSealed index bytes pages → 0 < begun → begun ≤ length index → start ≡ get_or index (begun - 1) start → EndsAt index bytes begun end → Looked index bytes begun start end
+looked_before index bytes pages begun start end sealed some le is ends =
+    let next : suc (begun - 1) ≡ begun = omega arith in
+    subst (λ n. Looked index bytes n start end) next (looked index bytes pages (begun - 1) start end sealed (omega arith) is (subst (λ n. EndsAt index bytes n end) (sym next) ends))
 
--- the page before the place that the search answers
-pub looked_before : (index : List PageStart) (bytes : List ℕ) (pages : List Page) (id : ℤ) (after : ℕ) (start : PageStart) (end : ℕ) → IsSealed index bytes pages → IsPassedAt index id after → 0 < after → after ≤ length index → start ≡ get_or index (after - 1) start → EndsAt index bytes after end → Looked index bytes id start end
-looked_before index bytes pages id after start end sealed point some le is ends =
-    let next : suc (after - 1) ≡ after = omega arith in
-    looked index bytes pages id (after - 1) start end sealed (subst (IsPassedAt index id) (sym next) point) (omega arith) is (subst (λ n. EndsAt index bytes n end) (sym next) ends)
+-- which is where a look-up stands that begins there
+pub stands : (index : List PageStart) (bytes : List ℕ) (begun : ℕ) (start : PageStart) (end : ℕ) (page : List ℕ) → Looked index bytes begun start end → page ≡ take (end - start.place) (drop start.place bytes) → Stands index bytes begun page (cursor start.first start.first 0)
+stands index bytes begun start end page there cut =
+    record { ids = start.first ∷ there.others; reached = reading.start start.first there.others page there.rises there.fits (cut ∙ there.spelled); answer = there.answer }
 
--- what a look-up in one page answers, likewise
-pub page_answer : (first seen_first id seen_id : ℤ) (bytes : List ℕ) (r : Bool) → seen_first ≡ first → seen_id ≡ id → ((others : List ℤ) → Rises seen_first others → AllFit (seen_first ∷ others) → bytes ≡ spelled_after seen_first others → r ≡ list_any (int_eq seen_id) (seen_first ∷ others)) → (others : List ℤ) → Rises first others → AllFit (first ∷ others) → bytes ≡ spelled_after first others → r ≡ list_any (int_eq id) (first ∷ others)
-page_answer first seen_first id seen_id bytes r e f h =
-    subst (λ z. (others : List ℤ) → Rises z others → AllFit (z ∷ others) → bytes ≡ spelled_after z others → r ≡ list_any (int_eq id) (z ∷ others)) e
-    (subst (λ w. (others : List ℤ) → Rises seen_first others → AllFit (seen_first ∷ others) → bytes ≡ spelled_after seen_first others → r ≡ list_any (int_eq w) (seen_first ∷ others)) f h)
+-- ---- so many pages begin at or below an id
+
+-- where that is so of the last of them, and not of the next
+pub passed_here : (index : List PageStart) (id : ℤ) (n : ℕ) (d : PageStart) → IsPartitionedBy (λ (s : PageStart). int_le s.first id) index → 0 < n → n ≤ length index → int_le (get_or index (n - 1) d).first id ≡ true → (n < length index → int_le (get_or index n d).first id ≡ false) → IsPassedAt index id n
+passed_here index id n d parted some le low high = (
+  λ i e ge lt. parted i (n - 1) e (omega arith) (omega arith) (ap (λ (s : PageStart). int_le s.first id) (get_or_default index (n - 1) e d (omega arith)) ∙ low),
+  λ i e at lt. false_from_ne_true _ (λ yes. true≢false (sym (parted n i e at lt yes) ∙ ap (λ (s : PageStart). int_le s.first id) (get_or_default index n e d (omega arith)) ∙ high (omega arith))),
+)
+
+-- the same of an id that the code names otherwise
+pub passed_same : (index : List PageStart) (id seen : ℤ) (n : ℕ) → seen ≡ id → (IsPartitionedBy (λ (s : PageStart). int_le s.first seen) index → IsPassedAt index seen n) → IsPartitionedBy (λ (s : PageStart). int_le s.first id) index → IsPassedAt index id n
+passed_same index id seen n e h = subst (λ z. IsPartitionedBy (λ (s : PageStart). int_le s.first z) index → IsPassedAt index z n) e h
+
+pub passed : (index : List PageStart) (bytes : List ℕ) (pages : List Page) (id seen : ℤ) (n : ℕ) → IsSealed index bytes pages → seen ≡ id → (IsPartitionedBy (λ (s : PageStart). int_le s.first seen) index → IsPassedAt index seen n) → IsPassedAt index id n
+passed index bytes pages id seen n sealed e h = passed_same index id seen n e h (partitioned index pages id sealed.starts sealed.rising)
+
+-- ---- from where a look-up reads
+
+pub record ReadsFrom (index : List PageStart) (bytes : List ℕ) (begun : ℕ) (page : List ℕ) (from : Cursor) (id : ℤ) : Type 0 where
+  pub stood : Stands index bytes begun page from
+  pub ahead : IsAhead from.passed from.last id
+
+-- from the first id of the last page that begins at or below the id
+pub reads_first : (index : List PageStart) (bytes : List ℕ) (begun : ℕ) (page : List ℕ) (from : Cursor) (id : ℤ) (start : PageStart) → 0 < begun → begun ≤ length index → IsPassedAt index id begun → start ≡ get_or index (begun - 1) start → Stands index bytes begun page (cursor start.first start.first 0) → from ≡ cursor start.first start.first 0 → ReadsFrom index bytes begun page from id
+reads_first index bytes begun page from id start some le point is stood e =
+    subst (λ c. ReadsFrom index bytes begun page c id) (sym e)
+    (record { stood = stood; ahead = inr (le_true start.first id (ap (λ (s : PageStart). int_le s.first id) is ∙ point.0 (begun - 1) start (omega arith) (omega arith))) })
+
+-- or from where it stands
+pub reads_still : (index : List PageStart) (bytes : List ℕ) (begun old : ℕ) (page old_page : List ℕ) (from old_from : Cursor) (id seen : ℤ) → begun ≡ old → page ≡ old_page → from ≡ old_from → seen ≡ id → 0 < begun → (0 < old → Stands index bytes old old_page old_from) → IsAhead old_from.passed old_from.last seen → ReadsFrom index bytes begun page from id
+reads_still index bytes begun old page old_page from old_from id seen same p f e some stood ahead =
+    subst (λ n. ReadsFrom index bytes n page from id) (sym same) (subst (λ b. ReadsFrom index bytes old b from id) (sym p) (subst (λ c. ReadsFrom index bytes old old_page c id) (sym f)
+    (record { stood = stood (omega arith); ahead = subst (IsAhead old_from.passed old_from.last) e ahead })))
+
+-- what is then answered
+pub found_in_set : (index : List PageStart) (bytes : List ℕ) (begun : ℕ) (page : List ℕ) (from : Cursor) (id seen last : ℤ) (r : ReadsFrom index bytes begun page from id) → IsPassedAt index id begun → seen ≡ id → ((ids : List ℤ) → IsAt ids page from → IsAhead from.passed from.last seen → int_eq seen last ≡ list_any (int_eq seen) ids) → int_eq id last ≡ list_any (int_eq id) (ids_in index bytes)
+found_in_set index bytes begun page from id seen last r point e found =
+    let same : (ids : List ℤ) → IsAt ids page from → IsAhead from.passed from.last id → int_eq id last ≡ list_any (int_eq id) ids = subst (λ z. (ids : List ℤ) → IsAt ids page from → IsAhead from.passed from.last z → int_eq z last ≡ list_any (int_eq z) ids) e found in
+    same r.stood.ids r.stood.reached r.ahead ∙ r.stood.answer id point
+
+-- and where it stands then
+pub stands_on : (index : List PageStart) (bytes : List ℕ) (begun : ℕ) (page : List ℕ) (from to : Cursor) (s : Stands index bytes begun page from) → ((ids : List ℤ) → IsAt ids page from → IsAt ids page to) → Stands index bytes begun page to
+stands_on index bytes begun page from to s on = record { ids = s.ids; reached = on s.ids s.reached; answer = s.answer }

@@ -4,11 +4,13 @@
 
 pub mod laws;
 mod links;
+mod lookup;
 mod page;
 mod pages;
 mod set;
 
 pub use links::{Link, Links};
+pub use lookup::Lookup;
 pub use pages::SealedIds;
 pub use set::IdSet;
 

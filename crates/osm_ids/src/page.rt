@@ -1,28 +1,43 @@
-//! The look-up in one page.
+//! How far one page is read.
 
-ghost use Rattle.std.specs.Prelude.{◌≡◌, List, ◌∷◌, ℤ};
+ghost use Rattle.std.specs.Prelude.{◌≡◌, ◌≤◌, ◌⊎◌, List, ℤ, ◌<ℤ◌, ◌≤ℤ◌, length};
 ghost use Rattle.std.specs.List.{list_any};
 ghost use Rattle.std.specs.Ordering.{int_eq};
-ghost use Rattle.osm_ids.specs.Pages.{Rises, AllFit, page_bytes};
+ghost use Rattle.osm_ids.specs.Cursors.{IsAt};
 
 use pbf_wire::get_varint;
 
-/// Whether an id is the first of a page or one of the others, which the bytes spell. It reads no further than to that id.
-pub(crate) fn page_has(first: i64, bytes: &[u8], id: i64) -> bool
-    ensures { (others : List ℤ) → Rises first others → AllFit (first ∷ others) → bytes.now ≡ page_bytes (record { first = first; others = others })
-        → result ≡ list_any (int_eq id) (first ∷ others) }
+/// How far a page is read.
+#[derive(Clone, Copy)]
+pub(crate) struct Cursor {
+    /// The id before `last`; where that is the page's first, the same.
+    pub(crate) passed: i64,
+    /// The last id that was read.
+    pub(crate) last: i64,
+    /// Where in the page's bytes the next one begins.
+    pub(crate) at: usize,
+}
+
+/// Reads on to the first id that is not below the one asked for, or else to the page's last.
+pub(crate) fn read_up_to(page: &[u8], from: Cursor, id: i64) -> Cursor
+    requires { from.at ≤ length page.now }
+    ensures within { result.at ≤ length page.now }
+    ensures on { (ids : List ℤ) → IsAt ids page.now from → IsAt ids page.now result }
+    ensures found { (ids : List ℤ) → IsAt ids page.now from → (from.passed <ℤ id) ⊎ (from.last ≤ℤ id) → int_eq id result.last ≡ list_any (int_eq id) ids }
 {
-    let mut last = first;
-    let mut at = 0;
-    while last < id && at < bytes.len() {
-        let Ok((difference, next)) = get_varint(bytes, at) else {
-            return false;
+    let mut passed = from.passed;
+    let mut last = from.last;
+    let mut at = from.at;
+    while last < id && at < page.len() {
+        let Ok((difference, next)) = get_varint(page, at) else {
+            return Cursor { passed, last, at };
         };
         let Some(sum) = last.checked_add_unsigned(difference) else {
-            return false;
+            return Cursor { passed, last, at };
         };
+        passed = last;
         last = sum;
         at = next;
     }
-    last == id
+    Cursor { passed, last, at }
 }

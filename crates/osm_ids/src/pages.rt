@@ -6,7 +6,6 @@ ghost use Rattle.std.specs.List.Sorted.{IsPartitionedBy, IsPartitionPoint};
 ghost use Rattle.std.specs.FinSet as set;
 ghost use Rattle.osm_ids.specs.Pages.{IsRising, pages_of, bytes_of_pages};
 
-use crate::page::page_has;
 use pbf_wire::put_varint;
 use std::alloc::{AllocError, Global};
 use std::collections::BTreeSet;
@@ -15,8 +14,8 @@ use std::marker::Model;
 /// Where a page begins: its first id, and the place of its other ids' bytes.
 #[derive(Clone, Copy)]
 pub(crate) struct PageStart {
-    first: i64,
-    place: usize,
+    pub(crate) first: i64,
+    pub(crate) place: usize,
 }
 
 /// A set of ids that no longer grows: the ids in rising order, in pages of 128, the last of at most as many. The index holds
@@ -24,8 +23,8 @@ pub(crate) struct PageStart {
 /// Contracts see it as a finite set of numbers.
 #[derive(Drop)]
 pub struct SealedIds {
-    index: Vec<PageStart>,
-    bytes: Vec<u8>,
+    pub(crate) index: Vec<PageStart>,
+    pub(crate) bytes: Vec<u8>,
     count: u64,
 }
 
@@ -80,17 +79,7 @@ impl SealedIds {
     pub fn has(&self, id: i64) -> bool
         ensures { result ≡ set.contains self.now id }
     {
-        let after = starts_up_to(&self.index, id);
-        if after == 0 {
-            return false;
-        }
-        let start = self.index[after - 1];
-        let end = if after < self.index.len() {
-            self.index[after].place
-        } else {
-            self.bytes.len()
-        };
-        page_has(start.first, part(&self.bytes, start.place, end), id)
+        self.lookup().has(id)
     }
 
     /// How many ids the set has.
@@ -113,22 +102,4 @@ impl SealedIds {
     {
         self.bytes.len() as u64
     }
-}
-
-/// The bytes from one place to another.
-fn part(bytes: &[u8], from: usize, to: usize) -> &[u8]
-    requires ordered { from ≤ to }
-    requires within { to ≤ length bytes.now }
-    ensures { result.now ≡ take (to - from) (drop from bytes.now) }
-{
-    &bytes[from..to]
-}
-
-/// How many pages begin at or below the id.
-fn starts_up_to(starts: &[PageStart], id: i64) -> usize
-    ensures within { result ≤ length starts.now }
-    ensures point { IsPartitionedBy (λ (s : PageStart). int_le s.first id) starts.now
-        → IsPartitionPoint (λ (s : PageStart). int_le s.first id ≡ true) (λ (s : PageStart). int_le s.first id ≡ false) starts.now result }
-{
-    starts.partition_point(|start| start.first <= id)
 }

@@ -62,6 +62,81 @@ fn ids_of_known_sizes(rt: HostRuntime) -> Result<(), AllocError> {
     Ok(())
 }
 
+/// 0, 3, 6, .. 1197: pages begin at 0, 384, 768 and 1152.
+fn threes(alloc: Global) -> Result<SealedIds, AllocError> {
+    let mut set = IdSet::new(alloc);
+    for id in 0..1200i64 {
+        if id % 3 == 0 {
+            set.add(id)?;
+        }
+    }
+    sealed(set)
+}
+
+#[test]
+fn one_lookup_across_pages(rt: HostRuntime) -> Result<(), AllocError> {
+    let ids = threes(rt.alloc())?;
+    let mut lookup = ids.lookup();
+    for (id, expected) in [
+        (-1, false),
+        (0, true),
+        (0, true),
+        (2, false),
+        (3, true),
+        (381, true),
+        (382, false),
+        (384, true),
+        (383, false),
+        (381, true),
+        (387, true),
+        (386, false),
+        (386, false),
+        (387, true),
+        (768, true),
+        (767, false),
+        (1197, true),
+        (1198, false),
+        (i64::MAX, false),
+        (1197, true),
+        (1152, true),
+        (i64::MIN, false),
+        (6, true),
+        (5, false),
+        (1155, true),
+    ] {
+        assert_eq!(rt; lookup.has(id), expected);
+        assert_eq!(rt; ids.has(id), expected);
+    }
+    Ok(())
+}
+
+#[test]
+fn lookups_in_every_order(rt: HostRuntime) -> Result<(), AllocError> {
+    let ids = threes(rt.alloc())?;
+    let mut rising = ids.lookup();
+    for id in 0..1213i64 {
+        assert_eq!(rt; rising.has(id), id < 1200 && id % 3 == 0);
+    }
+    let mut falling = ids.lookup();
+    for id in (0..1213i64).rev() {
+        assert_eq!(rt; falling.has(id), id < 1200 && id % 3 == 0);
+    }
+    let mut mixed = ids.lookup();
+    for place in 0..1213i64 {
+        let id = place.wrapping_mul(701) % 1213;
+        assert_eq!(rt; mixed.has(id), id < 1200 && id % 3 == 0);
+    }
+    Ok(())
+}
+
+#[test]
+fn lookup_in_the_empty_set(rt: HostRuntime) -> Result<(), AllocError> {
+    let ids = sealed(IdSet::new(rt.alloc()))?;
+    let mut lookup = ids.lookup();
+    assert!(rt; !lookup.has(0) && !lookup.has(i64::MIN) && !lookup.has(0));
+    Ok(())
+}
+
 /// The set is as before after an `add` that is refused, and is handed back by a `seal` that is: both can be tried again.
 #[test]
 fn refused_once_and_tried_again(rt: HostRuntime) -> Result<(), AllocError> {

@@ -1,10 +1,12 @@
 //! Which entities of a list are kept: the complete-ways extract, with and without all parents.
 #![tactic(auto)]
 
+mod choosing;
 pub mod laws;
 mod parents;
 mod phases;
 
+pub use choosing::{Chooser, ChooserParents};
 pub use parents::{ChosenParents, RelationPhase};
 pub use phases::{Chosen, NodePhase, WayPhase};
 

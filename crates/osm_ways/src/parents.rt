@@ -4,14 +4,13 @@ ghost use Rattle.std.specs.Prelude.{◌≡◌, map, IfOk, OnOk};
 ghost use Rattle.std.specs.List.{fold};
 ghost use Rattle.std.specs.FinSet as set;
 ghost use Rattle.osm_ids.specs.Links.{IsLeast};
-ghost use Rattle.osm_entity.specs.Sources.{members_left, lent_member};
-ghost use Rattle.osm_entity.specs.Views.{way_of, relation_of};
-ghost use Rattle.osm_ways.specs.Selection.{is_selecting};
-ghost use Rattle.osm_ways.specs.Seen.{seen_way, seen_member, seen_relation};
-ghost use Rattle.osm_ways.specs.Phases.{start_relations, with_link, relation_step, is_chosen_with_parents};
+ghost use Rattle.osm_entity.specs.Sources.{members_left};
+ghost use Rattle.osm_entity.specs.Views.{relation_of};
+ghost use Rattle.osm_ways.specs.Seen.{seen_member, seen_relation};
+ghost use Rattle.osm_ways.specs.Phases.{start_relations, with_link, relation_step};
 
 use crate::phases::{Chosen, sealed};
-use osm_entity::{MemberKind, MemberRef, Members, RelationRef, WayRef};
+use osm_entity::{MemberKind, Members, RelationRef};
 use osm_ids::{IdSet, Links, SealedIds};
 use std::alloc::AllocError;
 use std::marker::Model;
@@ -106,8 +105,8 @@ fn add_links(links: &mut Links, id: i64, members: Members<'_>) -> Result<(), All
 /// What was chosen, with all parents: the nodes and ways as without them, and the ids of all relations that are kept.
 #[derive(Drop)]
 pub struct ChosenParents {
-    chosen: Chosen,
-    relation_ids: SealedIds,
+    pub(crate) chosen: Chosen,
+    pub(crate) relation_ids: SealedIds,
 }
 
 impl Model for ChosenParents {
@@ -118,39 +117,4 @@ impl Model for ChosenParents {
     ghost coded = { parent_sets_code };
 
     ghost view = { λ a. record { ways = a.chosen; relation_ids = a.relation_ids } };
-}
-
-impl ChosenParents {
-    /// Whether nodes of this id are kept, as without parents.
-    pub fn keeps_node(&self, id: i64) -> bool
-        ensures { result ≡ set.contains self.now.ways.node_ids id }
-    {
-        self.chosen.keeps_node(id)
-    }
-
-    /// Whether the way is kept, as without parents.
-    pub fn keeps_way(&self, way: &WayRef<'_>) -> bool
-        ensures { result ≡ is_chosen_with_parents self.now (seen_way (way_of way.now)) }
-    {
-        self.chosen.keeps_way(way)
-    }
-
-    /// Whether the relation is kept: a node, a way or a relation among its members is. Of two relations of one id each is
-    /// judged by itself.
-    pub fn keeps_relation(&self, relation: &RelationRef<'_>) -> bool
-        ensures { result ≡ is_chosen_with_parents self.now (seen_relation (relation_of relation.now)) }
-    {
-        let mut members = relation.members();
-        members.any(|member| self.selects(&member))
-    }
-
-    /// Whether the member selects its relation.
-    fn selects(&self, member: &MemberRef<'_>) -> bool
-        ensures { result ≡ is_selecting (set.contains self.now.ways.node_ids) (set.contains self.now.ways.way_ids) (set.contains self.now.relation_ids) (seen_member (lent_member member.now)) }
-    {
-        match member.kind {
-            MemberKind::Relation => self.relation_ids.has(member.id),
-            MemberKind::Node | MemberKind::Way => self.chosen.selects(member),
-        }
-    }
 }

@@ -3,14 +3,13 @@
 ghost use Rattle.std.specs.Prelude.{◌≡◌, IfOk, OnOk, OnErr};
 ghost use Rattle.std.specs.List.{fold};
 ghost use Rattle.std.specs.FinSet as set;
-ghost use Rattle.osm_entity.specs.Sources.{lent_member};
-ghost use Rattle.osm_entity.specs.Views.{node_of, way_of, relation_of};
-ghost use Rattle.osm_ways.specs.Selection.{no_ids, is_selecting, is_kept_way};
-ghost use Rattle.osm_ways.specs.Seen.{seen_node, seen_way, seen_member, seen_relation};
-ghost use Rattle.osm_ways.specs.Phases.{start_nodes, start_ways, node_step, way_step, is_chosen};
+ghost use Rattle.osm_entity.specs.Views.{node_of, way_of};
+ghost use Rattle.osm_ways.specs.Selection.{is_kept_way};
+ghost use Rattle.osm_ways.specs.Seen.{seen_node, seen_way};
+ghost use Rattle.osm_ways.specs.Phases.{start_nodes, start_ways, node_step, way_step};
 
-use osm_entity::{BoundingBox, MemberKind, MemberRef, NodeRef, RelationRef, WayRef};
-use osm_ids::{IdSet, SealedIds};
+use osm_entity::{BoundingBox, NodeRef, WayRef};
+use osm_ids::{IdSet, Lookup, SealedIds};
 use std::alloc::{AllocError, Global};
 use std::marker::Model;
 
@@ -108,8 +107,9 @@ impl WayPhase {
     pub fn take_way(&mut self, way: &WayRef<'_>) -> Result<(), AllocError>
         ensures { OnOk result (self.new ≡ way_step self.old (seen_way (way_of way.now))) }
     {
-        if is_kept_by(&self.box_ids, way) {
-            add_refs(&self.box_ids, &mut self.refs, way)?;
+        let mut known = self.box_ids.lookup();
+        if is_kept_by(&mut known, way) {
+            add_refs(&mut known, &mut self.refs, way)?;
             self.way_ids.add(way.id())?;
         }
         Ok(())
@@ -151,16 +151,21 @@ pub(crate) fn sealed(ids: IdSet) -> Result<SealedIds, AllocError>
 }
 
 /// Whether one of the way's refs is among the ids.
-fn is_kept_by(ids: &SealedIds, way: &WayRef<'_>) -> bool
-    ensures { result ≡ is_kept_way (set.contains ids.now) (way_of way.now).refs }
+pub(crate) fn is_kept_by(ids: &mut Lookup<'_>, way: &WayRef<'_>) -> bool
+    ensures kept { result ≡ is_kept_way (set.contains ids.old) (way_of way.now).refs }
+    ensures same { ids.new ≡ ids.old }
 {
-    let mut refs = way.refs();
-    refs.any(|id| ids.has(id))
+    for id in way.refs() {
+        if ids.has(id) {
+            return true;
+        }
+    }
+    false
 }
 
 /// Adds all refs of the way that aren't known to the ids.
-fn add_refs(known: &SealedIds, ids: &mut IdSet, way: &WayRef<'_>) -> Result<(), AllocError>
-    ensures { OnOk result (set.union known.now ids.new ≡ fold set.insert (set.union known.now ids.old) (way_of way.now).refs) }
+fn add_refs(known: &mut Lookup<'_>, ids: &mut IdSet, way: &WayRef<'_>) -> Result<(), AllocError>
+    ensures { OnOk result (set.union known.old ids.new ≡ fold set.insert (set.union known.old ids.old) (way_of way.now).refs) }
 {
     for id in way.refs() {
         if known.has(id) {
@@ -174,10 +179,10 @@ fn add_refs(known: &SealedIds, ids: &mut IdSet, way: &WayRef<'_>) -> Result<(), 
 /// What was chosen: the ids of the box's nodes, of all nodes that are kept, and of the ways that are kept.
 #[derive(Drop)]
 pub struct Chosen {
-    box_ids: SealedIds,
+    pub(crate) box_ids: SealedIds,
     /// The refs of kept ways that aren't nodes of the box.
-    refs: SealedIds,
-    way_ids: SealedIds,
+    pub(crate) refs: SealedIds,
+    pub(crate) way_ids: SealedIds,
     pub(crate) alloc: Global,
 }
 
@@ -190,39 +195,4 @@ impl Model for Chosen {
     ghost coded = { way_sets_code };
 
     ghost view = { λ a. record { box_ids = a.box_ids; node_ids = set.union a.box_ids a.refs; way_ids = a.way_ids } };
-}
-
-impl Chosen {
-    /// Whether nodes of this id are kept: it is that of a node in the box, or a ref of a kept way.
-    pub fn keeps_node(&self, id: i64) -> bool
-        ensures { result ≡ set.contains self.now.node_ids id }
-    {
-        self.box_ids.has(id) || self.refs.has(id)
-    }
-
-    /// Whether the way is kept: one of its refs is a node in the box. Of two ways of one id each is judged by itself.
-    pub fn keeps_way(&self, way: &WayRef<'_>) -> bool
-        ensures { result ≡ is_chosen self.now (seen_way (way_of way.now)) }
-    {
-        is_kept_by(&self.box_ids, way)
-    }
-
-    /// Whether the relation is kept: a node or a way among its members is. Members that are relations count for nothing.
-    pub fn keeps_relation(&self, relation: &RelationRef<'_>) -> bool
-        ensures { result ≡ is_chosen self.now (seen_relation (relation_of relation.now)) }
-    {
-        let mut members = relation.members();
-        members.any(|member| self.selects(&member))
-    }
-
-    /// Whether the member selects its relation.
-    pub(crate) fn selects(&self, member: &MemberRef<'_>) -> bool
-        ensures { result ≡ is_selecting (set.contains self.now.node_ids) (set.contains self.now.way_ids) no_ids (seen_member (lent_member member.now)) }
-    {
-        match member.kind {
-            MemberKind::Node => self.keeps_node(member.id),
-            MemberKind::Way => self.way_ids.has(member.id),
-            MemberKind::Relation => false,
-        }
-    }
 }

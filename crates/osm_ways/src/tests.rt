@@ -108,6 +108,35 @@ fn way_before_its_nodes(rt: HostRuntime) -> Result<(), AllocError> {
     Ok(())
 }
 
+/// Each look-up begins where the last one ended, whatever order the ids come in.
+#[test]
+fn one_chooser_for_all(rt: HostRuntime) -> Result<(), AllocError> {
+    let alloc = rt.alloc();
+    let ways = [way(alloc, 7, &[5, 1, 3])?, way(alloc, 6, &[2, 3])?];
+    let nodes = [node(alloc, 1, 1), node(alloc, 2, -1), node(alloc, 8, 1)];
+    let chosen = chosen(alloc, &nodes, &ways)?;
+    let mut chooser = chosen.chooser();
+    for (id, expected) in [
+        (5, true),
+        (2, false),
+        (3, true),
+        (8, true),
+        (4, false),
+        (1, true),
+        (9, false),
+        (1, true),
+        (3, true),
+    ] {
+        assert_eq!(rt; chooser.keeps_node(id), expected);
+    }
+    assert!(rt; chooser.keeps_way(&ways[0].view()));
+    assert!(rt; !chooser.keeps_way(&ways[1].view()));
+    assert!(rt; chooser.keeps_relation(&relation(alloc, 9, MemberKind::Way, 7)?.view()));
+    assert!(rt; !chooser.keeps_relation(&relation(alloc, 9, MemberKind::Way, 6)?.view()));
+    assert!(rt; chooser.keeps_relation(&relation(alloc, 9, MemberKind::Node, 3)?.view()));
+    Ok(())
+}
+
 #[test]
 fn two_ways_with_one_id(rt: HostRuntime) -> Result<(), AllocError> {
     let alloc = rt.alloc();
@@ -148,11 +177,14 @@ fn chain_of_parents_beside_cycles(rt: HostRuntime) -> Result<(), AllocError> {
         relation(alloc, 13, MemberKind::Relation, 13)?,
     ];
     let chosen = chosen_parents(alloc, &relations)?;
+    let mut chooser = chosen.chooser();
     for relation in relations.iter() {
         let kept = chosen.keeps_relation(&relation.view());
         assert_eq!(rt; kept, relation.id <= 10, "at {}", relation.id);
+        assert_eq!(rt; chooser.keeps_relation(&relation.view()), kept);
     }
     assert!(rt; chosen.keeps_node(1) && !chosen.keeps_node(8));
+    assert!(rt; !chooser.keeps_node(8) && chooser.keeps_node(1));
     Ok(())
 }
 

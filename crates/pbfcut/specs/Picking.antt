@@ -17,6 +17,8 @@ use Rattle.pbf_block.specs.declared.counts.Counts.{Counts}
 use Rattle.pbfcut.specs.declared.counts.Pass.{Pass}
 use Rattle.pbfcut.specs.declared.picking.Selection.{Selection}
 use Rattle.pbfcut.specs.declared.picking.Selection.TheVariants as selection
+use Rattle.pbfcut.specs.declared.picking.Picker.{Picker}
+use Rattle.pbfcut.specs.declared.picking.Picker.TheVariants as picker
 use Rattle.pbfcut.specs.Counting.{counts_of, decoded, frame_entities}
 use Rattle.pbfcut.specs.Judged.{payload_fault}
 use Rattle.pbfcut.specs.Steps.{TakesSome}
@@ -50,6 +52,11 @@ unfoldable pub pick_of : Selection → Pick
 pick_of selection.Everything = everything
 pick_of (selection.Ways chosen) = picked_by chosen.now
 pick_of (selection.Parents chosen) = picked_with_parents chosen.now
+
+unfoldable pub picks_of : Picker → Pick
+picks_of picker.Everything = everything
+picks_of (picker.Ways sets) = picked_by sets
+picks_of (picker.Parents sets) = picked_with_parents sets
 
 -- ---- entities on their way
 

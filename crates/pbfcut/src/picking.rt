@@ -17,7 +17,7 @@ ghost use Rattle.osm_pack.specs.Packing.{IsPacking, has_header, packer_held, Pen
 ghost use Rattle.osm_pack.specs.Packing as packing;
 ghost use Rattle.pbfcut.specs.Counting.{counts_of, entities_of};
 ghost use Rattle.pbfcut.specs.Judged.{payload_fault_of, fully_known, judged_file};
-ghost use Rattle.pbfcut.specs.Picking.{pick_of, picked_by_some, picked_with_parents, Packs, Begins, StoppedInBlock, PacksFrame, StoppedPacking, Packed, PacksFront};
+ghost use Rattle.pbfcut.specs.Picking.{pick_of, picks_of, picked_by_some, picked_with_parents, Packs, Begins, StoppedInBlock, PacksFrame, StoppedPacking, Packed, PacksFront};
 ghost use Rattle.pbfcut.specs.Steps.{TakesSome, Took};
 ghost use Rattle.pbfcut.specs.Showing.{PayloadStops, TextStops, WriteStops};
 
@@ -25,7 +25,7 @@ use crate::counts::Pass;
 use crate::hashed::Hashed;
 use osm_entity::EntityRef;
 use osm_pack::Packer;
-use osm_ways::{Chosen, ChosenParents};
+use osm_ways::{Chooser, ChooserParents, Chosen, ChosenParents};
 use pbf_block::{Block, Counts, Entities, Header};
 use pbf_frame::{Drain, Feed, Frame, FrameKind, FrameReader, Stop};
 use std::alloc::Global;
@@ -54,23 +54,49 @@ impl<'a> Selection<'a> {
         }
     }
 
-    /// Whether an entity is written.
-    #[tactic(auto, unfolding(crate::specs::Picking::pick_of))]
-    fn picks(&self, entity: &EntityRef<'_>) -> bool
-        ensures { result ≡ pick_of self.now (entity_of entity.now) }
+    /// The same, to be asked of many entities one after another.
+    #[tactic(auto, unfolding(crate::specs::Picking::pick_of, crate::specs::Picking::picks_of))]
+    fn picker(self) -> Picker<'a>
+        ensures { picks_of result ≡ pick_of self.entry }
     {
-        match (self, entity) {
-            (Selection::Everything, _) => true,
-            (Selection::Ways(chosen), EntityRef::Node(node)) => chosen.keeps_node(node.id()),
-            (Selection::Ways(chosen), EntityRef::Way(way)) => chosen.keeps_way(way),
-            (Selection::Ways(chosen), EntityRef::Relation(relation)) => {
-                chosen.keeps_relation(relation)
-            }
-            (Selection::Parents(chosen), EntityRef::Node(node)) => chosen.keeps_node(node.id()),
-            (Selection::Parents(chosen), EntityRef::Way(way)) => chosen.keeps_way(way),
-            (Selection::Parents(chosen), EntityRef::Relation(relation)) => {
-                chosen.keeps_relation(relation)
-            }
+        match self {
+            Selection::Everything => Picker::Everything,
+            Selection::Ways(chosen) => Picker::Ways(chosen.chooser()),
+            Selection::Parents(chosen) => Picker::Parents(chosen.chooser()),
+        }
+    }
+}
+
+/// Which entities are written, asked of many one after another: the look-ups of ids that lie close together are cheap.
+#[derive(Drop)]
+pub(crate) enum Picker<'a> {
+    /// All of them.
+    Everything,
+    /// The complete-ways extract.
+    Ways(Chooser<'a>),
+    /// The extract with all parents.
+    Parents(ChooserParents<'a>),
+}
+
+impl Picker<'_> {
+    /// Whether an entity is written.
+    #[tactic(auto, unfolding(crate::specs::Picking::picks_of))]
+    fn picks(&mut self, entity: &EntityRef<'_>) -> bool
+        ensures picked { result ≡ picks_of self.old (entity_of entity.now) }
+        ensures same { self.new ≡ self.old }
+    {
+        match self {
+            Picker::Everything => true,
+            Picker::Ways(chooser) => match entity {
+                EntityRef::Node(node) => chooser.keeps_node(node.id()),
+                EntityRef::Way(way) => chooser.keeps_way(way),
+                EntityRef::Relation(relation) => chooser.keeps_relation(relation),
+            },
+            Picker::Parents(chooser) => match entity {
+                EntityRef::Node(node) => chooser.keeps_node(node.id()),
+                EntityRef::Way(way) => chooser.keeps_way(way),
+                EntityRef::Relation(relation) => chooser.keeps_relation(relation),
+            },
         }
     }
 }
@@ -94,8 +120,9 @@ fn pack_entities<D: Drain, S: BuildHasher>(
     ensures drain_lender { D.lender packer.new.drain ≡ D.lender packer.old.drain }
 {
     let mut counts = Counts::none();
+    let mut picker = selection.picker();
     for entity in entities {
-        if selection.picks(&entity) {
+        if picker.picks(&entity) {
             packer.push(&entity)?;
             counts.take(&entity);
         }

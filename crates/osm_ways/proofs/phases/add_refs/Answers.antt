@@ -16,10 +16,11 @@ loop-id-preserved-then-has c =
     let rest = refs_left c.next.new.self in
     let fits : SFits w64 id = search rules in
     let turn : refs_left l.id-iterator ≡ id ∷ rest = c.in-Some.ensures.steps in
-    let here : set.contains known id ≡ true = ap (set.contains known) (sym (to_z-of_z w64 id fits)) ∙ sym c.has.ensures ∙ c.if-has.true in
+    let here : set.contains known id ≡ true = ap (λ (s : Ids). set.contains s id) (sym l.invariant.same) ∙ ap (set.contains l.known) (sym (to_z-of_z w64 id fits)) ∙ sym c.has.ensures.found ∙ c.if-has.true in
     record {
       can = tt;
       ends = tt;
+      same = c.has.ensures.same ∙ l.invariant.same;
       so_far = ap (λ (s : Ids). fold set.insert s rest) (sym (insert_known known l.ids id here)) ∙ ap (fold set.insert (set.union known l.ids)) (sym turn) ∙ l.invariant.so_far;
     }
 
@@ -35,5 +36,6 @@ loop-id-preserved c =
     record {
       can = tt;
       ends = tt;
+      same = c.has.ensures.same ∙ l.invariant.same;
       so_far = ap (λ (s : Ids). fold set.insert s rest) (ap (set.union known) ids ∙ union-insert known l.ids id) ∙ ap (fold set.insert (set.union known l.ids)) (sym turn) ∙ l.invariant.so_far;
     }

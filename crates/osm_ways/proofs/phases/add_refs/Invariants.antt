@@ -10,5 +10,6 @@ abbrev pub invariant-loop-id : goal.invariant-loop-id
 invariant-loop-id l = record {
   can : (goal.iterator-loop-id).can_next l.id-iterator;
   ends : (goal.iterator-loop-id).is_finite l.id-iterator;
-  so_far : fold set.insert (set.union l.known l.ids) (refs_left l.id-iterator) ≡ fold set.insert (set.union l.known l.fn.ids) (way_of l.way).refs;
+  same : l.known ≡ l.fn.known;
+  so_far : fold set.insert (set.union l.fn.known l.ids) (refs_left l.id-iterator) ≡ fold set.insert (set.union l.fn.known l.fn.ids) (way_of l.way).refs;
 }

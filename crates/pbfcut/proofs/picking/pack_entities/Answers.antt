@@ -1,10 +1,10 @@
-use Rattle.std.proofs.Common.{[], ◌∷◌, ◌++◌, ◌∙◌, List, arith, rules, refl, sym, subst}
+use Rattle.std.proofs.Common.{[], ◌∷◌, ◌++◌, ◌∙◌, List, ap, arith, rules, refl, sym, subst}
 use Rattle.std.specs.List.{AllByRecursion}
 use Rattle.osm_entity.specs.Entity.{EntitySpec}
 use Rattle.osm_entity.specs.Ranges.{EntityFits}
 use Rattle.osm_entity.specs.Views.{entity_of}
 use Rattle.std.proofs.lemmas.Result.{err_from_is_err_and}
-use Rattle.pbfcut.specs.Picking.{pick_of}
+use Rattle.pbfcut.specs.Picking.{Pick, pick_of, picks_of}
 use Rattle.pbfcut.proofs.ShowingLemmas.{entities_more}
 use Rattle.pbfcut.proofs.PickingLemmas.{none_gone, one_picked, one_left, stopped_here, count_picked, count_left}
 use Rattle.pbfcut.proofs.picking.pack_entities.Goals as goal
@@ -13,6 +13,7 @@ pub loop-entity-init : goal.loop-entity-init
 loop-entity-init g c = record {
   can = search rules;
   ends = search rules;
+  picker = c.picker-picker.ensures;
   gone = [];
   split = search rules;
   fits = search rules;
@@ -29,11 +30,12 @@ loop-entity-preserved-then-picks g c =
     let so_far = c.loop-entity.invariant in
     let pick = pick_of c.args.selection in
     let e = entity_of c.in-Some.entity in
-    let picked = sym c.picks.ensures ∙ c.if-picks.true in
+    let picked = ap (λ (p : Pick). p (entity_of c.in-Some.entity)) (sym so_far.picker) ∙ sym c.picks.ensures.picked ∙ c.if-picks.true in
     let fits = subst (λ (l : List EntitySpec). AllByRecursion EntityFits l) c.in-Some.ensures.steps so_far.fits in
     record {
       can = search rules;
       ends = search rules;
+      picker = ap picks_of c.picks.ensures.same ∙ so_far.picker;
       gone = so_far.gone ++ e ∷ [];
       split = entities_more so_far.gone _ _ _ e c.in-Some.ensures.steps so_far.split;
       fits = fits.1;
@@ -50,11 +52,12 @@ loop-entity-preserved g c =
     let so_far = c.loop-entity.invariant in
     let pick = pick_of c.args.selection in
     let e = entity_of c.in-Some.entity in
-    let picked = sym c.picks.ensures ∙ c.if-picks.false in
+    let picked = ap (λ (p : Pick). p (entity_of c.in-Some.entity)) (sym so_far.picker) ∙ sym c.picks.ensures.picked ∙ c.if-picks.false in
     let fits = subst (λ (l : List EntitySpec). AllByRecursion EntityFits l) c.in-Some.ensures.steps so_far.fits in
     record {
       can = search rules;
       ends = search rules;
+      picker = ap picks_of c.picks.ensures.same ∙ so_far.picker;
       gone = so_far.gone ++ e ∷ [];
       split = entities_more so_far.gone _ _ _ e c.in-Some.ensures.steps so_far.split;
       fits = fits.1;
@@ -71,7 +74,7 @@ returns-in_err-push-clause-front g c =
     let p = err_from_is_err_and c.from_residual.result c.from_residual.ensures.1 in
     let so_far = c.loop-entity.invariant in
     let pick = pick_of c.args.selection in
-    let picked = sym c.picks.ensures ∙ c.if-picks.true in
+    let picked = ap (λ (p : Pick). p (entity_of c.in-Some.entity)) (sym so_far.picker) ∙ sym c.picks.ensures.picked ∙ c.if-picks.true in
     let fits = subst (λ (l : List EntitySpec). AllByRecursion EntityFits l) c.in-Some.ensures.steps so_far.fits in
     rw p.1 (record {
       begun = λ start done h.

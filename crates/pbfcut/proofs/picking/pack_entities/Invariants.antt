@@ -4,7 +4,7 @@ use Rattle.osm_entity.specs.Entity.{EntitySpec}
 use Rattle.osm_entity.specs.Ranges.{EntityFits}
 use Rattle.pbf_block.specs.Cursors.{entities_left}
 use Rattle.osm_pack.specs.Packing.{IsPacking, has_header}
-use Rattle.pbfcut.specs.Picking.{HasPacked, pick_of}
+use Rattle.pbfcut.specs.Picking.{HasPacked, pick_of, picks_of}
 use Rattle.pbfcut.proofs.CountLemmas.{CountedOn}
 use Rattle.pbfcut.proofs.picking.pack_entities.Given as goal
 
@@ -13,6 +13,7 @@ abbrev pub invariant-loop-entity : goal.invariant-loop-entity
 invariant-loop-entity g l = record {
   can : (goal.iterator-loop-entity g).can_next l.entity-iterator;
   ends : (goal.iterator-loop-entity g).is_finite l.entity-iterator;
+  picker : picks_of l.picker ≡ pick_of l.selection;
   gone : List EntitySpec;
   split : gone ++ entities_left l.entity-iterator ≡ entities_left l.fn.entities;
   fits : AllByRecursion EntityFits (entities_left l.entity-iterator);

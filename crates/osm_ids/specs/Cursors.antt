@@ -1,0 +1,26 @@
+-- How far a page is read, and which ids can be looked up from there.
+use Rattle.std.specs.Prelude.{◌≡◌, ℕ, ◌<◌, ◌≤◌, ◌⊎◌, List, ◌∷◌, drop, length, ℤ, ◌<ℤ◌, ◌≤ℤ◌, int_le, true, false}
+use Rattle.std.specs.List.{list_any}
+use Rattle.std.specs.List.Sorted.{IsPartitionPoint}
+use Rattle.std.specs.Ordering.{int_eq}
+use Rattle.osm_ids.specs.declared.page.Cursor.{Cursor}
+use Rattle.osm_ids.specs.declared.pages.PageStart.{PageStart}
+use Rattle.osm_ids.specs.Pages.{page_bytes, Rises, AllFit, ids_in}
+
+-- among ids, each one above `passed`, or at or above `last`, is `last` or one of those that the bytes from here on spell
+pub record IsAt (ids : List ℤ) (page : List ℕ) (cursor : Cursor) : Type 0 where
+  pub rest : List ℤ
+  pub rises : Rises cursor.last rest
+  pub fits : AllFit (cursor.last ∷ rest)
+  pub left : drop cursor.at page ≡ page_bytes (record { first = cursor.last; others = rest })
+  pub answer : (id : ℤ) → (cursor.passed <ℤ id) ⊎ (cursor.last ≤ℤ id) → list_any (int_eq id) (cursor.last ∷ rest) ≡ list_any (int_eq id) ids
+
+-- so many pages begin at or below the id, and the others above it
+abbrev pub IsPassedAt : List PageStart → ℤ → ℕ → Type 0
+IsPassedAt index id n = IsPartitionPoint (λ (s : PageStart). int_le s.first id ≡ true) (λ (s : PageStart). int_le s.first id ≡ false) index n
+
+-- in the last of so many pages, each id that can stand in that page is looked up
+pub record Stands (index : List PageStart) (bytes : List ℕ) (begun : ℕ) (page : List ℕ) (cursor : Cursor) : Type 0 where
+  pub ids : List ℤ
+  pub reached : IsAt ids page cursor
+  pub answer : (id : ℤ) → IsPassedAt index id begun → list_any (int_eq id) ids ≡ list_any (int_eq id) (ids_in index bytes)
