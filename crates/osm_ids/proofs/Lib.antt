@@ -4,6 +4,8 @@ pub mod Rising
 pub mod Paged
 pub mod Laid
 pub mod Found
+pub mod Laying
+pub mod OrderLemmas
 pub mod Reading
 pub mod LinkOrder
 pub mod Closing

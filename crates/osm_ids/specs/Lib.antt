@@ -1,2 +1,5 @@
 pub mod Pages
+pub mod Order
+pub mod Walks
+pub mod Merging
 pub mod Links

@@ -4,9 +4,12 @@
 
 pub mod laws;
 mod links;
+mod merge;
 mod page;
+mod open_pages;
 mod pages;
 mod set;
+mod walk;
 
 pub use links::{Link, Links};
 pub use pages::SealedIds;
