@@ -7,5 +7,6 @@ pub mod Found
 pub mod Laying
 pub mod OrderLemmas
 pub mod Reading
+pub mod Walking
 pub mod LinkOrder
 pub mod Closing

@@ -24,7 +24,7 @@ pub record IsAt (first : ℤ) (others : List ℤ) (id : ℤ) (bytes : List ℕ) 
 pub start : (first : ℤ) (others : List ℤ) (id : ℤ) (bytes : List ℕ) → Rises first others → AllFit (first ∷ others) → bytes ≡ spelled_after first others → IsAt first others id bytes first 0
 start first others id bytes rises fits e = record { rest = others; rises = rises; fits = fits; left = e; answer = refl }
 
-spelled_none : (last : ℤ) (rest : List ℤ) → Rises last rest → AllFit (last ∷ rest) → length (spelled_after last rest) ≡ 0 → rest ≡ []
+pub spelled_none : (last : ℤ) (rest : List ℤ) → Rises last rest → AllFit (last ∷ rest) → length (spelled_after last rest) ≡ 0 → rest ≡ []
 spelled_none last [] rises fits e = refl
 spelled_none last (x ∷ rest) rises fits e = let some = shortest_some (gap last x) (gap-lt last x fits.0 fits.1.0 rises.0) in absurd (omega (arith, e, length-append (shortest (gap last x)) (spelled_after x rest)))
 
@@ -69,7 +69,7 @@ answer_end first others id bytes last at h end =
     let none = spelled_none last h.rest h.rises h.fits (sym (ap length h.left) ∙ omega (arith, length-drop at bytes)) in
     sym (or_none (int_eq id last)) ∙ ap (λ r. int_eq id last || list_any (int_eq id) r) (sym none) ∙ h.answer
 
-pair_parts : (a b c d : ℕ) → ◌≡◌ {A = Result (ℕ × ℕ) Reason} (Ok (a, b)) (Ok (c, d)) → (a ≡ c) × (b ≡ d)
+pub pair_parts : (a b c d : ℕ) → ◌≡◌ {A = Result (ℕ × ℕ) Reason} (Ok (a, b)) (Ok (c, d)) → (a ≡ c) × (b ≡ d)
 pair_parts a b c d e =
     let same : ◌≡◌ {A = ℕ × ℕ} (a, b) (c, d) = cc in
     (ap (λ (p : ℕ × ℕ). p.0) same, ap (λ (p : ℕ × ℕ). p.1) same)
