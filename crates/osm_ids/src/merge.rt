@@ -33,8 +33,8 @@ impl<'a> Model for Merged<'a> {
 impl<'a> Merged<'a> {
     /// Both, of which no id may be the same.
     pub(crate) fn new(laid: Walk<'a>, late: &'a BTreeSet<i64>) -> Merged<'a>
-        requires rising { IsRising laid.entry }
-        requires apart { AreApart late.now.keys laid.entry }
+        requires rising { IsRising laid }
+        requires apart { AreApart late.now.keys laid }
         ensures { result ≡ merged late.now.keys laid.entry }
     {
         let mut late = late.iter();

@@ -97,7 +97,7 @@ impl IdSet {
 
 /// Rising ids, laid into pages.
 fn sealed(alloc: Global, ids: Merged<'_>) -> Result<SealedIds, AllocError>
-    requires { IsRising ids.entry }
+    requires { IsRising ids }
     ensures { IfOk result (λ sealed. sealed ≡ set.from_list ids.entry) }
 {
     let mut pages = OpenPages::new(alloc);
