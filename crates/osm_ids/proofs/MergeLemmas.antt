@@ -10,12 +10,12 @@ use Rattle.std.specs.FinSet as set
 use Rattle.std.proofs.lemmas.Bool.Decides.{Decides-int_eq}
 use Rattle.std.proofs.lemmas.Int.{ints}
 use Rattle.osm_ids.specs.Pages.{Rises, IsRising}
-use Rattle.osm_ids.specs.Order.{AreLate}
+use Rattle.osm_ids.specs.Order.{IsAbove, AreLate}
 use Rattle.osm_ids.specs.Merging.{merged, AreApart, IsMerging}
 use Rattle.osm_ids.proofs.Sets.{Ids, ids_of, contains-ids_of, ids_of-insert_key, or_swap}
 use Rattle.osm_ids.proofs.Rising.{rising_tail, insert_rises, insert_rising}
 use Rattle.osm_ids.proofs.Found.{rises_from}
-use Rattle.osm_ids.proofs.OrderLemmas.{with_late, contains-with_late, same_ids, none_late}
+use Rattle.osm_ids.proofs.OrderLemmas.{with_late, contains-with_late, same_ids, none_late, or_assoc}
 
 -- ---- where an id is inserted
 
@@ -128,3 +128,49 @@ merging others ids next left e h k a = record { others_rise = subst IsRising e h
 
 pub fewer : (s t : List ℤ) (x : ℤ) → s ≡ x ∷ t → length t < length s
 fewer s t x e = omega (arith, ap length e)
+
+-- ---- laid one after the other
+
+pub record Gathered (done : Ids) (left all : List ℤ) : Type 0 where
+  pub whole : (x : ℤ) → (set.contains done x || list_any (int_eq x) left) ≡ list_any (int_eq x) all
+  pub above : (x : ℤ) → set.contains done x ≡ true → Rises x left
+  pub rising : IsRising left
+
+pub gathered_start : (all : List ℤ) → IsRising all → Gathered set.empty all all
+gathered_start all h =
+    record {
+      whole = λ x. ap (λ b. b || list_any (int_eq x) all) (set.contains-empty int_cmp x);
+      above = λ x e. absurd (true≢false (sym e ∙ set.contains-empty int_cmp x));
+      rising = h;
+    }
+
+pub gathered_above : (done : Ids) (id : ℤ) (left all : List ℤ) → Gathered done (id ∷ left) all → IsAbove done id
+gathered_above done id left all g x e = (g.above x e).0
+
+pub gathered_more : (done : Ids) (id : ℤ) (left all : List ℤ) → Gathered done (id ∷ left) all → Gathered (set.insert done id) left all
+gathered_more done id left all g =
+    record {
+      whole = λ x.
+          ap (λ b. b || list_any (int_eq x) left) (set.contains-insert int_cmp_total done id x)
+          ∙ or_assoc (int_eq x id) (set.contains done x) (list_any (int_eq x) left)
+          ∙ or_swap (int_eq x id) (set.contains done x) (list_any (int_eq x) left)
+          ∙ g.whole x;
+      above = λ x e.
+          elim (int_eq x id) as (λ b. int_eq x id ≡ b → (b || set.contains done x) ≡ true → Rises x left) [
+            | true ↦ λ is _. subst (λ z. Rises z left) (sym ((Decides-int_eq x id).0 is)) g.rising
+            | false ↦ λ _ old. let up = g.above x old in rises_from x id left up.0 up.1
+          ] refl (sym (set.contains-insert int_cmp_total done id x) ∙ e);
+      rising = rising_tail id left g.rising;
+    }
+
+or_none : (b : Bool) → (b || false) ≡ b
+or_none true = refl
+or_none false = refl
+
+pub gathered_end : (done : Ids) (left all : List ℤ) → Gathered done left all → left ≡ [] → done ≡ ids_of all
+gathered_end done left all g e =
+    same_ids _ _ (λ x.
+    sym (or_none (set.contains done x))
+    ∙ ap (λ (rest : List ℤ). set.contains done x || list_any (int_eq x) rest) (sym e)
+    ∙ g.whole x
+    ∙ sym (contains-ids_of all x))

@@ -134,3 +134,7 @@ known_laid ids late id e = contains-with_late ids late id ∙ ap (λ b. b || lis
 
 pub new_late : (ids : Ids) (late : List ℤ) (id : ℤ) → set.contains ids id ≡ false → set.contains (with_late ids late) id ≡ list_any (int_eq id) late
 new_late ids late id e = contains-with_late ids late id ∙ ap (λ b. b || list_any (int_eq id) late) e
+
+pub empty_late : (ids : Ids) (late : List ℤ) → length late ≡ 0 → with_late ids late ≡ ids
+empty_late ids [] none = none_late ids
+empty_late ids (x ∷ late) none = absurd (omega (arith, none))
