@@ -71,8 +71,7 @@ late_none ids x e = absurd (true≢false (sym e))
 pub late_lay : (ids : Ids) (late : List ℤ) (id : ℤ) → AreLate ids late → IsAbove ids id → AreLate (set.insert ids id) late
 late_lay ids late id l up x e =
     let below = late_below ids late id x l up e in
-    let reached = (l x e).1 in
-    (
+    let reached = (l x e).1 in (
       set.contains-insert int_cmp_total ids id x ∙ or_false (int_eq x id) (set.contains ids x) (other x id (λ same. omega (arith, ints))) (l x e).0,
       (reached.0, set.contains-insert int_cmp_total ids id reached.0 ∙ or_true (int_eq reached.0 id) (set.contains ids reached.0) reached.1, reached.2),
     )

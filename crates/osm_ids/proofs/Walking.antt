@@ -141,8 +141,7 @@ module _ (next : ℤ) (place : ℕ) (starts : List PageStart) (bytes : List ℕ)
   -- the bytes of the last page end
   ended : (h : Here next place starts bytes) → h.others ≡ [] → (r ≡ None) × (drop 1 (ids_in (record { first = next; place = place } ∷ starts) bytes) ≡ [])
   ended h e =
-      let later = no_page place h.later starts (h.index ∙ ap (λ os. starts_from (place + length (spelled_after next os)) h.later) e ∙ ap (λ k. starts_from k h.later) (omega arith)) none in
-      (
+      let later = no_page place h.later starts (h.index ∙ ap (λ os. starts_from (place + length (spelled_after next os)) h.later) e ∙ ap (λ k. starts_from k h.later) (omega arith)) none in (
         ends (h.spelled ∙ ap (λ os. spelled_after next os ++ bytes_of_pages h.later) e ∙ ap bytes_of_pages later),
         ap (drop 1) (h.ids ∙ ap (λ os. next ∷ (os ++ ids_of_pages h.later)) e) ∙ ap ids_of_pages later,
       )
@@ -154,20 +153,19 @@ module _ (next : ℤ) (place : ℕ) (starts : List PageStart) (bytes : List ℕ)
       let rises = subst (λ (os : List ℤ). Rises next (os ++ ids_of_pages h.later)) e h.rises in
       let fits = subst (λ (os : List ℤ). AllFit (next ∷ (os ++ ids_of_pages h.later))) e h.fits in
       let spelled : drop place bytes ≡ shortest (gap next id) ++ (spelled_after id others ++ bytes_of_pages h.later) =
-      h.spelled ∙ ap (λ os. spelled_after next os ++ bytes_of_pages h.later) e ∙ append_assoc (shortest (gap next id)) (spelled_after id others) (bytes_of_pages h.later) in
-      (
+      h.spelled ∙ ap (λ os. spelled_after next os ++ bytes_of_pages h.later) e ∙ append_assoc (shortest (gap next id)) (spelled_after id others) (bytes_of_pages h.later) in (
         goes id (spelled_after id others ++ bytes_of_pages h.later) rises.0 fits.1.0 spelled,
         further id (place + size) starts bytes
-        (record {
-          pages = record { first = id; others = others } ∷ h.later;
-          within = omega (arith, h.within, ap length spelled, length-drop place bytes, length-append (shortest (gap next id)) (spelled_after id others ++ bytes_of_pages h.later));
-          index = ap (λ s. record { first = id; place = place + size } ∷ s)
-          (h.index ∙ ap (λ os. starts_from (place + length (spelled_after next os)) h.later) e ∙ ap (λ k. starts_from k h.later) (omega (arith, length-append (shortest (gap next id)) (spelled_after id others))));
-          spelled = sym (drop-drop size place bytes) ∙ ap (drop size) spelled ∙ drop-append_seam (shortest (gap next id)) (spelled_after id others ++ bytes_of_pages h.later);
-          rising = rises.1;
-          fits = fits.1;
-        }) _
-        (sym (ap (drop 1) (h.ids ∙ ap (λ os. next ∷ (os ++ ids_of_pages h.later)) e))),
+            (record {
+              pages = record { first = id; others = others } ∷ h.later;
+              within = omega (arith, h.within, ap length spelled, length-drop place bytes, length-append (shortest (gap next id)) (spelled_after id others ++ bytes_of_pages h.later));
+              index = ap (λ s. record { first = id; place = place + size } ∷ s)
+                  (h.index ∙ ap (λ os. starts_from (place + length (spelled_after next os)) h.later) e ∙ ap (λ k. starts_from k h.later) (omega (arith, length-append (shortest (gap next id)) (spelled_after id others))));
+              spelled = sym (drop-drop size place bytes) ∙ ap (drop size) spelled ∙ drop-append_seam (shortest (gap next id)) (spelled_after id others ++ bytes_of_pages h.later);
+              rising = rises.1;
+              fits = fits.1;
+            }) _
+            (sym (ap (drop 1) (h.ids ∙ ap (λ os. next ∷ (os ++ ids_of_pages h.later)) e))),
       )
 
   at_end : (h : Here next place starts bytes) (others : List ℤ) → h.others ≡ others → r ≡ None → drop 1 (ids_in (record { first = next; place = place } ∷ starts) bytes) ≡ []

@@ -5,8 +5,8 @@
 pub mod laws;
 mod links;
 mod merge;
-mod page;
 mod open_pages;
+mod page;
 mod pages;
 mod set;
 mod walk;

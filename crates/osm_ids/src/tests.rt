@@ -66,10 +66,17 @@ fn ids_of_known_sizes(rt: HostRuntime) -> Result<(), AllocError> {
 #[test]
 fn rising_then_late_then_rising(rt: HostRuntime) -> Result<(), AllocError> {
     let mut set = IdSet::new(rt.alloc());
-    for id in 0..200i64 {
-        assert!(rt; set.add(id * 10)?);
+    for turn in 0..200i32 {
+        assert!(rt; set.add(i64::from(turn) * 10)?);
     }
-    for (id, is_new) in [(1990, false), (0, false), (15, true), (15, false), (1275, true), (-7, true)] {
+    for (id, is_new) in [
+        (1990, false),
+        (0, false),
+        (15, true),
+        (15, false),
+        (1275, true),
+        (-7, true),
+    ] {
         assert_eq!(rt; set.add(id)?, is_new);
     }
     assert!(rt; set.add(1991)?);
@@ -92,9 +99,9 @@ fn falling_ids_lie_as_rising_ones(rt: HostRuntime) -> Result<(), AllocError> {
     let alloc = rt.alloc();
     let mut rising = Vec::new(alloc);
     let mut falling = Vec::new(alloc);
-    for turn in 0..300i64 {
-        rising.push(turn * 300 - 40_000)?;
-        falling.push((299 - turn) * 300 - 40_000)?;
+    for turn in 0..300i32 {
+        rising.push(i64::from(turn) * 300 - 40_000)?;
+        falling.push(49_700 - i64::from(turn) * 300)?;
     }
     let in_order = sealed(gathered(alloc, &rising)?)?;
     let turned = sealed(gathered(alloc, &falling)?)?;
@@ -111,7 +118,10 @@ fn falling_ids_lie_as_rising_ones(rt: HostRuntime) -> Result<(), AllocError> {
 fn bytes_of_known_ids(rt: HostRuntime) -> Result<(), AllocError> {
     for ids in [[3, 5, 300, -2], [-2, 3, 5, 300]] {
         let sealed = sealed(gathered(rt.alloc(), &ids)?)?;
-        assert_eq!(rt; (sealed.index[0].first, sealed.index[0].place), (-2, 0));
+        assert_eq!(rt; sealed.pages(), 1);
+        for start in &sealed.index {
+            assert_eq!(rt; (start.first, start.place), (-2, 0));
+        }
         assert_eq!(rt; sealed.bytes.as_slice(), &[5, 2, 0xa7, 2][..]);
     }
     Ok(())
@@ -140,8 +150,9 @@ fn refused_once_and_tried_again(rt: HostRuntime) -> Result<(), AllocError> {
 #[test]
 fn late_ids_refused_once(rt: HostRuntime) -> Result<(), AllocError> {
     let mut set = IdSet::new(rt.alloc());
-    for turn in 0..150i64 {
-        for id in [turn * 4, turn * 4 - 6] {
+    for turn in 0..150i32 {
+        let rising = i64::from(turn) * 4;
+        for id in [rising, rising - 6] {
             match set.add(id) {
                 Ok(is_new) => assert!(rt; is_new),
                 Err(_) => assert!(rt; set.add(id)?),
