@@ -1,5 +1,5 @@
 -- How pages lie in an index and in bytes: how they grow, how they are found, and that they are read again.
-use Rattle.std.proofs.Common.{◌≡◌, ℕ, suc, ◌+◌, ◌-◌, ◌*◌, ◌<◌, ◌≤◌, List, [], ◌∷◌, ◌++◌, length, take, drop, ℤ, refl, sym, ap, subst, ◌∙◌, arith, append_assoc, length-append, FitsSigned, w64}
+use Rattle.std.proofs.Common.{◌≡◌, ℕ, suc, ◌+◌, ◌-◌, ◌*◌, ◌<◌, ◌≤◌, List, [], ◌∷◌, ◌++◌, length, take, drop, ℤ, refl, sym, ap, ◌∙◌, arith, append_assoc, length-append}
 use Rattle.std.specs.Int.{div_ceil}
 use Rattle.std.proofs.lemmas.Grind.{flat_map-append}
 use Rattle.std.proofs.lemmas.List.{append-nil, drop-drop}
@@ -103,7 +103,7 @@ pub fits_back : (xs ys : List ℤ) → AllFit (xs ++ ys) → AllFit ys
 fits_back [] ys h = h
 fits_back (x ∷ xs) ys h = fits_back xs ys h.1
 
-pub rising_after : (low : ℤ) (xs ys : List ℤ) → Rises low (xs ++ ys) → IsRising ys
+rising_after : (low : ℤ) (xs ys : List ℤ) → Rises low (xs ++ ys) → IsRising ys
 rising_after low [] ys h = rising_tail low ys h
 rising_after low (x ∷ xs) ys h = rising_after x xs ys h.1
 

@@ -1,7 +1,7 @@
 -- One more id, above all others, behind them.
-use Rattle.std.proofs.Common.{◌≡◌, ℕ, zero, suc, ◌+◌, ◌-◌, ◌%◌, ◌^◌, ◌<◌, ◌≤◌, Bool, true, false, ◌||◌, List, [], ◌∷◌, ◌++◌, length, ℤ, ◌<ℤ◌, ◌≤ℤ◌, refl, sym, ap, subst, ◌∙◌, arith, rules, length-append, FitsSigned, w64}
+use Rattle.std.proofs.Common.{◌≡◌, ℕ, suc, ◌+◌, ◌-◌, ◌%◌, ◌<◌, ◌≤◌, Bool, true, false, ◌||◌, List, [], ◌∷◌, ◌++◌, length, ℤ, ◌<ℤ◌, ◌≤ℤ◌, refl, sym, ap, subst, ◌∙◌, arith, length-append, FitsSigned, w64}
 use Rattle.std.specs.List.{list_any}
-use Rattle.std.specs.Ordering.{int_eq, int_cmp}
+use Rattle.std.specs.Ordering.{int_eq}
 use Rattle.std.specs.Cmp.{int_cmp_total}
 use Rattle.std.specs.FinSet as set
 use Rattle.std.proofs.lemmas.Bool.Decides.{Decides-int_eq}
@@ -10,18 +10,14 @@ use Rattle.std.proofs.lemmas.List.{append-nil}
 use Rattle.osm_ids.specs.declared.pages.PageStart.{PageStart}
 use Rattle.pbf_wire.specs.Varint.{shortest}
 use Rattle.osm_ids.specs.Pages.{gap, Page, page_ids, page_bytes, ids_of_pages, bytes_of_pages, starts_from, IsFilled, Rises, IsRising, AllFit, ids_in, IsSealed}
-use Rattle.osm_ids.specs.Order.{IsAbove, IsGreatest, IsReached}
-use Rattle.osm_ids.proofs.Sets.{Ids, ids_of, contains-ids_of}
+use Rattle.osm_ids.specs.Order.{IsAbove, IsGreatest}
+use Rattle.osm_ids.proofs.Sets.{ids_of, contains-ids_of}
 use Rattle.osm_ids.proofs.Gaps.{spelled_after, gap-lt, shortest_some}
-use Rattle.osm_ids.proofs.Rising.{none_above, rises_front, rising_tail}
+use Rattle.osm_ids.proofs.Rising.{rises_front, rising_tail, or_none}
 use Rattle.osm_ids.proofs.Found.{rises_skip}
 use Rattle.osm_ids.proofs.Laid.{IsOpen, last_of, lone, with_id, starts-push, bytes-push, ids-push, open-push, starts-with_id, bytes-with_id, ids-with_id, open-with_id, filled_from_open, fits_front, fits_back, ids_in_sealed}
 
 -- ---- the last id
-
-or_none : (b : Bool) → (b || false) ≡ b
-or_none true = refl
-or_none false = refl
 
 -- the list ends with last, if it has any
 abbrev pub EndsWith : List ℤ → ℤ → Type 0
@@ -71,15 +67,15 @@ pub record Room (pages : List Page) (last : ℤ) (count : ℕ) : Type 0 where
   pub full : count % 128 ≡ 0 → room ≡ 0
   pub some : 0 < count % 128 → 0 < room
 
--- a page's rest
-fits_page : (others rest count : ℕ) → others ≤ 127 → count ≡ suc others → (count % 128 ≡ 0 → 127 - others ≡ 0) × (0 < count % 128 → 0 < 127 - others)
-fits_page others rest count few e = (λ z. omega arith, λ p. omega arith)
+-- the room of a last page
+fits_page : (others count : ℕ) → others ≤ 127 → count ≡ suc others → (count % 128 ≡ 0 → 127 - others ≡ 0) × (0 < count % 128 → 0 < 127 - others)
+fits_page others count few e = (λ z. omega arith, λ p. omega arith)
 
 pub room_of : (pages : List Page) (last : ℤ) → IsFilled pages → EndsWith (ids_of_pages pages) last → Room pages last (length (ids_of_pages pages))
 room_of [] last h e = record { room = 0; unfinished = refl; full = λ _. refl; some = λ p. absurd (omega (arith, p)) }
 room_of (page ∷ []) last h e =
     let count : length (ids_of_pages (page ∷ [])) ≡ suc (length page.others) = ap length (append-nil (page_ids page)) in
-    let f = fits_page (length page.others) 0 (length (ids_of_pages (page ∷ []))) h count in
+    let f = fits_page (length page.others) (length (ids_of_pages (page ∷ []))) h count in
     record {
       room = 127 - length page.others;
       unfinished = (omega (arith, h), ap (last_of page.first) (sym (append-nil page.others)) ∙ e);

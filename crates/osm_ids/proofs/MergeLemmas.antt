@@ -10,10 +10,10 @@ use Rattle.std.specs.FinSet as set
 use Rattle.std.proofs.lemmas.Bool.Decides.{Decides-int_eq}
 use Rattle.std.proofs.lemmas.Int.{ints}
 use Rattle.osm_ids.specs.Pages.{Rises, IsRising}
-use Rattle.osm_ids.specs.Order.{IsAbove, AreLate}
+use Rattle.osm_ids.specs.Order.{AreLate}
 use Rattle.osm_ids.specs.Merging.{merged, AreApart, IsMerging}
 use Rattle.osm_ids.proofs.Sets.{Ids, ids_of, contains-ids_of, ids_of-insert_key, or_swap}
-use Rattle.osm_ids.proofs.Rising.{rising_tail, insert_rises, insert_rising}
+use Rattle.osm_ids.proofs.Rising.{rising_tail, insert_rises, insert_rising, or_none}
 use Rattle.osm_ids.proofs.Found.{rises_from}
 use Rattle.osm_ids.proofs.OrderLemmas.{with_late, contains-with_late, same_ids, none_late, or_assoc}
 
@@ -144,9 +144,6 @@ gathered_start all h =
       rising = h;
     }
 
-pub gathered_above : (done : Ids) (id : ℤ) (left all : List ℤ) → Gathered done (id ∷ left) all → IsAbove done id
-gathered_above done id left all g x e = (g.above x e).0
-
 pub gathered_more : (done : Ids) (id : ℤ) (left all : List ℤ) → Gathered done (id ∷ left) all → Gathered (set.insert done id) left all
 gathered_more done id left all g =
     record {
@@ -162,10 +159,6 @@ gathered_more done id left all g =
           ] refl (sym (set.contains-insert int_cmp_total done id x) ∙ e);
       rising = rising_tail id left g.rising;
     }
-
-or_none : (b : Bool) → (b || false) ≡ b
-or_none true = refl
-or_none false = refl
 
 pub gathered_end : (done : Ids) (left all : List ℤ) → Gathered done left all → left ≡ [] → done ≡ ids_of all
 gathered_end done left all g e =

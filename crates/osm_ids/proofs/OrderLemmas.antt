@@ -1,5 +1,5 @@
 -- The greatest id of a set, and the ids that came late.
-use Rattle.std.proofs.Common.{◌≡◌, ℕ, ◌<◌, Bool, true, false, ◌||◌, List, [], ◌∷◌, length, ℤ, ◌<ℤ◌, ◌≤ℤ◌, refl, sym, ap, subst, ◌∙◌, arith, true≢false}
+use Rattle.std.proofs.Common.{◌≡◌, ◌<◌, Bool, true, false, ◌||◌, List, [], ◌∷◌, length, ℤ, ◌<ℤ◌, ◌≤ℤ◌, refl, sym, ap, subst, ◌∙◌, arith, true≢false}
 use Rattle.std.specs.List.{list_any}
 use Rattle.std.specs.Ordering.{int_eq, int_cmp}
 use Rattle.std.specs.Cmp.{int_cmp_total}
@@ -8,10 +8,9 @@ use Rattle.std.specs.FinSet as set
 use Rattle.std.proofs.lemmas.Bool.{false_from_ne_true}
 use Rattle.std.proofs.lemmas.Bool.Decides.{Decides-int_eq}
 use Rattle.std.proofs.lemmas.Int.{ints}
-use Rattle.osm_ids.specs.Pages.{IsRising}
 use Rattle.osm_ids.specs.Order.{IsAbove, IsGreatest, IsReached, AreLate}
-use Rattle.osm_ids.proofs.Sets.{Ids, ids_of, contains-ids_of, any-insert_key, ids_of-insert_key, or_swap}
-use Rattle.osm_ids.proofs.Rising.{other, len-rising, rising_list}
+use Rattle.osm_ids.proofs.Sets.{Ids, ids_of, contains-ids_of, any-insert_key, or_swap}
+use Rattle.osm_ids.proofs.Rising.{other, len-rising, rising_list, or_none}
 
 -- ---- the greatest id
 
@@ -35,9 +34,6 @@ insert_greatest ids id up =
 -- no id at all
 pub none_above_it : (ids : Ids) (id : ℤ) → set.len ids ≡ 0 → IsAbove ids id
 none_above_it ids id none x e = absurd (empty_has x (ap (λ (s : Ids). set.contains s x) (sym (set.empty_of_len ids none)) ∙ e))
-
-pub greatest_above : (ids : Ids) (last id : ℤ) → IsGreatest ids last → last <ℤ id → IsAbove ids id
-greatest_above ids last id g up x e = let most = g.most x e in omega (arith, ints)
 
 one_of : (ids : List ℤ) → 0 < length ids → (x : ℤ) × (list_any (int_eq x) ids ≡ true)
 one_of [] some = absurd (omega arith)
@@ -64,9 +60,6 @@ or_true false b e = e
 -- a late id is no new one
 late_below : (ids : Ids) (late : List ℤ) (id x : ℤ) → AreLate ids late → IsAbove ids id → list_any (int_eq x) late ≡ true → x <ℤ id
 late_below ids late id x l up e = let reached = (l x e).1 in let below = up reached.0 reached.1 in let low = reached.2 in omega (arith, ints)
-
-pub late_none : (ids : Ids) → AreLate ids []
-late_none ids x e = absurd (true≢false (sym e))
 
 pub late_lay : (ids : Ids) (late : List ℤ) (id : ℤ) → AreLate ids late → IsAbove ids id → AreLate (set.insert ids id) late
 late_lay ids late id l up x e =
@@ -120,10 +113,6 @@ insert-with_late ids late id =
     ∙ or_swap (set.contains ids x) (int_eq x id) (list_any (int_eq x) late)
     ∙ ap (λ b. int_eq x id || b) (sym (contains-with_late ids late x))
     ∙ sym (set.contains-insert int_cmp_total (with_late ids late) id x))
-
-or_none : (b : Bool) → (b || false) ≡ b
-or_none true = refl
-or_none false = refl
 
 pub none_late : (ids : Ids) → with_late ids [] ≡ ids
 none_late ids = same_ids _ _ (λ x. contains-with_late ids [] x ∙ or_none (set.contains ids x))

@@ -1,5 +1,5 @@
 -- How far one page has been read.
-use Rattle.std.proofs.Common.{◌≡◌, ℕ, ◌+◌, ◌^◌, ◌<◌, ◌≤◌, Bool, true, false, ◌||◌, List, [], ◌∷◌, ◌++◌, length, drop, Result, Ok, ℤ, pos, ◌+ℤ◌, ◌<ℤ◌, ◌≤ℤ◌, refl, sym, ap, subst, ◌∙◌, arith, FitsSigned, w64, length-append, length-drop}
+use Rattle.std.proofs.Common.{◌≡◌, ℕ, ◌+◌, ◌^◌, ◌<◌, ◌≤◌, ◌||◌, List, [], ◌∷◌, ◌++◌, length, drop, Result, Ok, ℤ, pos, ◌+ℤ◌, ◌<ℤ◌, ◌≤ℤ◌, refl, sym, ap, subst, ◌∙◌, arith, FitsSigned, w64, length-append, length-drop}
 use Rattle.std.specs.List.{list_any}
 use Rattle.std.specs.Ordering.{int_eq}
 use Rattle.std.proofs.lemmas.Int.{to_z-of_z, of_z-to_z}
@@ -11,7 +11,7 @@ use Rattle.pbf_wire.specs.declared.fault.Reason.{Reason}
 use Rattle.pbf_wire.specs.Varint.{shortest, varint_at, moved_by}
 use Rattle.osm_ids.specs.Pages.{gap, Rises, AllFit}
 use Rattle.osm_ids.proofs.Gaps.{spelled_after, gap_up, gap-lt, shortest_some, read_at}
-use Rattle.osm_ids.proofs.Rising.{other_below, none_above}
+use Rattle.osm_ids.proofs.Rising.{other_below, none_above, or_none}
 
 -- the ids after last are rest, and the answer is among last and rest
 pub record IsAt (first : ℤ) (others : List ℤ) (id : ℤ) (bytes : List ℕ) (last : ℤ) (at : ℕ) : Type 0 where
@@ -55,10 +55,6 @@ next_of first others id bytes last at (x ∷ rest) rises fits left answer low lt
 
 pub next : (first : ℤ) (others : List ℤ) (id : ℤ) (bytes : List ℕ) (last : ℤ) (at : ℕ) → IsAt first others id bytes last at → last <ℤ id → at < length bytes → Next first others id bytes last at
 next first others id bytes last at h low lt = next_of first others id bytes last at h.rest h.rises h.fits h.left h.answer low lt
-
-or_none : (b : Bool) → (b || false) ≡ b
-or_none true = refl
-or_none false = refl
 
 -- past the id, or at the end, the answer is whether last is the id
 pub answer_past : (first : ℤ) (others : List ℤ) (id : ℤ) (bytes : List ℕ) (last : ℤ) (at : ℕ) → IsAt first others id bytes last at → id ≤ℤ last → int_eq id last ≡ list_any (int_eq id) (first ∷ others)

@@ -76,7 +76,7 @@ len-rising (x ∷ ids) h =
     let absent = contains-ids_of ids x ∙ none_above x ids x h (omega (arith, ints)) in
     set.len-insert int_cmp_total (ids_of ids) x ∙ rw absent (omega (arith, len-rising ids (rising_tail x ids h)))
 
-or_none : (b : Bool) → (b || false) ≡ b
+pub or_none : (b : Bool) → (b || false) ≡ b
 or_none true = refl
 or_none false = refl
 

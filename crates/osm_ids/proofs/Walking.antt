@@ -1,13 +1,12 @@
 -- Pages that are read one id after the other.
-use Rattle.std.proofs.Common.{◌≡◌, ℕ, ◌+◌, ◌-◌, ◌<◌, ◌≤◌, List, [], ◌∷◌, ◌++◌, length, drop, Option, Some, None, Result, Ok, ℤ, pos, ◌+ℤ◌, ◌<ℤ◌, refl, sym, ap, subst, ◌∙◌, arith, length-append, length-drop, append_assoc, FitsSigned, w64}
-use Rattle.std.proofs.lemmas.Int.{ints}
+use Rattle.std.proofs.Common.{◌≡◌, ℕ, ◌+◌, ◌≤◌, List, [], ◌∷◌, ◌++◌, length, drop, Option, Some, None, Result, Ok, ℤ, pos, ◌+ℤ◌, ◌<ℤ◌, refl, sym, ap, subst, ◌∙◌, arith, length-append, length-drop, append_assoc, FitsSigned, w64}
 use Rattle.std.proofs.lemmas.List.{drop-drop}
 use Rattle.std.proofs.Math.Seq.{drop-append_seam}
 use Rattle.pbf_wire.specs.declared.fault.Reason.{Reason}
 use Rattle.pbf_wire.specs.Varint.{shortest, varint_at, moved_by}
 use Rattle.osm_ids.specs.declared.pages.PageStart.{PageStart}
 use Rattle.osm_ids.specs.Pages.{gap, Page, page_bytes, ids_of_pages, bytes_of_pages, starts_from, Rises, IsRising, AllFit, ids_in, IsSealed}
-use Rattle.osm_ids.specs.Walks.{ids_left, IsLeft}
+use Rattle.osm_ids.specs.Walks.{IsLeft}
 use Rattle.osm_ids.proofs.Gaps.{spelled_after, gap_up, gap-lt, read_at}
 use Rattle.osm_ids.proofs.Rising.{rises_front, rising_tail}
 use Rattle.osm_ids.proofs.Reading.{pair_parts, spelled_none}
@@ -119,8 +118,8 @@ pub none_begins : (starts : List PageStart) (place : ℕ) → length starts ≡ 
 none_begins starts place none start rest e at = absurd (omega (arith, none, ap length e))
 
 -- what the look at the bytes answers
-abbrev pub EndsAt : ℕ → List ℕ → Option (ℤ × ℕ) → Type 0
-EndsAt place bytes r = drop place bytes ≡ [] → r ≡ None
+abbrev pub StopsAt : ℕ → List ℕ → Option (ℤ × ℕ) → Type 0
+StopsAt place bytes r = drop place bytes ≡ [] → r ≡ None
 
 abbrev pub GoesOn : ℤ → ℕ → List ℕ → Option (ℤ × ℕ) → Type 0
 GoesOn last place bytes r = (id : ℤ) (rest : List ℕ) → last <ℤ id → FitsSigned w64 id → drop place bytes ≡ shortest (gap last id) ++ rest → r ≡ Some (id, place + length (shortest (gap last id)))
@@ -137,7 +136,7 @@ some_parts a b p q e =
     let same : ◌≡◌ {A = ℤ × ℕ} (a, p) (b, q) = cc in
     (ap (λ (x : ℤ × ℕ). x.0) same, ap (λ (x : ℤ × ℕ). x.1) same)
 
-module _ (next : ℤ) (place : ℕ) (starts : List PageStart) (bytes : List ℕ) (none : BeginsNone starts place) (r : Option (ℤ × ℕ)) (ends : EndsAt place bytes r) (goes : GoesOn next place bytes r) where
+module _ (next : ℤ) (place : ℕ) (starts : List PageStart) (bytes : List ℕ) (none : BeginsNone starts place) (r : Option (ℤ × ℕ)) (ends : StopsAt place bytes r) (goes : GoesOn next place bytes r) where
   -- the bytes of the last page end
   ended : (h : Here next place starts bytes) → h.others ≡ [] → (r ≡ None) × (drop 1 (ids_in (record { first = next; place = place } ∷ starts) bytes) ≡ [])
   ended h e =

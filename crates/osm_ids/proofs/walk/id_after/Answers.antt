@@ -1,7 +1,5 @@
-use Rattle.std.proofs.Common.{◌≡◌, ◌+◌, ◌+ℤ◌, pos, Some, ℤ, ℕ, length, to_z, of_z, FitsSigned, sym, ap, subst, ◌∙◌, w64}
+use Rattle.std.proofs.Common.{◌≡◌, ◌+ℤ◌, pos, Some, to_z, of_z, FitsSigned, sym, ap, subst, ◌∙◌, w64}
 use Rattle.std.proofs.lemmas.Int.{to_z-of_z}
-use Rattle.pbf_wire.specs.Varint.{shortest}
-use Rattle.osm_ids.specs.Pages.{gap}
 use Rattle.osm_ids.proofs.Walking.{read_gap, turn_gap}
 use Rattle.osm_ids.proofs.walk.id_after.Goals as goal
 

@@ -1,4 +1,4 @@
-use Rattle.std.proofs.Common.{◌≡◌, ℤ, List, sym, ◌∙◌}
+use Rattle.std.proofs.Common.{◌≡◌, sym, ◌∙◌}
 use Rattle.std.specs.List.{cons_option}
 use Rattle.osm_ids.proofs.Rising.{rising_from_sorted}
 use Rattle.osm_ids.proofs.MergeLemmas.{taken, taken_none, merging}

@@ -1,9 +1,8 @@
-use Rattle.std.proofs.Common.{◌<ℤ◌, ◌≤ℤ◌, sym, subst, ap, ◌∙◌, arith, rules, w64}
-use Rattle.std.specs.FinSet as set
+use Rattle.std.proofs.Common.{◌≤ℤ◌, sym, subst, ◌∙◌, arith, w64}
 use Rattle.std.proofs.lemmas.Int.{to_z-of_z, ints}
 use Rattle.osm_ids.specs.Order.{IsAbove, IsReached}
 use Rattle.osm_ids.proofs.Sets.{Ids}
-use Rattle.osm_ids.proofs.OrderLemmas.{none_above_it, greatest_above, greatest_reaches}
+use Rattle.osm_ids.proofs.OrderLemmas.{none_above_it, greatest_reaches}
 use Rattle.osm_ids.proofs.open_pages.OpenPages.takes.Goals as goal
 
 pub returns-then-count-eq0-clause-above : goal.returns-then-count-eq0-clause-above

@@ -1,4 +1,4 @@
-use Rattle.std.proofs.Common.{◌≡◌, ◌∷◌, [], ◌++◌, ℤ, length, sym, ap, subst, ◌∙◌, arith, length-append, to_z, of_z, w64}
+use Rattle.std.proofs.Common.{◌≡◌, ◌∷◌, [], ◌++◌, length, sym, ap, subst, ◌∙◌, arith, length-append, to_z, of_z, w64}
 use Rattle.std.specs.FinSet as set
 use Rattle.std.proofs.lemmas.Int.{to_z-of_z}
 use Rattle.pbf_wire.specs.Varint.{shortest}

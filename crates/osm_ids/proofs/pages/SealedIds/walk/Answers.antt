@@ -1,7 +1,5 @@
-use Rattle.std.proofs.Common.{◌≡◌, ◌∷◌, List, ℤ, ℕ, to_z, of_z, sym, ap, subst, ◌∙◌, w64}
+use Rattle.std.proofs.Common.{◌≡◌, ◌∷◌, List, ℕ, to_z, of_z, sym, subst, ◌∙◌, w64}
 use Rattle.std.proofs.lemmas.Int.{to_z-of_z}
-use Rattle.osm_ids.specs.declared.pages.PageStart.{PageStart}
-use Rattle.osm_ids.specs.Pages.{IsRising, ids_in}
 use Rattle.osm_ids.specs.Walks.{IsLeft}
 use Rattle.osm_ids.proofs.Walking.{walk_start, left_fits, left_rising}
 use Rattle.osm_ids.proofs.pages.SealedIds.walk.Goals as goal

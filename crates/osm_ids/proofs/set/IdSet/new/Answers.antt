@@ -1,4 +1,4 @@
-use Rattle.std.proofs.Common.{List, ℤ, sym, ap, ◌∙◌}
+use Rattle.std.proofs.Common.{List, ℤ, ap, ◌∙◌}
 use Rattle.std.specs.FinSet as set
 use Rattle.osm_ids.proofs.Sets.{Ids, ids_of}
 use Rattle.osm_ids.proofs.OrderLemmas.{with_late, none_late}

@@ -1,4 +1,4 @@
-use Rattle.std.proofs.Common.{◌≡◌, ℤ, List, sym, ap, subst, ◌∙◌}
+use Rattle.std.proofs.Common.{sym, ap, subst, ◌∙◌}
 use Rattle.osm_ids.specs.Pages.{IsRising}
 use Rattle.osm_ids.proofs.Sets.{Ids, ids_of}
 use Rattle.osm_ids.proofs.OrderLemmas.{with_late}

@@ -1,7 +1,6 @@
-use Rattle.std.proofs.Common.{◌≡◌, ◌∷◌, [], Option, Some, None, List, ℤ, ℕ, drop, sym, ap, subst, ◌∙◌, arith, rules, w64}
+use Rattle.std.proofs.Common.{◌∷◌, Option, ℤ, drop, sym, ap, subst, ◌∙◌, w64}
 use Rattle.std.proofs.lemmas.Int.{to_z-of_z}
-use Rattle.osm_ids.specs.declared.pages.PageStart.{PageStart}
-use Rattle.osm_ids.specs.Pages.{IsRising, ids_in}
+use Rattle.osm_ids.specs.Pages.{ids_in}
 use Rattle.osm_ids.specs.Walks.{ids_left, IsLeft, AreLeft}
 use Rattle.osm_ids.proofs.Walking.{BeginsNone, GoesOn, other_begins, none_begins, page_begins, left_fits, nothing_left, page_goes_on}
 use Rattle.osm_ids.proofs.walk.Walk.advance.Goals as goal
