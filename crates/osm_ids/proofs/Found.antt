@@ -29,11 +29,11 @@ true_le a b h = grind (arith, ints)
 
 -- ---- the first ids rise
 
-rises_from : (low x : ℤ) (ids : List ℤ) → low <ℤ x → Rises x ids → Rises low ids
+pub rises_from : (low x : ℤ) (ids : List ℤ) → low <ℤ x → Rises x ids → Rises low ids
 rises_from low x [] h r = tt
 rises_from low x (id ∷ ids) h r = let up = r.0 in (omega (arith, ints), r.1)
 
-rises_skip : (low : ℤ) (xs ys : List ℤ) → Rises low (xs ++ ys) → Rises low ys
+pub rises_skip : (low : ℤ) (xs ys : List ℤ) → Rises low (xs ++ ys) → Rises low ys
 rises_skip low [] ys h = h
 rises_skip low (x ∷ xs) ys h = rises_from low x ys h.0 (rises_skip x xs ys h.1)
 

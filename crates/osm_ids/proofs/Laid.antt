@@ -1,5 +1,5 @@
 -- How pages lie in an index and in bytes: how they grow, how they are found, and that they are read again.
-use Rattle.std.proofs.Common.{◌≡◌, ℕ, suc, ◌+◌, ◌-◌, ◌*◌, ◌<◌, ◌≤◌, List, [], ◌∷◌, ◌++◌, length, take, drop, ℤ, refl, sym, ap, subst, ◌∙◌, arith, append_assoc, length-append, FitsSigned, w64}
+use Rattle.std.proofs.Common.{◌≡◌, ℕ, suc, ◌+◌, ◌-◌, ◌*◌, ◌<◌, ◌≤◌, List, [], ◌∷◌, ◌++◌, length, take, drop, ℤ, refl, sym, ap, ◌∙◌, arith, append_assoc, length-append}
 use Rattle.std.specs.Int.{div_ceil}
 use Rattle.std.proofs.lemmas.Grind.{flat_map-append}
 use Rattle.std.proofs.lemmas.List.{append-nil, drop-drop}
@@ -131,57 +131,6 @@ pub ids_in_sealed : (index : List PageStart) (bytes : List ℕ) (pages : List Pa
 ids_in_sealed index bytes pages h =
     ap (λ i. ids_in i bytes) h.starts
     ∙ ids_in-starts 0 pages bytes h.spelled h.rising h.fits
-
--- ---- a loop over the ids in order
-
-pub record Grown (index : List PageStart) (bytes : List ℕ) (all rest : List ℤ) (room : ℕ) (last : ℤ) : Type 0 where
-  pub pages : List Page
-  pub starts : index ≡ starts_from 0 pages
-  pub spelled : bytes ≡ bytes_of_pages pages
-  pub unfinished : IsOpen pages room last
-  pub whole : ids_of_pages pages ++ rest ≡ all
-  pub fits : AllFit (ids_of_pages pages)
-
-fits_push : (ids : List ℤ) (id : ℤ) → AllFit ids → FitsSigned w64 id → AllFit (ids ++ id ∷ [])
-fits_push [] id h f = (f, tt)
-fits_push (x ∷ ids) id h f = (h.0, fits_push ids id h.1 f)
-
-pub grown_page : (index : List PageStart) (bytes : List ℕ) (all rest : List ℤ) (room : ℕ) (last id : ℤ) → Grown index bytes all (id ∷ rest) room last → room ≡ 0 → FitsSigned w64 id → Grown (index ++ record { first = id; place = length bytes } ∷ []) bytes all rest 127 id
-grown_page index bytes all rest room last id g none f =
-    record {
-      pages = g.pages ++ lone id ∷ [];
-      starts = ap (λ i. i ++ record { first = id; place = length bytes } ∷ []) g.starts ∙ ap (λ k. starts_from 0 g.pages ++ record { first = id; place = k } ∷ []) (ap length g.spelled ∙ omega arith) ∙ sym (starts-push 0 g.pages id);
-      spelled = g.spelled ∙ sym (bytes-push g.pages id);
-      unfinished = open-push g.pages last id (subst (λ r. IsOpen g.pages r last) none g.unfinished);
-      whole = ap (λ s. s ++ rest) (ids-push g.pages id) ∙ append_assoc (ids_of_pages g.pages) (id ∷ []) rest ∙ g.whole;
-      fits = subst AllFit (sym (ids-push g.pages id)) (fits_push (ids_of_pages g.pages) id g.fits f);
-    }
-
-pub grown_id : (index : List PageStart) (bytes : List ℕ) (all rest : List ℤ) (room : ℕ) (last id : ℤ) → Grown index bytes all (id ∷ rest) room last → 0 < room → FitsSigned w64 id → Grown index (bytes ++ shortest (gap last id)) all rest (room - 1) id
-grown_id index bytes all rest room last id g some f =
-    let left = subst (λ r. IsOpen g.pages r last) (omega arith) g.unfinished in
-    let ids = ids-with_id g.pages (room - 1) last id left in
-    record {
-      pages = with_id g.pages id;
-      starts = g.starts ∙ sym (starts-with_id 0 g.pages id);
-      spelled = ap (λ s. s ++ shortest (gap last id)) g.spelled ∙ sym (bytes-with_id g.pages (room - 1) last id left);
-      unfinished = open-with_id g.pages (room - 1) last id left;
-      whole = ap (λ s. s ++ rest) ids ∙ append_assoc (ids_of_pages g.pages) (id ∷ []) rest ∙ g.whole;
-      fits = subst AllFit (sym ids) (fits_push (ids_of_pages g.pages) id g.fits f);
-    }
-
-pub all_ids : (index : List PageStart) (bytes : List ℕ) (all rest : List ℤ) (room : ℕ) (last : ℤ) (g : Grown index bytes all rest room last) → rest ≡ [] → ids_of_pages g.pages ≡ all
-all_ids index bytes all rest room last g none = sym (append-nil (ids_of_pages g.pages)) ∙ ap (λ r. ids_of_pages g.pages ++ r) (sym none) ∙ g.whole
-
-pub grown_sealed : (index : List PageStart) (bytes : List ℕ) (all rest : List ℤ) (room : ℕ) (last : ℤ) (g : Grown index bytes all rest room last) → rest ≡ [] → IsRising all → IsSealed index bytes g.pages
-grown_sealed index bytes all rest room last g none rising =
-    record {
-      starts = g.starts;
-      spelled = g.spelled;
-      filled = filled_from_open g.pages room last g.unfinished;
-      rising = subst IsRising (sym (all_ids index bytes all rest room last g none)) rising;
-      fits = g.fits;
-    }
 
 -- ---- how many pages
 

@@ -4,6 +4,10 @@ pub mod Rising
 pub mod Paged
 pub mod Laid
 pub mod Found
+pub mod Laying
+pub mod OrderLemmas
+pub mod MergeLemmas
 pub mod Reading
+pub mod Walking
 pub mod LinkOrder
 pub mod Closing

@@ -13,7 +13,7 @@ use Rattle.osm_ids.specs.declared.page.Cursor.{Cursor}
 use Rattle.osm_ids.specs.Pages.{gap, Rises, AllFit}
 use Rattle.osm_ids.specs.Cursors.{IsAt}
 use Rattle.osm_ids.proofs.Gaps.{spelled_after, gap_up, gap-lt, shortest_some, read_at}
-use Rattle.osm_ids.proofs.Rising.{other_below, none_above}
+use Rattle.osm_ids.proofs.Rising.{other_below, none_above, or_none}
 
 abbrev pub cursor : ℤ → ℤ → ℕ → Cursor
 cursor passed last at = record { passed = passed; last = last; at = at }
@@ -26,7 +26,7 @@ IsAhead passed last id = (passed <ℤ id) ⊎ (last ≤ℤ id)
 pub start : (first : ℤ) (others : List ℤ) (page : List ℕ) → Rises first others → AllFit (first ∷ others) → page ≡ spelled_after first others → IsAt (first ∷ others) page (cursor first first 0)
 start first others page rises fits e = record { rest = others; rises = rises; fits = fits; left = e; answer = λ id ahead. refl }
 
-spelled_none : (last : ℤ) (rest : List ℤ) → Rises last rest → AllFit (last ∷ rest) → length (spelled_after last rest) ≡ 0 → rest ≡ []
+pub spelled_none : (last : ℤ) (rest : List ℤ) → Rises last rest → AllFit (last ∷ rest) → length (spelled_after last rest) ≡ 0 → rest ≡ []
 spelled_none last [] rises fits e = refl
 spelled_none last (x ∷ rest) rises fits e = let some = shortest_some (gap last x) (gap-lt last x fits.0 fits.1.0 rises.0) in absurd (omega (arith, e, length-append (shortest (gap last x)) (spelled_after x rest)))
 
@@ -64,10 +64,6 @@ next_of ids page passed last at (x ∷ rest) rises fits left answer lt =
 pub following : (ids : List ℤ) (page : List ℕ) (passed last : ℤ) (at : ℕ) → IsAt ids page (cursor passed last at) → at < length page → Next ids page last at
 following ids page passed last at h lt = next_of ids page passed last at h.rest h.rises h.fits h.left h.answer lt
 
-or_none : (b : Bool) → (b || false) ≡ b
-or_none true = refl
-or_none false = refl
-
 -- past the id, or at the end, the answer is whether last is the id
 pub answer_past : (ids : List ℤ) (id : ℤ) (page : List ℕ) (passed last : ℤ) (at : ℕ) → IsAt ids page (cursor passed last at) → IsAhead passed last id → id ≤ℤ last → int_eq id last ≡ list_any (int_eq id) ids
 answer_past ids id page passed last at h ahead high = sym (or_none (int_eq id last)) ∙ ap (λ b. int_eq id last || b) (sym (none_above last h.rest id h.rises high)) ∙ h.answer id ahead
@@ -77,7 +73,7 @@ answer_end ids id page passed last at h ahead end =
     let none = spelled_none last h.rest h.rises h.fits (sym (ap length h.left) ∙ omega (arith, length-drop at page)) in
     sym (or_none (int_eq id last)) ∙ ap (λ r. int_eq id last || list_any (int_eq id) r) (sym none) ∙ h.answer id ahead
 
-pair_parts : (a b c d : ℕ) → ◌≡◌ {A = Result (ℕ × ℕ) Reason} (Ok (a, b)) (Ok (c, d)) → (a ≡ c) × (b ≡ d)
+pub pair_parts : (a b c d : ℕ) → ◌≡◌ {A = Result (ℕ × ℕ) Reason} (Ok (a, b)) (Ok (c, d)) → (a ≡ c) × (b ≡ d)
 pair_parts a b c d e =
     let same : ◌≡◌ {A = ℕ × ℕ} (a, b) (c, d) = cc in
     (ap (λ (p : ℕ × ℕ). p.0) same, ap (λ (p : ℕ × ℕ). p.1) same)

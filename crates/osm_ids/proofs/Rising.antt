@@ -76,7 +76,7 @@ len-rising (x ∷ ids) h =
     let absent = contains-ids_of ids x ∙ none_above x ids x h (omega (arith, ints)) in
     set.len-insert int_cmp_total (ids_of ids) x ∙ rw absent (omega (arith, len-rising ids (rising_tail x ids h)))
 
-or_none : (b : Bool) → (b || false) ≡ b
+pub or_none : (b : Bool) → (b || false) ≡ b
 or_none true = refl
 or_none false = refl
 
@@ -131,7 +131,7 @@ rising_of_set xs ys h k e = same_rising xs ys h k (λ id. sym (contains-ids_of x
 
 -- ---- and it has one
 
-insert_rises : (low : ℤ) (ids : List ℤ) (new : ℤ) → low <ℤ new → Rises low ids → Rises low (insert_key int_cmp ids new)
+pub insert_rises : (low : ℤ) (ids : List ℤ) (new : ℤ) → low <ℤ new → Rises low ids → Rises low (insert_key int_cmp ids new)
 insert_rises low [] new above h = (above, tt)
 insert_rises low (x ∷ ids) new above h =
     elim (int_cmp new x) as (λ r. int_cmp new x ≡ r → Rises low (match_ordering r (new ∷ x ∷ ids) (x ∷ ids) (x ∷ insert_key int_cmp ids new))) [
@@ -140,7 +140,7 @@ insert_rises low (x ∷ ids) new above h =
       | Greater ↦ λ e. (h.0, insert_rises x ids new (int_ranked new x Greater (sym e)) h.1)
     ] refl
 
-insert_rising : (ids : List ℤ) (new : ℤ) → IsRising ids → IsRising (insert_key int_cmp ids new)
+pub insert_rising : (ids : List ℤ) (new : ℤ) → IsRising ids → IsRising (insert_key int_cmp ids new)
 insert_rising [] new h = tt
 insert_rising (x ∷ ids) new h =
     elim (int_cmp new x) as (λ r. int_cmp new x ≡ r → IsRising (match_ordering r (new ∷ x ∷ ids) (x ∷ ids) (x ∷ insert_key int_cmp ids new))) [

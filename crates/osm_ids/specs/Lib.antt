@@ -1,3 +1,6 @@
 pub mod Pages
+pub mod Order
+pub mod Walks
+pub mod Merging
 pub mod Links
 pub mod Cursors

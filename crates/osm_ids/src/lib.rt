@@ -5,9 +5,12 @@
 pub mod laws;
 mod links;
 mod lookup;
+mod merge;
+mod open_pages;
 mod page;
 mod pages;
 mod set;
+mod walk;
 
 pub use links::{Link, Links};
 pub use lookup::Lookup;

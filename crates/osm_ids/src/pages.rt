@@ -1,14 +1,14 @@
 //! A set of ids that no longer grows, in pages.
 
-ghost use Rattle.std.specs.Prelude.{◌≡◌, ◌-◌, ◌≤◌, take, drop, true, false, length, int_le, List, ℤ, IfOk};
+ghost use Rattle.std.specs.Prelude.{◌≡◌, ◌-◌, ◌≤◌, take, drop, true, false, length, int_le, List, ℤ, OnOk, OnErr};
 ghost use Rattle.std.specs.Int.{div_ceil};
 ghost use Rattle.std.specs.List.Sorted.{IsPartitionedBy, IsPartitionPoint};
 ghost use Rattle.std.specs.FinSet as set;
 ghost use Rattle.osm_ids.specs.Pages.{IsRising, pages_of, bytes_of_pages};
+ghost use Rattle.osm_ids.specs.Order.{IsAbove, IsGreatest};
 
 use pbf_wire::put_varint;
 use std::alloc::{AllocError, Global};
-use std::collections::BTreeSet;
 use std::marker::Model;
 
 /// Where a page begins: its first id, and the place of its other ids' bytes.
@@ -25,7 +25,7 @@ pub(crate) struct PageStart {
 pub struct SealedIds {
     pub(crate) index: Vec<PageStart>,
     pub(crate) bytes: Vec<u8>,
-    count: u64,
+    pub(crate) count: u64,
 }
 
 impl Model for SealedIds {
@@ -44,35 +44,37 @@ impl Model for SealedIds {
     ghost invariant = { λ a. (pages : List Page) × IsSealed a.index.items a.bytes.items pages × (a.count ≡ length (ids_of_pages pages)) };
 }
 
-/// How many ids follow the first of a full page.
-const OTHERS: u8 = 127;
+/// How many ids a page has, all but the last.
+const PAGE: u64 = 128;
 
 impl SealedIds {
-    /// The ids of an ordered set.
-    pub(crate) fn of(alloc: Global, ids: &BTreeSet<i64>) -> Result<SealedIds, AllocError>
-        ensures { IfOk result (λ sealed. sealed ≡ set.from_list ids.now.keys) }
+    /// No ids, which take no memory yet.
+    pub(crate) fn new(alloc: Global) -> SealedIds
+        ensures { result ≡ set.empty }
     {
-        let mut index = Vec::new(alloc);
-        let mut bytes = Vec::new(alloc);
-        let mut last = 0;
-        let mut room = 0;
-        for &id in ids.iter() {
-            if room == 0 {
-                let place = bytes.len();
-                index.push(PageStart { first: id, place })?;
-                room = OTHERS;
-            } else {
-                put_varint(&mut bytes, id.abs_diff(last))?;
-                room -= 1;
-            }
-            last = id;
+        SealedIds {
+            index: Vec::new(alloc),
+            bytes: Vec::new(alloc),
+            count: 0,
         }
-        let count = ids.len() as u64;
-        Ok(SealedIds {
-            index,
-            bytes,
-            count,
-        })
+    }
+
+    /// Lays an id behind the others: it begins a page where the last page is full. `last` is the greatest of the others. An
+    /// `Err` leaves the ids as they were.
+    pub(crate) fn lay(&mut self, last: i64, id: i64) -> Result<(), AllocError>
+        requires greatest { IsGreatest self.old last }
+        requires above { IsAbove self.old id }
+        ensures ok { OnOk result (self.new ≡ set.insert self.old id) }
+        ensures err { OnErr result (self.new ≡ self.old) }
+    {
+        if self.count % PAGE == 0 {
+            let place = self.bytes.len();
+            self.index.push(PageStart { first: id, place })?;
+        } else {
+            put_varint(&mut self.bytes, id.abs_diff(last))?;
+        }
+        self.count += 1;
+        Ok(())
     }
 
     /// Whether the set has the id: the index is searched by halves, and one page is read.

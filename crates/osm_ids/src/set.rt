@@ -2,16 +2,22 @@
 
 ghost use Rattle.std.specs.Prelude.{◌≡◌, not, IfOk, IfErr, OnOk, OnErr};
 ghost use Rattle.std.specs.FinSet as set;
+ghost use Rattle.osm_ids.specs.Pages.{IsRising};
 
+use crate::merge::Merged;
+use crate::open_pages::OpenPages;
 use crate::pages::SealedIds;
 use std::alloc::{AllocError, Global};
 use std::collections::BTreeSet;
 use std::marker::Model;
 
-/// A set of ids that grows. Contracts see it as a finite set of numbers.
+/// A set of ids that grows: an id above all others is laid into pages at once, as the sealed set has it, and one that comes late
+/// stands beside them. Contracts see it as a finite set of numbers.
 #[derive(Drop)]
 pub struct IdSet {
-    ids: BTreeSet<i64>,
+    laid: OpenPages,
+    /// The ids that came when a greater one was laid.
+    late: BTreeSet<i64>,
     alloc: Global,
 }
 
@@ -19,12 +25,15 @@ impl Model for IdSet {
     ghost use Rattle.std.specs.Ordering.{int_cmp};
     ghost use Rattle.std.specs.Coded.{coded_ℤ};
     ghost use Rattle.std.specs.FinSet as set;
+    ghost use Rattle.osm_ids.specs.Order.{AreLate};
 
     ghost Value = { set.FinSet int_cmp };
 
     ghost coded = { set.code coded_ℤ };
 
-    ghost view = { λ a. set.from_list a.ids.keys };
+    ghost view = { λ a. set.union a.laid (set.from_list a.late.keys) };
+
+    ghost invariant = { λ a. AreLate a.laid a.late.keys };
 }
 
 impl IdSet {
@@ -33,7 +42,8 @@ impl IdSet {
         ensures { result ≡ set.empty }
     {
         IdSet {
-            ids: BTreeSet::new(alloc),
+            laid: OpenPages::new(alloc),
+            late: BTreeSet::new(alloc),
             alloc,
         }
     }
@@ -44,24 +54,55 @@ impl IdSet {
         ensures ok { OnOk result (self.new ≡ set.insert self.old id) }
         ensures err { OnErr result (self.new ≡ self.old) }
     {
-        Ok(self.ids.insert(id)?)
+        if self.laid.takes(id) {
+            self.laid.lay(id)?;
+            return Ok(true);
+        }
+        if self.laid.ids().has(id) {
+            return Ok(false);
+        }
+        Ok(self.late.insert(id)?)
     }
 
     /// The ids in rising order.
     pub(crate) fn to_vec(&self) -> Result<Vec<i64>, AllocError>
         ensures { IfOk result (λ ids. set.from_list ids.items ≡ self.now) }
     {
-        self.ids.iter().copied().collect(self.alloc)
+        self.rising().collect(self.alloc)
     }
 
-    /// The same ids, packed, to be looked up. A refusal hands the set back.
+    /// The ids in rising order.
+    fn rising(&self) -> Merged<'_>
+        ensures same { set.from_list result ≡ self.now }
+        ensures rising { IsRising result }
+    {
+        Merged::new(self.laid.ids().walk(), &self.late)
+    }
+
+    /// The same ids, packed, to be looked up. No memory is taken where each id was above all that came before it. A refusal hands
+    /// the set back.
     pub fn seal(self) -> Result<SealedIds, (IdSet, AllocError)>
         ensures ok { IfOk result (λ sealed. sealed ≡ self) }
         ensures err { IfErr result (λ refused. refused.0 ≡ self) }
     {
-        match SealedIds::of(self.alloc, &self.ids) {
+        if self.late.is_empty() {
+            return Ok(self.laid.seal());
+        }
+        match sealed(self.alloc, self.rising()) {
             Ok(sealed) => Ok(sealed),
             Err(error) => Err((self, error)),
         }
     }
+}
+
+/// Rising ids, laid into pages.
+fn sealed(alloc: Global, ids: Merged<'_>) -> Result<SealedIds, AllocError>
+    requires { IsRising ids }
+    ensures { IfOk result (λ sealed. sealed ≡ set.from_list ids.entry) }
+{
+    let mut pages = OpenPages::new(alloc);
+    for id in ids {
+        pages.lay(id)?;
+    }
+    Ok(pages.seal())
 }

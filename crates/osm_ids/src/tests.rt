@@ -137,6 +137,71 @@ fn lookup_in_the_empty_set(rt: HostRuntime) -> Result<(), AllocError> {
     Ok(())
 }
 
+/// Ids that come late, among them some that are in the pages or came late before, and rising ones after them.
+#[test]
+fn rising_then_late_then_rising(rt: HostRuntime) -> Result<(), AllocError> {
+    let mut set = IdSet::new(rt.alloc());
+    for turn in 0..200i32 {
+        assert!(rt; set.add(i64::from(turn) * 10)?);
+    }
+    for (id, is_new) in [
+        (1990, false),
+        (0, false),
+        (15, true),
+        (15, false),
+        (1275, true),
+        (-7, true),
+    ] {
+        assert_eq!(rt; set.add(id)?, is_new);
+    }
+    assert!(rt; set.add(1991)?);
+    assert!(rt; !set.add(1991)?);
+    assert!(rt; set.add(1985)?);
+    let ids = sealed(set)?;
+    assert_eq!(rt; (ids.count(), ids.pages(), ids.bytes()), (205, 2, 203));
+    for id in [-7, 0, 10, 15, 20, 1270, 1275, 1280, 1985, 1990, 1991] {
+        assert!(rt; ids.has(id));
+    }
+    for id in [i64::MIN, -8, 5, 14, 16, 1274, 1989, 1992, i64::MAX] {
+        assert!(rt; !ids.has(id));
+    }
+    Ok(())
+}
+
+/// The same ids lie in the same bytes, whatever order they came in.
+#[test]
+fn falling_ids_lie_as_rising_ones(rt: HostRuntime) -> Result<(), AllocError> {
+    let alloc = rt.alloc();
+    let mut rising = Vec::new(alloc);
+    let mut falling = Vec::new(alloc);
+    for turn in 0..300i32 {
+        rising.push(i64::from(turn) * 300 - 40_000)?;
+        falling.push(49_700 - i64::from(turn) * 300)?;
+    }
+    let in_order = sealed(gathered(alloc, &rising)?)?;
+    let turned = sealed(gathered(alloc, &falling)?)?;
+    for ids in [&in_order, &turned] {
+        assert_eq!(rt; (ids.count(), ids.pages(), ids.bytes()), (300, 3, 594));
+        assert!(rt; rising.iter().all(|id| ids.has(*id)));
+    }
+    assert_eq!(rt; in_order.bytes, turned.bytes);
+    Ok(())
+}
+
+/// The index and the bytes of known ids: with a late one, and with none.
+#[test]
+fn bytes_of_known_ids(rt: HostRuntime) -> Result<(), AllocError> {
+    for ids in [[3, 5, 300, -2], [-2, 3, 5, 300]] {
+        let sealed = sealed(gathered(rt.alloc(), &ids)?)?;
+        assert_eq!(rt; sealed.pages(), 1);
+        for start in &sealed.index {
+            assert_eq!(rt; (start.first, start.place), (-2, 0));
+        }
+        assert_eq!(rt; sealed.bytes.as_slice(), &[5, 2, 0xa7, 2][..]);
+    }
+    Ok(())
+}
+
 /// The set is as before after an `add` that is refused, and is handed back by a `seal` that is: both can be tried again.
 #[test]
 fn refused_once_and_tried_again(rt: HostRuntime) -> Result<(), AllocError> {
@@ -153,6 +218,31 @@ fn refused_once_and_tried_again(rt: HostRuntime) -> Result<(), AllocError> {
     };
     assert_eq!(rt; (ids.count(), ids.pages(), ids.bytes()), (300, 3, 297));
     assert!(rt; ids.has(0) && ids.has(128) && ids.has(299) && !ids.has(300));
+    Ok(())
+}
+
+/// The same where ids come late, so that the seal makes new pages.
+#[test]
+fn late_ids_refused_once(rt: HostRuntime) -> Result<(), AllocError> {
+    let mut set = IdSet::new(rt.alloc());
+    for turn in 0..150i32 {
+        let rising = i64::from(turn) * 4;
+        for id in [rising, rising - 6] {
+            match set.add(id) {
+                Ok(is_new) => assert!(rt; is_new),
+                Err(_) => assert!(rt; set.add(id)?),
+            }
+        }
+    }
+    let ids = match set.seal() {
+        Ok(ids) => ids,
+        Err((mut set, _)) => {
+            assert!(rt; !set.add(596)? && !set.add(-6)?);
+            sealed(set)?
+        }
+    };
+    assert_eq!(rt; (ids.count(), ids.pages(), ids.bytes()), (300, 3, 297));
+    assert!(rt; ids.has(-6) && ids.has(0) && ids.has(590) && ids.has(596) && !ids.has(594));
     Ok(())
 }
 
