@@ -1,5 +1,5 @@
 -- How far a page is read, and which ids can be looked up from there.
-use Rattle.std.specs.Prelude.{◌≡◌, ℕ, ◌<◌, ◌≤◌, ◌⊎◌, List, ◌∷◌, drop, length, ℤ, ◌<ℤ◌, ◌≤ℤ◌, int_le, true, false}
+use Rattle.std.specs.Prelude.{◌≡◌, ℕ, ◌⊎◌, List, ◌∷◌, drop, ℤ, ◌<ℤ◌, ◌≤ℤ◌, int_le, true, false}
 use Rattle.std.specs.List.{list_any}
 use Rattle.std.specs.List.Sorted.{IsPartitionPoint}
 use Rattle.std.specs.Ordering.{int_eq}

@@ -1,6 +1,6 @@
 //! Look-ups of ids that lie close together.
 
-ghost use Rattle.std.specs.Prelude.{◌≡◌, ◌-◌, ◌<◌, ◌≤◌, ◌<ℤ◌, ◌≤ℤ◌, ◌⊎◌, IsTrue, take, drop, true, false, length, get_or, int_le, List};
+ghost use Rattle.std.specs.Prelude.{◌≡◌, ◌-◌, ◌<◌, ◌≤◌, ◌<ℤ◌, ◌≤ℤ◌, ◌⊎◌, IsTrue, take, drop, length, get_or, int_le, List};
 ghost use Rattle.std.specs.List.Sorted.{IsPartitionedBy};
 ghost use Rattle.std.specs.FinSet as set;
 ghost use Rattle.osm_ids.specs.Pages.{Page, IsSealed};

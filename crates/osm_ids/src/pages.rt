@@ -1,8 +1,7 @@
 //! A set of ids that no longer grows, in pages.
 
-ghost use Rattle.std.specs.Prelude.{◌≡◌, ◌-◌, ◌≤◌, take, drop, true, false, length, int_le, List, ℤ, OnOk, OnErr};
+ghost use Rattle.std.specs.Prelude.{◌≡◌, length, List, ℤ, OnOk, OnErr};
 ghost use Rattle.std.specs.Int.{div_ceil};
-ghost use Rattle.std.specs.List.Sorted.{IsPartitionedBy, IsPartitionPoint};
 ghost use Rattle.std.specs.FinSet as set;
 ghost use Rattle.osm_ids.specs.Pages.{IsRising, pages_of, bytes_of_pages};
 ghost use Rattle.osm_ids.specs.Order.{IsAbove, IsGreatest};

@@ -1,4 +1,4 @@
-use Rattle.std.proofs.Common.{◌+◌, length, ◌<ℤ◌, ◌≤ℤ◌, ◌⊎◌, arith, rules, subst, sym, ap, ◌∙◌, to_z, of_z, w64}
+use Rattle.std.proofs.Common.{◌+◌, length, ◌<ℤ◌, ◌≤ℤ◌, ◌⊎◌, arith, rules, subst, sym, ◌∙◌, to_z, of_z, w64}
 use Rattle.std.proofs.lemmas.Int.{ints, to_z-of_z}
 use mir.Val.{SFits}
 use Rattle.pbf_wire.specs.Varint.{shortest}
