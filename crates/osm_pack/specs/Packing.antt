@@ -28,6 +28,6 @@ HasStopped packer stop = packer.stop ≡ Some stop
 abbrev pub has_header : {D S H : Type 0} → Packing D S H → Bool
 has_header packer = packer.begun
 
--- the bytes that it holds: those of its block, since no other field has any
+-- the bytes that it holds: those of its block, since no other field of its own has any
 abbrev pub packer_held : {D S H : Type 0} → Packing D S H → ℕ
 packer_held packer = block_held packer.block

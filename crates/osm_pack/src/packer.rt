@@ -168,7 +168,7 @@ impl<D: Drain, S: BuildHasher> Packer<D, S> {
     }
 
     /// The bytes held for the entities that wait: the lengths of their columns, messages and texts, and four for each text. While
-    /// a block is written its bytes are put together beside that; they are a local of the call.
+    /// a block is written its table, its nodes and its bytes are put together beside that, as locals of the call.
     pub fn held(&self) -> u64
         ensures value { result ≡ packer_held self.now }
         ensures bound { result ≤ 28000000 }

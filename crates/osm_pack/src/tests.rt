@@ -89,18 +89,16 @@ fn relation(alloc: Global, id: i64, length: usize) -> Result<Relation, AllocErro
     })
 }
 
-/// A packer that was to put a header that says nothing, and its answer.
-fn begun(
-    alloc: Global,
+/// Packs a header that says nothing and these entities. After a stop each later call answers the same.
+fn packed(
+    rt: &(impl Abort + AllocGlobal),
     sink: Sink,
-) -> (
-    Packer<Sink, BuildHasherDefault<FoldHasher>>,
-    Result<(), Stop>,
-) {
+    entities: &[EntityRef<'_>],
+) -> (Result<(), Stop>, Sink) {
     let header = Header {
         bbox: None,
-        required: Vec::new(alloc),
-        optional: Vec::new(alloc),
+        required: Vec::new(rt.alloc()),
+        optional: Vec::new(rt.alloc()),
         program: None,
         source: None,
         url: None,
@@ -108,47 +106,22 @@ fn begun(
         sequence: None,
     };
     let hasher: BuildHasherDefault<FoldHasher> = BuildHasherDefault::new();
-    let mut packer = Packer::new(alloc, sink, hasher);
-    let outcome = packer.put_header(&header);
-    (packer, outcome)
-}
-
-fn push(
-    rt: &impl Abort,
-    packer: &mut Packer<Sink, BuildHasherDefault<FoldHasher>>,
-    entity: &EntityRef<'_>,
-) -> Result<(), Stop> {
-    if !packer.has_header() || !entity.fits() {
-        panic!(rt; "the entity can't be packed");
-    }
-    packer.push(entity)
-}
-
-fn finish(
-    rt: &impl Abort,
-    packer: &mut Packer<Sink, BuildHasherDefault<FoldHasher>>,
-) -> Result<(), Stop> {
-    if !packer.has_header() {
-        panic!(rt; "there is no header");
-    }
-    packer.finish()
-}
-
-/// Packs a header that says nothing and these entities. After a stop each later call answers the same.
-fn packed(
-    rt: &(impl Abort + AllocGlobal),
-    sink: Sink,
-    entities: &[EntityRef<'_>],
-) -> (Result<(), Stop>, Sink) {
-    let (mut packer, mut outcome) = begun(rt.alloc(), sink);
+    let mut packer = Packer::new(rt.alloc(), sink, hasher);
+    let mut outcome = packer.put_header(&header);
     for entity in entities {
-        let next = push(rt, &mut packer, entity);
+        if !packer.has_header() || !entity.fits() {
+            panic!(rt; "the entity can't be packed");
+        }
+        let next = packer.push(entity);
         if outcome.is_err() {
             assert_eq!(rt; next, outcome);
         }
         outcome = next;
     }
-    let next = finish(rt, &mut packer);
+    if !packer.has_header() {
+        panic!(rt; "there is no header");
+    }
+    let next = packer.finish();
     if outcome.is_err() {
         assert_eq!(rt; next, outcome);
     }
@@ -289,31 +262,6 @@ fn node_and_way_with_a_text_in_common(rt: HostRuntime) -> Result<(), Fail> {
         &entities,
         b"\x00\x00\x00\x0b\x0a\x07OSMData\x18\x1e\x0a\x1c\x0a\x08\x0a\x00\x0a\x01a\x0a\x01b\x12\x10\x12\x0e\x0a\x01\x02\x42\x01\x02\x4a\x01\x02\x52\x03\x01\x02\x00\x00\x00\x00\x0b\x0a\x07OSMData\x18\x15\x0a\x13\x0a\x05\x0a\x00\x0a\x01b\x12\x0a\x1a\x08\x08\x07\x12\x01\x01\x1a\x01\x01",
     )
-}
-
-/// A node takes a byte in each of four columns, and two more where it has a tag; its two texts take 5 each. Then the nodes went
-/// out, and the way that waits takes the 10 bytes of its field and 5 for its text.
-#[test]
-fn bytes_held_for_nodes_and_for_a_way(rt: HostRuntime) -> Result<(), Fail> {
-    let first = node(rt.alloc(), 1, 1);
-    let second = tagged_node(rt.alloc(), 2, b"a", b"b")?;
-    let mut way = way(rt.alloc(), &[])?;
-    way.tags.push((
-        Vec::from_slice(rt.alloc(), b"b")?,
-        Vec::from_slice(rt.alloc(), b"b")?,
-    ))?;
-    let (mut packer, outcome) = begun(rt.alloc(), Sink::new(rt.alloc(), 1_024, 0)?);
-    outcome?;
-    assert_eq!(rt; packer.held(), 0);
-    push(&rt, &mut packer, &EntityRef::Node(first.view()))?;
-    assert_eq!(rt; packer.held(), 4);
-    push(&rt, &mut packer, &EntityRef::Node(second.view()))?;
-    assert_eq!(rt; packer.held(), 4 + 6 + 10);
-    push(&rt, &mut packer, &EntityRef::Way(way.view()))?;
-    assert_eq!(rt; packer.held(), 10 + 5);
-    finish(&rt, &mut packer)?;
-    assert_eq!(rt; packer.held(), 0);
-    Ok(())
 }
 
 /// The second has a version, so that no two of them stand in one block.
