@@ -98,17 +98,14 @@ impl<S: BuildHasher> Block<S> {
         }
     }
 
-    /// Whether one more entity may stand in the block.
-    pub(crate) fn takes(&self, entity: &EntityRef<'_>) -> bool
-        requires { EntityFits (entity_of entity.now) }
+    /// Whether one more entity of this weight may stand in the block. The weight is the caller's, as it goes through all of an
+    /// entity's texts and lists.
+    pub(crate) fn takes(&self, entity: &EntityRef<'_>, weight: u64) -> bool
+        requires fits { EntityFits (entity_of entity.now) }
+        requires weighs { weight ≡ min (entity_weight (entity_of entity.now)) (2 ^ 64 - 1) }
         ensures { (es : List EntitySpec) → Holds self.now es → result ≡ is_block (es ++ entity_of entity.now ∷ []) }
     {
-        may_join(
-            self.is_alike(entity),
-            self.count,
-            self.weight,
-            entity.weight(),
-        )
+        may_join(self.is_alike(entity), self.count, self.weight, weight)
     }
 
     /// Encodes an entity behind the others.
@@ -131,17 +128,18 @@ impl<S: BuildHasher> Block<S> {
         Ok(())
     }
 
-    /// Adds an entity behind the others. After an `Err` the block has no stated content.
-    pub(crate) fn add(&mut self, entity: &EntityRef<'_>) -> Result<(), AllocError>
+    /// Adds an entity of this weight behind the others. After an `Err` the block has no stated content.
+    pub(crate) fn add(&mut self, entity: &EntityRef<'_>, weight: u64) -> Result<(), AllocError>
         requires open { IsOpen self.old }
         requires fits { EntityFits (entity_of entity.now) }
+        requires weighs { weight ≡ min (entity_weight (entity_of entity.now)) (2 ^ 64 - 1) }
         requires joins { (es : List EntitySpec) → Holds self.old es → is_block (es ++ entity_of entity.now ∷ []) ≡ true }
         ensures { (es : List EntitySpec) → Holds self.old es → OnOk result (Holds self.new (es ++ entity_of entity.now ∷ [])) }
     {
         self.put(entity)?;
         self.sort = Some(self.sort.unwrap_or(Sort::of(entity)));
         self.count += 1;
-        self.weight += entity.weight();
+        self.weight += weight;
         Ok(())
     }
 

@@ -54,10 +54,11 @@ pub(crate) fn push_into<D: Drain, S: BuildHasher>(
     ensures counts { D.failures drain.old ≤ D.failures drain.new }
     ensures lender { D.lender drain.new ≡ D.lender drain.old }
 {
-    if !block.takes(entity) {
+    let weight = entity.weight();
+    if !block.takes(entity, weight) {
         close_into(alloc, drain, block)?;
     }
-    block.add(entity)?;
+    block.add(entity, weight)?;
     Ok(())
 }
 

@@ -14,9 +14,9 @@ pub overflow_add-self-2 : goal.overflow_add-self-2
 overflow_add-self-2 g c =
     let was = c.requires.«open» in
     let n = (bounds c.args.self.now was.entities (entity_of c.args.entity.now) was.held (c.requires.joins was.entities was.held)).1 in
-    omega (arith, n, (c.in_ok-put.ensures was.entities was.held).weight, exact (entity_of c.args.entity.now) c.weight.result c.requires.fits c.weight.ensures)
+    omega (arith, n, (c.in_ok-put.ensures was.entities was.held).weight, exact (entity_of c.args.entity.now) c.args.weight c.requires.fits c.requires.weighs)
 
 pub returns : goal.returns
 returns g c = λ es h.
     added c.args.self.now c.put.new.self _ es (entity_of c.args.entity.now) h (c.requires.joins es h) (c.in_ok-put.ensures es h) (ap Some (c.unwrap_or.ensures ∙ ap (unwrap_or c.put.new.self.sort) c.of.ensures)) refl
-    (ap (λ n. c.put.new.self.weight + n) (exact (entity_of c.args.entity.now) c.weight.result c.requires.fits c.weight.ensures)) refl refl refl refl
+    (ap (λ n. c.put.new.self.weight + n) (exact (entity_of c.args.entity.now) c.args.weight c.requires.fits c.requires.weighs)) refl refl refl refl
