@@ -1,7 +1,7 @@
 -- Texts, and the keys that hold them.
-use Rattle.std.proofs.Common.{◌≡◌, ℕ, suc, arith, ◌+◌, ◌≤◌, length, length-append, add_comm, List, [], ◌∷◌, ◌++◌, Bool, true, false, cond, ◌||◌, Some, map, refl, sym, ap, ◌∙◌, subst, position, ◌<◌}
+use Rattle.std.proofs.Common.{◌≡◌, ℕ, zero, suc, arith, ◌+◌, ◌≤◌, length, length-append, add_comm, List, [], ◌∷◌, ◌++◌, Bool, true, false, cond, ◌||◌, Some, map, refl, sym, ap, ◌∙◌, subst, position, ◌<◌}
 use Rattle.std.proofs.lemmas.List.{map-append}
-use Rattle.std.specs.List.{list_any, position_or_len, AllByRecursion}
+use Rattle.std.specs.List.{list_any, position_or_len, AllByRecursion, IsDistinct}
 use Rattle.std.specs.Str.{bytes_eq}
 use Rattle.std.specs.Cmp.Lexicographic.{nat_list_eq_equiv}
 use Rattle.std.proofs.lemmas.Slice.Eq.{bytes_eq-Decides}
@@ -162,3 +162,22 @@ used_both start middle texts used more e f = f ∙ (ap (λ (ts : List (List ℕ)
 -- the table with some texts used, and then others
 pub used_later : (middle texts more used : List (List ℕ)) → texts ≡ texts_after middle more → texts_after middle (more ++ used) ≡ texts_after texts used
 used_later middle texts more used e = after_both more used middle ∙ ap (λ (ts : List (List ℕ)). texts_after ts used) (sym e)
+
+-- ---- a text that stands somewhere, where none stands twice
+
+module _ {K : Type 0} (items : K → List ℕ) where
+  pub stands : (keys : List K) (i : ℕ) (key : K) → slice_get keys i ≡ Some key → has_text (map items keys) (items key) ≡ true
+  stands [] i key h = absurd cc
+  stands (first ∷ keys) zero key h = let e : first ≡ key = cc in rw (e, same_text (items key)) refl
+  stands (first ∷ keys) (suc i) key h = elim (bytes_eq (items key) (items first)) as (λ b. (b || list_any (bytes_eq (items key)) (map items keys)) ≡ true) [ true ↦ refl | false ↦ stands keys i key h ]
+
+  unlike : (first : K) (keys : List K) → AllByRecursion (λ y. bytes_eq (items first) (items y) ≡ false) keys → (i : ℕ) (key : K) → slice_get keys i ≡ Some key → bytes_eq (items key) (items first) ≡ false
+  unlike first [] all i key h = absurd cc
+  unlike first (x ∷ keys) all zero key h = let e : x ≡ key = cc in nat_list_eq_equiv.symm (items key) (items first) ∙ subst (λ k. bytes_eq (items first) (items k) ≡ false) e all.0
+  unlike first (x ∷ keys) all (suc i) key h = unlike first keys all.1 i key h
+
+  pub place_at : (keys : List K) → IsDistinct (λ x y. bytes_eq (items x) (items y)) keys → (i : ℕ) (key : K) → slice_get keys i ≡ Some key → place_in (map items keys) (items key) ≡ i
+  unfolding IsDistinct
+  place_at [] distinct i key h = absurd cc
+  place_at (first ∷ keys) distinct zero key h = let e : first ≡ key = cc in rw (e, same_text (items key)) refl
+  place_at (first ∷ keys) distinct (suc i) key h = let e : 1 + i ≡ suc i = omega arith in rw (unlike first keys distinct.0 i key h) (ap (λ n. 1 + n) (place_at keys distinct.1 i key h) ∙ e)

@@ -1,6 +1,6 @@
 //! A table that is written: its texts in order of first use.
 
-ghost use Rattle.std.specs.Prelude.{◌≡◌, ◌<◌, ◌≤◌, ◌+◌, ◌-◌, ℕ, List, ◌^◌, ◌↔◌, min, ◌++◌, [], length, map, Some, true, IsTrue, IsOk, IfOk, OnOk, OnErr, slice_get};
+ghost use Rattle.std.specs.Prelude.{◌≡◌, ◌<◌, ◌≤◌, ◌+◌, ◌-◌, ℕ, List, ◌^◌, ◌↔◌, min, ◌++◌, [], length, map, Some, true, IsTrue, IsOk, IfOk, IfSome, OnOk, OnErr, slice_get};
 ghost use Rattle.std.specs.List.{sum_by};
 ghost use Rattle.std.specs.Option.{option_map, option_to_list};
 ghost use Rattle.pbf_wire.specs.Message.{Each, slot_bytes};
@@ -18,6 +18,8 @@ use std::marker::Model;
 #[derive(Drop)]
 pub struct TableOut<S: BuildHasher> {
     texts: IndexSet<Vec<u8>, S>,
+    /// Where the text stands that [`TableOut::index_if_some`] was asked for last, or where none does: it is tried first.
+    last: usize,
     alloc: Global,
 }
 
@@ -36,6 +38,7 @@ impl<S: BuildHasher> TableOut<S> {
     {
         TableOut {
             texts: IndexSet::with_hasher(alloc, hasher),
+            last: 0,
             alloc,
         }
     }
@@ -81,7 +84,37 @@ impl<S: BuildHasher> TableOut<S> {
         Ok(index as u32 + 1)
     }
 
-    /// The index of a text, if there is one, as [`TableOut::index_of`] gives it. It stays, whatever texts are used later.
+    /// The index of the text that was asked for last, where that is this one.
+    fn index_again(&self, text: &[u8]) -> Option<u32>
+        requires { length self.now < 1048575 }
+        ensures { IfSome result (λ index. (has_text self.now text.now ≡ true) × (index ≡ index_in self.now text.now)) }
+    {
+        let last = self.texts.as_slice().get(self.last)?;
+        if last.as_slice() == text {
+            Some(self.last as u32 + 1)
+        } else {
+            None
+        }
+    }
+
+    /// As [`TableOut::index_of`]. The text that was asked for last is found without its hash, which pays where a user's
+    /// entities stand one after the other.
+    fn index_of_user(&mut self, text: &[u8]) -> Result<u32, AllocError>
+        requires { length self.old < 1048575 }
+        ensures texts { OnOk result (self.new ≡ with_text self.old text.now) }
+        ensures index { IfOk result (λ index. index ≡ index_in self.new text.now) }
+        ensures err { OnErr result (self.new ≡ self.old) }
+    {
+        if let Some(index) = self.index_again(text) {
+            return Ok(index);
+        }
+        let index = self.index_of(text)?;
+        self.last = index as usize - 1;
+        Ok(index)
+    }
+
+    /// The index of a text, if there is one, as [`TableOut::index_of`] gives it. It stays, whatever texts are used later. The
+    /// text that was asked for here last is found at once.
     pub fn index_if_some(&mut self, text: Option<&[u8]>) -> Result<Option<u32>, AllocError>
         requires { length self.old + length (option_to_list (option_map (λ text. text.now) text)) ≤ 1048575 }
         ensures texts { OnOk result (self.new ≡ texts_after self.old (option_to_list (option_map (λ text. text.now) text.entry))) }
@@ -89,7 +122,7 @@ impl<S: BuildHasher> TableOut<S> {
         ensures err { OnErr result (self.new ≡ self.old) }
     {
         match text {
-            Some(text) => Ok(Some(self.index_of(text)?)),
+            Some(text) => Ok(Some(self.index_of_user(text)?)),
             None => Ok(None),
         }
     }
