@@ -18,6 +18,6 @@ unfolding entities payload_values
 along_same at m sound table scale texts scaled =
     let none = no_fault at m sound in
     let os = fields_in at m in
-    let few : length (table_of os) ≤ 2 ^ 62 = omega (arith, table_few at m none.0 none.1) in
+    let few : length (table_of os) ≤ 2 ^ 62 = omega (arith, table_few at m none.1) in
     ap₂ (λ (t : List (List ℕ)) (s : Scale). entities_by along t s os) texts scaled
     ∙ entities_same (table_of os) (scale_of os) os (payload_reads (table_of os) (scale_of os) few at m none.0 none.1 none.2)

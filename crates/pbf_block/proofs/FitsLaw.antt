@@ -198,7 +198,7 @@ unfolding entities payload_values payload_weights
 entities_fit at m e =
     let os = fields_in at m in
     let none = no_fault at m e in
-    let few : length (table_of os) ≤ 2 ^ 62 = omega (arith, table_few at m none.0 none.1) in
+    let few : length (table_of os) ≤ 2 ^ 62 = omega (arith, table_few at m none.1) in
     let scaled = scale_fits (length (table_of os)) at m none.0 none.2 in
     both (entities_by by_index (table_of os) (scale_of os) os) (payload_fits (table_of os) few (scale_of os) scaled at m none.0 none.1 none.2) (payload_light (table_of os) (scale_of os) os none.3)
 

@@ -1,6 +1,6 @@
 -- What a PrimitiveBlock says of all its entities: the scale of their numbers, and the texts that they name.
 use Rattle.std.specs.Prelude.{ℕ, ℤ, pos, List, [], Option, Some, None}
-use Rattle.pbf_wire.specs.Occurrence.{Content, Number, Eight, Four, Bytes, Occurrence}
+use Rattle.pbf_wire.specs.Occurrence.{Occurrence}
 use Rattle.pbf_wire.specs.Reading.{bytes_held, last_of, last_number}
 use Rattle.pbf_wire.specs.Signed.{low_i32, low_i64}
 use Rattle.pbf_strings.specs.Texts.{texts}
@@ -25,17 +25,6 @@ scale_of os = record {
 abbrev pub held_by : Option Occurrence → List ℕ
 held_by None = []
 held_by (Some o) = bytes_held o.content
-
-abbrev pub place_in : Content → ℕ
-place_in (Number v) = 0
-place_in (Eight bytes) = 0
-place_in (Four bytes) = 0
-place_in (Bytes bytes at) = at
-
--- where they begin, and 0 where there are none
-abbrev pub begin_of : Option Occurrence → ℕ
-begin_of None = 0
-begin_of (Some o) = place_in o.content
 
 -- the texts of the last string table
 abbrev pub table_of : List Occurrence → List (List ℕ)

@@ -14,7 +14,7 @@ ghost use Rattle.pbf_block.specs.Payload.{entities};
 ghost use Rattle.pbf_block.specs.Kinds.{is_among};
 ghost use Rattle.pbf_block.specs.Numbers.{counts_of};
 ghost use Rattle.pbf_wire.specs.Fields.{occurrence};
-ghost use Rattle.pbf_block.specs.Scale.{scale_of, table_of, held_by, begin_of};
+ghost use Rattle.pbf_block.specs.Scale.{scale_of, table_of, held_by};
 ghost use Rattle.pbf_block.specs.StructureFaults.{structure_faults};
 ghost use Rattle.pbf_block.specs.WireFaults.{wire_faults};
 
@@ -29,8 +29,8 @@ use crate::weights::judge_weights;
 use crate::wire::judge_wire_form;
 use osm_entity::Scale;
 use pbf_strings::Table;
-use pbf_wire::{Fault, Field, Payload, ReadFault, last_field};
-use std::alloc::Global;
+use pbf_wire::{Fault, Field, ReadFault, last_field};
+use std::alloc::{AllocError, Global};
 
 /// The first fault of the phases that need no table: of the wire form, or else of structure.
 fn early_fault(payload: &[u8], at: u64) -> Option<Fault>
@@ -43,34 +43,24 @@ fn early_fault(payload: &[u8], at: u64) -> Option<Fault>
     judge_structure(payload, at)
 }
 
-/// The bytes of a field, and where they begin; none where the field is absent.
-fn bytes_in(field: Option<Field<'_>>) -> (&[u8], u64)
-    ensures bytes { result.0.now ≡ held_by (option_map occurrence field.entry) }
-    ensures place { result.1 ≡ begin_of (option_map occurrence field.entry) }
-    ensures fits { result.1 + length result.0.now ≤ 2 ^ 63 }
+/// The bytes of a field; none where the field is absent.
+fn bytes_in(field: Option<Field<'_>>) -> &[u8]
+    ensures { result.now ≡ held_by (option_map occurrence field.entry) }
 {
     match field {
-        Some(
-            Field {
-                payload: Payload::Bytes(bytes, begin),
-                ..
-            },
-        ) => (bytes, begin),
-        _ => (&[], 0),
+        Some(field) => field.payload.bytes(),
+        None => &[],
     }
 }
 
-/// The texts of a payload that has no fault of the wire form and of structure.
-fn read_table<'a>(alloc: Global, payload: &'a [u8], at: u64) -> Result<Table<'a>, ReadFault>
+/// The texts of a payload that has no fault of structure: its table is judged already.
+fn read_table<'a>(alloc: Global, payload: &'a [u8], at: u64) -> Result<Table<'a>, AllocError>
     requires placed { at + length payload.now ≤ 2 ^ 63 }
     requires short { length payload.now < 33554432 }
-    requires wire { wire_faults at payload.now ≡ [] }
     requires structure { structure_faults at payload.now ≡ [] }
-    ensures texts { IfOk result (λ table. table ≡ table_of (fields_in at payload.now)) }
-    ensures sound { (fault : Fault) → result ≡ Err (Refused fault) → ⊥ }
+    ensures { IfOk result (λ table. table ≡ table_of (fields_in at payload.now)) }
 {
-    let (bytes, begin) = bytes_in(last_field(payload, at, STRINGTABLE));
-    Table::read(alloc, bytes, begin, begin)
+    Table::open(alloc, bytes_in(last_field(payload, at, STRINGTABLE)))
 }
 
 /// The first fault of the phases that look at texts: of values, or else of weights.

@@ -131,6 +131,16 @@ impl<'a> Table<'a> {
     {
         judge_wire(message, at, &TABLE_KINDS)?;
         Table::judge_count(message, tag)?;
+        Ok(Table::open(alloc, message)?)
+    }
+
+    /// The texts of a StringTable that was judged to have no more than [`MOST_TEXTS`]. Judges nothing: where the message has a
+    /// wire fault, its texts before that count.
+    pub fn open(alloc: Global, message: &'a [u8]) -> Result<Table<'a>, AllocError>
+        requires short { length message.now < 33554432 }
+        requires few { length (texts message.now) ≤ MOST_TEXTS }
+        ensures { IfOk result (λ table. table ≡ texts message.now) }
+    {
         Ok(Table {
             message,
             places: places(alloc, message)?,

@@ -13,13 +13,26 @@ use std::alloc::{AllocError, Global};
 use std::hash::BuildHasher;
 use std::marker::Model;
 
+/// How many texts are remembered without their hash.
+const SLOTS: usize = 256;
+
+/// The slot of a text: by its length and three of its bytes, as it has to cost less than a hash.
+fn slot_of(text: &[u8]) -> usize
+    ensures { result < SLOTS }
+{
+    let byte_at = |place: usize| usize::from(text.get(place).copied().unwrap_or(0));
+    let length = text.len();
+    let bytes = byte_at(0) + 7 * byte_at(length / 2) + 31 * byte_at(length.saturating_sub(1));
+    (length % SLOTS + bytes) % SLOTS
+}
+
 /// The texts of a block that is being written, in order of first use. The hasher is handed in, as strangers choose the texts.
 /// Contracts see it as the list of the texts. The empty text that every table begins with isn't among them.
 #[derive(Drop)]
 pub struct TableOut<S: BuildHasher> {
     texts: IndexSet<Vec<u8>, S>,
-    /// Where the text stands that [`TableOut::index_if_some`] was asked for last, or where none does: it is tried first.
-    last: usize,
+    /// Where texts that were asked for of late stand, each in its slot; a text that isn't there is looked up by its hash.
+    recent: [u32; SLOTS],
     alloc: Global,
 }
 
@@ -38,7 +51,7 @@ impl<S: BuildHasher> TableOut<S> {
     {
         TableOut {
             texts: IndexSet::with_hasher(alloc, hasher),
-            last: 0,
+            recent: [0; SLOTS],
             alloc,
         }
     }
@@ -64,9 +77,23 @@ impl<S: BuildHasher> TableOut<S> {
         self.texts.truncate(0);
     }
 
-    /// The index of a text in the written table, from 1; a new text is added behind the others. A text that is there takes no
-    /// memory. An `Err` leaves the texts as they were.
-    pub fn index_of(&mut self, text: &[u8]) -> Result<u32, AllocError>
+    /// The index of a text by its slot, `None` where another text stands there.
+    fn recent_index(&self, slot: usize, text: &[u8]) -> Option<u32>
+        requires room { length self.now < 1048575 }
+        requires slot { slot < SLOTS }
+        ensures { IfSome result (λ index. (has_text self.now text.now ≡ true) × (index ≡ index_in self.now text.now)) }
+    {
+        let place = self.recent[slot];
+        let known = self.texts.as_slice().get(place as usize)?;
+        if known.as_slice() == text {
+            Some(place + 1)
+        } else {
+            None
+        }
+    }
+
+    /// As [`TableOut::index_of`], by the hash of the text.
+    fn index_by_hash(&mut self, text: &[u8]) -> Result<u32, AllocError>
         requires { length self.old < 1048575 }
         ensures texts { OnOk result (self.new ≡ with_text self.old text.now) }
         ensures index { IfOk result (λ index. index ≡ index_in self.new text.now) }
@@ -84,37 +111,26 @@ impl<S: BuildHasher> TableOut<S> {
         Ok(index as u32 + 1)
     }
 
-    /// The index of the text that was asked for last, where that is this one.
-    fn index_again(&self, text: &[u8]) -> Option<u32>
-        requires { length self.now < 1048575 }
-        ensures { IfSome result (λ index. (has_text self.now text.now ≡ true) × (index ≡ index_in self.now text.now)) }
-    {
-        let last = self.texts.as_slice().get(self.last)?;
-        if last.as_slice() == text {
-            Some(self.last as u32 + 1)
-        } else {
-            None
-        }
-    }
-
-    /// As [`TableOut::index_of`]. The text that was asked for last is found without its hash, which pays where a user's
-    /// entities stand one after the other.
-    fn index_of_user(&mut self, text: &[u8]) -> Result<u32, AllocError>
+    /// The index of a text in the written table, from 1; a new text is added behind the others. A text that is there takes no
+    /// memory. An `Err` leaves the texts as they were.
+    pub fn index_of(&mut self, text: &[u8]) -> Result<u32, AllocError>
         requires { length self.old < 1048575 }
         ensures texts { OnOk result (self.new ≡ with_text self.old text.now) }
         ensures index { IfOk result (λ index. index ≡ index_in self.new text.now) }
+        ensures named { IfOk result (λ index. slice_get (table_of self.new) index ≡ Some text.now) }
+        ensures known { has_text self.old text.now ≡ true → IsOk result }
         ensures err { OnErr result (self.new ≡ self.old) }
     {
-        if let Some(index) = self.index_again(text) {
+        let slot = slot_of(text);
+        if let Some(index) = self.recent_index(slot, text) {
             return Ok(index);
         }
-        let index = self.index_of(text)?;
-        self.last = index as usize - 1;
+        let index = self.index_by_hash(text)?;
+        self.recent[slot] = index - 1;
         Ok(index)
     }
 
-    /// The index of a text, if there is one, as [`TableOut::index_of`] gives it. It stays, whatever texts are used later. The
-    /// text that was asked for here last is found at once.
+    /// The index of a text, if there is one, as [`TableOut::index_of`] gives it. It stays, whatever texts are used later.
     pub fn index_if_some(&mut self, text: Option<&[u8]>) -> Result<Option<u32>, AllocError>
         requires { length self.old + length (option_to_list (option_map (λ text. text.now) text)) ≤ 1048575 }
         ensures texts { OnOk result (self.new ≡ texts_after self.old (option_to_list (option_map (λ text. text.now) text.entry))) }
@@ -122,7 +138,7 @@ impl<S: BuildHasher> TableOut<S> {
         ensures err { OnErr result (self.new ≡ self.old) }
     {
         match text {
-            Some(text) => Ok(Some(self.index_of_user(text)?)),
+            Some(text) => Ok(Some(self.index_of(text)?)),
             None => Ok(None),
         }
     }

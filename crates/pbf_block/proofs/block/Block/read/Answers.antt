@@ -1,7 +1,6 @@
 use Rattle.std.proofs.Common.{◌≡◌, ap, sym, ◌∙◌}
 use Rattle.std.specs.Prelude.{Some, None, Err}
 use Rattle.std.proofs.lemmas.Result.{err_from_is_err_and}
-use Rattle.pbf_wire.specs.declared.fault.ReadFault.TheVariants.{Refused}
 use Rattle.pbf_block.specs.WireFaults.{wire_faults}
 use Rattle.pbf_block.specs.StructureFaults.{structure_faults}
 use Rattle.pbf_block.proofs.PhaseLemmas.{early_nil, first_early, first_late}
@@ -10,17 +9,14 @@ use Rattle.pbf_block.proofs.block.Block.read.Goals as goal
 pub returns-in-Some-clause-refused : goal.returns-in-Some-clause-refused
 returns-in-Some-clause-refused c = λ fault e. let same : c.in-Some.fault ≡ fault = cc in first_early c.in-Some.fault c.args.at c.args.payload.now c.in-Some.ensures ∙ ap Some same
 
-pub read_table-requires-clause-wire : goal.read_table-requires-clause-wire
-read_table-requires-clause-wire c = (early_nil (wire_faults c.args.at c.args.payload.now) (structure_faults c.args.at c.args.payload.now) (sym c.in_default.is ∙ c.early_fault.ensures)).0
-
 pub read_table-requires-clause-structure : goal.read_table-requires-clause-structure
 read_table-requires-clause-structure c = (early_nil (wire_faults c.args.at c.args.payload.now) (structure_faults c.args.at c.args.payload.now) (sym c.in_default.is ∙ c.early_fault.ensures)).1
 
 pub returns-in_err-table-clause-refused : goal.returns-in_err-table-clause-refused
 returns-in_err-table-clause-refused c = λ fault e.
     let p = err_from_is_err_and c.from_residual.result c.from_residual.ensures.1 in
-    let same : p.0 ≡ Refused fault = let both = sym p.1 ∙ e in cc in
-    absurd (c.read_table.ensures.sound fault (c.in_err-table.was ∙ ap Err (sym p.2 ∙ same)))
+    let both = ap Err (sym p.2) ∙ (sym p.1 ∙ e) in
+    absurd cc
 
 pub late_fault-requires-clause-wire : goal.late_fault-requires-clause-wire
 late_fault-requires-clause-wire c = (early_nil (wire_faults c.args.at c.args.payload.now) (structure_faults c.args.at c.args.payload.now) (sym c.in_default.is ∙ c.early_fault.ensures)).0
@@ -39,7 +35,7 @@ invariant_of-result c =
     let none = early_nil (wire_faults c.args.at c.args.payload.now) (structure_faults c.args.at c.args.payload.now) (sym c.in_default.is ∙ c.early_fault.ensures) in
     record {
       room = c.requires.placed;
-      texts = c.in_ok-table.ensures.texts;
+      texts = c.in_ok-table.ensures;
       scaled = c.scale_in-scale.ensures;
       sound = first_late None c.args.at c.args.payload.now none.0 none.1 (sym c.in_default-late_fault.is ∙ c.late_fault.ensures);
     }
