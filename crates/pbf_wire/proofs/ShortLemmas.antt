@@ -1,0 +1,154 @@
+-- Columns whose numbers take at most five bytes each have no wire fault, and their numbers are small.
+use Rattle.std.proofs.Common.{◌≡◌, ℕ, zero, suc, ◌+◌, ◌-◌, ◌*◌, ◌/◌, ◌^◌, ◌<◌, ◌≤◌, bit_or, leb, List, [], ◌∷◌, length, get_or, take, drop, refl, sym, ap, subst, ◌∙◌, arith, inl, inr, ◌⊎◌}
+use Rattle.std.specs.Prelude.{Ok, None, IsBitSet, slice_index}
+use Rattle.std.specs.List.{prefix_len, AllByRecursion}
+use Rattle.std.specs.Int.{bit_at}
+use Rattle.std.proofs.lemmas.Nat.{bit_set_by_shift, and_mask}
+use Rattle.std.proofs.lemmas.Nat.Bits.{bit_at_or, bit_at_ones, bit_at-lt}
+use Rattle.std.proofs.Math.Pow.{pow_mono}
+use Rattle.std.proofs.lemmas.Bool.{cases_lt, leb-true, leb-false}
+use Rattle.std.proofs.lemmas.List.Sums.{prefix_len_passes, prefix_len_stops}
+use Rattle.std.proofs.lemmas.List.{get_or-take, get_or-drop, length-take, length-drop}
+use Rattle.pbf_wire.specs.Varint.{value_of, varint_at}
+use Rattle.pbf_wire.specs.Columns.{Entry, entries, read_entries, entry_fault}
+use Rattle.pbf_wire.specs.Short.{EndsSoon, IsShort}
+use Rattle.pbf_wire.proofs.Varints.{pow_128, ended_at}
+use Rattle.pbf_wire.proofs.Spellings.{value_below}
+use Rattle.pbf_wire.proofs.Columns.{entries_none, entries_ok}
+
+-- ---- five masks that leave no byte out
+
+one_of : (a b i : ℕ) → bit_at (bit_or a b) i ≡ 1 → (bit_at a i ≡ 1) ⊎ (bit_at b i ≡ 1)
+one_of a b i e =
+    elim (cases_lt (bit_at a i) 1) [
+      | inl lt ↦ inr (omega (arith, e, bit_at_or a b i))
+      | inr ge ↦ inl (omega (arith, bit_at-lt a i))
+    ]
+
+-- where the bits of a mask tell ends that stand so many bytes on
+abbrev Tells : List ℕ → ℕ → ℕ → Type 0
+Tells window j mask = (i : ℕ) → i < 32 → IsBitSet mask i → slice_index window (i + j) < 128
+
+told : (window : List ℕ) (j mask i : ℕ) → length window ≡ 36 → j < 5 → i < 32 → Tells window j mask → bit_at mask i ≡ 1 → EndsSoon window i
+told window j mask i long few lt tells e = (j, few, omega arith, tells i lt ((bit_set_by_shift mask i).0 (and_mask (mask / 2 ^ i) 1 ∙ e)))
+
+pub all_told : (window : List ℕ) (a b c d e : ℕ) → length window ≡ 36 → Tells window 0 a → Tells window 1 b → Tells window 2 c → Tells window 3 d → Tells window 4 e
+    → bit_or (bit_or (bit_or (bit_or a b) c) d) e ≡ 2 ^ 32 - 1 → (i : ℕ) → i < 32 → EndsSoon window i
+all_told window a b c d e long ta tb tc td te all i lt =
+    let five : bit_at (bit_or (bit_or (bit_or (bit_or a b) c) d) e) i ≡ 1 = ap (λ m. bit_at m i) all ∙ bit_at_ones 32 i lt in
+    elim (one_of (bit_or (bit_or (bit_or a b) c) d) e i five) [
+      | inr here ↦ told window 4 e i long (omega arith) lt te here
+      | inl four ↦ elim (one_of (bit_or (bit_or a b) c) d i four) [
+        | inr here ↦ told window 3 d i long (omega arith) lt td here
+        | inl three ↦ elim (one_of (bit_or a b) c i three) [
+          | inr here ↦ told window 2 c i long (omega arith) lt tc here
+          | inl two ↦ elim (one_of a b i two) [
+            | inr here ↦ told window 1 b i long (omega arith) lt tb here
+            | inl here ↦ told window 0 a i long (omega arith) lt ta here
+          ]
+        ]
+      ]
+    ]
+
+-- ---- of a part, of the whole
+
+soon_in_front : (bytes : List ℕ) (n i : ℕ) → EndsSoon (take n bytes) i → EndsSoon bytes i
+soon_in_front bytes n i h =
+    let within : i + h.0 < n = omega (arith, h.2, length-take n bytes) in
+    (h.0, h.1, omega (arith, h.2, length-take n bytes), omega (arith, h.3, get_or-take n bytes (i + h.0) 0 within))
+
+soon_in_rest : (bytes : List ℕ) (n i : ℕ) → EndsSoon (drop n bytes) i → EndsSoon bytes (n + i)
+soon_in_rest bytes n i h =
+    let at : n + (i + h.0) ≡ n + i + h.0 = omega arith in
+    (h.0, h.1, omega (arith, h.2, length-drop n bytes), omega (arith, h.3, get_or-drop n bytes (i + h.0) 0, ap (λ k. get_or bytes k 0) at))
+
+soon_from_rest : (bytes : List ℕ) (n i : ℕ) → EndsSoon bytes (n + i) → EndsSoon (drop n bytes) i
+soon_from_rest bytes n i h =
+    let at : n + (i + h.0) ≡ n + i + h.0 = omega arith in
+    (h.0, h.1, omega (arith, h.2, length-drop n bytes), omega (arith, h.3, get_or-drop n bytes (i + h.0) 0, ap (λ k. get_or bytes k 0) at))
+
+pub short_rest : (bytes : List ℕ) (n : ℕ) → IsShort bytes → IsShort (drop n bytes)
+short_rest bytes n h = λ i lt. soon_from_rest bytes n i (h (n + i) (omega (arith, lt, length-drop n bytes)))
+
+-- one window more of the bytes that are looked at from the left
+pub one_more : (bytes window : List ℕ) (n : ℕ) → window ≡ take 36 (drop n bytes) → ((i : ℕ) → i < 32 → EndsSoon window i) → ((i : ℕ) → i < n → EndsSoon bytes i) → (i : ℕ) → i < n + 32 → EndsSoon bytes i
+one_more bytes window n is here done i lt =
+    elim (cases_lt i n) [
+      | inl below ↦ done i below
+      | inr from ↦
+          let at : n + (i - n) ≡ i = omega arith in
+          subst (λ (k : ℕ). EndsSoon bytes k) at (soon_in_rest bytes n (i - n) (soon_in_front (drop n bytes) 36 (i - n) (subst (λ (w : List ℕ). EndsSoon w (i - n)) is (here (i - n) (omega arith)))))
+    ]
+
+last_soon : (window : List ℕ) (i : ℕ) → length window ≡ 36 → i < 36 → slice_index window 35 < 128 → ((i : ℕ) → i < 32 → EndsSoon window i) → EndsSoon window i
+last_soon window i size lt last here =
+    elim (cases_lt i 32) [
+      | inl early ↦ here i early
+      | inr late ↦
+          let end : i + (35 - i) ≡ 35 = omega arith in
+          (35 - i, omega arith, omega arith, omega (arith, last, ap (λ k. get_or window k 0) end))
+    ]
+
+-- the last window holds what is left, and its last byte ends the last number
+pub all_short : (bytes window : List ℕ) (n : ℕ) → 36 ≤ length bytes → length bytes < n + 36 → window ≡ drop (length bytes - 36) bytes → slice_index window 35 < 128
+    → ((i : ℕ) → i < 32 → EndsSoon window i) → ((i : ℕ) → i < n → EndsSoon bytes i) → IsShort bytes
+all_short bytes window n long left is last here done i lt =
+    elim (cases_lt i n) [
+      | inl below ↦ done i below
+      | inr from ↦
+          let m = length bytes - 36 in
+          let at : m + (i - m) ≡ i = omega arith in
+          let size : length window ≡ 36 = omega (arith, ap length is, length-drop m bytes) in
+          subst (λ (k : ℕ). EndsSoon bytes k) at (soon_in_rest bytes m (i - m) (subst (λ (w : List ℕ). EndsSoon w (i - m)) is (last_soon window (i - m) size (omega arith) last here)))
+    ]
+
+-- ---- what the numbers of short columns are
+
+-- the number at the front
+record ShortFront (bytes : List ℕ) : Type 0 where
+  value : ℕ
+  size : ℕ
+  positive : 0 < size
+  within : size ≤ length bytes
+  small : value < 2 ^ 35
+  read : varint_at bytes ≡ Ok (value, size)
+
+short_front : (bytes : List ℕ) → EndsSoon bytes 0 → ShortFront bytes
+short_front bytes h =
+    let n = prefix_len (leb 128) bytes in
+    let passes : (k : ℕ) → k < n → 128 ≤ get_or bytes k 0 = λ k l. leb-true _ _ (prefix_len_passes (leb 128) bytes k 0 l) in
+    let at : 0 + h.0 ≡ h.0 = omega arith in
+    let end : get_or bytes h.0 0 < 128 = subst (λ (k : ℕ). get_or bytes k 0 < 128) at h.3 in
+    let early : n ≤ h.0 = elim (cases_lt h.0 n) [ inl lt ↦ absurd (omega (arith, end, passes h.0 lt)) | inr ge ↦ ge ] in
+    let value = value_of (take (n + 1) bytes) in
+    let small : value < 2 ^ 35 = omega (arith, value_below bytes (n + 1) (omega (arith, h.2, early)), pow_128 (n + 1), pow_mono {i = 7 * (n + 1)} {j = 35} (omega (arith, early, h.1))) in
+    let within : n < length bytes = omega (arith, h.2, early) in
+    record {
+      value = value;
+      size = n + 1;
+      positive = omega arith;
+      within = omega (arith, within);
+      small = small;
+      read = ended_at bytes n value within (omega (arith, early, h.1)) passes (leb-false _ _ (prefix_len_stops (leb 128) bytes 0 within)) refl (omega (arith, small));
+    }
+
+abbrev IsSmall : ℕ → Type 0
+IsSmall v = v < 2 ^ 35
+
+abbrev AllSmall : List Entry → Type 0
+AllSmall es = (entry_fault es ≡ None) × AllByRecursion IsSmall (read_entries es)
+
+all_small : (fuel : ℕ) (bytes : List ℕ) → length bytes ≤ fuel → IsShort bytes → AllSmall (entries bytes)
+all_small fuel [] le h = subst AllSmall (sym (entries_none [] refl)) (refl, tt)
+all_small zero (b ∷ bs) le h = absurd (omega arith)
+all_small (suc fuel) (b ∷ bs) le h =
+    let front = short_front (b ∷ bs) (h 0 (omega arith)) in
+    let rest = drop front.size (b ∷ bs) in
+    let more = all_small fuel rest (omega (arith, front.positive, length-drop front.size (b ∷ bs))) (short_rest (b ∷ bs) front.size h) in
+    subst AllSmall (sym (entries_ok (b ∷ bs) front.value front.size front.positive front.within front.read)) (more.0, (front.small, more.1))
+
+pub short_column : (bytes : List ℕ) → IsShort bytes → entry_fault (entries bytes) ≡ None
+short_column bytes h = (all_small (length bytes) bytes (omega arith) h).0
+
+pub short_numbers : (bytes : List ℕ) → IsShort bytes → AllByRecursion (λ v. v < 2 ^ 35) (read_entries (entries bytes))
+short_numbers bytes h = (all_small (length bytes) bytes (omega arith) h).1

@@ -1,0 +1,45 @@
+//! A quick test for packed columns whose numbers are short, which most columns are: many bytes at once, and no number decoded.
+
+ghost use Rattle.std.specs.Prelude.{◌≡◌, ◌+◌, ◌<◌, ◌≤◌, ℕ, IsBitSet, IsTrue, slice_index};
+ghost use Rattle.pbf_wire.specs.Short.{EndsSoon, IsShort};
+
+use crate::count::end_mask;
+
+/// Which of the 32 bytes from `from` on end a varint, as a mask.
+#[inline(always)]
+fn ends_from(window: &[u8; 36], from: usize) -> u32
+    requires { from ≤ 4 }
+    ensures { (i : ℕ) → i < 32 → IsBitSet result i → slice_index window.now (i + from) < 128 }
+{
+    match window[from..].first_chunk::<32>() {
+        Some(block) => end_mask(block),
+        None => 0,
+    }
+}
+
+/// Whether a varint ends within five bytes from each of the first 32 bytes on.
+fn end_soon(window: &[u8; 36]) -> bool
+    ensures { IsTrue result → (i : ℕ) → i < 32 → EndsSoon window.now i }
+{
+    let two = ends_from(window, 0) | ends_from(window, 1);
+    let four = two | ends_from(window, 2) | ends_from(window, 3);
+    four | ends_from(window, 4) == u32::MAX
+}
+
+/// Whether each number takes at most five bytes, and the last one ends. Answers `false` for less than 36 bytes too, since
+/// these are read as fast one by one.
+pub(crate) fn is_short(bytes: &[u8]) -> bool
+    ensures { IsTrue result → IsShort bytes.now }
+{
+    let Some(last) = bytes.last_chunk::<36>() else {
+        return false;
+    };
+    let mut rest = bytes;
+    while let Some(window) = rest.first_chunk::<36>() {
+        if !end_soon(window) {
+            return false;
+        }
+        rest = &rest[32..];
+    }
+    end_soon(last) && last[35] < 128
+}
