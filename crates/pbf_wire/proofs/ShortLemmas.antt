@@ -1,20 +1,29 @@
--- Columns whose numbers take at most five bytes each have no wire fault, and their numbers are small.
-use Rattle.std.proofs.Common.{◌≡◌, ℕ, zero, suc, ◌+◌, ◌-◌, ◌*◌, ◌/◌, ◌^◌, ◌<◌, ◌≤◌, bit_or, leb, List, [], ◌∷◌, length, get_or, take, drop, refl, sym, ap, subst, ◌∙◌, arith, inl, inr, ◌⊎◌}
-use Rattle.std.specs.Prelude.{Ok, None, IsBitSet, slice_index}
+-- Columns whose numbers take at most five bytes each have no wire fault, and their numbers and sums are small.
+use Rattle.std.proofs.Common.{◌≡◌, ℕ, zero, suc, ◌+◌, ◌-◌, ◌*◌, ◌/◌, ◌%◌, ◌^◌, ◌<◌, ◌≤◌, bit_or, leb, eqb, ◌==◌, Bool, true, false, ℤ, pos, negsuc, ◌+ℤ◌, List, [], ◌∷◌, ◌++◌, length, get_or, take, drop, refl, sym, ap, subst, ◌∙◌, arith, inl, inr, ◌⊎◌}
+use Rattle.std.specs.Prelude.{Ok, None, IsBitSet, slice_index, ◌≤ℤ◌, neg_ℤ, not, if◌then◌else◌}
 use Rattle.std.specs.List.{prefix_len, AllByRecursion}
 use Rattle.std.specs.Int.{bit_at}
 use Rattle.std.proofs.lemmas.Nat.{bit_set_by_shift, and_mask}
 use Rattle.std.proofs.lemmas.Nat.Bits.{bit_at_or, bit_at_ones, bit_at-lt}
 use Rattle.std.proofs.Math.Pow.{pow_mono}
-use Rattle.std.proofs.lemmas.Bool.{cases_lt, leb-true, leb-false}
+use Rattle.std.proofs.lemmas.Bool.{cases_lt, leb-true, leb-false, eqb-true}
+use Rattle.std.proofs.lemmas.Int.{ints}
 use Rattle.std.proofs.lemmas.List.Sums.{prefix_len_passes, prefix_len_stops}
 use Rattle.std.proofs.lemmas.List.{get_or-take, get_or-drop, length-take, length-drop}
 use Rattle.pbf_wire.specs.Varint.{value_of, varint_at}
-use Rattle.pbf_wire.specs.Columns.{Entry, entries, read_entries, entry_fault}
+use Rattle.pbf_wire.specs.declared.fault.Reason.TheVariants.{OutOfRange}
+use Rattle.pbf_wire.specs.Occurrence.{Occurrence, Item, found}
+use Rattle.pbf_wire.specs.Columns.{Entry, entries, read_entries, entry_fault, placed, numbers_in, column_of, joined}
+use Rattle.pbf_wire.specs.Signed.{unzigzag, IsWithin, is_within}
+use Rattle.pbf_wire.specs.Faults.{fault_where, fields_in, sum_faults}
 use Rattle.pbf_wire.specs.Short.{EndsSoon, IsShort}
 use Rattle.pbf_wire.proofs.Varints.{pow_128, ended_at}
 use Rattle.pbf_wire.proofs.Spellings.{value_below}
 use Rattle.pbf_wire.proofs.Columns.{entries_none, entries_ok}
+use Rattle.pbf_wire.proofs.MessageLemmas.{all_append}
+use Rattle.pbf_wire.proofs.SumLemmas.{within_true}
+use Rattle.pbf_wire.proofs.RisingLemmas.{running, running_is}
+use Rattle.pbf_wire.proofs.FaultLemmas.{column_short}
 
 -- ---- five masks that leave no byte out
 
@@ -152,3 +161,53 @@ short_column bytes h = (all_small (length bytes) bytes (omega arith) h).0
 
 pub short_numbers : (bytes : List ℕ) → IsShort bytes → AllByRecursion (λ v. v < 2 ^ 35) (read_entries (entries bytes))
 short_numbers bytes h = (all_small (length bytes) bytes (omega arith) h).1
+
+-- ---- columns of such numbers
+
+abbrev pub AllSmallPlaced : List (ℕ × ℕ) → Type 0
+AllSmallPlaced xs = AllByRecursion (λ x. x.0 < 2 ^ 35) xs
+
+placed_small : (place : ℕ) (ns : List ℕ) → AllByRecursion IsSmall ns → AllSmallPlaced (placed place ns)
+placed_small place [] h = tt
+placed_small place (n ∷ ns) h = (h.0, placed_small place ns h.1)
+
+-- one field more, whose numbers are small where they are the column's
+pub column_more : (k : ℕ) (its rest : List Item) (o : Occurrence) → its ≡ Ok o ∷ rest → (o.number ≡ k → AllByRecursion (λ v. v < 2 ^ 35) (numbers_in o.content))
+    → AllSmallPlaced (joined k (found rest)) → AllSmallPlaced (joined k (found its))
+column_more k its rest o is here later = subst (λ (w : List Item). AllSmallPlaced (joined k (found w))) (sym is) (all_append _ (column_of k o) (joined k (found rest)) (by (o.number == k) refl) later) where
+  by : (b : Bool) → (o.number == k) ≡ b → AllSmallPlaced (if b then placed o.place (numbers_in o.content) else [])
+  by true e = placed_small o.place (numbers_in o.content) (here (eqb-true _ _ e))
+  by false e = tt
+
+-- ---- their sums
+
+-- not beyond this distance
+record IsNear (distance : ℕ) (n : ℤ) : Type 0 where
+  above : neg_ℤ (pos distance) ≤ℤ n
+  below : n ≤ℤ pos distance
+
+small_delta : (v : ℕ) → v < 2 ^ 35 → IsNear (2 ^ 35) (unzigzag v)
+small_delta v lt = by (eqb (v % 2) 0) where
+  by : (b : Bool) → IsNear (2 ^ 35) (if b then pos (v / 2) else negsuc (v / 2))
+  by true = record { above = omega (arith, ints); below = omega (arith, ints) }
+  by false = record { above = omega (arith, ints); below = omega (arith, ints) }
+
+abbrev limit : ℤ
+limit = pos (2 ^ 62)
+
+none_out : (start : ℤ) (xs : List (ℕ × ℕ)) (distance : ℕ) → IsNear distance start → distance + 2 ^ 35 * length xs < 2 ^ 62 → AllSmallPlaced xs → running (is_within limit) OutOfRange false start xs ≡ []
+none_out start [] distance near room h = refl
+none_out start (x ∷ xs) distance near room h =
+    let step = small_delta x.0 h.0 in
+    let sum = start +ℤ unzigzag x.0 in
+    let next : IsNear (distance + 2 ^ 35) sum = record { above = omega (arith, ints, near.above, step.above); below = omega (arith, ints, near.below, step.below) } in
+    let inside : IsWithin limit sum = record { above = omega (arith, ints, next.above); below = omega (arith, ints, next.below) } in
+    ap (λ b. fault_where (not b) x.1 OutOfRange ++ running (is_within limit) OutOfRange false sum xs) (within_true limit sum inside)
+    ∙ none_out sum xs (distance + 2 ^ 35) next (omega (arith, room)) h.1
+
+-- at most 2^26 of them stay in range
+pub small_sums : (k at : ℕ) (m : List ℕ) → length m ≤ 2 ^ 26 → AllSmallPlaced (joined k (fields_in at m)) → sum_faults (pos (2 ^ 62)) false (joined k (fields_in at m)) ≡ []
+small_sums k at m few h =
+    let xs = joined k (fields_in at m) in
+    sym (running_is (is_within limit) OutOfRange false xs)
+    ∙ none_out (pos 0) xs 0 (record { above = omega (arith, ints); below = omega (arith, ints) }) (omega (arith, few, column_short k at m)) h
