@@ -1,10 +1,10 @@
 -- Columns whose numbers take at most five bytes each have no wire fault, and their numbers and sums are small.
-use Rattle.std.proofs.Common.{◌≡◌, ℕ, zero, suc, ◌+◌, ◌-◌, ◌*◌, ◌/◌, ◌%◌, ◌^◌, ◌<◌, ◌≤◌, bit_or, leb, eqb, ◌==◌, Bool, true, false, ℤ, pos, negsuc, ◌+ℤ◌, List, [], ◌∷◌, ◌++◌, length, get_or, take, drop, refl, sym, ap, subst, ◌∙◌, arith, inl, inr, ◌⊎◌}
+use Rattle.std.proofs.Common.{◌≡◌, ℕ, zero, suc, ◌+◌, ◌-◌, ◌*◌, ◌/◌, ◌%◌, ◌^◌, ◌<◌, ◌≤◌, bit_and, bit_or, leb, eqb, ◌==◌, Bool, true, false, ℤ, pos, negsuc, ◌+ℤ◌, List, [], ◌∷◌, ◌++◌, length, get_or, take, drop, refl, sym, ap, subst, ◌∙◌, arith, inl, inr, ◌⊎◌}
 use Rattle.std.specs.Prelude.{Ok, None, IsBitSet, slice_index, ◌≤ℤ◌, neg_ℤ, not, if◌then◌else◌}
 use Rattle.std.specs.List.{prefix_len, AllByRecursion}
 use Rattle.std.specs.Int.{bit_at}
-use Rattle.std.proofs.lemmas.Nat.{bit_set_by_shift, and_mask}
-use Rattle.std.proofs.lemmas.Nat.Bits.{bit_at_or, bit_at_ones, bit_at-lt}
+use Rattle.std.proofs.lemmas.Nat.{bit_set_by_shift, and_mask, shr-shr}
+use Rattle.std.proofs.lemmas.Nat.Bits.{bit_at_or, bit_at_and, bit_at_ones, bit_at-lt, bit_at_cat_low, bit_at_cat_high}
 use Rattle.std.proofs.Math.Pow.{pow_mono}
 use Rattle.std.proofs.lemmas.Bool.{cases_lt, leb-true, leb-false, eqb-true}
 use Rattle.std.proofs.lemmas.Int.{ints}
@@ -25,39 +25,74 @@ use Rattle.pbf_wire.proofs.SumLemmas.{within_true}
 use Rattle.pbf_wire.proofs.RisingLemmas.{running, running_is}
 use Rattle.pbf_wire.proofs.FaultLemmas.{column_short}
 
--- ---- five masks that leave no byte out
+-- ---- a mask of ends
 
-one_of : (a b i : ℕ) → bit_at (bit_or a b) i ≡ 1 → (bit_at a i ≡ 1) ⊎ (bit_at b i ≡ 1)
-one_of a b i e =
+bit_is : (mask i : ℕ) → IsBitSet mask i → bit_at mask i ≡ 1
+bit_is mask i h = sym (and_mask (mask / 2 ^ i) 1) ∙ (bit_set_by_shift mask i).1 h
+
+is_set : (mask i : ℕ) → bit_at mask i ≡ 1 → IsBitSet mask i
+is_set mask i e = (bit_set_by_shift mask i).0 (and_mask (mask / 2 ^ i) 1 ∙ e)
+
+-- of the ends in both halves
+pub both_halves : (front back i : ℕ) → front < 2 ^ 32 → IsBitSet (back * 2 ^ 32 + front) i → (i < 32) × IsBitSet front i ⊎ (32 ≤ i) × IsBitSet back (i - 32)
+both_halves front back i small h =
+    elim (cases_lt i 32) [
+      | inl lt ↦ inl (lt, is_set front i (sym (bit_at_cat_low back 32 front i lt) ∙ bit_is _ i h))
+      | inr ge ↦ inr (ge, is_set back (i - 32) (sym (bit_at_cat_high back 32 front i small ge) ∙ bit_is _ i h))
+    ]
+
+moved : (mask k i : ℕ) → bit_at (mask / 2 ^ k) i ≡ bit_at mask (i + k)
+moved mask k i = let e : k + i ≡ i + k = omega arith in ap (λ n. n % 2) (shr-shr mask k i) ∙ ap (bit_at mask) e
+
+-- a bit of a mask joined with a shifted one is in the one, or so many places on in the other
+either : (a b k i : ℕ) → bit_at (bit_or a (b / 2 ^ k)) i ≡ 1 → (bit_at a i ≡ 1) ⊎ (bit_at b (i + k) ≡ 1)
+either a b k i e =
     elim (cases_lt (bit_at a i) 1) [
-      | inl lt ↦ inr (omega (arith, e, bit_at_or a b i))
+      | inl lt ↦ inr (omega (arith, e, bit_at_or a (b / 2 ^ k) i, moved b k i))
       | inr ge ↦ inl (omega (arith, bit_at-lt a i))
     ]
 
--- where the bits of a mask tell ends that stand so many bytes on
-abbrev Tells : List ℕ → ℕ → ℕ → Type 0
-Tells window j mask = (i : ℕ) → i < 32 → IsBitSet mask i → slice_index window (i + j) < 128
+-- one of so many places from i on
+abbrev Near : ℕ → ℕ → ℕ → Type 0
+Near mask places i = (j : ℕ) × (j < places) × (bit_at mask (i + j) ≡ 1)
 
-told : (window : List ℕ) (j mask i : ℕ) → length window ≡ 36 → j < 5 → i < 32 → Tells window j mask → bit_at mask i ≡ 1 → EndsSoon window i
-told window j mask i long few lt tells e = (j, few, omega arith, tells i lt ((bit_set_by_shift mask i).0 (and_mask (mask / 2 ^ i) 1 ∙ e)))
-
-pub all_told : (window : List ℕ) (a b c d e : ℕ) → length window ≡ 36 → Tells window 0 a → Tells window 1 b → Tells window 2 c → Tells window 3 d → Tells window 4 e
-    → bit_or (bit_or (bit_or (bit_or a b) c) d) e ≡ 2 ^ 32 - 1 → (i : ℕ) → i < 32 → EndsSoon window i
-all_told window a b c d e long ta tb tc td te all i lt =
-    let five : bit_at (bit_or (bit_or (bit_or (bit_or a b) c) d) e) i ≡ 1 = ap (λ m. bit_at m i) all ∙ bit_at_ones 32 i lt in
-    elim (one_of (bit_or (bit_or (bit_or a b) c) d) e i five) [
-      | inr here ↦ told window 4 e i long (omega arith) lt te here
-      | inl four ↦ elim (one_of (bit_or (bit_or a b) c) d i four) [
-        | inr here ↦ told window 3 d i long (omega arith) lt td here
-        | inl three ↦ elim (one_of (bit_or a b) c i three) [
-          | inr here ↦ told window 2 c i long (omega arith) lt tc here
-          | inl two ↦ elim (one_of a b i two) [
-            | inr here ↦ told window 1 b i long (omega arith) lt tb here
-            | inl here ↦ told window 0 a i long (omega arith) lt ta here
-          ]
-        ]
-      ]
+double : (mask two i k : ℕ) → ((i : ℕ) → bit_at two i ≡ 1 → Near mask k i) → bit_at (bit_or two (two / 2 ^ k)) i ≡ 1 → Near mask (k + k) i
+double mask two i k h e =
+    elim (either two two k i e) [
+      | inl here ↦ let n = h i here in (n.0, omega (arith, n.1), n.2)
+      | inr later ↦
+          let n = h (i + k) later in
+          let at : i + k + n.0 ≡ i + (k + n.0) = omega arith in
+          (k + n.0, omega (arith, n.1), sym (ap (bit_at mask) at) ∙ n.2)
     ]
+
+-- one of five, where the mask and what it is shifted by are joined in three steps
+abbrev two_of : ℕ → ℕ
+two_of mask = bit_or mask (mask / 2 ^ 1)
+
+abbrev four_of : ℕ → ℕ
+four_of mask = bit_or (two_of mask) (two_of mask / 2 ^ 2)
+
+one : (mask i : ℕ) → bit_at mask i ≡ 1 → Near mask 1 i
+one mask i e = let at : i + 0 ≡ i = omega arith in (0, omega arith, ap (bit_at mask) at ∙ e)
+
+five : (mask i : ℕ) → bit_at (bit_or (four_of mask) (mask / 2 ^ 4)) i ≡ 1 → Near mask 5 i
+five mask i e =
+    elim (either (four_of mask) mask 4 i e) [
+      | inl here ↦
+          let n = double mask (two_of mask) i 2 (λ i e. double mask mask i 1 (one mask) e) here in
+          (n.0, omega (arith, n.1), n.2)
+      | inr later ↦ (4, omega arith, later)
+    ]
+
+-- a window whose mask leaves none of the first 60 bytes out
+pub all_told : (window : List ℕ) (mask : ℕ) → length window ≡ 64 → ((i : ℕ) → i < 64 → IsBitSet mask i → slice_index window i < 128)
+    → bit_and (bit_or (four_of mask) (mask / 2 ^ 4)) (2 ^ 60 - 1) ≡ 2 ^ 60 - 1 → (i : ℕ) → i < 60 → EndsSoon window i
+all_told window mask long tells all i lt =
+    let whole = bit_or (four_of mask) (mask / 2 ^ 4) in
+    let bit : bit_at whole i ≡ 1 = omega (arith, ap (λ n. bit_at n i) all, bit_at_and whole (2 ^ 60 - 1) i, bit_at_ones 60 i lt, bit_at-lt whole i) in
+    let n = five mask i bit in
+    (n.0, n.1, omega (arith, n.1), tells (i + n.0) (omega (arith, n.1)) (is_set mask (i + n.0) n.2))
 
 -- ---- of a part, of the whole
 
@@ -80,34 +115,34 @@ pub short_rest : (bytes : List ℕ) (n : ℕ) → IsShort bytes → IsShort (dro
 short_rest bytes n h = λ i lt. soon_from_rest bytes n i (h (n + i) (omega (arith, lt, length-drop n bytes)))
 
 -- one window more of the bytes that are looked at from the left
-pub one_more : (bytes window : List ℕ) (n : ℕ) → window ≡ take 36 (drop n bytes) → ((i : ℕ) → i < 32 → EndsSoon window i) → ((i : ℕ) → i < n → EndsSoon bytes i) → (i : ℕ) → i < n + 32 → EndsSoon bytes i
+pub one_more : (bytes window : List ℕ) (n : ℕ) → window ≡ take 64 (drop n bytes) → ((i : ℕ) → i < 60 → EndsSoon window i) → ((i : ℕ) → i < n → EndsSoon bytes i) → (i : ℕ) → i < n + 60 → EndsSoon bytes i
 one_more bytes window n is here done i lt =
     elim (cases_lt i n) [
       | inl below ↦ done i below
       | inr from ↦
           let at : n + (i - n) ≡ i = omega arith in
-          subst (λ (k : ℕ). EndsSoon bytes k) at (soon_in_rest bytes n (i - n) (soon_in_front (drop n bytes) 36 (i - n) (subst (λ (w : List ℕ). EndsSoon w (i - n)) is (here (i - n) (omega arith)))))
+          subst (λ (k : ℕ). EndsSoon bytes k) at (soon_in_rest bytes n (i - n) (soon_in_front (drop n bytes) 64 (i - n) (subst (λ (w : List ℕ). EndsSoon w (i - n)) is (here (i - n) (omega arith)))))
     ]
 
-last_soon : (window : List ℕ) (i : ℕ) → length window ≡ 36 → i < 36 → slice_index window 35 < 128 → ((i : ℕ) → i < 32 → EndsSoon window i) → EndsSoon window i
+last_soon : (window : List ℕ) (i : ℕ) → length window ≡ 64 → i < 64 → slice_index window 63 < 128 → ((i : ℕ) → i < 60 → EndsSoon window i) → EndsSoon window i
 last_soon window i size lt last here =
-    elim (cases_lt i 32) [
+    elim (cases_lt i 60) [
       | inl early ↦ here i early
       | inr late ↦
-          let end : i + (35 - i) ≡ 35 = omega arith in
-          (35 - i, omega arith, omega arith, omega (arith, last, ap (λ k. get_or window k 0) end))
+          let end : i + (63 - i) ≡ 63 = omega arith in
+          (63 - i, omega arith, omega arith, omega (arith, last, ap (λ k. get_or window k 0) end))
     ]
 
 -- the last window holds what is left, and its last byte ends the last number
-pub all_short : (bytes window : List ℕ) (n : ℕ) → 36 ≤ length bytes → length bytes < n + 36 → window ≡ drop (length bytes - 36) bytes → slice_index window 35 < 128
-    → ((i : ℕ) → i < 32 → EndsSoon window i) → ((i : ℕ) → i < n → EndsSoon bytes i) → IsShort bytes
+pub all_short : (bytes window : List ℕ) (n : ℕ) → 64 ≤ length bytes → length bytes < n + 64 → window ≡ drop (length bytes - 64) bytes → slice_index window 63 < 128
+    → ((i : ℕ) → i < 60 → EndsSoon window i) → ((i : ℕ) → i < n → EndsSoon bytes i) → IsShort bytes
 all_short bytes window n long left is last here done i lt =
     elim (cases_lt i n) [
       | inl below ↦ done i below
       | inr from ↦
-          let m = length bytes - 36 in
+          let m = length bytes - 64 in
           let at : m + (i - m) ≡ i = omega arith in
-          let size : length window ≡ 36 = omega (arith, ap length is, length-drop m bytes) in
+          let size : length window ≡ 64 = omega (arith, ap length is, length-drop m bytes) in
           subst (λ (k : ℕ). EndsSoon bytes k) at (soon_in_rest bytes m (i - m) (subst (λ (w : List ℕ). EndsSoon w (i - m)) is (last_soon window (i - m) size (omega arith) last here)))
     ]
 

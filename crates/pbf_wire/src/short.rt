@@ -11,43 +11,46 @@ use crate::count::end_mask;
 use crate::field::Payload;
 use crate::fields::Fields;
 
-/// Which of the 32 bytes from `from` on end a varint, as a mask.
-#[inline(always)]
-fn ends_from(window: &[u8; 36], from: usize) -> u32
-    requires { from ≤ 4 }
-    ensures { (i : ℕ) → i < 32 → IsBitSet result i → slice_index window.now (i + from) < 128 }
+/// The first 60 bits of a mask.
+const FIRST_SIXTY: u64 = (1 << 60) - 1;
+
+/// Which bytes end a varint, as a mask.
+fn ends_in(window: &[u8; 64]) -> u64
+    ensures { (i : ℕ) → i < 64 → IsBitSet result i → slice_index window.now i < 128 }
 {
-    match window[from..].first_chunk::<32>() {
-        Some(block) => end_mask(block),
-        None => 0,
-    }
+    let (Some(front), Some(back)) = (window.first_chunk::<32>(), window.last_chunk::<32>()) else {
+        return 0;
+    };
+    (u64::from(end_mask(back)) << 32) + u64::from(end_mask(front))
 }
 
-/// Whether a varint ends within five bytes from each of the first 32 bytes on.
-fn end_soon(window: &[u8; 36]) -> bool
-    ensures { IsTrue result → (i : ℕ) → i < 32 → EndsSoon window.now i }
+/// Whether a varint ends within five bytes from each of the first 60 bytes on.
+fn end_soon(window: &[u8; 64]) -> bool
+    ensures { IsTrue result → (i : ℕ) → i < 60 → EndsSoon window.now i }
 {
-    let two = ends_from(window, 0) | ends_from(window, 1);
-    let four = two | ends_from(window, 2) | ends_from(window, 3);
-    four | ends_from(window, 4) == u32::MAX
+    let one = ends_in(window);
+    let two = one | one >> 1;
+    let four = two | two >> 2;
+    let five = four | one >> 4;
+    five & FIRST_SIXTY == FIRST_SIXTY
 }
 
-/// Whether each number takes at most five bytes, and the last one ends. Answers `false` for less than 36 bytes too, since
+/// Whether each number takes at most five bytes, and the last one ends. Answers `false` for less than 64 bytes too, since
 /// these are read as fast one by one.
 pub(crate) fn is_short(bytes: &[u8]) -> bool
     ensures { IsTrue result → IsShort bytes.now }
 {
-    let Some(last) = bytes.last_chunk::<36>() else {
+    let Some(last) = bytes.last_chunk::<64>() else {
         return false;
     };
     let mut rest = bytes;
-    while let Some(window) = rest.first_chunk::<36>() {
+    while let Some(window) = rest.first_chunk::<64>() {
         if !end_soon(window) {
             return false;
         }
-        rest = &rest[32..];
+        rest = &rest[60..];
     }
-    end_soon(last) && last[35] < 128
+    end_soon(last) && last[63] < 128
 }
 
 /// Whether the numbers of an occurrence of a column are below 2^35, where that is soon seen.

@@ -11,12 +11,12 @@ loop-window-preserved c =
     let inv = c.loop-window.invariant in
     let n = length bytes - length rest in
     let e = c.in-Some-first_chunk.ensures.cases in
-    let shorter = length-drop 32 rest in
-    let on : length bytes - length (drop 32 rest) ≡ n + 32 = omega (arith, e.enough, inv.within) in
+    let shorter = length-drop 60 rest in
+    let on : length bytes - length (drop 60 rest) ≡ n + 60 = omega (arith, e.enough, inv.within) in
     rw take_rest (rw on (record {
       within = omega (arith, inv.within);
-      left = ap (drop 32) inv.left ∙ drop-drop 32 n bytes;
-      done = one_more bytes c.in-Some-first_chunk.window.now n (e.same ∙ ap (take 36) inv.left) (c.end_soon.ensures c.if-not-end_soon.false) inv.done;
+      left = ap (drop 60) inv.left ∙ drop-drop 60 n bytes;
+      done = one_more bytes c.in-Some-first_chunk.window.now n (e.same ∙ ap (take 64) inv.left) (c.end_soon.ensures c.if-not-end_soon.false) inv.done;
     }))
 
 pub returns-then-end_soon : goal.returns-then-end_soon
