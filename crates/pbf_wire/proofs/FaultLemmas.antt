@@ -1,15 +1,17 @@
 -- Lists of faults, step by step.
-use Rattle.std.proofs.Common.{◌≡◌, ◌==◌, ℕ, ◌+◌, ◌≤◌, Bool, true, false, List, [], ◌∷◌, length, map, drop, refl, ap, sym, ◌∙◌, arith}
-use Rattle.std.specs.Prelude.{Option, Some, None, Ok, Err, filter, nat_lt, if◌then◌else◌}
+use Rattle.std.proofs.Common.{◌≡◌, ◌==◌, ℕ, zero, suc, ◌+◌, ◌-◌, ◌≤◌, Bool, true, false, List, [], ◌∷◌, length, map, drop, refl, ap, sym, ◌∙◌, arith}
+use Rattle.std.specs.Prelude.{Option, Some, None, Result, Ok, Err, filter, nat_lt, if◌then◌else◌}
 use Rattle.std.specs.Result.{result_err}
 use Rattle.std.specs.List.{flat_map, count_by, AllByRecursion}
-use Rattle.std.proofs.lemmas.List.{length-append}
+use Rattle.std.proofs.lemmas.List.{length-append, length-map}
 use Rattle.std.proofs.lemmas.List.Sums.{length-filter, count_by-le-length}
 use Rattle.pbf_wire.specs.declared.fault.Fault.{Fault}
+use Rattle.pbf_wire.specs.declared.fault.Reason.{Reason}
 use Rattle.pbf_wire.specs.declared.fault.Reason.TheVariants.{TwiceMessage}
 use Rattle.pbf_wire.specs.declared.kind.Kind.{Kind}
-use Rattle.pbf_wire.specs.Varint.{IsVarint}
+use Rattle.pbf_wire.specs.Varint.{IsVarint, varint_at}
 use Rattle.pbf_wire.specs.Occurrence.{Content, Number, Eight, Four, Bytes, Occurrence, Item, IsBody, IsSpelled, Joins, found}
+use Rattle.pbf_wire.specs.Columns.{Entry, entries_from, entries_past, read_entries, placed, numbers_in, column_of, joined}
 use Rattle.pbf_wire.specs.Wire.{kind_of, reason_in, or_at, wire, judged}
 use Rattle.pbf_wire.specs.Reading.{bytes_held}
 use Rattle.pbf_wire.specs.Least.{lesser, least, rank}
@@ -74,16 +76,47 @@ one_short k o s h =
       | false ↦ omega arith
     ]
 
-joined_short : (k at : ℕ) (m : List ℕ) (os : List Occurrence) → Joins at m os → column_count k os ≤ length m
-joined_short k at m [] h = omega arith
-joined_short k at m (o ∷ os) h =
-    omega (arith, one_short k o h.0 h.4, joined_short k (at + length h.0) h.1 os h.5, ap length h.2, length-append h.0 h.1, length-append (ends_of k o) (flat_map (ends_of k) os))
+front_within : (r : Result (ℕ × ℕ) Reason) (more : ℕ → List Entry) (n : ℕ) → ((skip : ℕ) → length (read_entries (more skip)) ≤ n) → length (read_entries (entries_from r more)) ≤ suc n
+front_within (Ok front) more n h = omega (arith, h (front.1 - 1))
+front_within (Err e) more n h = omega arith
+
+numbers_within : (skip : ℕ) (bytes : List ℕ) → length (read_entries (entries_past skip bytes)) ≤ length bytes
+unfolding entries_past
+numbers_within skip [] = omega arith
+numbers_within (suc skip) (b ∷ bs) = omega (arith, numbers_within skip bs)
+numbers_within zero (b ∷ bs) = front_within (varint_at (b ∷ bs)) (λ skip. entries_past skip bs) (length bs) (λ skip. numbers_within skip bs)
+
+numbers_short : (c : Content) (kind at : ℕ) (s : List ℕ) → IsBody c kind at s → length (numbers_in c) ≤ length s
+numbers_short (Number v) kind at s h = spelled_long v s h.1
+numbers_short (Eight bytes) kind at s h = omega arith
+numbers_short (Four bytes) kind at s h = omega arith
+numbers_short (Bytes bytes begin) kind at s h = omega (arith, numbers_within 0 bytes, ap length h.1.3, length-append h.1.0 bytes)
+
+one_column_short : (k : ℕ) (o : Occurrence) (s : List ℕ) → IsSpelled o s → length (column_of k o) ≤ length s
+one_column_short k o s h =
+    elim (o.number == k) as (λ b. length (if b then placed o.place (numbers_in o.content) else []) ≤ length s) [
+      | true ↦ omega (arith, length-map {B = ℕ × ℕ} (numbers_in o.content) (λ v. (v, o.place)), numbers_short o.content h.kind (o.place + length h.tag) h.body h.holds, ap length h.whole, length-append h.tag h.body)
+      | false ↦ omega arith
+    ]
+
+module _ {X : Type 0} (f : Occurrence → List X) (one : (o : Occurrence) (s : List ℕ) → IsSpelled o s → length (f o) ≤ length s) where
+  joined_short : (at : ℕ) (m : List ℕ) (os : List Occurrence) → Joins at m os → length (flat_map f os) ≤ length m
+  joined_short at m [] h = omega arith
+  joined_short at m (o ∷ os) h =
+      omega (arith, one o h.0 h.4, joined_short (at + length h.0) h.1 os h.5, ap length h.2, length-append h.0 h.1, length-append (f o) (flat_map f os))
+
+  all_within : (at : ℕ) (m : List ℕ) → length (flat_map f (fields_in at m)) ≤ length m
+  all_within at m =
+      let c = is_cutting at m in
+      omega (arith, joined_short at c.front (fields_in at m) c.joins, ap length c.parts, length-append c.front c.left)
 
 -- no more than the message has bytes
 pub count_short : (k at : ℕ) (m : List ℕ) → column_count k (fields_in at m) ≤ length m
-count_short k at m =
-    let c = is_cutting at m in
-    omega (arith, joined_short k at c.front (fields_in at m) c.joins, ap length c.parts, length-append c.front c.left)
+count_short k at m = all_within (ends_of k) (one_short k) at m
+
+-- nor more numbers
+pub column_short : (k at : ℕ) (m : List ℕ) → length (joined k (fields_in at m)) ≤ length m
+column_short k at m = all_within (column_of k) (one_column_short k) at m
 
 -- ---- how long the bytes in a message are
 

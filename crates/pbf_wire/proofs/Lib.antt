@@ -16,3 +16,4 @@ pub mod FaultLemmas
 pub mod RisingLemmas
 pub mod SoundLemmas
 pub mod QuietLemmas
+pub mod ShortLemmas

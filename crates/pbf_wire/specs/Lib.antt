@@ -14,3 +14,4 @@ pub mod Packed
 pub mod Writing
 pub mod Message
 pub mod Faults
+pub mod Short

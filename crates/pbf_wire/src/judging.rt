@@ -2,7 +2,7 @@
 //!
 //! A message of which these calls read one field may have a wire fault; its fields before the fault count.
 
-ghost use Rattle.std.specs.Prelude.{◌≡◌, ◌+◌, ◌+ℤ◌, ◌≤◌, ◌^◌, ◌==◌, pos, true, false, length, MatchOption};
+ghost use Rattle.std.specs.Prelude.{◌≡◌, ◌+◌, ◌+ℤ◌, ◌≤◌, ◌^◌, ◌==◌, pos, true, false, [], IsTrue, length, MatchOption};
 ghost use Rattle.std.specs.List.{list_any};
 ghost use Rattle.pbf_wire.specs.Occurrence.{items};
 ghost use Rattle.pbf_wire.specs.Columns.{joined};
@@ -18,6 +18,7 @@ use crate::fields::Fields;
 use crate::judge::{judge_payload, judge_wire, kind_of};
 use crate::kind::Kind;
 use crate::least::lesser;
+use crate::short::has_small_numbers;
 use crate::signed::{low_sint32, low_u32};
 use crate::sum::Sum;
 use crate::sums::delta_in;
@@ -228,6 +229,25 @@ fn add_entry(sum: &mut Sum, narrow: bool, number: u64) -> Option<i64>
     sum.add(delta_in(narrow, number))
 }
 
+/// A message of fewer bytes has its sums made as fast as it is tested.
+const LONG_MESSAGE: usize = 256;
+
+/// A message of at most so many bytes has no more than 2^26 numbers in a column. Where each entry is below 2^34, their sums
+/// stay within 2^60.
+const MOST_BYTES: usize = 1 << 26;
+
+/// Whether a long message has a column of so small numbers that each sum of entries of 64 bits is strictly between -2^62 and
+/// 2^62. No sum is made.
+#[tactic(auto, using(crate::proofs::ShortLemmas::small_sums))]
+fn has_small_sums(message: &[u8], at: u64, number: u64) -> bool
+    requires { at + length message.now ≤ 2 ^ 63 }
+    ensures { IsTrue result → sum_faults (pos (2 ^ 62)) false (joined number (fields_in at message.now)) ≡ [] }
+{
+    message.len() >= LONG_MESSAGE
+        && message.len() <= MOST_BYTES
+        && has_small_numbers(message, at, number)
+}
+
 /// The least fault of the values of a column of differences: `OutOfRange` where one isn't strictly between `-limit` and
 /// `limit`. Of `narrow` columns the low 32 bits of each entry count. Reads up to the first such value.
 pub fn judge_sums(message: &[u8], at: u64, number: u64, limit: u64, narrow: bool) -> Option<Fault>
@@ -235,6 +255,9 @@ pub fn judge_sums(message: &[u8], at: u64, number: u64, limit: u64, narrow: bool
     requires limited { (1 ≤ limit) × (limit ≤ 2 ^ 62) }
     ensures { result ≡ least (sum_faults (pos limit) narrow (joined number (fields_in at message.now))) }
 {
+    if limit == 1 << 62 && !narrow && has_small_sums(message, at, number) {
+        return None;
+    }
     let mut column = Column::new(message, at, number);
     let mut sum = sum_within(limit);
     while let Some(entry) = column.next() {

@@ -15,6 +15,7 @@ mod kind;
 pub mod laws;
 mod least;
 mod reading;
+mod short;
 mod signed;
 mod sum;
 mod sums;

@@ -1,10 +1,11 @@
 //! What no clause says: values from the format's own examples, texts, and that each call can succeed.
 
+use crate::short::{has_small_numbers, is_short};
 use crate::{
     Column, ColumnOut, DeltaOut, Fault, Fields, Kind, Payload, ReadFault, Reason, Sum, Sums,
-    comes_before, count_ends, end_mask, get_varint, judge_payload, judge_wire, kind_of, last_field,
-    last_number, laws, lesser, low_i32, low_i64, low_sint32, low_u32, put_bytes, put_column,
-    put_number, put_varint, sign_extended, unzigzag, varint_len, zigzag,
+    comes_before, count_ends, end_mask, get_varint, judge_payload, judge_sums, judge_wire, kind_of,
+    last_field, last_number, laws, lesser, low_i32, low_i64, low_sint32, low_u32, put_bytes,
+    put_column, put_number, put_varint, sign_extended, unzigzag, varint_len, zigzag,
 };
 use std::test::Fail;
 
@@ -194,6 +195,27 @@ fn all_lengths_to_200(rt: HostRuntime) -> Result<(), Fail> {
         }
     }
     assert_eq!(rt; count_ends(&bytes), ends);
+    Ok(())
+}
+
+/// Field 8 of 800 bytes, numbers of one, two and five bytes: the quick tests say yes. With a cut number they say no.
+#[test]
+fn long_columns_of_short_numbers(rt: HostRuntime) -> Result<(), Fail> {
+    let mut column = Vec::new(rt.alloc());
+    for _ in 0..100 {
+        column.extend_from_slice(&[0x7f, 0xff, 0x7f, 0xff, 0xff, 0xff, 0xff, 0x7f])?;
+    }
+    let judged = |bytes| judge_payload(Payload::Bytes(bytes, 0), Some(Kind::Column));
+    assert!(rt; is_short(&column));
+    assert_eq!(rt; judged(&column), Ok(()));
+    let mut message = Vec::new(rt.alloc());
+    message.extend_from_slice(&[0x42, 0xa0, 0x06])?;
+    message.extend_from_slice(&column)?;
+    assert!(rt; has_small_numbers(&message, 0, 8));
+    assert_eq!(rt; judge_sums(&message, 0, 8, 1 << 62, false), None);
+    column.push(0x80)?;
+    assert!(rt; !is_short(&column));
+    assert_eq!(rt; judged(&column), Err(Reason::VarintCut));
     Ok(())
 }
 

@@ -80,8 +80,21 @@ pub fn put_varint(out: &mut Vec<u8>, value: u64) -> Result<(), AllocError>
     ensures ok { OnOk result (out.new.items ≡ out.old.items ++ shortest value) }
     ensures err { OnErr result (out.new.items ≡ out.old.items) }
 {
-    let (spelling, length) = shortest_spelling(value);
-    out.extend_from_slice(&spelling[..length])?;
+    // Most numbers of a file take one byte, and most others two or three: those are spelled at once.
+    if value < 128 {
+        out.push(value as u8)?;
+    } else if value < 1 << 14 {
+        out.extend_from_slice(&[(value % 128 + 128) as u8, (value / 128) as u8])?;
+    } else if value < 1 << 21 {
+        out.extend_from_slice(&[
+            (value % 128 + 128) as u8,
+            (value / 128 % 128 + 128) as u8,
+            (value / 128 / 128) as u8,
+        ])?;
+    } else {
+        let (spelling, length) = shortest_spelling(value);
+        out.extend_from_slice(&spelling[..length])?;
+    }
     Ok(())
 }
 

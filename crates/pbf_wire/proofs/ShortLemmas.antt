@@ -1,0 +1,248 @@
+-- Columns whose numbers take at most five bytes each have no wire fault, and their numbers and sums are small.
+use Rattle.std.proofs.Common.{◌≡◌, ℕ, zero, suc, ◌+◌, ◌-◌, ◌*◌, ◌/◌, ◌%◌, ◌^◌, ◌<◌, ◌≤◌, bit_and, bit_or, leb, eqb, ◌==◌, Bool, true, false, ℤ, pos, negsuc, ◌+ℤ◌, List, [], ◌∷◌, ◌++◌, length, get_or, take, drop, refl, sym, ap, subst, ◌∙◌, arith, inl, inr, ◌⊎◌}
+use Rattle.std.specs.Prelude.{Ok, None, IsBitSet, slice_index, ◌≤ℤ◌, neg_ℤ, not, if◌then◌else◌}
+use Rattle.std.specs.List.{prefix_len, AllByRecursion}
+use Rattle.std.specs.Int.{bit_at}
+use Rattle.std.proofs.lemmas.Nat.{bit_set_by_shift, and_mask, shr-shr}
+use Rattle.std.proofs.lemmas.Nat.Bits.{bit_at_or, bit_at_and, bit_at_ones, bit_at-lt, bit_at_cat_low, bit_at_cat_high}
+use Rattle.std.proofs.Math.Pow.{pow_mono}
+use Rattle.std.proofs.lemmas.Bool.{cases_lt, leb-true, leb-false, eqb-true}
+use Rattle.std.proofs.lemmas.Int.{ints}
+use Rattle.std.proofs.lemmas.List.Sums.{prefix_len_passes, prefix_len_stops}
+use Rattle.std.proofs.lemmas.List.{get_or-take, get_or-drop, length-take, length-drop}
+use Rattle.pbf_wire.specs.Varint.{value_of, varint_at}
+use Rattle.pbf_wire.specs.declared.fault.Reason.TheVariants.{OutOfRange}
+use Rattle.pbf_wire.specs.Occurrence.{Occurrence, Item, found}
+use Rattle.pbf_wire.specs.Columns.{Entry, entries, read_entries, entry_fault, placed, numbers_in, column_of, joined}
+use Rattle.pbf_wire.specs.Signed.{unzigzag, IsWithin, is_within}
+use Rattle.pbf_wire.specs.Faults.{fault_where, fields_in, sum_faults}
+use Rattle.pbf_wire.specs.Short.{EndsSoon, IsShort}
+use Rattle.pbf_wire.proofs.Varints.{pow_128, ended_at}
+use Rattle.pbf_wire.proofs.Spellings.{value_below}
+use Rattle.pbf_wire.proofs.Columns.{entries_none, entries_ok}
+use Rattle.pbf_wire.proofs.MessageLemmas.{all_append}
+use Rattle.pbf_wire.proofs.SumLemmas.{within_true}
+use Rattle.pbf_wire.proofs.RisingLemmas.{running, running_is}
+use Rattle.pbf_wire.proofs.FaultLemmas.{column_short}
+
+-- ---- a mask of ends
+
+bit_is : (mask i : ℕ) → IsBitSet mask i → bit_at mask i ≡ 1
+bit_is mask i h = sym (and_mask (mask / 2 ^ i) 1) ∙ (bit_set_by_shift mask i).1 h
+
+is_set : (mask i : ℕ) → bit_at mask i ≡ 1 → IsBitSet mask i
+is_set mask i e = (bit_set_by_shift mask i).0 (and_mask (mask / 2 ^ i) 1 ∙ e)
+
+-- of the ends in both halves
+pub both_halves : (front back i : ℕ) → front < 2 ^ 32 → IsBitSet (back * 2 ^ 32 + front) i → (i < 32) × IsBitSet front i ⊎ (32 ≤ i) × IsBitSet back (i - 32)
+both_halves front back i small h =
+    elim (cases_lt i 32) [
+      | inl lt ↦ inl (lt, is_set front i (sym (bit_at_cat_low back 32 front i lt) ∙ bit_is _ i h))
+      | inr ge ↦ inr (ge, is_set back (i - 32) (sym (bit_at_cat_high back 32 front i small ge) ∙ bit_is _ i h))
+    ]
+
+moved : (mask k i : ℕ) → bit_at (mask / 2 ^ k) i ≡ bit_at mask (i + k)
+moved mask k i = let e : k + i ≡ i + k = omega arith in ap (λ n. n % 2) (shr-shr mask k i) ∙ ap (bit_at mask) e
+
+-- a bit of a mask joined with a shifted one is in the one, or so many places on in the other
+either : (a b k i : ℕ) → bit_at (bit_or a (b / 2 ^ k)) i ≡ 1 → (bit_at a i ≡ 1) ⊎ (bit_at b (i + k) ≡ 1)
+either a b k i e =
+    elim (cases_lt (bit_at a i) 1) [
+      | inl lt ↦ inr (omega (arith, e, bit_at_or a (b / 2 ^ k) i, moved b k i))
+      | inr ge ↦ inl (omega (arith, bit_at-lt a i))
+    ]
+
+-- one of so many places from i on
+abbrev Near : ℕ → ℕ → ℕ → Type 0
+Near mask places i = (j : ℕ) × (j < places) × (bit_at mask (i + j) ≡ 1)
+
+double : (mask two i k : ℕ) → ((i : ℕ) → bit_at two i ≡ 1 → Near mask k i) → bit_at (bit_or two (two / 2 ^ k)) i ≡ 1 → Near mask (k + k) i
+double mask two i k h e =
+    elim (either two two k i e) [
+      | inl here ↦ let n = h i here in (n.0, omega (arith, n.1), n.2)
+      | inr later ↦
+          let n = h (i + k) later in
+          let at : i + k + n.0 ≡ i + (k + n.0) = omega arith in
+          (k + n.0, omega (arith, n.1), sym (ap (bit_at mask) at) ∙ n.2)
+    ]
+
+-- one of five, where the mask and what it is shifted by are joined in three steps
+abbrev two_of : ℕ → ℕ
+two_of mask = bit_or mask (mask / 2 ^ 1)
+
+abbrev four_of : ℕ → ℕ
+four_of mask = bit_or (two_of mask) (two_of mask / 2 ^ 2)
+
+one : (mask i : ℕ) → bit_at mask i ≡ 1 → Near mask 1 i
+one mask i e = let at : i + 0 ≡ i = omega arith in (0, omega arith, ap (bit_at mask) at ∙ e)
+
+five : (mask i : ℕ) → bit_at (bit_or (four_of mask) (mask / 2 ^ 4)) i ≡ 1 → Near mask 5 i
+five mask i e =
+    elim (either (four_of mask) mask 4 i e) [
+      | inl here ↦
+          let n = double mask (two_of mask) i 2 (λ i e. double mask mask i 1 (one mask) e) here in
+          (n.0, omega (arith, n.1), n.2)
+      | inr later ↦ (4, omega arith, later)
+    ]
+
+-- a window whose mask leaves none of the first 60 bytes out
+pub all_told : (window : List ℕ) (mask : ℕ) → length window ≡ 64 → ((i : ℕ) → i < 64 → IsBitSet mask i → slice_index window i < 128)
+    → bit_and (bit_or (four_of mask) (mask / 2 ^ 4)) (2 ^ 60 - 1) ≡ 2 ^ 60 - 1 → (i : ℕ) → i < 60 → EndsSoon window i
+all_told window mask long tells all i lt =
+    let whole = bit_or (four_of mask) (mask / 2 ^ 4) in
+    let bit : bit_at whole i ≡ 1 = omega (arith, ap (λ n. bit_at n i) all, bit_at_and whole (2 ^ 60 - 1) i, bit_at_ones 60 i lt, bit_at-lt whole i) in
+    let n = five mask i bit in
+    (n.0, n.1, omega (arith, n.1), tells (i + n.0) (omega (arith, n.1)) (is_set mask (i + n.0) n.2))
+
+-- ---- of a part, of the whole
+
+soon_in_front : (bytes : List ℕ) (n i : ℕ) → EndsSoon (take n bytes) i → EndsSoon bytes i
+soon_in_front bytes n i h =
+    let within : i + h.0 < n = omega (arith, h.2, length-take n bytes) in
+    (h.0, h.1, omega (arith, h.2, length-take n bytes), omega (arith, h.3, get_or-take n bytes (i + h.0) 0 within))
+
+soon_in_rest : (bytes : List ℕ) (n i : ℕ) → EndsSoon (drop n bytes) i → EndsSoon bytes (n + i)
+soon_in_rest bytes n i h =
+    let at : n + (i + h.0) ≡ n + i + h.0 = omega arith in
+    (h.0, h.1, omega (arith, h.2, length-drop n bytes), omega (arith, h.3, get_or-drop n bytes (i + h.0) 0, ap (λ k. get_or bytes k 0) at))
+
+soon_from_rest : (bytes : List ℕ) (n i : ℕ) → EndsSoon bytes (n + i) → EndsSoon (drop n bytes) i
+soon_from_rest bytes n i h =
+    let at : n + (i + h.0) ≡ n + i + h.0 = omega arith in
+    (h.0, h.1, omega (arith, h.2, length-drop n bytes), omega (arith, h.3, get_or-drop n bytes (i + h.0) 0, ap (λ k. get_or bytes k 0) at))
+
+pub short_rest : (bytes : List ℕ) (n : ℕ) → IsShort bytes → IsShort (drop n bytes)
+short_rest bytes n h = λ i lt. soon_from_rest bytes n i (h (n + i) (omega (arith, lt, length-drop n bytes)))
+
+-- one window more of the bytes that are looked at from the left
+pub one_more : (bytes window : List ℕ) (n : ℕ) → window ≡ take 64 (drop n bytes) → ((i : ℕ) → i < 60 → EndsSoon window i) → ((i : ℕ) → i < n → EndsSoon bytes i) → (i : ℕ) → i < n + 60 → EndsSoon bytes i
+one_more bytes window n is here done i lt =
+    elim (cases_lt i n) [
+      | inl below ↦ done i below
+      | inr from ↦
+          let at : n + (i - n) ≡ i = omega arith in
+          subst (λ (k : ℕ). EndsSoon bytes k) at (soon_in_rest bytes n (i - n) (soon_in_front (drop n bytes) 64 (i - n) (subst (λ (w : List ℕ). EndsSoon w (i - n)) is (here (i - n) (omega arith)))))
+    ]
+
+last_soon : (window : List ℕ) (i : ℕ) → length window ≡ 64 → i < 64 → slice_index window 63 < 128 → ((i : ℕ) → i < 60 → EndsSoon window i) → EndsSoon window i
+last_soon window i size lt last here =
+    elim (cases_lt i 60) [
+      | inl early ↦ here i early
+      | inr late ↦
+          let end : i + (63 - i) ≡ 63 = omega arith in
+          (63 - i, omega arith, omega arith, omega (arith, last, ap (λ k. get_or window k 0) end))
+    ]
+
+-- the last window holds what is left, and its last byte ends the last number
+pub all_short : (bytes window : List ℕ) (n : ℕ) → 64 ≤ length bytes → length bytes < n + 64 → window ≡ drop (length bytes - 64) bytes → slice_index window 63 < 128
+    → ((i : ℕ) → i < 60 → EndsSoon window i) → ((i : ℕ) → i < n → EndsSoon bytes i) → IsShort bytes
+all_short bytes window n long left is last here done i lt =
+    elim (cases_lt i n) [
+      | inl below ↦ done i below
+      | inr from ↦
+          let m = length bytes - 64 in
+          let at : m + (i - m) ≡ i = omega arith in
+          let size : length window ≡ 64 = omega (arith, ap length is, length-drop m bytes) in
+          subst (λ (k : ℕ). EndsSoon bytes k) at (soon_in_rest bytes m (i - m) (subst (λ (w : List ℕ). EndsSoon w (i - m)) is (last_soon window (i - m) size (omega arith) last here)))
+    ]
+
+-- ---- what the numbers of short columns are
+
+-- the number at the front
+record ShortFront (bytes : List ℕ) : Type 0 where
+  value : ℕ
+  size : ℕ
+  positive : 0 < size
+  within : size ≤ length bytes
+  small : value < 2 ^ 35
+  read : varint_at bytes ≡ Ok (value, size)
+
+short_front : (bytes : List ℕ) → EndsSoon bytes 0 → ShortFront bytes
+short_front bytes h =
+    let n = prefix_len (leb 128) bytes in
+    let passes : (k : ℕ) → k < n → 128 ≤ get_or bytes k 0 = λ k l. leb-true _ _ (prefix_len_passes (leb 128) bytes k 0 l) in
+    let at : 0 + h.0 ≡ h.0 = omega arith in
+    let end : get_or bytes h.0 0 < 128 = subst (λ (k : ℕ). get_or bytes k 0 < 128) at h.3 in
+    let early : n ≤ h.0 = elim (cases_lt h.0 n) [ inl lt ↦ absurd (omega (arith, end, passes h.0 lt)) | inr ge ↦ ge ] in
+    let value = value_of (take (n + 1) bytes) in
+    let small : value < 2 ^ 35 = omega (arith, value_below bytes (n + 1) (omega (arith, h.2, early)), pow_128 (n + 1), pow_mono {i = 7 * (n + 1)} {j = 35} (omega (arith, early, h.1))) in
+    let within : n < length bytes = omega (arith, h.2, early) in
+    record {
+      value = value;
+      size = n + 1;
+      positive = omega arith;
+      within = omega (arith, within);
+      small = small;
+      read = ended_at bytes n value within (omega (arith, early, h.1)) passes (leb-false _ _ (prefix_len_stops (leb 128) bytes 0 within)) refl (omega (arith, small));
+    }
+
+abbrev IsSmall : ℕ → Type 0
+IsSmall v = v < 2 ^ 35
+
+abbrev AllSmall : List Entry → Type 0
+AllSmall es = (entry_fault es ≡ None) × AllByRecursion IsSmall (read_entries es)
+
+all_small : (fuel : ℕ) (bytes : List ℕ) → length bytes ≤ fuel → IsShort bytes → AllSmall (entries bytes)
+all_small fuel [] le h = subst AllSmall (sym (entries_none [] refl)) (refl, tt)
+all_small zero (b ∷ bs) le h = absurd (omega arith)
+all_small (suc fuel) (b ∷ bs) le h =
+    let front = short_front (b ∷ bs) (h 0 (omega arith)) in
+    let rest = drop front.size (b ∷ bs) in
+    let more = all_small fuel rest (omega (arith, front.positive, length-drop front.size (b ∷ bs))) (short_rest (b ∷ bs) front.size h) in
+    subst AllSmall (sym (entries_ok (b ∷ bs) front.value front.size front.positive front.within front.read)) (more.0, (front.small, more.1))
+
+pub short_column : (bytes : List ℕ) → IsShort bytes → entry_fault (entries bytes) ≡ None
+short_column bytes h = (all_small (length bytes) bytes (omega arith) h).0
+
+pub short_numbers : (bytes : List ℕ) → IsShort bytes → AllByRecursion (λ v. v < 2 ^ 35) (read_entries (entries bytes))
+short_numbers bytes h = (all_small (length bytes) bytes (omega arith) h).1
+
+-- ---- columns of such numbers
+
+abbrev pub AllSmallPlaced : List (ℕ × ℕ) → Type 0
+AllSmallPlaced xs = AllByRecursion (λ x. x.0 < 2 ^ 35) xs
+
+placed_small : (place : ℕ) (ns : List ℕ) → AllByRecursion IsSmall ns → AllSmallPlaced (placed place ns)
+placed_small place [] h = tt
+placed_small place (n ∷ ns) h = (h.0, placed_small place ns h.1)
+
+-- one field more, whose numbers are small where they are the column's
+pub column_more : (k : ℕ) (its rest : List Item) (o : Occurrence) → its ≡ Ok o ∷ rest → (o.number ≡ k → AllByRecursion (λ v. v < 2 ^ 35) (numbers_in o.content))
+    → AllSmallPlaced (joined k (found rest)) → AllSmallPlaced (joined k (found its))
+column_more k its rest o is here later = subst (λ (w : List Item). AllSmallPlaced (joined k (found w))) (sym is) (all_append _ (column_of k o) (joined k (found rest)) (by (o.number == k) refl) later) where
+  by : (b : Bool) → (o.number == k) ≡ b → AllSmallPlaced (if b then placed o.place (numbers_in o.content) else [])
+  by true e = placed_small o.place (numbers_in o.content) (here (eqb-true _ _ e))
+  by false e = tt
+
+-- ---- their sums
+
+-- not beyond this distance
+record IsNear (distance : ℕ) (n : ℤ) : Type 0 where
+  above : neg_ℤ (pos distance) ≤ℤ n
+  below : n ≤ℤ pos distance
+
+small_delta : (v : ℕ) → v < 2 ^ 35 → IsNear (2 ^ 35) (unzigzag v)
+small_delta v lt = by (eqb (v % 2) 0) where
+  by : (b : Bool) → IsNear (2 ^ 35) (if b then pos (v / 2) else negsuc (v / 2))
+  by true = record { above = omega (arith, ints); below = omega (arith, ints) }
+  by false = record { above = omega (arith, ints); below = omega (arith, ints) }
+
+abbrev limit : ℤ
+limit = pos (2 ^ 62)
+
+none_out : (start : ℤ) (xs : List (ℕ × ℕ)) (distance : ℕ) → IsNear distance start → distance + 2 ^ 35 * length xs < 2 ^ 62 → AllSmallPlaced xs → running (is_within limit) OutOfRange false start xs ≡ []
+none_out start [] distance near room h = refl
+none_out start (x ∷ xs) distance near room h =
+    let step = small_delta x.0 h.0 in
+    let sum = start +ℤ unzigzag x.0 in
+    let next : IsNear (distance + 2 ^ 35) sum = record { above = omega (arith, ints, near.above, step.above); below = omega (arith, ints, near.below, step.below) } in
+    let inside : IsWithin limit sum = record { above = omega (arith, ints, next.above); below = omega (arith, ints, next.below) } in
+    ap (λ b. fault_where (not b) x.1 OutOfRange ++ running (is_within limit) OutOfRange false sum xs) (within_true limit sum inside)
+    ∙ none_out sum xs (distance + 2 ^ 35) next (omega (arith, room)) h.1
+
+-- at most 2^26 of them stay in range
+pub small_sums : (k at : ℕ) (m : List ℕ) → length m ≤ 2 ^ 26 → AllSmallPlaced (joined k (fields_in at m)) → sum_faults (pos (2 ^ 62)) false (joined k (fields_in at m)) ≡ []
+small_sums k at m few h =
+    let xs = joined k (fields_in at m) in
+    sym (running_is (is_within limit) OutOfRange false xs)
+    ∙ none_out (pos 0) xs 0 (record { above = omega (arith, ints); below = omega (arith, ints) }) (omega (arith, few, column_short k at m)) h

@@ -1,0 +1,81 @@
+//! Quick tests for columns whose numbers are short, which most columns are: many bytes at once, and no number decoded.
+
+ghost use Rattle.std.specs.Prelude.{◌≡◌, ◌+◌, ◌<◌, ◌≤◌, ◌^◌, ℕ, IsBitSet, IsTrue, length, slice_index};
+ghost use Rattle.std.specs.List.{AllByRecursion};
+ghost use Rattle.pbf_wire.specs.Payload.{content};
+ghost use Rattle.pbf_wire.specs.Columns.{numbers_in, joined};
+ghost use Rattle.pbf_wire.specs.Faults.{fields_in};
+ghost use Rattle.pbf_wire.specs.Short.{EndsSoon, IsShort};
+
+use crate::count::end_mask;
+use crate::field::Payload;
+use crate::fields::Fields;
+
+/// The first 60 bits of a mask.
+const FIRST_SIXTY: u64 = (1 << 60) - 1;
+
+/// Which bytes end a varint, as a mask.
+fn ends_in(window: &[u8; 64]) -> u64
+    ensures { (i : ℕ) → i < 64 → IsBitSet result i → slice_index window.now i < 128 }
+{
+    let (Some(front), Some(back)) = (window.first_chunk::<32>(), window.last_chunk::<32>()) else {
+        return 0;
+    };
+    (u64::from(end_mask(back)) << 32) + u64::from(end_mask(front))
+}
+
+/// Whether a varint ends within five bytes from each of the first 60 bytes on.
+fn end_soon(window: &[u8; 64]) -> bool
+    ensures { IsTrue result → (i : ℕ) → i < 60 → EndsSoon window.now i }
+{
+    let one = ends_in(window);
+    let two = one | one >> 1;
+    let four = two | two >> 2;
+    let five = four | one >> 4;
+    five & FIRST_SIXTY == FIRST_SIXTY
+}
+
+/// Whether each number takes at most five bytes, and the last one ends. Answers `false` for less than 64 bytes too, since
+/// these are read as fast one by one.
+pub(crate) fn is_short(bytes: &[u8]) -> bool
+    ensures { IsTrue result → IsShort bytes.now }
+{
+    let Some(last) = bytes.last_chunk::<64>() else {
+        return false;
+    };
+    let mut rest = bytes;
+    while let Some(window) = rest.first_chunk::<64>() {
+        if !end_soon(window) {
+            return false;
+        }
+        rest = &rest[60..];
+    }
+    end_soon(last) && last[63] < 128
+}
+
+/// Whether the numbers of an occurrence of a column are below 2^35, where that is soon seen.
+fn is_small(payload: Payload<'_>) -> bool
+    ensures { IsTrue result → AllByRecursion (λ v. v < 2 ^ 35) (numbers_in (content payload.entry)) }
+{
+    match payload {
+        Payload::Number(value) => value < 1 << 35,
+        Payload::Bytes(bytes, _) => is_short(bytes),
+        _ => true,
+    }
+}
+
+/// Whether the numbers of a column are below 2^35, where that is soon seen. No number of a packed occurrence is decoded.
+pub(crate) fn has_small_numbers(message: &[u8], at: u64, number: u64) -> bool
+    requires { at + length message.now ≤ 2 ^ 63 }
+    ensures { IsTrue result → AllByRecursion (λ x. x.0 < 2 ^ 35) (joined number (fields_in at message.now)) }
+{
+    for item in Fields::new(message, at) {
+        let Ok(field) = item else {
+            return true;
+        };
+        if field.number == number && !is_small(field.payload) {
+            return false;
+        }
+    }
+    true
+}
