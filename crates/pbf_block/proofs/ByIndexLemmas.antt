@@ -41,7 +41,7 @@ relation_same table scale os memids =
     ap (λ ids. record (relation_in along table scale os) { members = column_members table (column TYPES os) ids (column ROLES_SID os) }) (values_same MEMIDS os memids)
 
 -- two ways to go on after a test are the same where it holds, and where it doesn't
-cond_same : {A : Type 0} (b : Bool) (x y w z : A) → (b ≡ true → x ≡ y) → w ≡ z → cond b x w ≡ cond b y z
+pub cond_same : {A : Type 0} (b : Bool) (x y w z : A) → (b ≡ true → x ≡ y) → w ≡ z → cond b x w ≡ cond b y z
 cond_same true x y w z h k = h refl
 cond_same false x y w z h k = k
 

@@ -5,8 +5,10 @@ use Rattle.std.specs.List.{last_or}
 use Rattle.pbf_wire.specs.declared.fields.Fields.{Fields}
 use Rattle.pbf_wire.specs.Columns.{joined, column}
 use Rattle.pbf_wire.specs.Cursors.{fields_left}
+use Rattle.pbf_wire.specs.Faults.{value_of_last, last_value}
 use Rattle.pbf_wire.specs.Occurrence.{Occurrence, found}
 use Rattle.pbf_wire.specs.Reading.{numbers, last_number}
+use Rattle.pbf_wire.proofs.RisingLemmas.{Rising, column_rises}
 use Rattle.pbf_block.specs.Passes.{only, only_left}
 
 joined_only : (k : ℕ) (os : List Occurrence) → joined k (only k os) ≡ joined k os
@@ -18,11 +20,21 @@ numbers_only k [] = refl
 numbers_only k (o ∷ os) = grind (arith, numbers_only k os)
 
 -- a column is the same from its first field on
+pub joined_left_is : (k : ℕ) (fields : Fields) (os : List Occurrence) → only_left k fields ≡ only k os → joined k (found (fields_left fields)) ≡ joined k os
+joined_left_is k fields os e = sym (joined_only k (found (fields_left fields))) ∙ ap (joined k) e ∙ joined_only k os
+
 pub column_left_is : (k : ℕ) (fields : Fields) (os : List Occurrence) → only_left k fields ≡ only k os → column k (found (fields_left fields)) ≡ column k os
-column_left_is k fields os e =
-    ap (map (λ p. p.0)) (sym (joined_only k (found (fields_left fields))) ∙ ap (joined k) e ∙ joined_only k os)
+column_left_is k fields os e = ap (map (λ p. p.0)) (joined_left_is k fields os e)
 
 -- and so is its last number
 pub last_left_is : (k : ℕ) (fields : Fields) (os : List Occurrence) → only_left k fields ≡ only k os → last_number k (found (fields_left fields)) ≡ last_number k os
 last_left_is k fields os e =
     ap (last_or None) (sym (numbers_only k (found (fields_left fields))) ∙ ap (numbers k) e ∙ numbers_only k os)
+
+pub last_value_left_is : (k : ℕ) (fields : Fields) (os : List Occurrence) → only_left k fields ≡ only k os → last_value k (found (fields_left fields)) ≡ last_value k os
+last_value_left_is k fields os e = ap (λ w. value_of_last (last_or None w)) e
+
+-- the numbers of a column that is left stand in order
+pub left_rises : (k : ℕ) (fields : Fields) → Rising (joined k (found (fields_left fields)))
+unfolding fields_left
+left_rises k fields = column_rises k fields.at fields.rest.now

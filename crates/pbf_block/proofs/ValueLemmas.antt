@@ -1,9 +1,14 @@
--- The last number of a field, field by field.
-use Rattle.std.proofs.Common.{◌≡◌, ◌==◌, ℕ, Bool, true, false, List, [], ◌∷◌, refl}
-use Rattle.std.specs.Prelude.{Option, None, Some, filter, if◌then◌else◌}
-use Rattle.std.specs.List.{last_or}
+-- The last number of a field, and the texts of a column, field by field.
+use Rattle.std.proofs.Common.{◌≡◌, ◌==◌, ℕ, Bool, true, false, List, [], ◌∷◌, ◌++◌, ◌+◌, refl, ap, ap₂, sym, ◌∙◌, arith}
+use Rattle.std.specs.Prelude.{Option, None, Some, Result, Ok, Err, filter, if◌then◌else◌}
+use Rattle.std.specs.List.{flat_map, last_or}
+use Rattle.std.proofs.lemmas.Grind.{flat_map-append}
+use Rattle.pbf_wire.specs.declared.fault.Fault.{Fault}
+use Rattle.pbf_wire.specs.declared.fault.Reason.{Reason}
+use Rattle.pbf_wire.specs.Varint.{moved_by}
+use Rattle.pbf_wire.specs.Columns.{placed, numbers_in, column_of, joined}
 use Rattle.pbf_wire.specs.Occurrence.{Occurrence}
-use Rattle.pbf_wire.specs.Faults.{value_in, value_of_last, last_value}
+use Rattle.pbf_wire.specs.Faults.{index_fault, index_faults, value_in, value_of_last, last_value}
 
 -- the last number of the field k, where this was the last before
 abbrev pub later_value : ℕ → Option (ℕ × ℕ) → List Occurrence → Option (ℕ × ℕ)
@@ -21,3 +26,31 @@ later_is k before (o ∷ os) = by (o.number == k) (later_is k (Some o) os) (late
 
 pub last_is : (k : ℕ) (os : List Occurrence) → later_value k None os ≡ last_value k os
 last_is k os = later_is k None os
+
+-- ---- texts, field by field
+
+-- the numbers of the field k that a table of this length has no text for
+abbrev pub texts_of : ℕ → ℕ → Occurrence → List Fault
+texts_of k limit o = if o.number == k then index_faults limit (placed o.place (numbers_in o.content)) else []
+
+pub texts_are : (k limit : ℕ) (os : List Occurrence) → flat_map (texts_of k limit) os ≡ index_faults limit (joined k os)
+texts_are k limit [] = refl
+texts_are k limit (o ∷ os) =
+    ap₂ (λ (xs ys : List Fault). xs ++ ys) (here (o.number == k)) (texts_are k limit os)
+    ∙ sym (flat_map-append (index_fault limit) (column_of k o) (joined k os)) where
+      here : (b : Bool) → (if b then index_faults limit (placed o.place (numbers_in o.content)) else []) ≡ index_faults limit (if b then placed o.place (numbers_in o.content) else [])
+      here true = refl
+      here false = refl
+
+-- ---- a number at the front of the bytes
+
+pub unmoved : (r : Result (ℕ × ℕ) Reason) (v n : ℕ) → Ok (v, n) ≡ moved_by 0 r → r ≡ Ok (v, n)
+unmoved (Ok p) v n e =
+    let both : ◌≡◌ {A = Result (ℕ × ℕ) Reason} (Ok (v, n)) (Ok (p.0, 0 + p.1)) = e in
+    let same : ◌≡◌ {A = ℕ × ℕ} (v, n) (p.0, 0 + p.1) = cc in
+    ap₂ (λ (v n : ℕ). let r : Result (ℕ × ℕ) Reason = Ok (v, n) in r) (sym (ap (λ (w : ℕ × ℕ). w.0) same)) (omega (arith, ap (λ (w : ℕ × ℕ). w.1) same))
+unmoved (Err r) v n e = absurd (cc)
+
+pub unmoved_err : (r : Result (ℕ × ℕ) Reason) (e : Reason) → Err e ≡ moved_by 0 r → r ≡ Err e
+unmoved_err (Ok p) e same = absurd (cc)
+unmoved_err (Err r) e same = sym same

@@ -16,5 +16,6 @@ pub mod HeaderFaults
 pub mod WrittenHeader
 pub mod Counts
 pub mod InfoValues
+pub mod EntityValues
 pub mod WrittenEntity
 pub mod WrittenBlock

@@ -1,8 +1,12 @@
 -- How many entities there are.
-use Rattle.std.specs.Prelude.{ℕ, ◌+◌, ◌-◌, ◌^◌, min, List}
-use Rattle.std.specs.List.{sum_by}
+use Rattle.std.specs.Prelude.{ℕ, ◌+◌, ◌-◌, ◌^◌, min, List, map}
+use Rattle.std.specs.List.{sum_by, range_with_len}
+use Rattle.pbf_wire.specs.Sums.{sums}
 use Rattle.osm_entity.specs.Entity.{EntitySpec, node, way, relation}
+use Rattle.pbf_dense.specs.Judged.{id_count}
+use Rattle.pbf_dense.specs.Nodes.{node_at}
 use Rattle.pbf_block.specs.declared.counts.Counts.{Counts}
+use Rattle.pbf_block.specs.Members.{How}
 
 abbrev pub nodes_of : EntitySpec → ℕ
 nodes_of (node n) = 1
@@ -44,3 +48,7 @@ abbrev pub count_one : Counts → EntitySpec → Counts
 count_one c (node n) = record c { nodes = capped (c.nodes + 1) }
 count_one c (way w) = record c { ways = capped (c.ways + 1) }
 count_one c (relation r) = record c { relations = capped (c.relations + 1) }
+
+-- the entities, where a dense message has a node for each byte that ends a varint in its column of ids
+abbrev pub by_ends : How
+by_ends = record { values = sums; dense = λ table scale os. map (node_at table scale os) (range_with_len 0 (id_count os)) }

@@ -135,12 +135,12 @@ impl<'a> Block<'a> {
         Entities::over(self.payload, self.at, &self.table, self.scale, kinds)
     }
 
-    /// How many entities there are. None is made, and of dense nodes the ids and coordinates alone are gone through. Takes no
+    /// How many entities there are. None is made, and of dense nodes the ids are counted by the bytes that end them. Takes no
     /// memory.
     pub fn counts(&self) -> Counts
         ensures { result ≡ counts_of (entities self.now.at self.now.payload.now) }
     {
-        count_entities(self.payload, self.at, &self.table, self.scale)
+        count_entities(self.payload, self.at)
     }
 
     /// How many bytes the block holds beside the payload: four for each text of its table.

@@ -1,18 +1,17 @@
 //! How many entities there are.
 
-ghost use Rattle.std.specs.Prelude.{◌≡◌, ◌+◌, ◌≤◌, ◌^◌, [], length};
+ghost use Rattle.std.specs.Prelude.{◌≡◌, ◌+◌, ◌≤◌, ◌^◌, [], ℕ, List, length};
 ghost use Rattle.std.specs.List.{flat_map};
 ghost use Rattle.pbf_wire.specs.Fields.{occurrence};
 ghost use Rattle.pbf_wire.specs.Faults.{fields_in};
+ghost use Rattle.osm_entity.specs.declared.scale.Scale.{Scale};
 ghost use Rattle.osm_entity.specs.Views.{entity_of};
 ghost use Rattle.pbf_block.specs.Members.{member_entities, group_entities, entities_by};
-ghost use Rattle.pbf_block.specs.Numbers.{counted_with, count_one, counts_of};
-ghost use Rattle.pbf_block.specs.Payload.{along};
+ghost use Rattle.pbf_block.specs.Numbers.{counted_with, count_one, counts_of, by_ends};
 
 use crate::message::{DENSE, NODES, PRIMITIVEGROUP, RELATIONS, WAYS};
-use osm_entity::{EntityRef, Scale};
+use osm_entity::EntityRef;
 use pbf_dense::Dense;
-use pbf_strings::Table;
 use pbf_wire::{Field, Fields, Payload};
 
 /// The numbers of nodes, ways and relations, each the greatest `u64` where there are more.
@@ -56,15 +55,15 @@ impl Counts {
     }
 }
 
-/// Counts the entities of a field of a group. Of a dense message the ids and coordinates alone are gone through.
-fn count_member<'a>(field: Field<'a>, table: &'a Table<'a>, scale: Scale) -> Counts
-    ensures { result ≡ counts_of (member_entities along table.now scale (occurrence field.entry)) }
+/// Counts the entities of a field of a group. Of a dense message the ids are counted, and none is decoded.
+fn count_member(field: Field<'_>) -> Counts
+    ensures { (table : List (List ℕ)) (scale : Scale) → result ≡ counts_of (member_entities by_ends table scale (occurrence field.entry)) }
 {
     let mut counts = Counts::none();
     if let Payload::Bytes(message, at) = field.payload {
         match field.number {
             NODES => counts.nodes = 1,
-            DENSE => counts.nodes = Dense::over(message, at, table, scale).len(),
+            DENSE => counts.nodes = Dense::count(message, at) as u64,
             WAYS => counts.ways = 1,
             RELATIONS => counts.relations = 1,
             _ => {}
@@ -75,50 +74,46 @@ fn count_member<'a>(field: Field<'a>, table: &'a Table<'a>, scale: Scale) -> Cou
 
 /// Counts the entities of a group whose first byte stands at `at` in the file.
 #[tactic(auto, using(crate::proofs::NumberLemmas::counts_more, crate::proofs::NumberLemmas::counts_nothing))]
-fn count_group<'a>(message: &'a [u8], at: u64, table: &'a Table<'a>, scale: Scale) -> Counts
+fn count_group(message: &[u8], at: u64) -> Counts
     requires { at + length message.now ≤ 2 ^ 63 }
-    ensures { result ≡ counts_of (flat_map (member_entities along table.now scale) (fields_in at message.now)) }
+    ensures { (table : List (List ℕ)) (scale : Scale) → result ≡ counts_of (flat_map (member_entities by_ends table scale) (fields_in at message.now)) }
 {
     let mut counts = Counts::none();
     for item in Fields::new(message, at) {
         let Ok(field) = item else {
             return counts;
         };
-        counts.add(count_member(field, table, scale));
+        counts.add(count_member(field));
     }
     counts
 }
 
 /// Counts the entities of a field of the payload, which may be a group.
-fn count_part<'a>(field: Field<'a>, table: &'a Table<'a>, scale: Scale) -> Counts
-    ensures { result ≡ counts_of (group_entities along table.now scale (occurrence field.entry)) }
+fn count_part(field: Field<'_>) -> Counts
+    ensures { (table : List (List ℕ)) (scale : Scale) → result ≡ counts_of (group_entities by_ends table scale (occurrence field.entry)) }
 {
     if field.number != PRIMITIVEGROUP {
         return Counts::none();
     }
     match field.payload {
-        Payload::Bytes(message, at) => count_group(message, at, table, scale),
+        Payload::Bytes(message, at) => count_group(message, at),
         _ => Counts::none(),
     }
 }
 
-/// Counts the entities of a payload whose first byte stands at `at` in the file, whatever is wrong with it. No entity is made.
+/// Counts the entities of a payload whose first byte stands at `at` in the file, as they are where it has no wire fault. No entity
+/// is made.
 #[tactic(auto, using(crate::proofs::NumberLemmas::counts_more, crate::proofs::NumberLemmas::counts_nothing))]
-pub(crate) fn count_entities<'a>(
-    payload: &'a [u8],
-    at: u64,
-    table: &'a Table<'a>,
-    scale: Scale,
-) -> Counts
+pub(crate) fn count_entities(payload: &[u8], at: u64) -> Counts
     requires { at + length payload.now ≤ 2 ^ 63 }
-    ensures { result ≡ counts_of (entities_by along table.now scale (fields_in at payload.now)) }
+    ensures { (table : List (List ℕ)) (scale : Scale) → result ≡ counts_of (entities_by by_ends table scale (fields_in at payload.now)) }
 {
     let mut counts = Counts::none();
     for item in Fields::new(payload, at) {
         let Ok(field) = item else {
             return counts;
         };
-        counts.add(count_part(field, table, scale));
+        counts.add(count_part(field));
     }
     counts
 }

@@ -133,18 +133,15 @@ fn entities_of_some_kinds(rt: HostRuntime) -> Result<(), Fail> {
     Ok(())
 }
 
-/// The second dense message has ids alone, and so no node.
 #[test]
 fn numbers_of_entities(rt: HostRuntime) -> Result<(), Fail> {
-    let mut payload = payload(rt.alloc())?;
-    put_bytes(&mut payload, 2, b"\x12\x03\x0a\x01\x02")?;
-    let table = table_in(&rt, rt.alloc());
+    let payload = payload(rt.alloc())?;
     let counts = Counts {
         nodes: 4,
         ways: 2,
         relations: 1,
     };
-    assert_eq!(rt; count_entities(&payload, 0, &table, SCALE), counts);
+    assert_eq!(rt; count_entities(&payload, 0), counts);
     Ok(())
 }
 

@@ -5,6 +5,7 @@ mod block;
 #[cfg(test)]
 mod block_tests;
 mod block_write;
+mod column_values;
 mod counts;
 mod entities;
 mod entity_counts;
@@ -12,6 +13,7 @@ mod entity_fields;
 mod entity_out;
 #[cfg(test)]
 mod entity_tests;
+mod entity_values;
 mod entity_write;
 mod group;
 mod header;
@@ -26,6 +28,7 @@ mod kinds;
 pub mod laws;
 mod message;
 mod node;
+mod ranges;
 mod relation;
 mod scale;
 mod structure;

@@ -1,7 +1,7 @@
 -- Columns that move together give what indices into whole columns give.
-use Rattle.std.proofs.Common.{◌≡◌, ◌<◌, ℕ, zero, suc, ℤ, List, [], ◌∷◌, length, refl, ap, arith}
+use Rattle.std.proofs.Common.{◌≡◌, ◌<◌, ℕ, zero, suc, ℤ, List, [], ◌∷◌, refl, arith}
 use Rattle.osm_entity.specs.declared.scale.Scale.{Scale}
-use Rattle.pbf_dense.specs.Info.{InfoSpec, later}
+use Rattle.pbf_dense.specs.Info.{InfoSpec}
 use Rattle.pbf_dense.specs.Runs.{after_run}
 use Rattle.pbf_dense.specs.Nodes.{moving}
 
@@ -29,16 +29,3 @@ run_on zero value rest h = absurd (omega arith)
 run_on (suc key) value rest h = refl
 
 pub ruleset run_steps = (run_over, run_cut, run_on)
-
--- how many ids there are with a latitude and a longitude
-abbrev pub places : List ℤ → List ℤ → List ℤ → ℕ
-places [] lats lons = 0
-places (id ∷ ids) [] lons = 0
-places (id ∷ ids) (lat ∷ lats) [] = 0
-places (id ∷ ids) (lat ∷ lats) (lon ∷ lons) = suc (places ids lats lons)
-
-pub moving_length : (table : List (List ℕ)) (scale : Scale) (ids lats lons : List ℤ) (info : InfoSpec) (keys_vals : List ℕ) → length (moving table scale ids lats lons info keys_vals) ≡ places ids lats lons
-moving_length table scale [] lats lons info keys_vals = refl
-moving_length table scale (id ∷ ids) [] lons info keys_vals = refl
-moving_length table scale (id ∷ ids) (lat ∷ lats) [] info keys_vals = refl
-moving_length table scale (id ∷ ids) (lat ∷ lats) (lon ∷ lons) info keys_vals = ap suc (moving_length table scale ids lats lons (later info) (after_run keys_vals))

@@ -5,6 +5,7 @@ use Rattle.std.specs.List.{flat_map, last_or, AllByRecursion}
 use Rattle.std.proofs.lemmas.Int.{ints}
 use Rattle.std.proofs.lemmas.Bool.{ltb-true}
 use Rattle.std.proofs.lemmas.List.{length-map}
+use Rattle.std.proofs.lemmas.List.FromFn.{length-map-range_with_len}
 use Rattle.pbf_wire.specs.declared.fault.Fault.{Fault}
 use Rattle.pbf_wire.specs.declared.fault.Reason.TheVariants.{ColumnLengths, OutOfRange, StringIndex}
 use Rattle.pbf_wire.specs.declared.kind.Kind.TheVariants as kind
@@ -16,8 +17,8 @@ use Rattle.pbf_wire.specs.Faults.{inside, entered, fields_in, fields_of, embedde
 use Rattle.pbf_wire.proofs.SoundLemmas.{both_nil, all_nil, is_right, sums_good, sums_within_limit, fields_sound, count_is_length}
 use Rattle.osm_entity.specs.declared.scale.Scale.{Scale}
 use Rattle.pbf_dense.specs.declared.message.TheConstants.{DENSE_KINDS, DENSEINFO_KINDS, ID, DENSEINFO, LAT, LON, KEYS_VALS, TIMESTAMP, CHANGESET, UID, USER_SID}
-use Rattle.pbf_dense.specs.Nodes.{nodes, nodes_along}
-use Rattle.pbf_dense.specs.Judged.{dense_wire, dense_structure, dense_values, has_count, coordinate_counts, info_values, range_faults, texts_named, IsSound}
+use Rattle.pbf_dense.specs.Nodes.{node_at, nodes, nodes_along}
+use Rattle.pbf_dense.specs.Judged.{id_count, dense_wire, dense_structure, dense_values, has_count, coordinate_counts, info_values, range_faults, texts_named, IsSound}
 use Rattle.pbf_dense.proofs.ReadableLemmas.{InRange, InfoReads, DenseReads, reads_same}
 
 -- ---- the last message that a field holds
@@ -93,6 +94,19 @@ module _ (at : ℕ) (m : List ℕ) (e : dense_wire 0 at m ≡ []) where
 wire_anywhere : (place at : ℕ) (m : List ℕ) → dense_wire place at m ≡ dense_wire 0 at m
 unfolding dense_wire
 wire_anywhere place at m = refl
+
+-- ---- how many nodes there are
+
+-- without a wire fault each varint of the column of ids is an id
+pub ids_counted : (place at : ℕ) (m : List ℕ) → dense_wire place at m ≡ [] → id_count (fields_in at m) ≡ length (column ID (fields_in at m))
+ids_counted place at m e = counted at m (sym (wire_anywhere place at m) ∙ e) ID refl
+
+pub ids_are_nodes : (place at : ℕ) (m : List ℕ) (table : List (List ℕ)) (scale : Scale) → dense_wire place at m ≡ [] → id_count (fields_in at m) ≡ length (nodes table scale (fields_in at m))
+unfolding nodes
+ids_are_nodes place at m table scale e =
+    let os = fields_in at m in
+    let n = length (column ID os) in
+    ids_counted place at m e ∙ sym (length-map-range_with_len (node_at table scale os) 0 n)
 
 -- ---- the whole message
 

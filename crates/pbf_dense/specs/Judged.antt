@@ -25,6 +25,10 @@ dense_wire place at m = nested_faults DENSE_KINDS DENSEINFO DENSEINFO_KINDS plac
 
 -- ---- structure
 
+-- how many ids there are, by the bytes that end a varint
+abbrev pub id_count : List Occurrence → ℕ
+id_count os = column_count ID os
+
 -- the column k has this many entries
 abbrev pub has_count : ℕ → ℕ → List Occurrence → Bool
 has_count n k os = column_count k os == n

@@ -10,7 +10,7 @@ use crate::info::InfoColumns;
 use crate::message::{ID, KEYS_VALS, LAT, LON};
 use osm_entity::{NodeRef, RunTags, STORED_LIMIT, Scale, Tags};
 use pbf_strings::Table;
-use pbf_wire::{Column, Sums, low_u32};
+use pbf_wire::{Column, Sums, column_count, low_u32};
 
 /// Reads on to behind the next 0 in key place.
 #[tactic(auto, using(crate::proofs::MovingLemmas::run_steps))]
@@ -38,9 +38,10 @@ pub struct Dense<'a> {
 }
 
 impl<'a> Dense<'a> {
-    ghost use Rattle.std.specs.Prelude.{◌+◌, ◌-◌, ◌≤◌, ◌^◌, length, min};
+    ghost use Rattle.std.specs.Prelude.{◌+◌, ◌≤◌, ◌^◌, [], ℕ, List, length};
     ghost use Rattle.pbf_wire.specs.Faults.{fields_in};
-    ghost use Rattle.pbf_dense.specs.Nodes.{nodes_along};
+    ghost use Rattle.pbf_dense.specs.Judged.{id_count, dense_wire};
+    ghost use Rattle.pbf_dense.specs.Nodes.{nodes, nodes_along};
     ghost use Rattle.pbf_dense.specs.Cursors.{dense_left};
 
     /// The nodes of a dense message whose first byte stands at `at` in the file, whatever is wrong with it: as long as there are
@@ -62,20 +63,15 @@ impl<'a> Dense<'a> {
         }
     }
 
-    /// How many nodes are still to come, or the greatest `u64` where they are more. Goes through the ids and coordinates alone.
-    #[tactic(auto, using(crate::proofs::MovingLemmas::moving_length), unfolding(crate::specs::Cursors::dense_left))]
-    pub fn len(&self) -> u64
-        ensures { result ≡ min (length (dense_left self.now)) (2 ^ 64 - 1) }
+    /// How many nodes there are in a dense message without a wire fault, whose first byte stands at `at` in the file: as many as
+    /// ids. No number is decoded, and no other column is looked at.
+    #[tactic(auto, using(crate::proofs::SoundDense::ids_are_nodes))]
+    pub fn count(message: &[u8], at: u64) -> usize
+        requires { at + length message.now ≤ 2 ^ 63 }
+        ensures exact { result ≡ id_count (fields_in at message.now) }
+        ensures nodes { (place : ℕ) (table : List (List ℕ)) (scale : Scale) → dense_wire place at message.now ≡ [] → result ≡ length (nodes table scale (fields_in at message.now)) }
     {
-        let mut count = 0u64;
-        let (mut lats, mut lons) = (self.lats, self.lons);
-        for _id in self.ids {
-            if lats.next().is_none() || lons.next().is_none() {
-                return count;
-            }
-            count = count.saturating_add(1);
-        }
-        count
+        column_count(message, at, ID)
     }
 }
 
