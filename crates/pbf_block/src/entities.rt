@@ -59,6 +59,7 @@ impl<'a> Iterator for Entities<'a> {
 
     ghost remaining = { item_count entities_left };
 
+    #[inline(always)]
     #[tactic(auto, unfolding(crate::specs::Cursors::entities_left))]
     fn next(&mut self) -> Option<EntityRef<'a>> {
         'groups: loop {

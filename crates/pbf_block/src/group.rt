@@ -83,6 +83,7 @@ impl<'a> Iterator for Group<'a> {
 
     ghost remaining = { item_count group_left };
 
+    #[inline(always)]
     #[tactic(auto, unfolding(crate::specs::Cursors::group_left))]
     fn next(&mut self) -> Option<EntityRef<'a>> {
         'fields: loop {
