@@ -11,11 +11,14 @@ use crate::count::end_mask;
 use crate::field::Payload;
 use crate::fields::Fields;
 
+/// How many bytes are looked at at once, of which all but the last four are judged: from these a varint may end further on.
+const WINDOW: usize = 64;
+
 /// The first 60 bits of a mask.
 const FIRST_SIXTY: u64 = (1 << 60) - 1;
 
 /// Which bytes end a varint, as a mask.
-fn ends_in(window: &[u8; 64]) -> u64
+fn ends_in(window: &[u8; WINDOW]) -> u64
     ensures { (i : ℕ) → i < 64 → IsBitSet result i → slice_index window.now i < 128 }
 {
     let (Some(front), Some(back)) = (window.first_chunk::<32>(), window.last_chunk::<32>()) else {
@@ -25,9 +28,10 @@ fn ends_in(window: &[u8; 64]) -> u64
 }
 
 /// Whether a varint ends within five bytes from each of the first 60 bytes on.
-fn end_soon(window: &[u8; 64]) -> bool
+fn end_soon(window: &[u8; WINDOW]) -> bool
     ensures { IsTrue result → (i : ℕ) → i < 60 → EndsSoon window.now i }
 {
+    // A bit of `two` says this of two bytes, one of `four` of four.
     let one = ends_in(window);
     let two = one | one >> 1;
     let four = two | two >> 2;
@@ -35,16 +39,16 @@ fn end_soon(window: &[u8; 64]) -> bool
     five & FIRST_SIXTY == FIRST_SIXTY
 }
 
-/// Whether each number takes at most five bytes, and the last one ends. Answers `false` for less than 64 bytes too, since
+/// Whether each number takes at most five bytes, and the last one ends. Answers `false` for fewer than `WINDOW` bytes too, since
 /// these are read as fast one by one.
 pub(crate) fn is_short(bytes: &[u8]) -> bool
     ensures { IsTrue result → IsShort bytes.now }
 {
-    let Some(last) = bytes.last_chunk::<64>() else {
+    let Some(last) = bytes.last_chunk::<WINDOW>() else {
         return false;
     };
     let mut rest = bytes;
-    while let Some(window) = rest.first_chunk::<64>() {
+    while let Some(window) = rest.first_chunk::<WINDOW>() {
         if !end_soon(window) {
             return false;
         }

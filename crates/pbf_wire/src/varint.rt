@@ -29,11 +29,31 @@ pub(crate) fn first_varint(bytes: &[u8]) -> Result<(u64, usize), Reason>
     ensures exact { result ≡ varint_at bytes.now }
     ensures taken { IfOk result (λ found. (0 < found.1) × (found.1 ≤ length bytes.now)) }
 {
-    // Most numbers of a file take one byte.
-    match bytes.first() {
-        Some(&byte) if byte < 128 => Ok((u64::from(byte), 1)),
-        _ => any_varint(bytes),
+    // Most numbers of a file take one byte, and most others two to four.
+    let [first, ..] = bytes else {
+        return Err(Reason::VarintCut);
+    };
+    let one = u64::from(*first);
+    if one < 128 {
+        return Ok((one, 1));
     }
+    let [_, second, third, fourth, ..] = bytes else {
+        return any_varint(bytes);
+    };
+    // Each step takes the bit away that says of the byte before that the number goes on.
+    let two = one - 128 + u64::from(*second) * 128;
+    if *second < 128 {
+        return Ok((two, 2));
+    }
+    let three = two - 128 * 128 + u64::from(*third) * (128 * 128);
+    if *third < 128 {
+        return Ok((three, 3));
+    }
+    if *fourth < 128 {
+        let four = three - 128 * 128 * 128 + u64::from(*fourth) * (128 * 128 * 128);
+        return Ok((four, 4));
+    }
+    any_varint(bytes)
 }
 
 /// The number that is spelled from the index `at` on, and the index after it.
