@@ -76,6 +76,19 @@ impl<'a> Column<'a> {
         self.place
     }
 
+    /// The next number of the packed occurrence that was begun. Where it has none nothing changes.
+    #[inline(always)]
+    #[tactic(auto, unfolding(crate::specs::Cursors::column_left))]
+    fn advance_packed(&mut self) -> Option<u64>
+        ensures { MatchOption result ((read_entries (entries self.old.packed.now) ≡ []) × (self.new ≡ self.old))
+            (λ value. column_left self.old ≡ (value, place_of self.new) ∷ column_left self.new) }
+    {
+        let (value, rest) = first_entry(self.packed)?;
+        self.packed = rest;
+        self.place = self.packed_place;
+        Some(value)
+    }
+
     /// The next number, by what is left of the packed occurrence that was begun, and then by the fields after it.
     #[tactic(auto, unfolding(crate::specs::Cursors::column_left, crate::specs::Occurrence::items_past))]
     fn advance(&mut self) -> Option<u64>
@@ -83,9 +96,7 @@ impl<'a> Column<'a> {
             (λ value. column_left self.old ≡ (value, place_of self.new) ∷ column_left self.new) }
     {
         loop {
-            if let Some((value, rest)) = first_entry(self.packed) {
-                self.packed = rest;
-                self.place = self.packed_place;
+            if let Some(value) = self.advance_packed() {
                 return Some(value);
             }
             let field = match self.fields.next() {
@@ -124,12 +135,17 @@ impl<'a> Iterator for Column<'a> {
     ghost remaining = { item_count numbers_left };
 
     /// The next number. After a wire fault of the message, or of a packed occurrence, no more of it is read.
+    #[inline(always)]
     fn next(&mut self) -> Option<u64>
         ensures steps { YieldsFirst numbers_left self.old result self.new }
         ensures goes { MakesProgress (λ _. ⊤) (item_count numbers_left) self.old result self.new }
         ensures placed { MatchOption result ((column_left self.old ≡ []) × (column_left self.new ≡ []) × (place_of self.new ≡ place_of self.old))
             (λ value. column_left self.old ≡ (value, place_of self.new) ∷ column_left self.new) }
     {
+        // Most numbers stand in the packed occurrence that was begun.
+        if let Some(value) = self.advance_packed() {
+            return Some(value);
+        }
         self.advance()
     }
 }
