@@ -229,11 +229,11 @@ fn add_entry(sum: &mut Sum, narrow: bool, number: u64) -> Option<i64>
     sum.add(delta_in(narrow, number))
 }
 
-/// A message of fewer bytes has its sums made as fast as it is tested.
+/// In a message of fewer bytes a test before its sums are made would save little.
 const LONG_MESSAGE: usize = 256;
 
-/// A message of at most so many bytes has no more than 2^26 numbers in a column. Where each entry is below 2^34, their sums
-/// stay within 2^60.
+/// A message of at most so many bytes has no more than 2^26 numbers in a column. Where no entry is further than 2^34 from 0,
+/// their sums are no further than 2^60.
 const MOST_BYTES: usize = 1 << 26;
 
 /// Whether a long message has a column of so small numbers that each sum of entries of 64 bits is strictly between -2^62 and

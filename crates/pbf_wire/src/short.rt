@@ -39,8 +39,8 @@ fn end_soon(window: &[u8; WINDOW]) -> bool
     five & FIRST_SIXTY == FIRST_SIXTY
 }
 
-/// Whether each number takes at most five bytes, and the last one ends. Answers `false` for fewer than `WINDOW` bytes too, since
-/// these are read as fast one by one.
+/// Whether each number takes at most five bytes, and the last one ends. Answers `false` for fewer than `WINDOW` bytes too:
+/// there is little to save.
 pub(crate) fn is_short(bytes: &[u8]) -> bool
     ensures { IsTrue result → IsShort bytes.now }
 {
