@@ -1,4 +1,4 @@
-//! The columns of an entity's message, judged from where the first of their fields was found.
+//! The columns of an entity's message, judged one field at a time or from where the first of their fields was found.
 
 ghost use Rattle.std.specs.Prelude.{◌≡◌, ◌+ℤ◌, ◌∷◌, [], false, List, MatchOption};
 ghost use Rattle.std.specs.Iterator.{YieldsFirst};
