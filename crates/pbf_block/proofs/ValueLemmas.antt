@@ -1,14 +1,16 @@
 -- The last number of a field, and the texts of a column, field by field.
-use Rattle.std.proofs.Common.{◌≡◌, ◌==◌, ℕ, Bool, true, false, List, [], ◌∷◌, ◌++◌, ◌+◌, refl, ap, ap₂, sym, ◌∙◌, arith}
-use Rattle.std.specs.Prelude.{Option, None, Some, Result, Ok, Err, filter, if◌then◌else◌}
+use Rattle.std.proofs.Common.{◌≡◌, ◌==◌, ℕ, Bool, true, false, List, [], ◌∷◌, ◌++◌, ◌+◌, ◌%◌, ◌^◌, refl, ap, ap₂, sym, ◌∙◌, arith}
+use Rattle.std.specs.Prelude.{Option, None, Some, Result, Ok, Err, filter, not, nat_lt, if◌then◌else◌}
 use Rattle.std.specs.List.{flat_map, last_or}
 use Rattle.std.proofs.lemmas.Grind.{flat_map-append}
 use Rattle.pbf_wire.specs.declared.fault.Fault.{Fault}
 use Rattle.pbf_wire.specs.declared.fault.Reason.{Reason}
+use Rattle.pbf_wire.specs.declared.fault.Reason.TheVariants.{StringIndex}
+use Rattle.pbf_wire.specs.Least.{lesser, least}
 use Rattle.pbf_wire.specs.Varint.{moved_by}
 use Rattle.pbf_wire.specs.Columns.{placed, numbers_in, column_of, joined}
 use Rattle.pbf_wire.specs.Occurrence.{Occurrence}
-use Rattle.pbf_wire.specs.Faults.{index_fault, index_faults, value_in, value_of_last, last_value}
+use Rattle.pbf_wire.specs.Faults.{fault, fault_where, index_fault, index_faults, value_in, value_of_last, last_value}
 
 -- the last number of the field k, where this was the last before
 abbrev pub later_value : ℕ → Option (ℕ × ℕ) → List Occurrence → Option (ℕ × ℕ)
@@ -41,6 +43,25 @@ texts_are k limit (o ∷ os) =
       here : (b : Bool) → (if b then index_faults limit (placed o.place (numbers_in o.content)) else []) ≡ index_faults limit (if b then placed o.place (numbers_in o.content) else [])
       here true = refl
       here false = refl
+
+-- the faults of one field are all the same
+same_fault : (place : ℕ) → lesser (Some (fault place StringIndex)) (Some (fault place StringIndex)) ≡ Some (fault place StringIndex)
+same_fault place = grind arith
+
+first_of_all : (limit place : ℕ) (ns : List ℕ) → lesser (Some (fault place StringIndex)) (least (index_faults limit (placed place ns))) ≡ Some (fault place StringIndex)
+first_of_all limit place [] = refl
+first_of_all limit place (n ∷ ns) = by (nat_lt (n % 2 ^ 32) limit) (first_of_all limit place ns) where
+  by : (b : Bool) → lesser (Some (fault place StringIndex)) (least (index_faults limit (placed place ns))) ≡ Some (fault place StringIndex)
+      → lesser (Some (fault place StringIndex)) (least (fault_where (not b) place StringIndex ++ index_faults limit (placed place ns))) ≡ Some (fault place StringIndex)
+  by true rest = rest
+  by false rest = ap (λ w. lesser (Some (fault place StringIndex)) w) rest ∙ same_fault place
+
+-- so the first of them is the least
+pub first_told : (limit place n : ℕ) (ns : List ℕ) (f : Fault) → Some f ≡ least (index_fault limit (n, place)) → Some f ≡ least (index_faults limit (placed place (n ∷ ns)))
+first_told limit place n ns f e = by (nat_lt (n % 2 ^ 32) limit) e where
+  by : (b : Bool) → Some f ≡ least (fault_where (not b) place StringIndex) → Some f ≡ least (fault_where (not b) place StringIndex ++ index_faults limit (placed place ns))
+  by true e = absurd (cc)
+  by false e = e ∙ sym (first_of_all limit place ns)
 
 -- ---- a number at the front of the bytes
 

@@ -1,4 +1,4 @@
-//! The columns of an entity's message, judged from where the first of their fields was found.
+//! The columns of an entity's message, judged one field at a time or from where the first of their fields was found.
 
 ghost use Rattle.std.specs.Prelude.{◌≡◌, ◌+ℤ◌, ◌∷◌, [], false, List, MatchOption};
 ghost use Rattle.std.specs.Iterator.{YieldsFirst};
@@ -15,7 +15,7 @@ ghost use Rattle.pbf_block.specs.ValueFaults.{stored_limit};
 use crate::info_values::value_in;
 use osm_entity::STORED_LIMIT;
 use pbf_wire::{
-    Column, Fault, Field, Fields, Payload, Reason, Sum, get_varint, judge_index, lesser, unzigzag,
+    Column, Fault, Field, Fields, Payload, Reason, Sum, get_varint, judge_index, unzigzag,
 };
 
 /// The first number of a packed column, and the bytes after it.
@@ -29,18 +29,19 @@ fn first_number(packed: &[u8]) -> Option<(u64, &[u8])>
     }
 }
 
-/// The least fault of the numbers of a packed column that a table of `limit` texts has no text for. Its field stands at `place`.
-#[tactic(auto, using(crate::proofs::Parts::least_more, crate::proofs::Parts::lesser_nothing))]
+/// The least fault of the numbers of a packed column that a table of `limit` texts has no text for. Its field stands at `place`,
+/// and so does each fault: it is told at the first.
 fn judge_packed(packed: &[u8], place: u64, limit: u64) -> Option<Fault>
     ensures { result ≡ least (index_faults limit (placed place (read_entries (entries packed.now)))) }
 {
     let mut rest = packed;
-    let mut least = None;
     while let Some((number, after)) = first_number(rest) {
-        least = lesser(least, judge_index(place, number, limit));
+        if let Some(fault) = judge_index(place, number, limit) {
+            return Some(fault);
+        }
         rest = after;
     }
-    least
+    None
 }
 
 /// The least fault of the numbers of a field that a table of `limit` texts has no text for.
