@@ -8,7 +8,6 @@ use Rattle.pbf_wire.specs.Cursors.{fields_left}
 use Rattle.pbf_wire.specs.Faults.{value_of_last, last_value}
 use Rattle.pbf_wire.specs.Occurrence.{Occurrence, found}
 use Rattle.pbf_wire.specs.Reading.{numbers, last_number}
-use Rattle.pbf_wire.proofs.RisingLemmas.{Rising, column_rises}
 use Rattle.pbf_block.specs.Passes.{only, only_left}
 
 joined_only : (k : ℕ) (os : List Occurrence) → joined k (only k os) ≡ joined k os
@@ -33,8 +32,3 @@ last_left_is k fields os e =
 
 pub last_value_left_is : (k : ℕ) (fields : Fields) (os : List Occurrence) → only_left k fields ≡ only k os → last_value k (found (fields_left fields)) ≡ last_value k os
 last_value_left_is k fields os e = ap (λ w. value_of_last (last_or None w)) e
-
--- the numbers of a column that is left stand in order
-pub left_rises : (k : ℕ) (fields : Fields) → Rising (joined k (found (fields_left fields)))
-unfolding fields_left
-left_rises k fields = column_rises k fields.at fields.rest.now

@@ -1,33 +1,18 @@
 //! The columns of an entity's message, judged one field at a time or from where the first of their fields was found.
 
-ghost use Rattle.std.specs.Prelude.{◌≡◌, ◌+ℤ◌, ◌∷◌, [], false, List, MatchOption};
-ghost use Rattle.std.specs.Iterator.{YieldsFirst};
+ghost use Rattle.std.specs.Prelude.{◌≡◌, false, List};
 ghost use Rattle.pbf_wire.specs.Columns.{entries, read_entries, placed, numbers_in, joined};
-ghost use Rattle.pbf_wire.specs.Cursors.{fields_left, column_left};
+ghost use Rattle.pbf_wire.specs.Cursors.{fields_left};
 ghost use Rattle.pbf_wire.specs.Faults.{index_faults, sum_faults, last_value};
 ghost use Rattle.pbf_wire.specs.Least.{least};
 ghost use Rattle.pbf_wire.specs.Occurrence.{Occurrence, found};
 ghost use Rattle.pbf_wire.specs.Payload.{content};
-ghost use Rattle.pbf_wire.specs.Signed.{IsWithin, unzigzag};
 ghost use Rattle.pbf_block.specs.Passes.{only, only_left};
 ghost use Rattle.pbf_block.specs.ValueFaults.{stored_limit};
 
 use crate::info_values::value_in;
 use osm_entity::STORED_LIMIT;
-use pbf_wire::{
-    Column, Fault, Field, Fields, Payload, Reason, Sum, get_varint, judge_index, unzigzag,
-};
-
-/// The first number of a packed column, and the bytes after it.
-fn first_number(packed: &[u8]) -> Option<(u64, &[u8])>
-    ensures { MatchOption result (read_entries (entries packed.now) ≡ [])
-        (λ first. read_entries (entries packed.now) ≡ first.0 ∷ read_entries (entries first.1.now)) }
-{
-    match get_varint(packed, 0) {
-        Ok((number, length)) => Some((number, &packed[length..])),
-        Err(_) => None,
-    }
-}
+use pbf_wire::{Fault, Field, Fields, Payload, first_number, judge_index, judge_sums_left};
 
 /// The least fault of the numbers of a packed column that a table of `limit` texts has no text for. Its field stands at `place`,
 /// and so does each fault: it is told at the first.
@@ -55,46 +40,12 @@ pub(crate) fn judge_texts(field: Field<'_>, limit: u64) -> Option<Fault>
     }
 }
 
-/// The next number of a column, and the place of the field that holds it.
-fn next_placed(column: &mut Column<'_>) -> Option<(u64, u64)>
-    ensures { YieldsFirst column_left column.old result column.new }
-{
-    let number = column.next()?;
-    Some((number, column.place()))
-}
-
-/// The entry that a number of a column means, added to a sum.
-fn add_entry(sum: &mut Sum, number: u64) -> Option<i64>
-    ensures sum { MatchOption result (¬ IsWithin sum.old.limit (sum.old.total +ℤ unzigzag number))
-        (λ _. (sum.new.total ≡ sum.old.total +ℤ unzigzag number) × IsWithin sum.old.limit sum.new.total) }
-    ensures limit { sum.new.limit ≡ sum.old.limit }
-{
-    sum.add(unzigzag(number))
-}
-
-/// The least fault of the sums of a column of these fields. Reads up to the first sum that is out of range.
-fn judge_sums_left(fields: Fields<'_>, number: u64) -> Option<Fault>
-    ensures { result ≡ least (sum_faults stored_limit false (joined number (found (fields_left fields.entry)))) }
-{
-    let mut column = Column::over(fields, number);
-    let mut sum = Sum::new(STORED_LIMIT);
-    'entries: while let Some((entry, offset)) = next_placed(&mut column) {
-        let Some(_) = add_entry(&mut sum, entry) else {
-            return Some(Fault {
-                offset,
-                reason: Reason::OutOfRange,
-            });
-        };
-    }
-    None
-}
-
 /// The least fault of the sums of the column that these fields hold under this number.
 #[tactic(auto, using(crate::proofs::PassLemmas::joined_left_is))]
 pub(crate) fn judge_sums(fields: Fields<'_>, number: u64) -> Option<Fault>
     ensures { (os : List Occurrence) → only_left number fields.entry ≡ only number os → result ≡ least (sum_faults stored_limit false (joined number os)) }
 {
-    judge_sums_left(fields, number)
+    judge_sums_left(fields, number, STORED_LIMIT.unsigned_abs(), false)
 }
 
 /// The last number of these fields under this number, and its place.

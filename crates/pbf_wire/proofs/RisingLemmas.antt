@@ -4,6 +4,8 @@ use Rattle.std.specs.Prelude.{Some, Result, Ok, Err, if◌then◌else◌, not}
 use Rattle.std.specs.List.{flat_map, zip}
 use Rattle.pbf_wire.specs.declared.fault.Fault.{Fault}
 use Rattle.pbf_wire.specs.declared.fault.Reason.{Reason}
+use Rattle.pbf_wire.specs.declared.fields.Fields.{Fields}
+use Rattle.pbf_wire.specs.Cursors.{fields_left}
 use Rattle.pbf_wire.specs.Occurrence.{Occurrence, Item, items, items_past, items_from, occurrence_at, found}
 use Rattle.pbf_wire.specs.Columns.{placed, numbers_in, joined}
 use Rattle.pbf_wire.specs.Signed.{delta_in}
@@ -64,6 +66,11 @@ joined_rise k p (o ∷ os) h = chosen_rise (o.number == k) p o.place (numbers_in
 
 pub column_rises : (k at : ℕ) (m : List ℕ) → Rising (joined k (fields_in at m))
 column_rises k at m = rises at (joined k (found (items at m))) (joined_rise k at (found (items at m)) (follows 0 at m))
+
+-- the numbers of a column that is left stand in order
+pub left_rises : (k : ℕ) (fields : Fields) → Rising (joined k (found (fields_left fields)))
+unfolding fields_left
+left_rises k fields = column_rises k fields.at fields.rest.now
 
 -- ---- values from left to right
 

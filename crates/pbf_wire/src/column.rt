@@ -7,8 +7,8 @@ use crate::field::Payload;
 use crate::fields::Fields;
 use crate::varint::first_varint;
 
-/// The first number of a packed occurrence, and the bytes after it.
-fn first_entry(packed: &[u8]) -> Option<(u64, &[u8])>
+/// The first number of a packed column, and the bytes after it; `None` where the bytes don't begin with a varint.
+pub fn first_number(packed: &[u8]) -> Option<(u64, &[u8])>
     ensures { MatchOption result (read_entries (entries packed.now) ≡ [])
         (λ found. read_entries (entries packed.now) ≡ found.0 ∷ read_entries (entries found.1.now)) }
 {
@@ -83,7 +83,7 @@ impl<'a> Column<'a> {
         ensures { MatchOption result ((read_entries (entries self.old.packed.now) ≡ []) × (self.new ≡ self.old))
             (λ value. column_left self.old ≡ (value, place_of self.new) ∷ column_left self.new) }
     {
-        let (value, rest) = first_entry(self.packed)?;
+        let (value, rest) = first_number(self.packed)?;
         self.packed = rest;
         self.place = self.packed_place;
         Some(value)

@@ -4,7 +4,8 @@
 
 ghost use Rattle.std.specs.Prelude.{◌≡◌, ◌+◌, ◌+ℤ◌, ◌≤◌, ◌^◌, ◌==◌, pos, true, false, [], IsTrue, length, MatchOption};
 ghost use Rattle.std.specs.List.{list_any};
-ghost use Rattle.pbf_wire.specs.Occurrence.{items};
+ghost use Rattle.pbf_wire.specs.Occurrence.{items, found};
+ghost use Rattle.pbf_wire.specs.Cursors.{fields_left};
 ghost use Rattle.pbf_wire.specs.Columns.{joined};
 ghost use Rattle.pbf_wire.specs.Fields.{occurrence};
 ghost use Rattle.pbf_wire.specs.Least.{least};
@@ -248,17 +249,14 @@ fn has_small_sums(message: &[u8], at: u64, number: u64) -> bool
         && has_small_numbers(message, at, number)
 }
 
-/// The least fault of the values of a column of differences: `OutOfRange` where one isn't strictly between `-limit` and
-/// `limit`. Of `narrow` columns the low 32 bits of each entry count. Reads up to the first such value.
-pub fn judge_sums(message: &[u8], at: u64, number: u64, limit: u64, narrow: bool) -> Option<Fault>
-    requires placed { at + length message.now ≤ 2 ^ 63 }
-    requires limited { (1 ≤ limit) × (limit ≤ 2 ^ 62) }
-    ensures { result ≡ least (sum_faults (pos limit) narrow (joined number (fields_in at message.now))) }
+/// The least fault of the values of a column of differences in the fields that are still to come: `OutOfRange` where one isn't
+/// strictly between `-limit` and `limit`. Of `narrow` columns the low 32 bits of each entry count. Reads up to the first such
+/// value.
+pub fn judge_sums_left(fields: Fields<'_>, number: u64, limit: u64, narrow: bool) -> Option<Fault>
+    requires { (1 ≤ limit) × (limit ≤ 2 ^ 62) }
+    ensures { result ≡ least (sum_faults (pos limit) narrow (joined number (found (fields_left fields.entry)))) }
 {
-    if limit == 1 << 62 && !narrow && has_small_sums(message, at, number) {
-        return None;
-    }
-    let mut column = Column::new(message, at, number);
+    let mut column = Column::over(fields, number);
     let mut sum = sum_within(limit);
     while let Some(entry) = column.next() {
         let Some(_) = add_entry(&mut sum, narrow, entry) else {
@@ -269,6 +267,18 @@ pub fn judge_sums(message: &[u8], at: u64, number: u64, limit: u64, narrow: bool
         };
     }
     None
+}
+
+/// As [`judge_sums_left`], of all of a message.
+pub fn judge_sums(message: &[u8], at: u64, number: u64, limit: u64, narrow: bool) -> Option<Fault>
+    requires placed { at + length message.now ≤ 2 ^ 63 }
+    requires limited { (1 ≤ limit) × (limit ≤ 2 ^ 62) }
+    ensures { result ≡ least (sum_faults (pos limit) narrow (joined number (fields_in at message.now))) }
+{
+    if limit == 1 << 62 && !narrow && has_small_sums(message, at, number) {
+        return None;
+    }
+    judge_sums_left(Fields::new(message, at), number, limit, narrow)
 }
 
 /// The sum of an index and the entry that a number means, if that is an index of a table of this length.

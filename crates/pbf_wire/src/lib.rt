@@ -24,7 +24,7 @@ mod tests;
 mod varint;
 mod writing;
 
-pub use column::Column;
+pub use column::{Column, first_number};
 pub use column_out::ColumnOut;
 pub use count::{count_ends, end_mask};
 pub use delta_out::DeltaOut;
@@ -34,7 +34,8 @@ pub use fields::Fields;
 pub use judge::{judge_payload, judge_wire, kind_of};
 pub use judging::{
     column_count, fault_where, judge_index, judge_index_sums, judge_indexes, judge_leaf,
-    judge_low_numbers, judge_missing, judge_nested, judge_range, judge_sums, judge_twice,
+    judge_low_numbers, judge_missing, judge_nested, judge_range, judge_sums, judge_sums_left,
+    judge_twice,
 };
 pub use kind::Kind;
 pub use least::{comes_before, lesser};

@@ -3,14 +3,15 @@ use Rattle.pbf_wire.specs.Least.{least}
 use Rattle.pbf_wire.specs.declared.fault.Reason.TheVariants.{OutOfRange}
 use Rattle.pbf_wire.specs.Signed.{is_within}
 use Rattle.pbf_wire.specs.Columns.{joined}
-use Rattle.pbf_wire.specs.Cursors.{column_left}
-use Rattle.pbf_wire.specs.Faults.{sum_faults, fields_in}
+use Rattle.pbf_wire.specs.Cursors.{fields_left, column_left}
+use Rattle.pbf_wire.specs.Occurrence.{found}
+use Rattle.pbf_wire.specs.Faults.{sum_faults}
 use Rattle.pbf_wire.proofs.RisingLemmas.{Rising, running}
-use Rattle.pbf_wire.proofs.judging.judge_sums.Given as goal
+use Rattle.pbf_wire.proofs.judging.judge_sums_left.Given as goal
 
 abbrev pub invariant-loop-entry : goal.invariant-loop-entry
 invariant-loop-entry l = record {
-  faults : least (running (is_within (pos l.limit)) OutOfRange l.narrow l.sum.total (column_left l.column)) ≡ least (sum_faults (pos l.limit) l.narrow (joined l.number (fields_in l.at l.message)));
+  faults : least (running (is_within (pos l.limit)) OutOfRange l.narrow l.sum.total (column_left l.column)) ≡ least (sum_faults (pos l.limit) l.narrow (joined l.number (found (fields_left l.fields))));
   rising : Rising (column_left l.column);
   limit : l.sum.limit ≡ pos l.limit;
 }

@@ -3,16 +3,16 @@ use Rattle.pbf_wire.specs.declared.fault.Reason.TheVariants.{OutOfRange}
 use Rattle.pbf_wire.specs.Least.{least}
 use Rattle.pbf_wire.specs.Signed.{is_within}
 use Rattle.pbf_wire.specs.Columns.{joined}
-use Rattle.pbf_wire.specs.Faults.{fields_in}
-use Rattle.pbf_wire.specs.Cursors.{column_left, place_of}
+use Rattle.pbf_wire.specs.Occurrence.{found}
+use Rattle.pbf_wire.specs.Cursors.{fields_left, column_left, place_of}
 use Rattle.pbf_wire.proofs.SumLemmas.{not_within}
-use Rattle.pbf_wire.proofs.RisingLemmas.{column_rises, not_good, running, running_is}
-use Rattle.pbf_wire.proofs.judging.judge_sums.Goals as goal
+use Rattle.pbf_wire.proofs.RisingLemmas.{left_rises, not_good, running, running_is}
+use Rattle.pbf_wire.proofs.judging.judge_sums_left.Goals as goal
 
 pub loop-entry-init : goal.loop-entry-init
-loop-entry-init c = rw c.sum_within-sum.ensures (rw c.new-column.ensures.left (record {
-  faults = ap least (running_is (is_within (pos c.args.limit)) OutOfRange c.args.narrow (joined c.args.number (fields_in c.args.at c.args.message.now)));
-  rising = column_rises c.args.number c.args.at c.args.message.now;
+loop-entry-init c = rw c.sum_within-sum.ensures (rw c.over-column.ensures.left (record {
+  faults = ap least (running_is (is_within (pos c.args.limit)) OutOfRange c.args.narrow (joined c.args.number (found (fields_left c.args.fields))));
+  rising = left_rises c.args.number c.args.fields;
   limit = refl;
 }))
 
