@@ -106,6 +106,14 @@ reads_turn p l a id page passed last at d next sum h low lt read is =
       ahead = λ ahead. inl low;
     }
 
+-- and many at once, of which the last one's id isn't above
+pub reads_far : (p l : ℤ) (a : ℕ) (id : ℤ) (page : List ℕ) (passed last : ℤ) (at end : ℕ) (far seen : ℤ) → ReadsOn p l a id page passed last at → ((ids : List ℤ) (before : ℤ) → IsAt ids page (cursor before last at) → IsAt ids page (cursor far far end)) → far ≤ℤ id → seen ≡ far → ReadsOn p l a id page seen seen end
+reads_far p l a id page passed last at end far seen h on low is =
+    subst (λ z. ReadsOn p l a id page z z end) (sym is) (record {
+      on = λ ids from. on ids passed (h.on ids from);
+      ahead = λ ahead. inr low;
+    })
+
 same_int : (n : ℕ) (id : ℤ) → n < 2 ^ 64 → FitsSigned w64 id → n ≡ of_z w64 id → id ≡ to_z w64 n
 same_int n id h fits e = sym (ap (to_z w64) e ∙ to_z-of_z w64 id fits)
 
