@@ -11,3 +11,4 @@ pub mod Reading
 pub mod Walking
 pub mod LinkOrder
 pub mod Closing
+pub mod Striding

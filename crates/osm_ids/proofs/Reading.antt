@@ -1,8 +1,9 @@
 -- How far one page has been read.
-use Rattle.std.proofs.Common.{◌≡◌, ℕ, ◌+◌, ◌^◌, ◌<◌, ◌≤◌, ◌⊎◌, inl, inr, ◌||◌, List, [], ◌∷◌, ◌++◌, length, drop, Result, Ok, ℤ, pos, ◌+ℤ◌, ◌<ℤ◌, ◌≤ℤ◌, refl, sym, ap, subst, ◌∙◌, arith, FitsSigned, w64, length-append, length-drop}
+use Rattle.std.proofs.Common.{◌≡◌, ℕ, ◌+◌, ◌-◌, ◌^◌, ◌%◌, ◌<◌, ◌≤◌, ◌⊎◌, inl, inr, ◌||◌, List, [], ◌∷◌, ◌++◌, length, drop, Result, Ok, ℤ, pos, negsuc, ◌+ℤ◌, ◌<ℤ◌, ◌≤ℤ◌, refl, sym, ap, subst, ◌∙◌, arith, FitsSigned, w64, length-append, length-drop}
 use Rattle.std.specs.List.{list_any}
 use Rattle.std.specs.Ordering.{int_eq}
-use Rattle.std.proofs.lemmas.Int.{ints, to_z-of_z, of_z-to_z}
+use Rattle.std.proofs.lemmas.Int.{ints, to_z_pos, to_z-of_z, of_z-to_z}
+use Rattle.std.proofs.lemmas.Bool.{cases_lt}
 use Rattle.std.proofs.lemmas.Bool.Decides.{same_from_decides, Decides-like, Decides-eqb, Decides-int_eq}
 use Rattle.std.proofs.Common.{nat_eq, to_z, of_z}
 use Rattle.std.proofs.lemmas.List.{drop-drop}
@@ -98,13 +99,42 @@ pub reads_start : (passed last seen_passed seen_last : ℤ) (at : ℕ) (id : ℤ
 reads_start passed last seen_passed seen_last at id page e f =
     subst (λ z. ReadsOn passed last at id page z seen_last at) (sym e) (subst (λ z. ReadsOn passed last at id page passed z at) (sym f) (record { on = λ ids h. h; ahead = λ h. h }))
 
--- one turn more
-pub reads_turn : (p l : ℤ) (a : ℕ) (id : ℤ) (page : List ℕ) (passed last : ℤ) (at d next : ℕ) (sum : ℤ) → ReadsOn p l a id page passed last at → last <ℤ id → at < length page → ◌≡◌ {A = Result (ℕ × ℕ) Reason} (Ok (d, next)) (moved_by at (varint_at (drop at page))) → sum ≡ last +ℤ pos d → ReadsOn p l a id page last sum next
+-- a sum that fits isn't wrapped
+wrapped : (last : ℤ) (d : ℕ) → FitsSigned w64 last → FitsSigned w64 (last +ℤ pos d) → to_z w64 ((of_z w64 last + d) % 2 ^ 64) ≡ last +ℤ pos d
+wrapped (pos n) d f g = to_z_pos w64 _ (omega (arith, g.sfits)) ∙ ap pos (omega (arith, g.sfits))
+wrapped (negsuc n) d f g =
+    elim (cases_lt n d) [
+      | inl past ↦
+          let is : negsuc n +ℤ pos d ≡ pos (d - (n + 1)) = omega (arith, ints, past) in
+          let small = (subst (FitsSigned w64) is g).sfits in
+          to_z_pos w64 _ (omega (arith, f.sfits, past, small)) ∙ ap pos (omega (arith, f.sfits, past, small)) ∙ sym is
+      | inr short ↦
+          let is : negsuc n +ℤ pos d ≡ negsuc (n - d) = omega (arith, ints, short) in
+          ap (to_z w64) (omega (arith, f.sfits, short)) ∙ to_z-of_z w64 (negsuc (n - d)) (subst (FitsSigned w64) is g) ∙ sym is
+    ]
+
+pub wrapped_sum : (last : ℤ) (d : ℕ) (r : ℤ) → FitsSigned w64 last → r ≡ to_z w64 ((of_z w64 last + d) % 2 ^ 64) → FitsSigned w64 (last +ℤ pos d) → to_z w64 (of_z w64 r) ≡ last +ℤ pos d
+wrapped_sum last d r f is g =
+    let same = is ∙ wrapped last d f g in
+    ap (λ z. to_z w64 (of_z w64 z)) same ∙ to_z-of_z w64 (last +ℤ pos d) g
+
+-- one turn more, where the sum need fit only in a page
+pub reads_turn : (p l : ℤ) (a : ℕ) (id : ℤ) (page : List ℕ) (passed last : ℤ) (at d next : ℕ) (sum : ℤ) → ReadsOn p l a id page passed last at → last <ℤ id → at < length page → ◌≡◌ {A = Result (ℕ × ℕ) Reason} (Ok (d, next)) (moved_by at (varint_at (drop at page))) → (FitsSigned w64 (last +ℤ pos d) → sum ≡ last +ℤ pos d) → ReadsOn p l a id page last sum next
 reads_turn p l a id page passed last at d next sum h low lt read is =
     record {
-      on = λ ids from. subst (λ z. IsAt ids page (cursor last z next)) (sym is) (turn_at ids page last at d next (following ids page passed last at (h.on ids from) lt) read).1;
+      on = λ ids from.
+      let turn = turn_at ids page last at d next (following ids page passed last at (h.on ids from) lt) read in
+      subst (λ z. IsAt ids page (cursor last z next)) (sym (is turn.0)) turn.1;
       ahead = λ ahead. inl low;
     }
+
+-- and many at once, of which the last one's id isn't above
+pub reads_far : (p l : ℤ) (a : ℕ) (id : ℤ) (page : List ℕ) (passed last : ℤ) (at end : ℕ) (far seen : ℤ) → ReadsOn p l a id page passed last at → ((ids : List ℤ) (before : ℤ) → IsAt ids page (cursor before last at) → IsAt ids page (cursor far far end)) → far ≤ℤ id → seen ≡ far → ReadsOn p l a id page seen seen end
+reads_far p l a id page passed last at end far seen h on low is =
+    subst (λ z. ReadsOn p l a id page z z end) (sym is) (record {
+      on = λ ids from. on ids passed (h.on ids from);
+      ahead = λ ahead. inr low;
+    })
 
 same_int : (n : ℕ) (id : ℤ) → n < 2 ^ 64 → FitsSigned w64 id → n ≡ of_z w64 id → id ≡ to_z w64 n
 same_int n id h fits e = sym (ap (to_z w64) e ∙ to_z-of_z w64 id fits)

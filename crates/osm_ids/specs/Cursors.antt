@@ -1,5 +1,5 @@
 -- How far a page is read, and which ids can be looked up from there.
-use Rattle.std.specs.Prelude.{◌≡◌, ℕ, ◌⊎◌, List, ◌∷◌, drop, ℤ, ◌<ℤ◌, ◌≤ℤ◌, int_le, true, false}
+use Rattle.std.specs.Prelude.{◌≡◌, ℕ, ◌⊎◌, List, ◌∷◌, drop, ℤ, ◌<ℤ◌, ◌≤ℤ◌, int_le, nat_lt, Bool, true, false}
 use Rattle.std.specs.List.{list_any}
 use Rattle.std.specs.List.Sorted.{IsPartitionPoint}
 use Rattle.std.specs.Ordering.{int_eq}
@@ -14,6 +14,10 @@ pub record IsAt (ids : List ℤ) (page : List ℕ) (cursor : Cursor) : Type 0 wh
   pub fits : AllFit (cursor.last ∷ rest)
   pub left : drop cursor.at page ≡ page_bytes (record { first = cursor.last; others = rest })
   pub answer : (id : ℤ) → (cursor.passed <ℤ id) ⊎ (cursor.last ≤ℤ id) → list_any (int_eq id) (cursor.last ∷ rest) ≡ list_any (int_eq id) ids
+
+-- a byte that is a whole varint
+abbrev pub is_short : ℕ → Bool
+is_short b = nat_lt b 128
 
 -- so many pages begin at or below the id, and the others above it
 abbrev pub IsPassedAt : List PageStart → ℤ → ℕ → Type 0

@@ -2,7 +2,7 @@ use Rattle.std.proofs.Common.{◌+◌, length, ◌<ℤ◌, ◌≤ℤ◌, ◌⊎�
 use Rattle.std.proofs.lemmas.Int.{ints, to_z-of_z}
 use mir.Val.{SFits}
 use Rattle.pbf_wire.specs.Varint.{shortest}
-use Rattle.osm_ids.proofs.Reading.{IsAhead, reads_start, reads_turn, reads_next, following, turn_at, answer_past, answer_end}
+use Rattle.osm_ids.proofs.Reading.{IsAhead, reads_start, reads_turn, wrapped_sum, reads_next, reads_far, following, answer_past, answer_end}
 use Rattle.osm_ids.proofs.page.read_up_to.Goals as goal
 
 pub loop-last-init : goal.loop-last-init
@@ -17,30 +17,22 @@ loop-last-init c =
 pub loop-last-preserved : goal.loop-last-preserved
 loop-last-preserved c =
     let last = to_z w64 c.loop-last.last-bits in
+    let last_fits : SFits w64 last = search rules in
     let low : last <ℤ to_z w64 (of_z w64 c.args.id) = omega (arith, ints) in
-    let sum = c.in-Some.sum in
-    let fits : SFits w64 sum = subst (SFits w64) (sym c.in-Some.ensures.1) c.in-Some.ensures.0 in
     record {
       within = c.in-Ok.ensures.found.1;
-      reading = reads_turn _ _ _ _ c.args.page.now _ last c.loop-last.at c.in-Ok.difference c.in-Ok.next (to_z w64 (of_z w64 sum)) c.loop-last.invariant.reading low c.if-at-page.true c.in-Ok.ensures.exact (to_z-of_z w64 sum fits ∙ c.in-Some.ensures.1);
+      reading = reads_turn _ _ _ _ c.args.page.now _ last c.loop-last.at c.in-Ok.difference c.in-Ok.next _ c.loop-last.invariant.reading low c.if-at-page.true c.in-Ok.ensures.exact (wrapped_sum last c.in-Ok.difference c.wrapping_add_unsigned-last.result last_fits c.wrapping_add_unsigned-last.ensures);
     }
 
-pub returns-in_default-clause-on : goal.returns-in_default-clause-on
-returns-in_default-clause-on c = c.loop-last.invariant.reading.on
+pub returns-in_default-get_varint-clause-on : goal.returns-in_default-get_varint-clause-on
+returns-in_default-get_varint-clause-on c = c.loop-last.invariant.reading.on
 
-pub returns-in_default-clause-found : goal.returns-in_default-clause-found
-returns-in_default-clause-found c = λ ids is_at ahead.
+pub returns-in_default-get_varint-clause-found : goal.returns-in_default-get_varint-clause-found
+returns-in_default-get_varint-clause-found c = λ ids is_at ahead.
     let last = to_z w64 c.loop-last.last-bits in
     let here = c.loop-last.invariant.reading.on ids is_at in
     let n = following ids c.args.page.now _ last c.loop-last.at here c.if-at-page.true in
-    absurd (c.in_default.not-Ok (n.difference, c.loop-last.at + length (shortest n.difference)) (c.get_varint.ensures.exact ∙ reads_next ids c.args.page.now last c.loop-last.at n))
-
-pub returns-in_default-checked_add_unsigned-clause-found : goal.returns-in_default-checked_add_unsigned-clause-found
-returns-in_default-checked_add_unsigned-clause-found c = λ ids is_at ahead.
-    let last = to_z w64 c.loop-last.last-bits in
-    let here = c.loop-last.invariant.reading.on ids is_at in
-    let n = following ids c.args.page.now _ last c.loop-last.at here c.if-at-page.true in
-    absurd (c.in_default-checked_add_unsigned.ensures (turn_at ids c.args.page.now last c.loop-last.at c.in-Ok.difference c.in-Ok.next n c.in-Ok.ensures.exact).0)
+    absurd (c.in_default-get_varint.not-Ok (n.difference, c.loop-last.at + length (shortest n.difference)) (c.get_varint.ensures.exact ∙ reads_next ids c.args.page.now last c.loop-last.at n))
 
 pub returns-else-at-page-clause-on : goal.returns-else-at-page-clause-on
 returns-else-at-page-clause-on c = c.loop-last.invariant.reading.on
@@ -61,3 +53,11 @@ returns-after-loop-last-clause-found c = λ ids is_at ahead.
     let here = c.loop-last.invariant.reading.on ids is_at in
     let further = c.loop-last.invariant.reading.ahead (subst (λ z. (c.args.from.passed <ℤ z) ⊎ (c.args.from.last ≤ℤ z)) (sym (to_z-of_z w64 c.args.id c.ranges.id)) ahead) in
     answer_past ids c.args.id c.args.page.now _ last c.loop-last.at here (subst (IsAhead (to_z w64 c.loop-last.passed-bits) last) (to_z-of_z w64 c.args.id c.ranges.id) further) (let high = c.loop-last-test.false in omega (arith, ints))
+
+pub loop-last-preserved-in-Some : goal.loop-last-preserved-in-Some
+loop-last-preserved-in-Some c =
+    let fits : SFits w64 c.in-Some.far = search rules in
+    record {
+      within = c.in-Some.ensures.within;
+      reading = reads_far _ _ _ _ c.args.page.now _ _ _ _ c.in-Some.far _ c.loop-last.invariant.reading c.in-Some.ensures.on c.in-Some.ensures.low (to_z-of_z w64 c.in-Some.far fits);
+    }

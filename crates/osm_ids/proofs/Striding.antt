@@ -1,0 +1,96 @@
+-- Many short differences, read at once.
+use Rattle.std.proofs.Common.{◌≡◌, ℕ, ◌+◌, ◌^◌, ◌<◌, ◌≤◌, true, false, cond, leb, List, [], ◌∷◌, ◌++◌, length, map, drop, ℤ, pos, negsuc, nat_abs, ◌≤ℤ◌, ◌+ℤ◌, ◌-ℤ◌, ◌<ℤ◌, inr, refl, sym, ap, subst, ◌∙◌, arith, not, w8, w64, to_z, of_z, replicate, ◌-◌, ◌%◌, Some, None, if◌then◌else◌}
+use Rattle.std.specs.List.{fold, list_all, sum}
+use Rattle.std.specs.Simd.Lanes.{mask_l, sum_l, fold_l, zip2, top}
+use Rattle.std.proofs.lemmas.Simd.{fold-sum, mask_l-mod, tops_compared, zip2_splat_left}
+use mir.Val.{bits, hbits, SFits}
+use Rattle.std.proofs.lemmas.Int.{ints, to_z-of_z}
+use Rattle.std.proofs.lemmas.List.{drop-drop, length-drop, length-map, map-id}
+use Rattle.pbf_wire.specs.Varint.{shortest}
+use Rattle.pbf_wire.proofs.Shortest.{one_byte}
+use Rattle.std.proofs.lemmas.Bool.{ltb-true, and_parts}
+use Rattle.std.proofs.lemmas.Bool.Decides.{nat_tests}
+use Rattle.osm_ids.specs.Cursors.{IsAt, is_short}
+use Rattle.osm_ids.proofs.Gaps.{read_at}
+use Rattle.osm_ids.proofs.Reading.{cursor, following, turn_at}
+
+-- the id before can be forgotten
+pub settled : (ids : List ℤ) (page : List ℕ) (passed last : ℤ) (at : ℕ) → IsAt ids page (cursor passed last at) → IsAt ids page (cursor last last at)
+settled ids page passed last at h = record {
+  rest = h.rest;
+  rises = h.rises;
+  fits = h.fits;
+  left = h.left;
+  answer = λ id ahead. h.answer id (inr (omega (arith, ints, ahead)));
+}
+
+-- ---- sixteen bytes as lanes
+
+fold_is : (a : ℕ) (xs : List ℕ) → fold (λ s x. s + x) a xs ≡ a + sum_l xs
+fold_is a [] = omega arith
+fold_is a (x ∷ xs) = fold_is (a + x) xs ∙ omega arith
+
+-- the lanes' sum, from 0 on
+pub sum_is : (xs : List ℕ) → sum_l xs ≡ sum xs
+sum_is xs = omega (arith, fold_is 0 xs)
+
+sum_cons : (x : ℕ) (xs : List ℕ) → sum (x ∷ xs) ≡ x + sum xs
+sum_cons x xs = sym (sum_is (x ∷ xs)) ∙ ap (λ n. x + n) (sum_is xs)
+
+pub wide_sum : (xs : List ℕ) → fold_l (λ s x. s + x) 0 (map (λ x. x) xs) ≡ sum xs
+wide_sum xs = omega (arith, fold-sum 0 (map (λ x. x) xs), ap sum_l (map-id xs), sum_is xs)
+
+-- the top bits of the lanes
+pub mask_told : (xs : List ℕ) → length xs ≡ 16 → mask_l (map (top (hbits w8)) (zip2 (λ a b. cond (leb a b) (2 ^ bits w8 - 1) 0) (replicate 16 128) xs)) % 2 ^ 64 ≡ mask_l (map (λ b. leb 128 b) xs)
+mask_told xs long = ap (λ ms. mask_l ms % 2 ^ 64) (tops_compared w8 leb (replicate 16 128) xs ∙ zip2_splat_left leb 128 16 xs long) ∙ mask_l-mod (map (λ b. leb 128 b) xs) 64 (omega (arith, long, length-map xs (λ b. leb 128 b)))
+
+test_is : (b : ℕ) → leb 128 b ≡ not (is_short b)
+test_is b = grind (arith, nat_tests)
+
+-- no byte has its top bit set where all are short
+pub all_short : (xs : List ℕ) → mask_l (map (λ b. leb 128 b) xs) ≡ 0 → list_all is_short xs ≡ true
+all_short [] e = refl
+all_short (x ∷ xs) e = grind (arith, nat_tests, all_short xs)
+
+pub one_long : (xs : List ℕ) → (mask_l (map (λ b. leb 128 b) xs) ≡ 0 → ⊥) → list_all is_short xs ≡ false
+one_long [] ne = absurd (ne refl)
+one_long (x ∷ xs) ne = grind (arith, nat_tests, one_long xs)
+
+-- what sixteen bytes answer
+pub some_parts : (xs : List ℕ) (n : ℕ) → Some n ≡ (if list_all is_short xs then Some (sum xs) else None) → (list_all is_short xs ≡ true) × (n ≡ sum xs)
+some_parts xs n e =
+    elim (list_all is_short xs) as (λ b. list_all is_short xs ≡ b → Some n ≡ (if b then Some (sum xs) else None) → (list_all is_short xs ≡ true) × (n ≡ sum xs)) [
+      | true ↦ λ all same. (all, cc)
+      | false ↦ λ all same. absurd (cc)
+    ] refl e
+
+-- ---- and as differences
+
+short_next : (ids : List ℤ) (page : List ℕ) (passed last : ℤ) (at b : ℕ) (more : List ℕ) → IsAt ids page (cursor passed last at) → drop at page ≡ b ∷ more → b < 128 → IsAt ids page (cursor last (last +ℤ pos b) (at + 1))
+short_next ids page passed last at b more h e lt =
+    let spelled : drop at page ≡ shortest b ++ more = e ∙ ap (λ s. s ++ more) (sym (one_byte b lt)) in
+    let read = read_at page at b more (omega arith) spelled in
+    let on = (turn_at ids page last at b (at + length (shortest b)) (following ids page passed last at h (omega (arith, ap length e, length-drop at page))) (sym read)).1 in
+    subst (λ s. IsAt ids page (cursor last (last +ℤ pos b) (at + length s))) (one_byte b lt) on
+
+-- a list of them moves the cursor by their sum
+pub strode : (bytes : List ℕ) (ids : List ℤ) (page : List ℕ) (last : ℤ) (at : ℕ) (more : List ℕ) (far : ℤ) (end : ℕ) → IsAt ids page (cursor last last at) → drop at page ≡ bytes ++ more → list_all is_short bytes ≡ true → far ≡ last +ℤ pos (sum bytes) → end ≡ at + length bytes → IsAt ids page (cursor far far end)
+strode [] ids page last at more far end h e all is there = subst (λ z. IsAt ids page (cursor z z end)) (omega (arith, ints, is)) (subst (λ n. IsAt ids page (cursor last last n)) (omega (arith, there)) h)
+strode (b ∷ bytes) ids page last at more far end h e all is there =
+    let parts = and_parts (is_short b) (list_all is_short bytes) all in
+    let next = settled ids page last _ (at + 1) (short_next ids page last last at b (bytes ++ more) h e (ltb-true b 128 parts.0)) in
+    strode bytes ids page (last +ℤ pos b) (at + 1) more far end next (sym (drop-drop 1 at page) ∙ ap (drop 1) e) parts.1 (omega (arith, ints, is, sum_cons b bytes)) (omega (arith, there))
+
+-- the sum of two numbers kept as bits
+pub moved : (last by : ℤ) (n : ℕ) → SFits w64 last → SFits w64 by → by ≡ pos n → SFits w64 (last +ℤ pos n) → to_z w64 (of_z w64 (to_z w64 (of_z w64 last) +ℤ to_z w64 (of_z w64 by))) ≡ last +ℤ pos n
+moved last by n f g is h =
+    ap (λ z. to_z w64 (of_z w64 (z +ℤ to_z w64 (of_z w64 by)))) (to_z-of_z w64 last f)
+    ∙ ap (λ z. to_z w64 (of_z w64 (last +ℤ z))) (to_z-of_z w64 by g ∙ is)
+    ∙ to_z-of_z w64 (last +ℤ pos n) h
+
+fits_between : (low z high : ℤ) → SFits w64 low → SFits w64 high → low ≤ℤ z → z ≤ℤ high → SFits w64 z
+fits_between low (pos n) high f g le ge = record { sfits = omega (arith, ints, g.sfits, ge) }
+fits_between low (negsuc n) high f g le ge = record { sfits = omega (arith, ints, f.sfits, le) }
+
+pub fits_below : (last id : ℤ) (n : ℕ) → SFits w64 last → SFits w64 id → last <ℤ id → n ≤ nat_abs (id -ℤ last) → SFits w64 (last +ℤ pos n)
+fits_below last id n f g lt le = fits_between last (last +ℤ pos n) id f g (omega (arith, ints)) (omega (arith, ints, le, lt))
