@@ -123,8 +123,8 @@ pub reads_turn : (p l : ℤ) (a : ℕ) (id : ℤ) (page : List ℕ) (passed last
 reads_turn p l a id page passed last at d next sum h low lt read is =
     record {
       on = λ ids from.
-      let turn = turn_at ids page last at d next (following ids page passed last at (h.on ids from) lt) read in
-      subst (λ z. IsAt ids page (cursor last z next)) (sym (is turn.0)) turn.1;
+          let turn = turn_at ids page last at d next (following ids page passed last at (h.on ids from) lt) read in
+          subst (λ z. IsAt ids page (cursor last z next)) (sym (is turn.0)) turn.1;
       ahead = λ ahead. inl low;
     }
 
