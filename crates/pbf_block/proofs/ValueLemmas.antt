@@ -1,13 +1,11 @@
 -- The last number of a field, and the texts of a column, field by field.
-use Rattle.std.proofs.Common.{◌≡◌, ◌==◌, ℕ, Bool, true, false, List, [], ◌∷◌, ◌++◌, ◌+◌, ◌%◌, ◌^◌, refl, ap, ap₂, sym, ◌∙◌, arith}
-use Rattle.std.specs.Prelude.{Option, None, Some, Result, Ok, Err, filter, not, nat_lt, if◌then◌else◌}
+use Rattle.std.proofs.Common.{◌≡◌, ◌==◌, ℕ, Bool, true, false, List, [], ◌∷◌, ◌++◌, ◌%◌, ◌^◌, refl, ap, ap₂, sym, ◌∙◌, arith}
+use Rattle.std.specs.Prelude.{Option, None, Some, filter, not, nat_lt, if◌then◌else◌}
 use Rattle.std.specs.List.{flat_map, last_or}
 use Rattle.std.proofs.lemmas.Grind.{flat_map-append}
 use Rattle.pbf_wire.specs.declared.fault.Fault.{Fault}
-use Rattle.pbf_wire.specs.declared.fault.Reason.{Reason}
 use Rattle.pbf_wire.specs.declared.fault.Reason.TheVariants.{StringIndex}
 use Rattle.pbf_wire.specs.Least.{lesser, least}
-use Rattle.pbf_wire.specs.Varint.{moved_by}
 use Rattle.pbf_wire.specs.Columns.{placed, numbers_in, column_of, joined}
 use Rattle.pbf_wire.specs.Occurrence.{Occurrence}
 use Rattle.pbf_wire.specs.Faults.{fault, fault_where, index_fault, index_faults, value_in, value_of_last, last_value}
@@ -62,16 +60,3 @@ first_told limit place n ns f e = by (nat_lt (n % 2 ^ 32) limit) e where
   by : (b : Bool) → Some f ≡ least (fault_where (not b) place StringIndex) → Some f ≡ least (fault_where (not b) place StringIndex ++ index_faults limit (placed place ns))
   by true e = absurd (cc)
   by false e = e ∙ sym (first_of_all limit place ns)
-
--- ---- a number at the front of the bytes
-
-pub unmoved : (r : Result (ℕ × ℕ) Reason) (v n : ℕ) → Ok (v, n) ≡ moved_by 0 r → r ≡ Ok (v, n)
-unmoved (Ok p) v n e =
-    let both : ◌≡◌ {A = Result (ℕ × ℕ) Reason} (Ok (v, n)) (Ok (p.0, 0 + p.1)) = e in
-    let same : ◌≡◌ {A = ℕ × ℕ} (v, n) (p.0, 0 + p.1) = cc in
-    ap₂ (λ (v n : ℕ). let r : Result (ℕ × ℕ) Reason = Ok (v, n) in r) (sym (ap (λ (w : ℕ × ℕ). w.0) same)) (omega (arith, ap (λ (w : ℕ × ℕ). w.1) same))
-unmoved (Err r) v n e = absurd (cc)
-
-pub unmoved_err : (r : Result (ℕ × ℕ) Reason) (e : Reason) → Err e ≡ moved_by 0 r → r ≡ Err e
-unmoved_err (Ok p) e same = absurd (cc)
-unmoved_err (Err r) e same = sym same
