@@ -7,25 +7,23 @@ use Rattle.osm_entity.specs.Entity.{EntitySpec}
 use Rattle.osm_pack.specs.Cuts.{written_file}
 use Rattle.pbf_block.specs.declared.header.Header.{Header}
 use Rattle.pbf_block.specs.Header.{HeaderSpec, header_of}
-use Rattle.pbf_frame.specs.declared.stop.Stop.{Stop}
-use Rattle.pbf_frame.specs.declared.stop.Stop.TheVariants as stop
 use Rattle.pbf_frame.specs.Devices.{append, IsFront}
 use Rattle.pbf_frame.specs.Frames.{FrameSpec}
 use Rattle.pbf_frame.specs.Verdict.{Verdict, Says}
 use Rattle.pbf_frame.proofs.KnownBytes.{append_none}
 use Rattle.pbf_frame.proofs.Parting.{none_some}
 use Rattle.pbf_block.specs.declared.counts.Counts.{Counts}
-use Rattle.pbfcut.specs.declared.counts.Pass.{Pass}
-use Rattle.pbfcut.specs.declared.picking.Selection.TheVariants as selection
+use Rattle.pbfcut.specs.declared.pass.Pass.{Pass}
+use Rattle.pbfcut.specs.declared.pick.Selection.TheVariants as selection
 use Rattle.pbfcut.specs.Calls.{Converted}
-use Rattle.pbfcut.specs.Converting.{header_limit, with_limit, limited, judged_writable, held_header, answer_bytes, conversion, IsLimit}
+use Rattle.pbfcut.specs.Converting.{header_limit, with_limit, limited, judged_writable, held_header, answer_bytes, conversion, CanBeWritten}
 use Rattle.pbfcut.specs.Counting.{counts_of, decoded}
 use Rattle.pbfcut.specs.Judged.{judged_file}
 use Rattle.pbfcut.specs.Kept.{conversion_of}
 use Rattle.pbfcut.proofs.KeptLaw.{same_verdict, conversion_kept}
-use Rattle.pbfcut.specs.Picking.{everything, pick_of, Packed, PacksFront}
-use Rattle.pbfcut.specs.Showing.{ShowStops}
-use Rattle.pbfcut.specs.Steps.{HoldsHeader, PassesFile, file_header}
+use Rattle.pbfcut.specs.Pick.{everything, pick_of, Packed, PacksFront}
+use Rattle.pbfcut.specs.Stops.{FaultOf}
+use Rattle.pbfcut.specs.Pass.{HoldsHeader, TakesFile, file_header}
 
 -- ---- the header
 
@@ -54,15 +52,11 @@ limited_limit None frames e says limit = tt
 limited_limit (Some v) frames e says limit = ap limited says ∙ ap (λ (o : Option Fault). with_limit o frames) limit
 
 -- a header that can't be written is refused
-pub limit_refused : (known : Option Verdict) (pass : Pass) (e : Fault) → PassesFile known pass → IsLimit (header_limit (held_header pass)) (stop.Refused e) → (frames : List FrameSpec) × Says (option_map limited known) (frames, Some e)
-limit_refused known pass e (frames, says, counted, holds) limit = ([], limited_limit known frames e says (ap header_limit (sym (held_is (file_header frames) pass holds)) ∙ limit))
+pub limit_refused : {S : Type 0} (gathered : S → EntitySpec → S) (before now : S) (known : Option Verdict) (pass : Pass) (e : Fault) → TakesFile gathered known before now pass → header_limit (held_header pass) ≡ Some e → FaultOf (option_map limited known) e
+limit_refused gathered before now known pass e p limit = ([], limited_limit known p.frames e p.says (ap header_limit (sym (held_is (file_header p.frames) pass p.header)) ∙ limit))
 
-pub limit_stops : (first second : Option (List ℕ)) (known : Option Verdict) (read wrote : Type 0) (old : Option (List ℕ)) (pass : Pass) (s : Stop) → PassesFile known pass → IsLimit (header_limit (held_header pass)) s → ShowStops first second (option_map limited known) read wrote old old s
-limit_stops first second known read wrote old pass (stop.Refused e) p limit = (limit_refused known pass e p limit, refl)
-limit_stops first second known read wrote old pass stop.Read p limit = absurd limit
-limit_stops first second known read wrote old pass stop.Write p limit = absurd limit
-limit_stops first second known read wrote old pass stop.Memory p limit = absurd limit
-limit_stops first second known read wrote old pass (stop.Changed n) p limit = absurd limit
+pub can_be_converted : {S : Type 0} (gathered : S → EntitySpec → S) (before now : S) (known : Option Verdict) (pass : Pass) → TakesFile gathered known before now pass → header_limit (held_header pass) ≡ None → CanBeWritten (option_map limited known)
+can_be_converted gathered before now known pass p within = (p.frames, limited_sound known p.frames p.says (ap header_limit (sym (held_is (file_header p.frames) pass p.header)) ∙ within))
 
 -- nothing went out
 pub nothing_out : (old : Option (List ℕ)) (whole : List ℕ) → IsFront old old whole
@@ -104,14 +98,14 @@ pub record Passed (b : List ℕ) (pass : Pass) (h : HeaderSpec) : Type 0 where
   pub writable : judged_writable (Some b) ≡ Some (frames, None)
   pub header : file_header frames ≡ Some (pass.header_at, h)
 
-pub passed : (b : List ℕ) (pass : Pass) (h : HeaderSpec) (known : Option Verdict) → known ≡ judged_file (Some b) → PassesFile known pass → held_header pass ≡ Some (pass.header_at, h) → header_limit (held_header pass) ≡ None → Passed b pass h
-passed b pass h known is (frames, says, counted, holds) held within =
-    let judged = known_says b (frames, None) (subst (λ (k : Option Verdict). Says k (frames, None)) is says) in
-    let same = held_is (file_header frames) pass holds in
+pub passed : {S : Type 0} (gathered : S → EntitySpec → S) (before now : S) (b : List ℕ) (pass : Pass) (h : HeaderSpec) (known : Option Verdict) → known ≡ judged_file (Some b) → TakesFile gathered known before now pass → held_header pass ≡ Some (pass.header_at, h) → header_limit (held_header pass) ≡ None → Passed b pass h
+passed gathered before now b pass h known is p held within =
+    let judged = known_says b (p.frames, None) (subst (λ (k : Option Verdict). Says k (p.frames, None)) is p.says) in
+    let same = held_is (file_header p.frames) pass p.header in
     record {
-      frames = frames;
+      frames = p.frames;
       judged = judged;
-      writable = judged_sound b frames judged (ap header_limit (sym same) ∙ within);
+      writable = judged_sound b p.frames judged (ap header_limit (sym same) ∙ within);
       header = sym same ∙ held;
     }
 
@@ -119,17 +113,17 @@ passed b pass h known is (frames, says, counted, holds) held within =
 answer_is : (frames : List FrameSpec) (at : ℕ) (h : HeaderSpec) → file_header frames ≡ Some (at, h) → written_file h (filter (pick_of selection.Everything) (decoded frames)) ≡ answer_bytes (frames, None)
 answer_is frames at h e = ap (λ (l : List EntitySpec). written_file h l) (everything_picked (decoded frames)) ∙ ap (λ (o : Option (ℕ × HeaderSpec)). conversion o (decoded frames)) (sym e)
 
-pub converted : (b : List ℕ) (pass : Pass) (h : HeaderSpec) (counts : Counts) (known : Option Verdict) (old new : Option (List ℕ)) → known ≡ judged_file (Some b) → Passed b pass h → Packed (pick_of selection.Everything) h known counts old new
+pub converted : (b : List ℕ) (pass : Pass) (h : HeaderSpec) (counts : Counts) (known : Option Verdict) (old new : Option (List ℕ)) → known ≡ judged_file (Some b) → Passed b pass h → Packed (pick_of selection.Everything) h known old new counts
     → Converted b counts old new
-converted b pass h counts known old new is p (others, says, counted, went) =
-    let same = same_frames b p.frames others p.judged (known_says b (others, None) (subst (λ (k : Option Verdict). Says k (others, None)) is says)) in
+converted b pass h counts known old new is p went =
+    let same = same_frames b p.frames went.frames p.judged (known_says b (went.frames, None) (subst (λ (k : Option Verdict). Says k (went.frames, None)) is went.says)) in
     let all = ap decoded same in
     let verdict = same_verdict b p.frames p.writable in
     let sound = ap (λ (v : Verdict). v.1) verdict in
     record {
       sound = sound;
-      taken = went ∙ ap (λ (l : List ℕ). append old l) (ap (λ (l : List EntitySpec). written_file h (filter (pick_of selection.Everything) l)) all ∙ (answer_is p.frames pass.header_at h p.header ∙ ap answer_bytes (sym verdict)));
-      counted = counted ∙ ap (λ (l : List EntitySpec). counts_of l) (everything_picked (decoded others) ∙ (all ∙ ap (λ (v : Verdict). decoded v.0) (sym verdict)));
+      taken = went.taken ∙ ap (λ (l : List ℕ). append old l) (ap (λ (l : List EntitySpec). written_file h (filter (pick_of selection.Everything) l)) all ∙ (answer_is p.frames pass.header_at h p.header ∙ ap answer_bytes (sym verdict)));
+      counted = went.counted ∙ ap (λ (l : List EntitySpec). counts_of l) (everything_picked (decoded went.frames) ∙ (all ∙ ap (λ (v : Verdict). decoded v.0) (sym verdict)));
       kept = λ small. conversion_kept b sound small;
     }
 

@@ -1,14 +1,13 @@
 -- Entities, counted one by one.
-use Rattle.std.proofs.Common.{◌≡◌, ℕ, ◌+◌, ◌-◌, ◌^◌, ◌≤◌, List, [], ◌∷◌, ◌++◌, ap, ◌∙◌, arith}
+use Rattle.std.proofs.Common.{◌≡◌, ◌+◌, ◌-◌, ◌^◌, ◌≤◌, List, [], ◌∷◌, ◌++◌, ap, ◌∙◌}
 use Rattle.std.specs.List.{sum_by}
 use Rattle.std.proofs.lemmas.List.{append-nil}
-use Rattle.std.proofs.lemmas.List.Sums.{sum_by-append}
 use Rattle.std.proofs.lemmas.Grind.{flat_map-append}
 use Rattle.osm_entity.specs.Entity.{EntitySpec}
 pub use Rattle.pbf_block.proofs.NumberLemmas.{same_counts, counts_together}
 use Rattle.pbf_frame.specs.Frames.{FrameSpec}
 use Rattle.pbf_block.specs.declared.counts.Counts.{Counts}
-use Rattle.pbfcut.specs.Counting.{nodes_of, ways_of, relations_of, capped, counted_with, counts_of, frame_entities, decoded}
+use Rattle.pbfcut.specs.Counting.{nodes_of, ways_of, relations_of, capped, frame_entities, decoded}
 
 -- these counts, and then the entities left, are all
 pub record CountedOn (now : Counts) (left all : List EntitySpec) : Type 0 where

@@ -6,6 +6,7 @@ use Rattle.std.specs.Prelude.{IfSome}
 use Rattle.std.specs.Option.{option_map}
 use Rattle.sha2.specs.Sha256.{sha256}
 use Rattle.std.proofs.lemmas.List.Elements.{filter_agree}
+use Rattle.pbf_wire.specs.declared.fault.Fault.{Fault}
 use Rattle.osm_entity.specs.declared.bounding_box.BoundingBox.{BoundingBox}
 use Rattle.osm_entity.specs.Entity.{EntitySpec, Decoded, node, way, relation}
 use Rattle.osm_ways.specs.declared.phases.Chosen.{Chosen}
@@ -26,20 +27,21 @@ use Rattle.pbf_frame.specs.Frames.{FrameSpec}
 use Rattle.pbf_frame.specs.Verdict.{Verdict, Says}
 use Rattle.pbf_frame.proofs.Parting.{none_some}
 use Rattle.pbf_block.specs.declared.counts.Counts.{Counts}
-use Rattle.pbfcut.specs.declared.counts.Pass.{Pass}
-use Rattle.pbfcut.specs.declared.picking.Selection.TheVariants as selection
-use Rattle.pbfcut.specs.Converting.{header_limit, limited, judged_writable, held_header, CanBeWritten, IsLimit}
+use Rattle.pbfcut.specs.declared.pass.Pass.{Pass}
+use Rattle.pbfcut.specs.declared.pick.Selection.TheVariants as selection
+use Rattle.pbfcut.specs.Converting.{header_limit, limited, judged_writable, held_header, CanBeWritten}
 use Rattle.pbfcut.specs.Counting.{counts_of, decoded}
-use Rattle.pbfcut.specs.Calls.{Extracted, ExtractStops, ChooseStops}
+use Rattle.pbfcut.specs.Calls.{Extracted, Differ, ChangedIn}
 use Rattle.pbfcut.specs.Extracting.{Choice, complete_ways, all_parents, extraction, extract_bytes, Chooses, ChoosesParents}
 use Rattle.pbfcut.specs.Kept.{verdict_on, extract_of}
 use Rattle.pbfcut.proofs.KeptLaw.{IsSelection, same_verdict, extract_kept}
-use Rattle.pbfcut.specs.Gathering.{with_node, with_way, with_relation, GathersFile, GathersLater, Unlike, LaterStops}
+use Rattle.pbfcut.specs.Pass.{with_node, with_way, with_relation, TakesFile, IsDigest, file_header}
+use Rattle.pbfcut.specs.declared.repeat.Repeat.{Repeat}
+use Rattle.pbfcut.specs.Repeat.{GathersAgain, Unlike, StopsAgain, SameDigest}
+use Rattle.pbfcut.specs.Stops.{Caused}
 use Rattle.pbfcut.specs.Judged.{judged_file}
-use Rattle.pbfcut.specs.Picking.{Pick, picked_by, picked_with_parents, pick_of, Packed, PacksFront}
-use Rattle.pbfcut.specs.Showing.{Differ}
-use Rattle.pbfcut.specs.Steps.{PassesFile, file_header}
-use Rattle.pbfcut.proofs.ConvertingLemmas.{held_is, limited_sound, limit_refused, judged_sound, same_frames, known_says}
+use Rattle.pbfcut.specs.Pick.{Pick, picked_by, picked_with_parents, pick_of, Packed, PacksFront}
+use Rattle.pbfcut.proofs.ConvertingLemmas.{held_is, limited_sound, judged_sound, same_frames, known_says}
 
 -- ---- what was chosen
 
@@ -110,14 +112,14 @@ module _ (choose : Choice) (select : List Decoded → List Decoded) (selection :
   answer : written_file h (filter pick (decoded s.frames)) ≡ extract_of choose area b
   answer = ap (λ (l : List EntitySpec). written_file h l) s.picked ∙ (sym s.bytes ∙ ap (λ (v : Verdict). extract_bytes choose area v) (sym verdict))
 
-  pub extracted : (counts : Counts) (known : Option Verdict) (old new : Option (List ℕ)) → known ≡ judged_file (Some b) → Packed pick h known counts old new → Extracted choose select area b counts old new
-  extracted counts known old new is (others, says, counted, went) =
-      let same = same_frames b s.frames others s.judged (known_says b (others, None) (subst (λ (k : Option Verdict). Says k (others, None)) is says)) in
+  pub extracted : (counts : Counts) (known : Option Verdict) (old new : Option (List ℕ)) → known ≡ judged_file (Some b) → Packed pick h known old new counts → Extracted choose select area b counts old new
+  extracted counts known old new is went =
+      let same = same_frames b s.frames went.frames s.judged (known_says b (went.frames, None) (subst (λ (k : Option Verdict). Says k (went.frames, None)) is went.says)) in
       let sound = ap (λ (v : Verdict). v.1) verdict in
       record {
         sound = sound;
-        taken = went ∙ ap (λ (l : List ℕ). append old l) (ap (λ (l : List FrameSpec). written_file h (filter pick (decoded l))) same ∙ answer);
-        counted = counted ∙ ap (λ (l : List EntitySpec). counts_of l) (ap (λ (l : List FrameSpec). filter pick (decoded l)) same ∙ (s.picked ∙ ap (λ (v : Verdict). choose (decoded v.0)) (sym verdict)));
+        taken = went.taken ∙ ap (λ (l : List ℕ). append old l) (ap (λ (l : List FrameSpec). written_file h (filter pick (decoded l))) same ∙ answer);
+        counted = went.counted ∙ ap (λ (l : List EntitySpec). counts_of l) (ap (λ (l : List FrameSpec). filter pick (decoded l)) same ∙ (s.picked ∙ ap (λ (v : Verdict). choose (decoded v.0)) (sym verdict)));
         kept = λ small. extract_kept choose select selection area edges b sound small;
       }
 
@@ -126,18 +128,18 @@ module _ (choose : Choice) (select : List Decoded → List Decoded) (selection :
 
 -- ---- the passes that choose
 
-pub chooses : (area : BoundingBox) (first second : Option Verdict) (pass : Pass) (header h : HeaderSpec) (begun nodes : NodeSets) (started ways sets : WaySets) → GathersFile with_node first pass begun nodes → begun ≡ start_nodes area
-    → held_header pass ≡ Some (pass.header_at, header) → header_limit (held_header pass) ≡ None → h ≡ header_out_for_box area header → started ≡ start_ways nodes.box_ids → GathersLater with_way second started ways → sets ≡ ways → Chooses area first second sets h
-chooses area first second pass header h begun nodes started ways sets (frames, says, counted, holds, gathered) new held within is starts (others, too, more) ends =
-    let told = held_is (file_header frames) pass holds in
+pub chooses : (area : BoundingBox) (first : Option Verdict) (second : Option (List ℕ)) (pass : Pass) (header h : HeaderSpec) (begun nodes : NodeSets) (started ways sets : WaySets) (digest : List ℕ) → TakesFile with_node first begun nodes pass → begun ≡ start_nodes area
+    → held_header pass ≡ Some (pass.header_at, header) → header_limit (held_header pass) ≡ None → h ≡ header_out_for_box area header → started ≡ start_ways nodes.box_ids → GathersAgain with_way second digest started ways → sets ≡ ways → Chooses area first (judged_file second) sets h
+chooses area first second pass header h begun nodes started ways sets digest p new held within is starts more ends =
+    let told = held_is (file_header p.frames) pass p.header in
     record {
-      frames = frames;
-      others = others;
-      judged = says;
-      read = too;
+      frames = p.frames;
+      others = more.frames;
+      judged = p.says;
+      read = more.says;
       within = ap header_limit (sym told) ∙ within;
       header = ap (λ (o : Option (ℕ × HeaderSpec)). option_map (λ p. header_out_for_box area p.1) o) (sym told ∙ held) ∙ ap (λ (g : HeaderSpec). Some g) (sym is);
-      chosen = ends ∙ (more ∙ ap (λ (s : WaySets). fold with_way s (decoded others)) (starts ∙ ap (λ (s : NodeSets). start_ways s.box_ids) (gathered ∙ ap (λ (s : NodeSets). fold with_node s (decoded frames)) new)));
+      chosen = ends ∙ (more.gathered_all ∙ ap (λ (s : WaySets). fold with_way s (decoded more.frames)) (starts ∙ ap (λ (s : NodeSets). start_ways s.box_ids) (p.gathered_all ∙ ap (λ (s : NodeSets). fold with_node s (decoded p.frames)) new)));
     }
 
 pub can_be_written : (area : BoundingBox) (first second : Option Verdict) (sets : WaySets) (h : HeaderSpec) → Chooses area first second sets h → CanBeWritten (option_map limited first)
@@ -152,28 +154,26 @@ later_differs first other digest frames same says unlike b c is too e =
     let judged = known_says b (frames, None) (subst (λ (o : Option (List ℕ)). Says (judged_file o) (frames, None)) is says) in
     unlike c frames too (known ∙ ap sha256 e) (ap (λ (l : List ℕ). judged_file (Some l)) (sym e) ∙ judged)
 
-pub choose_limit : (known : Option Verdict) (read : Type 0) (changed : ℕ → Type 0) (pass : Pass) (s : Stop) → PassesFile known pass → IsLimit (header_limit (held_header pass)) s → ChooseStops (option_map limited known) read changed s
-choose_limit known read changed pass (stop.Refused e) p limit = limit_refused known pass e p limit
-choose_limit known read changed pass stop.Read p limit = absurd limit
-choose_limit known read changed pass stop.Write p limit = absurd limit
-choose_limit known read changed pass stop.Memory p limit = absurd limit
-choose_limit known read changed pass (stop.Changed n) p limit = absurd limit
+pub same_digest : (first other : Option (List ℕ)) (digest : List ℕ) → IsDigest first digest → IsDigest other digest → SameDigest first other
+same_digest first other digest one two b c is too =
+    sym (subst (λ (o : Option (List ℕ)). IsDigest o digest) is one) ∙ subst (λ (o : Option (List ℕ)). IsDigest o digest) too two
 
-pub choose_later : (number : ℕ) (first other : Option (List ℕ)) (known : Option Verdict) (digest : List ℕ) (read later : Type 0) (changed : ℕ → Type 0) (s : Stop) → (later → read) → ((pass : ℕ) → pass ≡ number → Unlike other digest → changed pass)
-    → LaterStops number other digest later ⊥ s → ChooseStops known read changed s
-choose_later number first other known digest read later changed (stop.Refused e) r d h = absurd h
-choose_later number first other known digest read later changed stop.Read r d h = r h
-choose_later number first other known digest read later changed stop.Write r d h = absurd h
-choose_later number first other known digest read later changed stop.Memory r d h = tt
-choose_later number first other known digest read later changed (stop.Changed n) r d h = d n h.0 h.1
+-- the stops of a later pass, as those of the call
+pub stops_later : (again : Repeat) (first other : Option (List ℕ)) (digest : List ℕ) (frames : List FrameSpec) (refused : Fault → Type 0) (read later wrote : Type 0) (changed : ℕ → Type 0) (s : Stop) → IsDigest first digest → Says (judged_file first) (frames, None) → again.digest ≡ digest
+    → (later → read) → ((pass : ℕ) → ChangedIn again.number first other pass → changed pass) → StopsAgain again other later wrote s → Caused refused read wrote changed s
+stops_later again first other digest frames refused read later wrote changed (stop.Refused e) same says is r d h = absurd h
+stops_later again first other digest frames refused read later wrote changed stop.Read same says is r d h = r h
+stops_later again first other digest frames refused read later wrote changed stop.Write same says is r d h = h
+stops_later again first other digest frames refused read later wrote changed stop.Memory same says is r d h = tt
+stops_later again first other digest frames refused read later wrote changed (stop.Changed n) same says is r d h = d n (h.0, later_differs first other digest frames same says (subst (λ (l : List ℕ). Unlike other l) is h.1))
 
-pub extract_later : (number : ℕ) (other : Option (List ℕ)) (known : Option Verdict) (digest : List ℕ) (read later wrote : Type 0) (changed : ℕ → Type 0) (old new : Option (List ℕ)) (s : Stop) → (later → read) → ((pass : ℕ) → pass ≡ number → Unlike other digest → changed pass)
-    → LaterStops number other digest later wrote s → ExtractStops known read wrote changed old new s
-extract_later number other known digest read later wrote changed old new (stop.Refused e) r d h = absurd h
-extract_later number other known digest read later wrote changed old new stop.Read r d h = r h
-extract_later number other known digest read later wrote changed old new stop.Write r d h = h
-extract_later number other known digest read later wrote changed old new stop.Memory r d h = tt
-extract_later number other known digest read later wrote changed old new (stop.Changed n) r d h = d n h.0 h.1
+-- the stops of earlier passes, in a call with more of them
+pub stops_earlier : (refused also : Fault → Type 0) (read more wrote : Type 0) (changed too : ℕ → Type 0) (s : Stop) → ((e : Fault) → refused e → also e) → (read → more) → ((pass : ℕ) → changed pass → too pass) → Caused refused read ⊥ changed s → Caused also more wrote too s
+stops_earlier refused also read more wrote changed too (stop.Refused e) f r d h = f e h
+stops_earlier refused also read more wrote changed too stop.Read f r d h = r h
+stops_earlier refused also read more wrote changed too stop.Write f r d h = absurd h
+stops_earlier refused also read more wrote changed too stop.Memory f r d h = tt
+stops_earlier refused also read more wrote changed too (stop.Changed n) f r d h = d n h
 
 -- a selection by what was chosen
 pub selects_chosen : (chosen : Bor Chosen) (area : BoundingBox) (b : List ℕ) (first second : Option Verdict) (h : HeaderSpec) → first ≡ judged_file (Some b) → second ≡ judged_file (Some b) → Chooses area first second chosen.now h → Selects b (complete_ways area) area (pick_of (selection.Ways chosen)) h
@@ -222,22 +222,15 @@ selects_parents chosen area b first second third h is too more p =
       picked = parents_are area es chosen.now (p.kept ∙ ap (λ (r : RelationSets). r.ways) relations) (subst (λ (r : RelationSets). IsLeast (set.contains r.links) r.start chosen.now.relation_ids) relations p.least);
     }
 
-pub choose_more : (known : Option Verdict) (read more : Type 0) (changed other : ℕ → Type 0) (s : Stop) → (read → more) → ((pass : ℕ) → changed pass → other pass) → ChooseStops known read changed s → ChooseStops known more other s
-choose_more known read more changed other (stop.Refused e) r d h = h
-choose_more known read more changed other stop.Read r d h = r h
-choose_more known read more changed other stop.Write r d h = h
-choose_more known read more changed other stop.Memory r d h = tt
-choose_more known read more changed other (stop.Changed n) r d h = d n h
-
-pub chooses_parents : (area : BoundingBox) (first second third : Option Verdict) (ways : WaySets) (h : HeaderSpec) (begun relations : RelationSets) (sets : ParentSets) → Chooses area first second ways h → begun ≡ start_relations ways → GathersLater with_relation third begun relations
-    → sets.ways ≡ relations.ways → IsLeast (set.contains relations.links) relations.start sets.relation_ids → ChoosesParents area first second third sets h
-chooses_parents area first second third ways h begun relations sets chosen starts (frames, says, gathered) kept least = record {
+pub chooses_parents : (area : BoundingBox) (first second : Option Verdict) (third : Option (List ℕ)) (ways : WaySets) (h : HeaderSpec) (begun relations : RelationSets) (sets : ParentSets) (digest : List ℕ) → Chooses area first second ways h → begun ≡ start_relations ways → GathersAgain with_relation third digest begun relations
+    → sets.ways ≡ relations.ways → IsLeast (set.contains relations.links) relations.start sets.relation_ids → ChoosesParents area first second (judged_file third) sets h
+chooses_parents area first second third ways h begun relations sets digest chosen starts more kept least = record {
   ways = ways;
   chosen = chosen;
-  frames = frames;
-  read = says;
+  frames = more.frames;
+  read = more.says;
   relations = relations;
-  gathered = gathered ∙ ap (λ (s : RelationSets). fold with_relation s (decoded frames)) starts;
+  gathered = more.gathered_all ∙ ap (λ (s : RelationSets). fold with_relation s (decoded more.frames)) starts;
   kept = kept;
   least = least;
 }

@@ -38,7 +38,7 @@ use Rattle.pbfcut.specs.Converting.{header_limit, with_limit, limited}
 use Rattle.pbfcut.specs.Counting.{entities_of, frame_entities, decoded}
 use Rattle.pbfcut.specs.Kept.{verdict_on}
 use Rattle.pbfcut.specs.Judged.{payload_fault_of, payload_fault, sound_first, sound_front, fully, judged_file}
-use Rattle.pbfcut.specs.Steps.{headers_of, frame_headers, file_header}
+use Rattle.pbfcut.specs.Pass.{headers_of, frame_headers, file_header}
 
 -- ---- what a file says
 

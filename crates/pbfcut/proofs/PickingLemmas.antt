@@ -1,17 +1,24 @@
 -- Entities that are picked, on their way into the drain.
-use Rattle.std.proofs.Common.{◌≡◌, ℕ, ◌≤◌, List, [], ◌∷◌, ◌++◌, append_assoc, append-nil, Bor, Bool, true, false, Option, Some, None, subst, inl, inr, refl, sym, ap, ◌∙◌, arith}
+use Rattle.std.proofs.Common.{◌≡◌, ◌⊎◌, Err, ℕ, ◌≤◌, List, [], ◌∷◌, ◌++◌, append_assoc, append-nil, Bool, true, false, Option, Some, None, subst, inl, inr, refl, sym, ap, ◌∙◌, arith}
 use Rattle.std.specs.Prelude.{cond}
 use Rattle.std.proofs.lemmas.List.Elements.{filter-append}
 use Rattle.std.proofs.lemmas.List.Sums.{sum_by-cons}
 use Rattle.std.specs.List.{AllByRecursion, filter}
+use Rattle.pbf_wire.specs.declared.fault.Fault.{Fault}
 use Rattle.osm_entity.specs.Entity.{EntitySpec, node, way, relation}
 use Rattle.osm_entity.specs.Ranges.{EntityFits}
 use Rattle.pbf_block.specs.Header.{HeaderSpec}
 use Rattle.pbf_frame.specs.declared.stop.Stop.{Stop}
 use Rattle.pbf_frame.specs.declared.stop.Stop.TheVariants as stop
-use Rattle.pbf_frame.specs.Devices.{append, IsFront}
+use Rattle.pbf_frame.specs.declared.device.Feed as feed
+use Rattle.pbf_frame.specs.declared.device.Drain as drain
+use Rattle.pbf_frame.specs.declared.reader.FrameReader.{FrameReader}
+use Rattle.pbf_frame.specs.Next.{Gave, verdict}
+use Rattle.pbf_frame.specs.Reads.{IsReaderStop}
+use Rattle.pbfcut.specs.declared.pass.Pass.{Pass}
+use Rattle.pbf_frame.specs.Devices.{append, HasRisen, IsFront}
 use Rattle.pbf_frame.specs.Frames.{FrameSpec}
-use Rattle.pbf_frame.specs.Verdict.{Verdict}
+use Rattle.pbf_frame.specs.Verdict.{Verdict, with_first_known}
 use Rattle.pbf_frame.proofs.Beginnings.{front_whole, front_longer, front_then}
 use Rattle.pbf_frame.proofs.KnownBytes.{append_append, append_none}
 use Rattle.osm_pack.specs.Cuts.{header_frame, written_file, written_entities, then_pending, then_written, at_end, pending_after, written_after}
@@ -24,15 +31,13 @@ use Rattle.std.proofs.lemmas.Grind.{flat_map-append}
 use Rattle.pbf_frame.specs.Verdict.{Gone, Says, with_all}
 use Rattle.pbf_frame.proofs.VerdictLemmas.{gone_more, gone_split}
 use Rattle.pbfcut.specs.Counting.{decoded, frame_entities}
-use Rattle.pbfcut.specs.Judged.{fully, fully_known}
+use Rattle.pbfcut.specs.Judged.{payload_fault, fully, fully_known}
 use Rattle.pbfcut.proofs.CountLemmas.{CountedOn}
-use Rattle.pbfcut.proofs.StepLemmas.{fully_first, picked_one}
-use Rattle.osm_ways.specs.declared.parents.ChosenParents.{ChosenParents}
+use Rattle.pbfcut.proofs.StepLemmas.{StoppedStep, fully_first, picked_one}
 use Rattle.pbf_block.specs.declared.counts.Counts.{Counts}
-use Rattle.pbfcut.specs.declared.picking.Selection.TheVariants as selection
 use Rattle.pbfcut.specs.Counting.{nodes_of, ways_of, relations_of, count_one}
-use Rattle.pbfcut.specs.Picking.{Pick, pick_of, picked_with_parents, HasPacked, BeginsAll, Packs, StoppedPacking, Packed, PacksFront}
-use Rattle.pbfcut.specs.Showing.{PayloadStops}
+use Rattle.pbfcut.specs.Pick.{Pick, HasPacked, BeginsAll, Packs, Begins, FailsToPack, Packed, PacksFront}
+use Rattle.pbfcut.specs.Stops.{Caused, Only, unchanged}
 
 all_push : {A : Type 0} (P : A → Type 0) (xs : List A) (x : A) → AllByRecursion P xs → P x → AllByRecursion P (xs ++ x ∷ [])
 all_push P [] x h p = (p, tt)
@@ -119,9 +124,9 @@ pub last_front : (pick : Pick) (start now : Option (List ℕ)) (first : Option V
 last_front pick start now first fs all says is front = subst (λ (l : List FrameSpec). IsFront start now (written_entities (filter pick (decoded l)))) (sym (told_frames first fs all says is)) front
 
 -- the whole is a beginning of itself
-pub packed_front : (pick : Pick) (h : HeaderSpec) (known : Option Verdict) (counts : Counts) (old new : Option (List ℕ)) → Packed pick h known counts old new → PacksFront pick h known old new
-packed_front pick h known counts old new (frames, says, counted, went) all is =
-    subst (λ (l : List FrameSpec). IsFront old new (written_file h (filter pick (decoded l)))) (sym (told_frames known frames all says is)) (front_whole old new (written_file h (filter pick (decoded frames))) went)
+pub packed_front : (pick : Pick) (h : HeaderSpec) (known : Option Verdict) (old new : Option (List ℕ)) (counts : Counts) → Packed pick h known old new counts → PacksFront pick h known old new
+packed_front pick h known old new counts p all is =
+    subst (λ (l : List FrameSpec). IsFront old new (written_file h (filter pick (decoded l)))) (sym (told_frames known p.frames all p.says is)) (front_whole old new (written_file h (filter pick (decoded p.frames))) p.taken)
 
 module _ {D S H : Type 0} where
   -- one entity more is packed
@@ -180,15 +185,37 @@ module _ {D S H : Type 0} where
       → HasPacked start (filter pick (decoded (fs ++ f ∷ []))) now new
   frame_packed pick start fs f before now old new h p = subst (λ (l : List EntitySpec). HasPacked start l now new) (sym (picked_one pick fs f)) (p.packed start (filter pick (decoded fs)) h)
 
-  -- whatever a step that stopped wrote, a beginning of all went out
-  pub frames_front : (pick : Pick) (start : Option (List ℕ)) (first mid : Option Verdict) (fs : List FrameSpec) (before now : Option (List ℕ)) (old : Packing D S H) → Gone first fs (fully_known mid) → HasPacked start (filter pick (decoded fs)) before old → StoppedPacking pick mid before now old
+  nothing_more : (pick : Pick) (start : Option (List ℕ)) (first mid : Option Verdict) (fs : List FrameSpec) (before now : Option (List ℕ)) (old : Packing D S H) → Gone first fs mid → HasPacked start (filter pick (decoded fs)) before old → now ≡ before
       → (all : Verdict) → first ≡ Some all → IsFront start now (written_entities (filter pick (decoded all.0)))
-  frames_front pick start first mid fs before now old gone h (inl same) all is =
-      let (rest, e, split) = gone_split first (fully_known mid) fs all gone is in
+  nothing_more pick start first mid fs before now old gone h same all is =
+      let (rest, e, split) = gone_split first mid fs all gone is in
       front_of pick start now fs rest.0 all split (begins_packed start (filter pick (decoded fs)) now old (subst (λ (k : Option (List ℕ)). HasPacked start (filter pick (decoded fs)) k old) (sym same) h))
-  frames_front pick start first mid fs before now old gone h (inr (f, later, e, sound, begins)) all is =
+
+  begun_one : (pick : Pick) (start : Option (List ℕ)) (first mid later : Option Verdict) (fs : List FrameSpec) (f : FrameSpec) (before now : Option (List ℕ)) (old : Packing D S H) → Gone first fs (fully_known mid) → HasPacked start (filter pick (decoded fs)) before old
+      → mid ≡ with_first_known f later → payload_fault f ≡ None → Begins before now old (filter pick (frame_entities f)) → (all : Verdict) → first ≡ Some all → IsFront start now (written_entities (filter pick (decoded all.0)))
+  begun_one pick start first mid later fs f before now old gone h e sound begins all is =
       let (rest, e2, split) = gone_split first (fully_known later) (fs ++ f ∷ []) all (gone_more first (fully_known mid) (fully_known later) fs f gone (fully_first mid later f e sound)) is in
       front_of pick start now (fs ++ f ∷ []) rest.0 all split (subst (λ (l : List EntitySpec). BeginsAll start l now) (sym (picked_one pick fs f)) (begins.begun start (filter pick (decoded fs)) h))
+
+  -- whatever a step that stopped wrote, a beginning of all went out
+  pub step_front : {F : Type 0} (g : feed.Ghosts F) (d : drain.Ghosts D) (pick : Pick) (start : Option (List ℕ)) (first : Option Verdict) (fs : List FrameSpec) (reader read : FrameReader F) (old new : Packing D S H) (before now : Pass) (s : Stop)
+      → Gone first fs (fully_known (verdict g.remaining reader)) → HasPacked start (filter pick (decoded fs)) (d.taken old.drain) old → StoppedStep g reader read (FailsToPack d pick old new) ((now ≡ before) × (new ≡ old)) s
+      → (all : Verdict) → first ≡ Some all → IsFront start (d.taken new.drain) (written_entities (filter pick (decoded all.0)))
+  step_front g d pick start first fs reader read old new before now s gone h stopped all is = of stopped.where_it_stopped where
+    mid : Option Verdict
+    mid = verdict g.remaining reader
+
+    went : Option (List ℕ)
+    went = d.taken new.drain
+
+    begun_at : (f : FrameSpec) → mid ≡ with_first_known f (verdict g.remaining read) → ((went ≡ d.taken old.drain) ⊎ ((payload_fault f ≡ None) × Begins (d.taken old.drain) went old (filter pick (frame_entities f)))) → IsFront start went (written_entities (filter pick (decoded all.0)))
+    begun_at f e (inl same) = nothing_more pick start first (fully_known mid) fs (d.taken old.drain) went old gone h same all is
+    begun_at f e (inr (sound, begins)) = begun_one pick start first mid (verdict g.remaining read) fs f (d.taken old.drain) went old gone h e sound begins all is
+
+    of : ((Gave mid (Err s) (verdict g.remaining read) × IsReaderStop (g.failures reader.feed) (g.failures read.feed) s × ((now ≡ before) × (new ≡ old))) ⊎ ((f : FrameSpec) × (mid ≡ with_first_known f (verdict g.remaining read)) × FailsToPack d pick old new f s))
+        → IsFront start went (written_entities (filter pick (decoded all.0)))
+    of (inl (gave, why, same)) = nothing_more pick start first (fully_known mid) fs (d.taken old.drain) went old gone h (ap (λ (p : Packing D S H). d.taken p.drain) same.1) all is
+    of (inr (f, e, why)) = begun_at f e why.front
 
   pub same_packed : (start : Option (List ℕ)) (es : List EntitySpec) (before now : Option (List ℕ)) (old new : Packing D S H) → now ≡ before → new ≡ old → HasPacked start es before old → HasPacked start es now new
   same_packed start es before now old new t p h = subst (λ (k : Option (List ℕ)). HasPacked start es k new) (sym t) (subst (λ (q : Packing D S H). HasPacked start es before q) (sym p) h)
@@ -216,13 +243,17 @@ pub whole_file : (h : HeaderSpec) (old start now : Option (List ℕ)) (es : List
 whole_file h old start now es e f = f ∙ (ap (λ (k : Option (List ℕ)). append k (written_entities es)) e ∙ append_append old (header_frame h) (written_entities es))
 
 -- a packer's stop is one of a payload without a fault
-pub pack_stop : (first before now : ℕ) (s : Stop) → first ≤ before → IsPackStop before now s → PayloadStops None first now s
+pub pack_stop : (first before now : ℕ) (s : Stop) → first ≤ before → IsPackStop before now s → Caused (Only None) ⊥ (HasRisen first now) unchanged s
 pack_stop first before now (stop.Refused e) l h = absurd h
 pack_stop first before now stop.Read l h = absurd h
 pack_stop first before now stop.Write l h = omega (arith, l, h)
 pack_stop first before now stop.Memory l h = tt
 pack_stop first before now (stop.Changed pass) l h = absurd h
 
-pub pick_parents : (chosen : Bor ChosenParents) → picked_with_parents chosen.now ≡ pick_of (selection.Parents chosen)
-unfolding pick_of
-pick_parents chosen = refl
+-- a failure of the last frame is one of the loop
+pub fails_since : (fault : Option Fault) (first before now : ℕ) (s : Stop) → first ≤ before → Caused (Only fault) ⊥ (HasRisen before now) unchanged s → Caused (Only fault) ⊥ (HasRisen first now) unchanged s
+fails_since fault first before now (stop.Refused e) l h = h
+fails_since fault first before now stop.Read l h = absurd h
+fails_since fault first before now stop.Write l h = omega (arith, l, h)
+fails_since fault first before now stop.Memory l h = tt
+fails_since fault first before now (stop.Changed pass) l h = absurd h

@@ -6,19 +6,20 @@ use Rattle.osm_entity.specs.Entity.{EntitySpec}
 use Rattle.pbf_wire.specs.declared.fault.Fault.{Fault}
 use Rattle.pbf_wire.specs.declared.fault.ReadFault.{ReadFault}
 use Rattle.pbf_wire.specs.declared.fault.ReadFault.TheVariants as read
-use Rattle.pbf_frame.specs.Devices.{append, IsFront}
+use Rattle.pbf_frame.specs.Devices.{append, HasRisen, IsFront}
 use Rattle.pbf_frame.specs.Frames.{FrameSpec}
 use Rattle.pbf_frame.specs.Stops.{stop_of}
 use Rattle.pbf_frame.specs.Verdict.{Verdict, with_first_known}
 use Rattle.pbfcut.specs.Judged.{payload_fault, fully_known}
-use Rattle.pbfcut.specs.Showing.{frame_text, TookText, StoppedInText, PayloadStops}
+use Rattle.pbfcut.specs.Showing.{frame_text, TookText, StoppedInText}
+use Rattle.pbfcut.specs.Stops.{Caused, Only, unchanged}
 use Rattle.pbf_frame.proofs.Beginnings.{front_longer, front_then}
 use Rattle.osm_text.specs.EntityText.{entity_line}
 use Rattle.pbfcut.proofs.ListingLemmas.{StoppedWithin, text_one}
 use Rattle.pbfcut.proofs.StepLemmas.{fully_first}
 
 -- why the reading of a payload stops
-pub read_stops : (fault : Option Fault) (e : ReadFault) (before now : ℕ) → ((x : Fault) → e ≡ read.Refused x → fault ≡ Some x) → PayloadStops fault before now (stop_of e)
+pub read_stops : (fault : Option Fault) (e : ReadFault) (before now : ℕ) → ((x : Fault) → e ≡ read.Refused x → fault ≡ Some x) → Caused (Only fault) ⊥ (HasRisen before now) unchanged (stop_of e)
 read_stops fault (read.Refused x) before now refused = refused x refl
 read_stops fault read.Memory before now refused = tt
 

@@ -1,5 +1,5 @@
 -- One frame taken, and all frames.
-use Rattle.std.proofs.Common.{◌≡◌, ℕ, List, [], ◌∷◌, ◌++◌, Bool, true, false, Option, Some, None, subst, refl, sym, ap, ◌∙◌}
+use Rattle.std.proofs.Common.{◌≡◌, ◌⊎◌, ℕ, ◌≤◌, ◌<◌, Result, Ok, Err, inl, inr, arith, List, [], ◌∷◌, ◌++◌, Bool, true, false, Option, Some, None, subst, refl, sym, ap, ◌∙◌}
 use Rattle.std.specs.List.{flat_map, last_or, filter}
 use Rattle.std.specs.Option.{option_map}
 use Rattle.std.proofs.lemmas.Grind.{flat_map-append}
@@ -11,15 +11,22 @@ use Rattle.pbf_wire.specs.declared.fault.Fault.{Fault}
 use Rattle.osm_entity.specs.Entity.{EntitySpec}
 use Rattle.pbf_frame.specs.declared.frame.FrameKind.{FrameKind}
 use Rattle.pbf_frame.specs.declared.frame.FrameKind.TheVariants as kind
-use Rattle.pbf_frame.specs.Devices.{prepend}
-use Rattle.pbf_frame.specs.Frames.{FrameSpec, frame_kind, frame_payload, frame_payload_at, frame_bytes}
-use Rattle.pbf_frame.specs.Verdict.{Verdict, with_first_known, Says}
+use Rattle.pbf_frame.specs.declared.device.Feed as feed
+use Rattle.pbf_frame.specs.declared.reader.FrameReader.{FrameReader}
+use Rattle.pbf_frame.specs.declared.stop.Stop.{Stop}
+use Rattle.pbf_frame.specs.declared.stop.Stop.TheVariants as why
+use Rattle.pbf_frame.specs.Devices.{IsAtEnd, HasRisen}
+use Rattle.pbf_frame.specs.Frames.{FrameSpec, frame_kind, frame_payload, frame_payload_at}
+use Rattle.pbf_frame.specs.Next.{Advances, Gave, IsReading, place_of, verdict}
+use Rattle.pbf_frame.specs.Reads.{IsReaderStop}
+use Rattle.pbf_frame.specs.Verdict.{Verdict, with_first_known, with_all, Gone, Says}
 use Rattle.pbf_block.specs.declared.counts.Counts.{Counts}
-use Rattle.pbfcut.specs.declared.counts.Pass.{Pass}
+use Rattle.pbfcut.specs.declared.pass.Pass.{Pass}
 use Rattle.pbfcut.specs.Judged.{payload_fault, sound_first, fully, fully_known}
 use Rattle.pbfcut.specs.Counting.{counted_with, counts_of, entities_of, frame_entities, decoded}
-use Rattle.pbfcut.specs.Picking.{Pick, TakesPicked}
-use Rattle.pbfcut.specs.Steps.{TakesSome, TakesPayload, Takes, Took, HoldsHeader, headers_of, frame_headers, file_header}
+use Rattle.pbfcut.specs.Pick.{Pick, TakesPicked}
+use Rattle.pbfcut.specs.Pass.{TakesSome, TakesPayload, Takes, Follows, IsStep, HoldsHeader, headers_of, frame_headers, file_header}
+use Rattle.pbfcut.specs.Stops.{Caused, FaultOf, Only, unchanged, KeepsFeed}
 use Rattle.pbfcut.proofs.CountLemmas.{counts_together, decoded_one}
 
 -- ---- the verdict of all phases
@@ -30,14 +37,127 @@ fully_first known rest f e sound = ap fully_known e ∙ of rest where
   of None = refl
   of (Some v) = ap (λ (o : Option Fault). Some (sound_first o f (fully v))) sound
 
+-- ---- a step of a reader that was reading
+
+-- it took a frame
+pub record TookOne {F : Type 0} (g : feed.Ghosts F) (old new : FrameReader F) (took : FrameSpec → Type 0) : Type 0 where
+  pub frame : FrameSpec
+  pub is : verdict g.remaining old ≡ with_first_known frame (verdict g.remaining new)
+  pub taken : took frame
+  pub reading : IsReading new
+  pub rises : place_of old < place_of new
+  pub carries : (b : List ℕ) → g.carries old.feed b → g.carries new.feed b
+  pub keeps : KeepsFeed g old.feed new.feed
+
+-- it met the end
+pub record MetEnd {F : Type 0} (g : feed.Ghosts F) (old new : FrameReader F) (same : Type 0) : Type 0 where
+  pub none : Says (verdict g.remaining old) ([], None)
+  pub end : IsAtEnd (g.remaining new.feed)
+  pub stays : same
+  pub carries : (b : List ℕ) → g.carries old.feed b → g.carries new.feed b
+  pub keeps : KeepsFeed g old.feed new.feed
+
+-- it stopped: the reader did, or at a frame
+pub record StoppedStep {F : Type 0} (g : feed.Ghosts F) (old new : FrameReader F) (failed : FrameSpec → Stop → Type 0) (same : Type 0) (stop : Stop) : Type 0 where
+  pub keeps : KeepsFeed g old.feed new.feed
+  pub where_it_stopped : (Gave (verdict g.remaining old) (Err stop) (verdict g.remaining new) × IsReaderStop (g.failures old.feed) (g.failures new.feed) stop × same)
+      ⊎ ((f : FrameSpec) × (verdict g.remaining old ≡ with_first_known f (verdict g.remaining new)) × failed f stop)
+
+other : (r : Result Bool Stop) → r ≡ Ok true → r ≡ Ok false → ⊥
+other r e f = cc
+
+no_stop : (b : Bool) (s : Stop) (r : Result Bool Stop) → r ≡ Ok b → r ≡ Err s → ⊥
+no_stop b s r e f = cc
+
+same_stop : (s t : Stop) (r : Result Bool Stop) → r ≡ Err s → r ≡ Err t → s ≡ t
+same_stop s t r e f = cc
+
+-- the fault that comes behind the frames done
+gone_fault : (first : Option Verdict) (frames : List FrameSpec) (known : Option Verdict) (e : Fault) → Gone first frames (fully_known known) → Says known ([], Some e) → Says first (frames, Some e)
+gone_fault first frames None e gone says = subst (λ (k : Option Verdict). Says k (frames, Some e)) (sym gone) tt
+gone_fault first frames (Some v) e gone says =
+    subst (λ (k : Option Verdict). Says k (frames, Some e)) (sym gone) (ap (λ (v : Verdict). with_all frames (fully v)) says ∙ ap (λ (l : List FrameSpec). (l, Some e)) (append-nil frames))
+
+-- the fault of the payload of the next frame
+gone_payload : (first : Option Verdict) (frames : List FrameSpec) (known rest : Option Verdict) (f : FrameSpec) (e : Fault) → Gone first frames (fully_known known) → known ≡ with_first_known f rest → payload_fault f ≡ Some e → Says first (frames, Some e)
+gone_payload first frames known rest f e gone is fault = subst (λ (k : Option Verdict). Says k (frames, Some e)) (sym (gone ∙ ap (λ (k : Option Verdict). option_map (with_all frames) (fully_known k)) is)) (of rest) where
+  of : (rest : Option Verdict) → Says (option_map (with_all frames) (fully_known (with_first_known f rest))) (frames, Some e)
+  of None = tt
+  of (Some v) = ap (λ (o : Option Fault). with_all frames (sound_first o f (fully v))) fault ∙ ap (λ (l : List FrameSpec). (l, Some e)) (append-nil frames)
+
+module _ {F : Type 0} (g : feed.Ghosts F) (old new : FrameReader F) (took : FrameSpec → Type 0) (failed : FrameSpec → Stop → Type 0) (same : Type 0) where
+  went_on : (answer : Result (Option FrameSpec) Stop) → Advances g.remaining g.failures g.lender g.carries old answer new → Follows took failed same answer (Ok true) → TookOne g old new took
+  went_on (Ok (Some f)) a t = record {
+    frame = f;
+    is = a.gave;
+    taken = t;
+    reading = a.answers.0;
+    rises = a.answers.3;
+    carries = a.still_carries;
+    keeps = record { counts = a.counts; lender = a.same_lender };
+  }
+  went_on (Ok None) a t = absurd (other _ refl t.0)
+  went_on (Err stop) a t = absurd (no_stop true stop _ refl t.0)
+
+  pub took_one : (more : Bool) → more ≡ true → IsReading old → IsStep g old new took failed same (Ok more) → TookOne g old new took
+  took_one more e reading step = let s = subst (λ (b : Bool). IsStep g old new took failed same (Ok b)) e step in went_on s.answer (s.next.0 reading) s.follows
+
+  ended_at : (answer : Result (Option FrameSpec) Stop) → Advances g.remaining g.failures g.lender g.carries old answer new → Follows took failed same answer (Ok false) → MetEnd g old new same
+  ended_at (Ok (Some f)) a t = absurd t
+  ended_at (Ok None) a t = record {
+    none = a.gave;
+    end = a.ended;
+    stays = t.1;
+    carries = a.still_carries;
+    keeps = record { counts = a.counts; lender = a.same_lender };
+  }
+  ended_at (Err stop) a t = absurd (no_stop false stop _ refl t.0)
+
+  pub met_end : (more : Bool) → more ≡ false → IsReading old → IsStep g old new took failed same (Ok more) → MetEnd g old new same
+  met_end more e reading step = let s = subst (λ (b : Bool). IsStep g old new took failed same (Ok b)) e step in ended_at s.answer (s.next.0 reading) s.follows
+
+  stopped_at : (stop : Stop) (answer : Result (Option FrameSpec) Stop) → Advances g.remaining g.failures g.lender g.carries old answer new → Follows took failed same answer (Err stop) → StoppedStep g old new failed same stop
+  stopped_at stop (Ok (Some f)) a t = record { keeps = record { counts = a.counts; lender = a.same_lender }; where_it_stopped = inr (f, a.gave, t) }
+  stopped_at stop (Ok None) a t = absurd (no_stop false stop _ t.0 refl)
+  stopped_at stop (Err s) a t =
+      let e = same_stop s stop _ t.0 refl in
+      record {
+        keeps = record { counts = a.counts; lender = a.same_lender };
+        where_it_stopped = inl (
+          subst (λ (x : Stop). Gave (verdict g.remaining old) (Err x) (verdict g.remaining new)) e a.gave,
+          subst (λ (x : Stop). IsReaderStop (g.failures old.feed) (g.failures new.feed) x) e a.stops,
+          t.1,
+        );
+      }
+
+  pub stopped_step : (stop : Stop) → IsReading old → IsStep g old new took failed same (Err stop) → StoppedStep g old new failed same stop
+  stopped_step stop reading s = stopped_at stop s.answer (s.next.0 reading) s.follows
+
+-- the cause in a loop of steps, of which some are done
+module _ {F : Type 0} (g : feed.Ghosts F) (old new : FrameReader F) (failed : FrameSpec → Stop → Type 0) (same : Type 0) where
+  pub loop_stops : (wrote : Type 0) (first : Option Verdict) (frames : List FrameSpec) (before : ℕ) (stop : Stop) → Gone first frames (fully_known (verdict g.remaining old)) → before ≤ g.failures old.feed
+      → ((f : FrameSpec) (s : Stop) → failed f s → Caused (Only (payload_fault f)) ⊥ wrote unchanged s) → StoppedStep g old new failed same stop → Caused (FaultOf first) (HasRisen before (g.failures new.feed)) wrote unchanged stop
+  loop_stops wrote first frames before stop gone counted cause s = of s.where_it_stopped where
+    by_reader : (t : Stop) → Gave (verdict g.remaining old) (Err t) (verdict g.remaining new) → IsReaderStop (g.failures old.feed) (g.failures new.feed) t → Caused (FaultOf first) (HasRisen before (g.failures new.feed)) wrote unchanged t
+    by_reader (why.Refused e) gave is = (frames, gone_fault first frames (verdict g.remaining old) e gone gave)
+    by_reader why.Read gave is = omega (arith, is, counted)
+    by_reader why.Write gave is = absurd is
+    by_reader why.Memory gave is = tt
+    by_reader (why.Changed n) gave is = absurd is
+
+    at_frame : (f : FrameSpec) (t : Stop) → verdict g.remaining old ≡ with_first_known f (verdict g.remaining new) → Caused (Only (payload_fault f)) ⊥ wrote unchanged t → Caused (FaultOf first) (HasRisen before (g.failures new.feed)) wrote unchanged t
+    at_frame f (why.Refused e) is fault = (frames, gone_payload first frames (verdict g.remaining old) (verdict g.remaining new) f e gone is fault)
+    at_frame f why.Read is fault = absurd fault
+    at_frame f why.Write is fault = fault
+    at_frame f why.Memory is fault = tt
+    at_frame f (why.Changed n) is fault = absurd fault
+
+    of : ((Gave (verdict g.remaining old) (Err stop) (verdict g.remaining new) × IsReaderStop (g.failures old.feed) (g.failures new.feed) stop × same)
+        ⊎ ((f : FrameSpec) × (verdict g.remaining old ≡ with_first_known f (verdict g.remaining new)) × failed f stop)) → Caused (FaultOf first) (HasRisen before (g.failures new.feed)) wrote unchanged stop
+    of (inl (gave, is, kept)) = by_reader stop gave is
+    of (inr (f, is, why)) = at_frame f stop is (cause f stop why)
+
 -- ---- frames done
-
-pub took_one : (old new : Option Verdict) (known left : Option (List ℕ)) (made : FrameSpec → Type 0) (more : Bool) → more ≡ true → Took old new known left made more
-    → (f : FrameSpec) × (old ≡ with_first_known f new) × (known ≡ prepend (frame_bytes f) left) × (payload_fault f ≡ None) × made f
-took_one old new known left made more e took = subst (Took old new known left made) e took
-
-pub took_none : (old new : Option Verdict) (known left : Option (List ℕ)) (made : FrameSpec → Type 0) (more : Bool) → more ≡ false → Took old new known left made more → Says old ([], None) × (known ≡ left)
-took_none old new known left made more e took = subst (Took old new known left made) e took
 
 taken_counts_of : (some : List EntitySpec → List EntitySpec) → some [] ≡ [] → (k : FrameKind) (at : ℕ) (payload : List ℕ) (old new : Pass) (es : List EntitySpec) → TakesSome k at payload (some (entities_of k at payload)) old new
     → old.counts ≡ counts_of es → new.counts ≡ counts_of (es ++ some (entities_of k at payload))

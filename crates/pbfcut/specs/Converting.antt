@@ -1,5 +1,5 @@
 -- The conversion of a file: all its entities in canonical form.
-use Rattle.std.specs.Prelude.{◌≡◌, ℕ, ◌+◌, nat_le, if◌then◌else◌, List, [], Bool, Option, Some, None}
+use Rattle.std.specs.Prelude.{ℕ, ◌+◌, nat_le, if◌then◌else◌, List, [], Bool, Option, Some, None}
 use Rattle.std.specs.Option.{option_map}
 use Rattle.pbf_wire.specs.declared.fault.Fault.{Fault}
 use Rattle.pbf_wire.specs.declared.fault.Reason.TheVariants.{NoHeader, EntityLarge}
@@ -7,15 +7,13 @@ use Rattle.pbf_wire.specs.Faults.{fault}
 use Rattle.osm_entity.specs.Entity.{EntitySpec}
 use Rattle.osm_entity.specs.Weight.{text_weight}
 use Rattle.pbf_block.specs.Header.{HeaderSpec, header_of}
-use Rattle.pbf_frame.specs.declared.stop.Stop.{Stop}
-use Rattle.pbf_frame.specs.declared.stop.Stop.TheVariants.{Refused, Read, Write, Memory, Changed}
 use Rattle.pbf_frame.specs.Frames.{FrameSpec}
 use Rattle.pbf_frame.specs.Verdict.{Verdict, Says}
 use Rattle.osm_pack.specs.Cuts.{written_file}
-use Rattle.pbfcut.specs.declared.counts.Pass.{Pass}
+use Rattle.pbfcut.specs.declared.pass.Pass.{Pass}
 use Rattle.pbfcut.specs.Counting.{decoded}
 use Rattle.pbfcut.specs.Judged.{judged_file}
-use Rattle.pbfcut.specs.Steps.{file_header}
+use Rattle.pbfcut.specs.Pass.{file_header}
 
 -- ---- the bytes
 
@@ -56,14 +54,6 @@ answer_bytes (frames, Some e) = []
 
 abbrev pub held_header : Pass → Option (ℕ × HeaderSpec)
 held_header pass = option_map (λ h. (pass.header_at, header_of h)) pass.header
-
--- the stop is that of the limit
-abbrev pub IsLimit : Option Fault → Stop → Type 0
-IsLimit limit (Refused e) = limit ≡ Some e
-IsLimit limit Read = ⊥
-IsLimit limit Write = ⊥
-IsLimit limit Memory = ⊥
-IsLimit limit (Changed pass) = ⊥
 
 -- ---- a whole file
 

@@ -12,13 +12,15 @@ use Rattle.osm_ways.specs.Phases.{WaySets, RelationSets, ParentSets, start_nodes
 use Rattle.osm_ways.specs.Seen.{seen_entity}
 use Rattle.osm_pack.specs.Cuts.{written_file}
 use Rattle.pbf_block.specs.Header.{HeaderSpec}
-use Rattle.pbf_block.specs.WrittenHeader.{header_out_for_box}
+use Rattle.pbf_block.specs.WrittenHeader.{header_out_for_box, edges_of, EdgesTyped}
 use Rattle.pbf_frame.specs.Frames.{FrameSpec}
 use Rattle.pbf_frame.specs.Verdict.{Verdict, Says}
 use Rattle.pbfcut.specs.Converting.{header_limit}
 use Rattle.pbfcut.specs.Counting.{decoded}
-use Rattle.pbfcut.specs.Gathering.{with_node, with_way, with_relation}
-use Rattle.pbfcut.specs.Steps.{file_header}
+use Rattle.pbfcut.specs.Judged.{judged_file}
+use Rattle.pbfcut.specs.Pick.{IsShort}
+use Rattle.pbfcut.specs.Repeat.{SameDigest}
+use Rattle.pbfcut.specs.Pass.{with_node, with_way, with_relation, file_header, IsDigest}
 
 abbrev pub Choice : Type 0
 Choice = List EntitySpec → List EntitySpec
@@ -63,3 +65,18 @@ pub record ChoosesParents (area : BoundingBox) (first second third : Option Verd
   pub gathered : relations ≡ fold with_relation (start_relations ways) (decoded frames)
   pub kept : sets.ways ≡ relations.ways
   pub least : IsLeast (set.contains relations.links) relations.start sets.relation_ids
+
+-- what the passes before the one that writes tell: what was chosen, the header that is written, and the digest of the first file
+pub record IsChoice (area : BoundingBox) (first second : Option (List ℕ)) (sets : WaySets) (h : HeaderSpec) (digest : List ℕ) : Type 0 where
+  pub chosen : Chooses area (judged_file first) (judged_file second) sets h
+  pub edges : EdgesTyped (edges_of area)
+  pub short : IsShort h
+  pub digest_is : IsDigest first digest
+  pub same : SameDigest first second
+
+pub record IsChoiceWithParents (area : BoundingBox) (first second third : Option (List ℕ)) (sets : ParentSets) (h : HeaderSpec) (digest : List ℕ) : Type 0 where
+  pub chosen : ChoosesParents area (judged_file first) (judged_file second) (judged_file third) sets h
+  pub edges : EdgesTyped (edges_of area)
+  pub short : IsShort h
+  pub digest_is : IsDigest first digest
+  pub same : SameDigest first second × SameDigest first third

@@ -11,7 +11,7 @@ use Rattle.pbfcut.specs.Converting.{limited, answer_bytes}
 use Rattle.pbfcut.specs.Counting.{decoded}
 use Rattle.pbfcut.specs.Extracting.{Choice, extract_bytes}
 use Rattle.pbfcut.specs.Judged.{fully}
-use Rattle.pbfcut.specs.Steps.{file_header}
+use Rattle.pbfcut.specs.Pass.{file_header}
 
 -- ---- what a file says
 

@@ -2,9 +2,10 @@ pub mod Blobs
 pub mod Listing
 pub mod Judged
 pub mod Counting
-pub mod Steps
-pub mod Gathering
-pub mod Picking
+pub mod Stops
+pub mod Pass
+pub mod Pick
+pub mod Repeat
 pub mod Hashing
 pub mod Showing
 pub mod Converting

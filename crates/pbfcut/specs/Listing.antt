@@ -1,8 +1,7 @@
 -- What a listing of frames does to its drain, and why it stops.
 use Rattle.std.specs.Prelude.{◌≡◌, ◌⊎◌, ℕ, List, [], length, Bool, true, false, Option, Some, None}
-use Rattle.pbf_frame.specs.declared.stop.Stop.{Stop}
-use Rattle.pbf_frame.specs.declared.stop.Stop.TheVariants.{Refused, Read, Write, Memory, Changed}
-use Rattle.pbf_frame.specs.Devices.{append, HasRisen, IsFront}
+use Rattle.pbf_wire.specs.declared.fault.Fault.{Fault}
+use Rattle.pbf_frame.specs.Devices.{append, IsFront}
 use Rattle.pbf_frame.specs.Frames.{FrameSpec}
 use Rattle.pbf_frame.specs.Verdict.{Verdict, with_first_known, Says}
 use Rattle.pbfcut.specs.Blobs.{line, lines}
@@ -17,13 +16,9 @@ Lists known old new count = (frames : List FrameSpec) × Says known (frames, Non
 abbrev pub ListsFront : Option Verdict → Option (List ℕ) → Option (List ℕ) → Type 0
 ListsFront known old new = (all : Verdict) → known ≡ Some all → IsFront old new (lines all.0)
 
--- each stop has its cause; where the file is refused, by its first frame fault, the lines of the frames before it went out
-abbrev pub ListStops : Option Verdict → Option (List ℕ) → Option (List ℕ) → ℕ → ℕ → ℕ → ℕ → Stop → Type 0
-ListStops known old new before now drain_before drain_now (Refused e) = (frames : List FrameSpec) × Says known (frames, Some e) × (new ≡ append old (lines frames))
-ListStops known old new before now drain_before drain_now Read = HasRisen before now
-ListStops known old new before now drain_before drain_now Write = HasRisen drain_before drain_now
-ListStops known old new before now drain_before drain_now Memory = Unit {0}
-ListStops known old new before now drain_before drain_now (Changed pass) = ⊥
+-- where the file is refused, by its first frame fault, the lines of the frames before it went out
+abbrev pub ListsToFault : Option Verdict → Option (List ℕ) → Option (List ℕ) → Fault → Type 0
+ListsToFault known old new e = (frames : List FrameSpec) × Says known (frames, Some e) × (new ≡ append old (lines frames))
 
 -- ---- one frame of it
 
@@ -36,9 +31,6 @@ TookLine old_verdict verdict old new false = Says old_verdict ([], None) × (new
 abbrev pub StoppedIn : Option Verdict → Option (List ℕ) → Option (List ℕ) → Type 0
 StoppedIn known old new = (new ≡ old) ⊎ ((f : FrameSpec) × (rest : Option Verdict) × (known ≡ with_first_known f rest) × IsFront old new (line f))
 
-abbrev pub LineStops : Option Verdict → Option (List ℕ) → Option (List ℕ) → ℕ → ℕ → ℕ → ℕ → Stop → Type 0
-LineStops known old new before now drain_before drain_now (Refused e) = Says known ([], Some e) × (new ≡ old)
-LineStops known old new before now drain_before drain_now Read = HasRisen before now
-LineStops known old new before now drain_before drain_now Write = HasRisen drain_before drain_now
-LineStops known old new before now drain_before drain_now Memory = Unit {0}
-LineStops known old new before now drain_before drain_now (Changed pass) = ⊥
+-- what is refused comes before any frame, and nothing went out
+abbrev pub StopsAtFault : Option Verdict → Option (List ℕ) → Option (List ℕ) → Fault → Type 0
+StopsAtFault known old new e = Says known ([], Some e) × (new ≡ old)

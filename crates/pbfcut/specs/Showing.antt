@@ -6,14 +6,12 @@ use Rattle.pbf_block.specs.Header.{header_in}
 use Rattle.pbf_block.specs.Payload.{entities}
 use Rattle.pbf_frame.specs.declared.frame.FrameKind.{FrameKind}
 use Rattle.pbf_frame.specs.declared.frame.FrameKind.TheVariants as kind
-use Rattle.pbf_frame.specs.declared.stop.Stop.{Stop}
-use Rattle.pbf_frame.specs.declared.stop.Stop.TheVariants.{Refused, Read, Write, Memory, Changed}
-use Rattle.pbf_frame.specs.Devices.{append, HasRisen, IsFront}
+use Rattle.pbf_frame.specs.Devices.{append, IsFront}
 use Rattle.pbf_frame.specs.Frames.{FrameSpec, frame_kind, frame_payload, frame_payload_at}
 use Rattle.pbf_frame.specs.Verdict.{Verdict, with_first_known, Says}
 use Rattle.osm_text.specs.EntityText.{entity_line}
 use Rattle.osm_text.specs.HeaderText.{header_text}
-use Rattle.pbfcut.specs.Judged.{payload_fault, fully_known}
+use Rattle.pbfcut.specs.Judged.{payload_fault}
 
 -- ---- the text
 
@@ -45,40 +43,11 @@ Shown dates known old new = (frames : List FrameSpec) × Says known (frames, Non
 abbrev pub ShowsFront : Bool → Option Verdict → Option (List ℕ) → Option (List ℕ) → Type 0
 ShowsFront dates known old new = (all : Verdict) → known ≡ Some all → IsFront old new (answer_text dates all)
 
--- the bytes of two feeds aren't the same
-abbrev pub Differ : Option (List ℕ) → Option (List ℕ) → Type 0
-Differ first second = (b c : List ℕ) → first ≡ Some b → second ≡ Some c → b ≡ c → ⊥
-
--- each stop has its cause: the first fault of the first feed's file, and then nothing went out; a failure of a feed or of the
--- drain; memory; or that the second feed's bytes aren't those of the first
-abbrev pub ShowStops : Option (List ℕ) → Option (List ℕ) → Option Verdict → (read wrote : Type 0) → Option (List ℕ) → Option (List ℕ) → Stop → Type 0
-ShowStops first second known read wrote old new (Refused e) = ((frames : List FrameSpec) × Says known (frames, Some e)) × (new ≡ old)
-ShowStops first second known read wrote old new Read = read
-ShowStops first second known read wrote old new Write = wrote
-ShowStops first second known read wrote old new Memory = Unit {0}
-ShowStops first second known read wrote old new (Changed pass) = (pass ≡ 2) × Differ first second
-
--- a fault that the pass of this number meets behind the first is a change
-abbrev pub as_change : ℕ → Stop → Stop
-as_change number (Refused e) = Changed number
-as_change number Read = Read
-as_change number Write = Write
-as_change number Memory = Memory
-as_change number (Changed pass) = Changed pass
-
 -- ---- the pass that writes
 
 -- a beginning of the text of the frames before the first fault went out
 abbrev pub WritesFront : Bool → Option Verdict → Option (List ℕ) → Option (List ℕ) → Type 0
 WritesFront dates known old new = (all : Verdict) → known ≡ Some all → IsFront old new (file_text dates all.0)
-
--- each stop has its cause; a refusal is the first fault of the file
-abbrev pub WriteStops : Option Verdict → (before now drain_before drain_now : ℕ) → Stop → Type 0
-WriteStops known before now drain_before drain_now (Refused e) = (frames : List FrameSpec) × Says known (frames, Some e)
-WriteStops known before now drain_before drain_now Read = HasRisen before now
-WriteStops known before now drain_before drain_now Write = HasRisen drain_before drain_now
-WriteStops known before now drain_before drain_now Memory = Unit {0}
-WriteStops known before now drain_before drain_now (Changed pass) = ⊥
 
 -- ---- one frame of it
 
@@ -91,22 +60,8 @@ TookText dates old_verdict verdict old new false = Says old_verdict ([], None) �
 abbrev pub StoppedInText : Bool → Option Verdict → Option (List ℕ) → Option (List ℕ) → Type 0
 StoppedInText dates known old new = (new ≡ old) ⊎ ((f : FrameSpec) × (rest : Option Verdict) × (known ≡ with_first_known f rest) × (payload_fault f ≡ None) × IsFront old new (frame_text dates f))
 
-abbrev pub TextStops : Option Verdict → (before now drain_before drain_now : ℕ) → Stop → Type 0
-TextStops known before now drain_before drain_now (Refused e) = Says (fully_known known) ([], Some e)
-TextStops known before now drain_before drain_now Read = HasRisen before now
-TextStops known before now drain_before drain_now Write = HasRisen drain_before drain_now
-TextStops known before now drain_before drain_now Memory = Unit {0}
-TextStops known before now drain_before drain_now (Changed pass) = ⊥
-
 -- ---- one payload
 
 -- of a payload with a fault nothing went out, else a beginning of its text
 abbrev pub StoppedInPayload : Option Fault → List ℕ → Option (List ℕ) → Option (List ℕ) → Type 0
 StoppedInPayload fault text old new = (new ≡ old) ⊎ ((fault ≡ None) × IsFront old new text)
-
-abbrev pub PayloadStops : Option Fault → (drain_before drain_now : ℕ) → Stop → Type 0
-PayloadStops fault drain_before drain_now (Refused e) = fault ≡ Some e
-PayloadStops fault drain_before drain_now Read = ⊥
-PayloadStops fault drain_before drain_now Write = HasRisen drain_before drain_now
-PayloadStops fault drain_before drain_now Memory = Unit {0}
-PayloadStops fault drain_before drain_now (Changed pass) = ⊥

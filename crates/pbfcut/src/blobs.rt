@@ -5,7 +5,8 @@ ghost use Rattle.pbf_frame.specs.Frames.{FrameSpec};
 ghost use Rattle.pbf_frame.specs.Verdict.{judged_known};
 ghost use Rattle.pbf_frame.specs.Next.{Shows, IsReading, place_of, verdict};
 ghost use Rattle.pbfcut.specs.Blobs.{line, shown_name, shown_length};
-ghost use Rattle.pbfcut.specs.Listing.{Lists, ListsFront, ListStops, TookLine, StoppedIn, LineStops};
+ghost use Rattle.pbfcut.specs.Listing.{Lists, ListsFront, ListsToFault, TookLine, StoppedIn, StopsAtFault};
+ghost use Rattle.pbfcut.specs.Stops.{Caused, unchanged, ReadFailed, WriteFailed};
 
 use osm_text::{put_number, put_quoted};
 use pbf_frame::{Drain, Feed, Frame, FrameKind, FrameReader, Stop, write_all};
@@ -57,7 +58,7 @@ fn step_line<F: Feed, D: Drain>(
     requires { IsReading reader.old }
     ensures took { IfOk result (TookLine (verdict F.remaining reader.old) (verdict F.remaining reader.new) (D.taken drain.old) (D.taken drain.new)) }
     ensures stopped { OnErr result (StoppedIn (verdict F.remaining reader.old) (D.taken drain.old) (D.taken drain.new)) }
-    ensures stops { IfErr result (LineStops (verdict F.remaining reader.old) (D.taken drain.old) (D.taken drain.new) (F.failures reader.old.feed) (F.failures reader.new.feed) (D.failures drain.old) (D.failures drain.new)) }
+    ensures stops { IfErr result (Caused (StopsAtFault (verdict F.remaining reader.old) (D.taken drain.old) (D.taken drain.new)) (ReadFailed F.Feed reader.old.feed reader.new.feed) (WriteFailed D.Drain drain.old drain.new) unchanged) }
     ensures rises { IfOk result (λ more. IsTrue more → place_of reader.old < place_of reader.new) }
     ensures reading { IfOk result (λ more. IsTrue more → IsReading reader.new) }
     ensures limited { place_of reader.new ≤ 2 ^ 62 }
@@ -84,7 +85,7 @@ fn list_all<F: Feed, D: Drain>(
     requires start { place_of reader.old ≡ 0 }
     ensures listed { IfOk result (Lists (verdict F.remaining reader.old) (D.taken drain.old) (D.taken drain.new)) }
     ensures beginning { OnErr result (ListsFront (verdict F.remaining reader.old) (D.taken drain.old) (D.taken drain.new)) }
-    ensures stops { IfErr result (ListStops (verdict F.remaining reader.old) (D.taken drain.old) (D.taken drain.new) (F.failures reader.old.feed) (F.failures reader.new.feed) (D.failures drain.old) (D.failures drain.new)) }
+    ensures stops { IfErr result (Caused (ListsToFault (verdict F.remaining reader.old) (D.taken drain.old) (D.taken drain.new)) (ReadFailed F.Feed reader.old.feed reader.new.feed) (WriteFailed D.Drain drain.old drain.new) unchanged) }
     ensures counts { F.failures reader.old.feed ≤ F.failures reader.new.feed }
     ensures lender { F.lender reader.new.feed ≡ F.lender reader.old.feed }
 {
@@ -109,7 +110,7 @@ pub fn list_blobs<F: Feed, D: Drain>(
 ) -> Result<u64, Stop>
     ensures listed { IfOk result (Lists (judged_known false 0 (F.remaining feed.old)) (D.taken drain.old) (D.taken drain.new)) }
     ensures beginning { OnErr result (ListsFront (judged_known false 0 (F.remaining feed.old)) (D.taken drain.old) (D.taken drain.new)) }
-    ensures stops { IfErr result (ListStops (judged_known false 0 (F.remaining feed.old)) (D.taken drain.old) (D.taken drain.new) (F.failures feed.old) (F.failures feed.new) (D.failures drain.old) (D.failures drain.new)) }
+    ensures stops { IfErr result (Caused (ListsToFault (judged_known false 0 (F.remaining feed.old)) (D.taken drain.old) (D.taken drain.new)) (ReadFailed F.Feed feed.old feed.new) (WriteFailed D.Drain drain.old drain.new) unchanged) }
 {
     let mut reader = FrameReader::new(alloc, &mut *feed);
     let outcome = list_all(alloc, &mut reader, drain);

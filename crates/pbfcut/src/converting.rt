@@ -1,19 +1,17 @@
 //! `convert`: all entities, in canonical form.
 
-ghost use Rattle.std.specs.Prelude.{◌≡◌, ◌⊎◌, ℕ, List, Some, None, IfOk, IfErr, IfSome, OnOk, OnErr};
-ghost use Rattle.sha2.specs.Sha256.{sha256};
-ghost use Rattle.pbf_frame.specs.Devices.{HasRisen, IsFront};
-ghost use Rattle.pbfcut.specs.Calls.{BothSupply, SameDigest, Converted};
+ghost use Rattle.std.specs.Prelude.{◌⊎◌, ℕ, List, IfOk, IfErr, OnOk, OnErr};
+ghost use Rattle.pbf_frame.specs.Devices.{IsFront};
+ghost use Rattle.pbfcut.specs.Calls.{BothSupply, Converted, RefusedFirst, ChangedIn};
 ghost use Rattle.pbfcut.specs.Converting.{CanBeWritten, judged_writable};
 ghost use Rattle.pbfcut.specs.Kept.{conversion_of};
-ghost use Rattle.pbfcut.specs.Judged.{judged_file};
-ghost use Rattle.pbfcut.specs.Showing.{ShowStops};
-ghost use Rattle.pbfcut.specs.Steps.{CountsFile};
+ghost use Rattle.pbfcut.specs.Repeat.{SameDigest};
+ghost use Rattle.pbfcut.specs.Stops.{Caused, ReadFailed, WriteFailed};
 
 use crate::header_limit::writable_header;
-use crate::later::later_pack;
-use crate::passes::pass_count;
-use crate::picking::Selection;
+use crate::pass::{Nothing, judge};
+use crate::pick::{Selection, Writing};
+use crate::repeat::Repeat;
 use pbf_block::Counts;
 use pbf_frame::{Drain, Feed, Stop};
 use std::alloc::Global;
@@ -43,22 +41,21 @@ pub fn convert<F: Feed, G: Feed, D: Drain, S: BuildHasher + Drop>(
     // No files that differ, unless two unlike lists share a digest.
     ensures digests { OnOk result (SameDigest (F.remaining first.old) (G.remaining second.old)) }
     // Each stop has its cause; what is refused is the first file, by its first fault, and then the drain took nothing.
-    ensures stops { IfErr result (ShowStops (F.remaining first.old) (G.remaining second.old) (judged_writable (F.remaining first.old))
-        (HasRisen (F.failures first.old) (F.failures first.new) ⊎ HasRisen (G.failures second.old) (G.failures second.new))
-        (HasRisen (D.failures drain.old) (D.failures drain.new)) (D.taken drain.old) (D.taken drain.new)) }
+    ensures stops { IfErr result (Caused (RefusedFirst (judged_writable (F.remaining first.old)) (D.taken drain.old) (D.taken drain.new))
+        (ReadFailed F.Feed first.old first.new ⊎ ReadFailed G.Feed second.old second.new)
+        (WriteFailed D.Drain drain.old drain.new)
+        (ChangedIn 2 (F.remaining first.old) (G.remaining second.old))) }
     // Whatever stopped it, where both feeds supply these bytes a beginning of their conversion went out, and nothing where they have a fault.
     ensures beginning { OnErr result ((b : List ℕ) → BothSupply b (F.remaining first.old) (G.remaining second.old) → IsFront (D.taken drain.old) (D.taken drain.new) (conversion_of b)) }
 {
-    let told = pass_count(alloc, first)?;
-    let header = writable_header(&told.0)?;
-    later_pack(
-        alloc,
-        second,
-        drain,
-        hasher,
-        header,
-        Selection::Everything,
-        told.1,
-        2,
-    )
+    let told = judge(alloc, first, &mut Nothing)?;
+    let writing = Writing {
+        header: writable_header(&told.pass)?,
+        selection: Selection::Everything,
+    };
+    let last = Repeat {
+        number: 2,
+        digest: told.digest,
+    };
+    last.write(alloc, second, drain, hasher, writing)
 }

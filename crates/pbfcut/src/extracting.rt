@@ -1,64 +1,79 @@
-//! `extract`: the complete-ways extract of a box, in canonical form.
+//! `extract` and `extract_parents`: what a box cuts out of a file, in canonical form.
 
-ghost use Rattle.std.specs.Prelude.{◌≡◌, ◌⊎◌, ◌≤◌, ◌+◌, ℕ, List, Some, None, IfOk, IfErr, IfSome, OnOk, OnErr};
-ghost use Rattle.sha2.specs.Sha256.{sha256};
-ghost use Rattle.osm_entity.specs.Ranges.{IsInt64};
-ghost use Rattle.osm_entity.specs.Weight.{text_weight};
-ghost use Rattle.pbf_block.specs.Header.{header_of};
-ghost use Rattle.pbf_block.specs.WrittenHeader.{edges_of, EdgesTyped};
-ghost use Rattle.pbf_frame.specs.Devices.{HasRisen, IsFront};
-ghost use Rattle.pbfcut.specs.Converting.{CanBeWritten, judged_writable};
+ghost use Rattle.std.specs.Prelude.{◌⊎◌, ℕ, List, IfOk, IfErr, OnOk, OnErr};
+ghost use Rattle.osm_ways.specs.Parents.{extract_with_parents};
 ghost use Rattle.osm_ways.specs.Seen.{seen_decoded};
 ghost use Rattle.osm_ways.specs.Selection.{extract};
-ghost use Rattle.pbfcut.specs.Calls.{AllSupply, Extracted, SameDigest, ExtractStops, ChangedBefore, ChangedLast, ChooseStops};
-ghost use Rattle.pbfcut.specs.Extracting.{complete_ways, Chooses};
+ghost use Rattle.pbf_block.specs.Header.{header_of};
+ghost use Rattle.pbf_block.specs.WrittenHeader.{edges_of, EdgesTyped};
+ghost use Rattle.pbf_frame.specs.Devices.{IsFront};
+ghost use Rattle.pbfcut.specs.Calls.{AllSupply, FourSupply, Extracted, RefusedFirst, ChangedIn, ChangedBefore};
+ghost use Rattle.pbfcut.specs.Converting.{CanBeWritten, judged_writable};
+ghost use Rattle.pbfcut.specs.Extracting.{complete_ways, all_parents, IsChoice, IsChoiceWithParents};
 ghost use Rattle.pbfcut.specs.Kept.{extract_of};
-ghost use Rattle.pbfcut.specs.Judged.{judged_file};
-ghost use Rattle.pbfcut.specs.Showing.{Differ};
+ghost use Rattle.pbfcut.specs.Repeat.{SameDigest};
+ghost use Rattle.pbfcut.specs.Stops.{Caused, FaultOf, ReadFailed, WriteFailed};
 
 use crate::header_limit::writable_header;
-use crate::later::{later_gather, later_pack};
-use crate::passes::pass_gather;
-use crate::picking::Selection;
+use crate::pass::judge;
+use crate::pick::{Selection, Writing};
+use crate::repeat::Repeat;
 use osm_entity::BoundingBox;
-use osm_ways::{Chosen, NodePhase};
+use osm_ways::{Chosen, ChosenParents, NodePhase};
 use pbf_block::{Counts, Header};
 use pbf_frame::{Drain, Feed, Stop};
 use std::alloc::Global;
 use std::hash::BuildHasher;
 
-/// A number's type, in the words of the format: what is written of a box is read as its edges.
-fn is_int64(number: i64)
-    ensures { IsInt64 number }
+/// What the passes before the one that writes tell.
+#[derive(Drop)]
+struct Choice {
+    /// What is kept.
+    chosen: Chosen,
+    /// The header that is written.
+    header: Header,
+    /// The digest of the first pass.
+    digest: [u8; 32],
+}
+
+/// The same with all parents.
+#[derive(Drop)]
+struct ChoiceWithParents {
+    chosen: ChosenParents,
+    header: Header,
+    digest: [u8; 32],
+}
+
+/// The edges of a box are numbers of the format. This does nothing: it is a law, called where a proof needs it.
+fn edges_are_typed(area: BoundingBox)
+    ensures { EdgesTyped (edges_of area) }
 {}
 
 /// The passes before the one that writes: the first judges the file and takes the nodes of the box, the second takes the ways.
-/// Answers what was chosen, the header that is written, and the digest of the first pass.
-pub(crate) fn choose<F: Feed, G: Feed>(
+fn choose<F: Feed, G: Feed>(
     alloc: Global,
     first: &mut F,
     second: &mut G,
     area: BoundingBox,
-) -> Result<(Chosen, Header, [u8; 32]), Stop>
-    ensures chosen { IfOk result (λ told. Chooses area (judged_file (F.remaining first.old)) (judged_file (G.remaining second.old)) told.0 (header_of told.1)) }
-    ensures typed { OnOk result (EdgesTyped (edges_of area)) }
-    ensures short { IfOk result (λ told. text_weight (header_of told.1).source + text_weight (header_of told.1).url ≤ 12000000) }
-    ensures digest { IfOk result (λ told. IfSome (F.remaining first.old) (λ bytes. told.2 ≡ sha256 bytes)) }
-    ensures digests { OnOk result (SameDigest (F.remaining first.old) (G.remaining second.old)) }
-    ensures stops { IfErr result (ChooseStops (judged_writable (F.remaining first.old))
-        (HasRisen (F.failures first.old) (F.failures first.new) ⊎ HasRisen (G.failures second.old) (G.failures second.new))
-        (λ pass. (pass ≡ 2) × Differ (F.remaining first.old) (G.remaining second.old))) }
+) -> Result<Choice, Stop>
+    ensures chosen { IfOk result (λ choice. IsChoice area (F.remaining first.old) (G.remaining second.old) choice.chosen (header_of choice.header) choice.digest) }
+    ensures stops { IfErr result (Caused (FaultOf (judged_writable (F.remaining first.old)))
+        (ReadFailed F.Feed first.old first.new ⊎ ReadFailed G.Feed second.old second.new) ⊥
+        (ChangedIn 2 (F.remaining first.old) (G.remaining second.old))) }
 {
-    is_int64(area.left);
-    is_int64(area.right);
-    is_int64(area.top);
-    is_int64(area.bottom);
+    edges_are_typed(area);
     let mut nodes = NodePhase::new(alloc, area);
-    let told = pass_gather(alloc, first, &mut nodes)?;
-    let header = writable_header(&told.0)?.for_box(alloc, area)?;
+    let told = judge(alloc, first, &mut nodes)?;
+    let header = writable_header(&told.pass)?.for_box(alloc, area)?;
+    let digest = told.digest;
     let mut ways = nodes.end_nodes()?;
-    later_gather(alloc, second, &mut ways, told.1, 2)?;
-    Ok((ways.end_ways()?, header, told.1))
+    Repeat { number: 2, digest }.gather(alloc, second, &mut ways)?;
+    let chosen = ways.end_ways()?;
+    Ok(Choice {
+        chosen,
+        header,
+        digest,
+    })
 }
 
 /// Writes the complete-ways extract of the box, in canonical form: the nodes in the box, the ways with at least one of these nodes
@@ -91,23 +106,91 @@ pub fn extract<F: Feed, G: Feed, H: Feed, D: Drain, S: BuildHasher + Drop>(
     // No files that differ, unless two unlike lists share a digest.
     ensures digests { OnOk result (SameDigest (F.remaining first.old) (G.remaining second.old) × SameDigest (F.remaining first.old) (H.remaining third.old)) }
     // Each stop has its cause; what is refused is the first file, by its first fault, and then the drain took nothing.
-    ensures stops { IfErr result (ExtractStops (judged_writable (F.remaining first.old))
-        (HasRisen (F.failures first.old) (F.failures first.new) ⊎ (HasRisen (G.failures second.old) (G.failures second.new) ⊎ HasRisen (H.failures third.old) (H.failures third.new)))
-        (HasRisen (D.failures drain.old) (D.failures drain.new))
-        (λ pass. ChangedBefore 2 (F.remaining first.old) (G.remaining second.old) (D.taken drain.old) (D.taken drain.new) pass ⊎ ChangedLast 3 (F.remaining first.old) (H.remaining third.old) pass)
-        (D.taken drain.old) (D.taken drain.new)) }
+    ensures stops { IfErr result (Caused (RefusedFirst (judged_writable (F.remaining first.old)) (D.taken drain.old) (D.taken drain.new))
+        (ReadFailed F.Feed first.old first.new ⊎ (ReadFailed G.Feed second.old second.new ⊎ ReadFailed H.Feed third.old third.new))
+        (WriteFailed D.Drain drain.old drain.new)
+        (λ pass. ChangedBefore 2 (F.remaining first.old) (G.remaining second.old) (D.taken drain.old) (D.taken drain.new) pass ⊎ ChangedIn 3 (F.remaining first.old) (H.remaining third.old) pass)) }
     // Whatever stopped it, where all feeds supply these bytes a beginning of the answer went out, and nothing where they have a fault.
     ensures beginning { OnErr result ((b : List ℕ) → AllSupply b (F.remaining first.old) (G.remaining second.old) (H.remaining third.old) → IsFront (D.taken drain.old) (D.taken drain.new) (extract_of (complete_ways area) area b)) }
 {
-    let told = choose(alloc, first, second, area)?;
-    later_pack(
-        alloc,
-        third,
-        drain,
-        hasher,
-        &told.1,
-        Selection::Ways(&told.0),
-        told.2,
-        3,
-    )
+    let choice = choose(alloc, first, second, area)?;
+    let writing = Writing {
+        header: &choice.header,
+        selection: Selection::Ways(&choice.chosen),
+    };
+    let last = Repeat {
+        number: 3,
+        digest: choice.digest,
+    };
+    last.write(alloc, third, drain, hasher, writing)
+}
+
+/// The passes before the one that writes: over nodes and ways as without parents, and a third that takes the relations.
+fn choose_parents<F: Feed, G: Feed, H: Feed>(
+    alloc: Global,
+    first: &mut F,
+    second: &mut G,
+    third: &mut H,
+    area: BoundingBox,
+) -> Result<ChoiceWithParents, Stop>
+    ensures chosen { IfOk result (λ choice. IsChoiceWithParents area (F.remaining first.old) (G.remaining second.old) (H.remaining third.old) choice.chosen (header_of choice.header) choice.digest) }
+    ensures stops { IfErr result (Caused (FaultOf (judged_writable (F.remaining first.old)))
+        (ReadFailed F.Feed first.old first.new ⊎ (ReadFailed G.Feed second.old second.new ⊎ ReadFailed H.Feed third.old third.new)) ⊥
+        (λ pass. ChangedIn 2 (F.remaining first.old) (G.remaining second.old) pass ⊎ ChangedIn 3 (F.remaining first.old) (H.remaining third.old) pass)) }
+{
+    let choice = choose(alloc, first, second, area)?;
+    let digest = choice.digest;
+    let mut relations = choice.chosen.with_parents();
+    Repeat { number: 3, digest }.gather(alloc, third, &mut relations)?;
+    let chosen = relations.end_relations()?;
+    Ok(ChoiceWithParents {
+        chosen,
+        header: choice.header,
+        digest,
+    })
+}
+
+/// Writes the complete-ways extract of the box with all parents, as [`extract`] does, with all relations besides that have a
+/// kept relation among their members, at any depth.
+///
+/// There is one pass more, the third, which takes the relations; the fourth feed is written from. Nothing is written before the
+/// third pass has ended with the digest of the first, so nothing is written where it ends with `Changed(2)` or `Changed(3)`. All
+/// else is as there.
+///
+/// Space: besides that of [`extract`], the ids of the relations, and a link for each member that is a relation.
+pub fn extract_parents<F: Feed, G: Feed, H: Feed, I: Feed, D: Drain, S: BuildHasher + Drop>(
+    alloc: Global,
+    first: &mut F,
+    second: &mut G,
+    third: &mut H,
+    fourth: &mut I,
+    area: BoundingBox,
+    drain: &mut D,
+    hasher: S,
+) -> Result<Counts, Stop>
+    // The first file has no fault, and its header can be written.
+    ensures judged { OnOk result (CanBeWritten (judged_writable (F.remaining first.old))) }
+    // Where all feeds supply these bytes, the drain took exactly the complete-ways extract with all parents of the decoded bytes, in
+    // input order and in canonical form, behind the header of the box; the counts are those of its entities.
+    ensures extracted { IfOk result (λ counts. (b : List ℕ) → FourSupply b (F.remaining first.old) (G.remaining second.old) (H.remaining third.old) (I.remaining fourth.old) → Extracted (all_parents area) (extract_with_parents (seen_decoded area)) area b counts (D.taken drain.old) (D.taken drain.new)) }
+    // No files that differ, unless two unlike lists share a digest.
+    ensures digests { OnOk result (SameDigest (F.remaining first.old) (G.remaining second.old) × SameDigest (F.remaining first.old) (H.remaining third.old) × SameDigest (F.remaining first.old) (I.remaining fourth.old)) }
+    // Each stop has its cause; what is refused is the first file, by its first fault, and then the drain took nothing.
+    ensures stops { IfErr result (Caused (RefusedFirst (judged_writable (F.remaining first.old)) (D.taken drain.old) (D.taken drain.new))
+        ((ReadFailed F.Feed first.old first.new ⊎ (ReadFailed G.Feed second.old second.new ⊎ ReadFailed H.Feed third.old third.new)) ⊎ ReadFailed I.Feed fourth.old fourth.new)
+        (WriteFailed D.Drain drain.old drain.new)
+        (λ pass. (ChangedBefore 2 (F.remaining first.old) (G.remaining second.old) (D.taken drain.old) (D.taken drain.new) pass ⊎ ChangedBefore 3 (F.remaining first.old) (H.remaining third.old) (D.taken drain.old) (D.taken drain.new) pass) ⊎ ChangedIn 4 (F.remaining first.old) (I.remaining fourth.old) pass)) }
+    // Whatever stopped it, where all feeds supply these bytes a beginning of the answer went out, and nothing where they have a fault.
+    ensures beginning { OnErr result ((b : List ℕ) → FourSupply b (F.remaining first.old) (G.remaining second.old) (H.remaining third.old) (I.remaining fourth.old) → IsFront (D.taken drain.old) (D.taken drain.new) (extract_of (all_parents area) area b)) }
+{
+    let choice = choose_parents(alloc, first, second, third, area)?;
+    let writing = Writing {
+        header: &choice.header,
+        selection: Selection::Parents(&choice.chosen),
+    };
+    let last = Repeat {
+        number: 4,
+        digest: choice.digest,
+    };
+    last.write(alloc, fourth, drain, hasher, writing)
 }

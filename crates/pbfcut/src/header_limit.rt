@@ -1,12 +1,14 @@
 //! The limit of the header that is written.
 
-ghost use Rattle.std.specs.Prelude.{◌≡◌, ◌≤◌, ◌+◌, Some, None, IfOk, IfErr};
+ghost use Rattle.std.specs.Prelude.{◌≡◌, Some, None, IfOk, IfErr};
 ghost use Rattle.std.specs.Option.{option_map};
 ghost use Rattle.osm_entity.specs.Weight.{text_weight};
 ghost use Rattle.pbf_block.specs.Header.{header_of, text_of};
-ghost use Rattle.pbfcut.specs.Converting.{is_short, held_header, header_limit, IsLimit};
+ghost use Rattle.pbfcut.specs.Pick.{IsShort};
+ghost use Rattle.pbfcut.specs.Stops.{Caused, Only, unchanged};
+ghost use Rattle.pbfcut.specs.Converting.{is_short, held_header, header_limit};
 
-use crate::counts::Pass;
+use crate::pass::Pass;
 use pbf_block::Header;
 use pbf_frame::Stop;
 use pbf_wire::{Fault, Reason};
@@ -18,8 +20,8 @@ const MOST_HEADER_TEXT: u64 = 12_000_000;
 pub(crate) fn writable_header(pass: &Pass) -> Result<&Header, Stop>
     ensures header { IfOk result (λ header. held_header pass.now ≡ Some (pass.now.header_at, header_of header.now)) }
     ensures within { IfOk result (λ header. header_limit (held_header pass.now) ≡ None) }
-    ensures short { IfOk result (λ header. text_weight (header_of header.now).source + text_weight (header_of header.now).url ≤ 12000000) }
-    ensures refused { IfErr result (IsLimit (header_limit (held_header pass.now))) }
+    ensures short { IfOk result (λ header. IsShort (header_of header.now)) }
+    ensures refused { IfErr result (Caused (Only (header_limit (held_header pass.now))) ⊥ ⊥ unchanged) }
 {
     let Some(header) = &pass.header else {
         // A file without a fault has a header.

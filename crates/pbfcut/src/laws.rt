@@ -19,7 +19,7 @@ ghost use Rattle.pbfcut.specs.Counting.{decoded};
 ghost use Rattle.pbfcut.specs.Extracting.{complete_ways, all_parents};
 ghost use Rattle.pbfcut.specs.Judged.{judged_file};
 ghost use Rattle.pbfcut.specs.Kept.{IsWritable, conversion_of, extract_of, IsConversion, IsExtract};
-ghost use Rattle.pbfcut.specs.Steps.{file_header};
+ghost use Rattle.pbfcut.specs.Pass.{file_header};
 
 /// A file that is written is read back: where it is at most 2^62 bytes long, it has no fault of any phase, its header is the
 /// header that was written, and its entities are those that were written.

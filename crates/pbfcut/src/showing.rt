@@ -2,22 +2,24 @@
 
 ghost use Rattle.std.specs.Prelude.{false, ◌≡◌, ◌+◌, ◌<◌, ◌≤◌, ◌^◌, ◌⊎◌, ℕ, List, None, Some, IsTrue, IfOk, IfErr, IfSome, OnOk, OnErr, length};
 ghost use Rattle.std.specs.List.{flat_map};
-ghost use Rattle.sha2.specs.Sha256.{sha256};
 ghost use Rattle.osm_entity.specs.Views.{entity_of};
 ghost use Rattle.pbf_block.specs.Cursors.{entities_left};
 ghost use Rattle.pbf_block.specs.Header.{header_in};
 ghost use Rattle.osm_text.specs.HeaderText.{header_text};
 ghost use Rattle.pbf_frame.specs.declared.frame.FrameKind.TheVariants as kind;
-ghost use Rattle.pbf_frame.specs.Devices.{IsAtEnd, IsFront, HasRisen, append};
+ghost use Rattle.pbf_frame.specs.Devices.{IsAtEnd, IsFront, append};
 ghost use Rattle.pbf_frame.specs.Next.{IsReading, place_of, verdict};
 ghost use Rattle.osm_text.specs.EntityText.{entity_line};
 ghost use Rattle.pbfcut.specs.Judged.{payload_fault_of, fully_known, judged_file};
-ghost use Rattle.pbfcut.specs.Showing.{payload_text, Shown, ShowsFront, ShowStops, WritesFront, WriteStops, TookText, StoppedInText, TextStops, StoppedInPayload, PayloadStops};
-ghost use Rattle.pbfcut.specs.Steps.{CountsFile};
+ghost use Rattle.pbfcut.specs.Showing.{payload_text, Shown, ShowsFront, WritesFront, TookText, StoppedInText, StoppedInPayload};
+ghost use Rattle.pbfcut.specs.Calls.{RefusedFirst, ChangedIn};
+ghost use Rattle.pbfcut.specs.Pass.{CountsFile, IsDigest};
+ghost use Rattle.pbfcut.specs.Repeat.{SameDigest};
+ghost use Rattle.pbfcut.specs.Stops.{Caused, FaultOf, FaultNext, Only, unchanged, ReadFailed, WriteFailed};
 
 use crate::hashed::Hashed;
-use crate::later::changed;
-use crate::passes::pass_count;
+use crate::pass::{Nothing, judge};
+use crate::repeat::Repeat;
 use osm_entity::EntityRef;
 use osm_text::{put_entity, put_header};
 use pbf_block::{Block, Counts, Entities, Header};
@@ -33,7 +35,7 @@ fn write_entity<D: Drain>(
 ) -> Result<(), Stop>
     ensures shown { OnOk result (D.taken drain.new ≡ append (D.taken drain.old) (entity_line dates (entity_of entity.now))) }
     ensures front { IsFront (D.taken drain.old) (D.taken drain.new) (entity_line dates (entity_of entity.now)) }
-    ensures stops { IfErr result (PayloadStops None (D.failures drain.old) (D.failures drain.new)) }
+    ensures stops { IfErr result (Caused (Only None) ⊥ (WriteFailed D.Drain drain.old drain.new) unchanged) }
     ensures drain_counts { D.failures drain.old ≤ D.failures drain.new }
 {
     text.clear();
@@ -51,7 +53,7 @@ fn write_entities<D: Drain>(
 ) -> Result<(), Stop>
     ensures shown { OnOk result (D.taken drain.new ≡ append (D.taken drain.old) (flat_map (entity_line dates) (entities_left entities.entry))) }
     ensures front { OnErr result (IsFront (D.taken drain.old) (D.taken drain.new) (flat_map (entity_line dates) (entities_left entities.entry))) }
-    ensures stops { IfErr result (PayloadStops None (D.failures drain.old) (D.failures drain.new)) }
+    ensures stops { IfErr result (Caused (Only None) ⊥ (WriteFailed D.Drain drain.old drain.new) unchanged) }
     ensures drain_counts { D.failures drain.old ≤ D.failures drain.new }
 {
     for entity in entities {
@@ -72,7 +74,7 @@ fn write_header<D: Drain>(
     ensures shown { OnOk result (D.taken drain.new ≡ append (D.taken drain.old) (header_text (header_in at payload.now))) }
     ensures sound { OnOk result (payload_fault_of kind.Header at payload.now ≡ None) }
     ensures stopped { OnErr result (StoppedInPayload (payload_fault_of kind.Header at payload.now) (header_text (header_in at payload.now)) (D.taken drain.old) (D.taken drain.new)) }
-    ensures stops { IfErr result (PayloadStops (payload_fault_of kind.Header at payload.now) (D.failures drain.old) (D.failures drain.new)) }
+    ensures stops { IfErr result (Caused (Only (payload_fault_of kind.Header at payload.now)) ⊥ (WriteFailed D.Drain drain.old drain.new) unchanged) }
     ensures drain_counts { D.failures drain.old ≤ D.failures drain.new }
 {
     let header = Header::read(alloc, payload, at)?;
@@ -96,7 +98,7 @@ fn write_block<D: Drain>(
     ensures shown { OnOk result (D.taken drain.new ≡ append (D.taken drain.old) (payload_text dates kind.Data at payload.now)) }
     ensures sound { OnOk result (payload_fault_of kind.Data at payload.now ≡ None) }
     ensures stopped { OnErr result (StoppedInPayload (payload_fault_of kind.Data at payload.now) (payload_text dates kind.Data at payload.now) (D.taken drain.old) (D.taken drain.new)) }
-    ensures stops { IfErr result (PayloadStops (payload_fault_of kind.Data at payload.now) (D.failures drain.old) (D.failures drain.new)) }
+    ensures stops { IfErr result (Caused (Only (payload_fault_of kind.Data at payload.now)) ⊥ (WriteFailed D.Drain drain.old drain.new) unchanged) }
     ensures drain_counts { D.failures drain.old ≤ D.failures drain.new }
 {
     let block = Block::read(alloc, payload, at)?;
@@ -115,7 +117,7 @@ fn write_payload<D: Drain>(
     ensures shown { OnOk result (D.taken drain.new ≡ append (D.taken drain.old) (payload_text dates frame.now.kind frame.now.payload_at frame.now.payload.now)) }
     ensures sound { OnOk result (payload_fault_of frame.now.kind frame.now.payload_at frame.now.payload.now ≡ None) }
     ensures stopped { OnErr result (StoppedInPayload (payload_fault_of frame.now.kind frame.now.payload_at frame.now.payload.now) (payload_text dates frame.now.kind frame.now.payload_at frame.now.payload.now) (D.taken drain.old) (D.taken drain.new)) }
-    ensures stops { IfErr result (PayloadStops (payload_fault_of frame.now.kind frame.now.payload_at frame.now.payload.now) (D.failures drain.old) (D.failures drain.new)) }
+    ensures stops { IfErr result (Caused (Only (payload_fault_of frame.now.kind frame.now.payload_at frame.now.payload.now)) ⊥ (WriteFailed D.Drain drain.old drain.new) unchanged) }
     ensures drain_counts { D.failures drain.old ≤ D.failures drain.new }
 {
     match frame.kind {
@@ -140,7 +142,7 @@ fn step_show<F: Feed, D: Drain>(
     requires { IsReading reader.old }
     ensures took { IfOk result (TookText dates (verdict F.remaining reader.old) (verdict F.remaining reader.new) (D.taken drain.old) (D.taken drain.new)) }
     ensures stopped { OnErr result (StoppedInText dates (verdict F.remaining reader.old) (D.taken drain.old) (D.taken drain.new)) }
-    ensures stops { IfErr result (TextStops (verdict F.remaining reader.old) (F.failures reader.old.feed) (F.failures reader.new.feed) (D.failures drain.old) (D.failures drain.new)) }
+    ensures stops { IfErr result (Caused (FaultNext (fully_known (verdict F.remaining reader.old))) (ReadFailed F.Feed reader.old.feed reader.new.feed) (WriteFailed D.Drain drain.old drain.new) unchanged) }
     ensures end { IfOk result (λ more. more ≡ false → IsAtEnd (F.remaining reader.new.feed)) }
     ensures rises { IfOk result (λ more. IsTrue more → place_of reader.old < place_of reader.new) }
     ensures reading { IfOk result (λ more. IsTrue more → IsReading reader.new) }
@@ -167,7 +169,7 @@ fn show_all<F: Feed, D: Drain>(
     requires { IsReading reader.old }
     ensures shown { OnOk result (Shown dates (fully_known (verdict F.remaining reader.old)) (D.taken drain.old) (D.taken drain.new)) }
     ensures beginning { OnErr result (WritesFront dates (fully_known (verdict F.remaining reader.old)) (D.taken drain.old) (D.taken drain.new)) }
-    ensures stops { IfErr result (WriteStops (fully_known (verdict F.remaining reader.old)) (F.failures reader.old.feed) (F.failures reader.new.feed) (D.failures drain.old) (D.failures drain.new)) }
+    ensures stops { IfErr result (Caused (FaultOf (fully_known (verdict F.remaining reader.old))) (ReadFailed F.Feed reader.old.feed reader.new.feed) (WriteFailed D.Drain drain.old drain.new) unchanged) }
     ensures carries { OnOk result ((b : List ℕ) → F.carries reader.old.feed b → F.carries reader.new.feed b) }
     ensures end { OnOk result (IsAtEnd (F.remaining reader.new.feed)) }
     ensures lender { F.lender reader.new.feed ≡ F.lender reader.old.feed }
@@ -178,7 +180,7 @@ fn show_all<F: Feed, D: Drain>(
 }
 
 /// Writes the text of a whole file, and answers the digest of its bytes.
-fn pass_show<F: Feed, D: Drain>(
+fn write_text<F: Feed, D: Drain>(
     alloc: Global,
     feed: &mut F,
     drain: &mut D,
@@ -186,8 +188,8 @@ fn pass_show<F: Feed, D: Drain>(
 ) -> Result<[u8; 32], Stop>
     ensures shown { OnOk result (Shown dates (judged_file (F.remaining feed.old)) (D.taken drain.old) (D.taken drain.new)) }
     ensures beginning { OnErr result (WritesFront dates (judged_file (F.remaining feed.old)) (D.taken drain.old) (D.taken drain.new)) }
-    ensures digest { IfOk result (λ digest. IfSome (F.remaining feed.old) (λ bytes. digest ≡ sha256 bytes)) }
-    ensures stops { IfErr result (WriteStops (judged_file (F.remaining feed.old)) (F.failures feed.old) (F.failures feed.new) (D.failures drain.old) (D.failures drain.new)) }
+    ensures digest { IfOk result (IsDigest (F.remaining feed.old)) }
+    ensures stops { IfErr result (Caused (FaultOf (judged_file (F.remaining feed.old))) (ReadFailed F.Feed feed.old feed.new) (WriteFailed D.Drain drain.old drain.new) unchanged) }
 {
     let mut reader = FrameReader::new(alloc, Hashed::new(&mut *feed));
     let outcome = show_all(alloc, &mut reader, drain, dates);
@@ -219,23 +221,23 @@ pub fn show<F: Feed, G: Feed, D: Drain>(
     // So where the feeds are alike, it took exactly the text of that file.
     ensures alike { OnOk result (F.remaining first.old ≡ G.remaining second.old → Shown dates (judged_file (F.remaining first.old)) (D.taken drain.old) (D.taken drain.new)) }
     // No files that differ, unless two unlike lists share a digest.
-    ensures digests { OnOk result ((b c : List ℕ) → F.remaining first.old ≡ Some b → G.remaining second.old ≡ Some c → sha256 b ≡ sha256 c) }
+    ensures digests { OnOk result (SameDigest (F.remaining first.old) (G.remaining second.old)) }
     // Each stop has its cause; what is refused is the first file, by its first fault, and then the drain took nothing.
-    ensures stops { IfErr result (ShowStops (F.remaining first.old) (G.remaining second.old) (judged_file (F.remaining first.old))
-        (HasRisen (F.failures first.old) (F.failures first.new) ⊎ HasRisen (G.failures second.old) (G.failures second.new))
-        (HasRisen (D.failures drain.old) (D.failures drain.new)) (D.taken drain.old) (D.taken drain.new)) }
+    ensures stops { IfErr result (Caused (RefusedFirst (judged_file (F.remaining first.old)) (D.taken drain.old) (D.taken drain.new))
+        (ReadFailed F.Feed first.old first.new ⊎ ReadFailed G.Feed second.old second.new)
+        (WriteFailed D.Drain drain.old drain.new)
+        (ChangedIn 2 (F.remaining first.old) (G.remaining second.old))) }
     // Whatever stopped it, where the feeds are alike a beginning of that file's text went out, and nothing where it has a fault.
     ensures beginning { OnErr result (F.remaining first.old ≡ G.remaining second.old → ShowsFront dates (judged_file (F.remaining first.old)) (D.taken drain.old) (D.taken drain.new)) }
 {
-    let told = pass_count(alloc, first)?;
-    match pass_show(alloc, second, drain, dates) {
+    let told = judge(alloc, first, &mut Nothing)?;
+    let digest = told.digest;
+    let last = Repeat { number: 2, digest };
+    match write_text(alloc, second, drain, dates) {
         Ok(digest) => {
-            if digest == told.1 {
-                Ok(told.0.counts)
-            } else {
-                Err(Stop::Changed(2))
-            }
+            last.compare(digest)?;
+            Ok(told.pass.counts)
         }
-        Err(stop) => Err(changed(2, stop)),
+        Err(stop) => Err(last.changed(stop)),
     }
 }

@@ -1,0 +1,31 @@
+use Rattle.std.proofs.Common.{[], ◌∷◌, ◌++◌, ◌∙◌, arith}
+use Rattle.std.proofs.lemmas.Result.{err_from_is_err_and}
+use Rattle.pbf_frame.proofs.VerdictLemmas.{gone_more}
+use Rattle.pbfcut.proofs.GatherLemmas.{gathered_one}
+use Rattle.pbfcut.proofs.StepLemmas.{took_one, stopped_step, loop_stops, fully_first, taken_counts, taken_header}
+use Rattle.pbfcut.proofs.pass.steps.Goals as goal
+
+pub frames-preserved : goal.frames-preserved
+frames-preserved g c =
+    let so_far = c.frames.invariant in
+    let frames = so_far.done.0 in
+    let t = took_one g.F.Feed _ _ _ _ _ _ c.if-branch.true so_far.reading c.in_ok-step.ensures.step in
+    record {
+      done = (
+        frames ++ t.frame ∷ [],
+        gone_more _ _ _ frames t.frame so_far.done.1 (fully_first _ _ t.frame t.is t.taken.sound),
+        taken_counts t.frame _ _ frames t.taken.taken so_far.done.2,
+        taken_header t.frame _ _ frames t.taken.taken so_far.done.3,
+        gathered_one g.G.Gather.gathered frames t.frame _ _ _ so_far.done.4 t.taken.gathered_all,
+      );
+      carries = λ b h. t.carries b (so_far.carries b h);
+      reading = t.reading;
+      counts = omega (arith, so_far.counts, t.keeps.counts);
+      lender = t.keeps.lender ∙ so_far.lender;
+    }
+
+pub returns-in_err-step-clause-stops : goal.returns-in_err-step-clause-stops
+returns-in_err-step-clause-stops g c =
+    let p = err_from_is_err_and c.from_residual.result c.from_residual.ensures.1 in
+    let so_far = c.frames.invariant in
+    rw (p.1, p.2) (loop_stops g.F.Feed _ _ _ _ ⊥ _ so_far.done.0 _ _ so_far.done.1 so_far.counts (λ f s why. why) (stopped_step g.F.Feed _ _ _ _ _ _ so_far.reading c.in_err-step.ensures.step))

@@ -1,0 +1,26 @@
+use Rattle.std.proofs.Common.{◌≡◌, ◌≤◌, ◌-◌, ◌^◌, ℕ, List}
+use Rattle.std.specs.List.{fold}
+use Rattle.pbf_frame.specs.Frames.{FrameSpec}
+use Rattle.pbf_frame.specs.Verdict.{Gone}
+use Rattle.pbf_frame.specs.Next.{verdict, place_of, IsReading}
+use Rattle.pbfcut.specs.Judged.{fully_known}
+use Rattle.pbfcut.specs.Counting.{counts_of, decoded}
+use Rattle.pbfcut.specs.Pass.{HoldsHeader, file_header}
+use Rattle.pbfcut.proofs.pass.steps.Given as goal
+
+-- the frames done are counted, and the verdict is that they come and then those of what is left
+abbrev pub invariant-frames : goal.invariant-frames
+invariant-frames g l =
+    let remaining = g.F.Feed.remaining in
+    let first = l.initial.reader in
+    record {
+      done : (frames : List FrameSpec) × Gone (fully_known (verdict remaining first)) frames (fully_known (verdict remaining l.reader)) × (l.pass.counts ≡ counts_of (decoded frames)) × HoldsHeader (file_header frames) l.pass
+          × (l.gathering ≡ fold g.G.Gather.gathered l.initial.gathering (decoded frames));
+      carries : (b : List ℕ) → g.F.Feed.carries first.feed b → g.F.Feed.carries l.reader.feed b;
+      reading : IsReading l.reader;
+      counts : g.F.Feed.failures first.feed ≤ g.F.Feed.failures l.reader.feed;
+      lender : g.F.Feed.lender l.reader.feed ≡ g.F.Feed.lender first.feed;
+    }
+
+abbrev pub decreases-frames : goal.decreases-frames
+decreases-frames g l = 2 ^ 62 - place_of l.reader

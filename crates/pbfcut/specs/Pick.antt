@@ -1,0 +1,138 @@
+-- Entities that are picked, on their way into the drain.
+use Rattle.std.specs.Prelude.{◌≡◌, ◌⊎◌, ◌≤◌, ℕ, ◌+◌, List, [], ◌++◌, Bool, true, false, Option, Some, None}
+use Rattle.std.specs.FinSet as set
+use Rattle.std.specs.List.{AllByRecursion, filter}
+use Rattle.osm_entity.specs.Entity.{EntitySpec, node, way, relation}
+use Rattle.osm_entity.specs.Ranges.{EntityFits}
+use Rattle.osm_entity.specs.Weight.{text_weight}
+use Rattle.osm_ways.specs.Phases.{WaySets, ParentSets, is_chosen, is_chosen_with_parents}
+use Rattle.osm_ways.specs.Seen.{seen_way, seen_relation}
+use Rattle.osm_pack.specs.Cuts.{written_file, written_entities, pending_after, written_after}
+use Rattle.osm_pack.specs.Packing.{Packing, Pending, IsPacking, has_header}
+use Rattle.pbf_block.specs.Header.{HeaderSpec}
+use Rattle.pbf_block.specs.declared.counts.Counts.{Counts}
+use Rattle.pbf_frame.specs.declared.device.Drain as drain
+use Rattle.pbf_frame.specs.declared.stop.Stop.{Stop}
+use Rattle.pbf_frame.specs.Devices.{append, IsFront}
+use Rattle.pbf_frame.specs.Frames.{FrameSpec, frame_kind, frame_payload, frame_payload_at}
+use Rattle.pbf_frame.specs.Verdict.{Verdict, Says}
+use Rattle.pbf_wire.specs.declared.fault.Fault.{Fault}
+use Rattle.pbfcut.specs.declared.pass.Pass.{Pass}
+use Rattle.pbfcut.specs.declared.pick.Selection.{Selection}
+use Rattle.pbfcut.specs.declared.pick.Selection.TheVariants as selection
+use Rattle.pbfcut.specs.declared.pick.Picker.{Picker}
+use Rattle.pbfcut.specs.declared.pick.Picker.TheVariants as picker
+use Rattle.pbfcut.specs.Counting.{counts_of, decoded, frame_entities}
+use Rattle.pbfcut.specs.Judged.{payload_fault}
+use Rattle.pbfcut.specs.Pass.{TakesSome}
+use Rattle.pbfcut.specs.Stops.{Caused, Only, unchanged, KeepsDrain, WriteFailed}
+
+-- ---- which are picked
+
+abbrev pub Pick : Type 0
+Pick = EntitySpec → Bool
+
+abbrev pub everything : Pick
+everything e = true
+
+-- what the sets keep that nodes and ways gave
+abbrev pub picked_by : WaySets → Pick
+picked_by sets (node n) = set.contains sets.node_ids n.id
+picked_by sets (way w) = is_chosen sets (seen_way w)
+picked_by sets (relation r) = is_chosen sets (seen_relation r)
+
+-- and all parents besides
+abbrev pub picked_with_parents : ParentSets → Pick
+picked_with_parents sets (node n) = set.contains sets.ways.node_ids n.id
+picked_with_parents sets (way w) = is_chosen_with_parents sets (seen_way w)
+picked_with_parents sets (relation r) = is_chosen_with_parents sets (seen_relation r)
+
+unfoldable pub pick_of : Selection → Pick
+pick_of selection.Everything = everything
+pick_of (selection.Ways chosen) = picked_by chosen.now
+pick_of (selection.Parents chosen) = picked_with_parents chosen.now
+
+unfoldable pub picks_of : Picker → Pick
+picks_of picker.Everything = everything
+picks_of (picker.Ways sets) = picked_by sets
+picks_of (picker.Parents sets) = picked_with_parents sets
+
+-- ---- entities on their way
+
+-- these entities were packed since the drain held the first bytes: the closed blocks went out, and the others wait
+pub record HasPacked {D S H : Type 0} (start : Option (List ℕ)) (done : List EntitySpec) (taken : Option (List ℕ)) (packer : Packing D S H) : Type 0 where
+  pub fits : AllByRecursion EntityFits done
+  pub taken_is : taken ≡ append start (written_after [] done)
+  pub pending : Pending packer (pending_after [] done)
+
+-- whatever comes behind these entities, what went out is a beginning of what is written for all
+abbrev pub BeginsAll : Option (List ℕ) → List EntitySpec → Option (List ℕ) → Type 0
+BeginsAll start done taken = (rest : List EntitySpec) → IsFront start taken (written_entities (done ++ rest))
+
+-- these entities were packed behind those that were
+pub record Packs {D S H : Type 0} (before now : Option (List ℕ)) (old new : Packing D S H) (es : List EntitySpec) : Type 0 where
+  pub packed : (start : Option (List ℕ)) (done : List EntitySpec) → HasPacked start done before old → HasPacked start (done ++ es) now new
+
+-- of these entities, behind those that were, a beginning went out
+pub record Begins {D S H : Type 0} (before now : Option (List ℕ)) (old : Packing D S H) (es : List EntitySpec) : Type 0 where
+  pub begun : (start : Option (List ℕ)) (done : List EntitySpec) → HasPacked start done before old → BeginsAll start (done ++ es) now
+
+-- ---- what a call does to a packer
+
+-- a payload without a fault was packed, and the packer goes on
+pub record PacksAll {D S H : Type 0} (d : drain.Ghosts D) (fault : Option Fault) (es : List EntitySpec) (old new : Packing D S H) : Type 0 where
+  pub sound : fault ≡ None
+  pub packs : Packs (d.taken old.drain) (d.taken new.drain) old new es
+  pub going : IsPacking new
+
+-- a call stopped: for the fault, then nothing went out; else a beginning of these entities did
+pub record StopsPacking {D S H : Type 0} (d : drain.Ghosts D) (fault : Option Fault) (es : List EntitySpec) (old new : Packing D S H) (stop : Stop) : Type 0 where
+  pub cause : Caused (Only fault) ⊥ (WriteFailed d old.drain new.drain) unchanged stop
+  pub front : (d.taken new.drain ≡ d.taken old.drain) ⊎ ((fault ≡ None) × Begins (d.taken old.drain) (d.taken new.drain) old es)
+
+-- whatever a call answers
+pub record KeepsPacker {D S H : Type 0} (d : drain.Ghosts D) (old new : Packing D S H) : Type 0 where
+  pub header : has_header new ≡ true
+  pub drain_kept : KeepsDrain d old.drain new.drain
+
+-- a packer that was just made
+pub record IsFreshPacker {D S H : Type 0} (packer : Packing D S H) : Type 0 where
+  pub no_header : has_header packer ≡ false
+  pub packing : IsPacking packer
+  pub none : Pending packer []
+
+-- ---- one frame
+
+-- what is picked of a frame
+abbrev pub picked_in : Pick → FrameSpec → List EntitySpec
+picked_in pick f = filter pick (frame_entities f)
+
+-- a pass took the header of a frame, or counted what is picked of it
+abbrev pub TakesPicked : Pick → FrameSpec → Pass → Pass → Type 0
+TakesPicked pick f old new = TakesSome (frame_kind f) (frame_payload_at f) (frame_payload f) (picked_in pick f) old new
+
+-- what is picked of a frame was packed, and counted
+pub record PacksFrame {D S H : Type 0} (d : drain.Ghosts D) (pick : Pick) (old new : Packing D S H) (before now : Pass) (f : FrameSpec) : Type 0 where
+  pub packed : PacksAll d (payload_fault f) (picked_in pick f) old new
+  pub taken : TakesPicked pick f before now
+
+-- a step stopped at a frame
+abbrev pub FailsToPack : {D S H : Type 0} → drain.Ghosts D → Pick → Packing D S H → Packing D S H → FrameSpec → Stop → Type 0
+FailsToPack d pick old new f stop = StopsPacking d (payload_fault f) (picked_in pick f) old new stop
+
+-- ---- the pass that writes
+
+-- the file has no fault, the header and what is picked of its entities went out, and these are their numbers
+pub record Packed (pick : Pick) (h : HeaderSpec) (known : Option Verdict) (old new : Option (List ℕ)) (counts : Counts) : Type 0 where
+  pub frames : List FrameSpec
+  pub says : Says known (frames, None)
+  pub counted : counts ≡ counts_of (filter pick (decoded frames))
+  pub taken : new ≡ append old (written_file h (filter pick (decoded frames)))
+
+-- a beginning of the header and of what is picked of the frames before the first fault went out
+abbrev pub PacksFront : Pick → HeaderSpec → Option Verdict → Option (List ℕ) → Option (List ℕ) → Type 0
+PacksFront pick h known old new = (all : Verdict) → known ≡ Some all → IsFront old new (written_file h (filter pick (decoded all.0)))
+
+-- a header that isn't too long to be written
+abbrev pub IsShort : HeaderSpec → Type 0
+IsShort h = text_weight h.source + text_weight h.url ≤ 12000000

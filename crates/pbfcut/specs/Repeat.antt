@@ -1,0 +1,41 @@
+-- Passes behind the first one: their bytes have to have its digest.
+use Rattle.std.specs.Prelude.{◌≡◌, ℕ, List, Option, Some, None}
+use Rattle.std.specs.List.{fold}
+use Rattle.sha2.specs.Sha256.{sha256}
+use Rattle.osm_entity.specs.Entity.{EntitySpec}
+use Rattle.pbf_frame.specs.declared.stop.Stop.{Stop}
+use Rattle.pbf_frame.specs.declared.stop.Stop.TheVariants.{Refused, Read, Write, Memory, Changed}
+use Rattle.pbf_frame.specs.Frames.{FrameSpec}
+use Rattle.pbf_frame.specs.Verdict.{Says}
+use Rattle.pbfcut.specs.declared.repeat.Repeat.{Repeat}
+use Rattle.pbfcut.specs.Counting.{decoded}
+use Rattle.pbfcut.specs.Judged.{judged_file}
+use Rattle.pbfcut.specs.Pass.{IsDigest}
+use Rattle.pbfcut.specs.Stops.{Caused}
+
+-- the file has no fault and the digest of the first, and its entities were gathered
+pub record GathersAgain {S : Type 0} (gathered : S → EntitySpec → S) (known : Option (List ℕ)) (digest : List ℕ) (before now : S) : Type 0 where
+  pub frames : List FrameSpec
+  pub says : Says (judged_file known) (frames, None)
+  pub gathered_all : now ≡ fold gathered before (decoded frames)
+  pub digest_is : IsDigest known digest
+
+-- bytes without a fault that have this digest aren't those of the feed
+abbrev pub Unlike : Option (List ℕ) → List ℕ → Type 0
+Unlike known digest = (b : List ℕ) (frames : List FrameSpec) → known ≡ Some b → digest ≡ sha256 b → judged_file (Some b) ≡ Some (frames, None) → ⊥
+
+-- nothing is refused; and where the pass is said to be changed, its feed has other bytes than those of the digest
+abbrev pub StopsAgain : Repeat → Option (List ℕ) → (read wrote : Type 0) → Stop → Type 0
+StopsAgain again known read wrote stop = Caused (λ e. ⊥) read wrote (λ pass. (pass ≡ again.number) × Unlike known again.digest) stop
+
+-- a fault that a later pass meets is a change
+abbrev pub as_change : ℕ → Stop → Stop
+as_change number (Refused e) = Changed number
+as_change number Read = Read
+as_change number Write = Write
+as_change number Memory = Memory
+as_change number (Changed pass) = Changed pass
+
+-- where the bytes of the first feed are known, those of the other have their digest
+abbrev pub SameDigest : Option (List ℕ) → Option (List ℕ) → Type 0
+SameDigest first other = (b c : List ℕ) → first ≡ Some b → other ≡ Some c → sha256 b ≡ sha256 c

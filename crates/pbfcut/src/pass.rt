@@ -1,0 +1,270 @@
+//! A pass over a file: what it takes and gathers frame by frame, and the loop that judges the whole file.
+
+ghost use Rattle.std.specs.Prelude.{◌≡◌, ◌≤◌, ◌<◌, ◌+◌, ◌^◌, [], false, None, Some, Err, IfOk, IfErr, OnOk, length};
+ghost use Rattle.std.specs.List.{fold};
+ghost use Rattle.osm_entity.specs.Entity.{EntitySpec};
+ghost use Rattle.osm_entity.specs.Views.{entity_of};
+ghost use Rattle.pbf_block.specs.Kinds.{is_among};
+ghost use Rattle.pbf_block.specs.Payload.{entities};
+ghost use Rattle.pbf_frame.specs.declared.frame.FrameKind.TheVariants as kind;
+ghost use Rattle.pbf_frame.specs.Next.{IsReading, place_of, held_by, verdict};
+ghost use Rattle.pbf_wire.specs.declared.fault.Fault.{Fault};
+ghost use Rattle.pbf_wire.specs.declared.fault.ReadFault.TheVariants.{Refused};
+ghost use Rattle.pbfcut.specs.Judged.{payload_fault_of, fully_known, judged_file};
+ghost use Rattle.pbfcut.specs.Pass.{IsFresh, TakesPayload, TakesAll, TakesFrame, TakesFile, IsStep, FailsToJudge, ReadsAll, Judges, as_it_was, with_node, with_way, with_relation};
+ghost use Rattle.pbfcut.specs.Stops.{Caused, FaultOf, unchanged, ReadFailed};
+
+use crate::hashed::Hashed;
+use osm_entity::EntityRef;
+use osm_ways::{NodePhase, RelationPhase, WayPhase};
+use pbf_block::{Block, Counts, Header, Kinds};
+use pbf_frame::{Feed, Frame, FrameKind, FrameReader, Stop};
+use pbf_wire::ReadFault;
+use std::alloc::{AllocError, Global};
+
+/// What a pass gathers of a file's entities, besides its header and their numbers.
+pub trait Gather {
+    /// What it is with an entity more.
+    ghost gathered: { Self → EntitySpec → Self };
+
+    /// Which kinds of entities matter: those of another kind leave it as it is.
+    fn kinds() -> Kinds
+        ensures { (so_far : Self) (e : EntitySpec) → is_among result e ≡ false → gathered so_far e ≡ so_far };
+
+    /// Gathers an entity. Where memory is refused it may only be dropped.
+    fn gather(&mut self, entity: &EntityRef<'_>) -> Result<(), AllocError>
+        ensures { OnOk result (self.new ≡ gathered self.old (entity_of entity.now)) };
+}
+
+/// Gathers nothing.
+#[derive(Drop)]
+pub struct Nothing;
+
+impl Gather for Nothing {
+    ghost gathered = { as_it_was };
+
+    fn kinds() -> Kinds {
+        Kinds {
+            nodes: false,
+            ways: false,
+            relations: false,
+        }
+    }
+
+    fn gather(&mut self, _entity: &EntityRef<'_>) -> Result<(), AllocError> {
+        Ok(())
+    }
+}
+
+impl Gather for NodePhase {
+    ghost gathered = { with_node };
+
+    fn kinds() -> Kinds {
+        Kinds {
+            nodes: true,
+            ways: false,
+            relations: false,
+        }
+    }
+
+    fn gather(&mut self, entity: &EntityRef<'_>) -> Result<(), AllocError> {
+        match entity {
+            EntityRef::Node(node) => self.take_node(node),
+            EntityRef::Way(_) | EntityRef::Relation(_) => Ok(()),
+        }
+    }
+}
+
+impl Gather for WayPhase {
+    ghost gathered = { with_way };
+
+    fn kinds() -> Kinds {
+        Kinds {
+            nodes: false,
+            ways: true,
+            relations: false,
+        }
+    }
+
+    fn gather(&mut self, entity: &EntityRef<'_>) -> Result<(), AllocError> {
+        match entity {
+            EntityRef::Way(way) => self.take_way(way),
+            EntityRef::Node(_) | EntityRef::Relation(_) => Ok(()),
+        }
+    }
+}
+
+impl Gather for RelationPhase {
+    ghost gathered = { with_relation };
+
+    fn kinds() -> Kinds {
+        Kinds {
+            nodes: false,
+            ways: false,
+            relations: true,
+        }
+    }
+
+    fn gather(&mut self, entity: &EntityRef<'_>) -> Result<(), AllocError> {
+        match entity {
+            EntityRef::Relation(relation) => self.take_relation(relation),
+            EntityRef::Node(_) | EntityRef::Way(_) => Ok(()),
+        }
+    }
+}
+
+/// Gathers those entities of a block that matter.
+fn gather_entities<G: Gather>(block: &Block<'_>, gathering: &mut G) -> Result<(), AllocError>
+    ensures { OnOk result (gathering.new ≡ fold G.gathered gathering.old (entities block.now.at block.now.payload.now)) }
+{
+    for entity in block.entities_among(G::kinds()) {
+        gathering.gather(&entity)?;
+    }
+    Ok(())
+}
+
+/// What lasts from frame to frame of a pass.
+#[derive(Debug, Drop)]
+pub struct Pass {
+    /// The header, once its frame was met.
+    pub header: Option<Header>,
+    /// Where in the file the HeaderBlock begins; 0 before it.
+    pub header_at: u64,
+    /// The entities met so far.
+    pub counts: Counts,
+}
+
+impl Pass {
+    /// A pass that has met no frame.
+    pub fn new() -> Pass
+        ensures { IsFresh result }
+    {
+        Pass {
+            header: None,
+            header_at: 0,
+            counts: Counts::none(),
+        }
+    }
+
+    /// Takes the header of a frame, or counts its entities and gathers them. Refuses the first fault of its payload.
+    fn take<G: Gather>(
+        &mut self,
+        alloc: Global,
+        frame: &Frame<'_>,
+        gathering: &mut G,
+    ) -> Result<(), ReadFault>
+        ensures taken { OnOk result (TakesAll G.gathered frame.now.kind frame.now.payload_at frame.now.payload.now self.old self.new gathering.old gathering.new) }
+        ensures refused { (fault : Fault) → result ≡ Err (Refused fault) → payload_fault_of frame.now.kind frame.now.payload_at frame.now.payload.now ≡ Some fault }
+    {
+        match frame.kind {
+            FrameKind::Header => self.take_header(alloc, frame.payload, frame.payload_at)?,
+            FrameKind::Data => {
+                self.take_block(alloc, frame.payload, frame.payload_at, gathering)?;
+            }
+            FrameKind::Other => {}
+        }
+        Ok(())
+    }
+
+    /// Takes the header of a HeaderBlock.
+    pub(crate) fn take_header(
+        &mut self,
+        alloc: Global,
+        payload: &[u8],
+        at: u64,
+    ) -> Result<(), ReadFault>
+        requires { at + length payload.now ≤ 2 ^ 63 }
+        ensures taken { OnOk result (TakesPayload kind.Header at payload.now self.old self.new) }
+        ensures sound { OnOk result (payload_fault_of kind.Header at payload.now ≡ None) }
+        ensures refused { (fault : Fault) → result ≡ Err (Refused fault) → payload_fault_of kind.Header at payload.now ≡ Some fault }
+    {
+        self.header = Some(Header::read(alloc, payload, at)?);
+        self.header_at = at;
+        Ok(())
+    }
+
+    /// Counts the entities of a PrimitiveBlock, and gathers them.
+    fn take_block<G: Gather>(
+        &mut self,
+        alloc: Global,
+        payload: &[u8],
+        at: u64,
+        gathering: &mut G,
+    ) -> Result<(), ReadFault>
+        requires placed { at + length payload.now ≤ 2 ^ 63 }
+        requires short { length payload.now < 33554432 }
+        ensures taken { OnOk result (TakesAll G.gathered kind.Data at payload.now self.old self.new gathering.old gathering.new) }
+        ensures refused { (fault : Fault) → result ≡ Err (Refused fault) → payload_fault_of kind.Data at payload.now ≡ Some fault }
+    {
+        let block = Block::read(alloc, payload, at)?;
+        gather_entities(&block, gathering)?;
+        self.counts.add(block.counts());
+        Ok(())
+    }
+}
+
+/// Takes the next frame of a pass: its header, or the numbers of its entities, which are gathered; false at the end of an input
+/// that had its header.
+///
+/// `Refused` names the first fault of the frame, phases of its payload too. After a stop the reader, the pass and what was gathered
+/// may only be dropped, or the reader taken apart.
+pub fn step<F: Feed, G: Gather>(
+    alloc: Global,
+    reader: &mut FrameReader<F>,
+    pass: &mut Pass,
+    gathering: &mut G,
+) -> Result<bool, Stop>
+    ensures step { IsStep F.Feed reader.old reader.new (TakesFrame G.gathered pass.old pass.new gathering.old gathering.new) FailsToJudge ((pass.new ≡ pass.old) × (gathering.new ≡ gathering.old)) result }
+    ensures limited { place_of reader.new ≤ 2 ^ 62 }
+    ensures space { held_by reader.new ≤ 33620990 }
+{
+    let Some(frame) = reader.next()? else {
+        return Ok(false);
+    };
+    pass.take(alloc, &frame, gathering)?;
+    Ok(true)
+}
+
+/// Takes the frames that are left, by steps.
+fn steps<F: Feed, G: Gather>(
+    alloc: Global,
+    reader: &mut FrameReader<F>,
+    gathering: &mut G,
+) -> Result<Pass, Stop>
+    requires { IsReading reader.old }
+    ensures taken { IfOk result (TakesFile G.gathered (fully_known (verdict F.remaining reader.old)) gathering.old gathering.new) }
+    ensures stops { IfErr result (Caused (FaultOf (fully_known (verdict F.remaining reader.old))) (ReadFailed F.Feed reader.old.feed reader.new.feed) ⊥ unchanged) }
+    ensures read { ReadsAll F.Feed reader.old.feed reader.new.feed result }
+{
+    let mut pass = Pass::new();
+    'frames: while step(alloc, reader, &mut pass, gathering)? {}
+    Ok(pass)
+}
+
+/// What a pass over a whole file tells.
+#[derive(Drop)]
+pub(crate) struct Judged {
+    /// The file's header, and the numbers of its entities.
+    pub(crate) pass: Pass,
+    /// The digest of its bytes.
+    pub(crate) digest: [u8; 32],
+}
+
+/// Judges a whole file, and gathers its entities.
+pub(crate) fn judge<F: Feed, G: Gather>(
+    alloc: Global,
+    feed: &mut F,
+    gathering: &mut G,
+) -> Result<Judged, Stop>
+    ensures judged { IfOk result (Judges G.gathered (F.remaining feed.old) gathering.old gathering.new) }
+    ensures stops { IfErr result (Caused (FaultOf (judged_file (F.remaining feed.old))) (ReadFailed F.Feed feed.old feed.new) ⊥ unchanged) }
+    ensures counts { F.failures feed.old ≤ F.failures feed.new }
+{
+    let mut reader = FrameReader::new(alloc, Hashed::new(&mut *feed));
+    let outcome = steps(alloc, &mut reader, gathering);
+    let digest = reader.feed.digest();
+    // What is known of the feed comes back with the reference itself.
+    let _feed = reader.into_feed().into_inner();
+    let pass = outcome?;
+    Ok(Judged { pass, digest })
+}

@@ -1,0 +1,259 @@
+//! Entities that are picked, on their way into the drain: frame by frame, and the loop that writes a whole file.
+
+ghost use Rattle.std.specs.Prelude.{false, true, [], ◌≡◌, ◌<◌, ◌≤◌, ◌+◌, ◌^◌, None, Err, IfOk, IfErr, OnOk, OnErr, length};
+ghost use Rattle.std.specs.List.{AllByRecursion, filter};
+ghost use Rattle.osm_entity.specs.Ranges.{EntityFits};
+ghost use Rattle.osm_entity.specs.Views.{entity_of};
+ghost use Rattle.osm_pack.specs.Packing.{IsPacking, has_header, packer_held};
+ghost use Rattle.osm_pack.specs.Packing as packing;
+ghost use Rattle.pbf_block.specs.Cursors.{entities_left};
+ghost use Rattle.pbf_block.specs.Header.{header_of};
+ghost use Rattle.pbf_frame.specs.declared.frame.FrameKind.TheVariants as kind;
+ghost use Rattle.pbf_frame.specs.declared.stop.Stop.{Stop};
+ghost use Rattle.pbf_frame.specs.Next.{IsReading, place_of, held_by, verdict};
+ghost use Rattle.pbfcut.specs.Counting.{counts_of, entities_of};
+ghost use Rattle.pbfcut.specs.Judged.{payload_fault_of, fully_known, judged_file};
+ghost use Rattle.pbfcut.specs.Pass.{TakesSome, IsStep, ReadsAll, IsDigest};
+ghost use Rattle.pbfcut.specs.Pick.{pick_of, picks_of, PacksAll, StopsPacking, KeepsPacker, IsFreshPacker, PacksFrame, FailsToPack, Packed, PacksFront, IsShort};
+ghost use Rattle.pbfcut.specs.Stops.{Caused, FaultOf, unchanged, KeepsDrain, ReadFailed, WriteFailed};
+
+use crate::hashed::Hashed;
+use crate::pass::Pass;
+use osm_entity::EntityRef;
+use osm_pack::Packer;
+use osm_ways::{Chooser, ChooserParents, Chosen, ChosenParents};
+use pbf_block::{Block, Counts, Entities, Header};
+use pbf_frame::{Drain, Feed, Frame, FrameKind, FrameReader, Stop};
+use std::alloc::Global;
+use std::hash::BuildHasher;
+
+/// Which entities are written.
+#[derive(Clone, Copy)]
+pub enum Selection<'a> {
+    /// All of them.
+    Everything,
+    /// The complete-ways extract.
+    Ways(&'a Chosen),
+    /// The extract with all parents.
+    Parents(&'a ChosenParents),
+}
+
+impl<'a> Selection<'a> {
+    /// Which these are, to be asked of many entities one after another.
+    #[tactic(auto, unfolding(crate::specs::Pick::pick_of, crate::specs::Pick::picks_of))]
+    fn picker(self) -> Picker<'a>
+        ensures { picks_of result ≡ pick_of self.entry }
+    {
+        match self {
+            Selection::Everything => Picker::Everything,
+            Selection::Ways(chosen) => Picker::Ways(chosen.chooser()),
+            Selection::Parents(chosen) => Picker::Parents(chosen.chooser()),
+        }
+    }
+}
+
+/// Which entities are written, asked of many one after another: the look-ups of ids that lie close together are cheap.
+#[derive(Drop)]
+pub(crate) enum Picker<'a> {
+    /// All of them.
+    Everything,
+    /// The complete-ways extract.
+    Ways(Chooser<'a>),
+    /// The extract with all parents.
+    Parents(ChooserParents<'a>),
+}
+
+impl Picker<'_> {
+    /// Whether an entity is written.
+    #[tactic(auto, unfolding(crate::specs::Pick::picks_of))]
+    fn picks(&mut self, entity: &EntityRef<'_>) -> bool
+        ensures picked { result ≡ picks_of self.old (entity_of entity.now) }
+        ensures same { self.new ≡ self.old }
+    {
+        match self {
+            Picker::Everything => true,
+            Picker::Ways(chooser) => match entity {
+                EntityRef::Node(node) => chooser.keeps_node(node.id()),
+                EntityRef::Way(way) => chooser.keeps_way(way),
+                EntityRef::Relation(relation) => chooser.keeps_relation(relation),
+            },
+            Picker::Parents(chooser) => match entity {
+                EntityRef::Node(node) => chooser.keeps_node(node.id()),
+                EntityRef::Way(way) => chooser.keeps_way(way),
+                EntityRef::Relation(relation) => chooser.keeps_relation(relation),
+            },
+        }
+    }
+}
+
+/// Packs the entities that are picked, one by one, and answers their numbers.
+fn pack_entities<D: Drain, S: BuildHasher>(
+    entities: Entities<'_>,
+    selection: Selection<'_>,
+    packer: &mut Packer<D, S>,
+) -> Result<Counts, Stop>
+    requires begun { has_header packer.old ≡ true }
+    requires packing { IsPacking packer.old }
+    requires fits { AllByRecursion EntityFits (entities_left entities) }
+    ensures packed { OnOk result (PacksAll D.Drain None (filter (pick_of selection.entry) (entities_left entities.entry)) packer.old packer.new) }
+    ensures counted { IfOk result (λ counts. counts ≡ counts_of (filter (pick_of selection.entry) (entities_left entities.entry))) }
+    ensures stopped { IfErr result (StopsPacking D.Drain None (filter (pick_of selection.entry) (entities_left entities.entry)) packer.old packer.new) }
+    ensures keeps { KeepsPacker D.Drain packer.old packer.new }
+{
+    let mut counts = Counts::none();
+    let mut picker = selection.picker();
+    for entity in entities {
+        if picker.picks(&entity) {
+            packer.push(&entity)?;
+            counts.take(&entity);
+        }
+    }
+    Ok(counts)
+}
+
+/// Judges a PrimitiveBlock whose first byte stands at `at` in the file, packs what is picked of it, and answers the numbers of
+/// these entities.
+fn pack_block<D: Drain, S: BuildHasher>(
+    alloc: Global,
+    payload: &[u8],
+    at: u64,
+    selection: Selection<'_>,
+    packer: &mut Packer<D, S>,
+) -> Result<Counts, Stop>
+    requires placed { at + length payload.now ≤ 2 ^ 63 }
+    requires short { length payload.now < 33554432 }
+    requires begun { has_header packer.old ≡ true }
+    requires packing { IsPacking packer.old }
+    ensures packed { OnOk result (PacksAll D.Drain (payload_fault_of kind.Data at payload.now) (filter (pick_of selection.entry) (entities_of kind.Data at payload.now)) packer.old packer.new) }
+    ensures counted { IfOk result (λ counts. counts ≡ counts_of (filter (pick_of selection.entry) (entities_of kind.Data at payload.now))) }
+    ensures stopped { IfErr result (StopsPacking D.Drain (payload_fault_of kind.Data at payload.now) (filter (pick_of selection.entry) (entities_of kind.Data at payload.now)) packer.old packer.new) }
+    ensures keeps { KeepsPacker D.Drain packer.old packer.new }
+{
+    let block = Block::read(alloc, payload, at)?;
+    pack_entities(block.entities(), selection, packer)
+}
+
+/// Judges the payload of a frame, packs what is picked of it, and takes its header or the numbers of these entities.
+fn pack_payload<D: Drain, S: BuildHasher>(
+    alloc: Global,
+    frame: &Frame<'_>,
+    pass: &mut Pass,
+    selection: Selection<'_>,
+    packer: &mut Packer<D, S>,
+) -> Result<(), Stop>
+    requires begun { has_header packer.old ≡ true }
+    requires packing { IsPacking packer.old }
+    ensures packed { OnOk result (PacksAll D.Drain (payload_fault_of frame.now.kind frame.now.payload_at frame.now.payload.now) (filter (pick_of selection.entry) (entities_of frame.now.kind frame.now.payload_at frame.now.payload.now)) packer.old packer.new) }
+    ensures taken { OnOk result (TakesSome frame.now.kind frame.now.payload_at frame.now.payload.now (filter (pick_of selection.entry) (entities_of frame.now.kind frame.now.payload_at frame.now.payload.now)) pass.old pass.new) }
+    ensures stopped { IfErr result (StopsPacking D.Drain (payload_fault_of frame.now.kind frame.now.payload_at frame.now.payload.now) (filter (pick_of selection.entry) (entities_of frame.now.kind frame.now.payload_at frame.now.payload.now)) packer.old packer.new) }
+    ensures keeps { KeepsPacker D.Drain packer.old packer.new }
+{
+    match frame.kind {
+        FrameKind::Header => pass.take_header(alloc, frame.payload, frame.payload_at)?,
+        FrameKind::Data => {
+            let counts = pack_block(alloc, frame.payload, frame.payload_at, selection, packer)?;
+            pass.counts.add(counts);
+        }
+        FrameKind::Other => {}
+    }
+    Ok(())
+}
+
+/// Packs the next frame's entities that are picked, in order, and counts these; false at the end of an input that had its header.
+/// It writes no header: the caller sees that one was put.
+///
+/// `Refused` names the first fault of the frame, and then nothing went out; on another stop, of a frame without a fault, a
+/// beginning of its entities may have gone out. After a stop the reader and the packer may only be dropped or taken apart, and
+/// the pass may only be dropped. A spent packer answers its stop again, before the reader is asked.
+pub fn step_write<F: Feed, D: Drain, S: BuildHasher>(
+    alloc: Global,
+    reader: &mut FrameReader<F>,
+    pass: &mut Pass,
+    selection: Selection<'_>,
+    packer: &mut Packer<D, S>,
+) -> Result<bool, Stop>
+    requires { has_header packer.old ≡ true }
+    ensures step { IsPacking packer.old → IsStep F.Feed reader.old reader.new (PacksFrame D.Drain (pick_of selection.entry) packer.old packer.new pass.old pass.new) (FailsToPack D.Drain (pick_of selection.entry) packer.old packer.new) ((pass.new ≡ pass.old) × (packer.new ≡ packer.old)) result }
+    ensures spent { (stop : Stop) → packing.HasStopped packer.old stop → (result ≡ Err stop) × (reader.new ≡ reader.old) }
+    ensures keeps { KeepsPacker D.Drain packer.old packer.new }
+    ensures limited { place_of reader.new ≤ 2 ^ 62 }
+    ensures space { held_by reader.new + packer_held packer.new ≤ 61620990 }
+{
+    packer.held_is_bounded();
+    if let Some(stop) = packer.stop() {
+        return Err(stop);
+    }
+    let Some(frame) = reader.next()? else {
+        return Ok(false);
+    };
+    let outcome = pack_payload(alloc, &frame, pass, selection, packer);
+    packer.held_is_bounded();
+    outcome?;
+    Ok(true)
+}
+
+/// What is written of a file.
+#[derive(Clone, Copy)]
+pub(crate) struct Writing<'a> {
+    /// The header.
+    pub(crate) header: &'a Header,
+    /// Which of the entities.
+    pub(crate) selection: Selection<'a>,
+}
+
+/// Writes a header and what is picked of the frames that are left, by steps, and answers the numbers of these entities.
+fn write_steps<F: Feed, D: Drain, S: BuildHasher>(
+    alloc: Global,
+    reader: &mut FrameReader<F>,
+    packer: &mut Packer<D, S>,
+    writing: Writing<'_>,
+) -> Result<Counts, Stop>
+    requires reading { IsReading reader.old }
+    requires fresh { IsFreshPacker packer.old }
+    requires short { IsShort (header_of writing.header.now) }
+    ensures packed { IfOk result (Packed (pick_of writing.entry.selection) (header_of writing.entry.header.now) (fully_known (verdict F.remaining reader.old)) (D.taken packer.old.drain) (D.taken packer.new.drain)) }
+    ensures beginning { OnErr result (PacksFront (pick_of writing.entry.selection) (header_of writing.entry.header.now) (fully_known (verdict F.remaining reader.old)) (D.taken packer.old.drain) (D.taken packer.new.drain)) }
+    ensures stops { IfErr result (Caused (FaultOf (fully_known (verdict F.remaining reader.old))) (ReadFailed F.Feed reader.old.feed reader.new.feed) (WriteFailed D.Drain packer.old.drain packer.new.drain) unchanged) }
+    ensures read { ReadsAll F.Feed reader.old.feed reader.new.feed result }
+    ensures drain { KeepsDrain D.Drain packer.old.drain packer.new.drain }
+{
+    let mut pass = Pass::new();
+    packer.put_header(writing.header)?;
+    'frames: while step_write(alloc, reader, &mut pass, writing.selection, packer)? {}
+    packer.finish()?;
+    Ok(pass.counts)
+}
+
+/// What a pass that writes tells.
+#[derive(Clone, Copy)]
+pub(crate) struct Wrote {
+    /// The numbers of the entities that were written.
+    pub(crate) counts: Counts,
+    /// The digest of the bytes that were read.
+    pub(crate) digest: [u8; 32],
+}
+
+/// Writes a header and what is picked of a whole file.
+pub(crate) fn write<F: Feed, D: Drain, S: BuildHasher + Drop>(
+    alloc: Global,
+    feed: &mut F,
+    drain: &mut D,
+    hasher: S,
+    writing: Writing<'_>,
+) -> Result<Wrote, Stop>
+    requires { IsShort (header_of writing.header.now) }
+    ensures packed { IfOk result (λ wrote. Packed (pick_of writing.entry.selection) (header_of writing.entry.header.now) (judged_file (F.remaining feed.old)) (D.taken drain.old) (D.taken drain.new) wrote.counts) }
+    ensures digest { IfOk result (λ wrote. IsDigest (F.remaining feed.old) wrote.digest) }
+    ensures beginning { OnErr result (PacksFront (pick_of writing.entry.selection) (header_of writing.entry.header.now) (judged_file (F.remaining feed.old)) (D.taken drain.old) (D.taken drain.new)) }
+    ensures stops { IfErr result (Caused (FaultOf (judged_file (F.remaining feed.old))) (ReadFailed F.Feed feed.old feed.new) (WriteFailed D.Drain drain.old drain.new) unchanged) }
+{
+    let mut packer = Packer::new(alloc, &mut *drain, hasher);
+    let mut reader = FrameReader::new(alloc, Hashed::new(&mut *feed));
+    let outcome = write_steps(alloc, &mut reader, &mut packer, writing);
+    let digest = reader.feed.digest();
+    // What is known of the devices comes back with the references themselves.
+    let _feed = reader.into_feed().into_inner();
+    let _drain = packer.into_drain();
+    let counts = outcome?;
+    Ok(Wrote { counts, digest })
+}

@@ -1,0 +1,90 @@
+//! Passes behind the first one, whose bytes have to have its digest.
+
+ghost use Rattle.std.specs.Prelude.{◌≡◌, IfOk, IfErr, OnOk, OnErr, Ok, Err, true, false, if◌then◌else◌};
+ghost use Rattle.pbf_block.specs.Header.{header_of};
+ghost use Rattle.pbf_frame.specs.declared.stop.Stop.TheVariants.{Changed};
+ghost use Rattle.pbfcut.specs.Judged.{judged_file};
+ghost use Rattle.pbfcut.specs.Pass.{IsDigest};
+ghost use Rattle.pbfcut.specs.Pick.{pick_of, Packed, PacksFront, IsShort};
+ghost use Rattle.pbfcut.specs.Stops.{ReadFailed, WriteFailed};
+ghost use Rattle.pbfcut.specs.Repeat.{GathersAgain, StopsAgain, as_change};
+
+use crate::pass::{Gather, judge};
+use crate::pick::{Writing, write};
+use pbf_block::Counts;
+use pbf_frame::{Drain, Feed, Stop};
+use std::alloc::Global;
+use std::hash::BuildHasher;
+
+/// A pass behind the first.
+#[derive(Clone, Copy)]
+pub(crate) struct Repeat {
+    /// Which one.
+    pub(crate) number: u8,
+    /// The digest of the bytes of the first.
+    pub(crate) digest: [u8; 32],
+}
+
+impl Repeat {
+    /// A fault that the pass which judges didn't meet is a change.
+    pub(crate) fn changed(self, stop: Stop) -> Stop
+        ensures { result ≡ as_change self.number stop }
+    {
+        match stop {
+            Stop::Refused(_) => Stop::Changed(self.number),
+            other => other,
+        }
+    }
+
+    /// Another digest is a change.
+    pub(crate) fn compare(self, digest: [u8; 32]) -> Result<(), Stop>
+        ensures same { OnOk result (digest ≡ self.digest) }
+        ensures other { IfErr result (λ stop. (stop ≡ Changed self.number) × (digest ≡ self.digest → ⊥)) }
+    {
+        if digest == self.digest {
+            Ok(())
+        } else {
+            Err(Stop::Changed(self.number))
+        }
+    }
+
+    /// Gathers the entities of a whole file.
+    pub(crate) fn gather<F: Feed, G: Gather>(
+        self,
+        alloc: Global,
+        feed: &mut F,
+        gathering: &mut G,
+    ) -> Result<(), Stop>
+        ensures gathered { OnOk result (GathersAgain G.gathered (F.remaining feed.old) self.digest gathering.old gathering.new) }
+        ensures stops { IfErr result (StopsAgain self (F.remaining feed.old) (ReadFailed F.Feed feed.old feed.new) ⊥) }
+    {
+        match judge(alloc, feed, gathering) {
+            Ok(told) => self.compare(told.digest),
+            Err(stop) => Err(self.changed(stop)),
+        }
+    }
+
+    /// Writes a header and what is picked of a whole file.
+    pub(crate) fn write<F: Feed, D: Drain, S: BuildHasher + Drop>(
+        self,
+        alloc: Global,
+        feed: &mut F,
+        drain: &mut D,
+        hasher: S,
+        writing: Writing<'_>,
+    ) -> Result<Counts, Stop>
+        requires { IsShort (header_of writing.header.now) }
+        ensures packed { IfOk result (Packed (pick_of writing.entry.selection) (header_of writing.entry.header.now) (judged_file (F.remaining feed.old)) (D.taken drain.old) (D.taken drain.new)) }
+        ensures beginning { OnErr result (PacksFront (pick_of writing.entry.selection) (header_of writing.entry.header.now) (judged_file (F.remaining feed.old)) (D.taken drain.old) (D.taken drain.new)) }
+        ensures digest { OnOk result (IsDigest (F.remaining feed.old) self.digest) }
+        ensures stops { IfErr result (StopsAgain self (F.remaining feed.old) (ReadFailed F.Feed feed.old feed.new) (WriteFailed D.Drain drain.old drain.new)) }
+    {
+        match write(alloc, feed, drain, hasher, writing) {
+            Ok(wrote) => {
+                self.compare(wrote.digest)?;
+                Ok(wrote.counts)
+            }
+            Err(stop) => Err(self.changed(stop)),
+        }
+    }
+}
