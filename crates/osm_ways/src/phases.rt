@@ -4,7 +4,8 @@ ghost use Rattle.std.specs.Prelude.{◌≡◌, IfOk, OnOk, OnErr};
 ghost use Rattle.std.specs.List.{fold};
 ghost use Rattle.std.specs.FinSet as set;
 ghost use Rattle.osm_entity.specs.Views.{node_of, way_of};
-ghost use Rattle.osm_ways.specs.Selection.{is_kept_way};
+ghost use Rattle.osm_entity.specs.BoundingBox.{is_inside};
+ghost use Rattle.osm_ways.specs.Selection.{is_kept_way, a_node};
 ghost use Rattle.osm_ways.specs.Seen.{seen_node, seen_way};
 ghost use Rattle.osm_ways.specs.Phases.{start_nodes, start_ways, node_step, way_step};
 
@@ -52,8 +53,20 @@ impl NodePhase {
         ensures ok { OnOk result (self.new ≡ record { area = self.old.area; box_ids = node_step self.old.box_ids (seen_node self.old.area (node_of node.now)) }) }
         ensures err { OnErr result (self.new ≡ self.old) }
     {
-        if self.area.contains(node.nano_lat(), node.nano_lon()) {
-            self.box_ids.add(node.id())?;
+        self.take_place(node.id(), node.nano_lat(), node.nano_lon())
+    }
+
+    /// The same of a node by its id and its place in nanodegrees, which is all that counts of it.
+    ///
+    /// # Errors
+    ///
+    /// Where memory is refused the phase is as it was.
+    pub fn take_place(&mut self, id: i64, lat: i128, lon: i128) -> Result<(), AllocError>
+        ensures ok { OnOk result (self.new ≡ record { area = self.old.area; box_ids = node_step self.old.box_ids (a_node id (is_inside self.old.area lat lon)) }) }
+        ensures err { OnErr result (self.new ≡ self.old) }
+    {
+        if self.area.contains(lat, lon) {
+            self.box_ids.add(id)?;
         }
         Ok(())
     }

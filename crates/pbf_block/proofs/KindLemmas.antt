@@ -1,7 +1,7 @@
 -- The entities of some kinds, field by field, are those of the whole list that are of these kinds.
 use Rattle.std.proofs.Common.{◌≡◌, ℕ, Bool, true, false, List, [], ◌∷◌, ◌++◌, map, refl, ap, ap₂, sym, ◌∙◌}
 use Rattle.std.specs.Prelude.{filter, if◌then◌else◌, ◌==◌}
-use Rattle.std.specs.List.{flat_map}
+use Rattle.std.specs.List.{flat_map, AllByRecursion}
 use Rattle.std.proofs.lemmas.List.Elements.{filter-append}
 use Rattle.pbf_wire.specs.Faults.{inside, fields_in}
 use Rattle.pbf_wire.specs.Occurrence.{Content, Number, Eight, Four, Bytes, Occurrence}
@@ -85,3 +85,12 @@ module _ (kinds : Kinds) (how : How) (table : List (List ℕ)) (scale : Scale) w
 
   pub all_kept : (os : List Occurrence) → entities_among kinds how table scale os ≡ filter (is_among kinds) (entities_by how table scale os)
   all_kept os = kept_parts (is_among kinds) (group_entities how table scale) (group_entities_among kinds how table scale) group_kept os
+
+-- what holds of all holds of those that are kept
+all_next : (P : EntitySpec → Type 0) (p : EntitySpec → Bool) (e : EntitySpec) (es : List EntitySpec) (b : Bool) → p e ≡ b → P e → AllByRecursion P (filter p es) → AllByRecursion P (filter p (e ∷ es))
+all_next P p e es true h first rest = rw h (first, rest)
+all_next P p e es false h first rest = rw h rest
+
+pub all_among : (P : EntitySpec → Type 0) (p : EntitySpec → Bool) (es : List EntitySpec) → AllByRecursion P es → AllByRecursion P (filter p es)
+all_among P p [] h = tt
+all_among P p (e ∷ es) h = all_next P p e es (p e) refl h.0 (all_among P p es h.1)

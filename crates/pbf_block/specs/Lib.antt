@@ -19,3 +19,4 @@ pub mod InfoValues
 pub mod EntityValues
 pub mod WrittenEntity
 pub mod WrittenBlock
+pub mod Runs

@@ -13,6 +13,7 @@ ghost use Rattle.pbf_block.specs.Cursors.{entities_left};
 ghost use Rattle.pbf_block.specs.Payload.{entities};
 ghost use Rattle.pbf_block.specs.Kinds.{is_among};
 ghost use Rattle.pbf_block.specs.Numbers.{counts_of};
+ghost use Rattle.pbf_block.specs.Runs.{joined_runs, runs_left};
 ghost use Rattle.pbf_wire.specs.Fields.{occurrence};
 ghost use Rattle.pbf_block.specs.Scale.{scale_of, table_of, held_by};
 ghost use Rattle.pbf_block.specs.StructureFaults.{structure_faults};
@@ -22,6 +23,7 @@ use crate::counts::{Counts, count_entities};
 use crate::entities::Entities;
 use crate::kinds::Kinds;
 use crate::message::STRINGTABLE;
+use crate::runs::Runs;
 use crate::scale::scale_in;
 use crate::structure::judge_structure;
 use crate::values::judge_values;
@@ -130,9 +132,18 @@ impl<'a> Block<'a> {
 
     /// The entities of these kinds, in order. Messages of other kinds aren't looked into. Takes no memory.
     pub fn entities_among(&self, kinds: Kinds) -> Entities<'_>
-        ensures { entities_left result ≡ filter (is_among kinds) (entities self.now.at self.now.payload.now) }
+        ensures exact { entities_left result ≡ filter (is_among kinds) (entities self.now.at self.now.payload.now) }
+        ensures fits { AllByRecursion EntityFits (entities_left result) }
     {
         Entities::over(self.payload, self.at, &self.table, self.scale, kinds)
+    }
+
+    /// The entities of these kinds, in order, those of a dense message together. Messages of other kinds aren't looked into. Takes no
+    /// memory.
+    pub fn runs_among(&self, kinds: Kinds) -> Runs<'_>
+        ensures { joined_runs (runs_left result) ≡ filter (is_among kinds) (entities self.now.at self.now.payload.now) }
+    {
+        Runs::over(self.payload, self.at, &self.table, self.scale, kinds)
     }
 
     /// How many entities there are. None is made, and of dense nodes the ids are counted by the bytes that end them. Takes no

@@ -4,3 +4,4 @@ pub mod Nodes
 pub mod Cursors
 pub mod Judged
 pub mod WrittenDense
+pub mod Places

@@ -8,6 +8,7 @@ ghost use Rattle.pbf_dense.specs.Runs.{after_run};
 use crate::entries::next_number;
 use crate::info::InfoColumns;
 use crate::message::{ID, KEYS_VALS, LAT, LON};
+use crate::places::Places;
 use osm_entity::{NodeRef, RunTags, STORED_LIMIT, Scale, Tags};
 use pbf_strings::Table;
 use pbf_wire::{Column, Sums, column_count, low_u32};
@@ -39,10 +40,12 @@ pub struct Dense<'a> {
 
 impl<'a> Dense<'a> {
     ghost use Rattle.std.specs.Prelude.{◌+◌, ◌≤◌, ◌^◌, [], ℕ, List, length};
+    ghost use Rattle.pbf_wire.specs.Cursors.{sums_left};
     ghost use Rattle.pbf_wire.specs.Faults.{fields_in};
     ghost use Rattle.pbf_dense.specs.Judged.{id_count, dense_wire};
     ghost use Rattle.pbf_dense.specs.Nodes.{nodes, nodes_along};
     ghost use Rattle.pbf_dense.specs.Cursors.{dense_left};
+    ghost use Rattle.pbf_dense.specs.Places.{place_of, places_left, BeginWithIds};
 
     /// The nodes of a dense message whose first byte stands at `at` in the file, whatever is wrong with it: as long as there are
     /// an id, a latitude and a longitude, up to a sum that is out of range. Goes through the message's fields once for each of
@@ -61,6 +64,26 @@ impl<'a> Dense<'a> {
             table,
             scale,
         }
+    }
+
+    /// The places of the nodes that are still to come. Tags and metadata aren't read.
+    pub fn places(&self) -> Places<'a>
+        ensures { places_left result ≡ map place_of (dense_left self.now) }
+    {
+        Places {
+            ids: self.ids,
+            lats: self.lats,
+            lons: self.lons,
+            scale: self.scale,
+        }
+    }
+
+    /// The ids of the nodes that are still to come, and then maybe more ids, which have no place. Nothing else is read.
+    #[tactic(auto, using(crate::proofs::PlaceLemmas::ids_begin), unfolding(crate::specs::Cursors::dense_left))]
+    pub fn ids(&self) -> Sums<'a>
+        ensures { BeginWithIds (sums_left result) (dense_left self.now) }
+    {
+        self.ids
     }
 
     /// How many nodes there are in a dense message without a wire fault, whose first byte stands at `at` in the file: as many as

@@ -10,6 +10,7 @@ mod judge;
 pub mod laws;
 mod message;
 mod phase;
+mod places;
 mod structure;
 #[cfg(test)]
 mod tests;
@@ -22,3 +23,4 @@ pub use dense::Dense;
 pub use dense_out::DenseOut;
 pub use message::KEYS_VALS;
 pub use phase::Phase;
+pub use places::{Place, Places};

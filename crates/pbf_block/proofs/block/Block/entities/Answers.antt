@@ -16,9 +16,9 @@ module _ (at : ℕ) (m : List ℕ) (sound : block_fault at m ≡ None) (es : Lis
 
 pub returns-clause-exact : goal.returns-clause-exact
 returns-clause-exact c =
-    let block = c.args.self.now in c.entities_among.ensures ∙ filter_every (is_among c.all.result) c.all.ensures (entities block.at block.payload.now)
+    let block = c.args.self.now in c.entities_among.ensures.exact ∙ filter_every (is_among c.all.result) c.all.ensures (entities block.at block.payload.now)
 
 pub returns-clause-fits : goal.returns-clause-fits
 returns-clause-fits c =
     let block = c.args.self.now in
-    all_fit block.at block.payload.now block.sound _ (c.entities_among.ensures ∙ filter_every (is_among c.all.result) c.all.ensures (entities block.at block.payload.now))
+    all_fit block.at block.payload.now block.sound _ (c.entities_among.ensures.exact ∙ filter_every (is_among c.all.result) c.all.ensures (entities block.at block.payload.now))
