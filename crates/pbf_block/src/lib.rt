@@ -2,8 +2,6 @@
 #![tactic(auto)]
 
 mod block;
-#[cfg(test)]
-mod block_tests;
 mod block_write;
 mod column_values;
 mod counts;
@@ -19,8 +17,6 @@ mod group;
 mod header;
 mod header_judge;
 mod header_read;
-#[cfg(test)]
-mod header_tests;
 mod header_write;
 mod info;
 mod info_values;
@@ -37,8 +33,6 @@ mod values;
 mod way;
 mod weights;
 mod wire;
-#[cfg(test)]
-mod write_tests;
 mod writing;
 
 pub use block::Block;
