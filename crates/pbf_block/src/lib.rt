@@ -9,8 +9,6 @@ mod entities;
 mod entity_counts;
 mod entity_fields;
 mod entity_out;
-#[cfg(test)]
-mod entity_tests;
 mod entity_values;
 mod entity_write;
 mod group;

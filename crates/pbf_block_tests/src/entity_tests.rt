@@ -1,16 +1,8 @@
 //! What no clause says of the reading of entities: values of known bytes.
 
-use crate::counts::{Counts, count_entities};
-use crate::entities::Entities;
-use crate::kinds::Kinds;
-use crate::node::node_in;
-use crate::relation::relation_in;
-use crate::scale::scale_in;
-use crate::way::way_in;
-use crate::weights::judge_weights;
-use osm_entity::{EntityRef, MemberKind, Scale, Tags};
-use pbf_strings::Table;
-use pbf_wire::{Fault, Reason, put_bytes};
+use osm_entity::{EntityRef, MemberKind, MemberRef, MetaRef, Scale, Tags};
+use pbf_block::{Block, Counts, Kinds};
+use pbf_wire::{Fault, ReadFault, Reason, put_bytes};
 use std::alloc::{AllocError, Global};
 use std::process::Abort;
 use std::test::Fail;
@@ -40,11 +32,27 @@ const WAY: [u8; 43] =
 const RELATION: [u8; 29] =
     *b"\x52\x06\x02\x81\x80\x80\x80\x10\x42\x01\x03\x08\x0c\x4a\x02\x3c\x31\x50\x00\x42\x06\x00\x84\x80\x80\x80\x10\x48\x04";
 
-fn table_in(rt: &impl Abort, alloc: Global) -> Table<'_> {
-    match Table::read(alloc, &TEXTS, 0, 0) {
-        Ok(table) => table,
-        Err(_) => panic!(rt; "the table is refused"),
+/// A node without an Info, in a payload without texts that says nothing of its scale.
+const PLAIN_NODE: [u8; 14] = *b"\x0a\x02\x0a\x00\x12\x08\x0a\x06\x48\x00\x40\x02\x08\x05";
+
+fn block_in<'a>(rt: &(impl Abort + AllocGlobal), payload: &'a [u8]) -> Block<'a> {
+    if payload.len() > 1_000 {
+        panic!(rt; "the payload is too long");
     }
+    match Block::read(rt.alloc(), payload, 0) {
+        Ok(block) => block,
+        Err(_) => panic!(rt; "the payload is refused"),
+    }
+}
+
+/// The entity of the block with this id, of which there is one.
+fn entity_in<'a>(rt: &impl Abort, block: &'a Block<'a>, id: i64) -> EntityRef<'a> {
+    for entity in block.entities() {
+        if entity.id() == id {
+            return entity;
+        }
+    }
+    panic!(rt; "there is no such entity")
 }
 
 /// A payload with a group before the table, an empty group, and granularities that come twice.
@@ -90,28 +98,30 @@ fn tags_in<'a>(alloc: Global, tags: Tags<'a>) -> Result<Vec<(&'a [u8], &'a [u8])
 #[test]
 fn entities_in_order(rt: HostRuntime) -> Result<(), Fail> {
     let payload = payload(rt.alloc())?;
-    let table = table_in(&rt, rt.alloc());
-    let scale = scale_in(&payload, 0);
-    assert_eq!(rt; scale, SCALE);
-    let mut ids = Vec::new(rt.alloc());
-    let mut weights = Vec::new(rt.alloc());
-    let mut kinds = Vec::new(rt.alloc());
-    for entity in Entities::over(&payload, 0, &table, scale, Kinds::all()) {
-        ids.push(entity.id())?;
-        weights.push(entity.weight())?;
-        kinds.push(kind_of(entity))?;
-        assert_eq!(rt; entity.scale(), SCALE);
+    let block = block_in(&rt, &payload);
+    let mut all = Vec::new(rt.alloc());
+    for entity in block.entities() {
+        all.push((kind_of(entity), entity.id(), entity.weight()))?;
     }
     let (node, way, relation) = (MemberKind::Node, MemberKind::Way, MemberKind::Relation);
-    assert_eq!(rt; ids.as_slice(), [5, -3, -9, 10, 20, 21, 12].as_slice());
-    assert_eq!(rt;
-        weights.as_slice(),
-        [242, 160, 395, 160, 203, 160, 260].as_slice()
-    );
-    assert_eq!(rt;
-        kinds.as_slice(),
-        [node, node, way, way, node, node, relation].as_slice()
-    );
+    let wanted = [
+        (node, 5, 242),
+        (node, -3, 160),
+        (way, -9, 395),
+        (way, 10, 160),
+        (node, 20, 203),
+        (node, 21, 160),
+        (relation, 12, 260),
+    ];
+    assert_eq!(rt; all.as_slice(), wanted.as_slice());
+    Ok(())
+}
+
+#[test]
+fn the_scale_of_each_entity(rt: HostRuntime) -> Result<(), Fail> {
+    let payload = payload(rt.alloc())?;
+    let block = block_in(&rt, &payload);
+    assert!(rt; block.entities().all(|entity| entity.scale() == SCALE));
     Ok(())
 }
 
@@ -119,14 +129,14 @@ fn entities_in_order(rt: HostRuntime) -> Result<(), Fail> {
 #[test]
 fn entities_of_some_kinds(rt: HostRuntime) -> Result<(), Fail> {
     let payload = payload(rt.alloc())?;
-    let table = table_in(&rt, rt.alloc());
+    let block = block_in(&rt, &payload);
     let kinds = Kinds {
         nodes: false,
         ways: true,
         relations: true,
     };
     let mut ids = Vec::new(rt.alloc());
-    for entity in Entities::over(&payload, 0, &table, SCALE, kinds) {
+    for entity in block.entities_among(kinds) {
         ids.push(entity.id())?;
     }
     assert_eq!(rt; ids.as_slice(), [-9, 10, 12].as_slice());
@@ -141,7 +151,7 @@ fn numbers_of_entities(rt: HostRuntime) -> Result<(), Fail> {
         ways: 2,
         relations: 1,
     };
-    assert_eq!(rt; count_entities(&payload, 0), counts);
+    assert_eq!(rt; block_in(&rt, &payload).counts(), counts);
     Ok(())
 }
 
@@ -153,20 +163,29 @@ fn a_scale_of_nothing(rt: HostRuntime) {
         lat_offset: 0,
         lon_offset: 0,
     };
-    assert_eq!(rt; scale_in(&[], 0), scale);
+    let block = block_in(&rt, &PLAIN_NODE);
+    assert_eq!(rt; entity_in(&rt, &block, -3).scale(), scale);
+}
+
+/// Whether these are the metadata of [`NODE`].
+fn is_by_ann(meta: MetaRef<'_>) -> bool {
+    meta.version == Some(1)
+        && meta.uid == Some(-2)
+        && meta.timestamp == Some(-7)
+        && meta.changeset == Some(9)
+        && meta.user == Some(b"ann".as_slice())
+        && meta.visible == Some(true)
 }
 
 /// Of singular fields the last counts, and of numbers of texts, versions and uids the low 32 bits.
 #[test]
 fn a_node(rt: HostRuntime) -> Result<(), Fail> {
-    let table = table_in(&rt, rt.alloc());
-    let node = node_in(&NODE, 0, &table, SCALE);
-    assert_eq!(rt; (node.id(), node.lat(), node.lon()), (5, -11, 12));
-    let meta = node.meta();
-    assert_eq!(rt; (meta.version, meta.uid), (Some(1), Some(-2)));
-    assert_eq!(rt; (meta.timestamp, meta.changeset), (Some(-7), Some(9)));
-    assert_eq!(rt; meta.user, Some(b"ann".as_slice()));
-    assert_eq!(rt; meta.visible, Some(true));
+    let payload = payload(rt.alloc())?;
+    let block = block_in(&rt, &payload);
+    let EntityRef::Node(node) = entity_in(&rt, &block, 5) else {
+        panic!(rt; "it is no node");
+    };
+    assert!(rt; node.lat() == -11 && node.lon() == 12 && is_by_ann(node.meta()));
     let tags = tags_in(rt.alloc(), node.tags())?;
     let highway = (b"highway".as_slice(), b"stop".as_slice());
     let other = (b"x".as_slice(), b"ann".as_slice());
@@ -174,95 +193,118 @@ fn a_node(rt: HostRuntime) -> Result<(), Fail> {
     Ok(())
 }
 
-/// With an empty Info and with none.
-#[test]
-fn a_node_of_nobody(rt: HostRuntime) {
-    let table = table_in(&rt, rt.alloc());
-    for length in [8, 6] {
-        let node = node_in(&NODE_OF_NOBODY[..length], 0, &table, SCALE);
-        assert_eq!(rt; (node.id(), node.lat(), node.lon()), (-3, 1, 0));
-        let meta = node.meta();
-        assert_eq!(rt; (meta.version, meta.uid), (None, None));
-        assert_eq!(rt; (meta.timestamp, meta.changeset), (None, None));
-        assert_eq!(rt; (meta.user, meta.visible), (None, None));
-        assert!(rt; node.tags().next().is_none());
-    }
+/// Whether the metadata say nothing.
+fn is_by_nobody(meta: MetaRef<'_>) -> bool {
+    meta.version.is_none()
+        && meta.uid.is_none()
+        && meta.timestamp.is_none()
+        && meta.changeset.is_none()
+        && meta.user.is_none()
+        && meta.visible.is_none()
 }
 
+/// Whether the block's node -3 has a place, and neither metadata nor tags.
+fn has_bare_node(rt: &impl Abort, block: &Block<'_>) -> bool {
+    let EntityRef::Node(node) = entity_in(rt, block, -3) else {
+        return false;
+    };
+    node.lat() == 1 && node.lon() == 0 && is_by_nobody(node.meta()) && node.tags().next().is_none()
+}
+
+/// With an empty Info and with none.
 #[test]
-fn a_way(rt: HostRuntime) -> Result<(), Fail> {
-    let table = table_in(&rt, rt.alloc());
-    let way = way_in(&WAY, 0, &table, SCALE);
-    assert_eq!(rt; way.id(), -9);
-    let refs: Vec<i64> = way.refs().collect(rt.alloc())?;
-    assert_eq!(rt; refs.as_slice(), [100, 101, 98].as_slice());
-    let locations: Vec<(i64, i64)> = way.locations().collect(rt.alloc())?;
-    assert_eq!(rt; locations.as_slice(), [(5, 8), (-1, 7), (1, 6)].as_slice());
-    assert_eq!(rt;
-        (way.meta().uid, way.meta().visible),
-        (Some(7), Some(false))
-    );
-    let tags = tags_in(rt.alloc(), way.tags())?;
-    assert_eq!(rt;
-        tags.as_slice(),
-        [(b"highway".as_slice(), b"stop".as_slice())].as_slice()
-    );
+fn a_node_of_nobody(rt: HostRuntime) -> Result<(), Fail> {
+    let payload = payload(rt.alloc())?;
+    for bytes in [payload.as_slice(), PLAIN_NODE.as_slice()] {
+        assert!(rt; has_bare_node(&rt, &block_in(&rt, bytes)));
+    }
     Ok(())
 }
 
 #[test]
-fn a_relation(rt: HostRuntime) {
-    let table = table_in(&rt, rt.alloc());
-    let relation = relation_in(&RELATION, 0, &table, SCALE);
-    assert_eq!(rt; relation.id(), 12);
+fn a_way(rt: HostRuntime) -> Result<(), Fail> {
+    let payload = payload(rt.alloc())?;
+    let block = block_in(&rt, &payload);
+    let EntityRef::Way(way) = entity_in(&rt, &block, -9) else {
+        panic!(rt; "it is no way");
+    };
+    let refs: Vec<i64> = way.refs().collect(rt.alloc())?;
+    let locations: Vec<(i64, i64)> = way.locations().collect(rt.alloc())?;
+    let tags = tags_in(rt.alloc(), way.tags())?;
+    let meta = way.meta();
+    assert_eq!(rt; refs.as_slice(), [100, 101, 98].as_slice());
+    assert_eq!(rt; locations.as_slice(), [(5, 8), (-1, 7), (1, 6)].as_slice());
+    assert_eq!(rt;
+        tags.as_slice(),
+        [(b"highway".as_slice(), b"stop".as_slice())].as_slice()
+    );
+    assert!(rt; meta.uid == Some(7) && meta.visible == Some(false));
+    Ok(())
+}
+
+fn is_member(member: Option<MemberRef<'_>>, kind: MemberKind, id: i64, role: &[u8]) -> bool {
+    match member {
+        Some(member) => member.kind == kind && member.id == id && member.role == role,
+        None => false,
+    }
+}
+
+#[test]
+fn a_relation(rt: HostRuntime) -> Result<(), Fail> {
+    let payload = payload(rt.alloc())?;
+    let block = block_in(&rt, &payload);
+    let EntityRef::Relation(relation) = entity_in(&rt, &block, 12) else {
+        panic!(rt; "it is no relation");
+    };
     let mut members = relation.members();
     for (kind, id, role) in [
         (MemberKind::Relation, 30, b"ann".as_slice()),
         (MemberKind::Way, 5, b"".as_slice()),
         (MemberKind::Node, 7, b"x".as_slice()),
     ] {
-        let Some(member) = members.next() else {
-            panic!(rt; "a member is lost");
-        };
-        assert_eq!(rt; (member.kind, member.id), (kind, id));
-        assert_eq!(rt; member.role, role);
+        assert!(rt; is_member(members.next(), kind, id, role));
     }
-    assert!(rt; members.next().is_none());
-    assert!(rt; relation.tags().next().is_none());
+    assert!(rt; members.next().is_none() && relation.tags().next().is_none());
+    Ok(())
 }
 
 /// Two groups: the second node has a tag of text 1 and text 1, and so has the first node of the dense message.
 const TAGGED: [u8; 46] =
     *b"\x12\x16\x0a\x06\x08\x02\x40\x00\x48\x00\x0a\x0c\x08\x04\x40\x00\x48\x00\x12\x01\x01\x1a\x01\x01\x12\x14\x12\x12\x0a\x02\x02\x02\x42\x02\x00\x00\x4a\x02\x00\x00\x52\x04\x00\x01\x01\x00";
 
-/// The least weight fault of [`TAGGED`], and of its second group, where text 1 has this length.
-fn heavy_at(alloc: Global, length: usize) -> Result<(Option<Fault>, Option<Fault>), AllocError> {
+/// How far behind the table the payload's fault stands, and its reason: of these groups behind a table whose text 1 has this length.
+fn fault_behind(
+    alloc: Global,
+    length: usize,
+    groups: &[u8],
+) -> Result<Option<(u64, Reason)>, AllocError> {
     let mut text = Vec::new(alloc);
     text.resize(length, b'v')?;
-    let mut message = Vec::new(alloc);
-    put_bytes(&mut message, 1, b"")?;
-    put_bytes(&mut message, 1, &text)?;
-    if message.len() >= 33_554_432 {
-        return Ok((None, None));
-    }
-    let Ok(table) = Table::read(alloc, &message, 0, 0) else {
+    let mut texts = Vec::new(alloc);
+    put_bytes(&mut texts, 1, b"")?;
+    put_bytes(&mut texts, 1, &text)?;
+    let mut payload = Vec::new(alloc);
+    put_bytes(&mut payload, 1, &texts)?;
+    let begin = payload.len() as u64;
+    payload.extend_from_slice(groups)?;
+    if payload.len() >= 33_554_432 {
         return Err(AllocError);
-    };
-    Ok((
-        judge_weights(&TAGGED, 100, &table, SCALE),
-        judge_weights(&TAGGED[24..], 100, &table, SCALE),
-    ))
+    }
+    match Block::read(alloc, &payload, 0) {
+        Ok(_) => Ok(None),
+        Err(ReadFault::Refused(Fault { offset, reason })) => {
+            Ok(Some((offset.abs_diff(begin), reason)))
+        }
+        Err(ReadFault::Memory) => Err(AllocError),
+    }
 }
 
 #[test]
 fn the_heaviest_entities(rt: HostRuntime) -> Result<(), Fail> {
-    assert_eq!(rt; heavy_at(rt.alloc(), 5_999_904)?, (None, None));
-    let fault = |offset| {
-        Some(Fault {
-            offset,
-            reason: Reason::EntityLarge,
-        })
-    };
-    assert_eq!(rt; heavy_at(rt.alloc(), 5_999_905)?, (fault(110), fault(102)));
+    assert_eq!(rt; fault_behind(rt.alloc(), 5_999_904, &TAGGED)?, None);
+    for (groups, place) in [(TAGGED.as_slice(), 10), (&TAGGED[24..], 2)] {
+        let fault = fault_behind(rt.alloc(), 5_999_905, groups)?;
+        assert_eq!(rt; fault, Some((place, Reason::EntityLarge)));
+    }
     Ok(())
 }
