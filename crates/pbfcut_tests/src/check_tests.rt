@@ -1,9 +1,9 @@
 //! What no clause of `check` says: the format's own examples, and devices and memory that fail.
 
 use crate::tests::{HEADER_ALONE, THREE_DENSE_NODES};
-use crate::{Counts, check};
 use pbf_frame::{Pieces, Stop};
 use pbf_wire::{Fault, Reason};
+use pbfcut::{Counts, check};
 use std::process::Abort;
 use std::test::Fail;
 

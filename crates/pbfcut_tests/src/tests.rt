@@ -1,8 +1,8 @@
 //! What no clause says: the format's own examples through `list_blobs`, and devices and memory that fail.
 
-use crate::list_blobs;
 use pbf_frame::{Pieces, Sink, Stop};
 use pbf_wire::{Fault, Reason};
+use pbfcut::list_blobs;
 use std::process::Abort;
 use std::test::Fail;
 

@@ -3,10 +3,10 @@
 
 use crate::check_tests::counts;
 use crate::tests::{HEADER_ALONE, THREE_DENSE_NODES};
-use crate::{Counts, show};
 use osm_entity::{EntityRef, MetaRef, NodeRef, OwnedTags, Scale, Tags};
 use pbf_frame::{Pieces, Sink, Stop};
 use pbf_wire::{Fault, Reason};
+use pbfcut::{Counts, show};
 use std::process::Abort;
 use std::test::Fail;
 
