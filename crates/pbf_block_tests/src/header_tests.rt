@@ -71,6 +71,22 @@ fn says_nothing(header: &Header) -> bool {
         && header.sequence.is_none()
 }
 
+/// Whether a header's texts that are kept, its time and its sequence are those of [`EVERY_FIELD`].
+fn says_what_is_kept(header: &Header) -> bool {
+    is(&header.source, Some(b"second"))
+        && is(&header.url, Some(b"http://a"))
+        && header.timestamp == Some(-5)
+        && header.sequence == Some(4_294_967_303)
+}
+
+/// Whether a header is one that pbfcut writes, with this box and these optional features.
+fn is_written(header: &Header, bbox: Option<HeaderBox>, optional: &[&[u8]]) -> bool {
+    header.bbox == bbox
+        && are(&header.required, &WRITTEN_REQUIRED)
+        && are(&header.optional, optional)
+        && is(&header.program, Some(b"pbfcut"))
+}
+
 /// Whether the payload is refused, for this reason at this place.
 fn is_refused(rt: HostRuntime, payload: &[u8], offset: u64, reason: Reason) -> bool {
     let refused = Fault { offset, reason };
@@ -80,35 +96,27 @@ fn is_refused(rt: HostRuntime, payload: &[u8], offset: u64, reason: Reason) -> b
     matches!(Header::read(rt.alloc(), payload, AT), Err(ReadFault::Refused(fault)) if fault == refused)
 }
 
+/// Whether the features of a header are those of [`EVERY_FIELD`].
+fn has_every_feature(header: &Header) -> bool {
+    let required: [&[u8]; 3] = [b"OsmSchema-V0.6", b"DenseNodes", b"OsmSchema-V0.6"];
+    let optional: [&[u8]; 5] = [
+        b"LocationsOnWays",
+        b"Has_Metadata",
+        b"Foo",
+        b"Has_Metadata",
+        b"Sort.Type_then_ID",
+    ];
+    are(&header.required, &required) && are(&header.optional, &optional)
+}
+
 #[test]
 fn a_header_with_every_field(rt: HostRuntime) -> Result<(), Fail> {
     let Ok(header) = Header::read(rt.alloc(), EVERY_FIELD, AT) else {
         panic!(rt; "the header is refused");
     };
     assert_eq!(rt; header.bbox, Some(EVERY_BOX));
-    assert!(rt;
-        are(
-            &header.required,
-            &[b"OsmSchema-V0.6", b"DenseNodes", b"OsmSchema-V0.6"]
-        )
-    );
-    assert!(rt;
-        are(
-            &header.optional,
-            &[
-                b"LocationsOnWays",
-                b"Has_Metadata",
-                b"Foo",
-                b"Has_Metadata",
-                b"Sort.Type_then_ID"
-            ],
-        )
-    );
-    assert!(rt; is(&header.program, Some(b"two")));
-    assert!(rt; is(&header.source, Some(b"second")));
-    assert!(rt; is(&header.url, Some(b"http://a")));
-    assert_eq!(rt; header.timestamp, Some(-5));
-    assert_eq!(rt; header.sequence, Some(4_294_967_303));
+    assert!(rt; has_every_feature(&header));
+    assert!(rt; is(&header.program, Some(b"two")) && says_what_is_kept(&header));
     Ok(())
 }
 
@@ -255,40 +263,35 @@ fn the_header_of_an_extract(rt: HostRuntime) -> Result<(), Fail> {
         top: 2_000_000_000,
         bottom: -1,
     };
-    assert_eq!(rt; header.bbox, Some(edges));
-    assert!(rt; are(&header.required, &WRITTEN_REQUIRED));
-    assert!(rt;
-        are(
-            &header.optional,
-            &[b"Has_Metadata", b"Sort.Type_then_ID", b"LocationsOnWays"]
-        )
-    );
-    assert!(rt; is(&header.program, Some(b"pbfcut")));
-    assert!(rt; is(&header.source, Some(b"second")));
-    assert!(rt; is(&header.url, Some(b"http://a")));
-    assert_eq!(rt; header.timestamp, Some(-5));
-    assert_eq!(rt; header.sequence, Some(4_294_967_303));
+    let optional: [&[u8]; 3] = [b"Has_Metadata", b"Sort.Type_then_ID", b"LocationsOnWays"];
+    assert!(rt; is_written(&header, Some(edges), &optional) && says_what_is_kept(&header));
     Ok(())
 }
 
 #[test]
 fn the_header_of_a_converted_file(rt: HostRuntime) -> Result<(), Fail> {
-    let Ok(empty) = Header::read(rt.alloc(), b"", AT) else {
-        panic!(rt; "the header is refused");
-    };
-    let header = empty.for_convert(rt.alloc())?;
-    assert_eq!(rt; header.bbox, None);
-    assert!(rt; are(&header.required, &WRITTEN_REQUIRED));
-    assert!(rt; header.optional.is_empty());
-    assert!(rt; is(&header.program, Some(b"pbfcut")));
-    assert!(rt; is(&header.source, None));
-    assert!(rt; is(&header.url, None));
-    assert_eq!(rt; header.timestamp, None);
-    assert_eq!(rt; header.sequence, None);
     let Ok(read) = Header::read(rt.alloc(), EVERY_FIELD, AT) else {
         panic!(rt; "the header is refused");
     };
     assert_eq!(rt; read.for_convert(rt.alloc())?.bbox, Some(EVERY_BOX));
+    Ok(())
+}
+
+/// Whether a header says no more than each written one.
+fn says_no_more(header: &Header) -> bool {
+    is_written(header, None, &[])
+        && header.source.is_none()
+        && header.url.is_none()
+        && header.timestamp.is_none()
+        && header.sequence.is_none()
+}
+
+#[test]
+fn the_header_for_an_empty_one(rt: HostRuntime) -> Result<(), Fail> {
+    let Ok(empty) = Header::read(rt.alloc(), b"", AT) else {
+        panic!(rt; "the header is refused");
+    };
+    assert!(rt; says_no_more(&empty.for_convert(rt.alloc())?));
     Ok(())
 }
 
