@@ -3,7 +3,7 @@ use Rattle.std.specs.List.{filter}
 use Rattle.std.proofs.lemmas.Result.{err_from_is_err_and}
 use Rattle.pbf_frame.proofs.VerdictLemmas.{gone_more}
 use Rattle.pbf_block.specs.Header.{header_of}
-use Rattle.pbfcut.specs.Counting.{decoded}
+use Rattle.pbfcut.specs.Counting.{stored_entities}
 use Rattle.pbfcut.specs.Pick.{pick_of}
 use Rattle.pbfcut.proofs.PickingLemmas.{none_packed, same_packed, says_end, last_front, frame_packed, step_front, behind_header, header_alone, whole_file, ended, end_front, fails_since}
 use Rattle.pbfcut.proofs.StepLemmas.{took_one, met_end, stopped_step, loop_stops, fully_first, picked_counts}
@@ -44,7 +44,7 @@ frames-preserved g c =
 pub returns-in_err-put_header-clause-beginning : goal.returns-in_err-put_header-clause-beginning
 returns-in_err-put_header-clause-beginning g c =
     let p = err_from_is_err_and c.from_residual.result c.from_residual.ensures.1 in
-    rw p.1 (λ all is. header_alone (header_of c.args.writing.header.now) _ _ (filter (pick_of c.args.writing.selection) (decoded all.0)) (c.in_err-put_header.ensures.front c.requires.fresh.packing))
+    rw p.1 (λ all is. header_alone (header_of c.args.writing.header.now) _ _ (filter (pick_of c.args.writing.selection) (stored_entities all.0)) (c.in_err-put_header.ensures.front c.requires.fresh.packing))
 
 pub returns-in_err-step_write-clause-beginning : goal.returns-in_err-step_write-clause-beginning
 returns-in_err-step_write-clause-beginning g c =
@@ -52,7 +52,7 @@ returns-in_err-step_write-clause-beginning g c =
     let so_far = c.frames.invariant in
     let pick = pick_of c.args.writing.selection in
     let stopped = stopped_step g.F.Feed _ _ _ _ _ _ so_far.reading (c.in_err-step_write.ensures.step so_far.going) in
-    rw p.1 (λ all is. behind_header (header_of c.args.writing.header.now) _ _ _ (filter pick (decoded all.0)) (c.in_ok-put_header.ensures.written c.requires.fresh.packing)
+    rw p.1 (λ all is. behind_header (header_of c.args.writing.header.now) _ _ _ (filter pick (stored_entities all.0)) (c.in_ok-put_header.ensures.written c.requires.fresh.packing)
     (step_front g.F.Feed g.D.Drain pick _ _ so_far.done.0 _ _ c.frames.packer _ _ _ _ so_far.done.1 so_far.done.2 stopped all is))
 
 pub returns-in_err-step_write-clause-stops : goal.returns-in_err-step_write-clause-stops
@@ -70,10 +70,10 @@ returns-in_err-finish-clause-beginning g c =
     let frames = so_far.done.0 in
     let pick = pick_of c.args.writing.selection in
     let e = met_end g.F.Feed _ _ _ _ _ _ c.if-branch.false so_far.reading (c.in_ok-step_write.ensures.step so_far.going) in
-    let packed = same_packed _ (filter pick (decoded frames)) _ _ c.frames.packer _ (ap (λ p. g.D.Drain.taken p.drain) e.stays.1) e.stays.1 so_far.done.2 in
-    rw p.1 (λ all is. behind_header (header_of c.args.writing.header.now) _ _ _ (filter pick (decoded all.0)) (c.in_ok-put_header.ensures.written c.requires.fresh.packing)
+    let packed = same_packed _ (filter pick (stored_entities frames)) _ _ c.frames.packer _ (ap (λ p. g.D.Drain.taken p.drain) e.stays.1) e.stays.1 so_far.done.2 in
+    rw p.1 (λ all is. behind_header (header_of c.args.writing.header.now) _ _ _ (filter pick (stored_entities all.0)) (c.in_ok-put_header.ensures.written c.requires.fresh.packing)
     (last_front pick _ _ _ _ all (says_end _ _ frames so_far.done.1 e.none) is
-    (end_front _ (filter pick (decoded frames)) _ _ c.step_write.new.packer packed (c.in_err-finish.ensures.front (ap (λ p. p.stop) e.stays.1 ∙ so_far.going)))))
+    (end_front _ (filter pick (stored_entities frames)) _ _ c.step_write.new.packer packed (c.in_err-finish.ensures.front (ap (λ p. p.stop) e.stays.1 ∙ so_far.going)))))
 
 pub returns-clause-packed : goal.returns-clause-packed
 returns-clause-packed g c =
@@ -81,10 +81,10 @@ returns-clause-packed g c =
     let frames = so_far.done.0 in
     let pick = pick_of c.args.writing.selection in
     let e = met_end g.F.Feed _ _ _ _ _ _ c.if-branch.false so_far.reading (c.in_ok-step_write.ensures.step so_far.going) in
-    let packed = same_packed _ (filter pick (decoded frames)) _ _ c.frames.packer _ (ap (λ p. g.D.Drain.taken p.drain) e.stays.1) e.stays.1 so_far.done.2 in
+    let packed = same_packed _ (filter pick (stored_entities frames)) _ _ c.frames.packer _ (ap (λ p. g.D.Drain.taken p.drain) e.stays.1) e.stays.1 so_far.done.2 in
     record {
       frames = frames;
       says = says_end _ _ frames so_far.done.1 e.none;
       counted = ap (λ p. p.counts) e.stays.0 ∙ so_far.done.3;
-      taken = whole_file (header_of c.args.writing.header.now) _ _ _ (filter pick (decoded frames)) (c.in_ok-put_header.ensures.written c.requires.fresh.packing) (ended _ (filter pick (decoded frames)) _ _ c.step_write.new.packer packed c.in_ok-finish.ensures.written);
+      taken = whole_file (header_of c.args.writing.header.now) _ _ _ (filter pick (stored_entities frames)) (c.in_ok-put_header.ensures.written c.requires.fresh.packing) (ended _ (filter pick (stored_entities frames)) _ _ c.step_write.new.packer packed c.in_ok-finish.ensures.written);
     }
