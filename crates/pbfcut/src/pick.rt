@@ -279,6 +279,14 @@ fn selected(chosen: Option<&Chosen>) -> Selection<'_>
     }
 }
 
+/// The same where all parents were chosen too.
+#[tactic(auto, unfolding(crate::specs::Pick::pick_of))]
+fn selected_with_parents(chosen: &ChosenParents) -> Selection<'_>
+    ensures { pick_of result ≡ picked_with_parents chosen.now }
+{
+    Selection::Parents(chosen)
+}
+
 /// [`step_pack`] of the complete-ways extract, or of all entities.
 pub fn step_write<F: Feed, D: Drain, S: BuildHasher>(
     alloc: Global,
@@ -312,7 +320,7 @@ pub fn step_write_parents<F: Feed, D: Drain, S: BuildHasher>(
     ensures limited { place_of reader.new ≤ 2 ^ 62 }
     ensures space { held_by reader.new + packer_held packer.new ≤ 61620990 }
 {
-    step_pack(alloc, reader, pass, Selection::Parents(chosen), packer)
+    step_pack(alloc, reader, pass, selected_with_parents(chosen), packer)
 }
 
 /// What is written of a file.
