@@ -2,8 +2,6 @@
 #![tactic(auto)]
 
 mod blobs;
-#[cfg(test)]
-mod check_tests;
 mod checking;
 mod converting;
 mod extracting;
@@ -13,11 +11,7 @@ pub mod laws;
 mod pass;
 mod pick;
 mod repeat;
-#[cfg(test)]
-mod show_tests;
 mod showing;
-#[cfg(test)]
-mod tests;
 
 pub use blobs::list_blobs;
 pub use checking::check;
