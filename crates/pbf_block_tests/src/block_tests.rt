@@ -119,8 +119,8 @@ fn a_plain_node(rt: HostRuntime) {
     );
 }
 
-/// Each byte that is changed makes another message of the payload: an unknown field, a table with a group in it, ways, an
-/// unknown field of a group, a longer id, a cut column.
+/// Each byte that is changed makes another message of the payload: an unknown field for the table, a table with a group in it,
+/// an unknown field for the group, a way.
 #[test]
 fn three_dense_nodes_with_changed_bytes(rt: HostRuntime) {
     assert_eq!(rt;
@@ -151,6 +151,11 @@ fn three_dense_nodes_with_changed_bytes(rt: HostRuntime) {
         ),
         at(44, Reason::WrongType)
     );
+}
+
+/// A longer id, a cut column, and both.
+#[test]
+fn three_dense_nodes_with_changed_columns(rt: HostRuntime) {
     assert_eq!(rt;
         verdict(
             &rt,
