@@ -73,6 +73,16 @@ fn files_without_a_fault(rt: HostRuntime) -> Result<(), Fail> {
 }
 
 #[test]
+fn from_a_slice_into_a_vector(rt: HostRuntime) -> Result<(), Fail> {
+    let mut input: &[u8] = &THREE_DENSE_NODES;
+    let mut output = Vec::new(rt.alloc());
+    let listed = list_blobs(rt.alloc(), &mut input, &mut output);
+    assert_eq!(rt; listed, Ok(2));
+    assert_eq!(rt; output.as_slice(), TWO_LINES.as_bytes());
+    Ok(())
+}
+
+#[test]
 fn empty_file(rt: HostRuntime) -> Result<(), Fail> {
     lists(&rt, &[], "", refused(0, Reason::NoHeader))
 }
