@@ -75,7 +75,7 @@ pub(crate) fn degrees(text: &str) -> Option<i64>
 }
 
 /// The parts of a box's text.
-#[derive(Clone, Copy, Debug)]
+#[derive(Clone, Copy)]
 pub(crate) struct Parts<'a> {
     pub left: &'a str,
     pub bottom: &'a str,

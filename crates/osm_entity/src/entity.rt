@@ -17,7 +17,7 @@ use crate::tags::Tags;
 use crate::way::WayRef;
 
 /// A node, a way or a relation, wherever it lies.
-#[derive(Clone, Copy, Debug)]
+#[derive(Clone, Copy)]
 pub enum EntityRef<'a> {
     Node(NodeRef<'a>),
     Way(WayRef<'a>),

@@ -8,7 +8,7 @@ use pbf_wire::Sums;
 use std::alloc::{AllocError, Global};
 
 /// The locations of an owned way that are still to come.
-#[derive(Clone, Copy, Debug)]
+#[derive(Clone, Copy)]
 pub struct OwnedLocations<'a> {
     rest: &'a [(i64, i64)],
 }
@@ -42,7 +42,7 @@ impl<'a> Iterator for OwnedLocations<'a> {
 }
 
 /// The locations of a way in a block that are still to come: the values of two columns.
-#[derive(Clone, Copy, Debug)]
+#[derive(Clone, Copy)]
 pub struct SummedLocations<'a> {
     lats: Sums<'a>,
     lons: Sums<'a>,
@@ -80,7 +80,7 @@ impl<'a> Iterator for SummedLocations<'a> {
 }
 
 /// The locations of a way that are still to come, each a stored latitude and longitude.
-#[derive(Clone, Copy, Debug)]
+#[derive(Clone, Copy)]
 pub enum Locations<'a> {
     Owned(OwnedLocations<'a>),
     Summed(SummedLocations<'a>),
@@ -105,7 +105,7 @@ impl<'a> Iterator for Locations<'a> {
 }
 
 /// The locations of a way that are still to come, each a latitude and longitude in nanodegrees.
-#[derive(Clone, Copy, Debug)]
+#[derive(Clone, Copy)]
 pub struct NanoLocations<'a> {
     stored: Locations<'a>,
     scale: Scale,

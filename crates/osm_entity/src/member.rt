@@ -57,7 +57,7 @@ fn member_kind(number: u64) -> MemberKind
 }
 
 /// The members of an owned relation that are still to come.
-#[derive(Clone, Copy, Debug)]
+#[derive(Clone, Copy)]
 pub struct OwnedMembers<'a> {
     rest: &'a [Member],
 }
@@ -95,7 +95,7 @@ impl<'a> Iterator for OwnedMembers<'a> {
 }
 
 /// The members of a relation in a block that are still to come: the numbers of three columns.
-#[derive(Clone, Copy, Debug)]
+#[derive(Clone, Copy)]
 pub struct ColumnMembers<'a> {
     kinds: Column<'a>,
     ids: Sums<'a>,
@@ -149,7 +149,7 @@ impl<'a> Iterator for ColumnMembers<'a> {
 }
 
 /// The members of a relation that are still to come.
-#[derive(Clone, Copy, Debug)]
+#[derive(Clone, Copy)]
 pub enum Members<'a> {
     Owned(OwnedMembers<'a>),
     Columns(ColumnMembers<'a>),

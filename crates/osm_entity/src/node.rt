@@ -43,7 +43,7 @@ impl Node {
 }
 
 /// A node, wherever it lies.
-#[derive(Clone, Copy, Debug)]
+#[derive(Clone, Copy)]
 pub struct NodeRef<'a> {
     id: i64,
     lat: i64,

@@ -7,7 +7,7 @@ use pbf_wire::Sums;
 use std::alloc::{AllocError, Global};
 
 /// The refs of an owned way that are still to come.
-#[derive(Clone, Copy, Debug)]
+#[derive(Clone, Copy)]
 pub struct OwnedRefs<'a> {
     rest: &'a [i64],
 }
@@ -41,7 +41,7 @@ impl<'a> Iterator for OwnedRefs<'a> {
 }
 
 /// The refs of a way that are still to come, each the id of a node.
-#[derive(Clone, Copy, Debug)]
+#[derive(Clone, Copy)]
 pub enum Refs<'a> {
     Owned(OwnedRefs<'a>),
     Summed(Sums<'a>),

@@ -41,7 +41,7 @@ impl Relation {
 }
 
 /// A relation, wherever it lies.
-#[derive(Clone, Copy, Debug)]
+#[derive(Clone, Copy)]
 pub struct RelationRef<'a> {
     id: i64,
     meta: MetaRef<'a>,

@@ -19,7 +19,7 @@ pub(crate) fn named<'a>(table: &'a Table<'a>, number: u64) -> &'a [u8]
 }
 
 /// The tags of an owned entity that are still to come.
-#[derive(Clone, Copy, Debug)]
+#[derive(Clone, Copy)]
 pub struct OwnedTags<'a> {
     rest: &'a [Tag],
 }
@@ -53,7 +53,7 @@ impl<'a> Iterator for OwnedTags<'a> {
 }
 
 /// The tags of a dense node that are still to come: numbers of texts in turn, key and value, up to a 0 in key place.
-#[derive(Clone, Copy, Debug)]
+#[derive(Clone, Copy)]
 pub struct RunTags<'a> {
     numbers: Column<'a>,
     table: &'a Table<'a>,
@@ -94,7 +94,7 @@ impl<'a> Iterator for RunTags<'a> {
 }
 
 /// The tags of a node, way or relation that are still to come: numbers of texts, the keys apart from the values.
-#[derive(Clone, Copy, Debug)]
+#[derive(Clone, Copy)]
 pub struct PairedTags<'a> {
     keys: Column<'a>,
     values: Column<'a>,
@@ -136,7 +136,7 @@ impl<'a> Iterator for PairedTags<'a> {
 }
 
 /// The tags of an entity that are still to come, each a key and its value.
-#[derive(Clone, Copy, Debug)]
+#[derive(Clone, Copy)]
 pub enum Tags<'a> {
     Owned(OwnedTags<'a>),
     Run(RunTags<'a>),

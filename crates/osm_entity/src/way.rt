@@ -49,7 +49,7 @@ impl Way {
 }
 
 /// A way, wherever it lies.
-#[derive(Clone, Copy, Debug)]
+#[derive(Clone, Copy)]
 pub struct WayRef<'a> {
     id: i64,
     meta: MetaRef<'a>,

@@ -12,7 +12,7 @@ use std::collections::btree_set::Range;
 use std::marker::Model;
 
 /// A link from one id to another: a set that holds the member is to hold the parent.
-#[derive(Clone, Copy, Debug, PartialEq, Eq, PartialOrd, Ord)]
+#[derive(Clone, Copy, PartialEq, Eq, PartialOrd, Ord)]
 pub struct Link {
     pub member: i64,
     pub parent: i64,

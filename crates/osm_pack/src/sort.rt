@@ -15,7 +15,7 @@ fn both(one: bool, other: bool) -> bool
 }
 
 /// Which fields of metadata are present.
-#[derive(Clone, Copy, Debug)]
+#[derive(Clone, Copy)]
 pub(crate) struct Fields {
     version: bool,
     timestamp: bool,
@@ -85,7 +85,7 @@ fn is_same_kind(kind: MemberKind, other: MemberKind) -> bool
 }
 
 /// The kind and the scale of an entity, and of a node the fields of metadata that are present.
-#[derive(Clone, Copy, Debug)]
+#[derive(Clone, Copy)]
 pub(crate) struct Sort {
     kind: MemberKind,
     pub(crate) scale: Scale,

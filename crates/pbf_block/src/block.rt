@@ -81,7 +81,7 @@ fn late_fault<'a>(payload: &'a [u8], at: u64, table: &'a Table<'a>, scale: Scale
 }
 
 /// A PrimitiveBlock without a fault. It borrows the payload, and holds the place of each text of its string table.
-#[derive(Debug, Drop)]
+#[derive(Drop)]
 pub struct Block<'a> {
     payload: &'a [u8],
     at: u64,

@@ -9,7 +9,7 @@ use pbf_wire::{Fields, Payload};
 
 /// The entities of a block that are still to come, of the kinds asked for, in the order of its groups: an iterator over the
 /// payload, which takes no memory. A copy of it goes on by itself.
-#[derive(Clone, Copy, Debug)]
+#[derive(Clone, Copy)]
 pub struct Entities<'a> {
     /// What is left of the group that was begun.
     group: Option<Group<'a>>,

@@ -8,7 +8,7 @@ use crate::message::{ID, INFO, KEYS, VALS};
 use pbf_wire::Fields;
 
 /// The counts of a message. No packed payload is decoded.
-#[derive(Clone, Copy, Debug)]
+#[derive(Clone, Copy)]
 pub(crate) struct EntityCounts {
     pub(crate) has_id: bool,
     /// Whether there is more than one info.

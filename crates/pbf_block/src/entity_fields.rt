@@ -21,7 +21,7 @@ use pbf_wire::{Column, Field, Fields, Payload, Sums, low_i64, unzigzag};
 
 /// Where the fields of an entity's message are. Those of a column begin at the first of its number, so that a column over them
 /// passes over no field before its own.
-#[derive(Clone, Copy, Debug)]
+#[derive(Clone, Copy)]
 pub(crate) struct EntityFields<'a> {
     id: Option<u64>,
     info: Option<Field<'a>>,

@@ -14,7 +14,7 @@ use pbf_wire::{Fault, Fields, lesser};
 
 /// What one pass over an entity's message judges, and where it finds what is judged after it: fields begin at the first of their
 /// number, so that an absent column takes no pass.
-#[derive(Clone, Copy, Debug)]
+#[derive(Clone, Copy)]
 pub(crate) struct EntityValues<'a> {
     /// The last id and its place; `None` where the last is no number.
     pub(crate) id: Option<(u64, u64)>,

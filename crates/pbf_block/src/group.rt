@@ -32,7 +32,7 @@ pub(crate) fn next_field<'a>(fields: &mut Fields<'a>) -> Option<Field<'a>>
 
 /// The entities of a group that are still to come, of the kinds asked for: an iterator over the group's fields, which takes no
 /// memory. Fields that hold other kinds are passed over.
-#[derive(Clone, Copy, Debug)]
+#[derive(Clone, Copy)]
 pub(crate) struct Group<'a> {
     /// What is left of the dense message that was begun.
     dense: Option<Dense<'a>>,

@@ -16,7 +16,7 @@ use pbf_strings::Table;
 use pbf_wire::{Field, Fields, Payload, low_i32, low_i64, low_u32};
 
 /// The numbers of an Info as they are stored, each the last of its field.
-#[derive(Clone, Copy, Debug)]
+#[derive(Clone, Copy)]
 pub(crate) struct InfoNumbers {
     version: Option<u64>,
     timestamp: Option<u64>,

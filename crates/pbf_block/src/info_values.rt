@@ -14,7 +14,7 @@ use pbf_wire::{Fault, Field, Fields, Payload, lesser};
 
 /// The last time, changeset, uid and user of an Info, each with the place of its field; `None` where the last field of that
 /// number is absent or no number.
-#[derive(Clone, Copy, Debug)]
+#[derive(Clone, Copy)]
 pub(crate) struct InfoValues {
     pub(crate) timestamp: Option<(u64, u64)>,
     pub(crate) changeset: Option<(u64, u64)>,

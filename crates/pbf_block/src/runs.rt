@@ -18,7 +18,7 @@ use pbf_strings::Table;
 use pbf_wire::{Field, Fields, Payload};
 
 /// Entities that one field of a group holds.
-#[derive(Clone, Copy, Debug)]
+#[derive(Clone, Copy)]
 pub enum Run<'a> {
     /// None, or none of the kinds asked for.
     Nothing,
@@ -50,7 +50,7 @@ fn run_in<'a>(field: Field<'a>, table: &'a Table<'a>, scale: Scale, kinds: Kinds
 
 /// The runs of a block that are still to come, one for each field of its groups, in order: an iterator over the payload, which
 /// takes no memory.
-#[derive(Clone, Copy, Debug)]
+#[derive(Clone, Copy)]
 pub struct Runs<'a> {
     /// What is left of the group that was begun.
     fields: Fields<'a>,

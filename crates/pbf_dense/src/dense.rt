@@ -27,7 +27,7 @@ fn skip_run(numbers: &mut Column<'_>)
 }
 
 /// The nodes of a dense message that are still to come: an iterator over its columns, which takes no memory.
-#[derive(Clone, Copy, Debug)]
+#[derive(Clone, Copy)]
 pub struct Dense<'a> {
     ids: Sums<'a>,
     lats: Sums<'a>,

@@ -57,7 +57,7 @@ fn next_uid(uids: &mut Sums<'_>) -> Option<i32>
 }
 
 /// What is left of the columns of metadata, each of which is empty or goes with the nodes.
-#[derive(Clone, Copy, Debug)]
+#[derive(Clone, Copy)]
 pub(crate) struct InfoColumns<'a> {
     versions: Column<'a>,
     timestamps: Sums<'a>,

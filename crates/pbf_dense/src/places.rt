@@ -13,7 +13,7 @@ pub struct Place {
 
 /// The places of the nodes of a dense message that are still to come: an iterator over three of its columns, which takes no
 /// memory. Tags and metadata aren't read.
-#[derive(Clone, Copy, Debug)]
+#[derive(Clone, Copy)]
 pub struct Places<'a> {
     pub(crate) ids: Sums<'a>,
     pub(crate) lats: Sums<'a>,

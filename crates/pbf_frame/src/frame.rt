@@ -15,7 +15,7 @@ pub enum FrameKind {
 }
 
 /// A frame, lent by its reader until the next call.
-#[derive(Clone, Copy, Debug)]
+#[derive(Clone, Copy)]
 pub struct Frame<'a> {
     /// Where in the file it begins.
     pub offset: u64,

@@ -35,7 +35,7 @@ pub(crate) const HEADER_LIMIT: u32 = 65_536;
 pub(crate) const LARGEST_SIZE: u32 = 33_555_455;
 
 /// What a BlobHeader says of its frame.
-#[derive(Clone, Copy, Debug, PartialEq, Eq)]
+#[derive(Clone, Copy, PartialEq, Eq)]
 pub(crate) struct Head {
     pub(crate) kind: FrameKind,
     pub(crate) size: u32,

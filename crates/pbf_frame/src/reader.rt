@@ -13,7 +13,7 @@ use pbf_wire::last_field;
 use std::alloc::Global;
 
 /// Whether a reader goes on.
-#[derive(Clone, Copy, Debug, PartialEq, Eq)]
+#[derive(Clone, Copy, PartialEq, Eq)]
 enum State {
     Reading,
     Ended,

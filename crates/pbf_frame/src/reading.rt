@@ -225,7 +225,7 @@ fn read_blob<F: Feed>(feed: &mut F, blob: &mut Vec<u8>, head: Head, at: u64) -> 
 }
 
 /// A frame whose bytes lie in the reader's buffers.
-#[derive(Clone, Copy, Debug, PartialEq, Eq)]
+#[derive(Clone, Copy, PartialEq, Eq)]
 pub(crate) struct Seen {
     pub(crate) offset: u64,
     pub(crate) kind: FrameKind,

@@ -84,7 +84,7 @@ fn places(alloc: Global, message: &[u8]) -> Result<Vec<u32>, AllocError>
 
 /// The texts of a StringTable. It borrows the message and holds the place of each text in it, four bytes a text. Contracts
 /// see it as the list of its texts.
-#[derive(Debug, Drop)]
+#[derive(Drop)]
 pub struct Table<'a> {
     message: &'a [u8],
     places: Vec<u32>,

@@ -8,7 +8,7 @@ use std::alloc::{AllocError, Global};
 use std::marker::Model;
 
 /// A packed column, encoded as it is pushed to: it holds bytes alone. Contracts see it as the list of its numbers.
-#[derive(Debug, Drop)]
+#[derive(Drop)]
 pub struct ColumnOut {
     bytes: Vec<u8>,
 }

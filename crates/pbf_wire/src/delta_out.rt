@@ -12,7 +12,7 @@ use std::marker::Model;
 
 /// A packed column of deltas (`sint64`), encoded as it is pushed to: it holds bytes and the last value. Contracts see it as
 /// the list of its values.
-#[derive(Debug, Drop)]
+#[derive(Drop)]
 pub struct DeltaOut {
     bytes: Vec<u8>,
     last: i64,

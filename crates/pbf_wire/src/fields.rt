@@ -78,7 +78,7 @@ fn field_at(bytes: &[u8], at: u64) -> Result<(Field<'_>, usize), Reason>
 
 /// The fields of a message, in order: an iterator over the bytes, which takes no memory. A fault ends it: after an `Err`
 /// there are no more items.
-#[derive(Clone, Copy, Debug)]
+#[derive(Clone, Copy)]
 pub struct Fields<'a> {
     rest: &'a [u8],
     at: u64,

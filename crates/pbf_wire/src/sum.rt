@@ -8,7 +8,7 @@ use std::marker::Model;
 
 /// The sum of the numbers that were added, strictly between `-limit` and `limit`. The value of a delta column is the sum of
 /// its entries so far.
-#[derive(Clone, Copy, Debug)]
+#[derive(Clone, Copy)]
 pub struct Sum {
     total: i64,
     limit: i64,
