@@ -13,8 +13,6 @@ mod refs;
 mod relation;
 mod scale;
 mod tags;
-#[cfg(test)]
-mod tests;
 mod way;
 mod weight;
 

@@ -16,6 +16,3 @@ pub use links::{Link, Links};
 pub use lookup::Lookup;
 pub use pages::SealedIds;
 pub use set::IdSet;
-
-#[cfg(test)]
-mod tests;

@@ -6,7 +6,5 @@ mod frames;
 pub mod laws;
 mod packer;
 mod sort;
-#[cfg(test)]
-mod tests;
 
 pub use packer::Packer;

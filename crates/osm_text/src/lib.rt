@@ -7,8 +7,6 @@ mod entity_text;
 mod header_text;
 mod number;
 mod quoted;
-#[cfg(test)]
-mod tests;
 
 pub use entity_text::put_entity;
 pub use header_text::put_header;

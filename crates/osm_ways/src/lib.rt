@@ -9,6 +9,3 @@ mod phases;
 pub use choosing::{Chooser, ChooserParents};
 pub use parents::{ChosenParents, RelationPhase};
 pub use phases::{Chosen, NodePhase, WayPhase};
-
-#[cfg(test)]
-mod tests;

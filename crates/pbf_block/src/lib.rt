@@ -2,8 +2,6 @@
 #![tactic(auto)]
 
 mod block;
-#[cfg(test)]
-mod block_tests;
 mod block_write;
 mod column_values;
 mod counts;
@@ -11,16 +9,12 @@ mod entities;
 mod entity_counts;
 mod entity_fields;
 mod entity_out;
-#[cfg(test)]
-mod entity_tests;
 mod entity_values;
 mod entity_write;
 mod group;
 mod header;
 mod header_judge;
 mod header_read;
-#[cfg(test)]
-mod header_tests;
 mod header_write;
 mod info;
 mod info_values;
@@ -37,8 +31,6 @@ mod values;
 mod way;
 mod weights;
 mod wire;
-#[cfg(test)]
-mod write_tests;
 mod writing;
 
 pub use block::Block;

@@ -8,7 +8,6 @@ pub mod SoundDense
 pub mod Phases
 pub mod WeightLemmas
 pub mod DenseOutLemmas
-pub mod Counts
 pub mod MetaLaw
 pub mod InfoLaw
 pub mod DenseLaw

@@ -12,12 +12,8 @@ mod message;
 mod phase;
 mod places;
 mod structure;
-#[cfg(test)]
-mod tests;
 mod values;
 mod weights;
-#[cfg(test)]
-mod write_tests;
 
 pub use dense::Dense;
 pub use dense_out::DenseOut;

@@ -12,8 +12,6 @@ mod reader;
 mod reading;
 mod std_device;
 mod stop;
-#[cfg(test)]
-mod tests;
 mod transfer;
 
 pub use device::{Drain, Feed};

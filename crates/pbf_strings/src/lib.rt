@@ -4,8 +4,6 @@
 pub mod laws;
 mod table;
 mod table_out;
-#[cfg(test)]
-mod tests;
 
 pub use table::{MOST_TEXTS, TABLE_KINDS, TEXT, Table, text_count};
 pub use table_out::TableOut;

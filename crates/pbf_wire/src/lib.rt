@@ -19,8 +19,6 @@ mod short;
 mod signed;
 mod sum;
 mod sums;
-#[cfg(test)]
-mod tests;
 mod varint;
 mod writing;
 
@@ -40,6 +38,7 @@ pub use judging::{
 pub use kind::Kind;
 pub use least::{comes_before, lesser};
 pub use reading::{last_field, last_number};
+pub use short::{has_small_numbers, is_short};
 pub use signed::{low_i32, low_i64, low_sint32, low_u32, sign_extended, unzigzag, zigzag};
 pub use sum::Sum;
 pub use sums::Sums;

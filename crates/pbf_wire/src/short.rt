@@ -41,7 +41,7 @@ fn end_soon(window: &[u8; WINDOW]) -> bool
 
 /// Whether each number takes at most five bytes, and the last one ends. Answers `false` for fewer than `WINDOW` bytes too:
 /// there is little to save.
-pub(crate) fn is_short(bytes: &[u8]) -> bool
+pub fn is_short(bytes: &[u8]) -> bool
     ensures { IsTrue result → IsShort bytes.now }
 {
     let Some(last) = bytes.last_chunk::<WINDOW>() else {
@@ -69,7 +69,7 @@ fn is_small(payload: Payload<'_>) -> bool
 }
 
 /// Whether the numbers of a column are below 2^35, where that is soon seen. No number of a packed occurrence is decoded.
-pub(crate) fn has_small_numbers(message: &[u8], at: u64, number: u64) -> bool
+pub fn has_small_numbers(message: &[u8], at: u64, number: u64) -> bool
     requires { at + length message.now ≤ 2 ^ 63 }
     ensures { IsTrue result → AllByRecursion (λ x. x.0 < 2 ^ 35) (joined number (fields_in at message.now)) }
 {

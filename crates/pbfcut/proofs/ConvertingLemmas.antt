@@ -17,7 +17,7 @@ use Rattle.pbfcut.specs.declared.pass.Pass.{Pass}
 use Rattle.pbfcut.specs.declared.pick.Selection.TheVariants as selection
 use Rattle.pbfcut.specs.Calls.{Converted}
 use Rattle.pbfcut.specs.Converting.{header_limit, with_limit, limited, judged_writable, held_header, answer_bytes, conversion, CanBeWritten}
-use Rattle.pbfcut.specs.Counting.{counts_of, decoded}
+use Rattle.pbfcut.specs.Counting.{counts_of, stored_entities}
 use Rattle.pbfcut.specs.Judged.{judged_file}
 use Rattle.pbfcut.specs.Kept.{conversion_of}
 use Rattle.pbfcut.proofs.KeptLaw.{same_verdict, conversion_kept}
@@ -110,20 +110,20 @@ passed gathered before now b pass h known is p held within =
     }
 
 -- the bytes that are to be written
-answer_is : (frames : List FrameSpec) (at : ℕ) (h : HeaderSpec) → file_header frames ≡ Some (at, h) → written_file h (filter (pick_of selection.Everything) (decoded frames)) ≡ answer_bytes (frames, None)
-answer_is frames at h e = ap (λ (l : List EntitySpec). written_file h l) (everything_picked (decoded frames)) ∙ ap (λ (o : Option (ℕ × HeaderSpec)). conversion o (decoded frames)) (sym e)
+answer_is : (frames : List FrameSpec) (at : ℕ) (h : HeaderSpec) → file_header frames ≡ Some (at, h) → written_file h (filter (pick_of selection.Everything) (stored_entities frames)) ≡ answer_bytes (frames, None)
+answer_is frames at h e = ap (λ (l : List EntitySpec). written_file h l) (everything_picked (stored_entities frames)) ∙ ap (λ (o : Option (ℕ × HeaderSpec)). conversion o (stored_entities frames)) (sym e)
 
 pub converted : (b : List ℕ) (pass : Pass) (h : HeaderSpec) (counts : Counts) (known : Option Verdict) (old new : Option (List ℕ)) → known ≡ judged_file (Some b) → Passed b pass h → Packed (pick_of selection.Everything) h known old new counts
     → Converted b counts old new
 converted b pass h counts known old new is p went =
     let same = same_frames b p.frames went.frames p.judged (known_says b (went.frames, None) (subst (λ (k : Option Verdict). Says k (went.frames, None)) is went.says)) in
-    let all = ap decoded same in
+    let all = ap stored_entities same in
     let verdict = same_verdict b p.frames p.writable in
     let sound = ap (λ (v : Verdict). v.1) verdict in
     record {
       sound = sound;
       taken = went.taken ∙ ap (λ (l : List ℕ). append old l) (ap (λ (l : List EntitySpec). written_file h (filter (pick_of selection.Everything) l)) all ∙ (answer_is p.frames pass.header_at h p.header ∙ ap answer_bytes (sym verdict)));
-      counted = went.counted ∙ ap (λ (l : List EntitySpec). counts_of l) (everything_picked (decoded went.frames) ∙ (all ∙ ap (λ (v : Verdict). decoded v.0) (sym verdict)));
+      counted = went.counted ∙ ap (λ (l : List EntitySpec). counts_of l) (everything_picked (stored_entities went.frames) ∙ (all ∙ ap (λ (v : Verdict). stored_entities v.0) (sym verdict)));
       kept = λ small. conversion_kept b sound small;
     }
 

@@ -7,7 +7,7 @@ use Rattle.osm_entity.specs.Entity.{EntitySpec}
 pub use Rattle.pbf_block.proofs.NumberLemmas.{same_counts, counts_together}
 use Rattle.pbf_frame.specs.Frames.{FrameSpec}
 use Rattle.pbf_block.specs.declared.counts.Counts.{Counts}
-use Rattle.pbfcut.specs.Counting.{nodes_of, ways_of, relations_of, capped, frame_entities, decoded}
+use Rattle.pbfcut.specs.Counting.{nodes_of, ways_of, relations_of, capped, frame_entities, stored_entities}
 
 -- these counts, and then the entities left, are all
 pub record CountedOn (now : Counts) (left all : List EntitySpec) : Type 0 where
@@ -18,5 +18,5 @@ pub record CountedOn (now : Counts) (left all : List EntitySpec) : Type 0 where
   pub few_ways : now.ways ≤ 2 ^ 64 - 1
   pub few_relations : now.relations ≤ 2 ^ 64 - 1
 
-pub decoded_one : (fs : List FrameSpec) (f : FrameSpec) → decoded (fs ++ f ∷ []) ≡ decoded fs ++ frame_entities f
-decoded_one fs f = flat_map-append frame_entities fs (f ∷ []) ∙ ap (λ (l : List EntitySpec). decoded fs ++ l) (append-nil (frame_entities f))
+pub stored_one : (fs : List FrameSpec) (f : FrameSpec) → stored_entities (fs ++ f ∷ []) ≡ stored_entities fs ++ frame_entities f
+stored_one fs f = flat_map-append frame_entities fs (f ∷ []) ∙ ap (λ (l : List EntitySpec). stored_entities fs ++ l) (append-nil (frame_entities f))

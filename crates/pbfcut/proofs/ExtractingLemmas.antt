@@ -30,7 +30,7 @@ use Rattle.pbf_block.specs.declared.counts.Counts.{Counts}
 use Rattle.pbfcut.specs.declared.pass.Pass.{Pass}
 use Rattle.pbfcut.specs.declared.pick.Selection.TheVariants as selection
 use Rattle.pbfcut.specs.Converting.{header_limit, limited, judged_writable, held_header, CanBeWritten}
-use Rattle.pbfcut.specs.Counting.{counts_of, decoded}
+use Rattle.pbfcut.specs.Counting.{counts_of, stored_entities}
 use Rattle.pbfcut.specs.Calls.{Extracted, Differ, ChangedIn}
 use Rattle.pbfcut.specs.Extracting.{Choice, complete_ways, all_parents, extraction, extract_bytes, Chooses, ChoosesParents}
 use Rattle.pbfcut.specs.Kept.{verdict_on, extract_of}
@@ -86,21 +86,21 @@ pub record Selects (b : List ℕ) (choose : Choice) (area : BoundingBox) (pick :
   pub frames : List FrameSpec
   pub judged : judged_file (Some b) ≡ Some (frames, None)
   pub writable : judged_writable (Some b) ≡ Some (frames, None)
-  pub bytes : extract_bytes choose area (frames, None) ≡ written_file h (choose (decoded frames))
-  pub picked : filter pick (decoded frames) ≡ choose (decoded frames)
+  pub bytes : extract_bytes choose area (frames, None) ≡ written_file h (choose (stored_entities frames))
+  pub picked : filter pick (stored_entities frames) ≡ choose (stored_entities frames)
 
 -- the passes over nodes and ways choose the complete-ways extract
 pub selects_ways : (area : BoundingBox) (b : List ℕ) (first second : Option Verdict) (sets : WaySets) (h : HeaderSpec) → first ≡ judged_file (Some b) → second ≡ judged_file (Some b) → Chooses area first second sets h → Selects b (complete_ways area) area (picked_by sets) h
 selects_ways area b first second sets h is too c =
     let judged = known_says b (c.frames, None) (subst (λ (k : Option Verdict). Says k (c.frames, None)) is c.judged) in
     let same = same_frames b c.frames c.others judged (known_says b (c.others, None) (subst (λ (k : Option Verdict). Says k (c.others, None)) too c.read)) in
-    let gathered = c.chosen ∙ (ap (λ (l : List FrameSpec). fold with_way (start_ways (fold with_node (start_nodes area) (decoded c.frames)).box_ids) (decoded l)) same ∙ sets_are area (decoded c.frames)) in
+    let gathered = c.chosen ∙ (ap (λ (l : List FrameSpec). fold with_way (start_ways (fold with_node (start_nodes area) (stored_entities c.frames)).box_ids) (stored_entities l)) same ∙ sets_are area (stored_entities c.frames)) in
     record {
       frames = c.frames;
       judged = judged;
       writable = judged_sound b c.frames judged c.within;
-      bytes = header_from area (file_header c.frames) h c.header (complete_ways area) (decoded c.frames);
-      picked = ap (λ (s : WaySets). filter (picked_by s) (decoded c.frames)) gathered ∙ picked_are area (decoded c.frames);
+      bytes = header_from area (file_header c.frames) h c.header (complete_ways area) (stored_entities c.frames);
+      picked = ap (λ (s : WaySets). filter (picked_by s) (stored_entities c.frames)) gathered ∙ picked_are area (stored_entities c.frames);
     }
 
 -- ---- a whole call
@@ -109,7 +109,7 @@ module _ (choose : Choice) (select : List Decoded → List Decoded) (selection :
   verdict : verdict_on b ≡ (s.frames, None)
   verdict = same_verdict b s.frames s.writable
 
-  answer : written_file h (filter pick (decoded s.frames)) ≡ extract_of choose area b
+  answer : written_file h (filter pick (stored_entities s.frames)) ≡ extract_of choose area b
   answer = ap (λ (l : List EntitySpec). written_file h l) s.picked ∙ (sym s.bytes ∙ ap (λ (v : Verdict). extract_bytes choose area v) (sym verdict))
 
   pub extracted : (counts : Counts) (known : Option Verdict) (old new : Option (List ℕ)) → known ≡ judged_file (Some b) → Packed pick h known old new counts → Extracted choose select area b counts old new
@@ -118,8 +118,8 @@ module _ (choose : Choice) (select : List Decoded → List Decoded) (selection :
       let sound = ap (λ (v : Verdict). v.1) verdict in
       record {
         sound = sound;
-        taken = went.taken ∙ ap (λ (l : List ℕ). append old l) (ap (λ (l : List FrameSpec). written_file h (filter pick (decoded l))) same ∙ answer);
-        counted = went.counted ∙ ap (λ (l : List EntitySpec). counts_of l) (ap (λ (l : List FrameSpec). filter pick (decoded l)) same ∙ (s.picked ∙ ap (λ (v : Verdict). choose (decoded v.0)) (sym verdict)));
+        taken = went.taken ∙ ap (λ (l : List ℕ). append old l) (ap (λ (l : List FrameSpec). written_file h (filter pick (stored_entities l))) same ∙ answer);
+        counted = went.counted ∙ ap (λ (l : List EntitySpec). counts_of l) (ap (λ (l : List FrameSpec). filter pick (stored_entities l)) same ∙ (s.picked ∙ ap (λ (v : Verdict). choose (stored_entities v.0)) (sym verdict)));
         kept = λ small. extract_kept choose select selection area edges b sound small;
       }
 
@@ -139,7 +139,7 @@ chooses area first second pass header h begun nodes started ways sets digest p n
       read = more.says;
       within = ap header_limit (sym told) ∙ within;
       header = ap (λ (o : Option (ℕ × HeaderSpec)). option_map (λ p. header_out_for_box area p.1) o) (sym told ∙ held) ∙ ap (λ (g : HeaderSpec). Some g) (sym is);
-      chosen = ends ∙ (more.gathered_all ∙ ap (λ (s : WaySets). fold with_way s (decoded more.frames)) (starts ∙ ap (λ (s : NodeSets). start_ways s.box_ids) (p.gathered_all ∙ ap (λ (s : NodeSets). fold with_node s (decoded p.frames)) new)));
+      chosen = ends ∙ (more.gathered_all ∙ ap (λ (s : WaySets). fold with_way s (stored_entities more.frames)) (starts ∙ ap (λ (s : NodeSets). start_ways s.box_ids) (p.gathered_all ∙ ap (λ (s : NodeSets). fold with_node s (stored_entities p.frames)) new)));
     }
 
 pub can_be_written : (area : BoundingBox) (first second : Option Verdict) (sets : WaySets) (h : HeaderSpec) → Chooses area first second sets h → CanBeWritten (option_map limited first)
@@ -207,13 +207,13 @@ pub selects_parents : (chosen : Bor ChosenParents) (area : BoundingBox) (b : Lis
 unfolding pick_of
 selects_parents chosen area b first second third h is too more p =
     let c = p.chosen in
-    let es = decoded c.frames in
+    let es = stored_entities c.frames in
     let judged = known_says b (c.frames, None) (subst (λ (k : Option Verdict). Says k (c.frames, None)) is c.judged) in
     let same = same_frames b c.frames c.others judged (known_says b (c.others, None) (subst (λ (k : Option Verdict). Says k (c.others, None)) too c.read)) in
     let third_same = same_frames b c.frames p.frames judged (known_says b (p.frames, None) (subst (λ (k : Option Verdict). Says k (p.frames, None)) more p.read)) in
-    let ways = c.chosen ∙ (ap (λ (l : List FrameSpec). fold with_way (start_ways (fold with_node (start_nodes area) es).box_ids) (decoded l)) same ∙ sets_are area es) in
+    let ways = c.chosen ∙ (ap (λ (l : List FrameSpec). fold with_way (start_ways (fold with_node (start_nodes area) es).box_ids) (stored_entities l)) same ∙ sets_are area es) in
     let relations : p.relations ≡ relation_pass (map (seen_entity area) es) =
-    p.gathered ∙ (ap (λ (l : List FrameSpec). fold with_relation (start_relations p.ways) (decoded l)) third_same ∙ (ap (λ (w : WaySets). fold with_relation (start_relations w) es) ways ∙ relations_folded area (start_relations (way_pass (map (seen_entity area) es))) es)) in
+    p.gathered ∙ (ap (λ (l : List FrameSpec). fold with_relation (start_relations p.ways) (stored_entities l)) third_same ∙ (ap (λ (w : WaySets). fold with_relation (start_relations w) es) ways ∙ relations_folded area (start_relations (way_pass (map (seen_entity area) es))) es)) in
     record {
       frames = c.frames;
       judged = judged;
@@ -230,7 +230,7 @@ chooses_parents area first second third ways h begun relations sets digest chose
   frames = more.frames;
   read = more.says;
   relations = relations;
-  gathered = more.gathered_all ∙ ap (λ (s : RelationSets). fold with_relation s (decoded more.frames)) starts;
+  gathered = more.gathered_all ∙ ap (λ (s : RelationSets). fold with_relation s (stored_entities more.frames)) starts;
   kept = kept;
   least = least;
 }

@@ -35,7 +35,7 @@ use Rattle.osm_pack.proofs.CutLaws.{cuts_joined, cuts_kept}
 use Rattle.osm_pack.proofs.CutLemmas.{kept_bounds}
 use Rattle.osm_pack.proofs.OpenLemmas.{alone}
 use Rattle.pbfcut.specs.Converting.{header_limit, with_limit, limited}
-use Rattle.pbfcut.specs.Counting.{entities_of, frame_entities, decoded}
+use Rattle.pbfcut.specs.Counting.{entities_of, frame_entities, stored_entities}
 use Rattle.pbfcut.specs.Kept.{verdict_on}
 use Rattle.pbfcut.specs.Judged.{payload_fault_of, payload_fault, sound_first, sound_front, fully, judged_file}
 use Rattle.pbfcut.specs.Pass.{headers_of, frame_headers, file_header}
@@ -48,7 +48,7 @@ pub record IsFileOf (file : List ℕ) (h : HeaderSpec) (es : List EntitySpec) : 
   pub verdict : verdict_on file ≡ (frames, None)
   pub place : ℕ
   pub placed : file_header frames ≡ Some (place, h)
-  pub entities : decoded frames ≡ es
+  pub entities : stored_entities frames ≡ es
 
 -- ---- one frame
 
@@ -141,12 +141,12 @@ blocks_sound place (block ∷ blocks) are =
     let later = blocks_at (frame_end f) blocks in
     ap (λ (o : Option Fault). sound_first o f (sound_front later None)) (block_sound place block are.0) ∙ ap (λ (v : Verdict). with_first f v) (blocks_sound (frame_end f) blocks are.1)
 
-blocks_decoded : (place : ℕ) (blocks : List (List EntitySpec)) → AllByRecursion IsWritten blocks → decoded (blocks_at place blocks) ≡ flat_map (λ block. block) blocks
-blocks_decoded place [] are = refl
-blocks_decoded place (block ∷ blocks) are =
+blocks_stored : (place : ℕ) (blocks : List (List EntitySpec)) → AllByRecursion IsWritten blocks → stored_entities (blocks_at place blocks) ≡ flat_map (λ block. block) blocks
+blocks_stored place [] are = refl
+blocks_stored place (block ∷ blocks) are =
     let f = block_at place block in
-    ap (λ (l : List EntitySpec). l ++ decoded (blocks_at (frame_end f) blocks)) (block_entities place block are.0)
-    ∙ ap (λ (l : List EntitySpec). block ++ l) (blocks_decoded (frame_end f) blocks are.1)
+    ap (λ (l : List EntitySpec). l ++ stored_entities (blocks_at (frame_end f) blocks)) (block_entities place block are.0)
+    ∙ ap (λ (l : List EntitySpec). block ++ l) (blocks_stored (frame_end f) blocks are.1)
 
 blocks_headers : (place : ℕ) (blocks : List (List EntitySpec)) → AllByRecursion IsWritten blocks → flat_map frame_headers (blocks_at place blocks) ≡ []
 blocks_headers place [] are = refl
@@ -254,15 +254,15 @@ module _ (h : HeaderSpec) (es : List EntitySpec) (fits : HeaderFits (header_out_
   pub file_verdict : judged_file (Some (written_file h es)) ≡ Some (file_frames, None)
   file_verdict = ap (λ (v : Verdict). Some (fully v)) file_judged ∙ ap (λ (v : Verdict). Some v) file_sound
 
-  pub file_decoded : decoded file_frames ≡ es
-  file_decoded = ap (λ (l : List EntitySpec). l ++ decoded later) first_entities ∙ (blocks_decoded (frame_end first) (cuts es) written ∙ cuts_joined es)
+  pub file_stored : stored_entities file_frames ≡ es
+  file_stored = ap (λ (l : List EntitySpec). l ++ stored_entities later) first_entities ∙ (blocks_stored (frame_end first) (cuts es) written ∙ cuts_joined es)
 
   pub file_placed : file_header file_frames ≡ Some placed
   file_placed =
       ap (λ (l : List (ℕ × HeaderSpec)). last_or None (l ++ flat_map frame_headers later)) first_headers ∙ ap (λ (l : List (ℕ × HeaderSpec)). last_or None (placed ∷ l)) (blocks_headers (frame_end first) (cuts es) written)
 
-  pub file_read : (frames : List FrameSpec) × (judged_file (Some (written_file h es)) ≡ Some (frames, None)) × (decoded frames ≡ es) × (option_map (λ p. p.1) (file_header frames) ≡ Some (header_out_for_convert h))
-  file_read = (file_frames, file_verdict, file_decoded, ap (λ (o : Option (ℕ × HeaderSpec)). option_map (λ p. p.1) o) file_placed)
+  pub file_read : (frames : List FrameSpec) × (judged_file (Some (written_file h es)) ≡ Some (frames, None)) × (stored_entities frames ≡ es) × (option_map (λ p. p.1) (file_header frames) ≡ Some (header_out_for_convert h))
+  file_read = (file_frames, file_verdict, file_stored, ap (λ (o : Option (ℕ × HeaderSpec)). option_map (λ p. p.1) o) file_placed)
 
   -- ---- with the limit of its header
 
@@ -277,4 +277,4 @@ module _ (h : HeaderSpec) (es : List EntitySpec) (fits : HeaderFits (header_out_
 
   -- it is a file of what was written
   pub written_is_file : IsFileOf (written_file h es) (header_out_for_convert h) es
-  written_is_file = record { frames = file_frames; verdict = file_limited; place = frame_payload_at first; placed = file_placed; entities = file_decoded }
+  written_is_file = record { frames = file_frames; verdict = file_limited; place = frame_payload_at first; placed = file_placed; entities = file_stored }

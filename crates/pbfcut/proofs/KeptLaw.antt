@@ -32,7 +32,7 @@ use Rattle.pbf_block.proofs.HeaderLemmas.{header_again}
 use Rattle.pbf_block.proofs.ReadHeaderLaw.{header_fits}
 use Rattle.osm_pack.specs.Cuts.{written_entities, written_file}
 use Rattle.pbfcut.specs.Converting.{header_limit, is_short, with_limit, limited, conversion, judged_writable, answer_bytes}
-use Rattle.pbfcut.specs.Counting.{entities_of, frame_entities, decoded}
+use Rattle.pbfcut.specs.Counting.{entities_of, frame_entities, stored_entities}
 use Rattle.pbfcut.specs.Extracting.{Choice, complete_ways, all_parents, extraction, extract_bytes}
 use Rattle.pbfcut.specs.Judged.{payload_fault_of, payload_fault, sound_first, sound_front, fully}
 use Rattle.pbfcut.specs.Kept.{verdict_on, IsWritable, header_in_file, entities_in_file, conversion_of, extract_of, IsConversion, IsExtract}
@@ -62,13 +62,13 @@ kind_typed kind.Header at m = tt
 kind_typed kind.Data at m = entities_typed at m
 kind_typed kind.Other at m = tt
 
-all_fit : (frames : List FrameSpec) → AllByRecursion IsSound frames → AllByRecursion EntityFits (decoded frames)
+all_fit : (frames : List FrameSpec) → AllByRecursion IsSound frames → AllByRecursion EntityFits (stored_entities frames)
 all_fit [] sound = tt
-all_fit (f ∷ frames) sound = all_append EntityFits (frame_entities f) (decoded frames) (kind_fits (frame_kind f) (frame_payload_at f) (frame_payload f) sound.0) (all_fit frames sound.1)
+all_fit (f ∷ frames) sound = all_append EntityFits (frame_entities f) (stored_entities frames) (kind_fits (frame_kind f) (frame_payload_at f) (frame_payload f) sound.0) (all_fit frames sound.1)
 
-all_typed : (frames : List FrameSpec) → AllByRecursion EntityTyped (decoded frames)
+all_typed : (frames : List FrameSpec) → AllByRecursion EntityTyped (stored_entities frames)
 all_typed [] = tt
-all_typed (f ∷ frames) = all_append EntityTyped (frame_entities f) (decoded frames) (kind_typed (frame_kind f) (frame_payload_at f) (frame_payload f)) (all_typed frames)
+all_typed (f ∷ frames) = all_append EntityTyped (frame_entities f) (stored_entities frames) (kind_typed (frame_kind f) (frame_payload_at f) (frame_payload f)) (all_typed frames)
 
 -- ---- its header
 
@@ -147,7 +147,7 @@ readable file sound =
     let found = has_header (file_header v.0) p.limit (last_fits (flat_map frame_headers v.0) None (all_headers v.0) tt) in
     record {
       header = found.header;
-      entities = decoded v.0;
+      entities = stored_entities v.0;
       is = record { frames = v.0; verdict = p.same; place = found.place; placed = found.is; entities = refl };
       can = record { fits = found.fits; short = found.short; fit = all_fit v.0 (front_sound front.0 front.1 p.sound); typed = all_typed v.0 };
     }
@@ -163,18 +163,18 @@ module _ (file : List ℕ) (h : HeaderSpec) (es : List EntitySpec) (is : IsFileO
   header_is = ap (λ (v : Verdict). option_map (λ p. p.1) (file_header v.0)) is.verdict ∙ ap (λ (o : Option Placed). option_map (λ p. p.1) o) is.placed
 
   entities_are : entities_in_file file ≡ es
-  entities_are = ap (λ (v : Verdict). decoded v.0) is.verdict ∙ is.entities
+  entities_are = ap (λ (v : Verdict). stored_entities v.0) is.verdict ∙ is.entities
 
   converted_is : conversion_of file ≡ written_file h es
   converted_is =
       ap answer_bytes is.verdict
-      ∙ (ap (λ (o : Option Placed). conversion o (decoded is.frames)) is.placed
+      ∙ (ap (λ (o : Option Placed). conversion o (stored_entities is.frames)) is.placed
       ∙ ap (λ (l : List EntitySpec). written_file h l) is.entities)
 
   extracted_is : (choose : Choice) (area : BoundingBox) → extract_of choose area file ≡ written_file (header_out_for_box area h) (choose es)
   extracted_is choose area =
       ap (λ (v : Verdict). extract_bytes choose area v) is.verdict
-      ∙ (ap (λ (o : Option Placed). extraction choose area o (decoded is.frames)) is.placed
+      ∙ (ap (λ (o : Option Placed). extraction choose area o (stored_entities is.frames)) is.placed
       ∙ ap (λ (l : List EntitySpec). written_file (header_out_for_box area h) (choose l)) is.entities)
 
 pub same_verdict : (file : List ℕ) (frames : List FrameSpec) → judged_writable (Some file) ≡ Some (frames, None) → verdict_on file ≡ (frames, None)

@@ -8,3 +8,4 @@ pub mod PickingLemmas
 pub mod ConvertingLemmas
 pub mod ExtractingLemmas
 pub mod KeptLaw
+pub mod NodeLemmas

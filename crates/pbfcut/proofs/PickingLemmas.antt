@@ -30,7 +30,7 @@ use Rattle.osm_pack.proofs.RunLemmas.{run_keeps, run_kept, run_ends, pending_pus
 use Rattle.std.proofs.lemmas.Grind.{flat_map-append}
 use Rattle.pbf_frame.specs.Verdict.{Gone, Says, with_all}
 use Rattle.pbf_frame.proofs.VerdictLemmas.{gone_more, gone_split}
-use Rattle.pbfcut.specs.Counting.{decoded, frame_entities}
+use Rattle.pbfcut.specs.Counting.{stored_entities, frame_entities}
 use Rattle.pbfcut.specs.Judged.{payload_fault, fully, fully_known}
 use Rattle.pbfcut.proofs.CountLemmas.{CountedOn}
 use Rattle.pbfcut.proofs.StepLemmas.{StoppedStep, fully_first, picked_one}
@@ -49,11 +49,11 @@ split_here done gone left later all rest e is split =
     append_assoc done gone (e ∷ (later ++ rest))
     ∙ (ap (λ (l : List EntitySpec). done ++ l) (sym (append_assoc gone (e ∷ later) rest) ∙ ap (λ (l : List EntitySpec). l ++ rest) (ap (λ (l : List EntitySpec). gone ++ l) (sym is) ∙ split)) ∙ sym (append_assoc done all rest))
 
-front_of : (pick : Pick) (start now : Option (List ℕ)) (fs rest : List FrameSpec) (all : Verdict) → all.0 ≡ fs ++ rest → BeginsAll start (filter pick (decoded fs)) now → IsFront start now (written_entities (filter pick (decoded all.0)))
+front_of : (pick : Pick) (start now : Option (List ℕ)) (fs rest : List FrameSpec) (all : Verdict) → all.0 ≡ fs ++ rest → BeginsAll start (filter pick (stored_entities fs)) now → IsFront start now (written_entities (filter pick (stored_entities all.0)))
 front_of pick start now fs rest all split begins =
     subst (λ (l : List EntitySpec). IsFront start now (written_entities l))
-    (sym (filter-append pick (decoded fs) (decoded rest)) ∙ ap (λ (l : List EntitySpec). filter pick l) (sym (flat_map-append frame_entities fs rest) ∙ ap decoded (sym split)))
-    (begins (filter pick (decoded rest)))
+    (sym (filter-append pick (stored_entities fs) (stored_entities rest)) ∙ ap (λ (l : List EntitySpec). filter pick l) (sym (flat_map-append frame_entities fs rest) ∙ ap stored_entities (sym split)))
+    (begins (filter pick (stored_entities rest)))
 
 -- at the end of a file without a fault its frames are those done
 pub says_end : (first mid : Option Verdict) (fs : List FrameSpec) → Gone first fs (fully_known mid) → Says mid ([], None) → Says first (fs, None)
@@ -119,14 +119,14 @@ count_picked pick now next e left rest all is picked counts h =
 pub count_left : (pick : Pick) (now : Counts) (e : EntitySpec) (left rest all : List EntitySpec) → left ≡ e ∷ rest → pick e ≡ false → CountedOn now (filter pick left) all → CountedOn now (filter pick rest) all
 count_left pick now e left rest all is picked h = subst (λ (l : List EntitySpec). CountedOn now l all) (ap (λ (l : List EntitySpec). filter pick l) is ∙ left_next pick e rest picked) h
 
-pub last_front : (pick : Pick) (start now : Option (List ℕ)) (first : Option Verdict) (fs : List FrameSpec) (all : Verdict) → Says first (fs, None) → first ≡ Some all → IsFront start now (written_entities (filter pick (decoded fs)))
-    → IsFront start now (written_entities (filter pick (decoded all.0)))
-last_front pick start now first fs all says is front = subst (λ (l : List FrameSpec). IsFront start now (written_entities (filter pick (decoded l)))) (sym (told_frames first fs all says is)) front
+pub last_front : (pick : Pick) (start now : Option (List ℕ)) (first : Option Verdict) (fs : List FrameSpec) (all : Verdict) → Says first (fs, None) → first ≡ Some all → IsFront start now (written_entities (filter pick (stored_entities fs)))
+    → IsFront start now (written_entities (filter pick (stored_entities all.0)))
+last_front pick start now first fs all says is front = subst (λ (l : List FrameSpec). IsFront start now (written_entities (filter pick (stored_entities l)))) (sym (told_frames first fs all says is)) front
 
 -- the whole is a beginning of itself
 pub packed_front : (pick : Pick) (h : HeaderSpec) (known : Option Verdict) (old new : Option (List ℕ)) (counts : Counts) → Packed pick h known old new counts → PacksFront pick h known old new
 packed_front pick h known old new counts p all is =
-    subst (λ (l : List FrameSpec). IsFront old new (written_file h (filter pick (decoded l)))) (sym (told_frames known p.frames all p.says is)) (front_whole old new (written_file h (filter pick (decoded p.frames))) p.taken)
+    subst (λ (l : List FrameSpec). IsFront old new (written_file h (filter pick (stored_entities l)))) (sym (told_frames known p.frames all p.says is)) (front_whole old new (written_file h (filter pick (stored_entities p.frames))) p.taken)
 
 module _ {D S H : Type 0} where
   -- one entity more is packed
@@ -181,26 +181,26 @@ module _ {D S H : Type 0} where
   pub none_packed : (taken : Option (List ℕ)) (packer : Packing D S H) → Pending packer [] → HasPacked taken [] taken packer
   none_packed taken packer p = record { fits = tt; taken_is = sym (append_none taken); pending = p }
 
-  pub frame_packed : (pick : Pick) (start : Option (List ℕ)) (fs : List FrameSpec) (f : FrameSpec) (before now : Option (List ℕ)) (old new : Packing D S H) → HasPacked start (filter pick (decoded fs)) before old → Packs before now old new (filter pick (frame_entities f))
-      → HasPacked start (filter pick (decoded (fs ++ f ∷ []))) now new
-  frame_packed pick start fs f before now old new h p = subst (λ (l : List EntitySpec). HasPacked start l now new) (sym (picked_one pick fs f)) (p.packed start (filter pick (decoded fs)) h)
+  pub frame_packed : (pick : Pick) (start : Option (List ℕ)) (fs : List FrameSpec) (f : FrameSpec) (before now : Option (List ℕ)) (old new : Packing D S H) → HasPacked start (filter pick (stored_entities fs)) before old → Packs before now old new (filter pick (frame_entities f))
+      → HasPacked start (filter pick (stored_entities (fs ++ f ∷ []))) now new
+  frame_packed pick start fs f before now old new h p = subst (λ (l : List EntitySpec). HasPacked start l now new) (sym (picked_one pick fs f)) (p.packed start (filter pick (stored_entities fs)) h)
 
-  nothing_more : (pick : Pick) (start : Option (List ℕ)) (first mid : Option Verdict) (fs : List FrameSpec) (before now : Option (List ℕ)) (old : Packing D S H) → Gone first fs mid → HasPacked start (filter pick (decoded fs)) before old → now ≡ before
-      → (all : Verdict) → first ≡ Some all → IsFront start now (written_entities (filter pick (decoded all.0)))
+  nothing_more : (pick : Pick) (start : Option (List ℕ)) (first mid : Option Verdict) (fs : List FrameSpec) (before now : Option (List ℕ)) (old : Packing D S H) → Gone first fs mid → HasPacked start (filter pick (stored_entities fs)) before old → now ≡ before
+      → (all : Verdict) → first ≡ Some all → IsFront start now (written_entities (filter pick (stored_entities all.0)))
   nothing_more pick start first mid fs before now old gone h same all is =
       let (rest, e, split) = gone_split first mid fs all gone is in
-      front_of pick start now fs rest.0 all split (begins_packed start (filter pick (decoded fs)) now old (subst (λ (k : Option (List ℕ)). HasPacked start (filter pick (decoded fs)) k old) (sym same) h))
+      front_of pick start now fs rest.0 all split (begins_packed start (filter pick (stored_entities fs)) now old (subst (λ (k : Option (List ℕ)). HasPacked start (filter pick (stored_entities fs)) k old) (sym same) h))
 
-  begun_one : (pick : Pick) (start : Option (List ℕ)) (first mid later : Option Verdict) (fs : List FrameSpec) (f : FrameSpec) (before now : Option (List ℕ)) (old : Packing D S H) → Gone first fs (fully_known mid) → HasPacked start (filter pick (decoded fs)) before old
-      → mid ≡ with_first_known f later → payload_fault f ≡ None → Begins before now old (filter pick (frame_entities f)) → (all : Verdict) → first ≡ Some all → IsFront start now (written_entities (filter pick (decoded all.0)))
+  begun_one : (pick : Pick) (start : Option (List ℕ)) (first mid later : Option Verdict) (fs : List FrameSpec) (f : FrameSpec) (before now : Option (List ℕ)) (old : Packing D S H) → Gone first fs (fully_known mid) → HasPacked start (filter pick (stored_entities fs)) before old
+      → mid ≡ with_first_known f later → payload_fault f ≡ None → Begins before now old (filter pick (frame_entities f)) → (all : Verdict) → first ≡ Some all → IsFront start now (written_entities (filter pick (stored_entities all.0)))
   begun_one pick start first mid later fs f before now old gone h e sound begins all is =
       let (rest, e2, split) = gone_split first (fully_known later) (fs ++ f ∷ []) all (gone_more first (fully_known mid) (fully_known later) fs f gone (fully_first mid later f e sound)) is in
-      front_of pick start now (fs ++ f ∷ []) rest.0 all split (subst (λ (l : List EntitySpec). BeginsAll start l now) (sym (picked_one pick fs f)) (begins.begun start (filter pick (decoded fs)) h))
+      front_of pick start now (fs ++ f ∷ []) rest.0 all split (subst (λ (l : List EntitySpec). BeginsAll start l now) (sym (picked_one pick fs f)) (begins.begun start (filter pick (stored_entities fs)) h))
 
   -- whatever a step that stopped wrote, a beginning of all went out
   pub step_front : {F : Type 0} (g : feed.Ghosts F) (d : drain.Ghosts D) (pick : Pick) (start : Option (List ℕ)) (first : Option Verdict) (fs : List FrameSpec) (reader read : FrameReader F) (old new : Packing D S H) (before now : Pass) (s : Stop)
-      → Gone first fs (fully_known (verdict g.remaining reader)) → HasPacked start (filter pick (decoded fs)) (d.taken old.drain) old → StoppedStep g reader read (FailsToPack d pick old new) ((now ≡ before) × (new ≡ old)) s
-      → (all : Verdict) → first ≡ Some all → IsFront start (d.taken new.drain) (written_entities (filter pick (decoded all.0)))
+      → Gone first fs (fully_known (verdict g.remaining reader)) → HasPacked start (filter pick (stored_entities fs)) (d.taken old.drain) old → StoppedStep g reader read (FailsToPack d pick old new) ((now ≡ before) × (new ≡ old)) s
+      → (all : Verdict) → first ≡ Some all → IsFront start (d.taken new.drain) (written_entities (filter pick (stored_entities all.0)))
   step_front g d pick start first fs reader read old new before now s gone h stopped all is = of stopped.where_it_stopped where
     mid : Option Verdict
     mid = verdict g.remaining reader
@@ -208,12 +208,12 @@ module _ {D S H : Type 0} where
     went : Option (List ℕ)
     went = d.taken new.drain
 
-    begun_at : (f : FrameSpec) → mid ≡ with_first_known f (verdict g.remaining read) → ((went ≡ d.taken old.drain) ⊎ ((payload_fault f ≡ None) × Begins (d.taken old.drain) went old (filter pick (frame_entities f)))) → IsFront start went (written_entities (filter pick (decoded all.0)))
+    begun_at : (f : FrameSpec) → mid ≡ with_first_known f (verdict g.remaining read) → ((went ≡ d.taken old.drain) ⊎ ((payload_fault f ≡ None) × Begins (d.taken old.drain) went old (filter pick (frame_entities f)))) → IsFront start went (written_entities (filter pick (stored_entities all.0)))
     begun_at f e (inl same) = nothing_more pick start first (fully_known mid) fs (d.taken old.drain) went old gone h same all is
     begun_at f e (inr (sound, begins)) = begun_one pick start first mid (verdict g.remaining read) fs f (d.taken old.drain) went old gone h e sound begins all is
 
     of : ((Gave mid (Err s) (verdict g.remaining read) × IsReaderStop (g.failures reader.feed) (g.failures read.feed) s × ((now ≡ before) × (new ≡ old))) ⊎ ((f : FrameSpec) × (mid ≡ with_first_known f (verdict g.remaining read)) × FailsToPack d pick old new f s))
-        → IsFront start went (written_entities (filter pick (decoded all.0)))
+        → IsFront start went (written_entities (filter pick (stored_entities all.0)))
     of (inl (gave, why, same)) = nothing_more pick start first (fully_known mid) fs (d.taken old.drain) went old gone h (ap (λ (p : Packing D S H). d.taken p.drain) same.1) all is
     of (inr (f, e, why)) = begun_at f e why.front
 

@@ -23,11 +23,11 @@ use Rattle.pbf_frame.specs.Verdict.{Verdict, with_first_known, with_all, Gone, S
 use Rattle.pbf_block.specs.declared.counts.Counts.{Counts}
 use Rattle.pbfcut.specs.declared.pass.Pass.{Pass}
 use Rattle.pbfcut.specs.Judged.{payload_fault, sound_first, fully, fully_known}
-use Rattle.pbfcut.specs.Counting.{counted_with, counts_of, entities_of, frame_entities, decoded}
+use Rattle.pbfcut.specs.Counting.{counted_with, counts_of, entities_of, frame_entities, stored_entities}
 use Rattle.pbfcut.specs.Pick.{Pick, TakesPicked}
 use Rattle.pbfcut.specs.Pass.{TakesSome, TakesPayload, Takes, Follows, IsStep, HoldsHeader, headers_of, frame_headers, file_header}
 use Rattle.pbfcut.specs.Stops.{Caused, FaultOf, Only, unchanged, KeepsFeed}
-use Rattle.pbfcut.proofs.CountLemmas.{counts_together, decoded_one}
+use Rattle.pbfcut.proofs.CountLemmas.{counts_together, stored_one}
 
 -- ---- the verdict of all phases
 
@@ -36,6 +36,24 @@ fully_first known rest f e sound = ap fully_known e ∙ of rest where
   of : (rest : Option Verdict) → fully_known (with_first_known f rest) ≡ with_first_known f (fully_known rest)
   of None = refl
   of (Some v) = ap (λ (o : Option Fault). Some (sound_first o f (fully v))) sound
+
+-- ---- a step that says less
+
+follows_less : (took less : FrameSpec → Type 0) (failed : FrameSpec → Stop → Type 0) (same stays : Type 0) (answer : Result (Option FrameSpec) Stop) (result : Result Bool Stop)
+    → ((f : FrameSpec) → took f → less f) → (same → stays) → Follows took failed same answer result → Follows less failed stays answer result
+follows_less took less failed same stays (Ok (Some f)) (Ok true) h k p = h f p
+follows_less took less failed same stays (Ok (Some f)) (Ok false) h k p = p
+follows_less took less failed same stays (Ok (Some f)) (Err stop) h k p = p
+follows_less took less failed same stays (Ok None) result h k p = (p.0, k p.1)
+follows_less took less failed same stays (Err stop) result h k p = (p.0, k p.1)
+
+pub step_less : {F : Type 0} (g : feed.Ghosts F) (old new : FrameReader F) (took less : FrameSpec → Type 0) (failed : FrameSpec → Stop → Type 0) (same stays : Type 0) (result : Result Bool Stop)
+    → ((f : FrameSpec) → took f → less f) → (same → stays) → IsStep g old new took failed same result → IsStep g old new less failed stays result
+step_less g old new took less failed same stays result h k step = record {
+  answer = step.answer;
+  next = step.next;
+  follows = follows_less took less failed same stays step.answer result h k step.follows;
+}
 
 -- ---- a step of a reader that was reading
 
@@ -168,17 +186,17 @@ taken_counts_of some none kind.Other at payload old new es h so_far =
     ap (λ (p : Pass). p.counts) h ∙ (so_far ∙ ap (λ (l : List EntitySpec). counts_of l) (sym (append-nil es) ∙ ap (λ (l : List EntitySpec). es ++ l) (sym none)))
 
 -- one more frame is counted
-pub taken_counts : (f : FrameSpec) (old new : Pass) (fs : List FrameSpec) → Takes f old new → old.counts ≡ counts_of (decoded fs) → new.counts ≡ counts_of (decoded (fs ++ f ∷ []))
+pub taken_counts : (f : FrameSpec) (old new : Pass) (fs : List FrameSpec) → Takes f old new → old.counts ≡ counts_of (stored_entities fs) → new.counts ≡ counts_of (stored_entities (fs ++ f ∷ []))
 taken_counts f old new fs h so_far =
-    taken_counts_of (λ es. es) refl (frame_kind f) (frame_payload_at f) (frame_payload f) old new (decoded fs) h so_far ∙ ap (λ (l : List EntitySpec). counts_of l) (sym (decoded_one fs f))
+    taken_counts_of (λ es. es) refl (frame_kind f) (frame_payload_at f) (frame_payload f) old new (stored_entities fs) h so_far ∙ ap (λ (l : List EntitySpec). counts_of l) (sym (stored_one fs f))
 
 -- what is picked of the frames
-pub picked_one : (pick : Pick) (fs : List FrameSpec) (f : FrameSpec) → filter pick (decoded (fs ++ f ∷ [])) ≡ filter pick (decoded fs) ++ filter pick (frame_entities f)
-picked_one pick fs f = ap (λ (l : List EntitySpec). filter pick l) (decoded_one fs f) ∙ filter-append pick (decoded fs) (frame_entities f)
+pub picked_one : (pick : Pick) (fs : List FrameSpec) (f : FrameSpec) → filter pick (stored_entities (fs ++ f ∷ [])) ≡ filter pick (stored_entities fs) ++ filter pick (frame_entities f)
+picked_one pick fs f = ap (λ (l : List EntitySpec). filter pick l) (stored_one fs f) ∙ filter-append pick (stored_entities fs) (frame_entities f)
 
-pub picked_counts : (pick : Pick) (f : FrameSpec) (old new : Pass) (fs : List FrameSpec) → TakesPicked pick f old new → old.counts ≡ counts_of (filter pick (decoded fs)) → new.counts ≡ counts_of (filter pick (decoded (fs ++ f ∷ [])))
+pub picked_counts : (pick : Pick) (f : FrameSpec) (old new : Pass) (fs : List FrameSpec) → TakesPicked pick f old new → old.counts ≡ counts_of (filter pick (stored_entities fs)) → new.counts ≡ counts_of (filter pick (stored_entities (fs ++ f ∷ [])))
 picked_counts pick f old new fs h so_far =
-    taken_counts_of (λ es. filter pick es) refl (frame_kind f) (frame_payload_at f) (frame_payload f) old new (filter pick (decoded fs)) h so_far ∙ ap (λ (l : List EntitySpec). counts_of l) (sym (picked_one pick fs f))
+    taken_counts_of (λ es. filter pick es) refl (frame_kind f) (frame_payload_at f) (frame_payload f) old new (filter pick (stored_entities fs)) h so_far ∙ ap (λ (l : List EntitySpec). counts_of l) (sym (picked_one pick fs f))
 
 -- what comes last of what was put behind
 last_behind : {A : Type 0} (o : Option A) (xs : List A) (y : A) → last_or o (xs ++ y ∷ []) ≡ Some y

@@ -11,7 +11,7 @@ use Rattle.pbf_frame.specs.Frames.{FrameSpec}
 use Rattle.pbf_frame.specs.Verdict.{Verdict, Says}
 use Rattle.osm_pack.specs.Cuts.{written_file}
 use Rattle.pbfcut.specs.declared.pass.Pass.{Pass}
-use Rattle.pbfcut.specs.Counting.{decoded}
+use Rattle.pbfcut.specs.Counting.{stored_entities}
 use Rattle.pbfcut.specs.Judged.{judged_file}
 use Rattle.pbfcut.specs.Pass.{file_header}
 
@@ -47,7 +47,7 @@ judged_writable known = option_map limited (judged_file known)
 
 -- what is to be written for a file with this verdict: nothing where it has a fault
 abbrev pub answer_bytes : Verdict → List ℕ
-answer_bytes (frames, None) = conversion (file_header frames) (decoded frames)
+answer_bytes (frames, None) = conversion (file_header frames) (stored_entities frames)
 answer_bytes (frames, Some e) = []
 
 -- ---- the header that a pass took

@@ -1,4 +1,4 @@
--- The decoded entities of a file. They are counted as those of a block are.
+-- The stored_entities entities of a file. They are counted as those of a block are.
 use Rattle.std.specs.Prelude.{ℕ, List, []}
 use Rattle.std.specs.List.{flat_map}
 use Rattle.osm_entity.specs.Entity.{EntitySpec}
@@ -20,5 +20,5 @@ abbrev pub frame_entities : FrameSpec → List EntitySpec
 frame_entities f = entities_of (frame_kind f) (frame_payload_at f) (frame_payload f)
 
 -- of all frames, in order
-abbrev pub decoded : List FrameSpec → List EntitySpec
-decoded frames = flat_map frame_entities frames
+abbrev pub stored_entities : List FrameSpec → List EntitySpec
+stored_entities frames = flat_map frame_entities frames

@@ -16,7 +16,7 @@ use Rattle.pbf_block.specs.WrittenHeader.{header_out_for_box, edges_of, EdgesTyp
 use Rattle.pbf_frame.specs.Frames.{FrameSpec}
 use Rattle.pbf_frame.specs.Verdict.{Verdict, Says}
 use Rattle.pbfcut.specs.Converting.{header_limit}
-use Rattle.pbfcut.specs.Counting.{decoded}
+use Rattle.pbfcut.specs.Counting.{stored_entities}
 use Rattle.pbfcut.specs.Judged.{judged_file}
 use Rattle.pbfcut.specs.Pick.{IsShort}
 use Rattle.pbfcut.specs.Repeat.{SameDigest}
@@ -40,7 +40,7 @@ extraction choose area (Some header) es = written_file (header_out_for_box area 
 
 -- what is to be written for a file with this verdict: nothing where it has a fault
 abbrev pub extract_bytes : Choice → BoundingBox → Verdict → List ℕ
-extract_bytes choose area (frames, None) = extraction choose area (file_header frames) (decoded frames)
+extract_bytes choose area (frames, None) = extraction choose area (file_header frames) (stored_entities frames)
 extract_bytes choose area (frames, Some e) = []
 
 -- ---- the passes that choose
@@ -53,7 +53,7 @@ pub record Chooses (area : BoundingBox) (first second : Option Verdict) (sets : 
   pub read : Says second (others, None)
   pub within : header_limit (file_header frames) ≡ None
   pub header : option_map (λ p. header_out_for_box area p.1) (file_header frames) ≡ Some h
-  pub chosen : sets ≡ fold with_way (start_ways (fold with_node (start_nodes area) (decoded frames)).box_ids) (decoded others)
+  pub chosen : sets ≡ fold with_way (start_ways (fold with_node (start_nodes area) (stored_entities frames)).box_ids) (stored_entities others)
 
 -- and the relations of a third file, with all parents
 pub record ChoosesParents (area : BoundingBox) (first second third : Option Verdict) (sets : ParentSets) (h : HeaderSpec) : Type 0 where
@@ -62,7 +62,7 @@ pub record ChoosesParents (area : BoundingBox) (first second third : Option Verd
   pub frames : List FrameSpec
   pub read : Says third (frames, None)
   pub relations : RelationSets
-  pub gathered : relations ≡ fold with_relation (start_relations ways) (decoded frames)
+  pub gathered : relations ≡ fold with_relation (start_relations ways) (stored_entities frames)
   pub kept : sets.ways ≡ relations.ways
   pub least : IsLeast (set.contains relations.links) relations.start sets.relation_ids
 

@@ -8,7 +8,7 @@ use Rattle.pbf_block.specs.Header.{HeaderSpec}
 use Rattle.pbf_block.specs.WrittenHeader.{header_out_for_box, header_out_for_convert}
 use Rattle.pbf_frame.specs.Verdict.{Verdict, judged}
 use Rattle.pbfcut.specs.Converting.{limited, answer_bytes}
-use Rattle.pbfcut.specs.Counting.{decoded}
+use Rattle.pbfcut.specs.Counting.{stored_entities}
 use Rattle.pbfcut.specs.Extracting.{Choice, extract_bytes}
 use Rattle.pbfcut.specs.Judged.{fully}
 use Rattle.pbfcut.specs.Pass.{file_header}
@@ -28,7 +28,7 @@ header_in_file file = option_map (λ p. p.1) (file_header (verdict_on file).0)
 
 -- its entities as they are stored: their numbers, and the scale that says what these mean
 abbrev pub entities_in_file : List ℕ → List EntitySpec
-entities_in_file file = decoded (verdict_on file).0
+entities_in_file file = stored_entities (verdict_on file).0
 
 -- what its entities mean: places in nanodegrees and times in milliseconds
 abbrev pub meant_in_file : List ℕ → List Decoded

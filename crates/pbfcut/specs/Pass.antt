@@ -4,6 +4,9 @@ use Rattle.std.specs.List.{flat_map, fold, last_or}
 use Rattle.std.specs.Option.{option_map}
 use Rattle.sha2.specs.Sha256.{sha256}
 use Rattle.osm_entity.specs.Entity.{EntitySpec, node, way, relation}
+use Rattle.osm_entity.specs.BoundingBox.{is_inside}
+use Rattle.pbf_dense.specs.declared.places.Place.{Place}
+use Rattle.osm_ways.specs.Selection.{a_node}
 use Rattle.osm_ways.specs.Phases.{NodeSets, WaySets, RelationSets, node_step, way_step, relation_step}
 use Rattle.osm_ways.specs.Seen.{seen_node, seen_way, seen_relation}
 use Rattle.pbf_block.specs.Header.{HeaderSpec, header_of, header_in}
@@ -19,7 +22,7 @@ use Rattle.pbf_frame.specs.Next.{IsNext}
 use Rattle.pbf_frame.specs.Verdict.{Verdict, Says}
 use Rattle.pbfcut.specs.declared.pass.Judged.{Judged}
 use Rattle.pbfcut.specs.declared.pass.Pass.{Pass}
-use Rattle.pbfcut.specs.Counting.{counted_with, counts_of, entities_of, decoded}
+use Rattle.pbfcut.specs.Counting.{counted_with, counts_of, entities_of, stored_entities}
 use Rattle.pbfcut.specs.Judged.{payload_fault_of, payload_fault, judged_file}
 use Rattle.pbfcut.specs.Stops.{Caused, Only, unchanged, KeepsFeed}
 
@@ -81,6 +84,10 @@ with_node sets (node n) = record { area = sets.area; box_ids = node_step sets.bo
 with_node sets (way w) = sets
 with_node sets (relation r) = sets
 
+-- the same of a node's id and place alone
+abbrev pub with_place : NodeSets → Place → NodeSets
+with_place sets p = record { area = sets.area; box_ids = node_step sets.box_ids (a_node p.id (is_inside sets.area p.lat p.lon)) }
+
 -- the ways that are kept, and their refs
 abbrev pub with_way : WaySets → EntitySpec → WaySets
 with_way sets (node n) = sets
@@ -103,6 +110,10 @@ pub record TakesAll {S : Type 0} (gathered : S → EntitySpec → S) (k : FrameK
 
 abbrev pub TakesFrame : {S : Type 0} → (S → EntitySpec → S) → Pass → Pass → S → S → FrameSpec → Type 0
 TakesFrame gathered old new before now f = TakesAll gathered (frame_kind f) (frame_payload_at f) (frame_payload f) old new before now
+
+-- the same where nothing is gathered
+abbrev pub CountsFrame : Pass → Pass → FrameSpec → Type 0
+CountsFrame old new f = (payload_fault f ≡ None) × Takes f old new
 
 -- the header of a payload that begins at this place, with the place
 abbrev pub headers_of : FrameKind → ℕ → List ℕ → List (ℕ × HeaderSpec)
@@ -128,9 +139,9 @@ HoldsHeader (Some header) pass = (option_map header_of pass.header ≡ Some head
 pub record TakesFile {S : Type 0} (gathered : S → EntitySpec → S) (known : Option Verdict) (before now : S) (pass : Pass) : Type 0 where
   pub frames : List FrameSpec
   pub says : Says known (frames, None)
-  pub counted : pass.counts ≡ counts_of (decoded frames)
+  pub counted : pass.counts ≡ counts_of (stored_entities frames)
   pub header : HoldsHeader (file_header frames) pass
-  pub gathered_all : now ≡ fold gathered before (decoded frames)
+  pub gathered_all : now ≡ fold gathered before (stored_entities frames)
 
 -- the digest of a file's bytes, where they are known
 abbrev pub IsDigest : Option (List ℕ) → List ℕ → Type 0
@@ -143,4 +154,4 @@ pub record Judges {S : Type 0} (gathered : S → EntitySpec → S) (known : Opti
 
 -- the counts are those of the entities of a file without a fault
 abbrev pub CountsFile : Option Verdict → Counts → Type 0
-CountsFile known counts = (frames : List FrameSpec) × Says known (frames, None) × (counts ≡ counts_of (decoded frames))
+CountsFile known counts = (frames : List FrameSpec) × Says known (frames, None) × (counts ≡ counts_of (stored_entities frames))

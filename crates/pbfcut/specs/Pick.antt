@@ -1,5 +1,5 @@
 -- Entities that are picked, on their way into the drain.
-use Rattle.std.specs.Prelude.{◌≡◌, ◌⊎◌, ◌≤◌, ℕ, ◌+◌, List, [], ◌++◌, Bool, true, false, Option, Some, None}
+use Rattle.std.specs.Prelude.{◌≡◌, ◌⊎◌, ◌≤◌, ℕ, ℤ, ◌+◌, List, [], ◌++◌, Bool, true, false, Option, Some, None}
 use Rattle.std.specs.FinSet as set
 use Rattle.std.specs.List.{AllByRecursion, filter}
 use Rattle.osm_entity.specs.Entity.{EntitySpec, node, way, relation}
@@ -22,7 +22,7 @@ use Rattle.pbfcut.specs.declared.pick.Selection.{Selection}
 use Rattle.pbfcut.specs.declared.pick.Selection.TheVariants as selection
 use Rattle.pbfcut.specs.declared.pick.Picker.{Picker}
 use Rattle.pbfcut.specs.declared.pick.Picker.TheVariants as picker
-use Rattle.pbfcut.specs.Counting.{counts_of, decoded, frame_entities}
+use Rattle.pbfcut.specs.Counting.{counts_of, stored_entities, frame_entities}
 use Rattle.pbfcut.specs.Judged.{payload_fault}
 use Rattle.pbfcut.specs.Pass.{TakesSome}
 use Rattle.pbfcut.specs.Stops.{Caused, Only, unchanged, KeepsDrain, WriteFailed}
@@ -47,6 +47,11 @@ picked_with_parents sets (node n) = set.contains sets.ways.node_ids n.id
 picked_with_parents sets (way w) = is_chosen_with_parents sets (seen_way w)
 picked_with_parents sets (relation r) = is_chosen_with_parents sets (seen_relation r)
 
+-- by the sets that were chosen, or all where none were
+abbrev pub picked_by_some : Option WaySets → Pick
+picked_by_some None = everything
+picked_by_some (Some sets) = picked_by sets
+
 unfoldable pub pick_of : Selection → Pick
 pick_of selection.Everything = everything
 pick_of (selection.Ways chosen) = picked_by chosen.now
@@ -56,6 +61,17 @@ unfoldable pub picks_of : Picker → Pick
 picks_of picker.Everything = everything
 picks_of (picker.Ways sets) = picked_by sets
 picks_of (picker.Parents sets) = picked_with_parents sets
+
+-- which nodes are, by their id
+unfoldable pub picks_id : Picker → ℤ → Bool
+picks_id picker.Everything id = true
+picks_id (picker.Ways sets) id = set.contains sets.node_ids id
+picks_id (picker.Parents sets) id = set.contains sets.ways.node_ids id
+
+abbrev pub is_node : EntitySpec → Bool
+is_node (node n) = true
+is_node (way w) = false
+is_node (relation r) = false
 
 -- ---- entities on their way
 
@@ -126,12 +142,12 @@ FailsToPack d pick old new f stop = StopsPacking d (payload_fault f) (picked_in 
 pub record Packed (pick : Pick) (h : HeaderSpec) (known : Option Verdict) (old new : Option (List ℕ)) (counts : Counts) : Type 0 where
   pub frames : List FrameSpec
   pub says : Says known (frames, None)
-  pub counted : counts ≡ counts_of (filter pick (decoded frames))
-  pub taken : new ≡ append old (written_file h (filter pick (decoded frames)))
+  pub counted : counts ≡ counts_of (filter pick (stored_entities frames))
+  pub taken : new ≡ append old (written_file h (filter pick (stored_entities frames)))
 
 -- a beginning of the header and of what is picked of the frames before the first fault went out
 abbrev pub PacksFront : Pick → HeaderSpec → Option Verdict → Option (List ℕ) → Option (List ℕ) → Type 0
-PacksFront pick h known old new = (all : Verdict) → known ≡ Some all → IsFront old new (written_file h (filter pick (decoded all.0)))
+PacksFront pick h known old new = (all : Verdict) → known ≡ Some all → IsFront old new (written_file h (filter pick (stored_entities all.0)))
 
 -- a header that isn't too long to be written
 abbrev pub IsShort : HeaderSpec → Type 0

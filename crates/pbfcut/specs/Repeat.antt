@@ -8,7 +8,7 @@ use Rattle.pbf_frame.specs.declared.stop.Stop.TheVariants.{Refused, Read, Write,
 use Rattle.pbf_frame.specs.Frames.{FrameSpec}
 use Rattle.pbf_frame.specs.Verdict.{Says}
 use Rattle.pbfcut.specs.declared.repeat.Repeat.{Repeat}
-use Rattle.pbfcut.specs.Counting.{decoded}
+use Rattle.pbfcut.specs.Counting.{stored_entities}
 use Rattle.pbfcut.specs.Judged.{judged_file}
 use Rattle.pbfcut.specs.Pass.{IsDigest}
 use Rattle.pbfcut.specs.Stops.{Caused}
@@ -17,7 +17,7 @@ use Rattle.pbfcut.specs.Stops.{Caused}
 pub record GathersAgain {S : Type 0} (gathered : S → EntitySpec → S) (known : Option (List ℕ)) (digest : List ℕ) (before now : S) : Type 0 where
   pub frames : List FrameSpec
   pub says : Says (judged_file known) (frames, None)
-  pub gathered_all : now ≡ fold gathered before (decoded frames)
+  pub gathered_all : now ≡ fold gathered before (stored_entities frames)
   pub digest_is : IsDigest known digest
 
 -- bytes without a fault that have this digest aren't those of the feed

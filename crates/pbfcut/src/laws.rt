@@ -15,7 +15,7 @@ ghost use Rattle.osm_pack.specs.Cuts.{written_file};
 ghost use Rattle.pbf_block.specs.Header.{HeaderSpec};
 ghost use Rattle.pbf_block.specs.WrittenHeader.{edges_of, EdgesTyped, HeaderFits, header_out_for_convert};
 ghost use Rattle.pbf_frame.specs.Frames.{FrameSpec};
-ghost use Rattle.pbfcut.specs.Counting.{decoded};
+ghost use Rattle.pbfcut.specs.Counting.{stored_entities};
 ghost use Rattle.pbfcut.specs.Extracting.{complete_ways, all_parents};
 ghost use Rattle.pbfcut.specs.Judged.{judged_file};
 ghost use Rattle.pbfcut.specs.Kept.{IsWritable, conversion_of, extract_of, IsConversion, IsExtract};
@@ -25,7 +25,7 @@ ghost use Rattle.pbfcut.specs.Pass.{file_header};
 /// header that was written, and its entities are those that were written.
 pub fn written_file_is_read()
     ensures { (h : HeaderSpec) (es : List EntitySpec) → HeaderFits (header_out_for_convert h) → text_weight h.source + text_weight h.url ≤ 12000000 → AllByRecursion EntityFits es → AllByRecursion EntityTyped es → length (written_file h es) ≤ 2 ^ 62
-        → (frames : List FrameSpec) × (judged_file (Some (written_file h es)) ≡ Some (frames, None)) × (decoded frames ≡ es) × (option_map (λ p. p.1) (file_header frames) ≡ Some (header_out_for_convert h)) }
+        → (frames : List FrameSpec) × (judged_file (Some (written_file h es)) ≡ Some (frames, None)) × (stored_entities frames ≡ es) × (option_map (λ p. p.1) (file_header frames) ≡ Some (header_out_for_convert h)) }
 {}
 
 /// A conversion of a file that can be converted, at most 2^62 bytes long, is a file without a fault that has the file's header in

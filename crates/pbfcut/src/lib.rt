@@ -2,8 +2,6 @@
 #![tactic(auto)]
 
 mod blobs;
-#[cfg(test)]
-mod check_tests;
 mod checking;
 mod converting;
 mod extracting;
@@ -13,17 +11,15 @@ pub mod laws;
 mod pass;
 mod pick;
 mod repeat;
-#[cfg(test)]
-mod show_tests;
 mod showing;
-#[cfg(test)]
-mod tests;
 
 pub use blobs::list_blobs;
 pub use checking::check;
 pub use converting::convert;
 pub use extracting::{extract, extract_parents};
-pub use pass::{Gather, Nothing, Pass, step};
+pub use pass::{
+    Gather, Nothing, Pass, step_count, step_gather, step_nodes, step_relations, step_ways,
+};
 pub use pbf_block::Counts;
-pub use pick::{Selection, step_write};
+pub use pick::{Selection, step_pack, step_write, step_write_parents};
 pub use showing::show;

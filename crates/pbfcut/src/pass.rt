@@ -1,23 +1,26 @@
 //! A pass over a file: what it takes and gathers frame by frame, and the loop that judges the whole file.
 
-ghost use Rattle.std.specs.Prelude.{◌≡◌, ◌≤◌, ◌<◌, ◌+◌, ◌^◌, [], false, None, Some, Err, IfOk, IfErr, OnOk, length};
+ghost use Rattle.std.specs.Prelude.{◌≡◌, ◌≤◌, ◌<◌, ◌+◌, ◌^◌, [], false, None, Some, Err, IfOk, IfErr, OnOk, length, map};
 ghost use Rattle.std.specs.List.{fold};
-ghost use Rattle.osm_entity.specs.Entity.{EntitySpec};
+ghost use Rattle.osm_entity.specs.Entity.{EntitySpec, node};
 ghost use Rattle.osm_entity.specs.Views.{entity_of};
 ghost use Rattle.pbf_block.specs.Kinds.{is_among};
 ghost use Rattle.pbf_block.specs.Payload.{entities};
+ghost use Rattle.pbf_block.specs.Runs.{run_entities};
+ghost use Rattle.pbf_dense.specs.Cursors.{dense_left};
 ghost use Rattle.pbf_frame.specs.declared.frame.FrameKind.TheVariants as kind;
 ghost use Rattle.pbf_frame.specs.Next.{IsReading, place_of, held_by, verdict};
 ghost use Rattle.pbf_wire.specs.declared.fault.Fault.{Fault};
 ghost use Rattle.pbf_wire.specs.declared.fault.ReadFault.TheVariants.{Refused};
 ghost use Rattle.pbfcut.specs.Judged.{payload_fault_of, fully_known, judged_file};
-ghost use Rattle.pbfcut.specs.Pass.{IsFresh, TakesPayload, TakesAll, TakesFrame, TakesFile, IsStep, FailsToJudge, ReadsAll, Judges, as_it_was, with_node, with_way, with_relation};
+ghost use Rattle.pbfcut.specs.Pass.{IsFresh, TakesPayload, TakesAll, TakesFrame, CountsFrame, TakesFile, IsStep, FailsToJudge, ReadsAll, Judges, as_it_was, with_node, with_way, with_relation};
 ghost use Rattle.pbfcut.specs.Stops.{Caused, FaultOf, unchanged, ReadFailed};
 
 use crate::hashed::Hashed;
 use osm_entity::EntityRef;
 use osm_ways::{NodePhase, RelationPhase, WayPhase};
-use pbf_block::{Block, Counts, Header, Kinds};
+use pbf_block::{Block, Counts, Header, Kinds, Run};
+use pbf_dense::Dense;
 use pbf_frame::{Feed, Frame, FrameKind, FrameReader, Stop};
 use pbf_wire::ReadFault;
 use std::alloc::{AllocError, Global};
@@ -34,6 +37,10 @@ pub trait Gather {
     /// Gathers an entity. Where memory is refused it may only be dropped.
     fn gather(&mut self, entity: &EntityRef<'_>) -> Result<(), AllocError>
         ensures { OnOk result (self.new ≡ gathered self.old (entity_of entity.now)) };
+
+    /// Gathers the nodes of a dense message. Where memory is refused it may only be dropped.
+    fn gather_dense(&mut self, dense: &Dense<'_>) -> Result<(), AllocError>
+        ensures { OnOk result (self.new ≡ fold gathered self.old (map node (dense_left dense.now))) };
 }
 
 /// Gathers nothing.
@@ -52,6 +59,11 @@ impl Gather for Nothing {
     }
 
     fn gather(&mut self, _entity: &EntityRef<'_>) -> Result<(), AllocError> {
+        Ok(())
+    }
+
+    #[tactic(auto, using(crate::proofs::GatherLemmas::nodes_left_out))]
+    fn gather_dense(&mut self, _dense: &Dense<'_>) -> Result<(), AllocError> {
         Ok(())
     }
 }
@@ -73,6 +85,10 @@ impl Gather for NodePhase {
             EntityRef::Way(_) | EntityRef::Relation(_) => Ok(()),
         }
     }
+
+    fn gather_dense(&mut self, dense: &Dense<'_>) -> Result<(), AllocError> {
+        take_places(self, dense)
+    }
 }
 
 impl Gather for WayPhase {
@@ -91,6 +107,11 @@ impl Gather for WayPhase {
             EntityRef::Way(way) => self.take_way(way),
             EntityRef::Node(_) | EntityRef::Relation(_) => Ok(()),
         }
+    }
+
+    #[tactic(auto, using(crate::proofs::GatherLemmas::ways_of_nodes))]
+    fn gather_dense(&mut self, _dense: &Dense<'_>) -> Result<(), AllocError> {
+        Ok(())
     }
 }
 
@@ -111,14 +132,41 @@ impl Gather for RelationPhase {
             EntityRef::Node(_) | EntityRef::Way(_) => Ok(()),
         }
     }
+
+    #[tactic(auto, using(crate::proofs::GatherLemmas::relations_of_nodes))]
+    fn gather_dense(&mut self, _dense: &Dense<'_>) -> Result<(), AllocError> {
+        Ok(())
+    }
+}
+
+/// Takes the nodes of a dense message, each by its id and its place alone.
+fn take_places(phase: &mut NodePhase, dense: &Dense<'_>) -> Result<(), AllocError>
+    ensures { OnOk result (phase.new ≡ fold with_node phase.old (map node (dense_left dense.now))) }
+{
+    for place in dense.places() {
+        phase.take_place(place.id, place.lat, place.lon)?;
+    }
+    Ok(())
+}
+
+/// Gathers the entities of a run.
+#[inline(always)]
+fn gather_run<G: Gather>(run: &Run<'_>, gathering: &mut G) -> Result<(), AllocError>
+    ensures { OnOk result (gathering.new ≡ fold G.gathered gathering.old (run_entities run.now)) }
+{
+    match run {
+        Run::Nothing => Ok(()),
+        Run::One(entity) => gathering.gather(entity),
+        Run::Dense(dense) => gathering.gather_dense(dense),
+    }
 }
 
 /// Gathers those entities of a block that matter.
 fn gather_entities<G: Gather>(block: &Block<'_>, gathering: &mut G) -> Result<(), AllocError>
     ensures { OnOk result (gathering.new ≡ fold G.gathered gathering.old (entities block.now.at block.now.payload.now)) }
 {
-    for entity in block.entities_among(G::kinds()) {
-        gathering.gather(&entity)?;
+    for run in block.runs_among(G::kinds()) {
+        gather_run(&run, gathering)?;
     }
     Ok(())
 }
@@ -208,7 +256,7 @@ impl Pass {
 ///
 /// `Refused` names the first fault of the frame, phases of its payload too. After a stop the reader, the pass and what was gathered
 /// may only be dropped, or the reader taken apart.
-pub fn step<F: Feed, G: Gather>(
+pub fn step_gather<F: Feed, G: Gather>(
     alloc: Global,
     reader: &mut FrameReader<F>,
     pass: &mut Pass,
@@ -225,6 +273,62 @@ pub fn step<F: Feed, G: Gather>(
     Ok(true)
 }
 
+/// Takes the next frame of a pass: its header, or the numbers of its entities; false at the end of an input that had its header.
+/// It is [`step_gather`] of nothing.
+pub fn step_count<F: Feed>(
+    alloc: Global,
+    reader: &mut FrameReader<F>,
+    pass: &mut Pass,
+) -> Result<bool, Stop>
+    ensures step { IsStep F.Feed reader.old reader.new (CountsFrame pass.old pass.new) FailsToJudge (pass.new ≡ pass.old) result }
+    ensures limited { place_of reader.new ≤ 2 ^ 62 }
+    ensures space { held_by reader.new ≤ 33620990 }
+{
+    step_gather(alloc, reader, pass, &mut Nothing)
+}
+
+/// As [`step_count`], and takes the nodes of the frame in order. After a stop the phase too may only be dropped.
+pub fn step_nodes<F: Feed>(
+    alloc: Global,
+    reader: &mut FrameReader<F>,
+    pass: &mut Pass,
+    phase: &mut NodePhase,
+) -> Result<bool, Stop>
+    ensures step { IsStep F.Feed reader.old reader.new (TakesFrame with_node pass.old pass.new phase.old phase.new) FailsToJudge ((pass.new ≡ pass.old) × (phase.new ≡ phase.old)) result }
+    ensures limited { place_of reader.new ≤ 2 ^ 62 }
+    ensures space { held_by reader.new ≤ 33620990 }
+{
+    step_gather(alloc, reader, pass, phase)
+}
+
+/// As [`step_count`], and takes the ways of the frame in order. After a stop the phase too may only be dropped.
+pub fn step_ways<F: Feed>(
+    alloc: Global,
+    reader: &mut FrameReader<F>,
+    pass: &mut Pass,
+    phase: &mut WayPhase,
+) -> Result<bool, Stop>
+    ensures step { IsStep F.Feed reader.old reader.new (TakesFrame with_way pass.old pass.new phase.old phase.new) FailsToJudge ((pass.new ≡ pass.old) × (phase.new ≡ phase.old)) result }
+    ensures limited { place_of reader.new ≤ 2 ^ 62 }
+    ensures space { held_by reader.new ≤ 33620990 }
+{
+    step_gather(alloc, reader, pass, phase)
+}
+
+/// As [`step_count`], and takes the relations of the frame in order. After a stop the phase too may only be dropped.
+pub fn step_relations<F: Feed>(
+    alloc: Global,
+    reader: &mut FrameReader<F>,
+    pass: &mut Pass,
+    phase: &mut RelationPhase,
+) -> Result<bool, Stop>
+    ensures step { IsStep F.Feed reader.old reader.new (TakesFrame with_relation pass.old pass.new phase.old phase.new) FailsToJudge ((pass.new ≡ pass.old) × (phase.new ≡ phase.old)) result }
+    ensures limited { place_of reader.new ≤ 2 ^ 62 }
+    ensures space { held_by reader.new ≤ 33620990 }
+{
+    step_gather(alloc, reader, pass, phase)
+}
+
 /// Takes the frames that are left, by steps.
 fn steps<F: Feed, G: Gather>(
     alloc: Global,
@@ -237,7 +341,7 @@ fn steps<F: Feed, G: Gather>(
     ensures read { ReadsAll F.Feed reader.old.feed reader.new.feed result }
 {
     let mut pass = Pass::new();
-    'frames: while step(alloc, reader, &mut pass, gathering)? {}
+    'frames: while step_gather(alloc, reader, &mut pass, gathering)? {}
     Ok(pass)
 }
 

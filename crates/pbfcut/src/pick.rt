@@ -1,20 +1,24 @@
 //! Entities that are picked, on their way into the drain: frame by frame, and the loop that writes a whole file.
 
 ghost use Rattle.std.specs.Prelude.{false, true, [], ◌≡◌, ◌<◌, ◌≤◌, ◌+◌, ◌^◌, None, Err, IfOk, IfErr, OnOk, OnErr, length};
-ghost use Rattle.std.specs.List.{AllByRecursion, filter};
+ghost use Rattle.std.specs.List.{AllByRecursion, filter, list_any};
+ghost use Rattle.std.specs.Option.{option_map};
 ghost use Rattle.osm_entity.specs.Ranges.{EntityFits};
 ghost use Rattle.osm_entity.specs.Views.{entity_of};
 ghost use Rattle.osm_pack.specs.Packing.{IsPacking, has_header, packer_held};
 ghost use Rattle.osm_pack.specs.Packing as packing;
+ghost use Rattle.pbf_wire.specs.Cursors.{sums_left};
 ghost use Rattle.pbf_block.specs.Cursors.{entities_left};
 ghost use Rattle.pbf_block.specs.Header.{header_of};
+ghost use Rattle.pbf_block.specs.Payload.{entities};
+ghost use Rattle.pbf_block.specs.Runs.{run_entities};
 ghost use Rattle.pbf_frame.specs.declared.frame.FrameKind.TheVariants as kind;
 ghost use Rattle.pbf_frame.specs.declared.stop.Stop.{Stop};
 ghost use Rattle.pbf_frame.specs.Next.{IsReading, place_of, held_by, verdict};
 ghost use Rattle.pbfcut.specs.Counting.{counts_of, entities_of};
 ghost use Rattle.pbfcut.specs.Judged.{payload_fault_of, fully_known, judged_file};
 ghost use Rattle.pbfcut.specs.Pass.{TakesSome, IsStep, ReadsAll, IsDigest};
-ghost use Rattle.pbfcut.specs.Pick.{pick_of, picks_of, PacksAll, StopsPacking, KeepsPacker, IsFreshPacker, PacksFrame, FailsToPack, Packed, PacksFront, IsShort};
+ghost use Rattle.pbfcut.specs.Pick.{pick_of, picks_of, picks_id, is_node, picked_by_some, picked_with_parents, PacksAll, StopsPacking, KeepsPacker, IsFreshPacker, PacksFrame, FailsToPack, Packed, PacksFront, IsShort};
 ghost use Rattle.pbfcut.specs.Stops.{Caused, FaultOf, unchanged, KeepsDrain, ReadFailed, WriteFailed};
 
 use crate::hashed::Hashed;
@@ -22,8 +26,9 @@ use crate::pass::Pass;
 use osm_entity::EntityRef;
 use osm_pack::Packer;
 use osm_ways::{Chooser, ChooserParents, Chosen, ChosenParents};
-use pbf_block::{Block, Counts, Entities, Header};
+use pbf_block::{Block, Counts, Entities, Header, Kinds, Run};
 use pbf_frame::{Drain, Feed, Frame, FrameKind, FrameReader, Stop};
+use pbf_wire::Sums;
 use std::alloc::Global;
 use std::hash::BuildHasher;
 
@@ -51,6 +56,13 @@ impl<'a> Selection<'a> {
         }
     }
 }
+
+/// Nodes alone.
+const NODES: Kinds = Kinds {
+    nodes: true,
+    ways: false,
+    relations: false,
+};
 
 /// Which entities are written, asked of many one after another: the look-ups of ids that lie close together are cheap.
 #[derive(Drop)]
@@ -84,6 +96,70 @@ impl Picker<'_> {
             },
         }
     }
+
+    /// Whether nodes of this id are written.
+    #[tactic(auto, unfolding(crate::specs::Pick::picks_id))]
+    fn picks_id(&mut self, id: i64) -> bool
+        ensures picked { result ≡ picks_id self.old id }
+        ensures same { self.new ≡ self.old }
+    {
+        match self {
+            Picker::Everything => true,
+            Picker::Ways(chooser) => chooser.keeps_node(id),
+            Picker::Parents(chooser) => chooser.keeps_node(id),
+        }
+    }
+
+    /// Whether nodes of one of these ids are written.
+    fn picks_some(&mut self, ids: Sums<'_>) -> bool
+        ensures picked { result ≡ list_any (picks_id self.old) (sums_left ids.entry) }
+        ensures same { self.new ≡ self.old }
+    {
+        for id in ids {
+            if self.picks_id(id) {
+                return true;
+            }
+        }
+        false
+    }
+
+    /// Whether an entity of a run may be written; where this says no, none is. Of dense nodes the ids are read, and nothing else.
+    fn picks_in(&mut self, run: &Run<'_>) -> bool
+        ensures none { result ≡ false → filter (picks_of self.old) (run_entities run.now) ≡ [] }
+        ensures same { self.new ≡ self.old }
+    {
+        match run {
+            Run::Nothing => false,
+            Run::One(entity) => self.picks(entity),
+            Run::Dense(dense) => self.picks_some(dense.ids()),
+        }
+    }
+}
+
+/// Whether a node of a block may be written; where this says no, none is. Of dense nodes the ids are read, and nothing else.
+fn picks_node(block: &Block<'_>, selection: Selection<'_>) -> bool
+    ensures { result ≡ false → filter (pick_of selection.entry) (filter is_node (entities block.now.at block.now.payload.now)) ≡ [] }
+{
+    let mut picker = selection.picker();
+    for run in block.runs_among(NODES) {
+        if picker.picks_in(&run) {
+            return true;
+        }
+    }
+    false
+}
+
+/// The entities of a block, without its nodes where none of them is written.
+fn candidates<'a>(block: &'a Block<'_>, selection: Selection<'_>) -> Entities<'a>
+    ensures picked { filter (pick_of selection.entry) (entities_left result) ≡ filter (pick_of selection.entry) (entities block.now.at block.now.payload.now) }
+    ensures fits { AllByRecursion EntityFits (entities_left result) }
+{
+    let kinds = Kinds {
+        nodes: picks_node(block, selection),
+        ways: true,
+        relations: true,
+    };
+    block.entities_among(kinds)
 }
 
 /// Packs the entities that are picked, one by one, and answers their numbers.
@@ -130,7 +206,7 @@ fn pack_block<D: Drain, S: BuildHasher>(
     ensures keeps { KeepsPacker D.Drain packer.old packer.new }
 {
     let block = Block::read(alloc, payload, at)?;
-    pack_entities(block.entities(), selection, packer)
+    pack_entities(candidates(&block, selection), selection, packer)
 }
 
 /// Judges the payload of a frame, packs what is picked of it, and takes its header or the numbers of these entities.
@@ -165,7 +241,7 @@ fn pack_payload<D: Drain, S: BuildHasher>(
 /// `Refused` names the first fault of the frame, and then nothing went out; on another stop, of a frame without a fault, a
 /// beginning of its entities may have gone out. After a stop the reader and the packer may only be dropped or taken apart, and
 /// the pass may only be dropped. A spent packer answers its stop again, before the reader is asked.
-pub fn step_write<F: Feed, D: Drain, S: BuildHasher>(
+pub fn step_pack<F: Feed, D: Drain, S: BuildHasher>(
     alloc: Global,
     reader: &mut FrameReader<F>,
     pass: &mut Pass,
@@ -190,6 +266,61 @@ pub fn step_write<F: Feed, D: Drain, S: BuildHasher>(
     packer.held_is_bounded();
     outcome?;
     Ok(true)
+}
+
+/// Which entities these are: all of them, where nothing was chosen.
+#[tactic(auto, unfolding(crate::specs::Pick::pick_of))]
+fn selected(chosen: Option<&Chosen>) -> Selection<'_>
+    ensures { pick_of result ≡ picked_by_some (option_map (λ c. c.now) chosen.entry) }
+{
+    match chosen {
+        None => Selection::Everything,
+        Some(chosen) => Selection::Ways(chosen),
+    }
+}
+
+/// The same where all parents were chosen too.
+#[tactic(auto, unfolding(crate::specs::Pick::pick_of))]
+fn selected_with_parents(chosen: &ChosenParents) -> Selection<'_>
+    ensures { pick_of result ≡ picked_with_parents chosen.now }
+{
+    Selection::Parents(chosen)
+}
+
+/// [`step_pack`] of the complete-ways extract, or of all entities.
+pub fn step_write<F: Feed, D: Drain, S: BuildHasher>(
+    alloc: Global,
+    reader: &mut FrameReader<F>,
+    pass: &mut Pass,
+    chosen: Option<&Chosen>,
+    packer: &mut Packer<D, S>,
+) -> Result<bool, Stop>
+    requires { has_header packer.old ≡ true }
+    ensures step { IsPacking packer.old → IsStep F.Feed reader.old reader.new (PacksFrame D.Drain (picked_by_some (option_map (λ c. c.now) chosen.entry)) packer.old packer.new pass.old pass.new) (FailsToPack D.Drain (picked_by_some (option_map (λ c. c.now) chosen.entry)) packer.old packer.new) ((pass.new ≡ pass.old) × (packer.new ≡ packer.old)) result }
+    ensures spent { (stop : Stop) → packing.HasStopped packer.old stop → (result ≡ Err stop) × (reader.new ≡ reader.old) }
+    ensures keeps { KeepsPacker D.Drain packer.old packer.new }
+    ensures limited { place_of reader.new ≤ 2 ^ 62 }
+    ensures space { held_by reader.new + packer_held packer.new ≤ 61620990 }
+{
+    step_pack(alloc, reader, pass, selected(chosen), packer)
+}
+
+/// [`step_pack`] of the extract with all parents.
+pub fn step_write_parents<F: Feed, D: Drain, S: BuildHasher>(
+    alloc: Global,
+    reader: &mut FrameReader<F>,
+    pass: &mut Pass,
+    chosen: &ChosenParents,
+    packer: &mut Packer<D, S>,
+) -> Result<bool, Stop>
+    requires { has_header packer.old ≡ true }
+    ensures step { IsPacking packer.old → IsStep F.Feed reader.old reader.new (PacksFrame D.Drain (picked_with_parents chosen.now) packer.old packer.new pass.old pass.new) (FailsToPack D.Drain (picked_with_parents chosen.now) packer.old packer.new) ((pass.new ≡ pass.old) × (packer.new ≡ packer.old)) result }
+    ensures spent { (stop : Stop) → packing.HasStopped packer.old stop → (result ≡ Err stop) × (reader.new ≡ reader.old) }
+    ensures keeps { KeepsPacker D.Drain packer.old packer.new }
+    ensures limited { place_of reader.new ≤ 2 ^ 62 }
+    ensures space { held_by reader.new + packer_held packer.new ≤ 61620990 }
+{
+    step_pack(alloc, reader, pass, selected_with_parents(chosen), packer)
 }
 
 /// What is written of a file.
@@ -219,7 +350,7 @@ fn write_steps<F: Feed, D: Drain, S: BuildHasher>(
 {
     let mut pass = Pass::new();
     packer.put_header(writing.header)?;
-    'frames: while step_write(alloc, reader, &mut pass, writing.selection, packer)? {}
+    'frames: while step_pack(alloc, reader, &mut pass, writing.selection, packer)? {}
     packer.finish()?;
     Ok(pass.counts)
 }

@@ -4,8 +4,6 @@
 mod commands;
 mod endings;
 mod help;
-#[cfg(test)]
-mod tests;
 mod words;
 
 pub use endings::{Ending, line, status};

@@ -9,7 +9,7 @@ pub frames-preserved : goal.frames-preserved
 frames-preserved g c =
     let so_far = c.frames.invariant in
     let frames = so_far.done.0 in
-    let t = took_one g.F.Feed _ _ _ _ _ _ c.if-branch.true so_far.reading c.in_ok-step.ensures.step in
+    let t = took_one g.F.Feed _ _ _ _ _ _ c.if-branch.true so_far.reading c.in_ok-step_gather.ensures.step in
     record {
       done = (
         frames ++ t.frame ∷ [],
@@ -24,8 +24,8 @@ frames-preserved g c =
       lender = t.keeps.lender ∙ so_far.lender;
     }
 
-pub returns-in_err-step-clause-stops : goal.returns-in_err-step-clause-stops
-returns-in_err-step-clause-stops g c =
+pub returns-in_err-step_gather-clause-stops : goal.returns-in_err-step_gather-clause-stops
+returns-in_err-step_gather-clause-stops g c =
     let p = err_from_is_err_and c.from_residual.result c.from_residual.ensures.1 in
     let so_far = c.frames.invariant in
-    rw (p.1, p.2) (loop_stops g.F.Feed _ _ _ _ ⊥ _ so_far.done.0 _ _ so_far.done.1 so_far.counts (λ f s why. why) (stopped_step g.F.Feed _ _ _ _ _ _ so_far.reading c.in_err-step.ensures.step))
+    rw (p.1, p.2) (loop_stops g.F.Feed _ _ _ _ ⊥ _ so_far.done.0 _ _ so_far.done.1 so_far.counts (λ f s why. why) (stopped_step g.F.Feed _ _ _ _ _ _ so_far.reading c.in_err-step_gather.ensures.step))

@@ -4,7 +4,7 @@ use Rattle.pbf_frame.specs.Frames.{FrameSpec}
 use Rattle.pbf_frame.specs.Verdict.{Gone}
 use Rattle.pbf_frame.specs.Next.{verdict, place_of, IsReading}
 use Rattle.pbfcut.specs.Judged.{fully_known}
-use Rattle.pbfcut.specs.Counting.{counts_of, decoded}
+use Rattle.pbfcut.specs.Counting.{counts_of, stored_entities}
 use Rattle.pbfcut.specs.Pass.{HoldsHeader, file_header}
 use Rattle.pbfcut.proofs.pass.steps.Given as goal
 
@@ -14,8 +14,8 @@ invariant-frames g l =
     let remaining = g.F.Feed.remaining in
     let first = l.initial.reader in
     record {
-      done : (frames : List FrameSpec) × Gone (fully_known (verdict remaining first)) frames (fully_known (verdict remaining l.reader)) × (l.pass.counts ≡ counts_of (decoded frames)) × HoldsHeader (file_header frames) l.pass
-          × (l.gathering ≡ fold g.G.Gather.gathered l.initial.gathering (decoded frames));
+      done : (frames : List FrameSpec) × Gone (fully_known (verdict remaining first)) frames (fully_known (verdict remaining l.reader)) × (l.pass.counts ≡ counts_of (stored_entities frames)) × HoldsHeader (file_header frames) l.pass
+          × (l.gathering ≡ fold g.G.Gather.gathered l.initial.gathering (stored_entities frames));
       carries : (b : List ℕ) → g.F.Feed.carries first.feed b → g.F.Feed.carries l.reader.feed b;
       reading : IsReading l.reader;
       counts : g.F.Feed.failures first.feed ≤ g.F.Feed.failures l.reader.feed;

@@ -3,7 +3,7 @@ use Rattle.std.specs.List.{filter}
 use Rattle.std.proofs.lemmas.Result.{err_from_is_err_and}
 use Rattle.pbf_frame.proofs.VerdictLemmas.{gone_more}
 use Rattle.pbf_block.specs.Header.{header_of}
-use Rattle.pbfcut.specs.Counting.{decoded}
+use Rattle.pbfcut.specs.Counting.{stored_entities}
 use Rattle.pbfcut.specs.Pick.{pick_of}
 use Rattle.pbfcut.proofs.PickingLemmas.{none_packed, same_packed, says_end, last_front, frame_packed, step_front, behind_header, header_alone, whole_file, ended, end_front, fails_since}
 use Rattle.pbfcut.proofs.StepLemmas.{took_one, met_end, stopped_step, loop_stops, fully_first, picked_counts}
@@ -27,8 +27,8 @@ frames-preserved g c =
     let so_far = c.frames.invariant in
     let frames = so_far.done.0 in
     let pick = pick_of c.args.writing.selection in
-    let keeps = c.step_write.ensures.keeps in
-    let t = took_one g.F.Feed _ _ _ _ _ _ c.if-branch.true so_far.reading (c.in_ok-step_write.ensures.step so_far.going) in
+    let keeps = c.step_pack.ensures.keeps in
+    let t = took_one g.F.Feed _ _ _ _ _ _ c.if-branch.true so_far.reading (c.in_ok-step_pack.ensures.step so_far.going) in
     record {
       done = (frames ++ t.frame ∷ [], gone_more _ _ _ frames t.frame so_far.done.1 (fully_first _ _ t.frame t.is t.taken.packed.sound), frame_packed pick _ frames t.frame _ _ c.frames.packer _ so_far.done.2 t.taken.packed.packs, picked_counts pick t.frame _ _ frames t.taken.taken so_far.done.3);
       carries = λ b h. t.carries b (so_far.carries b h);
@@ -44,22 +44,22 @@ frames-preserved g c =
 pub returns-in_err-put_header-clause-beginning : goal.returns-in_err-put_header-clause-beginning
 returns-in_err-put_header-clause-beginning g c =
     let p = err_from_is_err_and c.from_residual.result c.from_residual.ensures.1 in
-    rw p.1 (λ all is. header_alone (header_of c.args.writing.header.now) _ _ (filter (pick_of c.args.writing.selection) (decoded all.0)) (c.in_err-put_header.ensures.front c.requires.fresh.packing))
+    rw p.1 (λ all is. header_alone (header_of c.args.writing.header.now) _ _ (filter (pick_of c.args.writing.selection) (stored_entities all.0)) (c.in_err-put_header.ensures.front c.requires.fresh.packing))
 
-pub returns-in_err-step_write-clause-beginning : goal.returns-in_err-step_write-clause-beginning
-returns-in_err-step_write-clause-beginning g c =
-    let p = err_from_is_err_and c.from_residual-in_err-step_write.result c.from_residual-in_err-step_write.ensures.1 in
+pub returns-in_err-step_pack-clause-beginning : goal.returns-in_err-step_pack-clause-beginning
+returns-in_err-step_pack-clause-beginning g c =
+    let p = err_from_is_err_and c.from_residual-in_err-step_pack.result c.from_residual-in_err-step_pack.ensures.1 in
     let so_far = c.frames.invariant in
     let pick = pick_of c.args.writing.selection in
-    let stopped = stopped_step g.F.Feed _ _ _ _ _ _ so_far.reading (c.in_err-step_write.ensures.step so_far.going) in
-    rw p.1 (λ all is. behind_header (header_of c.args.writing.header.now) _ _ _ (filter pick (decoded all.0)) (c.in_ok-put_header.ensures.written c.requires.fresh.packing)
+    let stopped = stopped_step g.F.Feed _ _ _ _ _ _ so_far.reading (c.in_err-step_pack.ensures.step so_far.going) in
+    rw p.1 (λ all is. behind_header (header_of c.args.writing.header.now) _ _ _ (filter pick (stored_entities all.0)) (c.in_ok-put_header.ensures.written c.requires.fresh.packing)
     (step_front g.F.Feed g.D.Drain pick _ _ so_far.done.0 _ _ c.frames.packer _ _ _ _ so_far.done.1 so_far.done.2 stopped all is))
 
-pub returns-in_err-step_write-clause-stops : goal.returns-in_err-step_write-clause-stops
-returns-in_err-step_write-clause-stops g c =
-    let p = err_from_is_err_and c.from_residual-in_err-step_write.result c.from_residual-in_err-step_write.ensures.1 in
+pub returns-in_err-step_pack-clause-stops : goal.returns-in_err-step_pack-clause-stops
+returns-in_err-step_pack-clause-stops g c =
+    let p = err_from_is_err_and c.from_residual-in_err-step_pack.result c.from_residual-in_err-step_pack.ensures.1 in
     let so_far = c.frames.invariant in
-    let stopped = stopped_step g.F.Feed _ _ _ _ _ _ so_far.reading (c.in_err-step_write.ensures.step so_far.going) in
+    let stopped = stopped_step g.F.Feed _ _ _ _ _ _ so_far.reading (c.in_err-step_pack.ensures.step so_far.going) in
     let counted : g.D.Drain.failures c.args.packer.now.drain ≤ g.D.Drain.failures c.frames.packer.drain = omega (arith, so_far.drain_counts, c.put_header.ensures.counts) in
     rw (p.1, p.2) (loop_stops g.F.Feed _ _ _ _ _ _ so_far.done.0 _ _ so_far.done.1 so_far.counts (λ f s why. fails_since _ _ _ _ _ counted why.cause) stopped)
 
@@ -69,22 +69,22 @@ returns-in_err-finish-clause-beginning g c =
     let so_far = c.frames.invariant in
     let frames = so_far.done.0 in
     let pick = pick_of c.args.writing.selection in
-    let e = met_end g.F.Feed _ _ _ _ _ _ c.if-branch.false so_far.reading (c.in_ok-step_write.ensures.step so_far.going) in
-    let packed = same_packed _ (filter pick (decoded frames)) _ _ c.frames.packer _ (ap (λ p. g.D.Drain.taken p.drain) e.stays.1) e.stays.1 so_far.done.2 in
-    rw p.1 (λ all is. behind_header (header_of c.args.writing.header.now) _ _ _ (filter pick (decoded all.0)) (c.in_ok-put_header.ensures.written c.requires.fresh.packing)
+    let e = met_end g.F.Feed _ _ _ _ _ _ c.if-branch.false so_far.reading (c.in_ok-step_pack.ensures.step so_far.going) in
+    let packed = same_packed _ (filter pick (stored_entities frames)) _ _ c.frames.packer _ (ap (λ p. g.D.Drain.taken p.drain) e.stays.1) e.stays.1 so_far.done.2 in
+    rw p.1 (λ all is. behind_header (header_of c.args.writing.header.now) _ _ _ (filter pick (stored_entities all.0)) (c.in_ok-put_header.ensures.written c.requires.fresh.packing)
     (last_front pick _ _ _ _ all (says_end _ _ frames so_far.done.1 e.none) is
-    (end_front _ (filter pick (decoded frames)) _ _ c.step_write.new.packer packed (c.in_err-finish.ensures.front (ap (λ p. p.stop) e.stays.1 ∙ so_far.going)))))
+    (end_front _ (filter pick (stored_entities frames)) _ _ c.step_pack.new.packer packed (c.in_err-finish.ensures.front (ap (λ p. p.stop) e.stays.1 ∙ so_far.going)))))
 
 pub returns-clause-packed : goal.returns-clause-packed
 returns-clause-packed g c =
     let so_far = c.frames.invariant in
     let frames = so_far.done.0 in
     let pick = pick_of c.args.writing.selection in
-    let e = met_end g.F.Feed _ _ _ _ _ _ c.if-branch.false so_far.reading (c.in_ok-step_write.ensures.step so_far.going) in
-    let packed = same_packed _ (filter pick (decoded frames)) _ _ c.frames.packer _ (ap (λ p. g.D.Drain.taken p.drain) e.stays.1) e.stays.1 so_far.done.2 in
+    let e = met_end g.F.Feed _ _ _ _ _ _ c.if-branch.false so_far.reading (c.in_ok-step_pack.ensures.step so_far.going) in
+    let packed = same_packed _ (filter pick (stored_entities frames)) _ _ c.frames.packer _ (ap (λ p. g.D.Drain.taken p.drain) e.stays.1) e.stays.1 so_far.done.2 in
     record {
       frames = frames;
       says = says_end _ _ frames so_far.done.1 e.none;
       counted = ap (λ p. p.counts) e.stays.0 ∙ so_far.done.3;
-      taken = whole_file (header_of c.args.writing.header.now) _ _ _ (filter pick (decoded frames)) (c.in_ok-put_header.ensures.written c.requires.fresh.packing) (ended _ (filter pick (decoded frames)) _ _ c.step_write.new.packer packed c.in_ok-finish.ensures.written);
+      taken = whole_file (header_of c.args.writing.header.now) _ _ _ (filter pick (stored_entities frames)) (c.in_ok-put_header.ensures.written c.requires.fresh.packing) (ended _ (filter pick (stored_entities frames)) _ _ c.step_pack.new.packer packed c.in_ok-finish.ensures.written);
     }

@@ -4,7 +4,7 @@ use Rattle.pbf_frame.specs.Frames.{FrameSpec}
 use Rattle.pbf_frame.specs.Verdict.{Gone}
 use Rattle.pbf_frame.specs.Next.{verdict, place_of, IsReading}
 use Rattle.osm_pack.specs.Packing.{IsPacking, has_header}
-use Rattle.pbfcut.specs.Counting.{counts_of, decoded}
+use Rattle.pbfcut.specs.Counting.{counts_of, stored_entities}
 use Rattle.pbfcut.specs.Judged.{fully_known}
 use Rattle.pbfcut.specs.Pick.{HasPacked, pick_of}
 use Rattle.pbfcut.proofs.pick.write_steps.Given as goal
@@ -16,8 +16,8 @@ invariant-frames g l =
     let first = l.initial.reader in
     record {
       done : (frames : List FrameSpec) × Gone (fully_known (verdict remaining first)) frames (fully_known (verdict remaining l.reader))
-          × HasPacked (g.D.Drain.taken l.initial.packer.drain) (filter (pick_of l.writing.selection) (decoded frames)) (g.D.Drain.taken l.packer.drain) l.packer
-          × (l.pass.counts ≡ counts_of (filter (pick_of l.writing.selection) (decoded frames)));
+          × HasPacked (g.D.Drain.taken l.initial.packer.drain) (filter (pick_of l.writing.selection) (stored_entities frames)) (g.D.Drain.taken l.packer.drain) l.packer
+          × (l.pass.counts ≡ counts_of (filter (pick_of l.writing.selection) (stored_entities frames)));
       carries : (b : List ℕ) → g.F.Feed.carries first.feed b → g.F.Feed.carries l.reader.feed b;
       reading : IsReading l.reader;
       going : IsPacking l.packer;

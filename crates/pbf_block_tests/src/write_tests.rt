@@ -1,0 +1,229 @@
+//! What no clause says: the bytes of headers, ways and relations that are known from the format's examples.
+
+ghost use Rattle.std.specs.Prelude.{◌≡◌, []};
+
+use osm_entity::{BoundingBox, Member, MemberKind, Meta, Relation, Scale, Way};
+use pbf_block::{EntityOut, Header};
+use pbf_strings::TableOut;
+use std::alloc::{AllocError, Global};
+use std::hash::{BuildHasherDefault, FoldHasher};
+use std::process::Abort;
+use std::test::Fail;
+
+const SCALE: Scale = Scale {
+    granularity: 100,
+    date_granularity: 1000,
+    lat_offset: 0,
+    lon_offset: 0,
+};
+
+fn writer(alloc: Global) -> TableOut<BuildHasherDefault<FoldHasher>>
+    ensures { result ≡ [] }
+{
+    TableOut::new(alloc, BuildHasherDefault::new())
+}
+
+fn nothing_known() -> Meta {
+    Meta {
+        version: None,
+        timestamp: None,
+        changeset: None,
+        uid: None,
+        user: None,
+        visible: None,
+    }
+}
+
+fn texts(alloc: Global, texts: &[&[u8]]) -> Result<Vec<Vec<u8>>, AllocError> {
+    let mut owned = Vec::new(alloc);
+    for text in texts {
+        owned.push(Vec::from_slice(alloc, text)?)?;
+    }
+    Ok(owned)
+}
+
+/// A group with this way alone, and the table of its texts.
+fn way_group(rt: &(impl Abort + AllocGlobal), way: &Way) -> Result<(Vec<u8>, Vec<u8>), AllocError> {
+    let view = way.view();
+    let mut table = writer(rt.alloc());
+    let mut group = Vec::new(rt.alloc());
+    let mut out = EntityOut::new(rt.alloc());
+    if !view.fits() {
+        panic!(rt; "the way can't be written");
+    }
+    out.put_way(&mut group, &view, &mut table)?;
+    let mut message = Vec::new(rt.alloc());
+    table.write(&mut message)?;
+    Ok((group, message))
+}
+
+/// A group with this relation alone, and the table of its texts.
+fn relation_group(
+    rt: &(impl Abort + AllocGlobal),
+    relation: &Relation,
+) -> Result<(Vec<u8>, Vec<u8>), AllocError> {
+    let view = relation.view();
+    let mut table = writer(rt.alloc());
+    let mut group = Vec::new(rt.alloc());
+    let mut out = EntityOut::new(rt.alloc());
+    if !view.fits() {
+        panic!(rt; "the relation can't be written");
+    }
+    out.put_relation(&mut group, &view, &mut table)?;
+    let mut message = Vec::new(rt.alloc());
+    table.write(&mut message)?;
+    Ok((group, message))
+}
+
+/// The header of a file whose own says nothing: with the box from 0 to 1 degree, and without one.
+#[test]
+fn headers_for_a_header_of_nothing(rt: HostRuntime) -> Result<(), Fail> {
+    let Ok(header) = Header::read(rt.alloc(), b"", 19) else {
+        panic!(rt; "the header is refused");
+    };
+    let Ok(area) = BoundingBox::new(0, 0, 1_000_000_000, 1_000_000_000) else {
+        panic!(rt; "the box is refused");
+    };
+    let features = b"\x22\x0eOsmSchema-V0.6\x22\x0aDenseNodes\x82\x01\x06pbfcut";
+    let mut wanted = Vec::from_slice(
+        rt.alloc(),
+        b"\x0a\x10\x08\x00\x10\x80\xa8\xd6\xb9\x07\x18\x80\xa8\xd6\xb9\x07\x20\x00",
+    )?;
+    wanted.extend_from_slice(features)?;
+    let mut written = Vec::new(rt.alloc());
+    header.for_box(rt.alloc(), area)?.write(&mut written)?;
+    assert_eq!(rt; written.as_slice(), wanted.as_slice());
+    assert_eq!(rt; written.len(), 0x37);
+    let mut converted = Vec::new(rt.alloc());
+    header.for_convert(rt.alloc())?.write(&mut converted)?;
+    assert_eq!(rt; converted.as_slice(), features.as_slice());
+    Ok(())
+}
+
+/// All fields, of which the numbers are negative: they take ten bytes.
+#[test]
+fn a_header_with_all_fields(rt: HostRuntime) -> Result<(), Fail> {
+    let header = Header {
+        bbox: None,
+        required: texts(rt.alloc(), &[b"Else"])?,
+        optional: texts(
+            rt.alloc(),
+            &[
+                b"Sort.Type_then_ID",
+                b"Foo",
+                b"Has_Metadata",
+                b"Has_Metadata",
+            ],
+        )?,
+        program: None,
+        source: Some(Vec::from_slice(rt.alloc(), b"src")?),
+        url: Some(Vec::from_slice(rt.alloc(), b"http://a")?),
+        timestamp: Some(-5),
+        sequence: Some(7),
+    };
+    let mut written = Vec::new(rt.alloc());
+    header.write(&mut written)?;
+    assert_eq!(rt;
+        written.as_slice(),
+        b"\x22\x0eOsmSchema-V0.6\x22\x0aDenseNodes*\x0cHas_Metadata*\x11Sort.Type_then_ID\x82\x01\x06pbfcut\x8a\x01\x03src\x80\x02\xfb\xff\xff\xff\xff\xff\xff\xff\xff\x01\x88\x02\x07\x92\x02\x08http://a".as_slice()
+    );
+    Ok(())
+}
+
+/// Way 7 through the nodes 1, 2 and 3.
+#[test]
+fn a_way_of_three_refs(rt: HostRuntime) -> Result<(), Fail> {
+    let way = Way {
+        id: 7,
+        meta: nothing_known(),
+        tags: Vec::new(rt.alloc()),
+        refs: Vec::from_slice(rt.alloc(), &[1, 2, 3])?,
+        locations: Vec::new(rt.alloc()),
+        scale: SCALE,
+    };
+    let (group, table) = way_group(&rt, &way)?;
+    assert_eq!(rt;
+        group.as_slice(),
+        b"\x1a\x07\x08\x07\x42\x03\x02\x02\x02".as_slice()
+    );
+    assert_eq!(rt; table.as_slice(), b"\x0a\x00".as_slice());
+    Ok(())
+}
+
+/// A negative id and version in ten bytes each, a tag twice, an empty text, all metadata, and locations after the refs.
+#[test]
+fn a_way_with_everything(rt: HostRuntime) -> Result<(), Fail> {
+    let mut tags = Vec::new(rt.alloc());
+    for key in [b"a".as_slice(), b"a".as_slice(), b"".as_slice()] {
+        tags.push((
+            Vec::from_slice(rt.alloc(), key)?,
+            Vec::from_slice(rt.alloc(), b"a")?,
+        ))?;
+    }
+    let way = Way {
+        id: -1,
+        meta: Meta {
+            version: Some(-1),
+            timestamp: Some(0),
+            changeset: Some(2),
+            uid: Some(3),
+            user: Some(Vec::from_slice(rt.alloc(), b"u")?),
+            visible: Some(false),
+        },
+        tags,
+        refs: Vec::from_slice(rt.alloc(), &[2, 1])?,
+        locations: Vec::from_slice(rt.alloc(), &[(1, -1), (3, -1)])?,
+        scale: SCALE,
+    };
+    let (group, table) = way_group(&rt, &way)?;
+    assert_eq!(rt;
+        group.as_slice(),
+        b"\x1a\x38\x08\xff\xff\xff\xff\xff\xff\xff\xff\xff\x01\x12\x03\x01\x01\x02\x1a\x03\x01\x01\x01\x22\x15\x08\xff\xff\xff\xff\xff\xff\xff\xff\xff\x01\x10\x00\x18\x02\x20\x03\x28\x03\x30\x00\x42\x02\x04\x01\x4a\x02\x02\x04\x52\x02\x01\x00".as_slice()
+    );
+    assert_eq!(rt;
+        table.as_slice(),
+        b"\x0a\x00\x0a\x01a\x0a\x00\x0a\x01u".as_slice()
+    );
+    Ok(())
+}
+
+/// Three members, two of one role; the roles come last in the table.
+#[test]
+fn a_relation_of_three_members(rt: HostRuntime) -> Result<(), Fail> {
+    let mut members = Vec::new(rt.alloc());
+    for (kind, id, role) in [
+        (MemberKind::Node, 1, b"r".as_slice()),
+        (MemberKind::Way, 0, b"".as_slice()),
+        (MemberKind::Relation, 5, b"r".as_slice()),
+    ] {
+        members.push(Member {
+            kind,
+            id,
+            role: Vec::from_slice(rt.alloc(), role)?,
+        })?;
+    }
+    let mut tags = Vec::new(rt.alloc());
+    tags.push((
+        Vec::from_slice(rt.alloc(), b"k")?,
+        Vec::from_slice(rt.alloc(), b"v")?,
+    ))?;
+    let mut meta = nothing_known();
+    meta.visible = Some(true);
+    let relation = Relation {
+        id: 8,
+        meta,
+        tags,
+        members,
+        scale: SCALE,
+    };
+    let (group, table) = relation_group(&rt, &relation)?;
+    assert_eq!(rt;
+        group.as_slice(),
+        b"\x22\x1b\x08\x08\x12\x01\x01\x1a\x01\x02\x22\x02\x30\x01\x42\x03\x03\x04\x03\x4a\x03\x02\x01\x0a\x52\x03\x00\x01\x02".as_slice()
+    );
+    assert_eq!(rt;
+        table.as_slice(),
+        b"\x0a\x00\x0a\x01k\x0a\x01v\x0a\x01r\x0a\x00".as_slice()
+    );
+    Ok(())
+}

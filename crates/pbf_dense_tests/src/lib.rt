@@ -1,0 +1,7 @@
+//! The tests of `pbf_dense`: what no contract says.
+#![tactic(auto)]
+
+#[cfg(test)]
+mod tests;
+#[cfg(test)]
+mod write_tests;

@@ -1,0 +1,4 @@
+pub mod Hex
+pub mod Reading
+pub mod Files
+pub mod Examples

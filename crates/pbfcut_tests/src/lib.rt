@@ -1,0 +1,9 @@
+//! The tests of `pbfcut`: what no contract says.
+#![tactic(auto)]
+
+#[cfg(test)]
+mod check_tests;
+#[cfg(test)]
+mod show_tests;
+#[cfg(test)]
+mod tests;

@@ -1,0 +1,237 @@
+#!/usr/bin/env python3
+"""Proves the crates that the program is made of, and builds it for this processor.
+
+usage: tools/build.py        makes crates/pbfcut_run/out/pbfcut_run
+
+Crates that do not stand on each other are proved side by side: the longest chain gets all processors, and what stands beside it
+takes what the chain leaves. The judge is that of the gate, `rattle build`, which makes nothing of a crate that is not proved. Where
+a build was stopped, the next one goes on with the crates that were proved.
+
+Exit status: 0 the program is built; 1 a crate is not proved, or the program could not be linked; 2 this kit is not called in
+the way that this script knows, and `rt run` has to build the program.
+"""
+import hashlib
+import os
+import re
+import shutil
+import subprocess
+import sys
+import time
+
+TOP = os.path.dirname(os.path.dirname(os.path.abspath(__file__)))
+PROGRAM = "pbfcut_run"
+PLACE = os.path.join(TOP, "crates", PROGRAM, "out")
+ROOM = os.path.join(PLACE, "building")
+NOT_THIS_KIT = 2
+
+# what a processor must have, in the words of /proc/cpuinfo, to run code for x86-64-v3
+VERSION_3 = {"avx", "avx2", "bmi1", "bmi2", "f16c", "fma", "abm", "movbe"}
+
+
+def kit_folder():
+    """The kit's folder, or None where it does not look as this script knows it."""
+    try:
+        page = subprocess.run(["rt", "doc"], capture_output=True, text=True).stdout.strip()
+    except OSError:
+        return None
+    folder = os.path.dirname(page)
+    needed = ["bin/rattle", "bin/rattle-link", "rlibs/std.rlib", "rattle/logic/antt-project.json", "logic_built", "toolchain"]
+    return folder if all(os.path.exists(os.path.join(folder, name)) for name in needed) else None
+
+
+def read_crates():
+    """What each crate of the program stands on, by crates.txt."""
+    lines = (line.split("#")[0] for line in open(os.path.join(TOP, "crates.txt")))
+    pairs = (line.split(":") for line in lines if ":" in line)
+    known = {name.strip(): below.split() for name, below in pairs}
+    wanted, left = {}, [PROGRAM]
+    while left:
+        name = left.pop()
+        if name in known and name not in wanted:
+            wanted[name] = known[name]
+            left += known[name]
+    return wanted
+
+
+def all_below(crates, name):
+    """The crates of this repository that a crate stands on, at any distance."""
+    found = []
+    for other in crates[name]:
+        if other in crates:
+            found += [deeper for deeper in all_below(crates, other) + [other] if deeper not in found]
+    return found
+
+
+def height(crates, name):
+    """How many crates stand above one another on this one, itself counted."""
+    return 1 + max((height(crates, other) for other in crates if name in crates[other]), default=0)
+
+
+def source_sum(crates, name):
+    """A digest of the sources of a crate and of those below it."""
+    digest = hashlib.sha256(subprocess.run(["rt", "version"], capture_output=True).stdout)
+    for crate in all_below(crates, name) + [name]:
+        for part in ("src", "specs", "proofs"):
+            for folder, folders, files in os.walk(os.path.join(TOP, "crates", crate, part)):
+                folders.sort()
+                for file in sorted(files):
+                    path = os.path.join(folder, file)
+                    digest.update(path[len(TOP):].encode() + b"\0" + open(path, "rb").read())
+    return digest.hexdigest()
+
+
+def processor_flags():
+    """The flags that have the program compiled for this processor, where that is quicker."""
+    try:
+        words = set(re.search(r"^flags\s*:(.*)$", open("/proc/cpuinfo").read(), re.M).group(1).split())
+    except (OSError, AttributeError):
+        return []
+    return ["--cpu", "x86-64-v3"] if VERSION_3 <= words else []
+
+
+def lanes():
+    """How many processors to fill: as many as there are, where each has 3 GB of free memory."""
+    try:
+        free = int(re.search(r"^MemAvailable:\s*(\d+)", open("/proc/meminfo").read(), re.M).group(1)) >> 20
+    except (OSError, AttributeError):
+        free = 4
+    return max(1, min(len(os.sched_getaffinity(0)), (free - 1) // 3))
+
+
+class Build:
+    """Crates on their way: which are proved, which are being proved, and since when."""
+
+    def __init__(self, kit, crates):
+        self.kit, self.crates = kit, crates
+        self.lanes = lanes()
+        self.started = time.monotonic()
+        self.proved, self.running, self.again = set(), {}, set()
+        self.shown = sys.stderr.isatty()
+        os.makedirs(ROOM, exist_ok=True)
+        self.sums = {name: source_sum(crates, name) for name in crates}
+
+    def result(self, name):
+        return os.path.join(ROOM, name + (".o" if name == PROGRAM else ".rlib"))
+
+    def command(self, name, jobs):
+        rlibs = os.path.join(self.kit, "rlibs")
+        root = "src/main.rt" if name == PROGRAM else "src/lib.rt"
+        words = [os.path.join(self.kit, "bin/rattle"), "build", "--crate-name", name, root, "--extern", f"std={rlibs}/std.rlib"]
+        for other in self.crates[name]:
+            words += ["--extern", f"{other}={ROOM if other in self.crates else rlibs}/{other}.rlib"]
+        words += ["-L", f"dependency={rlibs}", "-L", f"dependency={ROOM}", "--links", f"{name}="]
+        words += ["--antt-project", f"{self.kit}/rattle/logic/antt-project.json", "--logic-built", f"{self.kit}/logic_built"]
+        words += ["--jobs", str(jobs), "-o", self.result(name)]
+        if name == PROGRAM:
+            return words + ["--toolchain", f"{self.kit}/toolchain"] + processor_flags()
+        return words + ["--statements"]
+
+    def is_kept(self, name):
+        """Whether an earlier build that was stopped left the crate proved, and nothing below it has changed."""
+        try:
+            return open(self.result(name) + ".sum").read() == self.sums[name] and os.path.exists(self.result(name))
+        except OSError:
+            return False
+
+    def start(self, name, jobs, beside):
+        log = open(os.path.join(ROOM, name + ".log"), "w")
+        first = (lambda: os.nice(10)) if beside else None
+        folder = os.path.join(TOP, "crates", name)
+        self.running[name] = subprocess.Popen(
+            self.command(name, jobs), cwd=folder, stdin=subprocess.DEVNULL, stdout=log, stderr=log, preexec_fn=first
+        )
+
+    def start_ready(self):
+        """Starts what can be: of the crates that wait, the one that most stands on first."""
+        done = self.proved
+        ready = [name for name in self.crates if name not in done and name not in self.running]
+        ready = [name for name in ready if all(other in done for other in self.crates[name] if other in self.crates)]
+        for name in sorted(ready, key=lambda name: -height(self.crates, name)):
+            if self.is_kept(name):
+                self.end(name)
+                return self.start_ready()
+            tops = max((height(self.crates, other) for other in self.running), default=0)
+            if not self.running or height(self.crates, name) > tops:
+                self.start(name, 1 if name in self.again else self.lanes, False)
+            elif len(self.running) <= self.lanes // 2:
+                self.start(name, 1, True)
+
+    def end(self, name):
+        with open(self.result(name) + ".sum", "w") as file:
+            file.write(self.sums[name])
+        self.proved.add(name)
+        if not self.shown:
+            print(f"pbfcut: {name} is proved, {self.progress()}", file=sys.stderr, flush=True)
+
+    def progress(self):
+        seconds = int(time.monotonic() - self.started)
+        return f"{len(self.proved)} of {len(self.crates)} crates after {seconds // 60} min {seconds % 60:02} s"
+
+    def show(self):
+        if self.shown:
+            names = ", ".join(sorted(self.running, key=lambda name: -height(self.crates, name)))
+            print(f"\r\033[Kpbfcut: proving {names}; proved {self.progress()}"[:150], end="", file=sys.stderr, flush=True)
+
+    def collect(self):
+        """Takes up what has ended. Answers an exit status, where the build can't go on."""
+        for name, process in list(self.running.items()):
+            status = process.poll()
+            if status is None:
+                continue
+            del self.running[name]
+            if status == 0:
+                self.end(name)
+            elif status < 0 and name not in self.again:
+                self.again.add(name)  # most often memory ran out: once more, with one job
+            else:
+                return NOT_THIS_KIT if status == 2 else self.fail(name)
+        return None
+
+    def fail(self, name):
+        log = os.path.join(ROOM, name + ".log")
+        print(f"\npbfcut: {name} could not be proved; this is the end of {log}:", file=sys.stderr)
+        sys.stderr.writelines(open(log, errors="replace").readlines()[-20:])
+        return 1
+
+    def run(self):
+        try:
+            while len(self.proved) < len(self.crates):
+                self.start_ready()
+                self.show()
+                time.sleep(0.5)
+                status = self.collect()
+                if status is not None:
+                    return status
+            return self.link()
+        finally:
+            for process in self.running.values():
+                process.kill()
+                process.wait()
+            if self.shown:
+                print("\r\033[K", end="", file=sys.stderr, flush=True)
+
+    def link(self):
+        words = [os.path.join(self.kit, "bin/rattle-link"), "--target", "x86_64-unknown-linux-gnu", "--toolchain", f"{self.kit}/toolchain"]
+        made = os.path.join(ROOM, PROGRAM)
+        linked = subprocess.run(words + ["-o", made, self.result(PROGRAM)], capture_output=True, text=True)
+        if linked.returncode:
+            print(linked.stderr, file=sys.stderr)
+            return NOT_THIS_KIT
+        os.replace(made, os.path.join(PLACE, PROGRAM))
+        shutil.rmtree(ROOM)
+        print(f"pbfcut: built, {self.progress()}", file=sys.stderr)
+        return 0
+
+
+def main():
+    kit = kit_folder()
+    if kit is None:
+        return NOT_THIS_KIT
+    return Build(kit, read_crates()).run()
+
+
+if __name__ == "__main__":
+    try:
+        sys.exit(main())
+    except KeyboardInterrupt:
+        sys.exit("\npbfcut: stopped; the next build goes on with the crates that were proved")
