@@ -22,8 +22,9 @@ def page(found: list) -> str:
     count = {verdict: sum(1 for case in found if case.told["verdict"] == verdict) for verdict in ("sound", "broken", "choice")}
     with open(ABOUT, encoding="utf-8") as file:
         text = file.read()
-    text += f"\n## The cases\n\n{len(found):,} cases: {count['sound']} sound, {count['broken']} broken, and {count['choice']} where the format leaves a choice.\n"
-    text += "".join(f"\n- [{topic}](#{topic.replace(' ', '-').replace('_', '_')}): {len(topics[topic])}" for topic in sorted(topics)) + "\n"
+    text += f"\n## The cases\n\n{len(found):,} cases: {count['sound']} sound, {count['broken']} broken, and {count['choice']} where the"
+    text += " format leaves a choice.\n"
+    text += "".join(f"\n- [{topic}](#{topic.replace(' ', '-')}): {len(topics[topic])}" for topic in sorted(topics)) + "\n"
     for topic in sorted(topics):
         text += f"\n### {topic}\n\n| Case | What is odd | Kind | pbfcut |\n|---|---|---|---|\n"
         for case in topics[topic]:
@@ -48,7 +49,7 @@ def row(case: Case) -> str:
         return f"{line} refused {fault['offset']} {fault['number']} {missing(fault)}"
     for call in CALLS:
         line += " " + " ".join(str(count) for count in case.told["counts"][call]) + " " + place(case.told["writes"][call])
-    return line.replace(f"{case.name} {edges}", f"{case.name} {edges}", 1)
+    return line
 
 
 def missing(fault: dict) -> int:

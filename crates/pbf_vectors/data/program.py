@@ -85,6 +85,9 @@ class Runs:
         fault = case.refusal(call)
         meant = (1, b"", refused(fault)) if fault else (0, counted(case.told["counts"][call]), b"")
         self.compare(case, words + [name], done, *meant)
+        if not os.path.exists(out):
+            self.differs(case, words + [name], "there is no OUT")
+            return
         with open(out, "rb") as file:
             if file.read() != case.written(call):
                 self.differs(case, words + [name], "OUT has other bytes")
