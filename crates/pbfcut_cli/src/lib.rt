@@ -4,9 +4,11 @@
 mod commands;
 mod endings;
 mod help;
+mod joined;
 #[cfg(test)]
 mod tests;
 mod words;
 
 pub use endings::{Ending, line, status};
+pub use joined::join_box;
 pub use words::{CliFault, Command, read_words};
