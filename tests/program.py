@@ -9,6 +9,7 @@ at the first difference, with status 1.
 """
 
 import os
+import re
 import resource
 import shutil
 import signal
@@ -306,6 +307,8 @@ def words_of_all_kinds(bench: Bench):
             parts += [b"--dates"] if command == b"show" else []
             parts += [b"--box", b"--parents", b"degrees", b"west,south,east,north"] if command == b"extract" else []
             bench.case(f"help of {words[0]} by {asked}", words, stdout=helps(*parts))
+    for asked in ["--version", "-V"]:
+        bench.case(f"the version by {asked}", [asked], stdout=b"pbfcut 1.0.0 (rattle-kit-13b logic dac8208d650f15bf)\n")
     for words, part in [
         ([], b"subcommand"),
         (["cut", "in"], b"'cut'"),
@@ -352,8 +355,38 @@ def boxes(bench: Bench):
                files={"out": b"old"}, status=2, stderr=told("box: LeftOverRight"), out=b"old")
     london = field(1, scalar(1, zigzag(-500_000_000)) + scalar(2, zigzag(300_000_000))
                    + scalar(3, zigzag(51_700_000_000)) + scalar(4, zigzag(51_250_000_000)))
-    bench.case("a box whose first number is negative", ["extract", "--box=-0.5,51.25,0.3,51.7", "in", "out"],
-               given=THREE_DENSE, stdout=counted(0, 0, 0), out=frame("OSMHeader", london + PLAIN_HEADER[19:]))
+    for box in [["--box=-0.5,51.25,0.3,51.7"], ["--box", "-0.5,51.25,0.3,51.7"]]:
+        bench.case(f"a box whose first number is negative, as {box}", ["extract", *box, "in", "out"],
+                   given=THREE_DENSE, stdout=counted(0, 0, 0), out=frame("OSMHeader", london + PLAIN_HEADER[19:]))
+    bench.case("a box of its own that is none", ["extract", "--box", "-x", "in", "out"], given=THREE_DENSE, status=2,
+               stderr=lambda text: text.startswith(b"error: "))
+
+
+def progress(bench: Bench):
+    """The report of each command that has one: a number of per cent for each pass, which rises to 100."""
+    def reports(passes: int, end: bytes = b""):
+        def holds(text: bytes) -> bool:
+            told, shown = re.fullmatch(rb"((?:\rpass \d of \d: \d+ %  )+)\n(.*)", text, re.S).groups()
+            numbers = [tuple(map(int, found)) for found in re.findall(rb"pass (\d) of (\d): (\d+) %", told)]
+            complete = [(number, passes, 100) for number in range(1, passes + 1)]
+            return numbers == sorted(set(numbers)) and all(last in numbers for last in complete) and shown == end
+        return holds
+
+    for words, passes, out in [
+        (["check", "--progress", "in"], 1, None),
+        (["show", "--progress", "in"], 2, None),
+        (["convert", "--progress", "in", "out"], 2, PLAIN_HEADER + DENSE_FRAME),
+        (["extract", "--progress", BOX, "in", "out"], 3, THREE_DENSE_CUT),
+        (["extract", "--parents", BOX, "--progress", "in", "out"], 4, THREE_DENSE_CUT),
+    ]:
+        bench.case(f"progress of {words}", words, given=THREE_DENSE, stdout=lambda text: len(text) > 0, out=out,
+                   stderr=reports(passes))
+    bench.case("progress of a file that is refused", ["check", "--progress", "in"], given=THREE_DENSE + b"\x00", status=1,
+               stderr=reports(1, told(f"refused at {len(THREE_DENSE)}: 10 PrefixCut")))
+    bench.case("progress of a pipe", ["check", "--progress", "in"], fifo=(THREE_DENSE, 1), stdout=counted(3, 0, 0),
+               stderr=b"\rpass 1 of 1: 0 MB  \n")
+    bench.case("no progress of blobs", ["blobs", "--progress", "in"], given=THREE_DENSE, status=2,
+               stderr=lambda text: b"'--progress'" in text)
 
 
 def files_that_cannot_be(bench: Bench):
@@ -624,7 +657,7 @@ def main():
     folder = tempfile.mkdtemp(prefix="pbfcut-program-")
     try:
         bench = Bench(program, folder)
-        for part in [words_of_all_kinds, boxes, files_that_cannot_be, files_that_change, files_that_are_refused,
+        for part in [words_of_all_kinds, boxes, progress, files_that_cannot_be, files_that_change, files_that_are_refused,
                      files_that_are_accepted, extracts, conversions, sample]:
             part(bench)
     finally:

@@ -1,2 +1,3 @@
 mod Rows
 mod ReasonText
+mod Joining

@@ -22,6 +22,10 @@ output_rule = record (new_rule (codes "OUT")) { required = true }
 abbrev pub dates_rule : Rule
 dates_rule = record (new_rule (codes "dates")) { long = Some (codes "dates"); action = Some SetTrue }
 
+abbrev pub progress_rule : Rule
+progress_rule =
+    record (new_rule (codes "progress")) { long = Some (codes "progress"); action = Some SetTrue }
+
 abbrev pub parents_rule : Rule
 parents_rule =
     record (new_rule (codes "parents")) { long = Some (codes "parents"); action = Some SetTrue }
@@ -39,23 +43,24 @@ abbrev pub blobs_app : App
 blobs_app = with_rule (new_app (codes "blobs")) input_rule
 
 abbrev pub show_app : App
-show_app = with_rule (with_rule (new_app (codes "show")) dates_rule) input_rule
+show_app = with_rule (with_rule (with_rule (new_app (codes "show")) dates_rule) progress_rule) input_rule
 
 abbrev pub check_app : App
-check_app = with_rule (new_app (codes "check")) input_rule
+check_app = with_rule (with_rule (new_app (codes "check")) progress_rule) input_rule
 
 abbrev pub convert_app : App
-convert_app = with_rule (with_rule (new_app (codes "convert")) input_rule) output_rule
+convert_app = with_rule (with_rule (with_rule (new_app (codes "convert")) progress_rule) input_rule) output_rule
 
 -- `extract` with its options
 abbrev pub options_app : App
-options_app = with_rule (with_rule (new_app (codes "extract")) parents_rule) box_rule
+options_app = with_rule (with_rule (with_rule (new_app (codes "extract")) parents_rule) progress_rule) box_rule
 
 abbrev pub extract_app : App
 extract_app = with_rule (with_rule options_app input_rule) output_rule
 
 abbrev pub settled : Shape → Shape
 settled s = record s {
+  has_version = true;
   no_binary_name = true;
   subcommand_required = true;
   disable_help_subcommand = true;
@@ -85,14 +90,18 @@ ReadsFlag flag id rows = (one_of id rows ≡ None → flag ≡ false)
 -- the command has this name, and its values are those of the rows
 abbrev pub ReadsAs : Text → List Row → Command → Type 0
 ReadsAs name rows (Blobs input) = (name ≡ codes "blobs") × (input.now ≡ value_of (codes "IN") rows)
-ReadsAs name rows (Show input dates) = (name ≡ codes "show")
+ReadsAs name rows (Show input dates progress) = (name ≡ codes "show")
     × (input.now ≡ value_of (codes "IN") rows) × ReadsFlag dates (codes "dates") rows
-ReadsAs name rows (Check input) = (name ≡ codes "check") × (input.now ≡ value_of (codes "IN") rows)
-ReadsAs name rows (Convert input output) = (name ≡ codes "convert")
+    × ReadsFlag progress (codes "progress") rows
+ReadsAs name rows (Check input progress) = (name ≡ codes "check")
+    × (input.now ≡ value_of (codes "IN") rows) × ReadsFlag progress (codes "progress") rows
+ReadsAs name rows (Convert input output progress) = (name ≡ codes "convert")
     × (input.now ≡ value_of (codes "IN") rows) × (output.now ≡ value_of (codes "OUT") rows)
-ReadsAs name rows (Extract area parents input output) = (name ≡ codes "extract")
+    × ReadsFlag progress (codes "progress") rows
+ReadsAs name rows (Extract area parents input output progress) = (name ≡ codes "extract")
     × (box_of_text (value_of (codes "box") rows) ≡ Ok area) × ReadsFlag parents (codes "parents") rows
     × (input.now ≡ value_of (codes "IN") rows) × (output.now ≡ value_of (codes "OUT") rows)
+    × ReadsFlag progress (codes "progress") rows
 ReadsAs name rows (Help text) = ⊥
 
 abbrev pub IsRead : Option (Text × List Row) → Command → Type 0

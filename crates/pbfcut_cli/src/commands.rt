@@ -15,6 +15,7 @@ ghost use Rattle.pbfcut_cli.specs.Words.{
   options_app,
   output_rule,
   parents_rule,
+  progress_rule,
   program_app,
   readers_app,
   show_app,
@@ -48,6 +49,16 @@ fn dates<'a>(alloc: Global) -> Arg<'a>
         .long("dates")
         .action(ArgAction::SetTrue)
         .help(help::DATES)
+}
+
+fn progress<'a>(alloc: Global) -> Arg<'a>
+    ensures rule { rule_of result ≡ progress_rule }
+    ensures local { result.global ≡ false }
+{
+    Arg::new(alloc, "progress")
+        .long("progress")
+        .action(ArgAction::SetTrue)
+        .help(help::PROGRESS)
 }
 
 fn parents<'a>(alloc: Global) -> Arg<'a>
@@ -90,6 +101,7 @@ fn show<'a>(alloc: Global) -> Result<Command<'a>, AllocError>
         .about(help::SHOW)
         .after_help(help::AFTER_SHOW)
         .arg(dates(alloc))?
+        .arg(progress(alloc))?
         .arg(input(alloc))
 }
 
@@ -100,6 +112,7 @@ fn check<'a>(alloc: Global) -> Result<Command<'a>, AllocError>
     Command::new(alloc, "check")
         .about(help::CHECK)
         .after_help(help::AFTER_CHECK)
+        .arg(progress(alloc))?
         .arg(input(alloc))
 }
 
@@ -110,6 +123,7 @@ fn convert<'a>(alloc: Global) -> Result<Command<'a>, AllocError>
     Command::new(alloc, "convert")
         .about(help::CONVERT)
         .after_help(help::AFTER_CONVERT)
+        .arg(progress(alloc))?
         .arg(input(alloc))?
         .arg(output(alloc))
 }
@@ -124,6 +138,7 @@ fn options<'a>(alloc: Global) -> Result<Command<'a>, AllocError>
         .after_help(help::AFTER_EXTRACT)
         .override_usage(help::USAGE_OF_EXTRACT)
         .arg(parents(alloc))?
+        .arg(progress(alloc))?
         .arg(area(alloc))
 }
 
@@ -141,6 +156,7 @@ fn bare<'a>(alloc: Global) -> Result<Command<'a>, AllocError>
 {
     Command::new(alloc, "pbfcut")
         .about(help::PROGRAM)
+        .version(help::VERSION)
         .after_help(help::AFTER_PROGRAM)
         .no_binary_name(true)
         .subcommand_required(true)

@@ -1,6 +1,6 @@
 //! What help says, to someone who makes maps. Lines have at most 80 columns.
 
-/// The text of a command's help behind its arguments, and the last lines of each help.
+/// The text of a command's help after its arguments, and the last lines of each help.
 macro_rules! with_exit_statuses {
     ($text:literal) => {
         concat!(
@@ -18,18 +18,21 @@ macro_rules! with_exit_statuses {
     };
 }
 
+/// What `--version` prints after the name.
+pub(crate) const VERSION: &str = "1.0.0 (rattle-kit-13b logic dac8208d650f15bf)";
+
 pub(crate) const PROGRAM: &str =
     "Cuts a box out of an OpenStreetMap PBF file, and reads such files";
 
 pub(crate) const AFTER_PROGRAM: &str = with_exit_statuses!(
-    "Write 'pbfcut COMMAND --help' for what a command does, its units and an example.\n\
+    "'pbfcut COMMAND --help' prints what a command does, its units and an example.\n\
     \n\
-    Files are read and written uncompressed (raw blobs), and a compressed file is\n\
-    refused. Osmium makes a raw one:\n  \
-      osmium cat city.osm.pbf -f pbf,pbf_compression=none -o raw.osm.pbf\n\
+    pbfcut reads and writes raw blobs, and refuses a compressed file. Published\n\
+    files are compressed; osmium makes a raw one of them.\n\
     \n\
     Example, which cuts London out of a file of England:\n  \
-      pbfcut extract --box=-0.5,51.25,0.3,51.7 england.osm.pbf london.osm.pbf\n"
+      osmium cat england.osm.pbf -f pbf,pbf_compression=none -o raw.osm.pbf\n  \
+      pbfcut extract --box=-0.5,51.25,0.3,51.7 raw.osm.pbf london.osm.pbf\n"
 );
 
 pub(crate) const INPUT: &str = "The OpenStreetMap PBF file that is read";
@@ -38,6 +41,8 @@ pub(crate) const OUTPUT: &str = "The new file that is written; it may not exist 
 
 pub(crate) const DATES: &str = "Prints the times from 1970 to 2099 as dates";
 
+pub(crate) const PROGRESS: &str = "Reports progress on standard error";
+
 pub(crate) const PARENTS: &str = "Keeps the relations above kept ones too";
 
 pub(crate) const BOX: &str = "The edges of the box, in degrees";
@@ -45,12 +50,12 @@ pub(crate) const BOX: &str = "The edges of the box, in degrees";
 pub(crate) const BLOBS: &str = "Lists the frames of IN: where they are, their types and sizes";
 
 pub(crate) const AFTER_BLOBS: &str = with_exit_statuses!(
-    "For each frame of IN a line is printed, as '19 OSMData 25 23': at which byte of\n\
-    IN it begins, its type, and the lengths in bytes of its blob and of the payload\n\
-    in the blob. A frame of another type than OSMHeader and OSMData is passed over:\n\
-    its type is printed in quotes, and 'skipped' in place of the last length.\n\
-    Payloads are not looked into; 'pbfcut check' judges them. Where IN is refused,\n\
-    the lines of the frames before are printed.\n\
+    "The command prints a line for each frame of IN, as '19 OSMData 25 23': the byte\n\
+    of IN at which the frame begins, its type, and the lengths in bytes of its blob\n\
+    and of the payload in the blob. It passes over a frame of another type than\n\
+    OSMHeader and OSMData, and prints its type in quotes and 'skipped' in place of\n\
+    the last length. It does not look into payloads; 'pbfcut check' validates them.\n\
+    Where IN is refused, the lines of the frames before the fault are printed.\n\
     \n\
     Example:\n  \
       pbfcut blobs london.osm.pbf\n"
@@ -64,27 +69,30 @@ pub(crate) const AFTER_SHOW: &str = with_exit_statuses!(
       N 1 51500000000 -120000000 v2 \"highway\"=\"stop\"\n      \
           a node: its id, its latitude and its longitude\n  \
       W 7 v1 \"highway\"=\"path\" n1 n2 n3\n      \
-          a way: its id, and last the ids of its nodes\n  \
+          a way: its id, and at the end the ids of its nodes\n  \
       R 8 v1 \"type\"=\"route\" w7@\"forward\"\n      \
           a relation: its id, and last its members with their roles; n is a node,\n      \
           w a way, r a relation\n\
     Latitudes and longitudes are nanodegrees of WGS84: 1000000000 is one degree, and\n\
-    what is below 0 lies south or west. Between stand, as far as IN has them: v the\n\
-    version, t the time in milliseconds since 1970-01-01 UTC, c the changeset, u the\n\
-    user's number, s the user's name, d1 visible or d0 deleted, and the tags. With\n\
-    --dates a time from 1970 to 2099 is printed as t2009-02-13T23:31:30.000Z.\n\
-    Nothing is printed where IN is refused. IN is read twice, so it has to be a\n\
-    file, not a pipe.\n\
+    a number below 0 lies south or west. Between them are, as far as IN has them: v\n\
+    the version, t the time in milliseconds since 1970-01-01 UTC, c the changeset, u\n\
+    the user's number, s the user's name, d1 visible or d0 deleted, and the tags.\n\
+    With --dates a time from 1970 to 2099 is printed as t2009-02-13T23:31:30.000Z.\n\
+    Nothing is printed where IN is refused. IN is read twice, so it must be a file,\n\
+    not a pipe.\n\
     \n\
     Example:\n  \
       pbfcut show --dates london.osm.pbf\n"
 );
 
-pub(crate) const CHECK: &str = "Judges all of IN, and counts its nodes, ways and relations";
+pub(crate) const CHECK: &str = "Validates all of IN, and counts its nodes, ways and relations";
 
 pub(crate) const AFTER_CHECK: &str = with_exit_statuses!(
-    "Where IN has no fault in any field, its numbers of entities are printed, as\n\
-    'nodes 3 ways 0 relations 0'. Else IN is refused by its first fault.\n\
+    "Where no field of IN has a fault, the command prints how many entities IN has,\n\
+    as 'nodes 3 ways 0 relations 0'. Else it refuses IN by its first fault. IN may\n\
+    be a pipe, since it is read once:\n  \
+      osmium cat x.osm.pbf -f pbf,pbf_compression=none -o - |\n    \
+        pbfcut check /dev/stdin\n\
     \n\
     Example:\n  \
       pbfcut check london.osm.pbf\n"
@@ -95,12 +103,12 @@ pub(crate) const CONVERT: &str =
 
 pub(crate) const AFTER_CONVERT: &str = with_exit_statuses!(
     "OUT has the same nodes, ways and relations as IN in the same order, with dense\n\
-    nodes, uncompressed, and with at most 8000 entities in a block. Its form is\n\
+    nodes, in raw blobs, and with at most 8000 entities in a block. Its form is\n\
     fixed: OUT, converted again, is the same bytes. What the format does not name is\n\
-    left out. The numbers of what was written are printed, as\n\
+    left out. The command prints how many entities it wrote, as\n\
     'nodes 3 ways 0 relations 0'.\n\
-    IN is read twice, so it has to be a file, not a pipe. Where the run stops after\n\
-    OUT was made, OUT stays with what was written, and is not to be used.\n\
+    IN is read twice, so it must be a file, not a pipe. A run that stops after it\n\
+    made OUT leaves OUT with what was written: remove it, and do not use it.\n\
     \n\
     Example:\n  \
       pbfcut convert london.osm.pbf plain.osm.pbf\n"
@@ -109,14 +117,14 @@ pub(crate) const AFTER_CONVERT: &str = with_exit_statuses!(
 pub(crate) const EXTRACT: &str = "Cuts a box out of IN and writes it to OUT, with complete ways";
 
 pub(crate) const USAGE_OF_EXTRACT: &str =
-    "pbfcut extract [--parents] --box=<WEST,SOUTH,EAST,NORTH> <IN> <OUT>";
+    "pbfcut extract [OPTIONS] --box=<WEST,SOUTH,EAST,NORTH> <IN> <OUT>";
 
 pub(crate) const AFTER_EXTRACT: &str = with_exit_statuses!(
-    "The box is four numbers in degrees of WGS84 with commas between, in the order\n\
-    west,south,east,north: the longitudes of its west and east edge from -180 to 180,\n\
-    and the latitudes of its south and north edge from -90 to 90. A number has up to\n\
-    nine digits behind the point. West may not be greater than east: no box crosses\n\
-    the antimeridian. Write '=' before the box, since it may begin with '-'.\n\
+    "The box is four numbers in degrees of WGS84 with commas between them, in the\n\
+    order west,south,east,north: the longitudes of its west and east edge from -180\n\
+    to 180, and the latitudes of its south and north edge from -90 to 90. A number\n\
+    has up to nine digits after the point. West may not be greater than east: no box\n\
+    crosses the antimeridian.\n\
     \n\
     OUT has, in the order of IN and with all their fields:\n  \
       - the nodes in the box and on its edges\n  \
@@ -124,11 +132,14 @@ pub(crate) const AFTER_EXTRACT: &str = with_exit_statuses!(
         they are\n  \
       - each relation that has such a node or way as a member; with --parents also\n    \
         each relation that has a kept relation as a member, level by level\n\
-    The numbers of what was written are printed, as 'nodes 3 ways 0 relations 0'.\n\
-    IN is read three times, with --parents four times, so it has to be a file, not a\n\
-    pipe. Where the run stops after OUT was made, OUT stays with what was written,\n\
-    and is not to be used.\n\
+    The command prints how many entities it wrote, as 'nodes 3 ways 0 relations 0'.\n\
+    IN is read three times, with --parents four times, so it must be a file, not a\n\
+    pipe. A run that stops after it made OUT leaves OUT with what was written:\n\
+    remove it, and do not use it.\n\
     \n\
-    Example, which cuts London out of a file of England:\n  \
-      pbfcut extract --box=-0.5,51.25,0.3,51.7 england.osm.pbf london.osm.pbf\n"
+    IN must have raw blobs, and OUT has raw blobs. Published files are compressed.\n\
+    \n\
+    Example, which cuts London out of a published file of England:\n  \
+      osmium cat england.osm.pbf -f pbf,pbf_compression=none -o raw.osm.pbf\n  \
+      pbfcut extract --box=-0.5,51.25,0.3,51.7 raw.osm.pbf london.osm.pbf\n"
 );

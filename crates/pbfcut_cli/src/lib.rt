@@ -4,7 +4,9 @@
 mod commands;
 mod endings;
 mod help;
+mod joined;
 mod words;
 
 pub use endings::{Ending, line, status};
+pub use joined::join_box;
 pub use words::{CliFault, Command, read_words};

@@ -35,15 +35,18 @@ pub enum Command<'a> {
     Show {
         input: &'a str,
         dates: bool,
+        progress: bool,
     },
-    /// `check IN`: judge the file at `input` and count its entities.
+    /// `check IN`: validate the file at `input` and count its entities.
     Check {
         input: &'a str,
+        progress: bool,
     },
     /// `convert IN OUT`: write all entities of the file at `input` to a new file at `output`.
     Convert {
         input: &'a str,
         output: &'a str,
+        progress: bool,
     },
     /// `extract [--parents] --box=L,B,R,T IN OUT`: cut `area` out of the file at `input` into a new file at `output`, with
     /// `parents` all relations above the kept ones too.
@@ -52,8 +55,9 @@ pub enum Command<'a> {
         parents: bool,
         input: &'a str,
         output: &'a str,
+        progress: bool,
     },
-    /// Help was asked for: this text of it, with its line ends, for standard output.
+    /// Help or the version was asked for: this text of it, with its line ends, for standard output.
     Help(String),
 }
 
@@ -104,22 +108,37 @@ fn command_in<'a>(matches: &ArgMatches<'a>) -> Result<Command<'a>, BoxFault>
         "blobs" => Ok(Command::Blobs { input }),
         "show" => {
             let dates = flag(inner, "dates");
-            Ok(Command::Show { input, dates })
+            let progress = flag(inner, "progress");
+            Ok(Command::Show {
+                input,
+                dates,
+                progress,
+            })
         }
-        "check" => Ok(Command::Check { input }),
+        "check" => {
+            let progress = flag(inner, "progress");
+            Ok(Command::Check { input, progress })
+        }
         "convert" => {
             let output = value(inner, "OUT");
-            Ok(Command::Convert { input, output })
+            let progress = flag(inner, "progress");
+            Ok(Command::Convert {
+                input,
+                output,
+                progress,
+            })
         }
         _ => {
             let area = BoundingBox::parse(value(inner, "box"))?;
             let parents = flag(inner, "parents");
             let output = value(inner, "OUT");
+            let progress = flag(inner, "progress");
             Ok(Command::Extract {
                 area,
                 parents,
                 input,
                 output,
+                progress,
             })
         }
     }
@@ -127,13 +146,16 @@ fn command_in<'a>(matches: &ArgMatches<'a>) -> Result<Command<'a>, BoxFault>
 
 /// What an error of `clap` comes to.
 fn refused<'a>(alloc: Global, error: &Error) -> Result<Command<'a>, CliFault>
-    ensures help { IfOk result (λ c. IsHelp c × (kind_of error.now ≡ ErrorKind.DisplayHelp)) }
+    ensures help { IfOk result (λ c. IsHelp c
+        × ((kind_of error.now ≡ ErrorKind.DisplayHelp) ⊎ (kind_of error.now ≡ ErrorKind.DisplayVersion))) }
     ensures memory { kind_of error.now ≡ ErrorKind.OutOfMemory → result ≡ Err fault.Memory }
     ensures line { IfErr result (λ e. IsBox e → ⊥) }
 {
     match error.kind() {
         ErrorKind::OutOfMemory => Err(CliFault::Memory),
-        ErrorKind::DisplayHelp => Ok(Command::Help(error.to_string(alloc)?)),
+        ErrorKind::DisplayHelp | ErrorKind::DisplayVersion => Ok(Command::Help(error.to_string(
+            alloc,
+        )?)),
         _ => Err(CliFault::Line(error.to_string(alloc)?)),
     }
 }

@@ -3,7 +3,7 @@
 use osm_entity::{BoundingBox, BoxFault};
 use pbf_frame::Stop;
 use pbf_wire::{Fault, Reason};
-use pbfcut_cli::{CliFault, Command, Ending, line, read_words, status};
+use pbfcut_cli::{CliFault, Command, Ending, join_box, line, read_words, status};
 use std::process::Abort;
 use std::test::Fail;
 
@@ -25,7 +25,8 @@ fn commands_that_read(rt: HostRuntime) -> Result<(), Fail> {
             &show,
             Ok(Command::Show {
                 input: "a",
-                dates: false
+                dates: false,
+                progress: false
             })
         )
     );
@@ -35,7 +36,8 @@ fn commands_that_read(rt: HostRuntime) -> Result<(), Fail> {
             &dates,
             Ok(Command::Show {
                 input: "a",
-                dates: true
+                dates: true,
+                progress: false
             })
         )
     );
@@ -45,14 +47,31 @@ fn commands_that_read(rt: HostRuntime) -> Result<(), Fail> {
             &behind,
             Ok(Command::Show {
                 input: "a",
-                dates: true
+                dates: true,
+                progress: false
             })
         )
     );
     let check = read_words(alloc, &["check", "a"]);
-    assert!(rt; matches!(&check, Ok(Command::Check { input: "a" })));
+    assert!(rt;
+        matches!(
+            &check,
+            Ok(Command::Check {
+                input: "a",
+                progress: false
+            })
+        )
+    );
     let dashed = read_words(alloc, &["check", "--", "--dates"]);
-    assert!(rt; matches!(&dashed, Ok(Command::Check { input: "--dates" })));
+    assert!(rt;
+        matches!(
+            &dashed,
+            Ok(Command::Check {
+                input: "--dates",
+                progress: false
+            })
+        )
+    );
     Ok(())
 }
 
@@ -65,7 +84,8 @@ fn commands_that_write(rt: HostRuntime) -> Result<(), Fail> {
             &convert,
             Ok(Command::Convert {
                 input: "a",
-                output: "b"
+                output: "b",
+                progress: false
             })
         )
     );
@@ -76,16 +96,21 @@ fn commands_that_write(rt: HostRuntime) -> Result<(), Fail> {
             parents,
             input,
             output,
+            progress,
         },
     ) = read_words(alloc, &words)
     else {
         return Err("extract".into());
     };
     assert_eq!(rt; area, LONDON);
-    assert_eq!(rt; (parents, input, output), (false, "a", "b"));
+    assert_eq!(rt;
+        (parents, input, output, progress),
+        (false, "a", "b", false)
+    );
     let words = [
         "extract",
         "--parents",
+        "--progress",
         "--box=-0.5,51.25,0.3,51.7",
         "a",
         "b",
@@ -96,13 +121,99 @@ fn commands_that_write(rt: HostRuntime) -> Result<(), Fail> {
             parents,
             input,
             output,
+            progress,
         },
     ) = read_words(alloc, &words)
     else {
         return Err("extract with parents".into());
     };
     assert_eq!(rt; area, LONDON);
-    assert_eq!(rt; (parents, input, output), (true, "a", "b"));
+    assert_eq!(rt; (parents, input, output, progress), (true, "a", "b", true));
+    Ok(())
+}
+
+#[test]
+fn commands_with_progress(rt: HostRuntime) -> Result<(), Fail> {
+    let alloc = rt.alloc();
+    let check = read_words(alloc, &["check", "--progress", "a"]);
+    assert!(rt;
+        matches!(
+            &check,
+            Ok(Command::Check {
+                input: "a",
+                progress: true
+            })
+        )
+    );
+    let show = read_words(alloc, &["show", "--progress", "a"]);
+    assert!(rt;
+        matches!(
+            &show,
+            Ok(Command::Show {
+                input: "a",
+                dates: false,
+                progress: true
+            })
+        )
+    );
+    let convert = read_words(alloc, &["convert", "--progress", "a", "b"]);
+    assert!(rt;
+        matches!(
+            &convert,
+            Ok(Command::Convert {
+                input: "a",
+                output: "b",
+                progress: true
+            })
+        )
+    );
+    Ok(())
+}
+
+/// Whether the words, joined, are these.
+fn joins(rt: &(impl Abort + AllocGlobal), words: &[&str], expected: &[&str]) -> Result<(), Fail> {
+    let mut given = Vec::new(rt.alloc());
+    for word in words {
+        given.push(String::from_str(rt.alloc(), word)?)?;
+    }
+    let joined = join_box(rt.alloc(), given.as_slice())?;
+    assert_eq!(rt; joined.len(), expected.len());
+    for (found, word) in joined.iter().zip(expected) {
+        assert_eq!(rt; found.as_str(), *word);
+    }
+    Ok(())
+}
+
+#[test]
+fn boxes_that_are_words_of_their_own(rt: HostRuntime) -> Result<(), Fail> {
+    joins(&rt, &[], &[])?;
+    joins(
+        &rt,
+        &["extract", "--box", "-0.5,1,2,3", "a"],
+        &["extract", "--box=-0.5,1,2,3", "a"],
+    )?;
+    joins(&rt, &["--box", "-.5"], &["--box=-.5"])?;
+    joins(
+        &rt,
+        &["--box", "--box", "-9", "-9"],
+        &["--box", "--box=-9", "-9"],
+    )?;
+    joins(&rt, &["--box", "0,1,2,3", "a"], &["--box", "0,1,2,3", "a"])?;
+    joins(&rt, &["--box", "-h"], &["--box", "-h"])?;
+    joins(&rt, &["--box", "-"], &["--box", "-"])?;
+    joins(&rt, &["--dates", "-1"], &["--dates", "-1"])?;
+    joins(&rt, &["check", "--box"], &["check", "--box"])
+}
+
+#[test]
+fn version(rt: HostRuntime) -> Result<(), Fail> {
+    let Ok(Command::Help(text)) = read_words(rt.alloc(), &["--version"]) else {
+        return Err("the version".into());
+    };
+    assert_eq!(rt;
+        text.as_str(),
+        "pbfcut 1.0.0 (rattle-kit-13b logic dac8208d650f15bf)\n"
+    );
     Ok(())
 }
 
@@ -170,6 +281,9 @@ fn helps_with(rt: &(impl Abort + AllocGlobal), words: &[&str], parts: &[&str]) -
     };
     for part in parts {
         assert!(rt; text.as_str().contains(*part), "{part:?} is not in {text}");
+    }
+    for line in text.as_str().lines() {
+        assert!(rt; line.len() <= 80, "{line:?} has more than 80 columns");
     }
     for part in [
         "Usage: pbfcut",

@@ -1,5 +1,6 @@
 //! The files of a run: IN, opened once for each pass, and OUT, which is made new.
 
+use crate::progress::{Line, Watched};
 use pbf_frame::{FromRead, Stop};
 use pbfcut_cli::Ending;
 use std::fs::{File, OpenOptions};
@@ -8,12 +9,39 @@ use std::io::BufWriter;
 /// The length of the buffer in front of OUT and of standard output.
 pub(crate) const OUTPUT_BUFFER: usize = 65_536;
 
-/// Opens IN for one pass.
+/// Opens IN for the one pass of `blobs`.
 pub(crate) fn open_input(rt: &HostRuntime, input: &str) -> Result<FromRead<File>, Ending> {
     match File::open(rt, input) {
         Ok(file) => Ok(FromRead::new(file)),
         Err(_) => Err(Ending::CannotOpen),
     }
+}
+
+/// The length of a file, or 0 where it has none, as a pipe.
+fn length_of(file: &File) -> u64 {
+    match file.metadata() {
+        Ok(metadata) => metadata.len(),
+        Err(_) => 0,
+    }
+}
+
+/// Opens IN for this pass of so many, and with `progress` reports how much of it was read.
+pub(crate) fn open_pass(
+    rt: &HostRuntime,
+    input: &str,
+    progress: bool,
+    pass: u8,
+    passes: u8,
+) -> Result<Watched<FromRead<File>>, Ending> {
+    let Ok(file) = File::open(rt, input) else {
+        return Err(Ending::CannotOpen);
+    };
+    let line = if progress {
+        Some(Line::new(rt, pass, passes, length_of(&file)))
+    } else {
+        None
+    };
+    Ok(Watched::new(FromRead::new(file), line))
 }
 
 /// Refuses an OUT that can be opened for reading.

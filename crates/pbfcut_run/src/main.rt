@@ -3,18 +3,19 @@
 
 mod files;
 mod output;
+mod progress;
 mod readers;
 mod writers;
 
 use output::print_help;
 use pbf_frame::Stop;
-use pbfcut_cli::{Command, Ending, read_words, status};
+use pbfcut_cli::{Command, Ending, join_box, read_words, status};
 use readers::{run_blobs, run_check, run_show};
 use std::process::ExitCode;
 use std::{env, io};
 use writers::{run_convert, run_extract, run_extract_parents};
 
-/// The words behind the program's name.
+/// The words after the program's name.
 fn words(rt: &HostRuntime) -> Result<Vec<String>, Ending> {
     let args = match env::args(rt) {
         Ok(args) => args,
@@ -35,28 +36,39 @@ fn run(rt: &HostRuntime, words: &[&str]) -> Result<(), Ending> {
     match read_words(rt.alloc(), words)? {
         Command::Help(text) => print_help(rt, text.as_str()),
         Command::Blobs { input } => run_blobs(rt, input),
-        Command::Show { input, dates } => run_show(rt, input, dates),
-        Command::Check { input } => run_check(rt, input),
-        Command::Convert { input, output } => run_convert(rt, input, output),
+        Command::Show {
+            input,
+            dates,
+            progress,
+        } => run_show(rt, input, dates, progress),
+        Command::Check { input, progress } => run_check(rt, input, progress),
+        Command::Convert {
+            input,
+            output,
+            progress,
+        } => run_convert(rt, input, output, progress),
         Command::Extract {
             area,
             parents: false,
             input,
             output,
-        } => run_extract(rt, area, input, output),
+            progress,
+        } => run_extract(rt, area, input, output, progress),
         Command::Extract {
             area,
             parents: true,
             input,
             output,
-        } => run_extract_parents(rt, area, input, output),
+            progress,
+        } => run_extract_parents(rt, area, input, output, progress),
     }
 }
 
 fn work(rt: &HostRuntime) -> Result<(), Ending> {
     let words = words(rt)?;
+    let joined = join_box(rt.alloc(), words.as_slice())?;
     let mut texts = Vec::new(rt.alloc());
-    for word in &words {
+    for word in &joined {
         if texts.push(word.as_str()).is_err() {
             return Err(Ending::Stopped(Stop::Memory));
         }

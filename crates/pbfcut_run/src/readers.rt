@@ -1,7 +1,8 @@
 //! The commands that write no file: `blobs`, `show` and `check`.
 
-use crate::files::{OUTPUT_BUFFER, open_input};
+use crate::files::{OUTPUT_BUFFER, open_input, open_pass};
 use crate::output::print_counts;
+use crate::progress::end_line;
 use pbf_frame::{Stop, ToWrite};
 use pbfcut::{check, list_blobs, show};
 use pbfcut_cli::Ending;
@@ -22,11 +23,16 @@ pub(crate) fn run_blobs(rt: &HostRuntime, input: &str) -> Result<(), Ending> {
     Ok(())
 }
 
-/// `show [--dates] IN`: IN is opened for each of the two passes, and the text goes to standard output through a buffer.
+/// `show [--dates] [--progress] IN`: IN is opened for each of the two passes, and the text goes to standard output through a buffer.
 /// Nothing is written of a file that is refused.
-pub(crate) fn run_show(rt: &HostRuntime, input: &str, dates: bool) -> Result<(), Ending> {
-    let mut first = open_input(rt, input)?;
-    let mut second = open_input(rt, input)?;
+pub(crate) fn run_show(
+    rt: &HostRuntime,
+    input: &str,
+    dates: bool,
+    progress: bool,
+) -> Result<(), Ending> {
+    let mut first = open_pass(rt, input, progress, 1, 2)?;
+    let mut second = open_pass(rt, input, progress, 2, 2)?;
     let Ok(mut output) = BufWriter::with_capacity(rt.alloc(), OUTPUT_BUFFER, rt.stdout()) else {
         return Err(Ending::Stopped(Stop::Memory));
     };
@@ -37,6 +43,7 @@ pub(crate) fn run_show(rt: &HostRuntime, input: &str, dates: bool) -> Result<(),
         &mut ToWrite::new(&mut output),
         dates,
     );
+    end_line(rt, progress);
     if output.flush().is_err() {
         return Err(Ending::Stopped(Stop::Write));
     }
@@ -44,9 +51,10 @@ pub(crate) fn run_show(rt: &HostRuntime, input: &str, dates: bool) -> Result<(),
     Ok(())
 }
 
-/// `check IN`: the numbers of entities go to standard output, where the file is accepted.
-pub(crate) fn run_check(rt: &HostRuntime, input: &str) -> Result<(), Ending> {
-    let mut feed = open_input(rt, input)?;
-    let counts = check(rt.alloc(), &mut feed)?;
-    print_counts(rt, counts)
+/// `check [--progress] IN`: the numbers of entities go to standard output, where the file is accepted.
+pub(crate) fn run_check(rt: &HostRuntime, input: &str, progress: bool) -> Result<(), Ending> {
+    let mut feed = open_pass(rt, input, progress, 1, 1)?;
+    let outcome = check(rt.alloc(), &mut feed);
+    end_line(rt, progress);
+    print_counts(rt, outcome?)
 }

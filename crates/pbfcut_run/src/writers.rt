@@ -1,8 +1,9 @@
 //! The commands that write a file: `convert` and `extract`. Before anything is written it is settled that OUT is new, IN is
 //! opened once for each pass, and there is a seed.
 
-use crate::files::{create_output, open_input, refuse_existing};
+use crate::files::{create_output, open_pass, refuse_existing};
 use crate::output::print_counts;
+use crate::progress::end_line;
 use osm_entity::BoundingBox;
 use pbf_frame::{Stop, ToWrite};
 use pbfcut::{Counts, convert, extract, extract_parents};
@@ -33,11 +34,16 @@ fn end(
     print_counts(rt, counts)
 }
 
-/// `convert IN OUT`.
-pub(crate) fn run_convert(rt: &HostRuntime, input: &str, output: &str) -> Result<(), Ending> {
+/// `convert [--progress] IN OUT`.
+pub(crate) fn run_convert(
+    rt: &HostRuntime,
+    input: &str,
+    output: &str,
+    progress: bool,
+) -> Result<(), Ending> {
     refuse_existing(rt, output)?;
-    let mut first = open_input(rt, input)?;
-    let mut second = open_input(rt, input)?;
+    let mut first = open_pass(rt, input, progress, 1, 2)?;
+    let mut second = open_pass(rt, input, progress, 2, 2)?;
     let hasher = seeded(rt)?;
     let mut file = create_output(rt, output)?;
     let outcome = convert(
@@ -47,20 +53,22 @@ pub(crate) fn run_convert(rt: &HostRuntime, input: &str, output: &str) -> Result
         &mut ToWrite::new(&mut file),
         hasher,
     );
+    end_line(rt, progress);
     end(rt, &mut file, outcome)
 }
 
-/// `extract --box=L,B,R,T IN OUT`.
+/// `extract [--progress] --box=L,B,R,T IN OUT`.
 pub(crate) fn run_extract(
     rt: &HostRuntime,
     area: BoundingBox,
     input: &str,
     output: &str,
+    progress: bool,
 ) -> Result<(), Ending> {
     refuse_existing(rt, output)?;
-    let mut first = open_input(rt, input)?;
-    let mut second = open_input(rt, input)?;
-    let mut third = open_input(rt, input)?;
+    let mut first = open_pass(rt, input, progress, 1, 3)?;
+    let mut second = open_pass(rt, input, progress, 2, 3)?;
+    let mut third = open_pass(rt, input, progress, 3, 3)?;
     let hasher = seeded(rt)?;
     let mut file = create_output(rt, output)?;
     let outcome = extract(
@@ -72,21 +80,23 @@ pub(crate) fn run_extract(
         &mut ToWrite::new(&mut file),
         hasher,
     );
+    end_line(rt, progress);
     end(rt, &mut file, outcome)
 }
 
-/// `extract --parents --box=L,B,R,T IN OUT`.
+/// `extract --parents [--progress] --box=L,B,R,T IN OUT`.
 pub(crate) fn run_extract_parents(
     rt: &HostRuntime,
     area: BoundingBox,
     input: &str,
     output: &str,
+    progress: bool,
 ) -> Result<(), Ending> {
     refuse_existing(rt, output)?;
-    let mut first = open_input(rt, input)?;
-    let mut second = open_input(rt, input)?;
-    let mut third = open_input(rt, input)?;
-    let mut fourth = open_input(rt, input)?;
+    let mut first = open_pass(rt, input, progress, 1, 4)?;
+    let mut second = open_pass(rt, input, progress, 2, 4)?;
+    let mut third = open_pass(rt, input, progress, 3, 4)?;
+    let mut fourth = open_pass(rt, input, progress, 4, 4)?;
     let hasher = seeded(rt)?;
     let mut file = create_output(rt, output)?;
     let outcome = extract_parents(
@@ -99,5 +109,6 @@ pub(crate) fn run_extract_parents(
         &mut ToWrite::new(&mut file),
         hasher,
     );
+    end_line(rt, progress);
     end(rt, &mut file, outcome)
 }

@@ -1,0 +1,74 @@
+//! The box as a word of its own: `--box -0.5,51.25,0.3,51.7`.
+
+ghost use Rattle.std.specs.Prelude.{◌≡◌, ◌≤◌, ◌∷◌, IfOk, length, map, string_bytes};
+ghost use Rattle.pbfcut_cli.specs.Joined.{begins_below_zero, begins_number, begins_with_box, box_joined};
+
+use std::alloc::{AllocError, Global};
+
+/// Whether the byte is a digit or a point.
+fn begins_number(byte: u8) -> bool
+    ensures { result ≡ begins_number byte }
+{
+    byte == b'.' || byte >= b'0' && byte <= b'9'
+}
+
+/// Whether the word begins with `-` and a digit or a point.
+fn begins_below_zero(word: &str) -> bool
+    ensures { result ≡ begins_below_zero word.now }
+{
+    let bytes = word.as_bytes();
+    let Some((b'-', rest)) = bytes.split_first() else {
+        return false;
+    };
+    let Some((byte, _)) = rest.split_first() else {
+        return false;
+    };
+    begins_number(*byte)
+}
+
+/// Whether the first word is `--box`, and the one after it begins below zero.
+fn begins_with_box(first: &str, after: &[String]) -> bool
+    ensures { result ≡ begins_with_box (first.now ∷ map string_bytes after.now) }
+{
+    let Some((edges, _)) = after.split_first() else {
+        return false;
+    };
+    first == "--box" && begins_below_zero(edges.as_str())
+}
+
+/// The first of the words as `clap` is to see it, and the words after it.
+fn join_first<'a>(
+    alloc: Global,
+    first: &str,
+    after: &'a [String],
+) -> Result<(String, &'a [String]), AllocError>
+    ensures joined { IfOk result (λ p. string_bytes p.0 ∷ box_joined (map string_bytes p.1.now) ≡ box_joined (first.now ∷ map string_bytes after.now)) }
+    ensures less { IfOk result (λ p. length p.1.now ≤ length after.now) }
+{
+    if begins_with_box(first, after) {
+        let Some((edges, rest)) = after.split_first() else {
+            unreachable!();
+        };
+        return Ok((format!(in alloc; "--box={edges}")?, rest));
+    }
+    Ok((String::from_str(alloc, first)?, after))
+}
+
+/// The words, with `--box` and a word after it that begins with `-` and a digit or a point as one word. `clap` takes no word
+/// that begins with `-` for a value.
+///
+/// # Errors
+///
+/// Where a request for memory was refused.
+pub fn join_box(alloc: Global, words: &[String]) -> Result<Vec<String>, AllocError>
+    ensures { IfOk result (λ joined. map string_bytes joined.items ≡ box_joined (map string_bytes words.now)) }
+{
+    let mut joined = Vec::new(alloc);
+    let mut rest = words;
+    while let Some((first, after)) = rest.split_first() {
+        let (word, left) = join_first(alloc, first.as_str(), after)?;
+        joined.push(word)?;
+        rest = left;
+    }
+    Ok(joined)
+}

@@ -1,0 +1,105 @@
+//! The progress of a run: one line on standard error, which is rewritten as the run goes on.
+
+use pbf_frame::{Feed, FeedFault};
+use std::alloc::Global;
+use std::io::{Stderr, Write};
+
+/// What is counted of a pipe: so many bytes are a megabyte.
+const MEGABYTE: u64 = 1_000_000;
+
+/// The line of progress of one pass.
+#[derive(Drop)]
+pub(crate) struct Line {
+    alloc: Global,
+    screen: Stderr,
+    pass: u8,
+    passes: u8,
+    /// The length of IN; 0 where it has none, as a pipe.
+    length: u64,
+    /// How many bytes this pass has read.
+    read: u64,
+    /// The number that the line shows, where it shows one.
+    shown: Option<u64>,
+}
+
+impl Line {
+    /// A line that is not shown yet.
+    pub(crate) fn new(rt: &HostRuntime, pass: u8, passes: u8, length: u64) -> Line {
+        Line {
+            alloc: rt.alloc(),
+            screen: rt.stderr(),
+            pass,
+            passes,
+            length,
+            read: 0,
+            shown: None,
+        }
+    }
+
+    /// The number to be shown: the per cent of IN that were read, of a pipe the megabytes.
+    fn number(&self) -> u64 {
+        if self.length == 0 {
+            return self.read / MEGABYTE;
+        }
+        (self.read.saturating_mul(100) / self.length).min(100)
+    }
+
+    /// Writes the line anew, with spaces after it over what an earlier pass left. Where it can't be written, the run goes on
+    /// without it.
+    fn show(&mut self, number: u64) {
+        let (pass, passes) = (self.pass, self.passes);
+        let unit = if self.length == 0 { "MB" } else { "%" };
+        let line = format!(in self.alloc; "\rpass {pass} of {passes}: {number} {unit}  ");
+        if let Ok(line) = line {
+            let _ = self.screen.write_all(line.as_bytes());
+        }
+    }
+
+    /// Counts bytes that were read, and shows the number where it is another one.
+    fn count(&mut self, bytes: usize) {
+        self.read = self.read.saturating_add(bytes as u64);
+        let number = self.number();
+        if self.shown != Some(number) {
+            self.show(number);
+            self.shown = Some(number);
+        }
+    }
+}
+
+/// Ends the line of the last pass, where there is one.
+pub(crate) fn end_line(rt: &HostRuntime, progress: bool) {
+    if progress {
+        let _ = eprintln!(rt; "");
+    }
+}
+
+/// A feed that reports what is read of it, where there is a line for it.
+#[derive(Drop)]
+pub(crate) struct Watched<F> {
+    feed: F,
+    line: Option<Line>,
+}
+
+impl<F: Feed> Watched<F> {
+    pub(crate) fn new(feed: F, line: Option<Line>) -> Watched<F> {
+        Watched { feed, line }
+    }
+}
+
+impl<F: Feed> Feed for Watched<F> {
+    ghost remaining = { λ w. F.remaining w.feed };
+
+    ghost failures = { λ w. F.failures w.feed };
+
+    ghost lender = { λ w. F.lender w.feed };
+
+    ghost carries = { λ w b. F.carries w.feed b };
+
+    fn read(&mut self, buf: &mut [u8]) -> Result<usize, FeedFault> {
+        let count = self.feed.read(buf)?;
+        if let Some(line) = &mut self.line {
+            line.count(count);
+        }
+        Ok(count)
+    }
+}

@@ -1,0 +1,81 @@
+#!/usr/bin/env python3
+"""The map in docs/ARCHITECTURE.md is the tree's: each crate, and each file of its src/, is named there, and nothing else.
+
+usage: tests/architecture.py [PROGRAM]
+
+PROGRAM is not run. The files of tests, lib.rt and main.rt need not be named; crates of tests are one row.
+"""
+
+import os
+import re
+import sys
+
+TOP = os.path.dirname(os.path.dirname(os.path.abspath(__file__)))
+PAGE = os.path.join(TOP, "docs", "ARCHITECTURE.md")
+
+
+def read(path: str) -> str:
+    with open(path, encoding="utf-8") as file:
+        return file.read()
+
+
+def section(text: str, heading: str) -> str:
+    found = re.search(rf"^## {heading}\n(.*?)(?=^## |\Z)", text, re.M | re.S)
+    if not found:
+        sys.exit(f"tests/architecture.py: docs/ARCHITECTURE.md has no part '{heading}'")
+    return found[1]
+
+
+def rows(part: str) -> list:
+    """The cells of the tables' rows, without the two lines of the head."""
+    lines = [line for line in part.splitlines() if line.startswith("|")]
+    return [[cell.strip() for cell in line.strip("|").split("|")] for line in lines[2:]]
+
+
+def names(cell: str) -> list:
+    return re.findall(r"`([^`]+)`", cell)
+
+
+def mapped(text: str) -> dict:
+    """The files that the page names for each crate."""
+    found = {"pbf_wire": [name for row in rows(section(text, "pbf_wire, room by room")) for name in names(row[0])]}
+    crate = None
+    for row in rows(section(text, "The other crates, room by room")):
+        crate = names(row[0])[0] if names(row[0]) else crate
+        found.setdefault(crate, []).extend(names(row[1]))
+    return found
+
+
+def is_of_tests(name: str) -> bool:
+    return name.endswith("tests")
+
+
+def main():
+    text = read(PAGE)
+    lines = read(os.path.join(TOP, "crates.txt")).splitlines()
+    crates = {line.split(":")[0].split(" ")[0] for line in lines if line.strip() and not line.startswith("#")}
+    code = {crate for crate in crates if not is_of_tests(crate)}
+    faults = []
+
+    def differ(what: str, listed: set, there: set):
+        faults.extend(f"{what}: '{name}' is on the page, and not there" for name in sorted(listed - there))
+        faults.extend(f"{what}: '{name}' is not on the page" for name in sorted(there - listed))
+
+    differ("crates", {name for row in rows(section(text, "The crates")) for name in names(row[0])} - (crates - code), code)
+    layers = set(re.findall(r"\b[a-z]+_[a-z]+\b|\bpbfcut\b", section(text, "Layers")))
+    differ("layers", layers - (crates - code), code)
+    page = mapped(text)
+    differ("rooms", set(page) - (crates - code), code)
+    for crate in sorted(code & set(page)):
+        files = {name[:-3] for name in os.listdir(os.path.join(TOP, "crates", crate, "src")) if name.endswith(".rt")}
+        twice = {name for name in page[crate] if page[crate].count(name) > 1}
+        faults.extend(f"{crate}: '{name}' is on the page twice" for name in sorted(twice))
+        optional = {name for name in files if is_of_tests(name)} | {"lib", "main"}
+        differ(crate, set(page[crate]) - optional, files - optional)
+    if faults:
+        sys.exit("\n".join(f"tests/architecture.py: {fault}" for fault in faults))
+    print(f"tests/architecture.py: the map has the {len(code)} crates of the tree and their files")
+
+
+if __name__ == "__main__":
+    main()
