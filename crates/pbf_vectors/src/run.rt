@@ -1,11 +1,32 @@
 //! One run of a call over devices in memory.
 
-use crate::row::Call;
 use osm_entity::BoundingBox;
 use pbf_frame::{Pieces, Sink, Stop};
 use pbfcut::{Counts, convert, extract, extract_parents};
 use std::alloc::Global;
 use std::hash::{BuildHasherDefault, FoldHasher};
+
+/// A call that writes a file.
+#[derive(Clone, Copy)]
+pub(crate) enum Call {
+    Convert,
+    Extract,
+    ExtractParents,
+}
+
+/// All of them.
+pub(crate) const CALLS: [Call; 3] = [Call::Convert, Call::Extract, Call::ExtractParents];
+
+impl Call {
+    /// How many passes it makes. It writes in the last.
+    pub(crate) fn passes(self) -> u8 {
+        match self {
+            Call::Convert => 2,
+            Call::Extract => 3,
+            Call::ExtractParents => 4,
+        }
+    }
+}
 
 /// What a pass is supplied with: bytes, in pieces of these lengths; the read of this number fails.
 #[derive(Clone, Copy)]
