@@ -5,7 +5,7 @@ usage: tests/docs.py PROGRAM
 
 The lines of a block run one after the other, as they stand, in a folder that is laid out as the repository; where a block is marked
 'console', what its lines print is compared with what the page says. A command inside a sentence runs alone, with file names in place
-of IN, OUT and the like. What needs osmium or man, where it is not installed, is told and passed over.
+of IN, OUT and the like. Links between the pages lead to files. What needs osmium or man, where it is not installed, is told and passed over.
 """
 
 import os
@@ -134,9 +134,26 @@ def inputs(pages: Pages):
         pages.make("cp sample/town.osm.pbf raw.osm.pbf")
 
 
+def links():
+    """Each page links to files that are there; README has at most 80 lines."""
+    for folder, _, names in os.walk(TOP):
+        if {".git", "out"} & set(os.path.relpath(folder, TOP).split(os.sep)):
+            continue
+        for name in (name for name in names if name.endswith(".md")):
+            with open(os.path.join(folder, name), encoding="utf-8") as file:
+                text = file.read()
+            for link in re.findall(r"\]\(([^)#]+)\)", text):
+                if not link.startswith("http") and not os.path.exists(os.path.join(folder, link)):
+                    fail(f"{os.path.join(folder, name)} links to '{link}', which is not there")
+    with open(os.path.join(TOP, "README.md"), encoding="utf-8") as file:
+        if sum(1 for _ in file) > 80:
+            fail("README.md has more than 80 lines")
+
+
 def main():
     if len(sys.argv) != 2 or not os.access(sys.argv[1], os.X_OK):
         sys.exit(__doc__)
+    links()
     with tempfile.TemporaryDirectory(prefix="pbfcut-docs-") as folder:
         pages = Pages(os.path.abspath(sys.argv[1]), folder)
         inputs(pages)
