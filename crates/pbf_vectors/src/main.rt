@@ -22,11 +22,8 @@ const LIST: &str = "list";
 /// Devices fail, and bytes change, over files of at most so many bytes.
 const SMALL: usize = 1_000;
 
-/// Over one of so many rows each read and each write fails, and each later pass is supplied with other bytes.
-const FAILING: u64 = 8;
-
 /// One of so many rows is cut and changed at each byte.
-const CHANGED: u64 = 64;
+const CHANGED: u64 = 24;
 
 /// Everything over one row; `number` is its place in the list.
 fn try_row(rt: &HostRuntime, row: &Row<'_>, number: u64) -> Result<(), Trouble> {
@@ -38,7 +35,7 @@ fn try_row(rt: &HostRuntime, row: &Row<'_>, number: u64) -> Result<(), Trouble> 
             None => Vec::new(rt.alloc()),
         };
         supply::holds(rt.alloc(), row, call, &input, &wanted)?;
-        if small && number % FAILING == 0 {
+        if small {
             devices::each_read_fails(rt.alloc(), row, call, &input, &wanted)?;
             devices::each_write_fails(rt.alloc(), row, call, &input, &wanted)?;
             devices::each_pass_changes(rt.alloc(), row, call, &input)?;
