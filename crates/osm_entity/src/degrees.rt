@@ -41,7 +41,7 @@ fn halves(text: &str) -> (&str, &str)
     cut(text, '.').unwrap_or((text, "0"))
 }
 
-/// The nanodegrees of whole degrees and `count` digits behind the point.
+/// The nanodegrees of whole degrees and `count` digits after the point.
 fn nanos(degrees: u64, rest: u64, count: usize) -> i64
     requires whole { degrees < 1000 }
     requires fits { rest < 10 ^ count }

@@ -42,7 +42,7 @@ impl OpenPages {
         }
     }
 
-    /// Whether the id is above all others, so that it can be laid behind them.
+    /// Whether the id is above all others, so that it can be laid after them.
     pub(crate) fn takes(&self, id: i64) -> bool
         ensures above { result ≡ true → IsAbove self.now id }
         ensures reached { result ≡ false → IsReached self.now id }
@@ -50,7 +50,7 @@ impl OpenPages {
         self.ids.count() == 0 || self.last < id
     }
 
-    /// Lays an id behind the others. An `Err` leaves the ids as they were.
+    /// Lays an id after the others. An `Err` leaves the ids as they were.
     pub(crate) fn lay(&mut self, id: i64) -> Result<(), AllocError>
         requires { IsAbove self.old id }
         ensures ok { OnOk result (self.new ≡ set.insert self.old id) }

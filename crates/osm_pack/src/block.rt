@@ -108,7 +108,7 @@ impl<S: BuildHasher> Block<S> {
         may_join(self.is_alike(entity), self.count, self.weight, weight)
     }
 
-    /// Encodes an entity behind the others.
+    /// Encodes an entity after the others.
     fn put(&mut self, entity: &EntityRef<'_>) -> Result<(), AllocError>
         requires open { IsOpen self.old }
         requires fits { EntityFits (entity_of entity.now) }
@@ -128,7 +128,7 @@ impl<S: BuildHasher> Block<S> {
         Ok(())
     }
 
-    /// Adds an entity of this weight behind the others. After an `Err` the block has no stated content.
+    /// Adds an entity of this weight after the others. After an `Err` the block has no stated content.
     pub(crate) fn add(&mut self, entity: &EntityRef<'_>, weight: u64) -> Result<(), AllocError>
         requires open { IsOpen self.old }
         requires fits { EntityFits (entity_of entity.now) }

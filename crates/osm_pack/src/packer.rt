@@ -11,7 +11,7 @@ use std::marker::Model;
 
 /// Packs entities into blocks, and writes each block when the next entity does not fit into it.
 ///
-/// Each block is the longest front of what is left that is of one kind and one scale, for nodes with one set of metadata
+/// Each block is the longest prefix of what is left that is of one kind and one scale, for nodes with one set of metadata
 /// fields, of at most 8,000 entities that weigh at most 12,000,000 together. An entity is encoded when it is pushed, and only the
 /// columns and the texts of one block are held.
 #[derive(Drop)]
@@ -83,7 +83,7 @@ impl<D: Drain, S: BuildHasher> Packer<D, S> {
     /// Writes the header of the file, in the form that [`Header::write`] gives it. It comes first and once. The caller sees that
     /// its source and its base URL have at most 12,000,000 bytes together.
     ///
-    /// After a stop a beginning of its frame went out, and the packer is spent: it answers the same stop again, and touches no
+    /// After a stop a prefix of its frame went out, and the packer is spent: it answers the same stop again, and touches no
     /// device.
     pub fn put_header(&mut self, header: &Header) -> Result<(), Stop>
         requires once { has_header self.old ≡ false }
@@ -111,10 +111,10 @@ impl<D: Drain, S: BuildHasher> Packer<D, S> {
         outcome
     }
 
-    /// Adds an entity behind the others: to those that wait, or, where their block has no room for it, it waits alone, and
+    /// Adds an entity after the others: to those that wait, or, where their block has no room for it, it waits alone, and
     /// they are written. The caller sees that the entity fits, and that a header was put.
     ///
-    /// After a stop nothing went out, or a beginning of the block that was to be written, and the packer is spent.
+    /// After a stop nothing went out, or a prefix of the block that was to be written, and the packer is spent.
     pub fn push(&mut self, entity: &EntityRef<'_>) -> Result<(), Stop>
         requires begun { has_header self.old ≡ true }
         requires fits { EntityFits (entity_of entity.now) }
@@ -142,7 +142,7 @@ impl<D: Drain, S: BuildHasher> Packer<D, S> {
 
     /// Writes the entities that wait, if there are any. The caller sees that a header was put.
     ///
-    /// After a stop a beginning of their block went out, and the packer is spent.
+    /// After a stop a prefix of their block went out, and the packer is spent.
     pub fn finish(&mut self) -> Result<(), Stop>
         requires { has_header self.old ≡ true }
         ensures header { has_header self.new ≡ true }
@@ -183,7 +183,7 @@ impl<D: Drain, S: BuildHasher> Packer<D, S> {
         let _block = &self.block;
     }
 
-    /// Gives the drain back. Entities that wait are not written: this is for use behind [`Packer::finish`], or after a stop.
+    /// Gives the drain back. Entities that wait are not written: this is for use after [`Packer::finish`], or after a stop.
     pub fn into_drain(self) -> D
     where
         S: Drop,

@@ -128,7 +128,7 @@ fn packed(
     (next, packer.into_drain())
 }
 
-/// Packs these entities, which come to these frames behind the header.
+/// Packs these entities, which come to these frames after the header.
 fn packs(
     rt: &(impl Abort + AllocGlobal),
     entities: &[EntityRef<'_>],
@@ -141,7 +141,7 @@ fn packs(
     Ok(())
 }
 
-/// The ids of the entities in a file, with a 0 behind those of each block.
+/// The ids of the entities in a file, with a 0 after those of each block.
 fn ids(alloc: Global, file: &[u8]) -> Result<Vec<i64>, Stop> {
     let mut reader = FrameReader::new(alloc, Pieces::new(file, &[], None));
     let mut ids = Vec::new(alloc);
@@ -201,7 +201,7 @@ fn node_with_an_empty_key(rt: HostRuntime) -> Result<(), Fail> {
     )
 }
 
-/// The scale stands behind the group, the date granularity not, as it is the usual one.
+/// The scale stands after the group, the date granularity not, as it is the usual one.
 #[test]
 fn node_of_granularity_1000_and_negative_offsets(rt: HostRuntime) -> Result<(), Fail> {
     let mut node = node(rt.alloc(), 1, 1);
@@ -353,7 +353,7 @@ fn relation_of_the_greatest_weight(rt: HostRuntime) -> Result<(), Fail> {
     Ok(())
 }
 
-/// A sink of any room takes the beginning that fits, and one that takes a byte a write takes all.
+/// A sink of any room takes the prefix that fits, and one that takes a byte a write takes all.
 #[test]
 fn write_fails_after_each_byte(rt: HostRuntime) -> Result<(), Fail> {
     let way = way(rt.alloc(), &[1, 2, 3])?;
@@ -377,7 +377,7 @@ fn write_fails_after_each_byte(rt: HostRuntime) -> Result<(), Fail> {
     Ok(())
 }
 
-/// Whichever request for memory is refused: what went out is a beginning, and the answer is no other than that.
+/// Whichever request for memory is refused: what went out is a prefix, and the answer is no other than that.
 #[test]
 fn memory_refused(rt: HostRuntime) {
     let Ok(way) = way(rt.alloc(), &[1, 2, 3]) else {

@@ -239,7 +239,7 @@ fn put_relation(out: &mut Vec<u8>, view: &RelationRef<'_>, dates: bool) -> Resul
 }
 
 /// Appends the line of an entity, with single spaces between its parts: `N`, `W` or `R`, the id, and of a node latitude and
-/// longitude in nanodegrees; then what there is of the metadata, each behind its mark, `v` version, `t` time, `c` changeset,
+/// longitude in nanodegrees; then what there is of the metadata, each after its mark, `v` version, `t` time, `c` changeset,
 /// `u` uid, `s` user and `d` whether it is visible, 1 or 0; then each tag, as key`=`value; then of a way each ref, as `n` and
 /// id, with `@`, latitude, `,` and longitude as long as there are locations, and of a relation each member, as `n`, `w` or `r`,
 /// id, `@` and role. Texts stand between quotation marks.

@@ -34,7 +34,7 @@ pub(crate) fn put_spaced(out: &mut Vec<u8>, number: i128) -> Result<(), AllocErr
     put_signed(out, number)
 }
 
-/// Appends two signed numbers, each behind a space.
+/// Appends two signed numbers, each after a space.
 pub(crate) fn put_spaced_pair(
     out: &mut Vec<u8>,
     first: i128,

@@ -98,7 +98,7 @@ impl<'a> Block<'a> {
     ///
     /// Refuses its first fault: the least of the first phase that has one, the phases being the wire form, the structure, the
     /// values and the weights, each over the whole payload and all messages in it. Memory is asked for the places of the
-    /// table's texts alone, once the first two phases are passed; where it is refused no later fault is told.
+    /// table's texts alone, once the first two phases are passed; where it is refused no later fault is reported.
     pub fn read(alloc: Global, payload: &'a [u8], at: u64) -> Result<Block<'a>, ReadFault>
         requires placed { at + length payload.now ≤ 2 ^ 63 }
         requires short { length payload.now < 33554432 }

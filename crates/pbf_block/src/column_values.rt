@@ -15,7 +15,7 @@ use osm_entity::STORED_LIMIT;
 use pbf_wire::{Fault, Field, Fields, Payload, first_number, judge_index, judge_sums_left};
 
 /// The least fault of the numbers of a packed column that a table of `limit` texts has no text for. Its field stands at `place`,
-/// and so does each fault: it is told at the first.
+/// and so does each fault: it is reported at the first.
 fn judge_packed(packed: &[u8], place: u64, limit: u64) -> Option<Fault>
     ensures { result ≡ least (index_faults limit (placed place (read_entries (entries packed.now)))) }
 {

@@ -5,7 +5,7 @@ use pbf_block::Block;
 use pbf_wire::{Fault, ReadFault, Reason};
 use std::process::Abort;
 
-/// Where the payload of these tests stands in its file: behind a header's frame of 19 bytes, and 17 bytes of its own frame.
+/// Where the payload of these tests stands in its file: after a header's frame of 19 bytes, and 17 bytes of its own frame.
 const PLACE: u64 = 36;
 
 /// What is wrong with a payload.

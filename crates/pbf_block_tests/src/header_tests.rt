@@ -239,7 +239,7 @@ fn fields_of_another_type(rt: HostRuntime) {
     assert!(rt; is_refused(rt, cut, 29, Reason::VarintCut));
 }
 
-/// A fault of an earlier phase is told first, wherever it stands.
+/// A fault of an earlier phase is reported first, wherever it stands.
 #[test]
 fn phases_come_before_offsets(rt: HostRuntime) {
     let structure = b"\x22\x03Foo\x0a\x06\x08\x00\x10\x00\x18\x00";

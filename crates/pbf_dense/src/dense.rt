@@ -13,7 +13,7 @@ use osm_entity::{NodeRef, RunTags, STORED_LIMIT, Scale, Tags};
 use pbf_strings::Table;
 use pbf_wire::{Column, Sums, column_count, low_u32};
 
-/// Reads on to behind the next 0 in key place.
+/// Reads on to after the next 0 in key place.
 #[tactic(auto, using(crate::proofs::MovingLemmas::run_steps))]
 fn skip_run(numbers: &mut Column<'_>)
     ensures { map low_32 (numbers_left numbers.new) ≡ after_run (map low_32 (numbers_left numbers.old)) }

@@ -71,7 +71,7 @@ impl DenseOut {
         }
     }
 
-    /// Adds a node behind the others, and its texts to the table: the keys and values of its tags in turn, then its user. The
+    /// Adds a node after the others, and its texts to the table: the keys and values of its tags in turn, then its user. The
     /// caller sees that the node fits, that the table has room for its texts, repeats counted, and, for a message that can be
     /// read, that all nodes have the same fields of metadata. After an `Err` nodes and table have no stated content.
     pub fn push<S: BuildHasher>(

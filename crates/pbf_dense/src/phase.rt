@@ -1,6 +1,6 @@
 //! The phases of judgement.
 
-/// What a dense message is judged by, in order: a fault of an earlier phase is told before those of later ones.
+/// What a dense message is judged by, in order: a fault of an earlier phase is reported before those of later ones.
 #[derive(Clone, Copy, Debug, PartialEq, Eq)]
 pub enum Phase {
     /// The wire form of the message and of its DenseInfos.

@@ -37,7 +37,7 @@ fn judge_coordinates(message: &[u8], at: u64, tag: u64) -> Option<Fault>
     fault_where(!fits, tag, Reason::ColumnLengths)
 }
 
-/// Whether the numbers are so many runs, each with a 0 in key place behind it, and nothing after.
+/// Whether the numbers are so many runs, each with a 0 in key place after it, and nothing more.
 #[tactic(auto, using(crate::proofs::RunLemmas::runs_steps))]
 fn are_runs(keys_vals: Column<'_>, nodes: usize) -> bool
     ensures { result ≡ are_runs nodes (map low_32 (numbers_left keys_vals.entry)) }

@@ -292,7 +292,7 @@ fn faults_of_structure(rt: HostRuntime) {
             b"\x0a\x01\x02\x42\x01\x04\x4a\x01\x06\x52\x02\x00\x00",
             at(62, Reason::KeysVals),
         ),
-        // no 0, a key without a value, tags behind the last 0, and tags of no nodes
+        // no 0, a key without a value, tags after the last 0, and tags of no nodes
         (
             b"\x0a\x01\x02\x42\x01\x04\x4a\x01\x06\x52\x02\x01\x02",
             at(62, Reason::KeysVals),

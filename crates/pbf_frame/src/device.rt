@@ -8,7 +8,7 @@ use crate::stop::{DrainFault, FeedFault};
 
 /// A device that supplies bytes.
 pub trait Feed {
-    /// The bytes still to supply, where the device tells them.
+    /// The bytes still to supply, where the device reports them.
     ghost remaining: { Self → Option (List ℕ) };
 
     /// How often a read has failed, which stays at the greatest `u64`.
@@ -48,7 +48,7 @@ impl<F: Feed> Feed for &mut F {
 
 /// A device that takes bytes.
 pub trait Drain {
-    /// The bytes taken, where the device tells them.
+    /// The bytes taken, where the device reports them.
     ghost taken: { Self → Option (List ℕ) };
 
     /// How often a write has failed, which stays at the greatest `u64`.
@@ -57,7 +57,7 @@ pub trait Drain {
     /// The references that it goes through, from the outermost on.
     ghost lender: { Self → List GName } = { λ _. [] };
 
-    /// Takes a front of the bytes, at least one of them if there are any, or fails and takes none.
+    /// Takes a prefix of the bytes, at least one of them if there are any, or fails and takes none.
     fn write(&mut self, bytes: &[u8]) -> Result<usize, DrainFault>
         ensures bound { IfOk result (λ n. n ≤ length bytes.now) }
         ensures some { IfOk result (λ n. 0 < length bytes.now → 0 < n) }

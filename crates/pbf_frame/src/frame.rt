@@ -32,7 +32,7 @@ pub struct Frame<'a> {
     ghost fits: { payload_at + length payload.now ≤ 2 ^ 63 },
 }
 
-/// Where a frame ends that begins at `offset` and whose BlobHeader and Blob have these lengths; `None` behind byte 2^62.
+/// Where a frame ends that begins at `offset` and whose BlobHeader and Blob have these lengths; `None` after byte 2^62.
 pub fn frame_end(offset: u64, header: u32, size: u32) -> Option<u64>
     requires { offset ≤ 2 ^ 62 }
     ensures { result ≡ (if nat_le (offset + 4 + header + size) (2 ^ 62) then Some (offset + 4 + header + size) else None) }

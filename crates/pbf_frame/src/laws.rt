@@ -12,12 +12,12 @@ ghost use Rattle.pbf_frame.specs.Sound.{IsFrame, AreFrames, had_after, place_aft
 ghost use Rattle.pbf_frame.specs.Writing.{written_at, written_frame};
 ghost use Rattle.pbf_frame.specs.Verdict.{joined, judged, with_all};
 
-/// Nothing behind the known bytes changes them.
+/// Nothing after the known bytes changes them.
 pub fn append_none()
     ensures { (known : Option (List ℕ)) → append known [] ≡ known }
 {}
 
-/// What is put behind in two parts is put behind at once.
+/// What is added in two parts is added at once.
 pub fn append_append()
     ensures { (known : Option (List ℕ)) (xs ys : List ℕ) → append (append known xs) ys ≡ append known (xs ++ ys) }
 {}

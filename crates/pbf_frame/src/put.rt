@@ -18,7 +18,7 @@ use crate::transfer::write_all;
 use byteorder::{BigEndian, ByteOrder};
 use pbf_wire::shortest_spelling;
 
-// Puts bytes behind the first ones of the room, and tells how many there are then.
+// Puts bytes after the first ones of the room, and reports how many there are then.
 fn put(room: &mut [u8], at: usize, bytes: &[u8]) -> usize
     requires { at + length bytes.now ≤ length room.old }
     ensures front { take result room.new ≡ take at room.old ++ bytes.now }
@@ -50,7 +50,7 @@ fn name_of(kind: FrameKind) -> &'static [u8]
     }
 }
 
-// Puts a BlobHeader at the front of the room, and tells its length.
+// Puts a BlobHeader at the start of the room, and tells its length.
 fn put_header(room: &mut [u8], kind: FrameKind, size: u64) -> usize
     requires { length room.old ≡ 64 }
     ensures header { take result room.new ≡ written_header kind size }
@@ -64,7 +64,7 @@ fn put_header(room: &mut [u8], kind: FrameKind, size: u64) -> usize
     put_varint(room, end, size)
 }
 
-// Puts what a Blob has before its raw data of this length at the front of the room, and tells its length.
+// Puts what a Blob has before its raw data of this length at the start of the room, and tells its length.
 fn put_blob_head(room: &mut [u8], payload: usize) -> usize
     requires { length room.old ≡ 32 }
     ensures blob { (p : List ℕ) → length p ≡ payload → take result room.new ++ p ≡ written_blob p }
@@ -74,7 +74,7 @@ fn put_blob_head(room: &mut [u8], payload: usize) -> usize
     put_varint(room, end, payload as u64)
 }
 
-// All of a frame but its payload at the front of the room, and its length.
+// All of a frame but its payload at the start of the room, and its length.
 fn put_head(room: &mut [u8], kind: FrameKind, payload: usize) -> usize
     requires room { length room.old ≡ 128 }
     requires short { payload < RAW_LIMIT }
@@ -91,7 +91,7 @@ fn put_head(room: &mut [u8], kind: FrameKind, payload: usize) -> usize
 }
 
 /// Writes the frame of a payload: a BlobHeader with its type and `datasize`, and a Blob with raw data alone. It takes no
-/// memory. After a stop a beginning of the frame went out.
+/// memory. After a stop a prefix of the frame went out.
 pub fn put_frame<D: Drain>(drain: &mut D, kind: FrameKind, payload: &[u8]) -> Result<(), Stop>
     requires known { kind ≡ kinds.Other → ⊥ }
     requires short { length payload.now < RAW_LIMIT }

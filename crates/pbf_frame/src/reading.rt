@@ -111,7 +111,7 @@ fn judge_order(had_header: bool, place: u64, kind: FrameKind, end: u64) -> Optio
     lesser(order, fault_where(end > 1 << 62, place, Reason::FileLong))
 }
 
-// The header behind a prefix, and what it says.
+// The header after a prefix, and what it says.
 #[tactic(auto, unfolding(crate::specs::Frames::header_of))]
 fn read_header<F: Feed>(
     feed: &mut F,
@@ -198,7 +198,7 @@ fn read_known_blob<F: Feed>(
     Ok(())
 }
 
-// The blob behind a header; one of another type is read past.
+// The blob after a header; one of another type is read past.
 fn read_blob<F: Feed>(feed: &mut F, blob: &mut Vec<u8>, head: Head, at: u64) -> Result<(), Stop>
     requires in_range { at + head.size ≤ 2 ^ 63 }
     ensures gave { OnOk result (GaveBlob head.kind head.size at blob.new.items (F.remaining feed.old) (F.remaining feed.new)) }

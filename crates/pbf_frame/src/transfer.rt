@@ -27,7 +27,7 @@ pub(crate) fn fill<F: Feed>(feed: &mut F, buf: &mut [u8]) -> Result<usize, FeedF
     Ok(done)
 }
 
-/// Writes all of the bytes; after a failure a beginning of them went out. It takes no memory.
+/// Writes all of the bytes; after a failure a prefix of them went out. It takes no memory.
 pub fn write_all<D: Drain>(drain: &mut D, bytes: &[u8]) -> Result<(), DrainFault>
     ensures ok { OnOk result (D.taken drain.new ≡ append (D.taken drain.old) bytes.now) }
     ensures front { IsFront (D.taken drain.old) (D.taken drain.new) bytes.now }

@@ -258,7 +258,7 @@ fn unknown_blob_alone(rt: HostRuntime) -> Result<(), Fail> {
     Ok(())
 }
 
-/// A front, and zero bytes behind it.
+/// A prefix, and zero bytes after it.
 fn with_zeros(alloc: Global, front: &[u8], zeros: usize) -> Result<Vec<u8>, AllocError> {
     let mut bytes = Vec::new(alloc);
     bytes.extend_from_slice(front)?;

@@ -111,7 +111,7 @@ impl<S: BuildHasher> TableOut<S> {
         Ok(index as u32 + 1)
     }
 
-    /// The index of a text in the written table, from 1; a new text is added behind the others. A text that is there takes no
+    /// The index of a text in the written table, from 1; a new text is added after the others. A text that is there takes no
     /// memory. An `Err` leaves the texts as they were.
     pub fn index_of(&mut self, text: &[u8]) -> Result<u32, AllocError>
         requires { length self.old < 1048575 }

@@ -105,7 +105,7 @@ fn texts_in_order_of_first_use(rt: HostRuntime) -> Result<(), Fail> {
     Ok(())
 }
 
-/// The empty text, where an entity uses it, has an entry behind the one that every table begins with.
+/// The empty text, where an entity uses it, has an entry after the one that every table begins with.
 #[test]
 fn an_empty_text_in_use(rt: HostRuntime) -> Result<(), Fail> {
     let mut table = writer(rt.alloc());

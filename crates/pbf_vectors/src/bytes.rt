@@ -41,7 +41,7 @@ fn add_piece(alloc: Global, bytes: &mut Vec<u8>, piece: &str) -> Result<(), Trou
     Ok(())
 }
 
-/// The bytes of a file of the case of this name: of the file itself, or as the word spells them behind its `*`.
+/// The bytes of a file of the case of this name: of the file itself, or as the word spells them after its `*`.
 pub(crate) fn loaded(rt: &HostRuntime, name: &str, file: &str) -> Result<Vec<u8>, Trouble> {
     if let Some(pieces) = file.strip_prefix('*') {
         let mut bytes = Vec::new(rt.alloc());

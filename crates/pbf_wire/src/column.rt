@@ -18,7 +18,7 @@ pub fn first_number(packed: &[u8]) -> Option<(u64, &[u8])>
     }
 }
 
-/// A cursor over a column: it gives the numbers of all occurrences of one field in order, and tells where the occurrence
+/// A cursor over a column: it gives the numbers of all occurrences of one field in order, and says where the occurrence
 /// of the last one stands. It takes no memory, and a copy of it goes on by itself.
 #[derive(Clone, Copy)]
 pub struct Column<'a> {

@@ -61,7 +61,7 @@ pub enum Reason {
     DataFirst,
     /// 25: the required field of this number is absent.
     Missing(u64),
-    /// 26: a frame ends behind byte 2^62 of the file.
+    /// 26: a frame ends after byte 2^62 of the file.
     FileLong,
     /// 30: a string table has more than 1,048,576 texts.
     TooManyStrings,

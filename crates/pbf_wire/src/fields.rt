@@ -9,7 +9,7 @@ use crate::fault::{Fault, Reason};
 use crate::field::{Field, Payload};
 use crate::varint::first_varint;
 
-/// What stands behind a tag of this wire type, and its length.
+/// What stands after a tag of this wire type, and its length.
 #[tactic(auto, unfolding(crate::specs::Occurrence::body_at))]
 fn payload_at(bytes: &[u8], kind: u64, at: u64) -> Result<(Payload<'_>, usize), Reason>
     requires { at + length bytes.now ≤ 2 ^ 63 }
@@ -50,7 +50,7 @@ fn payload_at(bytes: &[u8], kind: u64, at: u64) -> Result<(Payload<'_>, usize), 
     }
 }
 
-/// The field at the front of the bytes, and its length.
+/// The field at the start of the bytes, and its length.
 #[tactic(auto, unfolding(crate::specs::Occurrence::occurrence_at))]
 fn field_at(bytes: &[u8], at: u64) -> Result<(Field<'_>, usize), Reason>
     requires { at + length bytes.now ≤ 2 ^ 63 }

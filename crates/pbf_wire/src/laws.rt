@@ -37,7 +37,7 @@ pub fn joined_spellings_are_read()
     ensures packed { (numbers : List ℕ) → AllByRecursion (λ n. n < 2 ^ 64) numbers → entries (packed numbers) ≡ map Ok numbers }
 {}
 
-/// The items of a message are the occurrences of its longest front that has a cutting into spellings, and then the fault
+/// The items of a message are the occurrences of its longest prefix that has a cutting into spellings, and then the fault
 /// of what is left. Where the whole message has a cutting, it is this one.
 pub fn one_cutting()
     ensures longest { (at : ℕ) (m : List ℕ) → IsCutting at m (found (items at m)) (fault_of (items at m)) }

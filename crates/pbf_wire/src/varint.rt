@@ -78,7 +78,7 @@ pub fn get_varint(bytes: &[u8], at: usize) -> Result<(u64, usize), Reason>
     Ok((value, at + length))
 }
 
-/// The shortest spelling, at the front of the array, and its length. It takes no memory.
+/// The shortest spelling, at the start of the array, and its length. It takes no memory.
 pub fn shortest_spelling(value: u64) -> ([u8; 10], usize)
     ensures within { result.1 ≤ 10 }
     ensures spelling { take result.1 result.0 ≡ shortest value }

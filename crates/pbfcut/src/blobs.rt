@@ -102,7 +102,7 @@ fn list_all<F: Feed, D: Drain>(
 /// type in quotation marks, and `skipped` for the length.
 ///
 /// `Refused` names the first fault of the frames, phases of payloads left out; the lines of the frames before it are written
-/// then. Whatever fails, what was written is a beginning of the lines. Reads once, and holds one frame at a time.
+/// then. Whatever fails, what was written is a prefix of the lines. Reads once, and holds one frame at a time.
 pub fn list_blobs<F: Feed, D: Drain>(
     alloc: Global,
     feed: &mut F,

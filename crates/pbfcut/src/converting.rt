@@ -17,7 +17,7 @@ use pbf_frame::{Drain, Feed, Stop};
 use std::alloc::Global;
 use std::hash::BuildHasher;
 
-/// Writes all entities in canonical form, behind the header in written form, and answers their numbers.
+/// Writes all entities in canonical form, after the header in written form, and answers their numbers.
 ///
 /// Both feeds have to supply the same bytes. The first is judged as a whole before anything is written: `Refused` names its
 /// first fault, of any phase, or `EntityLarge` at its HeaderBlock where the header's source and base URL have more than
@@ -45,7 +45,7 @@ pub fn convert<F: Feed, G: Feed, D: Drain, S: BuildHasher + Drop>(
         (ReadFailed F.Feed first.old first.new ⊎ ReadFailed G.Feed second.old second.new)
         (WriteFailed D.Drain drain.old drain.new)
         (ChangedIn 2 (F.remaining first.old) (G.remaining second.old))) }
-    // Whatever stopped it, where both feeds supply these bytes a beginning of their conversion went out, and nothing where they have a fault.
+    // Whatever stopped it, where both feeds supply these bytes a prefix of their conversion went out, and nothing where they have a fault.
     ensures beginning { OnErr result ((b : List ℕ) → BothSupply b (F.remaining first.old) (G.remaining second.old) → IsFront (D.taken drain.old) (D.taken drain.new) (conversion_of b)) }
 {
     let told = judge(alloc, first, &mut Nothing)?;

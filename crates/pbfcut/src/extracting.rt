@@ -25,7 +25,7 @@ use pbf_frame::{Drain, Feed, Stop};
 use std::alloc::Global;
 use std::hash::BuildHasher;
 
-/// What the passes before the one that writes tell.
+/// What the passes before the one that writes report.
 #[derive(Drop)]
 struct Choice {
     /// What is kept.
@@ -85,7 +85,7 @@ fn choose<F: Feed, G: Feed>(
 /// the first fault of the first feed's file, of any phase, or `EntityLarge` at its HeaderBlock where the header's source and base
 /// URL have more than 12,000,000 bytes together; nothing is written then. `Changed(2)` or `Changed(3)` says that the second or the
 /// third feed's bytes aren't those of the first; after `Changed(2)` nothing is written, and what was written before `Changed(3)`
-/// has no meaning. `Read` and `Write` say that a device failed, and `Memory` that memory was refused: what went out is a beginning of
+/// has no meaning. `Read` and `Write` say that a device failed, and `Memory` that memory was refused: what went out is a prefix of
 /// the answer. Strangers choose the texts of a file, so the hasher should be seeded.
 ///
 /// Space: one frame, the block that is open, and the sets of ids of the nodes in the box, of the refs and of the ways.
@@ -101,7 +101,7 @@ pub fn extract<F: Feed, G: Feed, H: Feed, D: Drain, S: BuildHasher + Drop>(
     // The first file has no fault, and its header can be written.
     ensures judged { OnOk result (CanBeWritten (judged_writable (F.remaining first.old))) }
     // Where all feeds supply these bytes, the drain took exactly the complete-ways extract of the decoded bytes, in input order and
-    // in canonical form, behind the header of the box; the counts are those of its entities.
+    // in canonical form, after the header of the box; the counts are those of its entities.
     ensures extracted { IfOk result (λ counts. (b : List ℕ) → AllSupply b (F.remaining first.old) (G.remaining second.old) (H.remaining third.old) → Extracted (complete_ways area) (extract (seen_decoded area)) area b counts (D.taken drain.old) (D.taken drain.new)) }
     // No files that differ, unless two unlike lists share a digest.
     ensures digests { OnOk result (SameDigest (F.remaining first.old) (G.remaining second.old) × SameDigest (F.remaining first.old) (H.remaining third.old)) }
@@ -110,7 +110,7 @@ pub fn extract<F: Feed, G: Feed, H: Feed, D: Drain, S: BuildHasher + Drop>(
         (ReadFailed F.Feed first.old first.new ⊎ (ReadFailed G.Feed second.old second.new ⊎ ReadFailed H.Feed third.old third.new))
         (WriteFailed D.Drain drain.old drain.new)
         (λ pass. ChangedBefore 2 (F.remaining first.old) (G.remaining second.old) (D.taken drain.old) (D.taken drain.new) pass ⊎ ChangedIn 3 (F.remaining first.old) (H.remaining third.old) pass)) }
-    // Whatever stopped it, where all feeds supply these bytes a beginning of the answer went out, and nothing where they have a fault.
+    // Whatever stopped it, where all feeds supply these bytes a prefix of the answer went out, and nothing where they have a fault.
     ensures beginning { OnErr result ((b : List ℕ) → AllSupply b (F.remaining first.old) (G.remaining second.old) (H.remaining third.old) → IsFront (D.taken drain.old) (D.taken drain.new) (extract_of (complete_ways area) area b)) }
 {
     let choice = choose(alloc, first, second, area)?;
@@ -171,7 +171,7 @@ pub fn extract_parents<F: Feed, G: Feed, H: Feed, I: Feed, D: Drain, S: BuildHas
     // The first file has no fault, and its header can be written.
     ensures judged { OnOk result (CanBeWritten (judged_writable (F.remaining first.old))) }
     // Where all feeds supply these bytes, the drain took exactly the complete-ways extract with all parents of the decoded bytes, in
-    // input order and in canonical form, behind the header of the box; the counts are those of its entities.
+    // input order and in canonical form, after the header of the box; the counts are those of its entities.
     ensures extracted { IfOk result (λ counts. (b : List ℕ) → FourSupply b (F.remaining first.old) (G.remaining second.old) (H.remaining third.old) (I.remaining fourth.old) → Extracted (all_parents area) (extract_with_parents (seen_decoded area)) area b counts (D.taken drain.old) (D.taken drain.new)) }
     // No files that differ, unless two unlike lists share a digest.
     ensures digests { OnOk result (SameDigest (F.remaining first.old) (G.remaining second.old) × SameDigest (F.remaining first.old) (H.remaining third.old) × SameDigest (F.remaining first.old) (I.remaining fourth.old)) }
@@ -180,7 +180,7 @@ pub fn extract_parents<F: Feed, G: Feed, H: Feed, I: Feed, D: Drain, S: BuildHas
         ((ReadFailed F.Feed first.old first.new ⊎ (ReadFailed G.Feed second.old second.new ⊎ ReadFailed H.Feed third.old third.new)) ⊎ ReadFailed I.Feed fourth.old fourth.new)
         (WriteFailed D.Drain drain.old drain.new)
         (λ pass. (ChangedBefore 2 (F.remaining first.old) (G.remaining second.old) (D.taken drain.old) (D.taken drain.new) pass ⊎ ChangedBefore 3 (F.remaining first.old) (H.remaining third.old) (D.taken drain.old) (D.taken drain.new) pass) ⊎ ChangedIn 4 (F.remaining first.old) (I.remaining fourth.old) pass)) }
-    // Whatever stopped it, where all feeds supply these bytes a beginning of the answer went out, and nothing where they have a fault.
+    // Whatever stopped it, where all feeds supply these bytes a prefix of the answer went out, and nothing where they have a fault.
     ensures beginning { OnErr result ((b : List ℕ) → FourSupply b (F.remaining first.old) (G.remaining second.old) (H.remaining third.old) (I.remaining fourth.old) → IsFront (D.taken drain.old) (D.taken drain.new) (extract_of (all_parents area) area b)) }
 {
     let choice = choose_parents(alloc, first, second, third, area)?;

@@ -345,7 +345,7 @@ fn steps<F: Feed, G: Gather>(
     Ok(pass)
 }
 
-/// What a pass over a whole file tells.
+/// What a pass over a whole file reports.
 #[derive(Drop)]
 pub(crate) struct Judged {
     /// The file's header, and the numbers of its entities.

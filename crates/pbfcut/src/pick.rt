@@ -123,7 +123,7 @@ impl Picker<'_> {
         false
     }
 
-    /// Whether an entity of a run may be written; where this says no, none is. Of dense nodes the ids are read, and nothing else.
+    /// Whether an entity of a run may be written; where this answers no, none is. Of dense nodes the ids are read, and nothing else.
     fn picks_in(&mut self, run: &Run<'_>) -> bool
         ensures none { result ≡ false → filter (picks_of self.old) (run_entities run.now) ≡ [] }
         ensures same { self.new ≡ self.old }
@@ -136,7 +136,7 @@ impl Picker<'_> {
     }
 }
 
-/// Whether a node of a block may be written; where this says no, none is. Of dense nodes the ids are read, and nothing else.
+/// Whether a node of a block may be written; where this answers no, none is. Of dense nodes the ids are read, and nothing else.
 fn picks_node(block: &Block<'_>, selection: Selection<'_>) -> bool
     ensures { result ≡ false → filter (pick_of selection.entry) (filter is_node (entities block.now.at block.now.payload.now)) ≡ [] }
 {
@@ -355,7 +355,7 @@ fn write_steps<F: Feed, D: Drain, S: BuildHasher>(
     Ok(pass.counts)
 }
 
-/// What a pass that writes tells.
+/// What a pass that writes reports.
 #[derive(Clone, Copy)]
 pub(crate) struct Wrote {
     /// The numbers of the entities that were written.

@@ -1,4 +1,4 @@
-//! Passes behind the first one, whose bytes have to have its digest.
+//! Passes after the first one, whose bytes have to have its digest.
 
 ghost use Rattle.std.specs.Prelude.{◌≡◌, IfOk, IfErr, OnOk, OnErr, Ok, Err, true, false, if◌then◌else◌};
 ghost use Rattle.pbf_block.specs.Header.{header_of};
@@ -16,7 +16,7 @@ use pbf_frame::{Drain, Feed, Stop};
 use std::alloc::Global;
 use std::hash::BuildHasher;
 
-/// A pass behind the first.
+/// A pass after the first.
 #[derive(Clone, Copy)]
 pub(crate) struct Repeat {
     /// Which one.

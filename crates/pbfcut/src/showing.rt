@@ -227,7 +227,7 @@ pub fn show<F: Feed, G: Feed, D: Drain>(
         (ReadFailed F.Feed first.old first.new ⊎ ReadFailed G.Feed second.old second.new)
         (WriteFailed D.Drain drain.old drain.new)
         (ChangedIn 2 (F.remaining first.old) (G.remaining second.old))) }
-    // Whatever stopped it, where the feeds are alike a beginning of that file's text went out, and nothing where it has a fault.
+    // Whatever stopped it, where the feeds are alike a prefix of that file's text went out, and nothing where it has a fault.
     ensures beginning { OnErr result (F.remaining first.old ≡ G.remaining second.old → ShowsFront dates (judged_file (F.remaining first.old)) (D.taken drain.old) (D.taken drain.new)) }
 {
     let told = judge(alloc, first, &mut Nothing)?;

@@ -1,4 +1,4 @@
-//! The commands and their arguments, told to `clap`.
+//! The commands and their arguments, as `clap` takes them.
 
 ghost use Rattle.std.specs.Prelude.{◌≡◌, IfOk, false};
 ghost use Rattle.clap.specs.Words.{app_of, rule_of};

@@ -1,4 +1,4 @@
-//! How each ending of the program is told: the exit status, and what is written to standard error.
+//! How each ending of the program is reported: the exit status, and what is written to standard error.
 
 ghost use Rattle.std.specs.Prelude.{◌≡◌, ◌++◌, IfOk, string_bytes};
 ghost use Rattle.pbf_frame.specs.declared.stop.Stop.TheVariants as stop;

@@ -1,4 +1,4 @@
-//! The command line of pbfcut: what its words ask for, what help says, and how each ending is told.
+//! The command line of pbfcut: what its words ask for, what help says, and how each ending is reported.
 #![tactic(auto)]
 
 mod commands;

@@ -274,7 +274,7 @@ fn words_that_are_no_command(rt: HostRuntime) -> Result<(), Fail> {
     )
 }
 
-/// Whether `--help` behind these words gives help with each of the parts in it.
+/// Whether `--help` after these words gives help with each of the parts in it.
 fn helps_with(rt: &(impl Abort + AllocGlobal), words: &[&str], parts: &[&str]) -> Result<(), Fail> {
     let Ok(Command::Help(text)) = read_words(rt.alloc(), words) else {
         return Err("help".into());

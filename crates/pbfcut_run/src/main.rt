@@ -1,4 +1,4 @@
-//! The program: reads its words, opens the files, runs the engine and tells how it ended.
+//! The program: reads its words, opens the files, runs the engine and reports how it ended.
 #![tactic(auto)]
 
 mod files;
@@ -77,7 +77,7 @@ fn work(rt: &HostRuntime) -> Result<(), Ending> {
 }
 
 /// Writes the ending's text to standard error, and answers the exit status. Where the text can't be written, nothing more can
-/// be told; where there is no memory for it, that is told.
+/// be reported; where there is no memory for it, that is reported.
 fn tell(rt: &HostRuntime, ending: &Ending) -> u8 {
     match ending.message(rt.alloc()) {
         Ok(text) => {

@@ -9,7 +9,7 @@ use pbfcut_cli::Ending;
 use std::io::{BufWriter, Write};
 
 /// `blobs IN`: the lines go to standard output through a buffer. They are written also where the file is refused; a line
-/// that can't be written is told in place of a later refusal, since it came first.
+/// that can't be written is reported in place of a later refusal, since it came first.
 pub(crate) fn run_blobs(rt: &HostRuntime, input: &str) -> Result<(), Ending> {
     let mut feed = open_input(rt, input)?;
     let Ok(mut output) = BufWriter::with_capacity(rt.alloc(), OUTPUT_BUFFER, rt.stdout()) else {

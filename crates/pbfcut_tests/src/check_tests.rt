@@ -34,7 +34,7 @@ fn checks(
     Ok(())
 }
 
-/// The same of what stands behind a header.
+/// The same of what stands after a header.
 fn behind_header(
     rt: &(impl Abort + AllocGlobal),
     rest: &[u8],

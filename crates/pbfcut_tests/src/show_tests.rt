@@ -52,7 +52,7 @@ fn shows(
     shows_as(rt, input, &[7], dates, text, outcome)
 }
 
-/// The same of what stands behind a header.
+/// The same of what stands after a header.
 fn behind_header(
     rt: &(impl Abort + AllocGlobal),
     rest: &[u8],
@@ -169,7 +169,7 @@ fn each_read_failing_in_turn(rt: HostRuntime) -> Result<(), Fail> {
     Ok(())
 }
 
-/// Whichever request for memory is refused: what went out is a beginning, and the answer is no other than that.
+/// Whichever request for memory is refused: what went out is a prefix, and the answer is no other than that.
 #[test]
 fn memory_refused(rt: HostRuntime) {
     let Ok(mut sink) = Sink::new(rt.alloc(), 100, 0) else {

@@ -184,7 +184,7 @@ fn each_read_failing_in_turn(rt: HostRuntime) -> Result<(), Fail> {
     Ok(())
 }
 
-/// Whichever request for memory is refused: what went out is a beginning, and the answer is no other than that.
+/// Whichever request for memory is refused: what went out is a prefix, and the answer is no other than that.
 #[test]
 fn memory_refused(rt: HostRuntime) {
     let Ok(mut sink) = Sink::new(rt.alloc(), 100, 0) else {
