@@ -1,0 +1,240 @@
+#!/usr/bin/env python3
+"""docs/STATEMENT.md is what the sources say: the definitions under the contracts of the public calls.
+
+usage: tests/statement.py [PROGRAM]      compares the page
+       tests/statement.py --write        writes it
+
+PROGRAM is not run. The page is made of `specs/` and of the contracts in `src/` alone: a definition is under a contract where its name
+stands in it, or in a definition that is.
+"""
+import os
+import re
+import sys
+
+TOP = os.path.dirname(os.path.dirname(os.path.abspath(__file__)))
+PAGE = os.path.join(TOP, "docs", "STATEMENT.md")
+CALLS = {
+    "extract": "extracting", "extract_parents": "extracting", "convert": "converting",
+    "show": "showing", "check": "checking", "list_blobs": "blobs",
+}
+MODIFIERS = ("abbrev", "unfoldable", "pub", "record")
+
+
+def read(*parts: str) -> str:
+    with open(os.path.join(TOP, *parts), encoding="utf-8") as file:
+        return file.read()
+
+
+def words_of(text: str) -> set:
+    """The names that stand in a term; `a.b` stands for itself, for `a` and for `b`."""
+    found = set()
+    for word in re.split(r"[\s(){}\[\];,]+", text):
+        word = word.rstrip(".")
+        found.update([word, *word.split(".")])
+    return found
+
+
+class Scope:
+    """What the imports of a file bring in: names, and short names of modules."""
+
+    def __init__(self, lines: list):
+        self.names, self.modules = {}, {}
+        for line in lines:
+            found = re.match(r"\s*(?:ghost )?use Rattle\.([\w.-]+?)(?:\.\{(.*)\}| as (\w+));?$", line)
+            if not found:
+                continue
+            module, names, short = found.groups()
+            if short:
+                self.modules[short] = module
+            for name in names.split(", ") if names else []:
+                self.names[name] = (module, name)
+
+    def found_in(self, text: str) -> set:
+        """The definitions that a term names, each by its module and its name."""
+        words, found = words_of(text), set()
+        for name, place in self.names.items():
+            parts = [part for part in name.split("◌") if part]
+            if name in words or ("◌" in name and all(part in words for part in parts)):
+                found.add(place)
+        for word in words:
+            first, _, rest = word.partition(".")
+            if rest and first in self.modules:
+                found.add((self.modules[first], rest.split(".")[0]))
+        return found
+
+
+class Definition:
+    def __init__(self, module: str, name: str, comment: str):
+        self.module, self.name, self.comment, self.lines = module, name, comment, []
+        self.under = set()  # the calls whose contracts it is under
+        self.laws = set()  # the laws that name it
+
+    @property
+    def crate(self) -> str:
+        return self.module.split(".")[0]
+
+    @property
+    def size(self) -> int:
+        return len(self.lines)
+
+
+def begun(line: str):
+    """The name of the definition that a line begins, if it begins one."""
+    words = line.split()
+    modifiers = [word for word in words if word in MODIFIERS]
+    rest = words[len(modifiers):]
+    if not line.startswith(" ") and rest and words[:len(modifiers)] == modifiers and (modifiers or rest[1:2] == [":"]):
+        return rest[0]
+    return None
+
+
+def definitions_in(module: str, text: str) -> dict:
+    """The definitions of a file in their order, and its scope."""
+    lines, found, comment, last = text.splitlines(), {}, [], None
+    scope = Scope(lines)
+    for line in lines:
+        if line.startswith("--"):
+            comment = [] if line.startswith("-- --") else comment + [line[2:].strip()]
+        elif not line.strip():
+            comment = []
+        elif not line.startswith(("use ", "pub mod", "infix", "mod ")):
+            name = begun(line)
+            if name:
+                last = found[name] = Definition(module, name, " ".join(comment))
+                scope.names.setdefault(name, (module, name))
+                comment = []
+            if last:
+                last.lines.append(line.split(" -- ")[0])
+    return found, scope
+
+
+class Sources:
+    """All definitions of the repository, and what each names."""
+
+    def __init__(self):
+        self.crates = [line.split(":")[0] for line in read("crates.txt").splitlines() if re.match(r"\w+:", line)]
+        self.all, self.names = {}, {}
+        for crate in self.crates:
+            folder = os.path.join(TOP, "crates", crate, "specs")
+            for file in sorted(os.listdir(folder)) if os.path.isdir(folder) else []:
+                module = f"{crate}.specs.{file.removesuffix('.antt')}"
+                found, scope = definitions_in(module, read("crates", crate, "specs", file))
+                for name, definition in found.items():
+                    self.all[module, name] = definition
+                    self.names[module, name] = scope.found_in("\n".join(definition.lines)) - {(module, name)}
+
+    def closure(self, first: set) -> set:
+        """These places, and all that stand under them."""
+        found, left = set(), list(first)
+        while left:
+            place = left.pop()
+            if place not in found:
+                found.add(place)
+                left += self.names.get(place, ())
+        return found
+
+
+def contract(crate: str, file: str, call: str) -> set:
+    """The definitions that the contract of a function names."""
+    text = read("crates", crate, "src", file + ".rt")
+    found = re.search(rf"^pub fn {call}\b.*?^\{{", text, re.M | re.S)
+    clauses = re.findall(r"^    (?:requires|ensures) .*?\}$", found[0], re.M | re.S)
+    return Scope(text.splitlines()).found_in("\n".join(clauses))
+
+
+def laws(sources: Sources):
+    """Notes which laws name which definitions."""
+    for crate in sources.crates:
+        if os.path.exists(os.path.join(TOP, "crates", crate, "src", "laws.rt")):
+            text = read("crates", crate, "src", "laws.rt")
+            for law in re.findall(r"^pub fn (\w+)", text, re.M):
+                for place in contract(crate, "laws", law):
+                    if place in sources.all:
+                        sources.all[place].laws.add(f"{crate}::laws::{law}")
+
+
+def marks(definition: Definition) -> str:
+    return "all" if definition.under == set(CALLS) else ", ".join(f"`{call}`" for call in CALLS if call in definition.under)
+
+
+def crate_part(crate: str, found: list):
+    yield f"\n## {crate}"
+    module = None
+    for definition in found:
+        if definition.module != module:
+            module = definition.module
+            file = module.split(".")[-1]
+            yield f"\n**[{file}](../crates/{crate}/specs/{file}.antt)**\n\n| Definition | In words | Under | Laws |\n|---|---|---|---|"
+        says = definition.comment.replace("|", "\\|")
+        name = definition.name.replace("|", "\\|")
+        named = ", ".join(f"`{law.split('::')[-1]}`" for law in sorted(definition.laws))
+        yield f"| `{name}` | {says} | {marks(definition)} | {named} |"
+
+
+def counts_part(sources: Sources, found: list):
+    yield "| Call | Definitions | Lines | " + " | ".join(sources_used(sources, found)) + " |"
+    yield "|---|---|---|" + "---|" * len(sources_used(sources, found))
+    for call in CALLS:
+        under = [definition for definition in found if call in definition.under]
+        by_crate = [sum(definition.crate == crate for definition in under) for crate in sources_used(sources, found)]
+        cells = [len(under), sum(definition.size for definition in under), *by_crate]
+        yield f"| [`{call}`](../crates/pbfcut/src/{CALLS[call]}.rt) | " + " | ".join(map(str, cells)) + " |"
+
+
+def sources_used(sources: Sources, found: list) -> list:
+    return [crate for crate in reversed(sources.crates) if any(definition.crate == crate for definition in found)]
+
+
+def foreign_part(places: set):
+    yield "\n## What is trusted of std and of the toolchain's crates\n"
+    yield "These words stand in the definitions above and are defined outside the repository.\n"
+    yield "| Module | Words |\n|---|---|"
+    modules = {}
+    for module, name in places:
+        modules.setdefault(module, set()).add(name)
+    for module in sorted(modules):
+        shown = ", ".join(f"`{name}`" for name in sorted(modules[module]))
+        yield f"| `{module}` | {shown} |"
+
+
+def page() -> str:
+    sources, foreign = Sources(), set()
+    for call, file in CALLS.items():
+        for place in sources.closure(contract("pbfcut", file, call)):
+            if place in sources.all:
+                sources.all[place].under.add(call)
+            elif place[0].split(".")[0] not in sources.crates:
+                foreign.add(place)
+    laws(sources)
+    found = [definition for definition in sources.all.values() if definition.under]
+    lines = [INTRODUCTION, *counts_part(sources, found)]
+    for crate in sources_used(sources, found):
+        lines += crate_part(crate, [definition for definition in found if definition.crate == crate])
+    lines += foreign_part(foreign)
+    return "\n".join(lines) + "\n"
+
+
+INTRODUCTION = """# What one must believe
+
+To believe what a public call promises, read its contract and the definitions under it; no proof and no code has to be read. This page
+lists these definitions, from the calls down to the bytes, with the comment that stands above each. `tests/statement.py --write` makes it
+of the sources, and the gate compares it. What each clause says in words is in [PROMISES.md](PROMISES.md).
+
+`Laws` names the laws (functions in `src/laws.rt`) whose contract speaks of the definition: there it is held to a second one, as
+reading to writing. [The examples](../crates/pbf_examples/README.md) hold the definitions to files that are spelled out. Types of the code (structs
+and enums) are not listed, nor are `Feed` and `Drain` of [device](../crates/pbf_frame/src/device.rt), whose contracts say what a device is.
+"""
+
+
+def main():
+    made = page()
+    if "--write" in sys.argv:
+        with open(PAGE, "w", encoding="utf-8") as file:
+            file.write(made)
+    elif made != read("docs", "STATEMENT.md"):
+        sys.exit("tests/statement.py: docs/STATEMENT.md is not what the sources say: tests/statement.py --write")
+    print("tests/statement.py: docs/STATEMENT.md is what the sources say")
+
+
+if __name__ == "__main__":
+    main()
