@@ -153,7 +153,7 @@ class Build:
             tops = max((height(self.crates, other) for other in self.running), default=0)
             if not self.running or height(self.crates, name) > tops:
                 self.start(name, 1 if name in self.again else self.lanes, False)
-            elif height(self.crates, name) == tops:
+            elif self.lanes > 1 and height(self.crates, name) == tops:
                 self.start(name, 1 if name in self.again else max(1, self.lanes // 2), False)
             elif len(self.running) <= self.lanes // 2:
                 self.start(name, 1, True)
