@@ -35,7 +35,8 @@ def kit_folder():
     except OSError:
         return None
     folder = os.path.dirname(page)
-    needed = ["bin/rattle", "bin/rattle-link", "rlibs/std.rlib", "rattle/logic/antt-project.json", "logic_built", "toolchain"]
+    needed = ["bin/rattle", "bin/rattle-link", "rlibs/std.rlib", "rattle/logic/antt-project.json", "logic_built", "toolchain",
+              "c/libos_c.a", "c/liblibc_c.a"]
     return folder if all(os.path.exists(os.path.join(folder, name)) for name in needed) else None
 
 
@@ -215,7 +216,8 @@ class Build:
     def link(self):
         words = [os.path.join(self.kit, "bin/rattle-link"), "--target", "x86_64-unknown-linux-gnu", "--toolchain", f"{self.kit}/toolchain"]
         made = os.path.join(ROOM, PROGRAM)
-        linked = subprocess.run(words + ["-o", made, self.result(PROGRAM)], capture_output=True, text=True)
+        files = [self.result(PROGRAM), f"{self.kit}/c/libos_c.a", f"{self.kit}/c/liblibc_c.a"]
+        linked = subprocess.run(words + ["-o", made, *files], capture_output=True, text=True)
         if linked.returncode:
             print(linked.stderr, file=sys.stderr)
             return NOT_THIS_KIT
