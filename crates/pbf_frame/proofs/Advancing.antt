@@ -37,28 +37,28 @@ gave_stop h p old new Write refused = tt
 gave_stop h p old new Memory refused = tt
 gave_stop h p old new (Changed pass) refused = tt
 
-module _ {F : Type 0} {remaining : F → Option (List ℕ)} {failures : F → ℕ} {lender : F → List GName} {carries : F → List ℕ → Type 0} where
-  was_reading : (old new : FrameReader F) (answer : Result (Option FrameSpec) Stop) → old.state ≡ Reading → Advances remaining failures lender carries old answer new → IsNext remaining failures lender carries old answer new
+module _ {F : Type 0} {remaining : F → Option (List ℕ)} {failures : F → ℕ} {lender : F → List GName} {has_passed : F → ℕ → List ℕ → Type 0} where
+  was_reading : (old new : FrameReader F) (answer : Result (Option FrameSpec) Stop) → old.state ≡ Reading → Advances remaining failures lender has_passed old answer new → IsNext remaining failures lender has_passed old answer new
   was_reading old new answer reading advances = (λ _. advances, λ ended. absurd (reading_ended old.state reading ended), λ stop stopped. absurd (reading_stopped old.state stop reading stopped))
 
   -- a reader at its end stays there
-  pub sees_end_again : (old : FrameReader F) → old.state ≡ Ended → IsSeeingNext remaining failures lender carries old (Ok None) old
+  pub sees_end_again : (old : FrameReader F) → old.state ≡ Ended → IsSeeingNext remaining failures lender has_passed old (Ok None) old
   sees_end_again old ended = record {
     answer = Ok None;
     sees = refl;
     next = (λ reading. absurd (reading_ended old.state reading ended), λ _. (refl, refl), λ stop stopped. absurd (ended_stopped old.state stop ended stopped));
   }
 
-  pub sees_frame : (old new : FrameReader F) (result : Result (Option Seen) Stop) (seen : Seen) → result ≡ Ok (Some seen) → Keeps failures lender old new → ((b : List ℕ) → carries old.feed b → carries new.feed b)
-      → GaveFrame old.had_header old.place new.header.items new.blob.items seen (remaining old.feed) (remaining new.feed)
+  pub sees_frame : (old new : FrameReader F) (result : Result (Option Seen) Stop) (seen : Seen) → result ≡ Ok (Some seen) → Keeps failures lender old new
+      → GaveFrame old.had_header old.place new.header.items new.blob.items seen (has_passed old.feed) (has_passed new.feed) (remaining old.feed) (remaining new.feed)
       → new.state ≡ old.state → new.place ≡ seen.blob_at + seen.size → old.place < seen.blob_at → new.had_header ≡ (old.had_header || is_header seen.kind)
-      → IsSeeingNext remaining failures lender carries old result new
-  sees_frame old new result seen is keeps carried gave state place later had =
+      → IsSeeingNext remaining failures lender has_passed old result new
+  sees_frame old new result seen is keeps gave state place later had =
       let f = gave.frame in
       let gives = gave_some old.had_header old.place (remaining old.feed) (remaining new.feed) f gave.given gave.untold in
       let had_is : new.had_header ≡ (old.had_header || is_header (frame_kind f)) = had ∙ ap (λ (k : FrameKind). old.had_header || is_header k) gave.is_seen.kind_is in
       let end_is : new.place ≡ frame_end f = place ∙ ap (λ (n : ℕ). n + seen.size) gave.is_seen.place ∙ ap (λ (n : ℕ). blob_at f + n) gave.is_seen.size_is in
-      subst (λ (r : Result (Option Seen) Stop). IsSeeingNext remaining failures lender carries old r new) (sym is) record {
+      subst (λ (r : Result (Option Seen) Stop). IsSeeingNext remaining failures lender has_passed old r new) (sym is) record {
         answer = Ok (Some f);
         sees = gave.is_seen;
         next = was_reading old new (Ok (Some f)) keeps.reading record {
@@ -67,18 +67,19 @@ module _ {F : Type 0} {remaining : F → Option (List ℕ)} {failures : F → �
           answers = (state ∙ keeps.reading, gave.offset, end_is, omega (arith, place, later), had_is);
           ended = tt;
           same_lender = keeps.same_lender;
-          still_carries = carried;
+          passed = gave.passed;
+          is_frame = gave.is_frame;
           counts = keeps.counts;
           stops = tt;
         };
       }
 
-  pub sees_end : (old new : FrameReader F) (result : Result (Option Seen) Stop) → result ≡ Ok None → Keeps failures lender old new → ((b : List ℕ) → carries old.feed b → carries new.feed b)
-      → GaveEnd old.had_header old.place (remaining old.feed) (remaining new.feed) → new.state ≡ Ended → new.place ≡ old.place
-      → IsSeeingNext remaining failures lender carries old result new
-  sees_end old new result is keeps carried gave state place =
+  pub sees_end : (old new : FrameReader F) (result : Result (Option Seen) Stop) → result ≡ Ok None → Keeps failures lender old new
+      → GaveEnd old.had_header old.place (has_passed old.feed) (has_passed new.feed) (remaining old.feed) (remaining new.feed) → new.state ≡ Ended → new.place ≡ old.place
+      → IsSeeingNext remaining failures lender has_passed old result new
+  sees_end old new result is keeps gave state place =
       let gives = gave_none old.had_header old.place (remaining old.feed) (remaining new.feed) gave.given gave.untold in
-      subst (λ (r : Result (Option Seen) Stop). IsSeeingNext remaining failures lender carries old r new) (sym is) record {
+      subst (λ (r : Result (Option Seen) Stop). IsSeeingNext remaining failures lender has_passed old r new) (sym is) record {
         answer = Ok None;
         sees = refl;
         next = was_reading old new (Ok None) keeps.reading record {
@@ -87,7 +88,8 @@ module _ {F : Type 0} {remaining : F → Option (List ℕ)} {failures : F → �
           answers = (state, place, gave.header_given);
           ended = gave.end;
           same_lender = keeps.same_lender;
-          still_carries = carried;
+          passed = gave.passed;
+          is_frame = tt;
           counts = keeps.counts;
           stops = tt;
         };
@@ -95,9 +97,9 @@ module _ {F : Type 0} {remaining : F → Option (List ℕ)} {failures : F → �
 
   pub sees_stop : (old new : FrameReader F) (result : Result (Option Seen) Stop) (stop : Stop) → result ≡ Err stop → Keeps failures lender old new
       → RefusedFrame old.had_header old.place (remaining old.feed) stop → IsReaderStop (failures old.feed) (failures new.feed) stop → new.state ≡ Stopped stop → new.place ≡ old.place
-      → IsSeeingNext remaining failures lender carries old result new
+      → IsSeeingNext remaining failures lender has_passed old result new
   sees_stop old new result stop is keeps refused cause state place =
-      subst (λ (r : Result (Option Seen) Stop). IsSeeingNext remaining failures lender carries old r new) (sym is) record {
+      subst (λ (r : Result (Option Seen) Stop). IsSeeingNext remaining failures lender has_passed old r new) (sym is) record {
         answer = Err stop;
         sees = refl;
         next = was_reading old new (Err stop) keeps.reading record {
@@ -106,7 +108,8 @@ module _ {F : Type 0} {remaining : F → Option (List ℕ)} {failures : F → �
           answers = (state, place);
           ended = tt;
           same_lender = keeps.same_lender;
-          still_carries = tt;
+          passed = tt;
+          is_frame = tt;
           counts = keeps.counts;
           stops = cause;
         };
@@ -114,15 +117,15 @@ module _ {F : Type 0} {remaining : F → Option (List ℕ)} {failures : F → �
 
   -- ---- what is lent is what lies in the buffers
 
-  pub lends_err : (old new : FrameReader F) (r : Result (Option Seen) Stop) (result : Result (Option Frame) Stop) (stop : Stop) → r ≡ Err stop → result ≡ Err stop → IsSeeingNext remaining failures lender carries old r new → IsLendingNext remaining failures lender carries old result new
+  pub lends_err : (old new : FrameReader F) (r : Result (Option Seen) Stop) (result : Result (Option Frame) Stop) (stop : Stop) → r ≡ Err stop → result ≡ Err stop → IsSeeingNext remaining failures lender has_passed old r new → IsLendingNext remaining failures lender has_passed old result new
   lends_err old new r result stop e is next =
       let answer_is : next.answer ≡ Err stop = subst (λ (x : Result (Option Seen) Stop). SeesAnswer new.header.items new.blob.items x next.answer) e next.sees in
       record { answer = next.answer; shows = subst (λ (x : Result (Option Frame) Stop). ShowsAnswer x next.answer) (sym is) answer_is; next = next.next }
 
-  pub lends_none : (old new : FrameReader F) (r : Result (Option Seen) Stop) → r ≡ Ok None → IsSeeingNext remaining failures lender carries old r new → IsLendingNext remaining failures lender carries old (Ok None) new
+  pub lends_none : (old new : FrameReader F) (r : Result (Option Seen) Stop) → r ≡ Ok None → IsSeeingNext remaining failures lender has_passed old r new → IsLendingNext remaining failures lender has_passed old (Ok None) new
   lends_none old new r e next = record { answer = next.answer; shows = subst (λ (x : Result (Option Seen) Stop). SeesAnswer new.header.items new.blob.items x next.answer) e next.sees; next = next.next }
 
-  pub lends_some : (old new : FrameReader F) (r : Result (Option Seen) Stop) (seen : Seen) (frame : Frame) → r ≡ Ok (Some seen) → ((f : FrameSpec) → IsSeen new.header.items new.blob.items seen f → Shows frame f) → IsSeeingNext remaining failures lender carries old r new → IsLendingNext remaining failures lender carries old (Ok (Some frame)) new
+  pub lends_some : (old new : FrameReader F) (r : Result (Option Seen) Stop) (seen : Seen) (frame : Frame) → r ≡ Ok (Some seen) → ((f : FrameSpec) → IsSeen new.header.items new.blob.items seen f → Shows frame f) → IsSeeingNext remaining failures lender has_passed old r new → IsLendingNext remaining failures lender has_passed old (Ok (Some frame)) new
   lends_some old new r seen frame e shows next =
       let sees = subst (λ (x : Result (Option Seen) Stop). SeesAnswer new.header.items new.blob.items x next.answer) e next.sees in
       record { answer = next.answer; shows = shown next.answer sees; next = next.next } where

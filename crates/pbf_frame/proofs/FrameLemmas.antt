@@ -6,7 +6,7 @@ use Rattle.pbf_frame.specs.declared.header.Head.{Head}
 use Rattle.pbf_frame.specs.declared.reading.Seen.{Seen}
 use Rattle.pbf_frame.specs.declared.stop.Stop.{Stop}
 use Rattle.pbf_frame.specs.declared.stop.Stop.TheVariants.{Refused, Read, Write, Memory, Changed}
-use Rattle.pbf_frame.specs.Devices.{IsAtEnd}
+use Rattle.pbf_frame.specs.Devices.{IsAtEnd, Passes}
 use Rattle.pbf_wire.specs.Least.{least}
 use Rattle.pbf_wire.specs.Occurrence.{items, found}
 use Rattle.pbf_wire.specs.Reading.{last_of}
@@ -16,6 +16,8 @@ use Rattle.pbf_frame.specs.Faults.{unless, ◌>>=◌}
 use Rattle.pbf_frame.specs.Header.{head_of, head_says, header_faults, name_of, kind_of, size_of, or_nothing}
 use Rattle.pbf_frame.specs.Frames.{FrameSpec, prefix_at, header_of, blob_of, frame_of, after_prefix, next_of}
 use Rattle.pbf_frame.specs.Reads.{Gives, GaveBlob, RefusedBlob, GaveFrame, GaveEnd, RefusedFrame, Holds}
+use Rattle.pbf_frame.specs.Sound.{IsFrame}
+use Rattle.pbf_frame.proofs.Passed.{passes_three}
 
 -- ---- what follows each part
 
@@ -110,12 +112,13 @@ module _ (h : Bool) (p : ℕ) where
   refused_prefix old new Memory given = tt
   refused_prefix old new (Changed pass) given = tt
 
-  pub gave_end : (old new : Option (List ℕ)) → GivesPrefix h p old new (Ok None) → (old ≡ None → new ≡ None) → IsAtEnd new → h ≡ true → GaveEnd h p old new
-  gave_end old new given untold ended had = record {
+  pub gave_end : (before now : ℕ → List ℕ → Type 0) (old new : Option (List ℕ)) → GivesPrefix h p old new (Ok None) → (old ≡ None → new ≡ None) → IsAtEnd new → h ≡ true → ((log : ℕ) (b : List ℕ) → before log b → now log b) → GaveEnd h p before now old new
+  gave_end before now old new given untold ended had passed = record {
     given = λ bytes is. let (rest, gives, left) = given bytes is in (rest, prefix_none h p bytes rest gives, left);
     untold = untold;
     end = ended;
     header_given = had;
+    passed = passed;
   }
 
   pub refused_header : (prefix header : List ℕ) (old mid new : Option (List ℕ)) (stop : Stop) → GivesPrefix h p old mid (Ok (Some prefix)) → GivesHeader h p prefix header mid new (Err stop) → RefusedFrame h p old stop
@@ -135,10 +138,11 @@ module _ (h : Bool) (p : ℕ) where
   refused_blob prefix header head old mid next Memory given then lastly = tt
   refused_blob prefix header head old mid next (Changed pass) given then lastly = tt
 
-  pub gave_frame : (prefix header held : List ℕ) (head : Head) (seen : Seen) (old mid next new : Option (List ℕ)) → GivesPrefix h p old mid (Ok (Some prefix)) → (old ≡ None → mid ≡ None) → GivesHeader h p prefix header mid next (Ok head) → (mid ≡ None → next ≡ None)
-      → head_of (p + 4) header ≡ Ok head → GaveBlob head.kind head.size (p + 4 + length header) held next new
-      → seen.offset ≡ p → seen.kind ≡ head.kind → seen.size ≡ head.size → seen.blob_at ≡ p + 4 + length header → GaveFrame h p header held seen old new
-  gave_frame prefix header held head seen old mid next new given untold then untold_then says lastly offset kind size at =
+  pub gave_frame : (prefix header held : List ℕ) (head : Head) (seen : Seen) (q0 q1 q2 q3 : ℕ → List ℕ → Type 0) (old mid next new : Option (List ℕ)) → GivesPrefix h p old mid (Ok (Some prefix)) → (old ≡ None → mid ≡ None) → GivesHeader h p prefix header mid next (Ok head) → (mid ≡ None → next ≡ None)
+      → head_of (p + 4) header ≡ Ok head → (blob : GaveBlob head.kind head.size (p + 4 + length header) held q2 q3 next new)
+      → IsFrame h p (record { offset = p; prefix = prefix; header = header; blob = blob.blob }) → Passes q0 prefix q1 → Passes q1 header q2
+      → seen.offset ≡ p → seen.kind ≡ head.kind → seen.size ≡ head.size → seen.blob_at ≡ p + 4 + length header → GaveFrame h p header held seen q0 q3 old new
+  gave_frame prefix header held head seen q0 q1 q2 q3 old mid next new given untold then untold_then says lastly is_frame one two offset kind size at =
       let kind_is : head.kind ≡ kind_of (name_of (p + 4) header) = (head_parts (p + 4) header head says).2 in
       record {
         frame = record { offset = p; prefix = prefix; header = header; blob = lastly.blob };
@@ -151,6 +155,8 @@ module _ (h : Bool) (p : ℕ) where
           holds = subst (λ (k : FrameKind). Holds k (p + 4 + length header) lastly.blob held) kind_is lastly.holds;
         };
         offset = refl;
+        is_frame = is_frame;
+        passed = passes_three q0 q1 q2 q3 prefix header lastly.blob one two lastly.passed;
         given = λ bytes is.
             let (rest, gives, left) = given bytes is in
             let (more, gives_more, left_more) = then rest left in

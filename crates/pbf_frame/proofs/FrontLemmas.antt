@@ -8,11 +8,12 @@ use Rattle.pbf_frame.specs.declared.frame.FrameKind.{FrameKind}
 use Rattle.pbf_frame.specs.declared.frame.FrameKind.TheVariants as kind
 use Rattle.pbf_frame.specs.declared.stop.Stop.{Stop}
 use Rattle.pbf_frame.specs.declared.stop.Stop.TheVariants.{Refused, Read, Write, Memory, Changed}
-use Rattle.pbf_frame.specs.Devices.{prepend}
+use Rattle.pbf_frame.specs.Devices.{prepend, Passes}
 use Rattle.pbf_wire.specs.Faults.{fault}
 use Rattle.pbf_frame.specs.Frames.{bytes_at}
 use Rattle.pbf_frame.specs.Reads.{Skips, GaveBlob, RefusedBlob, IsSkipStop}
 use Rattle.pbf_frame.proofs.KnownBytes.{prepend_more}
+use Rattle.pbf_frame.proofs.Passed.{passes_more}
 
 pub bytes_at_ok : (cut : Fault) (n : ℕ) (read bytes : List ℕ) → read ≡ take n bytes → n ≤ length read → bytes_at cut n bytes ≡ Ok (read, drop n bytes)
 unfolding bytes_at
@@ -29,11 +30,12 @@ unfolding bytes_at
 bytes_at_short cut n bytes short = rw (take_all n bytes (omega arith)) (grind (arith, nat_tests))
 
 -- more bytes are skipped
-pub skips_more : (before now after : Option (List ℕ)) (a m n : ℕ) (ys : List ℕ) → Skips before now a → now ≡ prepend ys after → length ys ≡ m → a + m ≡ n → Skips before after n
-skips_more before now after a m n ys so_far gone long total = record {
+pub skips_more : (p q r : ℕ → List ℕ → Type 0) (before now after : Option (List ℕ)) (a m n : ℕ) (ys : List ℕ) → Skips p q before now a → now ≡ prepend ys after → Passes q ys r → length ys ≡ m → a + m ≡ n → Skips p r before after n
+skips_more p q r before now after a m n ys so_far gone passed long total = record {
   skipped = so_far.skipped ++ ys;
   long = length-append so_far.skipped ys ∙ (let e : length so_far.skipped + length ys ≡ n = omega (arith, so_far.long, long, total) in e);
   gone = prepend_more before now after so_far.skipped ys so_far.gone gone;
+  passed = passes_more p q r so_far.skipped ys so_far.passed passed;
 }
 
 known_parts : (new : Option (List ℕ)) (b bytes : List ℕ) → Some bytes ≡ prepend b new → (rest : List ℕ) × (bytes ≡ b ++ rest) × (new ≡ Some rest)
@@ -44,11 +46,12 @@ still_untold : (old new : Option (List ℕ)) (b : List ℕ) → old ≡ prepend 
 still_untold old None b e none = refl
 still_untold old (Some rest) b e none = (let bad : ⊥ = cc in absurd bad)
 
-pub gave_skipped : (k : FrameKind) (size at : ℕ) (held : List ℕ) (old new : Option (List ℕ)) → k ≡ kind.Other → Skips old new size → held ≡ [] → GaveBlob k size at held old new
-gave_skipped k size at held old new other skips empty = subst (λ (x : FrameKind). GaveBlob x size at held old new) (sym other) record {
+pub gave_skipped : (k : FrameKind) (size at : ℕ) (held : List ℕ) (p q : ℕ → List ℕ → Type 0) (old new : Option (List ℕ)) → k ≡ kind.Other → Skips p q old new size → held ≡ [] → GaveBlob k size at held p q old new
+gave_skipped k size at held p q old new other skips empty = subst (λ (x : FrameKind). GaveBlob x size at held p q old new) (sym other) record {
   blob = skips.skipped;
   long = skips.long;
   holds = empty;
+  passed = skips.passed;
   given = λ bytes is.
       let (rest, parts, left) = known_parts new skips.skipped bytes (sym is ∙ skips.gone) in
       (rest, ap (λ (l : List ℕ). bytes_at (fault at BlobCut) size l) parts ∙ bytes_at_front (fault at BlobCut) size skips.skipped rest skips.long, left);

@@ -1,4 +1,5 @@
 pub mod KnownBytes
+pub mod Passed
 pub mod Parts
 pub mod FrontLemmas
 pub mod FrameLemmas
@@ -9,5 +10,6 @@ pub mod Advancing
 pub mod VerdictLemmas
 pub mod Beginnings
 pub mod Longest
+pub mod Passing
 pub mod Putting
 pub mod ReadBack

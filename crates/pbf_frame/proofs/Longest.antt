@@ -36,7 +36,7 @@ sized at front (Some o) e = cases (size_within (number_in o.content)) refl where
   cases (Some n) is = is ∙ ap (λ (m : Option ℕ). Some (or_nothing m)) (sym is)
   cases None is = absurd (never front _ (rw (is) at e))
 
-frame_at : (h : Bool) (bytes : List ℕ) (f : FrameSpec) (rest : List ℕ) → FrameParts h f.offset bytes f rest → IsFrame h f.offset f
+pub frame_at : (h : Bool) (bytes : List ℕ) (f : FrameSpec) (rest : List ℕ) → FrameParts h f.offset bytes f rest → IsFrame h f.offset f
 frame_at h bytes f rest parts =
     let says = head_parts (header_at f) f.header parts.head parts.header_is.says in
     let last = last_of DATASIZE (found (items (header_at f) f.header)) in

@@ -56,7 +56,3 @@ front_second old mid new first second whole is went front = record {
   taken = front.taken ∙ ap (λ (k : Option (List ℕ)). append k (take front.count second)) went ∙ append_append old first (take front.count second)
       ∙ ap (append old) (sym (take-append-add first second front.count) ∙ ap (take (length first + front.count)) is);
 }
-
--- both parts went out
-pub both_went : (old mid new : Option (List ℕ)) (first second whole : List ℕ) → first ++ second ≡ whole → mid ≡ append old first → new ≡ append mid second → new ≡ append old whole
-both_went old mid new first second whole is one two = two ∙ ap (λ (k : Option (List ℕ)). append k second) one ∙ append_append old first second ∙ ap (append old) is

@@ -1,5 +1,5 @@
 -- What `next` of a reader does.
-use Rattle.std.specs.Prelude.{◌≡◌, ℕ, ◌+◌, ◌<◌, ◌≤◌, List, [], Bool, ◌||◌, true, Option, Some, None, Result, Ok, Err, length, OnOk}
+use Rattle.std.specs.Prelude.{◌≡◌, ℕ, ◌+◌, ◌<◌, ◌≤◌, List, [], Bool, ◌||◌, true, Option, Some, None, Result, Ok, Err, length}
 use Rattle.std.specs.Borrow.{GName}
 use Rattle.pbf_frame.specs.declared.frame.Frame.{Frame}
 use Rattle.pbf_frame.specs.declared.reading.Seen.{Seen}
@@ -7,10 +7,11 @@ use Rattle.pbf_frame.specs.declared.reader.FrameReader.{FrameReader}
 use Rattle.pbf_frame.specs.declared.reader.State.TheVariants.{Reading, Ended, Stopped}
 use Rattle.pbf_frame.specs.declared.stop.Stop.{Stop}
 use Rattle.pbf_frame.specs.declared.stop.Stop.TheVariants.{Refused, Read, Write, Memory, Changed}
-use Rattle.pbf_frame.specs.Devices.{IsAtEnd, prepend}
+use Rattle.pbf_frame.specs.Devices.{IsAtEnd, Passes, prepend}
 use Rattle.pbf_frame.specs.Frames.{FrameSpec, is_header, frame_kind, frame_name, frame_bytes, frame_end, frame_payload, frame_payload_at}
 use Rattle.pbf_frame.specs.Verdict.{Verdict, judged_known, with_first_known, Says}
 use Rattle.pbf_frame.specs.Reads.{IsReaderStop, IsSeen}
+use Rattle.pbf_frame.specs.Sound.{IsFrame}
 
 -- ---- a reader
 
@@ -86,6 +87,18 @@ Went old (Ok (Some f)) new = old ≡ prepend (frame_bytes f) new
 Went old (Ok None) new = old ≡ new
 Went old (Err stop) new = Unit {0}
 
+-- so it is with the bytes that passed
+abbrev pub GonePast : (ℕ → List ℕ → Type 0) → Result (Option FrameSpec) Stop → (ℕ → List ℕ → Type 0) → Type 0
+GonePast before (Ok (Some f)) now = Passes before (frame_bytes f) now
+GonePast before (Ok None) now = (log : ℕ) (b : List ℕ) → before log b → now log b
+GonePast before (Err stop) now = Unit {0}
+
+-- a frame given has no fault
+abbrev pub IsFrameGiven : Bool → ℕ → Result (Option FrameSpec) Stop → Type 0
+IsFrameGiven had_header place (Ok (Some f)) = IsFrame had_header place f
+IsFrameGiven had_header place (Ok None) = Unit {0}
+IsFrameGiven had_header place (Err stop) = Unit {0}
+
 -- where the reader stands after
 abbrev pub Answers : {F : Type 0} → FrameReader F → Result (Option FrameSpec) Stop → FrameReader F → Type 0
 Answers old (Ok (Some f)) new = IsReading new × (f.offset ≡ old.place) × (new.place ≡ frame_end f) × (old.place < new.place) × (new.had_header ≡ (old.had_header || is_header (frame_kind f)))
@@ -103,30 +116,31 @@ IfEnded (Ok (Some f)) P = Unit {0}
 IfEnded (Err stop) P = Unit {0}
 
 -- `next` of a reader that was reading
-pub record Advances {F : Type 0} (remaining : F → Option (List ℕ)) (failures : F → ℕ) (lender : F → List GName) (carries : F → List ℕ → Type 0) (old : FrameReader F) (answer : Result (Option FrameSpec) Stop) (new : FrameReader F) : Type 0 where
+pub record Advances {F : Type 0} (remaining : F → Option (List ℕ)) (failures : F → ℕ) (lender : F → List GName) (has_passed : F → ℕ → List ℕ → Type 0) (old : FrameReader F) (answer : Result (Option FrameSpec) Stop) (new : FrameReader F) : Type 0 where
   pub gave : Gave (verdict remaining old) answer (verdict remaining new)
   pub went : Went (remaining old.feed) answer (remaining new.feed)
   pub answers : Answers old answer new
   pub ended : IfEnded answer (IsAtEnd (remaining new.feed))
   pub same_lender : lender new.feed ≡ lender old.feed
-  pub still_carries : OnOk answer ((b : List ℕ) → carries old.feed b → carries new.feed b)
+  pub passed : GonePast (has_passed old.feed) answer (has_passed new.feed)
+  pub is_frame : IsFrameGiven old.had_header old.place answer
   pub counts : failures old.feed ≤ failures new.feed
   pub stops : IfErrOf answer (IsReaderStop (failures old.feed) (failures new.feed))
 
 -- a reader at its end stays there, and a spent one stays spent, and neither touches the feed
-abbrev pub IsNext : {F : Type 0} → (F → Option (List ℕ)) → (F → ℕ) → (F → List GName) → (F → List ℕ → Type 0) → FrameReader F → Result (Option FrameSpec) Stop → FrameReader F → Type 0
-IsNext remaining failures lender carries old answer new = (IsReading old → Advances remaining failures lender carries old answer new)
+abbrev pub IsNext : {F : Type 0} → (F → Option (List ℕ)) → (F → ℕ) → (F → List GName) → (F → ℕ → List ℕ → Type 0) → FrameReader F → Result (Option FrameSpec) Stop → FrameReader F → Type 0
+IsNext remaining failures lender has_passed old answer new = (IsReading old → Advances remaining failures lender has_passed old answer new)
     × (HasEnded old → (answer ≡ Ok None) × (new ≡ old))
     × ((stop : Stop) → HasStopped old stop → (answer ≡ Err stop) × (new ≡ old))
 
 -- the same, of the frame that is lent
-pub record IsLendingNext {F : Type 0} (remaining : F → Option (List ℕ)) (failures : F → ℕ) (lender : F → List GName) (carries : F → List ℕ → Type 0) (old : FrameReader F) (result : Result (Option Frame) Stop) (new : FrameReader F) : Type 0 where
+pub record IsLendingNext {F : Type 0} (remaining : F → Option (List ℕ)) (failures : F → ℕ) (lender : F → List GName) (has_passed : F → ℕ → List ℕ → Type 0) (old : FrameReader F) (result : Result (Option Frame) Stop) (new : FrameReader F) : Type 0 where
   pub answer : Result (Option FrameSpec) Stop
   pub shows : ShowsAnswer result answer
-  pub next : IsNext remaining failures lender carries old answer new
+  pub next : IsNext remaining failures lender has_passed old answer new
 
 -- the same, of the frame that lies in the buffers
-pub record IsSeeingNext {F : Type 0} (remaining : F → Option (List ℕ)) (failures : F → ℕ) (lender : F → List GName) (carries : F → List ℕ → Type 0) (old : FrameReader F) (result : Result (Option Seen) Stop) (new : FrameReader F) : Type 0 where
+pub record IsSeeingNext {F : Type 0} (remaining : F → Option (List ℕ)) (failures : F → ℕ) (lender : F → List GName) (has_passed : F → ℕ → List ℕ → Type 0) (old : FrameReader F) (result : Result (Option Seen) Stop) (new : FrameReader F) : Type 0 where
   pub answer : Result (Option FrameSpec) Stop
   pub sees : SeesAnswer new.header.items new.blob.items result answer
-  pub next : IsNext remaining failures lender carries old answer new
+  pub next : IsNext remaining failures lender has_passed old answer new

@@ -6,9 +6,10 @@ use Rattle.pbf_frame.specs.declared.frame.FrameKind.TheVariants as kind
 use Rattle.pbf_frame.specs.declared.reading.Seen.{Seen}
 use Rattle.pbf_frame.specs.declared.stop.Stop.{Stop}
 use Rattle.pbf_frame.specs.declared.stop.Stop.TheVariants.{Refused, Read, Write, Memory, Changed}
-use Rattle.pbf_frame.specs.Devices.{HasRisen, IsAtEnd, prepend}
+use Rattle.pbf_frame.specs.Devices.{HasRisen, IsAtEnd, Passes, prepend}
 use Rattle.pbf_frame.specs.Blob.{blob_fault}
-use Rattle.pbf_frame.specs.Frames.{FrameSpec, blob_at, frame_kind, blob_of, next_of}
+use Rattle.pbf_frame.specs.Frames.{FrameSpec, blob_at, frame_kind, frame_bytes, blob_of, next_of}
+use Rattle.pbf_frame.specs.Sound.{IsFrame}
 
 -- what was read is the first n bytes, or all where there are fewer, and the others are left
 pub record Reads (old new : Option (List ℕ)) (n : ℕ) (read : List ℕ) : Type 0 where
@@ -49,10 +50,11 @@ IsReaderStop old new Memory = Unit {0}
 IsReaderStop old new (Changed pass) = ⊥
 
 -- this many bytes are gone
-pub record Skips (old new : Option (List ℕ)) (count : ℕ) : Type 0 where
+pub record Skips (before now : ℕ → List ℕ → Type 0) (old new : Option (List ℕ)) (count : ℕ) : Type 0 where
   pub skipped : List ℕ
   pub long : length skipped ≡ count
   pub gone : old ≡ prepend skipped new
+  pub passed : Passes before skipped now
 
 -- what the blob buffer has of a blob without a fault: all, but nothing of one of another type
 abbrev pub Holds : FrameKind → ℕ → List ℕ → List ℕ → Type 0
@@ -61,10 +63,11 @@ Holds kind.Data at blob held = (held ≡ blob) × (blob_fault at blob ≡ None)
 Holds kind.Other at blob held = held ≡ []
 
 -- a blob that was read
-pub record GaveBlob (kind : FrameKind) (size at : ℕ) (held : List ℕ) (old new : Option (List ℕ)) : Type 0 where
+pub record GaveBlob (kind : FrameKind) (size at : ℕ) (held : List ℕ) (before now : ℕ → List ℕ → Type 0) (old new : Option (List ℕ)) : Type 0 where
   pub blob : List ℕ
   pub long : length blob ≡ size
   pub holds : Holds kind at blob held
+  pub passed : Passes before blob now
   pub given : (bytes : List ℕ) → old ≡ Some bytes → (rest : List ℕ) × (blob_of kind size at bytes ≡ Ok (blob, rest)) × (new ≡ Some rest)
   pub untold : old ≡ None → new ≡ None
 
@@ -102,18 +105,21 @@ abbrev pub IsPlaced : Seen → Type 0
 IsPlaced seen = (seen.offset ≤ 2 ^ 62) × (seen.blob_at + seen.size ≤ 2 ^ 62)
 
 -- a frame was read, whose bytes are gone
-pub record GaveFrame (had_header : Bool) (place : ℕ) (header blob : List ℕ) (seen : Seen) (old new : Option (List ℕ)) : Type 0 where
+pub record GaveFrame (had_header : Bool) (place : ℕ) (header blob : List ℕ) (seen : Seen) (before now : ℕ → List ℕ → Type 0) (old new : Option (List ℕ)) : Type 0 where
   pub frame : FrameSpec
   pub is_seen : IsSeen header blob seen frame
   pub offset : frame.offset ≡ place
+  pub is_frame : IsFrame had_header place frame
+  pub passed : Passes before (frame_bytes frame) now
   pub given : (bytes : List ℕ) → old ≡ Some bytes → (rest : List ℕ) × (next_of had_header place bytes ≡ Ok (Some frame, rest)) × (new ≡ Some rest)
   pub untold : old ≡ None → new ≡ None
 
 -- the end was met
-pub record GaveEnd (had_header : Bool) (place : ℕ) (old new : Option (List ℕ)) : Type 0 where
+pub record GaveEnd (had_header : Bool) (place : ℕ) (before now : ℕ → List ℕ → Type 0) (old new : Option (List ℕ)) : Type 0 where
   pub given : (bytes : List ℕ) → old ≡ Some bytes → (rest : List ℕ) × (next_of had_header place bytes ≡ Ok (None, rest)) × (new ≡ Some rest)
   pub untold : old ≡ None → new ≡ None
   pub end : IsAtEnd new
+  pub passed : (log : ℕ) (b : List ℕ) → before log b → now log b
   pub header_given : had_header ≡ true
 
 abbrev pub RefusedFrame : Bool → ℕ → Option (List ℕ) → Stop → Type 0

@@ -1,7 +1,7 @@
 //! What supplies bytes, and what takes them.
 
-ghost use Rattle.std.specs.Prelude.{◌≡◌, ◌<◌, ◌≤◌, ℕ, List, [], ◌∷◌, length, take, Option, IfOk, OnOk, OnErr};
-ghost use Rattle.pbf_frame.specs.Devices.{prepend, append, IsAtEnd, HasRisen};
+ghost use Rattle.std.specs.Prelude.{◌≡◌, ◌<◌, ◌≤◌, ℕ, List, [], ◌∷◌, length, take, Option, IfOk, OnErr};
+ghost use Rattle.pbf_frame.specs.Devices.{prepend, append, Passes, IsAtEnd, HasRisen};
 ghost use Rattle.std.specs.Borrow.{GName};
 
 use crate::stop::{DrainFault, FeedFault};
@@ -17,8 +17,8 @@ pub trait Feed {
     /// The references that it goes through, from the outermost on.
     ghost lender: { Self → List GName } = { λ _. [] };
 
-    /// What it carries from its start to its end; a read keeps it.
-    ghost carries: { Self → List ℕ → Type 0 } = { λ _ _. Unit {0} };
+    /// The bytes that have passed, by each log that it keeps of them, from the outermost on; a read adds what it gave.
+    ghost has_passed: { Self → ℕ → List ℕ → Type 0 } = { λ _ _ _. Unit {0} };
 
     /// Any number of bytes, none only at the end. After a failure nothing is said of the bytes
     /// still to supply.
@@ -26,7 +26,7 @@ pub trait Feed {
         ensures bound { IfOk result (λ n. n ≤ length buf.old) }
         ensures bytes { IfOk result (λ n. remaining self.old ≡ prepend (take n buf.new) (remaining self.new)) }
         ensures end { IfOk result (λ n. n ≡ 0 → 0 < length buf.old → IsAtEnd (remaining self.old)) }
-        ensures carries { OnOk result ((b : List ℕ) → carries self.old b → carries self.new b) }
+        ensures passed { IfOk result (λ n. Passes (has_passed self.old) (take n buf.new) (has_passed self.new)) }
         ensures counts { failures self.old ≤ failures self.new }
         ensures failed { OnErr result (HasRisen (failures self.old) (failures self.new)) }
         ensures lender { lender self.new ≡ lender self.old };
@@ -39,7 +39,7 @@ impl<F: Feed> Feed for &mut F {
 
     ghost lender = { λ r. r.ghost_name ∷ F.lender r.now };
 
-    ghost carries = { λ r b. F.carries r.now b };
+    ghost has_passed = { λ r log b. F.has_passed r.now log b };
 
     fn read(&mut self, buf: &mut [u8]) -> Result<usize, FeedFault> {
         Feed::read(&mut **self, buf)
@@ -50,6 +50,9 @@ impl<F: Feed> Feed for &mut F {
 pub trait Drain {
     /// The bytes taken, where the device reports them.
     ghost taken: { Self → Option (List ℕ) };
+
+    /// The bytes that it took, by each log that it keeps of them, from the outermost on; a write adds what it took.
+    ghost has_taken: { Self → ℕ → List ℕ → Type 0 } = { λ _ _ _. Unit {0} };
 
     /// How often a write has failed, which stays at the greatest `u64`.
     ghost failures: { Self → ℕ };
@@ -62,6 +65,7 @@ pub trait Drain {
         ensures bound { IfOk result (λ n. n ≤ length bytes.now) }
         ensures some { IfOk result (λ n. 0 < length bytes.now → 0 < n) }
         ensures bytes { IfOk result (λ n. taken self.new ≡ append (taken self.old) (take n bytes.now)) }
+        ensures logged { IfOk result (λ n. Passes (has_taken self.old) (take n bytes.now) (has_taken self.new)) }
         ensures none { OnErr result (taken self.new ≡ taken self.old) }
         ensures counts { failures self.old ≤ failures self.new }
         ensures failed { OnErr result (HasRisen (failures self.old) (failures self.new)) }
@@ -70,6 +74,8 @@ pub trait Drain {
 
 impl<D: Drain> Drain for &mut D {
     ghost taken = { λ r. D.taken r.now };
+
+    ghost has_taken = { λ r log b. D.has_taken r.now log b };
 
     ghost failures = { λ r. D.failures r.now };
 

@@ -3,7 +3,8 @@
 ghost use Rattle.std.specs.Prelude.{◌≡◌, ◌+◌, ◌<◌, ◌≤◌, ◌++◌, List, ℕ, length, take, OnOk, IfErr};
 ghost use Rattle.byteorder.specs.Endian.{big_bytes};
 ghost use Rattle.pbf_wire.specs.Varint.{shortest};
-ghost use Rattle.pbf_frame.specs.Devices.{append, IsFront};
+ghost use Rattle.pbf_frame.specs.Devices.{IsFront};
+ghost use Rattle.pbf_frame.specs.Transfers.{Added};
 ghost use Rattle.pbf_frame.specs.Reads.{IsWriteStop};
 ghost use Rattle.pbf_frame.specs.Writing.{written_name, written_header, written_blob, written_frame};
 ghost use Rattle.pbf_frame.specs.declared.blob.TheConstants.{RAW_LIMIT};
@@ -95,7 +96,7 @@ fn put_head(room: &mut [u8], kind: FrameKind, payload: usize) -> usize
 pub fn put_frame<D: Drain>(drain: &mut D, kind: FrameKind, payload: &[u8]) -> Result<(), Stop>
     requires known { kind ≡ kinds.Other → ⊥ }
     requires short { length payload.now < RAW_LIMIT }
-    ensures ok { OnOk result (D.taken drain.new ≡ append (D.taken drain.old) (written_frame kind payload.now)) }
+    ensures ok { OnOk result (Added D.Drain drain.old (written_frame kind payload.now) drain.new) }
     ensures front { IsFront (D.taken drain.old) (D.taken drain.new) (written_frame kind payload.now) }
     ensures counts { D.failures drain.old ≤ D.failures drain.new }
     ensures stops { IfErr result (IsWriteStop (D.failures drain.old) (D.failures drain.new)) }

@@ -70,7 +70,7 @@ impl<F: Feed> FrameReader<F> {
 
     // The next frame, whose bytes are left in the buffers.
     fn advance(&mut self) -> Result<Option<Seen>, Stop>
-        ensures next { IsSeeingNext F.remaining F.failures F.lender F.carries self.old result self.new }
+        ensures next { IsSeeingNext F.remaining F.failures F.lender F.has_passed self.old result self.new }
         ensures placed { IfOk result (λ o. IfSome o IsPlaced) }
         ensures sound { IfOk result (λ o. IfSome o (λ seen. IsSound seen.kind seen.blob_at self.new.blob.items)) }
     {
@@ -103,7 +103,7 @@ impl<F: Feed> FrameReader<F> {
     /// touches no device. `None` stays `None`.
     pub fn next(&mut self) -> Result<Option<Frame<'_>>, Stop>
         ensures* after { sem 𝓛 (follows_so (the_row F.row) (the_row F.row) self.entry.ghost_name none (λ _ _. ⊤)
-            (λ new. IsLendingNext F.remaining F.failures F.lender F.carries self.old result new)) }
+            (λ new. IsLendingNext F.remaining F.failures F.lender F.has_passed self.old result new)) }
     {
         let Some(seen) = self.advance()? else {
             return Ok(None);

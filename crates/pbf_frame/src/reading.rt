@@ -3,7 +3,7 @@
 ghost use Rattle.std.specs.Prelude.{ℕ, List, None, Ok, true, ◌≡◌, ◌+◌, ◌<◌, ◌≤◌, ◌^◌, length, IfOk, OnOk, IfErr, IfSome, IfNone, vec_len, max};
 ghost use Rattle.byteorder.specs.Endian.{big_number};
 ghost use Rattle.pbf_wire.specs.Least.{least};
-ghost use Rattle.pbf_frame.specs.Devices.{HasRisen, IsAtEnd};
+ghost use Rattle.pbf_frame.specs.Devices.{HasRisen, IsAtEnd, Passes, given_prefix};
 ghost use Rattle.pbf_wire.specs.Faults.{fault};
 ghost use Rattle.pbf_frame.specs.Frames.{order_faults, prefix_at, bytes_at, header_of, known_blob_of};
 ghost use Rattle.pbf_frame.specs.Header.{head_of};
@@ -37,7 +37,7 @@ fn fill_vec<F: Feed>(feed: &mut F, buf: &mut Vec<u8>, count: usize) -> Result<()
     ensures end { OnOk result (vec_len buf.new < count → IsAtEnd (F.remaining feed.new)) }
     ensures held { vec_len buf.new ≤ max count (vec_len buf.old) }
     ensures lender { F.lender feed.new ≡ F.lender feed.old }
-    ensures carries { OnOk result ((b : List ℕ) → F.carries feed.old b → F.carries feed.new b) }
+    ensures passed { OnOk result (Passes (F.has_passed feed.old) buf.new.items (F.has_passed feed.new)) }
     ensures counts { F.failures feed.old ≤ F.failures feed.new }
     ensures stops { IfErr result (IsFillStop (F.failures feed.old) (F.failures feed.new)) }
 {
@@ -51,12 +51,13 @@ fn fill_vec<F: Feed>(feed: &mut F, buf: &mut Vec<u8>, count: usize) -> Result<()
 #[tactic(auto, unfolding(crate::specs::Frames::prefix_at))]
 fn read_prefix<F: Feed>(feed: &mut F, had_header: bool, place: u64) -> Result<Option<[u8; 4]>, Stop>
     ensures given { Gives (λ o. o) (F.remaining feed.old) (F.remaining feed.new) result (prefix_at had_header place) }
+    ensures long { IfOk result (λ o. IfSome o (λ prefix. length prefix ≡ 4)) }
     ensures small { IfOk result (λ o. IfSome o (λ prefix. big_number 4 prefix < HEADER_LIMIT)) }
     ensures ended { IfOk result (λ o. IfNone o (IsAtEnd (F.remaining feed.new))) }
     ensures header_given { IfOk result (λ o. IfNone o (had_header ≡ true)) }
     ensures untold { OnOk result (F.remaining feed.old ≡ None → F.remaining feed.new ≡ None) }
     ensures lender { F.lender feed.new ≡ F.lender feed.old }
-    ensures carries { OnOk result ((b : List ℕ) → F.carries feed.old b → F.carries feed.new b) }
+    ensures passed { IfOk result (λ o. Passes (F.has_passed feed.old) (given_prefix o) (F.has_passed feed.new)) }
     ensures counts { F.failures feed.old ≤ F.failures feed.new }
     ensures stops { IfErr result (IsReaderStop (F.failures feed.old) (F.failures feed.new)) }
 {
@@ -86,7 +87,7 @@ fn read_bytes<F: Feed>(feed: &mut F, buf: &mut Vec<u8>, count: u32, cut: Fault) 
     ensures len { OnOk result (vec_len buf.new ≡ count) }
     ensures untold { OnOk result (F.remaining feed.old ≡ None → F.remaining feed.new ≡ None) }
     ensures lender { F.lender feed.new ≡ F.lender feed.old }
-    ensures carries { OnOk result ((b : List ℕ) → F.carries feed.old b → F.carries feed.new b) }
+    ensures passed { OnOk result (Passes (F.has_passed feed.old) buf.new.items (F.has_passed feed.new)) }
     ensures counts { F.failures feed.old ≤ F.failures feed.new }
     ensures stops { IfErr result (IsReaderStop (F.failures feed.old) (F.failures feed.new)) }
 {
@@ -130,7 +131,9 @@ fn read_header<F: Feed>(
     ensures held { vec_len header.new ≤ max 65535 (vec_len header.old) }
     ensures untold { OnOk result (F.remaining feed.old ≡ None → F.remaining feed.new ≡ None) }
     ensures lender { F.lender feed.new ≡ F.lender feed.old }
-    ensures carries { OnOk result ((b : List ℕ) → F.carries feed.old b → F.carries feed.new b) }
+    ensures passed { OnOk result (Passes (F.has_passed feed.old) header.new.items (F.has_passed feed.new)) }
+    ensures spelled { OnOk result (length header.new.items ≡ big_number 4 prefix.now) }
+    ensures ordered { IfOk result (λ head. least (order_faults had_header place head.kind (place + 4 + length header.new.items + head.size)) ≡ None) }
     ensures counts { F.failures feed.old ≤ F.failures feed.new }
     ensures stops { IfErr result (IsReaderStop (F.failures feed.old) (F.failures feed.new)) }
 {
@@ -150,9 +153,8 @@ fn read_header<F: Feed>(
 // Reads past this many bytes, in pieces of the room's length.
 fn skip<F: Feed>(feed: &mut F, count: u32, room: &mut [u8], cut: Fault) -> Result<(), Stop>
     requires { 0 < length room.old }
-    ensures skips { OnOk result (Skips (F.remaining feed.old) (F.remaining feed.new) count) }
+    ensures skips { OnOk result (Skips (F.has_passed feed.old) (F.has_passed feed.new) (F.remaining feed.old) (F.remaining feed.new) count) }
     ensures lender { F.lender feed.new ≡ F.lender feed.old }
-    ensures carries { OnOk result ((b : List ℕ) → F.carries feed.old b → F.carries feed.new b) }
     ensures counts { F.failures feed.old ≤ F.failures feed.new }
     ensures stops { IfErr result (IsSkipStop (F.remaining feed.old) count cut (F.failures feed.old) (F.failures feed.new)) }
 {
@@ -183,7 +185,7 @@ fn read_known_blob<F: Feed>(
     ensures held { vec_len blob.new ≤ max size (vec_len blob.old) }
     ensures untold { OnOk result (F.remaining feed.old ≡ None → F.remaining feed.new ≡ None) }
     ensures lender { F.lender feed.new ≡ F.lender feed.old }
-    ensures carries { OnOk result ((b : List ℕ) → F.carries feed.old b → F.carries feed.new b) }
+    ensures passed { OnOk result (Passes (F.has_passed feed.old) blob.new.items (F.has_passed feed.new)) }
     ensures counts { F.failures feed.old ≤ F.failures feed.new }
     ensures stops { IfErr result (IsReaderStop (F.failures feed.old) (F.failures feed.new)) }
 {
@@ -201,12 +203,11 @@ fn read_known_blob<F: Feed>(
 // The blob after a header; one of another type is read past.
 fn read_blob<F: Feed>(feed: &mut F, blob: &mut Vec<u8>, head: Head, at: u64) -> Result<(), Stop>
     requires in_range { at + head.size ≤ 2 ^ 63 }
-    ensures gave { OnOk result (GaveBlob head.kind head.size at blob.new.items (F.remaining feed.old) (F.remaining feed.new)) }
+    ensures gave { OnOk result (GaveBlob head.kind head.size at blob.new.items (F.has_passed feed.old) (F.has_passed feed.new) (F.remaining feed.old) (F.remaining feed.new)) }
     ensures sound { OnOk result (IsSound head.kind at blob.new.items) }
     ensures refused { IfErr result (RefusedBlob head.kind head.size at (F.remaining feed.old)) }
     ensures held { vec_len blob.new ≤ max head.size (vec_len blob.old) }
     ensures lender { F.lender feed.new ≡ F.lender feed.old }
-    ensures carries { OnOk result ((b : List ℕ) → F.carries feed.old b → F.carries feed.new b) }
     ensures counts { F.failures feed.old ≤ F.failures feed.new }
     ensures stops { IfErr result (IsReaderStop (F.failures feed.old) (F.failures feed.new)) }
 {
@@ -242,15 +243,14 @@ pub(crate) fn read_frame<F: Feed>(
     place: u64,
 ) -> Result<Option<Seen>, Stop>
     requires in_range { place ≤ 2 ^ 62 }
-    ensures gave { IfOk result (λ o. IfSome o (λ seen. GaveFrame had_header place header.new.items blob.new.items seen (F.remaining feed.old) (F.remaining feed.new))) }
-    ensures ended { IfOk result (λ o. IfNone o (GaveEnd had_header place (F.remaining feed.old) (F.remaining feed.new))) }
+    ensures gave { IfOk result (λ o. IfSome o (λ seen. GaveFrame had_header place header.new.items blob.new.items seen (F.has_passed feed.old) (F.has_passed feed.new) (F.remaining feed.old) (F.remaining feed.new))) }
+    ensures ended { IfOk result (λ o. IfNone o (GaveEnd had_header place (F.has_passed feed.old) (F.has_passed feed.new) (F.remaining feed.old) (F.remaining feed.new))) }
     ensures refused { IfErr result (RefusedFrame had_header place (F.remaining feed.old)) }
     ensures later { IfOk result (λ o. IfSome o (λ seen. (place < seen.blob_at) × IsPlaced seen)) }
     ensures sound { IfOk result (λ o. IfSome o (λ seen. IsSound seen.kind seen.blob_at blob.new.items)) }
     ensures header_held { vec_len header.new ≤ max 65535 (vec_len header.old) }
     ensures blob_held { vec_len blob.new ≤ max LARGEST_SIZE (vec_len blob.old) }
     ensures lender { F.lender feed.new ≡ F.lender feed.old }
-    ensures carries { OnOk result ((b : List ℕ) → F.carries feed.old b → F.carries feed.new b) }
     ensures counts { F.failures feed.old ≤ F.failures feed.new }
     ensures stops { IfErr result (IsReaderStop (F.failures feed.old) (F.failures feed.new)) }
 {

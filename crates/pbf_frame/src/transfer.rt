@@ -1,7 +1,8 @@
 //! Loops over a device, however it cuts the bytes.
 
-ghost use Rattle.std.specs.Prelude.{◌≡◌, ◌<◌, ◌≤◌, ℕ, List, length, take, IfOk, OnOk, OnErr};
-ghost use Rattle.pbf_frame.specs.Devices.{prepend, append, IsAtEnd, HasRisen, IsFront};
+ghost use Rattle.std.specs.Prelude.{◌≡◌, ◌<◌, ◌≤◌, length, take, IfOk, OnOk, OnErr};
+ghost use Rattle.pbf_frame.specs.Devices.{prepend, Passes, IsAtEnd, HasRisen, IsFront};
+ghost use Rattle.pbf_frame.specs.Transfers.{Added};
 
 use crate::device::{Drain, Feed};
 use crate::stop::{DrainFault, FeedFault};
@@ -11,7 +12,7 @@ pub(crate) fn fill<F: Feed>(feed: &mut F, buf: &mut [u8]) -> Result<usize, FeedF
     ensures bound { IfOk result (λ n. n ≤ length buf.old) }
     ensures bytes { IfOk result (λ n. F.remaining feed.old ≡ prepend (take n buf.new) (F.remaining feed.new)) }
     ensures end { IfOk result (λ n. n < length buf.old → IsAtEnd (F.remaining feed.new)) }
-    ensures carries { OnOk result ((b : List ℕ) → F.carries feed.old b → F.carries feed.new b) }
+    ensures passed { IfOk result (λ n. Passes (F.has_passed feed.old) (take n buf.new) (F.has_passed feed.new)) }
     ensures counts { F.failures feed.old ≤ F.failures feed.new }
     ensures failed { OnErr result (HasRisen (F.failures feed.old) (F.failures feed.new)) }
     ensures lender { F.lender feed.new ≡ F.lender feed.old }
@@ -29,7 +30,7 @@ pub(crate) fn fill<F: Feed>(feed: &mut F, buf: &mut [u8]) -> Result<usize, FeedF
 
 /// Writes all of the bytes; after a failure a prefix of them went out. It takes no memory.
 pub fn write_all<D: Drain>(drain: &mut D, bytes: &[u8]) -> Result<(), DrainFault>
-    ensures ok { OnOk result (D.taken drain.new ≡ append (D.taken drain.old) bytes.now) }
+    ensures ok { OnOk result (Added D.Drain drain.old bytes.now drain.new) }
     ensures front { IsFront (D.taken drain.old) (D.taken drain.new) bytes.now }
     ensures counts { D.failures drain.old ≤ D.failures drain.new }
     ensures failed { OnErr result (HasRisen (D.failures drain.old) (D.failures drain.new)) }

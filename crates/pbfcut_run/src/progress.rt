@@ -93,7 +93,7 @@ impl<F: Feed> Feed for Watched<F> {
 
     ghost lender = { λ w. F.lender w.feed };
 
-    ghost carries = { λ w b. F.carries w.feed b };
+    ghost has_passed = { λ w log b. F.has_passed w.feed log b };
 
     fn read(&mut self, buf: &mut [u8]) -> Result<usize, FeedFault> {
         let count = self.feed.read(buf)?;

@@ -3,7 +3,7 @@ use Rattle.pbf_frame.proofs.FrontLemmas.{gave_skipped, refused_skip}
 use Rattle.pbf_frame.proofs.reading.read_blob.Goals as goal
 
 pub returns-in_ok-skip-in-Other-clause-gave : goal.returns-in_ok-skip-in-Other-clause-gave
-returns-in_ok-skip-in-Other-clause-gave g c = gave_skipped _ _ _ _ _ _ c.in-Other.is c.in_ok-skip-in-Other.ensures.skips c.clear.ensures.items
+returns-in_ok-skip-in-Other-clause-gave g c = gave_skipped _ _ _ _ _ _ _ _ c.in-Other.is c.in_ok-skip-in-Other.ensures.skips c.clear.ensures.items
 
 pub returns-in_err-skip-in-Other-clause-refused : goal.returns-in_err-skip-in-Other-clause-refused
 returns-in_err-skip-in-Other-clause-refused g c =

@@ -13,8 +13,7 @@ loop-left-preserved g c =
     let room : 0 < length (c.fill.new.buf) + length (drop piece c.loop-left.room) = omega (arith, whole, length-drop piece c.loop-left.room) in
     record {
       within = omega arith;
-      skips = skips_more _ _ _ _ piece _ _ so_far.skips c.in_ok-read.ensures.bytes (length-take-le c.in_ok-read.read c.fill.new.buf (omega (arith, whole, read)) ∙ read) (omega (arith, so_far.within));
-      carries = λ b before. c.in_ok-read.ensures.carries b (so_far.carries b before);
+      skips = skips_more _ _ _ _ _ _ _ piece _ _ so_far.skips c.in_ok-read.ensures.bytes c.in_ok-read.ensures.passed (length-take-le c.in_ok-read.read c.fill.new.buf (omega (arith, whole, read)) ∙ read) (omega (arith, so_far.within));
       counts = omega (arith, c.fill.ensures.counts);
       lender = c.fill.ensures.lender ∙ so_far.lender;
       room = omega (arith, room, length-append c.fill.new.buf (drop piece c.loop-left.room));

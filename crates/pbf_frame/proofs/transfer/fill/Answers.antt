@@ -1,7 +1,8 @@
-use Rattle.std.proofs.Common.{ℕ, List, sym, ◌∙◌, ap, arith}
+use Rattle.std.proofs.Common.{ℕ, List, take, sym, ◌∙◌, ap, arith}
 use Rattle.std.proofs.lemmas.List.{length-drop, take_rest}
 use Rattle.pbf_frame.specs.Devices.{prepend}
 use Rattle.pbf_frame.proofs.KnownBytes.{prepend_more, take_read, length_read}
+use Rattle.pbf_frame.proofs.Passed.{passes_same, passes_more}
 use Rattle.pbf_frame.proofs.transfer.fill.Goals as goal
 
 pub loop-done-preserved : goal.loop-done-preserved
@@ -12,10 +13,11 @@ loop-done-preserved g c =
     let left = rw (take_rest buf done, length-drop done buf) at c.in_ok-count.ensures.bound in
     let long = rw (take_rest buf done, length-drop done buf) at c.read.auto.buf in
     let same = length_read done buf c.read.new.buf so_far.within long in
+    let read = take_read done c.in_ok-count.count buf c.read.new.buf so_far.within long (omega (arith, left, long)) in
     record {
       within = omega (arith, left, same, so_far.within);
-      bytes = prepend_more _ _ _ _ _ so_far.bytes c.in_ok-count.ensures.bytes ∙ ap (λ (xs : List ℕ). prepend xs (g.F.Feed.remaining c.read.new.self)) (sym (take_read done c.in_ok-count.count buf c.read.new.buf so_far.within long (omega (arith, left, long))));
-      carries = λ b before. c.in_ok-count.ensures.carries b (so_far.carries b before);
+      bytes = prepend_more _ _ _ _ _ so_far.bytes c.in_ok-count.ensures.bytes ∙ ap (λ (xs : List ℕ). prepend xs (g.F.Feed.remaining c.read.new.self)) (sym read);
+      passed = passes_same (g.F.Feed.has_passed c.args.feed.now) (g.F.Feed.has_passed c.read.new.self) _ _ (sym read) (passes_more (g.F.Feed.has_passed c.args.feed.now) (g.F.Feed.has_passed c.loop-done.feed) (g.F.Feed.has_passed c.read.new.self) (take done buf) (take c.in_ok-count.count c.read.new.buf) so_far.passed c.in_ok-count.ensures.passed);
       counts = omega (arith, c.read.ensures.counts);
       lender = c.read.ensures.lender ∙ so_far.lender;
     }

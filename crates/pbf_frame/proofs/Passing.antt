@@ -1,0 +1,44 @@
+-- The bytes that passed, put together; and the frame that was read part by part.
+use Rattle.std.proofs.Common.{◌≡◌, ℕ, ◌+◌, ◌<◌, Bool, List, [], ◌++◌, Option, Some, None, Ok, length, refl}
+use Rattle.byteorder.specs.Endian.{big_number}
+use Rattle.pbf_wire.specs.Least.{least}
+use Rattle.pbf_frame.specs.declared.frame.FrameKind.{FrameKind}
+use Rattle.pbf_frame.specs.declared.frame.FrameKind.TheVariants as kind
+use Rattle.pbf_frame.specs.declared.header.Head.{Head}
+use Rattle.pbf_frame.specs.declared.header.TheConstants.{HEADER_LIMIT}
+use Rattle.pbf_frame.specs.Frames.{FrameSpec, order_faults}
+use Rattle.pbf_frame.specs.Header.{head_of}
+use Rattle.pbf_frame.specs.Reads.{Holds, Skips}
+use Rattle.pbf_frame.specs.Sound.{IsFrame, IsSound}
+use Rattle.pbf_frame.proofs.Parting.{FrameParts}
+use Rattle.pbf_frame.proofs.Longest.{frame_at}
+use Rattle.pbf_frame.proofs.Passed.{passes_none}
+
+-- nothing is skipped
+pub skips_none : (now : ℕ → List ℕ → Type 0) (known : Option (List ℕ)) → Skips now now known known 0
+skips_none now None = record { skipped = []; long = refl; gone = refl; passed = passes_none now }
+skips_none now (Some rest) = record { skipped = []; long = refl; gone = refl; passed = passes_none now }
+
+sound_held : (k : FrameKind) (at : ℕ) (blob held : List ℕ) → Holds k at blob held → IsSound k at blob
+sound_held kind.Header at blob held holds = holds.1
+sound_held kind.Data at blob held holds = holds.1
+sound_held kind.Other at blob held holds = tt
+
+-- what was read part by part is a frame without a fault
+pub frame_read : (h : Bool) (p : ℕ) (prefix header blob held : List ℕ) (head : Head) → length prefix ≡ 4 → big_number 4 prefix < HEADER_LIMIT → length header ≡ big_number 4 prefix → head_of (p + 4) header ≡ Ok head
+    → least (order_faults h p head.kind (p + 4 + length header + head.size)) ≡ None → length blob ≡ head.size → Holds head.kind (p + 4 + length header) blob held
+    → IsFrame h p (record { offset = p; prefix = prefix; header = header; blob = blob })
+frame_read h p prefix header blob held head prefix_long small long says ordered sized holds =
+    let f : FrameSpec = record { offset = p; prefix = prefix; header = header; blob = blob } in
+    let parts : FrameParts h p (prefix ++ (header ++ (blob ++ []))) f [] = record {
+      head = head;
+      left = header ++ (blob ++ []);
+      last = blob ++ [];
+      offset = refl;
+      split = refl;
+      prefix_long = prefix_long;
+      small = small;
+      header_is = record { split = refl; long = long; says = says; ordered = ordered };
+      blob_is = record { split = refl; long = sized; sound = sound_held head.kind (p + 4 + length header) blob held holds };
+    } in
+    frame_at h (prefix ++ (header ++ (blob ++ []))) f [] parts
