@@ -38,3 +38,7 @@ module _ {D : Type 0} (d : drain.Ghosts D) where
 
   pub added_same : (old new : D) (xs ys : List ℕ) → xs ≡ ys → Added d old xs new → Added d old ys new
   added_same old new xs ys e added = subst (λ (l : List ℕ). Added d old l new) e added
+
+  -- the same of devices that are equal
+  pub added_as : (first old last new : D) (xs : List ℕ) → first ≡ old → last ≡ new → Added d first xs last → Added d old xs new
+  added_as first old last new xs e f added = subst (λ x. Added d x xs new) e (subst (λ x. Added d first xs x) f added)

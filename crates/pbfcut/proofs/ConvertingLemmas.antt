@@ -1,5 +1,5 @@
 -- A file's conversion, from what its passes say.
-use Rattle.std.proofs.Common.{◌≡◌, ℕ, List, [], ◌∷◌, Option, Some, None, subst, refl, sym, ap, ◌∙◌}
+use Rattle.std.proofs.Common.{◌≡◌, ℕ, ◌≤◌, ◌^◌, List, [], ◌∷◌, length, Option, Some, None, subst, refl, sym, ap, ◌∙◌}
 use Rattle.std.specs.List.{filter}
 use Rattle.std.specs.Option.{option_map}
 use Rattle.pbf_wire.specs.declared.fault.Fault.{Fault}
@@ -7,7 +7,7 @@ use Rattle.osm_entity.specs.Entity.{EntitySpec}
 use Rattle.osm_pack.specs.Cuts.{written_file}
 use Rattle.pbf_block.specs.declared.header.Header.{Header}
 use Rattle.pbf_block.specs.Header.{HeaderSpec, header_of}
-use Rattle.pbf_frame.specs.Devices.{append, IsFront}
+use Rattle.pbf_frame.specs.Devices.{IsFront}
 use Rattle.pbf_frame.specs.Frames.{FrameSpec}
 use Rattle.pbf_frame.specs.Verdict.{Verdict, Says}
 use Rattle.pbf_frame.proofs.KnownBytes.{append_none}
@@ -19,7 +19,8 @@ use Rattle.pbfcut.specs.Calls.{Converted}
 use Rattle.pbfcut.specs.Converting.{header_limit, with_limit, limited, judged_writable, held_header, answer_bytes, conversion, CanBeWritten}
 use Rattle.pbfcut.specs.Counting.{counts_of, stored_entities}
 use Rattle.pbfcut.specs.Judged.{judged_file}
-use Rattle.pbfcut.specs.Kept.{conversion_of}
+use Rattle.pbfcut.specs.Kept.{verdict_on, conversion_of, IsWritable, IsConversion}
+use Rattle.pbfcut.proofs.GivenLemmas.{Tells}
 use Rattle.pbfcut.proofs.KeptLaw.{same_verdict, conversion_kept}
 use Rattle.pbfcut.specs.Pick.{everything, pick_of, Packed, PacksFront}
 use Rattle.pbfcut.specs.Stops.{FaultOf}
@@ -113,19 +114,30 @@ passed gathered before now b pass h known is p held within =
 answer_is : (frames : List FrameSpec) (at : ℕ) (h : HeaderSpec) → file_header frames ≡ Some (at, h) → written_file h (filter (pick_of selection.Everything) (stored_entities frames)) ≡ answer_bytes (frames, None)
 answer_is frames at h e = ap (λ (l : List EntitySpec). written_file h l) (everything_picked (stored_entities frames)) ∙ ap (λ (o : Option (ℕ × HeaderSpec)). conversion o (stored_entities frames)) (sym e)
 
-pub converted : (b : List ℕ) (pass : Pass) (h : HeaderSpec) (counts : Counts) (known : Option Verdict) (old new : Option (List ℕ)) → known ≡ judged_file (Some b) → Passed b pass h → Packed (pick_of selection.Everything) h known old new counts
-    → Converted b counts old new
-converted b pass h counts known old new is p went =
+pub converted : (b : List ℕ) (pass : Pass) (h : HeaderSpec) (counts : Counts) (known : Option Verdict) (written : List ℕ) → known ≡ judged_file (Some b) → Passed b pass h → Packed (pick_of selection.Everything) h counts known written
+    → Converted b counts written
+converted b pass h counts known written is p went =
     let same = same_frames b p.frames went.frames p.judged (known_says b (went.frames, None) (subst (λ (k : Option Verdict). Says k (went.frames, None)) is went.says)) in
     let all = ap stored_entities same in
     let verdict = same_verdict b p.frames p.writable in
     let sound = ap (λ (v : Verdict). v.1) verdict in
+    let whole = went.is ∙ (ap (λ (l : List EntitySpec). written_file h (filter (pick_of selection.Everything) l)) all ∙ (answer_is p.frames pass.header_at h p.header ∙ ap answer_bytes (sym verdict))) in
     record {
       sound = sound;
-      taken = went.taken ∙ ap (λ (l : List ℕ). append old l) (ap (λ (l : List EntitySpec). written_file h (filter (pick_of selection.Everything) l)) all ∙ (answer_is p.frames pass.header_at h p.header ∙ ap answer_bytes (sym verdict)));
+      is = whole;
       counted = went.counted ∙ ap (λ (l : List EntitySpec). counts_of l) (everything_picked (stored_entities went.frames) ∙ (all ∙ ap (λ (v : Verdict). stored_entities v.0) (sym verdict)));
-      kept = λ small. conversion_kept b sound small;
+      kept = subst (λ (l : List ℕ). length l ≤ 2 ^ 62 → IsConversion b l) (sym whole) (λ small. conversion_kept b sound small);
     }
+
+-- what the first pass says of its file
+pub passed_sound : (b : List ℕ) (pass : Pass) (h : HeaderSpec) → Passed b pass h → IsWritable b
+passed_sound b pass h p = ap (λ (v : Verdict). v.1) (same_verdict b p.frames p.writable)
+
+pub can_told : (known : Option (List ℕ)) (file : List ℕ) → Tells known file → IsWritable file → CanBeWritten (judged_writable known)
+can_told None file tells sound = ([], tt)
+can_told (Some b) file tells sound =
+    let v = verdict_on b in
+    (v.0, ap (λ (o : Option Fault). let w : Verdict = (v.0, o) in w) (subst (λ (l : List ℕ). IsWritable l) (tells b refl) sound))
 
 pub converts_front : (b : List ℕ) (pass : Pass) (h : HeaderSpec) (known : Option Verdict) (old new : Option (List ℕ)) → known ≡ judged_file (Some b) → Passed b pass h → PacksFront (pick_of selection.Everything) h known old new → IsFront old new (conversion_of b)
 converts_front b pass h known old new is p front =

@@ -1,8 +1,7 @@
 -- A file's extract, from what its passes say.
-use Rattle.std.proofs.Common.{◌≡◌, ℕ, List, [], ◌∷◌, map, Bor, Bool, Option, Some, None, subst, refl, sym, ap, ◌∙◌}
+use Rattle.std.proofs.Common.{◌≡◌, ℕ, ◌≤◌, ◌^◌, length, List, [], ◌∷◌, map, Bor, Bool, Option, Some, None, subst, refl, sym, ap, ◌∙◌}
 use Rattle.std.specs.FinSet as set
 use Rattle.std.specs.List.{fold, filter}
-use Rattle.std.specs.Prelude.{IfSome}
 use Rattle.std.specs.Option.{option_map}
 use Rattle.sha2.specs.Sha256.{sha256}
 use Rattle.std.proofs.lemmas.List.Elements.{filter_agree}
@@ -22,7 +21,7 @@ use Rattle.pbf_block.specs.Header.{HeaderSpec}
 use Rattle.pbf_block.specs.WrittenHeader.{header_out_for_box, edges_of, EdgesTyped}
 use Rattle.pbf_frame.specs.declared.stop.Stop.{Stop}
 use Rattle.pbf_frame.specs.declared.stop.Stop.TheVariants as stop
-use Rattle.pbf_frame.specs.Devices.{append, IsFront}
+use Rattle.pbf_frame.specs.Devices.{IsFront}
 use Rattle.pbf_frame.specs.Frames.{FrameSpec}
 use Rattle.pbf_frame.specs.Verdict.{Verdict, Says}
 use Rattle.pbf_frame.proofs.Parting.{none_some}
@@ -33,9 +32,10 @@ use Rattle.pbfcut.specs.Converting.{header_limit, limited, judged_writable, held
 use Rattle.pbfcut.specs.Counting.{counts_of, stored_entities}
 use Rattle.pbfcut.specs.Calls.{Extracted, Differ, ChangedIn}
 use Rattle.pbfcut.specs.Extracting.{Choice, complete_ways, all_parents, extraction, extract_bytes, Chooses, ChoosesParents}
-use Rattle.pbfcut.specs.Kept.{verdict_on, extract_of}
+use Rattle.pbfcut.specs.Kept.{verdict_on, extract_of, IsWritable, IsExtract}
+use Rattle.pbfcut.proofs.GivenLemmas.{IsDigest}
 use Rattle.pbfcut.proofs.KeptLaw.{IsSelection, same_verdict, extract_kept}
-use Rattle.pbfcut.specs.Pass.{with_node, with_way, with_relation, TakesFile, IsDigest, file_header}
+use Rattle.pbfcut.specs.Pass.{with_node, with_way, with_relation, TakesFile, file_header}
 use Rattle.pbfcut.specs.declared.repeat.Repeat.{Repeat}
 use Rattle.pbfcut.specs.Repeat.{GathersAgain, Unlike, StopsAgain, SameDigest}
 use Rattle.pbfcut.specs.Stops.{Caused}
@@ -112,15 +112,16 @@ module _ (choose : Choice) (select : List Decoded → List Decoded) (selection :
   answer : written_file h (filter pick (stored_entities s.frames)) ≡ extract_of choose area b
   answer = ap (λ (l : List EntitySpec). written_file h l) s.picked ∙ (sym s.bytes ∙ ap (λ (v : Verdict). extract_bytes choose area v) (sym verdict))
 
-  pub extracted : (counts : Counts) (known : Option Verdict) (old new : Option (List ℕ)) → known ≡ judged_file (Some b) → Packed pick h known old new counts → Extracted choose select area b counts old new
-  extracted counts known old new is went =
+  pub extracted : (counts : Counts) (known : Option Verdict) (written : List ℕ) → known ≡ judged_file (Some b) → Packed pick h counts known written → Extracted choose select area b counts written
+  extracted counts known written is went =
       let same = same_frames b s.frames went.frames s.judged (known_says b (went.frames, None) (subst (λ (k : Option Verdict). Says k (went.frames, None)) is went.says)) in
       let sound = ap (λ (v : Verdict). v.1) verdict in
+      let whole = went.is ∙ (ap (λ (l : List FrameSpec). written_file h (filter pick (stored_entities l))) same ∙ answer) in
       record {
         sound = sound;
-        taken = went.taken ∙ ap (λ (l : List ℕ). append old l) (ap (λ (l : List FrameSpec). written_file h (filter pick (stored_entities l))) same ∙ answer);
+        is = whole;
         counted = went.counted ∙ ap (λ (l : List EntitySpec). counts_of l) (ap (λ (l : List FrameSpec). filter pick (stored_entities l)) same ∙ (s.picked ∙ ap (λ (v : Verdict). choose (stored_entities v.0)) (sym verdict)));
-        kept = λ small. extract_kept choose select selection area edges b sound small;
+        kept = subst (λ (l : List ℕ). length l ≤ 2 ^ 62 → IsExtract choose select area b l) (sym whole) (λ small. extract_kept choose select selection area edges b sound small);
       }
 
   pub extracts_front : (known : Option Verdict) (old new : Option (List ℕ)) → known ≡ judged_file (Some b) → PacksFront pick h known old new → IsFront old new (extract_of choose area b)
@@ -128,9 +129,9 @@ module _ (choose : Choice) (select : List Decoded → List Decoded) (selection :
 
 -- ---- the passes that choose
 
-pub chooses : (area : BoundingBox) (first : Option Verdict) (second : Option (List ℕ)) (pass : Pass) (header h : HeaderSpec) (begun nodes : NodeSets) (started ways sets : WaySets) (digest : List ℕ) → TakesFile with_node first begun nodes pass → begun ≡ start_nodes area
-    → held_header pass ≡ Some (pass.header_at, header) → header_limit (held_header pass) ≡ None → h ≡ header_out_for_box area header → started ≡ start_ways nodes.box_ids → GathersAgain with_way second digest started ways → sets ≡ ways → Chooses area first (judged_file second) sets h
-chooses area first second pass header h begun nodes started ways sets digest p new held within is starts more ends =
+pub chooses : (area : BoundingBox) (first second : Option Verdict) (pass : Pass) (header h : HeaderSpec) (begun nodes : NodeSets) (started ways sets : WaySets) → TakesFile with_node first begun nodes pass → begun ≡ start_nodes area
+    → held_header pass ≡ Some (pass.header_at, header) → header_limit (held_header pass) ≡ None → h ≡ header_out_for_box area header → started ≡ start_ways nodes.box_ids → GathersAgain with_way second started ways → sets ≡ ways → Chooses area first second sets h
+chooses area first second pass header h begun nodes started ways sets p new held within is starts more ends =
     let told = held_is (file_header p.frames) pass p.header in
     record {
       frames = p.frames;
@@ -142,21 +143,20 @@ chooses area first second pass header h begun nodes started ways sets digest p n
       chosen = ends ∙ (more.gathered_all ∙ ap (λ (s : WaySets). fold with_way s (stored_entities more.frames)) (starts ∙ ap (λ (s : NodeSets). start_ways s.box_ids) (p.gathered_all ∙ ap (λ (s : NodeSets). fold with_node s (stored_entities p.frames)) new)));
     }
 
-pub can_be_written : (area : BoundingBox) (first second : Option Verdict) (sets : WaySets) (h : HeaderSpec) → Chooses area first second sets h → CanBeWritten (option_map limited first)
-can_be_written area first second sets h c = (c.frames, limited_sound first c.frames c.judged c.within)
+-- the first file can be written
+pub chosen_sound : (area : BoundingBox) (b : List ℕ) (second : Option Verdict) (sets : WaySets) (h : HeaderSpec) → Chooses area (judged_file (Some b)) second sets h → IsWritable b
+chosen_sound area b second sets h c = ap (λ (v : Verdict). v.1) (same_verdict b c.frames (judged_sound b c.frames (known_says b (c.frames, None) c.judged) c.within))
 
 -- ---- why a call stops
 
 -- the bytes of a later pass that are unlike the digest are unlike the first pass's bytes
-pub later_differs : (first other : Option (List ℕ)) (digest : List ℕ) (frames : List FrameSpec) → IfSome first (λ bytes. digest ≡ sha256 bytes) → Says (judged_file first) (frames, None) → Unlike other digest → Differ first other
+pub later_differs : (first other : Option (List ℕ)) (digest : List ℕ) (frames : List FrameSpec) → IsDigest first digest → Says (judged_file first) (frames, None) → Unlike other digest → Differ first other
 later_differs first other digest frames same says unlike b c is too e =
-    let known = subst (λ (o : Option (List ℕ)). IfSome o (λ bytes. digest ≡ sha256 bytes)) is same in
     let judged = known_says b (frames, None) (subst (λ (o : Option (List ℕ)). Says (judged_file o) (frames, None)) is says) in
-    unlike c frames too (known ∙ ap sha256 e) (ap (λ (l : List ℕ). judged_file (Some l)) (sym e) ∙ judged)
+    unlike c frames too (same b is ∙ ap sha256 e) (ap (λ (l : List ℕ). judged_file (Some l)) (sym e) ∙ judged)
 
 pub same_digest : (first other : Option (List ℕ)) (digest : List ℕ) → IsDigest first digest → IsDigest other digest → SameDigest first other
-same_digest first other digest one two b c is too =
-    sym (subst (λ (o : Option (List ℕ)). IsDigest o digest) is one) ∙ subst (λ (o : Option (List ℕ)). IsDigest o digest) too two
+same_digest first other digest one two b c is too = sym (one b is) ∙ two c too
 
 -- the stops of a later pass, as those of the call
 pub stops_later : (again : Repeat) (first other : Option (List ℕ)) (digest : List ℕ) (frames : List FrameSpec) (refused : Fault → Type 0) (read later wrote : Type 0) (changed : ℕ → Type 0) (s : Stop) → IsDigest first digest → Says (judged_file first) (frames, None) → again.digest ≡ digest
@@ -222,9 +222,9 @@ selects_parents chosen area b first second third h is too more p =
       picked = parents_are area es chosen.now (p.kept ∙ ap (λ (r : RelationSets). r.ways) relations) (subst (λ (r : RelationSets). IsLeast (set.contains r.links) r.start chosen.now.relation_ids) relations p.least);
     }
 
-pub chooses_parents : (area : BoundingBox) (first second : Option Verdict) (third : Option (List ℕ)) (ways : WaySets) (h : HeaderSpec) (begun relations : RelationSets) (sets : ParentSets) (digest : List ℕ) → Chooses area first second ways h → begun ≡ start_relations ways → GathersAgain with_relation third digest begun relations
-    → sets.ways ≡ relations.ways → IsLeast (set.contains relations.links) relations.start sets.relation_ids → ChoosesParents area first second (judged_file third) sets h
-chooses_parents area first second third ways h begun relations sets digest chosen starts more kept least = record {
+pub chooses_parents : (area : BoundingBox) (first second third : Option Verdict) (ways : WaySets) (h : HeaderSpec) (begun relations : RelationSets) (sets : ParentSets) → Chooses area first second ways h → begun ≡ start_relations ways → GathersAgain with_relation third begun relations
+    → sets.ways ≡ relations.ways → IsLeast (set.contains relations.links) relations.start sets.relation_ids → ChoosesParents area first second third sets h
+chooses_parents area first second third ways h begun relations sets chosen starts more kept least = record {
   ways = ways;
   chosen = chosen;
   frames = more.frames;

@@ -4,6 +4,8 @@ pub mod StepLemmas
 pub mod ShowingLemmas
 pub mod FileLaw
 pub mod GatherLemmas
+pub mod ReadingLemmas
+pub mod GivenLemmas
 pub mod PickingLemmas
 pub mod ConvertingLemmas
 pub mod ExtractingLemmas

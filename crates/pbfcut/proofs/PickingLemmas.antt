@@ -17,10 +17,11 @@ use Rattle.pbf_frame.specs.Next.{Gave, verdict}
 use Rattle.pbf_frame.specs.Reads.{IsReaderStop}
 use Rattle.pbfcut.specs.declared.pass.Pass.{Pass}
 use Rattle.pbf_frame.specs.Devices.{append, HasRisen, IsFront}
+use Rattle.pbf_frame.specs.Transfers.{Added}
 use Rattle.pbf_frame.specs.Frames.{FrameSpec}
 use Rattle.pbf_frame.specs.Verdict.{Verdict, with_first_known}
 use Rattle.pbf_frame.proofs.Beginnings.{front_whole, front_longer, front_then}
-use Rattle.pbf_frame.proofs.KnownBytes.{append_append, append_none}
+use Rattle.pbf_frame.proofs.Passed.{added_none, added_more, added_same}
 use Rattle.osm_pack.specs.Cuts.{header_frame, written_file, written_entities, then_pending, then_written, at_end, pending_after, written_after}
 use Rattle.osm_pack.specs.Packing.{Packing, Pending}
 use Rattle.osm_pack.specs.Stops.{IsPackStop}
@@ -31,7 +32,8 @@ use Rattle.std.proofs.lemmas.Grind.{flat_map-append}
 use Rattle.pbf_frame.specs.Verdict.{Gone, Says, with_all}
 use Rattle.pbf_frame.proofs.VerdictLemmas.{gone_more, gone_split}
 use Rattle.pbfcut.specs.Counting.{stored_entities, frame_entities}
-use Rattle.pbfcut.specs.Judged.{payload_fault, fully, fully_known}
+use Rattle.pbfcut.specs.Judged.{payload_fault, fully, fully_known, judged_file}
+use Rattle.pbfcut.proofs.GivenLemmas.{Tells, says_told}
 use Rattle.pbfcut.proofs.CountLemmas.{CountedOn}
 use Rattle.pbfcut.proofs.StepLemmas.{StoppedStep, fully_first, picked_one}
 use Rattle.pbf_block.specs.declared.counts.Counts.{Counts}
@@ -124,113 +126,122 @@ pub last_front : (pick : Pick) (start now : Option (List ℕ)) (first : Option V
 last_front pick start now first fs all says is front = subst (λ (l : List FrameSpec). IsFront start now (written_entities (filter pick (stored_entities l)))) (sym (told_frames first fs all says is)) front
 
 -- the whole is a beginning of itself
-pub packed_front : (pick : Pick) (h : HeaderSpec) (known : Option Verdict) (old new : Option (List ℕ)) (counts : Counts) → Packed pick h known old new counts → PacksFront pick h known old new
-packed_front pick h known old new counts p all is =
-    subst (λ (l : List FrameSpec). IsFront old new (written_file h (filter pick (stored_entities l)))) (sym (told_frames known p.frames all p.says is)) (front_whole old new (written_file h (filter pick (stored_entities p.frames))) p.taken)
+pub packed_front : (pick : Pick) (h : HeaderSpec) (counts : Counts) (known : Option Verdict) (old new : Option (List ℕ)) (written : List ℕ) → Packed pick h counts known written → new ≡ append old written → PacksFront pick h known old new
+packed_front pick h counts known old new written p taken all is =
+    subst (λ (l : List FrameSpec). IsFront old new (written_file h (filter pick (stored_entities l)))) (sym (told_frames known p.frames all p.says is))
+    (front_whole old new (written_file h (filter pick (stored_entities p.frames))) (taken ∙ ap (append old) p.is))
 
-module _ {D S H : Type 0} where
+-- the same of the file that is reported
+pub packed_told : (pick : Pick) (h : HeaderSpec) (counts : Counts) (known : Option (List ℕ)) (file written : List ℕ) → Tells known file → Packed pick h counts (judged_file (Some file)) written → Packed pick h counts (judged_file known) written
+packed_told pick h counts known file written tells p = record {
+  frames = p.frames;
+  says = says_told known file (p.frames, None) tells p.says;
+  counted = p.counted;
+  is = p.is;
+}
+
+module _ {D S H : Type 0} (d : drain.Ghosts D) where
   -- one entity more is packed
-  packed_push : (start : Option (List ℕ)) (done : List EntitySpec) (e : EntitySpec) (before now : Option (List ℕ)) (old new : Packing D S H) → HasPacked start done before old → EntityFits e
-      → ((es : List EntitySpec) → Pending old es → Pending new (then_pending es e)) → ((es : List EntitySpec) → Pending old es → now ≡ append before (then_written es e)) → HasPacked start (done ++ e ∷ []) now new
-  packed_push start done e before now old new h fits p t = record {
+  packed_push : (start : D) (done : List EntitySpec) (e : EntitySpec) (old new : Packing D S H) → HasPacked d start done old → EntityFits e
+      → ((es : List EntitySpec) → Pending old es → Pending new (then_pending es e)) → ((es : List EntitySpec) → Pending old es → Added d old.drain (then_written es e) new.drain) → HasPacked d start (done ++ e ∷ []) new
+  packed_push start done e old new h fits p t = record {
     fits = all_push EntityFits done e h.fits fits;
-    taken_is = t (pending_after [] done) h.pending
-        ∙ (ap (λ (k : Option (List ℕ)). append k (then_written (pending_after [] done) e)) h.taken_is
-        ∙ (append_append start (written_after [] done) (then_written (pending_after [] done) e) ∙ ap (append start) (sym (written_push [] done e))));
+    added = added_same d start new.drain _ _ (sym (written_push [] done e)) (added_more d start old.drain new.drain (written_after [] done) (then_written (pending_after [] done) e) h.added (t (pending_after [] done) h.pending));
     pending = subst (λ es. Pending new es) (sym (pending_push [] done e)) (p (pending_after [] done) h.pending);
   }
 
   -- what went out begins what is written for all that come
-  pub begins_packed : (start : Option (List ℕ)) (done : List EntitySpec) (taken : Option (List ℕ)) (packer : Packing D S H) → HasPacked start done taken packer → BeginsAll start done taken
-  begins_packed start done taken packer h rest =
-      subst (λ (l : List ℕ). IsFront start taken l) (run_keeps [] done rest kept_none h.fits)
-      (front_longer start taken (written_after [] done) (written_entities (pending_after [] done ++ rest)) (front_whole start taken (written_after [] done) h.taken_is))
+  pub begins_packed : (start : D) (done : List EntitySpec) (packer : Packing D S H) → HasPacked d start done packer → BeginsAll (d.taken start) done (d.taken packer.drain)
+  begins_packed start done packer h rest =
+      subst (λ (l : List ℕ). IsFront (d.taken start) (d.taken packer.drain) l) (run_keeps [] done rest kept_none h.fits)
+      (front_longer (d.taken start) (d.taken packer.drain) (written_after [] done) (written_entities (pending_after [] done ++ rest)) (front_whole (d.taken start) (d.taken packer.drain) (written_after [] done) h.added.told))
 
   -- the same where a push stopped
-  begins_push : (start : Option (List ℕ)) (done : List EntitySpec) (e : EntitySpec) (before now : Option (List ℕ)) (packer : Packing D S H) → HasPacked start done before packer → EntityFits e
-      → ((es : List EntitySpec) → Pending packer es → IsFront before now (then_written es e)) → (rest : List EntitySpec) → IsFront start now (written_entities (done ++ e ∷ rest))
-  begins_push start done e before now packer h fits f rest =
+  begins_push : (start : D) (done : List EntitySpec) (e : EntitySpec) (packer new : Packing D S H) → HasPacked d start done packer → EntityFits e
+      → ((es : List EntitySpec) → Pending packer es → IsFront (d.taken packer.drain) (d.taken new.drain) (then_written es e)) → (rest : List EntitySpec) → IsFront (d.taken start) (d.taken new.drain) (written_entities (done ++ e ∷ rest))
+  begins_push start done e packer new h fits f rest =
       let es = pending_after [] done in
       let all : (written_after [] done ++ then_written es e) ++ written_entities (then_pending es e ++ rest) ≡ written_entities (done ++ e ∷ rest) =
       append_assoc (written_after [] done) (then_written es e) _
       ∙ (ap (λ (l : List ℕ). written_after [] done ++ l) (push_keeps es e rest (run_kept [] done kept_none h.fits) (alone e fits)) ∙ run_keeps [] done (e ∷ rest) kept_none h.fits) in
-      subst (λ (l : List ℕ). IsFront start now l) all
-      (front_longer start now (written_after [] done ++ then_written es e) (written_entities (then_pending es e ++ rest)) (front_then start before now (written_after [] done) (then_written es e) h.taken_is (f es h.pending)))
+      subst (λ (l : List ℕ). IsFront (d.taken start) (d.taken new.drain) l) all
+      (front_longer (d.taken start) (d.taken new.drain) (written_after [] done ++ then_written es e) (written_entities (then_pending es e ++ rest))
+      (front_then (d.taken start) (d.taken packer.drain) (d.taken new.drain) (written_after [] done) (then_written es e) h.added.told (f es h.pending)))
 
   -- ---- in a loop over entities, of which some are gone
 
-  pub none_gone : (start : Option (List ℕ)) (done : List EntitySpec) (taken : Option (List ℕ)) (packer : Packing D S H) → HasPacked start done taken packer → HasPacked start (done ++ []) taken packer
-  none_gone start done taken packer h = subst (λ (l : List EntitySpec). HasPacked start l taken packer) (sym (append-nil done)) h
+  pub none_gone : (start : D) (done : List EntitySpec) (packer : Packing D S H) → HasPacked d start done packer → HasPacked d start (done ++ []) packer
+  none_gone start done packer h = subst (λ (l : List EntitySpec). HasPacked d start l packer) (sym (append-nil done)) h
 
-  pub one_picked : (pick : Pick) (start : Option (List ℕ)) (done gone : List EntitySpec) (e : EntitySpec) (before now : Option (List ℕ)) (old new : Packing D S H) → pick e ≡ true → HasPacked start (done ++ filter pick gone) before old → EntityFits e
-      → ((es : List EntitySpec) → Pending old es → Pending new (then_pending es e)) → ((es : List EntitySpec) → Pending old es → now ≡ append before (then_written es e)) → HasPacked start (done ++ filter pick (gone ++ e ∷ [])) now new
-  one_picked pick start done gone e before now old new is h fits p t =
-      subst (λ (l : List EntitySpec). HasPacked start l now new) (append_assoc done (filter pick gone) (e ∷ []) ∙ ap (λ (l : List EntitySpec). done ++ l) (sym (picked_behind pick gone e is))) (packed_push start (done ++ filter pick gone) e before now old new h fits p t)
+  pub one_picked : (pick : Pick) (start : D) (done gone : List EntitySpec) (e : EntitySpec) (old new : Packing D S H) → pick e ≡ true → HasPacked d start (done ++ filter pick gone) old → EntityFits e
+      → ((es : List EntitySpec) → Pending old es → Pending new (then_pending es e)) → ((es : List EntitySpec) → Pending old es → Added d old.drain (then_written es e) new.drain) → HasPacked d start (done ++ filter pick (gone ++ e ∷ [])) new
+  one_picked pick start done gone e old new is h fits p t =
+      subst (λ (l : List EntitySpec). HasPacked d start l new) (append_assoc done (filter pick gone) (e ∷ []) ∙ ap (λ (l : List EntitySpec). done ++ l) (sym (picked_behind pick gone e is))) (packed_push start (done ++ filter pick gone) e old new h fits p t)
 
-  pub one_left : (pick : Pick) (start : Option (List ℕ)) (done gone : List EntitySpec) (e : EntitySpec) (taken : Option (List ℕ)) (packer : Packing D S H) → pick e ≡ false → HasPacked start (done ++ filter pick gone) taken packer → HasPacked start (done ++ filter pick (gone ++ e ∷ [])) taken packer
-  one_left pick start done gone e taken packer is h = subst (λ (l : List EntitySpec). HasPacked start (done ++ l) taken packer) (sym (left_behind pick gone e is)) h
+  pub one_left : (pick : Pick) (start : D) (done gone : List EntitySpec) (e : EntitySpec) (packer : Packing D S H) → pick e ≡ false → HasPacked d start (done ++ filter pick gone) packer → HasPacked d start (done ++ filter pick (gone ++ e ∷ [])) packer
+  one_left pick start done gone e packer is h = subst (λ (l : List EntitySpec). HasPacked d start (done ++ l) packer) (sym (left_behind pick gone e is)) h
 
-  pub stopped_here : (pick : Pick) (start : Option (List ℕ)) (done gone left later all : List EntitySpec) (e : EntitySpec) (before now : Option (List ℕ)) (packer : Packing D S H) → left ≡ e ∷ later → gone ++ left ≡ all → pick e ≡ true
-      → HasPacked start (done ++ filter pick gone) before packer → EntityFits e → ((es : List EntitySpec) → Pending packer es → IsFront before now (then_written es e)) → BeginsAll start (done ++ filter pick all) now
-  stopped_here pick start done gone left later all e before now packer is split picked h fits f rest =
-      subst (λ (l : List EntitySpec). IsFront start now (written_entities l)) (split_here done (filter pick gone) (e ∷ filter pick later) (filter pick later) (filter pick all) rest e refl (picked_here pick gone left later all e is split picked))
-      (begins_push start (done ++ filter pick gone) e before now packer h fits f (filter pick later ++ rest))
+  pub stopped_here : (pick : Pick) (start : D) (done gone left later all : List EntitySpec) (e : EntitySpec) (packer new : Packing D S H) → left ≡ e ∷ later → gone ++ left ≡ all → pick e ≡ true
+      → HasPacked d start (done ++ filter pick gone) packer → EntityFits e → ((es : List EntitySpec) → Pending packer es → IsFront (d.taken packer.drain) (d.taken new.drain) (then_written es e)) → BeginsAll (d.taken start) (done ++ filter pick all) (d.taken new.drain)
+  stopped_here pick start done gone left later all e packer new is split picked h fits f rest =
+      subst (λ (l : List EntitySpec). IsFront (d.taken start) (d.taken new.drain) (written_entities l)) (split_here done (filter pick gone) (e ∷ filter pick later) (filter pick later) (filter pick all) rest e refl (picked_here pick gone left later all e is split picked))
+      (begins_push start (done ++ filter pick gone) e packer new h fits f (filter pick later ++ rest))
 
   -- ---- in a loop over frames
 
-  pub none_packed : (taken : Option (List ℕ)) (packer : Packing D S H) → Pending packer [] → HasPacked taken [] taken packer
-  none_packed taken packer p = record { fits = tt; taken_is = sym (append_none taken); pending = p }
+  pub none_packed : (packer : Packing D S H) → Pending packer [] → HasPacked d packer.drain [] packer
+  none_packed packer p = record { fits = tt; added = added_none d packer.drain; pending = p }
 
-  pub frame_packed : (pick : Pick) (start : Option (List ℕ)) (fs : List FrameSpec) (f : FrameSpec) (before now : Option (List ℕ)) (old new : Packing D S H) → HasPacked start (filter pick (stored_entities fs)) before old → Packs before now old new (filter pick (frame_entities f))
-      → HasPacked start (filter pick (stored_entities (fs ++ f ∷ []))) now new
-  frame_packed pick start fs f before now old new h p = subst (λ (l : List EntitySpec). HasPacked start l now new) (sym (picked_one pick fs f)) (p.packed start (filter pick (stored_entities fs)) h)
+  pub frame_packed : (pick : Pick) (start : D) (fs : List FrameSpec) (f : FrameSpec) (old new : Packing D S H) → HasPacked d start (filter pick (stored_entities fs)) old → Packs d old new (filter pick (frame_entities f))
+      → HasPacked d start (filter pick (stored_entities (fs ++ f ∷ []))) new
+  frame_packed pick start fs f old new h p = subst (λ (l : List EntitySpec). HasPacked d start l new) (sym (picked_one pick fs f)) (p.packed start (filter pick (stored_entities fs)) h)
 
-  nothing_more : (pick : Pick) (start : Option (List ℕ)) (first mid : Option Verdict) (fs : List FrameSpec) (before now : Option (List ℕ)) (old : Packing D S H) → Gone first fs mid → HasPacked start (filter pick (stored_entities fs)) before old → now ≡ before
-      → (all : Verdict) → first ≡ Some all → IsFront start now (written_entities (filter pick (stored_entities all.0)))
-  nothing_more pick start first mid fs before now old gone h same all is =
+  nothing_more : (pick : Pick) (start : D) (first mid : Option Verdict) (fs : List FrameSpec) (old new : Packing D S H) → Gone first fs mid → HasPacked d start (filter pick (stored_entities fs)) old → d.taken new.drain ≡ d.taken old.drain
+      → (all : Verdict) → first ≡ Some all → IsFront (d.taken start) (d.taken new.drain) (written_entities (filter pick (stored_entities all.0)))
+  nothing_more pick start first mid fs old new gone h same all is =
       let (rest, e, split) = gone_split first mid fs all gone is in
-      front_of pick start now fs rest.0 all split (begins_packed start (filter pick (stored_entities fs)) now old (subst (λ (k : Option (List ℕ)). HasPacked start (filter pick (stored_entities fs)) k old) (sym same) h))
+      front_of pick (d.taken start) (d.taken new.drain) fs rest.0 all split
+      (subst (λ (k : Option (List ℕ)). BeginsAll (d.taken start) (filter pick (stored_entities fs)) k) (sym same) (begins_packed start (filter pick (stored_entities fs)) old h))
 
-  begun_one : (pick : Pick) (start : Option (List ℕ)) (first mid later : Option Verdict) (fs : List FrameSpec) (f : FrameSpec) (before now : Option (List ℕ)) (old : Packing D S H) → Gone first fs (fully_known mid) → HasPacked start (filter pick (stored_entities fs)) before old
-      → mid ≡ with_first_known f later → payload_fault f ≡ None → Begins before now old (filter pick (frame_entities f)) → (all : Verdict) → first ≡ Some all → IsFront start now (written_entities (filter pick (stored_entities all.0)))
-  begun_one pick start first mid later fs f before now old gone h e sound begins all is =
+  begun_one : (pick : Pick) (start : D) (first mid later : Option Verdict) (fs : List FrameSpec) (f : FrameSpec) (old new : Packing D S H) → Gone first fs (fully_known mid) → HasPacked d start (filter pick (stored_entities fs)) old
+      → mid ≡ with_first_known f later → payload_fault f ≡ None → Begins d old new (filter pick (frame_entities f)) → (all : Verdict) → first ≡ Some all → IsFront (d.taken start) (d.taken new.drain) (written_entities (filter pick (stored_entities all.0)))
+  begun_one pick start first mid later fs f old new gone h e sound begins all is =
       let (rest, e2, split) = gone_split first (fully_known later) (fs ++ f ∷ []) all (gone_more first (fully_known mid) (fully_known later) fs f gone (fully_first mid later f e sound)) is in
-      front_of pick start now (fs ++ f ∷ []) rest.0 all split (subst (λ (l : List EntitySpec). BeginsAll start l now) (sym (picked_one pick fs f)) (begins.begun start (filter pick (stored_entities fs)) h))
+      front_of pick (d.taken start) (d.taken new.drain) (fs ++ f ∷ []) rest.0 all split (subst (λ (l : List EntitySpec). BeginsAll (d.taken start) l (d.taken new.drain)) (sym (picked_one pick fs f)) (begins.begun start (filter pick (stored_entities fs)) h))
 
   -- whatever a step that stopped wrote, a beginning of all went out
-  pub step_front : {F : Type 0} (g : feed.Ghosts F) (d : drain.Ghosts D) (pick : Pick) (start : Option (List ℕ)) (first : Option Verdict) (fs : List FrameSpec) (reader read : FrameReader F) (old new : Packing D S H) (before now : Pass) (s : Stop)
-      → Gone first fs (fully_known (verdict g.remaining reader)) → HasPacked start (filter pick (stored_entities fs)) (d.taken old.drain) old → StoppedStep g reader read (FailsToPack d pick old new) ((now ≡ before) × (new ≡ old)) s
-      → (all : Verdict) → first ≡ Some all → IsFront start (d.taken new.drain) (written_entities (filter pick (stored_entities all.0)))
-  step_front g d pick start first fs reader read old new before now s gone h stopped all is = of stopped.where_it_stopped where
+  pub step_front : {F : Type 0} (g : feed.Ghosts F) (pick : Pick) (start : D) (first : Option Verdict) (fs : List FrameSpec) (reader read : FrameReader F) (old new : Packing D S H) (before now : Pass) (s : Stop)
+      → Gone first fs (fully_known (verdict g.remaining reader)) → HasPacked d start (filter pick (stored_entities fs)) old → StoppedStep g reader read (FailsToPack d pick old new) ((now ≡ before) × (new ≡ old)) s
+      → (all : Verdict) → first ≡ Some all → IsFront (d.taken start) (d.taken new.drain) (written_entities (filter pick (stored_entities all.0)))
+  step_front g pick start first fs reader read old new before now s gone h stopped all is = of stopped.where_it_stopped where
     mid : Option Verdict
     mid = verdict g.remaining reader
 
     went : Option (List ℕ)
     went = d.taken new.drain
 
-    begun_at : (f : FrameSpec) → mid ≡ with_first_known f (verdict g.remaining read) → ((went ≡ d.taken old.drain) ⊎ ((payload_fault f ≡ None) × Begins (d.taken old.drain) went old (filter pick (frame_entities f)))) → IsFront start went (written_entities (filter pick (stored_entities all.0)))
-    begun_at f e (inl same) = nothing_more pick start first (fully_known mid) fs (d.taken old.drain) went old gone h same all is
-    begun_at f e (inr (sound, begins)) = begun_one pick start first mid (verdict g.remaining read) fs f (d.taken old.drain) went old gone h e sound begins all is
+    begun_at : (f : FrameSpec) → mid ≡ with_first_known f (verdict g.remaining read) → ((went ≡ d.taken old.drain) ⊎ ((payload_fault f ≡ None) × Begins d old new (filter pick (frame_entities f)))) → IsFront (d.taken start) went (written_entities (filter pick (stored_entities all.0)))
+    begun_at f e (inl same) = nothing_more pick start first (fully_known mid) fs old new gone h same all is
+    begun_at f e (inr (sound, begins)) = begun_one pick start first mid (verdict g.remaining read) fs f old new gone h e sound begins all is
 
     of : ((Gave mid (Err s) (verdict g.remaining read) × IsReaderStop (g.failures reader.feed) (g.failures read.feed) s × ((now ≡ before) × (new ≡ old))) ⊎ ((f : FrameSpec) × (mid ≡ with_first_known f (verdict g.remaining read)) × FailsToPack d pick old new f s))
-        → IsFront start went (written_entities (filter pick (stored_entities all.0)))
-    of (inl (gave, why, same)) = nothing_more pick start first (fully_known mid) fs (d.taken old.drain) went old gone h (ap (λ (p : Packing D S H). d.taken p.drain) same.1) all is
+        → IsFront (d.taken start) went (written_entities (filter pick (stored_entities all.0)))
+    of (inl (gave, why, same)) = nothing_more pick start first (fully_known mid) fs old new gone h (ap (λ (p : Packing D S H). d.taken p.drain) same.1) all is
     of (inr (f, e, why)) = begun_at f e why.front
 
-  pub same_packed : (start : Option (List ℕ)) (es : List EntitySpec) (before now : Option (List ℕ)) (old new : Packing D S H) → now ≡ before → new ≡ old → HasPacked start es before old → HasPacked start es now new
-  same_packed start es before now old new t p h = subst (λ (k : Option (List ℕ)). HasPacked start es k new) (sym t) (subst (λ (q : Packing D S H). HasPacked start es before q) (sym p) h)
+  pub same_packed : (start : D) (es : List EntitySpec) (old new : Packing D S H) → new ≡ old → HasPacked d start es old → HasPacked d start es new
+  same_packed start es old new p h = subst (λ (q : Packing D S H). HasPacked d start es q) (sym p) h
 
   -- the block that is closed at the end
-  pub ended : (start : Option (List ℕ)) (es : List EntitySpec) (before now : Option (List ℕ)) (packer : Packing D S H) → HasPacked start es before packer → ((es : List EntitySpec) → Pending packer es → now ≡ append before (at_end es))
-      → now ≡ append start (written_entities es)
-  ended start es before now packer h w =
-      w (pending_after [] es) h.pending ∙ (ap (λ (k : Option (List ℕ)). append k (at_end (pending_after [] es))) h.taken_is
-      ∙ (append_append start (written_after [] es) (at_end (pending_after [] es)) ∙ ap (append start) (run_ends es h.fits)))
+  pub ended : (start : D) (es : List EntitySpec) (packer new : Packing D S H) → HasPacked d start es packer → ((es : List EntitySpec) → Pending packer es → Added d packer.drain (at_end es) new.drain) → Added d start (written_entities es) new.drain
+  ended start es packer new h w =
+      added_same d start new.drain _ _ (run_ends es h.fits) (added_more d start packer.drain new.drain (written_after [] es) (at_end (pending_after [] es)) h.added (w (pending_after [] es) h.pending))
 
-  pub end_front : (start : Option (List ℕ)) (es : List EntitySpec) (before now : Option (List ℕ)) (packer : Packing D S H) → HasPacked start es before packer → ((es : List EntitySpec) → Pending packer es → IsFront before now (at_end es))
-      → IsFront start now (written_entities es)
-  end_front start es before now packer h f =
-      subst (λ (l : List ℕ). IsFront start now l) (run_ends es h.fits) (front_then start before now (written_after [] es) (at_end (pending_after [] es)) h.taken_is (f (pending_after [] es) h.pending))
+  pub end_front : (start : D) (es : List EntitySpec) (packer new : Packing D S H) → HasPacked d start es packer → ((es : List EntitySpec) → Pending packer es → IsFront (d.taken packer.drain) (d.taken new.drain) (at_end es))
+      → IsFront (d.taken start) (d.taken new.drain) (written_entities es)
+  end_front start es packer new h f =
+      subst (λ (l : List ℕ). IsFront (d.taken start) (d.taken new.drain) l) (run_ends es h.fits)
+      (front_then (d.taken start) (d.taken packer.drain) (d.taken new.drain) (written_after [] es) (at_end (pending_after [] es)) h.added.told (f (pending_after [] es) h.pending))
 
 -- the header first, and then what begins all entities
 pub behind_header : (h : HeaderSpec) (old start now : Option (List ℕ)) (es : List EntitySpec) → start ≡ append old (header_frame h) → IsFront start now (written_entities es) → IsFront old now (written_file h es)
@@ -239,8 +250,8 @@ behind_header h old start now es e f = front_then old start now (header_frame h)
 pub header_alone : (h : HeaderSpec) (old now : Option (List ℕ)) (es : List EntitySpec) → IsFront old now (header_frame h) → IsFront old now (written_file h es)
 header_alone h old now es f = front_longer old now (header_frame h) (written_entities es) f
 
-pub whole_file : (h : HeaderSpec) (old start now : Option (List ℕ)) (es : List EntitySpec) → start ≡ append old (header_frame h) → now ≡ append start (written_entities es) → now ≡ append old (written_file h es)
-whole_file h old start now es e f = f ∙ (ap (λ (k : Option (List ℕ)). append k (written_entities es)) e ∙ append_append old (header_frame h) (written_entities es))
+pub whole_file : {D : Type 0} (d : drain.Ghosts D) (h : HeaderSpec) (old start new : D) (es : List EntitySpec) → Added d old (header_frame h) start → Added d start (written_entities es) new → Added d old (written_file h es) new
+whole_file d h old start new es first then = added_more d old start new (header_frame h) (written_entities es) first then
 
 -- a packer's stop is one of a payload without a fault
 pub pack_stop : (first before now : ℕ) (s : Stop) → first ≤ before → IsPackStop before now s → Caused (Only None) ⊥ (HasRisen first now) unchanged s

@@ -1,5 +1,5 @@
 -- One frame taken, and all frames.
-use Rattle.std.proofs.Common.{◌≡◌, ◌⊎◌, ℕ, ◌≤◌, ◌<◌, Result, Ok, Err, inl, inr, arith, List, [], ◌∷◌, ◌++◌, Bool, true, false, Option, Some, None, subst, refl, sym, ap, ◌∙◌}
+use Rattle.std.proofs.Common.{◌≡◌, ◌⊎◌, ℕ, ◌≤◌, ◌<◌, Result, Ok, Err, inl, inr, arith, List, [], ◌∷◌, ◌++◌, Bool, ◌||◌, true, false, Option, Some, None, subst, refl, sym, ap, ◌∙◌}
 use Rattle.std.specs.List.{flat_map, last_or, filter}
 use Rattle.std.specs.Option.{option_map}
 use Rattle.std.proofs.lemmas.Grind.{flat_map-append}
@@ -15,9 +15,10 @@ use Rattle.pbf_frame.specs.declared.device.Feed as feed
 use Rattle.pbf_frame.specs.declared.reader.FrameReader.{FrameReader}
 use Rattle.pbf_frame.specs.declared.stop.Stop.{Stop}
 use Rattle.pbf_frame.specs.declared.stop.Stop.TheVariants as why
-use Rattle.pbf_frame.specs.Devices.{IsAtEnd, HasRisen}
-use Rattle.pbf_frame.specs.Frames.{FrameSpec, frame_kind, frame_payload, frame_payload_at}
-use Rattle.pbf_frame.specs.Next.{Advances, Gave, IsReading, place_of, verdict}
+use Rattle.pbf_frame.specs.Devices.{IsAtEnd, HasRisen, Passes, prepend}
+use Rattle.pbf_frame.specs.Frames.{FrameSpec, is_header, frame_kind, frame_end, frame_bytes, frame_payload, frame_payload_at}
+use Rattle.pbf_frame.specs.Next.{Advances, Gave, IsReading, place_of, had_header_of, verdict}
+use Rattle.pbf_frame.specs.Sound.{IsFrame}
 use Rattle.pbf_frame.specs.Reads.{IsReaderStop}
 use Rattle.pbf_frame.specs.Verdict.{Verdict, with_first_known, with_all, Gone, Says}
 use Rattle.pbf_block.specs.declared.counts.Counts.{Counts}
@@ -57,6 +58,21 @@ step_less g old new took less failed same stays result h k step = record {
 
 -- ---- a step of a reader that was reading
 
+-- the reader gave this frame, which has no fault, and stands behind it
+pub record GaveOne {F : Type 0} (g : feed.Ghosts F) (old new : FrameReader F) (f : FrameSpec) : Type 0 where
+  pub told : g.remaining old.feed ≡ prepend (frame_bytes f) (g.remaining new.feed)
+  pub logged : Passes (g.has_passed old.feed) (frame_bytes f) (g.has_passed new.feed)
+  pub is_frame : IsFrame (had_header_of old) (place_of old) f
+  pub had_header : had_header_of new ≡ (had_header_of old || is_header (frame_kind f))
+  pub place : place_of new ≡ frame_end f
+
+-- the reader gave nothing more, after its header
+pub record GaveNone {F : Type 0} (g : feed.Ghosts F) (old new : FrameReader F) : Type 0 where
+  pub told : g.remaining old.feed ≡ g.remaining new.feed
+  pub logged : (log : ℕ) (b : List ℕ) → g.has_passed old.feed log b → g.has_passed new.feed log b
+  pub had_header : had_header_of old ≡ true
+  pub end : IsAtEnd (g.remaining new.feed)
+
 -- it took a frame
 pub record TookOne {F : Type 0} (g : feed.Ghosts F) (old new : FrameReader F) (took : FrameSpec → Type 0) : Type 0 where
   pub frame : FrameSpec
@@ -64,15 +80,14 @@ pub record TookOne {F : Type 0} (g : feed.Ghosts F) (old new : FrameReader F) (t
   pub taken : took frame
   pub reading : IsReading new
   pub rises : place_of old < place_of new
-  pub carries : (b : List ℕ) → g.carries old.feed b → g.carries new.feed b
+  pub gave : GaveOne g old new frame
   pub keeps : KeepsFeed g old.feed new.feed
 
 -- it met the end
 pub record MetEnd {F : Type 0} (g : feed.Ghosts F) (old new : FrameReader F) (same : Type 0) : Type 0 where
   pub none : Says (verdict g.remaining old) ([], None)
-  pub end : IsAtEnd (g.remaining new.feed)
+  pub gave : GaveNone g old new
   pub stays : same
-  pub carries : (b : List ℕ) → g.carries old.feed b → g.carries new.feed b
   pub keeps : KeepsFeed g old.feed new.feed
 
 -- it stopped: the reader did, or at a frame
@@ -104,14 +119,20 @@ gone_payload first frames known rest f e gone is fault = subst (λ (k : Option V
   of (Some v) = ap (λ (o : Option Fault). with_all frames (sound_first o f (fully v))) fault ∙ ap (λ (l : List FrameSpec). (l, Some e)) (append-nil frames)
 
 module _ {F : Type 0} (g : feed.Ghosts F) (old new : FrameReader F) (took : FrameSpec → Type 0) (failed : FrameSpec → Stop → Type 0) (same : Type 0) where
-  went_on : (answer : Result (Option FrameSpec) Stop) → Advances g.remaining g.failures g.lender g.carries old answer new → Follows took failed same answer (Ok true) → TookOne g old new took
+  went_on : (answer : Result (Option FrameSpec) Stop) → Advances g.remaining g.failures g.lender g.has_passed old answer new → Follows took failed same answer (Ok true) → TookOne g old new took
   went_on (Ok (Some f)) a t = record {
     frame = f;
     is = a.gave;
     taken = t;
     reading = a.answers.0;
     rises = a.answers.3;
-    carries = a.still_carries;
+    gave = record {
+      told = a.went;
+      logged = a.passed;
+      is_frame = a.is_frame;
+      had_header = a.answers.4;
+      place = a.answers.2;
+    };
     keeps = record { counts = a.counts; lender = a.same_lender };
   }
   went_on (Ok None) a t = absurd (other _ refl t.0)
@@ -120,13 +141,17 @@ module _ {F : Type 0} (g : feed.Ghosts F) (old new : FrameReader F) (took : Fram
   pub took_one : (more : Bool) → more ≡ true → IsReading old → IsStep g old new took failed same (Ok more) → TookOne g old new took
   took_one more e reading step = let s = subst (λ (b : Bool). IsStep g old new took failed same (Ok b)) e step in went_on s.answer (s.next.0 reading) s.follows
 
-  ended_at : (answer : Result (Option FrameSpec) Stop) → Advances g.remaining g.failures g.lender g.carries old answer new → Follows took failed same answer (Ok false) → MetEnd g old new same
+  ended_at : (answer : Result (Option FrameSpec) Stop) → Advances g.remaining g.failures g.lender g.has_passed old answer new → Follows took failed same answer (Ok false) → MetEnd g old new same
   ended_at (Ok (Some f)) a t = absurd t
   ended_at (Ok None) a t = record {
     none = a.gave;
-    end = a.ended;
+    gave = record {
+      told = a.went;
+      logged = a.passed;
+      had_header = a.answers.2;
+      end = a.ended;
+    };
     stays = t.1;
-    carries = a.still_carries;
     keeps = record { counts = a.counts; lender = a.same_lender };
   }
   ended_at (Err stop) a t = absurd (no_stop false stop _ refl t.0)
@@ -134,7 +159,7 @@ module _ {F : Type 0} (g : feed.Ghosts F) (old new : FrameReader F) (took : Fram
   pub met_end : (more : Bool) → more ≡ false → IsReading old → IsStep g old new took failed same (Ok more) → MetEnd g old new same
   met_end more e reading step = let s = subst (λ (b : Bool). IsStep g old new took failed same (Ok b)) e step in ended_at s.answer (s.next.0 reading) s.follows
 
-  stopped_at : (stop : Stop) (answer : Result (Option FrameSpec) Stop) → Advances g.remaining g.failures g.lender g.carries old answer new → Follows took failed same answer (Err stop) → StoppedStep g old new failed same stop
+  stopped_at : (stop : Stop) (answer : Result (Option FrameSpec) Stop) → Advances g.remaining g.failures g.lender g.has_passed old answer new → Follows took failed same answer (Err stop) → StoppedStep g old new failed same stop
   stopped_at stop (Ok (Some f)) a t = record { keeps = record { counts = a.counts; lender = a.same_lender }; where_it_stopped = inr (f, a.gave, t) }
   stopped_at stop (Ok None) a t = absurd (no_stop false stop _ t.0 refl)
   stopped_at stop (Err s) a t =

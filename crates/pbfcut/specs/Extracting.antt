@@ -19,8 +19,7 @@ use Rattle.pbfcut.specs.Converting.{header_limit}
 use Rattle.pbfcut.specs.Counting.{stored_entities}
 use Rattle.pbfcut.specs.Judged.{judged_file}
 use Rattle.pbfcut.specs.Pick.{IsShort}
-use Rattle.pbfcut.specs.Repeat.{SameDigest}
-use Rattle.pbfcut.specs.Pass.{with_node, with_way, with_relation, file_header, IsDigest}
+use Rattle.pbfcut.specs.Pass.{with_node, with_way, with_relation, file_header}
 
 abbrev pub Choice : Type 0
 Choice = List EntitySpec → List EntitySpec
@@ -66,17 +65,13 @@ pub record ChoosesParents (area : BoundingBox) (first second third : Option Verd
   pub kept : sets.ways ≡ relations.ways
   pub least : IsLeast (set.contains relations.links) relations.start sets.relation_ids
 
--- what the passes before the one that writes tell: what was chosen, the header that is written, and the digest of the first file
-pub record IsChoice (area : BoundingBox) (first second : Option (List ℕ)) (sets : WaySets) (h : HeaderSpec) (digest : List ℕ) : Type 0 where
-  pub chosen : Chooses area (judged_file first) (judged_file second) sets h
+-- what the passes before the one that writes report of files: what was chosen, and the header that is written
+pub record IsChoice (area : BoundingBox) (first second : List ℕ) (sets : WaySets) (h : HeaderSpec) : Type 0 where
+  pub chosen : Chooses area (judged_file (Some first)) (judged_file (Some second)) sets h
   pub edges : EdgesTyped (edges_of area)
   pub short : IsShort h
-  pub digest_is : IsDigest first digest
-  pub same : SameDigest first second
 
-pub record IsChoiceWithParents (area : BoundingBox) (first second third : Option (List ℕ)) (sets : ParentSets) (h : HeaderSpec) (digest : List ℕ) : Type 0 where
-  pub chosen : ChoosesParents area (judged_file first) (judged_file second) (judged_file third) sets h
+pub record IsChoiceWithParents (area : BoundingBox) (first second third : List ℕ) (sets : ParentSets) (h : HeaderSpec) : Type 0 where
+  pub chosen : ChoosesParents area (judged_file (Some first)) (judged_file (Some second)) (judged_file (Some third)) sets h
   pub edges : EdgesTyped (edges_of area)
   pub short : IsShort h
-  pub digest_is : IsDigest first digest
-  pub same : SameDigest first second × SameDigest first third

@@ -1,6 +1,6 @@
--- What a hashing feed carries: the bytes that its hasher holds, and then those that are left.
-use Rattle.std.specs.Prelude.{◌≡◌, List, ℕ, Option, Some}
-use Rattle.pbf_frame.specs.Devices.{prepend}
+-- The logs of a hashing device: what its hasher holds, and then those of the device below.
+use Rattle.std.specs.Prelude.{ℕ, zero, suc, List}
 
-abbrev pub Carries : {F H : Type 0} → (H → List ℕ → Type 0) → (F → Option (List ℕ)) → F → H → List ℕ → Type 0
-Carries holds remaining feed hasher bytes = (read : List ℕ) × holds hasher read × (Some bytes ≡ prepend read (remaining feed))
+abbrev pub HasPassed : {D H : Type 0} → (H → List ℕ → Type 0) → (D → ℕ → List ℕ → Type 0) → D → H → ℕ → List ℕ → Type 0
+HasPassed holds below device hasher zero bytes = holds hasher bytes
+HasPassed holds below device hasher (suc log) bytes = below device log bytes

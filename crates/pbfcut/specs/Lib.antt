@@ -7,6 +7,7 @@ pub mod Pass
 pub mod Pick
 pub mod Repeat
 pub mod Hashing
+pub mod Given
 pub mod Showing
 pub mod Converting
 pub mod Extracting

@@ -20,7 +20,6 @@ use Rattle.pbf_frame.specs.Devices.{IsAtEnd}
 use Rattle.pbf_frame.specs.Frames.{FrameSpec, frame_kind, frame_payload, frame_payload_at}
 use Rattle.pbf_frame.specs.Next.{IsNext}
 use Rattle.pbf_frame.specs.Verdict.{Verdict, Says}
-use Rattle.pbfcut.specs.declared.pass.Judged.{Judged}
 use Rattle.pbfcut.specs.declared.pass.Pass.{Pass}
 use Rattle.pbfcut.specs.Counting.{counted_with, counts_of, entities_of, stored_entities}
 use Rattle.pbfcut.specs.Judged.{payload_fault_of, payload_fault, judged_file}
@@ -40,18 +39,12 @@ Follows took failed same (Err stop) result = (result ≡ Err stop) × same
 -- the reader is asked once, and this follows its answer
 pub record IsStep {F : Type 0} (g : feed.Ghosts F) (old new : FrameReader F) (took : FrameSpec → Type 0) (failed : FrameSpec → Stop → Type 0) (same : Type 0) (result : Result Bool Stop) : Type 0 where
   pub answer : Result (Option FrameSpec) Stop
-  pub next : IsNext g.remaining g.failures g.lender g.carries old answer new
+  pub next : IsNext g.remaining g.failures g.lender g.has_passed old answer new
   pub follows : Follows took failed same answer result
 
 -- what failed at a frame is that its payload has a fault, or that memory was refused
 abbrev pub FailsToJudge : FrameSpec → Stop → Type 0
 FailsToJudge f stop = Caused (Only (payload_fault f)) ⊥ ⊥ unchanged stop
-
--- a loop of steps read all that the feed had
-pub record ReadsAll {F X : Type 0} (g : feed.Ghosts F) (old new : F) (result : Result X Stop) : Type 0 where
-  pub end : OnOk result (IsAtEnd (g.remaining new))
-  pub carries : OnOk result ((b : List ℕ) → g.carries old b → g.carries new b)
-  pub keeps : KeepsFeed g old new
 
 -- ---- what a pass takes of a frame
 
@@ -142,15 +135,6 @@ pub record TakesFile {S : Type 0} (gathered : S → EntitySpec → S) (known : O
   pub counted : pass.counts ≡ counts_of (stored_entities frames)
   pub header : HoldsHeader (file_header frames) pass
   pub gathered_all : now ≡ fold gathered before (stored_entities frames)
-
--- the digest of a file's bytes, where they are known
-abbrev pub IsDigest : Option (List ℕ) → List ℕ → Type 0
-IsDigest known digest = IfSome known (λ bytes. digest ≡ sha256 bytes)
-
--- a whole file was judged, gathered and hashed
-pub record Judges {S : Type 0} (gathered : S → EntitySpec → S) (known : Option (List ℕ)) (before now : S) (told : Judged) : Type 0 where
-  pub file : TakesFile gathered (judged_file known) before now told.pass
-  pub digest : IsDigest known told.digest
 
 -- the counts are those of the entities of a file without a fault
 abbrev pub CountsFile : Option Verdict → Counts → Type 0

@@ -13,7 +13,8 @@ use Rattle.pbf_block.specs.Header.{HeaderSpec}
 use Rattle.pbf_block.specs.declared.counts.Counts.{Counts}
 use Rattle.pbf_frame.specs.declared.device.Drain as drain
 use Rattle.pbf_frame.specs.declared.stop.Stop.{Stop}
-use Rattle.pbf_frame.specs.Devices.{append, IsFront}
+use Rattle.pbf_frame.specs.Devices.{IsFront}
+use Rattle.pbf_frame.specs.Transfers.{Added}
 use Rattle.pbf_frame.specs.Frames.{FrameSpec, frame_kind, frame_payload, frame_payload_at}
 use Rattle.pbf_frame.specs.Verdict.{Verdict, Says}
 use Rattle.pbf_wire.specs.declared.fault.Fault.{Fault}
@@ -75,10 +76,10 @@ is_node (relation r) = false
 
 -- ---- entities on their way
 
--- these entities were packed since the drain held the first bytes: the closed blocks went out, and the others wait
-pub record HasPacked {D S H : Type 0} (start : Option (List ℕ)) (done : List EntitySpec) (taken : Option (List ℕ)) (packer : Packing D S H) : Type 0 where
+-- since the drain was at the start these entities were packed: the closed blocks went out, and the others wait
+pub record HasPacked {D S H : Type 0} (d : drain.Ghosts D) (start : D) (done : List EntitySpec) (packer : Packing D S H) : Type 0 where
   pub fits : AllByRecursion EntityFits done
-  pub taken_is : taken ≡ append start (written_after [] done)
+  pub added : Added d start (written_after [] done) packer.drain
   pub pending : Pending packer (pending_after [] done)
 
 -- whatever comes behind these entities, what went out is a beginning of what is written for all
@@ -86,25 +87,25 @@ abbrev pub BeginsAll : Option (List ℕ) → List EntitySpec → Option (List �
 BeginsAll start done taken = (rest : List EntitySpec) → IsFront start taken (written_entities (done ++ rest))
 
 -- these entities were packed behind those that were
-pub record Packs {D S H : Type 0} (before now : Option (List ℕ)) (old new : Packing D S H) (es : List EntitySpec) : Type 0 where
-  pub packed : (start : Option (List ℕ)) (done : List EntitySpec) → HasPacked start done before old → HasPacked start (done ++ es) now new
+pub record Packs {D S H : Type 0} (d : drain.Ghosts D) (old new : Packing D S H) (es : List EntitySpec) : Type 0 where
+  pub packed : (start : D) (done : List EntitySpec) → HasPacked d start done old → HasPacked d start (done ++ es) new
 
 -- of these entities, behind those that were, a beginning went out
-pub record Begins {D S H : Type 0} (before now : Option (List ℕ)) (old : Packing D S H) (es : List EntitySpec) : Type 0 where
-  pub begun : (start : Option (List ℕ)) (done : List EntitySpec) → HasPacked start done before old → BeginsAll start (done ++ es) now
+pub record Begins {D S H : Type 0} (d : drain.Ghosts D) (old new : Packing D S H) (es : List EntitySpec) : Type 0 where
+  pub begun : (start : D) (done : List EntitySpec) → HasPacked d start done old → BeginsAll (d.taken start) (done ++ es) (d.taken new.drain)
 
 -- ---- what a call does to a packer
 
 -- a payload without a fault was packed, and the packer goes on
 pub record PacksAll {D S H : Type 0} (d : drain.Ghosts D) (fault : Option Fault) (es : List EntitySpec) (old new : Packing D S H) : Type 0 where
   pub sound : fault ≡ None
-  pub packs : Packs (d.taken old.drain) (d.taken new.drain) old new es
+  pub packs : Packs d old new es
   pub going : IsPacking new
 
 -- a call stopped: for the fault, then nothing went out; else a beginning of these entities did
 pub record StopsPacking {D S H : Type 0} (d : drain.Ghosts D) (fault : Option Fault) (es : List EntitySpec) (old new : Packing D S H) (stop : Stop) : Type 0 where
   pub cause : Caused (Only fault) ⊥ (WriteFailed d old.drain new.drain) unchanged stop
-  pub front : (d.taken new.drain ≡ d.taken old.drain) ⊎ ((fault ≡ None) × Begins (d.taken old.drain) (d.taken new.drain) old es)
+  pub front : (d.taken new.drain ≡ d.taken old.drain) ⊎ ((fault ≡ None) × Begins d old new es)
 
 -- whatever a call answers
 pub record KeepsPacker {D S H : Type 0} (d : drain.Ghosts D) (old new : Packing D S H) : Type 0 where
@@ -138,12 +139,12 @@ FailsToPack d pick old new f stop = StopsPacking d (payload_fault f) (picked_in 
 
 -- ---- the pass that writes
 
--- the file has no fault, the header and what is picked of its entities went out, and these are their numbers
-pub record Packed (pick : Pick) (h : HeaderSpec) (known : Option Verdict) (old new : Option (List ℕ)) (counts : Counts) : Type 0 where
+-- the file has no fault, these bytes are the header and what is picked of its entities, and these are the numbers of those
+pub record Packed (pick : Pick) (h : HeaderSpec) (counts : Counts) (known : Option Verdict) (written : List ℕ) : Type 0 where
   pub frames : List FrameSpec
   pub says : Says known (frames, None)
   pub counted : counts ≡ counts_of (filter pick (stored_entities frames))
-  pub taken : new ≡ append old (written_file h (filter pick (stored_entities frames)))
+  pub is : written ≡ written_file h (filter pick (stored_entities frames))
 
 -- a beginning of the header and of what is picked of the frames before the first fault went out
 abbrev pub PacksFront : Pick → HeaderSpec → Option Verdict → Option (List ℕ) → Option (List ℕ) → Type 0

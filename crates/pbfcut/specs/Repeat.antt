@@ -6,19 +6,17 @@ use Rattle.osm_entity.specs.Entity.{EntitySpec}
 use Rattle.pbf_frame.specs.declared.stop.Stop.{Stop}
 use Rattle.pbf_frame.specs.declared.stop.Stop.TheVariants.{Refused, Read, Write, Memory, Changed}
 use Rattle.pbf_frame.specs.Frames.{FrameSpec}
-use Rattle.pbf_frame.specs.Verdict.{Says}
+use Rattle.pbf_frame.specs.Verdict.{Verdict, Says}
 use Rattle.pbfcut.specs.declared.repeat.Repeat.{Repeat}
 use Rattle.pbfcut.specs.Counting.{stored_entities}
 use Rattle.pbfcut.specs.Judged.{judged_file}
-use Rattle.pbfcut.specs.Pass.{IsDigest}
 use Rattle.pbfcut.specs.Stops.{Caused}
 
--- the file has no fault and the digest of the first, and its entities were gathered
-pub record GathersAgain {S : Type 0} (gathered : S → EntitySpec → S) (known : Option (List ℕ)) (digest : List ℕ) (before now : S) : Type 0 where
+-- the file has no fault, and its entities were gathered
+pub record GathersAgain {S : Type 0} (gathered : S → EntitySpec → S) (known : Option Verdict) (before now : S) : Type 0 where
   pub frames : List FrameSpec
-  pub says : Says (judged_file known) (frames, None)
+  pub says : Says known (frames, None)
   pub gathered_all : now ≡ fold gathered before (stored_entities frames)
-  pub digest_is : IsDigest known digest
 
 -- bytes without a fault that have this digest aren't those of the feed
 abbrev pub Unlike : Option (List ℕ) → List ℕ → Type 0

@@ -1,26 +1,27 @@
-//! A feed that hands its bytes on to SHA-256.
+//! Devices that hand their bytes on to SHA-256.
 
-use pbf_frame::{Feed, FeedFault};
+ghost use Rattle.std.specs.Prelude.{◌≡◌, ℕ, List, []};
+ghost use Rattle.sha2.specs.Sha256.{sha256};
+ghost use Rattle.pbfcut.specs.Hashing.{HasPassed};
+
+use pbf_frame::{Drain, DrainFault, Feed, FeedFault};
 use sha2::{Digest, Sha256};
 
 /// A feed whose bytes are hashed as they are read.
 #[derive(Drop)]
-pub(crate) struct Hashed<F> {
+pub(crate) struct HashedFeed<F> {
     feed: F,
     hasher: Sha256,
 }
 
-impl<F: Feed> Feed for Hashed<F> {
-    ghost use Rattle.std.specs.Prelude.{◌≡◌, ℕ, List};
-    ghost use Rattle.pbfcut.specs.Hashing.{Carries};
-
+impl<F: Feed> Feed for HashedFeed<F> {
     ghost remaining = { λ h. F.remaining h.feed };
 
     ghost failures = { λ h. F.failures h.feed };
 
     ghost lender = { λ h. F.lender h.feed };
 
-    ghost carries = { λ h b. Carries ⟦<Sha256 as Digest>⟧.holds F.remaining h.feed h.hasher b };
+    ghost has_passed = { λ h log b. HasPassed ⟦<Sha256 as Digest>⟧.holds F.has_passed h.feed h.hasher log b };
 
     fn read(&mut self, buf: &mut [u8]) -> Result<usize, FeedFault> {
         let count = self.feed.read(buf)?;
@@ -29,18 +30,13 @@ impl<F: Feed> Feed for Hashed<F> {
     }
 }
 
-impl<F: Feed> Hashed<F> {
-    ghost use Rattle.std.specs.Prelude.{◌≡◌, ℕ, List, Some};
-    ghost use Rattle.sha2.specs.Sha256.{sha256};
-    ghost use Rattle.pbf_frame.specs.Devices.{IsAtEnd};
-    ghost use Rattle.pbfcut.specs.Hashing.{Carries};
-
+impl<F: Feed> HashedFeed<F> {
     /// A hashing feed over one of which nothing was read.
-    pub(crate) fn new(feed: F) -> Hashed<F>
+    pub(crate) fn new(feed: F) -> HashedFeed<F>
         ensures feed { result.feed ≡ feed }
-        ensures carries { (b : List ℕ) → F.remaining feed ≡ Some b → Carries ⟦<Sha256 as Digest>⟧.holds F.remaining result.feed result.hasher b }
+        ensures hasher { ⟦<Sha256 as Digest>⟧.holds result.hasher [] }
     {
-        Hashed {
+        HashedFeed {
             feed,
             hasher: Sha256::new(),
         }
@@ -50,7 +46,7 @@ impl<F: Feed> Hashed<F> {
     pub(crate) fn digest(&mut self) -> [u8; 32]
         ensures feed { self.new.feed ≡ self.old.feed }
         ensures lender { F.lender self.new.feed ≡ F.lender self.old.feed }
-        ensures digest { (b : List ℕ) → Carries ⟦<Sha256 as Digest>⟧.holds F.remaining self.old.feed self.old.hasher b → IsAtEnd (F.remaining self.old.feed) → result ≡ sha256 b }
+        ensures digest { (b : List ℕ) → ⟦<Sha256 as Digest>⟧.holds self.old.hasher b → result ≡ sha256 b }
     {
         self.hasher.finalize_reset()
     }
@@ -61,5 +57,58 @@ impl<F: Feed> Hashed<F> {
         ensures lender { F.lender result ≡ F.lender self.feed }
     {
         self.feed
+    }
+}
+
+/// A drain whose bytes are hashed as they are taken.
+#[derive(Drop)]
+pub(crate) struct HashedDrain<D> {
+    drain: D,
+    hasher: Sha256,
+}
+
+impl<D: Drain> Drain for HashedDrain<D> {
+    ghost taken = { λ h. D.taken h.drain };
+
+    ghost has_taken = { λ h log b. HasPassed ⟦<Sha256 as Digest>⟧.holds D.has_taken h.drain h.hasher log b };
+
+    ghost failures = { λ h. D.failures h.drain };
+
+    ghost lender = { λ h. D.lender h.drain };
+
+    fn write(&mut self, bytes: &[u8]) -> Result<usize, DrainFault> {
+        let count = self.drain.write(bytes)?;
+        self.hasher.update(&bytes[..count]);
+        Ok(count)
+    }
+}
+
+impl<D: Drain> HashedDrain<D> {
+    /// A hashing drain that took nothing.
+    pub(crate) fn new(drain: D) -> HashedDrain<D>
+        ensures drain { result.drain ≡ drain }
+        ensures hasher { ⟦<Sha256 as Digest>⟧.holds result.hasher [] }
+    {
+        HashedDrain {
+            drain,
+            hasher: Sha256::new(),
+        }
+    }
+
+    /// The digest of what was taken. Another digest is begun.
+    pub(crate) fn digest(&mut self) -> [u8; 32]
+        ensures drain { self.new.drain ≡ self.old.drain }
+        ensures lender { D.lender self.new.drain ≡ D.lender self.old.drain }
+        ensures digest { (b : List ℕ) → ⟦<Sha256 as Digest>⟧.holds self.old.hasher b → result ≡ sha256 b }
+    {
+        self.hasher.finalize_reset()
+    }
+
+    /// The drain below.
+    pub(crate) fn into_inner(self) -> D
+        ensures drain { result ≡ self.drain }
+        ensures lender { D.lender result ≡ D.lender self.drain }
+    {
+        self.drain
     }
 }

@@ -13,10 +13,11 @@ ghost use Rattle.pbf_frame.specs.Next.{IsReading, place_of, held_by, verdict};
 ghost use Rattle.pbf_wire.specs.declared.fault.Fault.{Fault};
 ghost use Rattle.pbf_wire.specs.declared.fault.ReadFault.TheVariants.{Refused};
 ghost use Rattle.pbfcut.specs.Judged.{payload_fault_of, fully_known, judged_file};
-ghost use Rattle.pbfcut.specs.Pass.{IsFresh, TakesPayload, TakesAll, TakesFrame, CountsFrame, TakesFile, IsStep, FailsToJudge, ReadsAll, Judges, as_it_was, with_node, with_way, with_relation};
-ghost use Rattle.pbfcut.specs.Stops.{Caused, FaultOf, unchanged, ReadFailed};
+ghost use Rattle.pbfcut.specs.Pass.{IsFresh, TakesPayload, TakesAll, TakesFrame, CountsFrame, TakesFile, IsStep, FailsToJudge, as_it_was, with_node, with_way, with_relation};
+ghost use Rattle.pbfcut.specs.Given.{GaveRest, GaveFile};
+ghost use Rattle.pbfcut.specs.Stops.{Caused, FaultOf, unchanged, ReadFailed, KeepsFeed};
 
-use crate::hashed::Hashed;
+use crate::hashed::HashedFeed;
 use osm_entity::EntityRef;
 use osm_ways::{NodePhase, RelationPhase, WayPhase};
 use pbf_block::{Block, Counts, Header, Kinds, Run};
@@ -336,9 +337,9 @@ fn steps<F: Feed, G: Gather>(
     gathering: &mut G,
 ) -> Result<Pass, Stop>
     requires { IsReading reader.old }
-    ensures taken { IfOk result (TakesFile G.gathered (fully_known (verdict F.remaining reader.old)) gathering.old gathering.new) }
+    ensures taken { IfOk result (λ pass. GaveRest F.Feed reader.old reader.new (λ known. TakesFile G.gathered known gathering.old gathering.new pass)) }
     ensures stops { IfErr result (Caused (FaultOf (fully_known (verdict F.remaining reader.old))) (ReadFailed F.Feed reader.old.feed reader.new.feed) ⊥ unchanged) }
-    ensures read { ReadsAll F.Feed reader.old.feed reader.new.feed result }
+    ensures keeps { KeepsFeed F.Feed reader.old.feed reader.new.feed }
 {
     let mut pass = Pass::new();
     'frames: while step_gather(alloc, reader, &mut pass, gathering)? {}
@@ -360,11 +361,11 @@ pub(crate) fn judge<F: Feed, G: Gather>(
     feed: &mut F,
     gathering: &mut G,
 ) -> Result<Judged, Stop>
-    ensures judged { IfOk result (Judges G.gathered (F.remaining feed.old) gathering.old gathering.new) }
+    ensures judged { IfOk result (λ told. GaveFile F.Feed feed.old feed.new told.digest (λ file. TakesFile G.gathered (judged_file (Some file)) gathering.old gathering.new told.pass)) }
     ensures stops { IfErr result (Caused (FaultOf (judged_file (F.remaining feed.old))) (ReadFailed F.Feed feed.old feed.new) ⊥ unchanged) }
     ensures counts { F.failures feed.old ≤ F.failures feed.new }
 {
-    let mut reader = FrameReader::new(alloc, Hashed::new(&mut *feed));
+    let mut reader = FrameReader::new(alloc, HashedFeed::new(&mut *feed));
     let outcome = steps(alloc, &mut reader, gathering);
     let digest = reader.feed.digest();
     // What is known of the feed comes back with the reference itself.

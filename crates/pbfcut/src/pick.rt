@@ -1,6 +1,6 @@
 //! Entities that are picked, on their way into the drain: frame by frame, and the loop that writes a whole file.
 
-ghost use Rattle.std.specs.Prelude.{false, true, [], ◌≡◌, ◌<◌, ◌≤◌, ◌+◌, ◌^◌, None, Err, IfOk, IfErr, OnOk, OnErr, length};
+ghost use Rattle.std.specs.Prelude.{false, true, [], ◌≡◌, ◌<◌, ◌≤◌, ◌+◌, ◌^◌, Some, None, Err, IfOk, IfErr, OnOk, OnErr, length};
 ghost use Rattle.std.specs.List.{AllByRecursion, filter, list_any};
 ghost use Rattle.std.specs.Option.{option_map};
 ghost use Rattle.osm_entity.specs.Ranges.{EntityFits};
@@ -17,12 +17,14 @@ ghost use Rattle.pbf_frame.specs.declared.stop.Stop.{Stop};
 ghost use Rattle.pbf_frame.specs.Next.{IsReading, place_of, held_by, verdict};
 ghost use Rattle.pbfcut.specs.Counting.{counts_of, entities_of};
 ghost use Rattle.pbfcut.specs.Judged.{payload_fault_of, fully_known, judged_file};
-ghost use Rattle.pbfcut.specs.Pass.{TakesSome, IsStep, ReadsAll, IsDigest};
+ghost use Rattle.pbfcut.specs.Pass.{TakesSome, IsStep};
 ghost use Rattle.pbfcut.specs.Pick.{pick_of, picks_of, picks_id, is_node, picked_by_some, picked_with_parents, PacksAll, StopsPacking, KeepsPacker, IsFreshPacker, PacksFrame, FailsToPack, Packed, PacksFront, IsShort};
-ghost use Rattle.pbfcut.specs.Stops.{Caused, FaultOf, unchanged, KeepsDrain, ReadFailed, WriteFailed};
+ghost use Rattle.pbfcut.specs.Given.{GaveRest, GaveFile, Took};
+ghost use Rattle.pbfcut.specs.Stops.{Caused, FaultOf, unchanged, KeepsFeed, KeepsDrain, ReadFailed, WriteFailed};
 
-use crate::hashed::Hashed;
+use crate::hashed::HashedFeed;
 use crate::pass::Pass;
+use crate::receipt::InputReceipt;
 use osm_entity::EntityRef;
 use osm_pack::Packer;
 use osm_ways::{Chooser, ChooserParents, Chosen, ChosenParents};
@@ -342,10 +344,10 @@ fn write_steps<F: Feed, D: Drain, S: BuildHasher>(
     requires reading { IsReading reader.old }
     requires fresh { IsFreshPacker packer.old }
     requires short { IsShort (header_of writing.header.now) }
-    ensures packed { IfOk result (Packed (pick_of writing.entry.selection) (header_of writing.entry.header.now) (fully_known (verdict F.remaining reader.old)) (D.taken packer.old.drain) (D.taken packer.new.drain)) }
+    ensures packed { IfOk result (λ counts. GaveRest F.Feed reader.old reader.new (λ known. Took D.Drain packer.old.drain packer.new.drain (Packed (pick_of writing.entry.selection) (header_of writing.entry.header.now) counts known))) }
     ensures beginning { OnErr result (PacksFront (pick_of writing.entry.selection) (header_of writing.entry.header.now) (fully_known (verdict F.remaining reader.old)) (D.taken packer.old.drain) (D.taken packer.new.drain)) }
     ensures stops { IfErr result (Caused (FaultOf (fully_known (verdict F.remaining reader.old))) (ReadFailed F.Feed reader.old.feed reader.new.feed) (WriteFailed D.Drain packer.old.drain packer.new.drain) unchanged) }
-    ensures read { ReadsAll F.Feed reader.old.feed reader.new.feed result }
+    ensures feed { KeepsFeed F.Feed reader.old.feed reader.new.feed }
     ensures drain { KeepsDrain D.Drain packer.old.drain packer.new.drain }
 {
     let mut pass = Pass::new();
@@ -355,15 +357,6 @@ fn write_steps<F: Feed, D: Drain, S: BuildHasher>(
     Ok(pass.counts)
 }
 
-/// What a pass that writes reports.
-#[derive(Clone, Copy)]
-pub(crate) struct Wrote {
-    /// The numbers of the entities that were written.
-    pub(crate) counts: Counts,
-    /// The digest of the bytes that were read.
-    pub(crate) digest: [u8; 32],
-}
-
 /// Writes a header and what is picked of a whole file.
 pub(crate) fn write<F: Feed, D: Drain, S: BuildHasher + Drop>(
     alloc: Global,
@@ -371,20 +364,22 @@ pub(crate) fn write<F: Feed, D: Drain, S: BuildHasher + Drop>(
     drain: &mut D,
     hasher: S,
     writing: Writing<'_>,
-) -> Result<Wrote, Stop>
+) -> Result<InputReceipt, Stop>
     requires { IsShort (header_of writing.header.now) }
-    ensures packed { IfOk result (λ wrote. Packed (pick_of writing.entry.selection) (header_of writing.entry.header.now) (judged_file (F.remaining feed.old)) (D.taken drain.old) (D.taken drain.new) wrote.counts) }
-    ensures digest { IfOk result (λ wrote. IsDigest (F.remaining feed.old) wrote.digest) }
+    ensures packed { IfOk result (λ wrote. GaveFile F.Feed feed.old feed.new wrote.input (λ file. Took D.Drain drain.old drain.new (Packed (pick_of writing.entry.selection) (header_of writing.entry.header.now) wrote.counts (judged_file (Some file))))) }
     ensures beginning { OnErr result (PacksFront (pick_of writing.entry.selection) (header_of writing.entry.header.now) (judged_file (F.remaining feed.old)) (D.taken drain.old) (D.taken drain.new)) }
     ensures stops { IfErr result (Caused (FaultOf (judged_file (F.remaining feed.old))) (ReadFailed F.Feed feed.old feed.new) (WriteFailed D.Drain drain.old drain.new) unchanged) }
 {
     let mut packer = Packer::new(alloc, &mut *drain, hasher);
-    let mut reader = FrameReader::new(alloc, Hashed::new(&mut *feed));
+    let mut reader = FrameReader::new(alloc, HashedFeed::new(&mut *feed));
     let outcome = write_steps(alloc, &mut reader, &mut packer, writing);
     let digest = reader.feed.digest();
     // What is known of the devices comes back with the references themselves.
     let _feed = reader.into_feed().into_inner();
     let _drain = packer.into_drain();
     let counts = outcome?;
-    Ok(Wrote { counts, digest })
+    Ok(InputReceipt {
+        counts,
+        input: digest,
+    })
 }

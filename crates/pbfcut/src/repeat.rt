@@ -1,10 +1,10 @@
 //! Passes after the first one, whose bytes have to have its digest.
 
-ghost use Rattle.std.specs.Prelude.{◌≡◌, IfOk, IfErr, OnOk, OnErr, Ok, Err, true, false, if◌then◌else◌};
+ghost use Rattle.std.specs.Prelude.{◌≡◌, IfOk, IfErr, OnOk, OnErr, Ok, Err, Some, true, false, if◌then◌else◌};
 ghost use Rattle.pbf_block.specs.Header.{header_of};
 ghost use Rattle.pbf_frame.specs.declared.stop.Stop.TheVariants.{Changed};
 ghost use Rattle.pbfcut.specs.Judged.{judged_file};
-ghost use Rattle.pbfcut.specs.Pass.{IsDigest};
+ghost use Rattle.pbfcut.specs.Given.{GaveFile, Took};
 ghost use Rattle.pbfcut.specs.Pick.{pick_of, Packed, PacksFront, IsShort};
 ghost use Rattle.pbfcut.specs.Stops.{ReadFailed, WriteFailed};
 ghost use Rattle.pbfcut.specs.Repeat.{GathersAgain, StopsAgain, as_change};
@@ -55,7 +55,7 @@ impl Repeat {
         feed: &mut F,
         gathering: &mut G,
     ) -> Result<(), Stop>
-        ensures gathered { OnOk result (GathersAgain G.gathered (F.remaining feed.old) self.digest gathering.old gathering.new) }
+        ensures gathered { OnOk result (GaveFile F.Feed feed.old feed.new self.digest (λ file. GathersAgain G.gathered (judged_file (Some file)) gathering.old gathering.new)) }
         ensures stops { IfErr result (StopsAgain self (F.remaining feed.old) (ReadFailed F.Feed feed.old feed.new) ⊥) }
     {
         match judge(alloc, feed, gathering) {
@@ -74,14 +74,13 @@ impl Repeat {
         writing: Writing<'_>,
     ) -> Result<Counts, Stop>
         requires { IsShort (header_of writing.header.now) }
-        ensures packed { IfOk result (Packed (pick_of writing.entry.selection) (header_of writing.entry.header.now) (judged_file (F.remaining feed.old)) (D.taken drain.old) (D.taken drain.new)) }
+        ensures packed { IfOk result (λ counts. GaveFile F.Feed feed.old feed.new self.digest (λ file. Took D.Drain drain.old drain.new (Packed (pick_of writing.entry.selection) (header_of writing.entry.header.now) counts (judged_file (Some file))))) }
         ensures beginning { OnErr result (PacksFront (pick_of writing.entry.selection) (header_of writing.entry.header.now) (judged_file (F.remaining feed.old)) (D.taken drain.old) (D.taken drain.new)) }
-        ensures digest { OnOk result (IsDigest (F.remaining feed.old) self.digest) }
         ensures stops { IfErr result (StopsAgain self (F.remaining feed.old) (ReadFailed F.Feed feed.old feed.new) (WriteFailed D.Drain drain.old drain.new)) }
     {
         match write(alloc, feed, drain, hasher, writing) {
             Ok(wrote) => {
-                self.compare(wrote.digest)?;
+                self.compare(wrote.input)?;
                 Ok(wrote.counts)
             }
             Err(stop) => Err(self.changed(stop)),

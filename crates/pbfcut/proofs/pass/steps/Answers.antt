@@ -1,9 +1,19 @@
-use Rattle.std.proofs.Common.{[], ◌∷◌, ◌++◌, ◌∙◌, arith}
+use Rattle.std.proofs.Common.{[], ◌∷◌, ◌++◌, ◌∙◌, ap, refl, sym, subst, arith, rules}
 use Rattle.std.proofs.lemmas.Result.{err_from_is_err_and}
 use Rattle.pbf_frame.proofs.VerdictLemmas.{gone_more}
+use Rattle.pbfcut.specs.Pass.{HoldsHeader, file_header}
 use Rattle.pbfcut.proofs.GatherLemmas.{gathered_one}
-use Rattle.pbfcut.proofs.StepLemmas.{took_one, stopped_step, loop_stops, fully_first, taken_counts, taken_header}
+use Rattle.pbfcut.proofs.StepLemmas.{took_one, met_end, stopped_step, loop_stops, fully_first, taken_counts, taken_header}
+use Rattle.pbfcut.proofs.ReadingLemmas.{has_read_none, has_read_more, has_read_all}
 use Rattle.pbfcut.proofs.pass.steps.Goals as goal
+
+pub frames-init : goal.frames-init
+frames-init g c = record {
+  done = ([], refl, c.new-pass.ensures.2, c.new-pass.ensures.0, refl, has_read_none g.F.Feed c.args.reader.now);
+  reading = c.requires;
+  counts = search rules;
+  lender = refl;
+}
 
 pub frames-preserved : goal.frames-preserved
 frames-preserved g c =
@@ -17,8 +27,8 @@ frames-preserved g c =
         taken_counts t.frame _ _ frames t.taken.taken so_far.done.2,
         taken_header t.frame _ _ frames t.taken.taken so_far.done.3,
         gathered_one g.G.Gather.gathered frames t.frame _ _ _ so_far.done.4 t.taken.gathered_all,
+        has_read_more g.F.Feed _ _ _ frames t.frame so_far.done.5 t.taken.sound t.gave,
       );
-      carries = λ b h. t.carries b (so_far.carries b h);
       reading = t.reading;
       counts = omega (arith, so_far.counts, t.keeps.counts);
       lender = t.keeps.lender ∙ so_far.lender;
@@ -29,3 +39,16 @@ returns-in_err-step_gather-clause-stops g c =
     let p = err_from_is_err_and c.from_residual.result c.from_residual.ensures.1 in
     let so_far = c.frames.invariant in
     rw (p.1, p.2) (loop_stops g.F.Feed _ _ _ _ ⊥ _ so_far.done.0 _ _ so_far.done.1 so_far.counts (λ f s why. why) (stopped_step g.F.Feed _ _ _ _ _ _ so_far.reading c.in_err-step_gather.ensures.step))
+
+pub returns-clause-taken : goal.returns-clause-taken
+returns-clause-taken g c =
+    let so_far = c.frames.invariant in
+    let frames = so_far.done.0 in
+    let e = met_end g.F.Feed _ _ _ _ _ _ c.if-branch.false so_far.reading c.in_ok-step_gather.ensures.step in
+    has_read_all g.F.Feed _ _ _ frames _ so_far.done.5 e.gave (λ known says. record {
+      frames = frames;
+      says = says;
+      counted = ap (λ p. p.counts) e.stays.0 ∙ so_far.done.2;
+      header = subst (λ p. HoldsHeader (file_header frames) p) (sym e.stays.0) so_far.done.3;
+      gathered_all = e.stays.1 ∙ so_far.done.4;
+    })

@@ -1,4 +1,4 @@
-use Rattle.std.proofs.Common.{◌≡◌, ◌≤◌, ◌-◌, ◌^◌, ℕ, List}
+use Rattle.std.proofs.Common.{◌≡◌, ◌≤◌, ◌-◌, ◌^◌, List}
 use Rattle.std.specs.List.{fold}
 use Rattle.pbf_frame.specs.Frames.{FrameSpec}
 use Rattle.pbf_frame.specs.Verdict.{Gone}
@@ -6,6 +6,7 @@ use Rattle.pbf_frame.specs.Next.{verdict, place_of, IsReading}
 use Rattle.pbfcut.specs.Judged.{fully_known}
 use Rattle.pbfcut.specs.Counting.{counts_of, stored_entities}
 use Rattle.pbfcut.specs.Pass.{HoldsHeader, file_header}
+use Rattle.pbfcut.proofs.ReadingLemmas.{HasRead}
 use Rattle.pbfcut.proofs.pass.steps.Given as goal
 
 -- the frames done are counted, and the verdict is that they come and then those of what is left
@@ -15,8 +16,7 @@ invariant-frames g l =
     let first = l.initial.reader in
     record {
       done : (frames : List FrameSpec) × Gone (fully_known (verdict remaining first)) frames (fully_known (verdict remaining l.reader)) × (l.pass.counts ≡ counts_of (stored_entities frames)) × HoldsHeader (file_header frames) l.pass
-          × (l.gathering ≡ fold g.G.Gather.gathered l.initial.gathering (stored_entities frames));
-      carries : (b : List ℕ) → g.F.Feed.carries first.feed b → g.F.Feed.carries l.reader.feed b;
+          × (l.gathering ≡ fold g.G.Gather.gathered l.initial.gathering (stored_entities frames)) × HasRead g.F.Feed first frames l.reader;
       reading : IsReading l.reader;
       counts : g.F.Feed.failures first.feed ≤ g.F.Feed.failures l.reader.feed;
       lender : g.F.Feed.lender l.reader.feed ≡ g.F.Feed.lender first.feed;

@@ -17,7 +17,7 @@ loop-entity-init g c = record {
   gone = [];
   split = search rules;
   fits = search rules;
-  packed = λ start done h. none_gone start done _ _ h;
+  packed = λ start done h. none_gone g.D.Drain start done _ h;
   counted = search rules;
   going = c.requires.packing;
   begun = c.requires.begun;
@@ -39,7 +39,7 @@ loop-entity-preserved-then-picks g c =
       gone = so_far.gone ++ e ∷ [];
       split = entities_more so_far.gone _ _ _ e c.in-Some.ensures.steps so_far.split;
       fits = fits.1;
-      packed = λ start done h. one_picked pick start done so_far.gone e _ _ c.loop-entity.packer _ picked (so_far.packed start done h) fits.0 c.in_ok-push.ensures.pending c.in_ok-push.ensures.written;
+      packed = λ start done h. one_picked g.D.Drain pick start done so_far.gone e c.loop-entity.packer _ picked (so_far.packed start done h) fits.0 c.in_ok-push.ensures.pending c.in_ok-push.ensures.written;
       counted = count_picked pick _ _ e _ _ _ c.in-Some.ensures.steps picked c.take.ensures so_far.counted;
       going = c.in_ok-push.ensures.packing.1;
       begun = c.push.ensures.header;
@@ -61,7 +61,7 @@ loop-entity-preserved g c =
       gone = so_far.gone ++ e ∷ [];
       split = entities_more so_far.gone _ _ _ e c.in-Some.ensures.steps so_far.split;
       fits = fits.1;
-      packed = λ start done h. one_left pick start done so_far.gone e _ c.loop-entity.packer picked (so_far.packed start done h);
+      packed = λ start done h. one_left g.D.Drain pick start done so_far.gone e c.loop-entity.packer picked (so_far.packed start done h);
       counted = count_left pick _ e _ _ _ c.in-Some.ensures.steps picked so_far.counted;
       going = so_far.going;
       begun = so_far.begun;
@@ -82,7 +82,7 @@ returns-in_err-push-clause-stopped g c =
         refl,
         record {
           begun = λ start done h.
-              stopped_here pick start done so_far.gone _ _ _ (entity_of c.in-Some.entity) _ _ c.loop-entity.packer c.in-Some.ensures.steps so_far.split picked (so_far.packed start done h) fits.0 (c.in_err-push.ensures.front so_far.going);
+              stopped_here g.D.Drain pick start done so_far.gone _ _ _ (entity_of c.in-Some.entity) c.loop-entity.packer _ c.in-Some.ensures.steps so_far.split picked (so_far.packed start done h) fits.0 (c.in_err-push.ensures.front so_far.going);
         },
       );
     })

@@ -1,4 +1,4 @@
-use Rattle.std.proofs.Common.{◌≡◌, ◌++◌, ◌≤◌, List, ℕ, Option, true}
+use Rattle.std.proofs.Common.{◌≡◌, ◌++◌, ◌≤◌, List, true}
 use Rattle.std.specs.List.{AllByRecursion, filter}
 use Rattle.osm_entity.specs.Entity.{EntitySpec}
 use Rattle.osm_entity.specs.Ranges.{EntityFits}
@@ -17,7 +17,7 @@ invariant-loop-entity g l = record {
   gone : List EntitySpec;
   split : gone ++ entities_left l.entity-iterator ≡ entities_left l.fn.entities;
   fits : AllByRecursion EntityFits (entities_left l.entity-iterator);
-  packed : (start : Option (List ℕ)) (done : List EntitySpec) → HasPacked start done (g.D.Drain.taken l.initial.packer.drain) l.initial.packer → HasPacked start (done ++ filter (pick_of l.selection) gone) (g.D.Drain.taken l.packer.drain) l.packer;
+  packed : (start : g.D) (done : List EntitySpec) → HasPacked g.D.Drain start done l.initial.packer → HasPacked g.D.Drain start (done ++ filter (pick_of l.selection) gone) l.packer;
   counted : CountedOn l.counts (filter (pick_of l.selection) (entities_left l.entity-iterator)) (filter (pick_of l.selection) (entities_left l.fn.entities));
   going : IsPacking l.packer;
   begun : has_header l.packer ≡ true;

@@ -1,4 +1,4 @@
-use Rattle.std.proofs.Common.{◌≡◌, ◌≤◌, ◌-◌, ◌^◌, ℕ, List, true}
+use Rattle.std.proofs.Common.{◌≡◌, ◌≤◌, ◌-◌, ◌^◌, List, true}
 use Rattle.std.specs.List.{filter}
 use Rattle.pbf_frame.specs.Frames.{FrameSpec}
 use Rattle.pbf_frame.specs.Verdict.{Gone}
@@ -7,6 +7,7 @@ use Rattle.osm_pack.specs.Packing.{IsPacking, has_header}
 use Rattle.pbfcut.specs.Counting.{counts_of, stored_entities}
 use Rattle.pbfcut.specs.Judged.{fully_known}
 use Rattle.pbfcut.specs.Pick.{HasPacked, pick_of}
+use Rattle.pbfcut.proofs.ReadingLemmas.{HasRead}
 use Rattle.pbfcut.proofs.pick.write_steps.Given as goal
 
 -- what is picked of the frames done was packed and counted, and the verdict is that these frames come and then those of what is left
@@ -16,9 +17,8 @@ invariant-frames g l =
     let first = l.initial.reader in
     record {
       done : (frames : List FrameSpec) × Gone (fully_known (verdict remaining first)) frames (fully_known (verdict remaining l.reader))
-          × HasPacked (g.D.Drain.taken l.initial.packer.drain) (filter (pick_of l.writing.selection) (stored_entities frames)) (g.D.Drain.taken l.packer.drain) l.packer
-          × (l.pass.counts ≡ counts_of (filter (pick_of l.writing.selection) (stored_entities frames)));
-      carries : (b : List ℕ) → g.F.Feed.carries first.feed b → g.F.Feed.carries l.reader.feed b;
+          × HasPacked g.D.Drain l.initial.packer.drain (filter (pick_of l.writing.selection) (stored_entities frames)) l.packer
+          × (l.pass.counts ≡ counts_of (filter (pick_of l.writing.selection) (stored_entities frames))) × HasRead g.F.Feed first frames l.reader;
       reading : IsReading l.reader;
       going : IsPacking l.packer;
       begun : has_header l.packer ≡ true;

@@ -1,10 +1,14 @@
 use Rattle.std.proofs.lemmas.Result.{err_from_is_err_and}
 use Rattle.pbf_block.specs.Header.{header_of}
 use Rattle.pbfcut.specs.Pick.{pick_of}
-use Rattle.pbfcut.proofs.PickingLemmas.{packed_front}
+use Rattle.pbfcut.proofs.GivenLemmas.{tells_file}
+use Rattle.pbfcut.proofs.PickingLemmas.{packed_front, packed_told}
 use Rattle.pbfcut.proofs.repeat.Repeat.write.Goals as goal
 
 pub returns-in_err-compare-in-Ok-clause-beginning : goal.returns-in_err-compare-in-Ok-clause-beginning
 returns-in_err-compare-in-Ok-clause-beginning g c =
     let p = err_from_is_err_and c.from_residual.result c.from_residual.ensures.1 in
-    rw p.1 (packed_front (pick_of c.args.writing.selection) (header_of c.args.writing.header.now) _ _ _ _ c.in-Ok.ensures.packed)
+    let given = c.in-Ok.ensures.packed in
+    let took = given.holding in
+    rw p.1 (packed_front (pick_of c.args.writing.selection) (header_of c.args.writing.header.now) _ _ _ _ took.written
+    (packed_told _ _ _ _ given.file took.written (tells_file g.F.Feed _ _ _ _ given) took.holding) took.added.told)

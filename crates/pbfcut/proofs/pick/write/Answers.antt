@@ -1,0 +1,26 @@
+use Rattle.std.proofs.Common.{zero, suc, [], rules}
+use Rattle.pbf_frame.proofs.Passed.{added_as}
+use Rattle.pbfcut.proofs.GivenLemmas.{supplied_as}
+use Rattle.pbfcut.proofs.pick.write.Goals as goal
+
+pub returns-clause-packed : goal.returns-clause-packed
+returns-clause-packed g c =
+    let given = c.in_ok-counts.ensures.packed in
+    let took = given.holding in
+    record {
+      file = given.bytes;
+      supplied = supplied_as g.F.Feed c.new-reader.result.feed.feed.now c.args.feed.now c.write_steps-outcome.new.reader.feed.feed.now _ given.bytes (search rules) (search rules) record {
+        told = given.supplied.told;
+        end = given.supplied.end;
+        logged = λ log. given.supplied.logged (suc log);
+      };
+      digest_is = c.digest-digest.ensures.digest given.bytes (given.supplied.logged zero [] (rw c.new-reader.ensures.feed c.new.ensures.hasher));
+      holding = record {
+        written = took.written;
+        added = added_as g.D.Drain c.new-packer.result.drain.now c.args.drain.now c.write_steps-outcome.new.packer.drain.now _ took.written (search rules) (search rules) record {
+          told = took.added.told;
+          logged = took.added.logged;
+        };
+        holding = took.holding;
+      };
+    }
