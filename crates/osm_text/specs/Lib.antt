@@ -1,4 +1,5 @@
 pub mod Dates
 pub mod Quoted
+pub mod Digests
 pub mod EntityText
 pub mod HeaderText

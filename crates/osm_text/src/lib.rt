@@ -3,11 +3,13 @@
 #![tactic(auto)]
 
 mod dates;
+mod digests;
 mod entity_text;
 mod header_text;
 mod number;
 mod quoted;
 
+pub use digests::put_digest_line;
 pub use entity_text::put_entity;
 pub use header_text::put_header;
 pub use number::put_number;

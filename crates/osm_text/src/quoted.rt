@@ -7,7 +7,7 @@ ghost use Rattle.osm_text.specs.Quoted.{hex_digit, quoted_byte, quoted};
 use std::alloc::AllocError;
 
 /// A digit of base 16, in lower case.
-fn hex_digit(digit: u8) -> u8
+pub(crate) fn hex_digit(digit: u8) -> u8
     requires { digit < 16 }
     ensures { result ≡ hex_digit digit }
 {

@@ -46,6 +46,10 @@ module _ {F : Type 0} (f : feed.Ghosts F) (old new : F) (digest : List ℕ) wher
   pub told_says : (holds : List ℕ → Type 0) (v : Verdict) (given : GaveFile f old new digest holds) → Says (judged_file (Some given.file)) v → Says (judged_file (f.remaining old)) v
   told_says holds v given says = says_told (f.remaining old) given.file v (tells_file holds given) says
 
+-- two feeds that report the same bytes gave one file
+pub one_file : (first other : Option (List ℕ)) (file second b : List ℕ) → Tells first file → Tells other second → first ≡ Some b → other ≡ Some b → file ≡ second
+one_file first other file second b tells too is also = tells b is ∙ sym (too b also)
+
 -- the same of devices that are equal
 pub supplied_as : {F : Type 0} (f : feed.Ghosts F) (first old last new : F) (file : List ℕ) → first ≡ old → last ≡ new → Supplied f first file last → Supplied f old file new
 supplied_as f first old last new file e e2 supplied = subst (λ x. Supplied f x file new) e (subst (λ x. Supplied f first file x) e2 supplied)

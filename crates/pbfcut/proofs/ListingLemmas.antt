@@ -3,10 +3,13 @@ use Rattle.std.proofs.Common.{◌≡◌, ◌⊎◌, ℕ, List, [], ◌∷◌, �
 use Rattle.std.specs.List.{flat_map}
 use Rattle.std.proofs.lemmas.List.{append-nil}
 use Rattle.std.proofs.lemmas.Grind.{flat_map-append}
+use Rattle.pbf_frame.specs.declared.device.Drain as drain
 use Rattle.pbf_frame.specs.Devices.{append, IsFront}
+use Rattle.pbf_frame.specs.Transfers.{Added}
 use Rattle.pbf_frame.specs.Frames.{FrameSpec}
 use Rattle.pbf_frame.specs.Verdict.{Verdict, Gone, with_first_known}
 use Rattle.pbf_frame.proofs.KnownBytes.{append_append}
+use Rattle.pbf_frame.proofs.Passed.{added_more, added_same}
 use Rattle.pbf_frame.proofs.Beginnings.{front_whole, front_longer, front_then}
 use Rattle.pbf_frame.proofs.VerdictLemmas.{gone_more, gone_split}
 use Rattle.pbfcut.specs.Blobs.{line}
@@ -18,6 +21,10 @@ text_one text xs x = flat_map-append text xs (x ∷ []) ∙ ap (λ (l : List ℕ
 
 pub texts_more : {A : Type 0} (text : A → List ℕ) (before mid now : Option (List ℕ)) (xs : List A) (x : A) → mid ≡ append before (flat_map text xs) → now ≡ append mid (text x) → now ≡ append before (flat_map text (xs ++ x ∷ []))
 texts_more text before mid now xs x e e2 = e2 ∙ ap (λ (k : Option (List ℕ)). append k (text x)) e ∙ append_append before (flat_map text xs) (text x) ∙ ap (append before) (sym (text_one text xs x))
+
+-- the same of what a drain took, whether it reports it or not
+pub texts_added : {A D : Type 0} (d : drain.Ghosts D) (text : A → List ℕ) (before mid now : D) (xs : List A) (x : A) → Added d before (flat_map text xs) mid → Added d mid (text x) now → Added d before (flat_map text (xs ++ x ∷ [])) now
+texts_added d text before mid now xs x so_far more = added_same d before now _ _ (sym (text_one text xs x)) (added_more d before mid now (flat_map text xs) (text x) so_far more)
 
 pub took_line : (old_verdict verdict : Option Verdict) (old new : Option (List ℕ)) (more : Bool) → more ≡ true → TookLine old_verdict verdict old new more → (f : FrameSpec) × (old_verdict ≡ with_first_known f verdict) × (new ≡ append old (line f))
 took_line old_verdict verdict old new more e took = subst (TookLine old_verdict verdict old new) e took

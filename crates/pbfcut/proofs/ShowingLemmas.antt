@@ -1,5 +1,5 @@
 -- The text of frames, and why its writing stops.
-use Rattle.std.proofs.Common.{◌≡◌, ℕ, List, [], ◌∷◌, ◌++◌, append_assoc, Bool, true, Option, Some, None, subst, inl, inr, refl, sym, ap, ◌∙◌}
+use Rattle.std.proofs.Common.{◌≡◌, ◌⊎◌, Err, ℕ, List, [], ◌∷◌, ◌++◌, append_assoc, Bool, true, Option, Some, None, subst, inl, inr, refl, sym, ap, ◌∙◌}
 use Rattle.std.specs.List.{flat_map}
 use Rattle.std.proofs.lemmas.Grind.{flat_map-append}
 use Rattle.osm_entity.specs.Entity.{EntitySpec}
@@ -10,27 +10,54 @@ use Rattle.pbf_frame.specs.Devices.{append, HasRisen, IsFront}
 use Rattle.pbf_frame.specs.Frames.{FrameSpec}
 use Rattle.pbf_frame.specs.Stops.{stop_of}
 use Rattle.pbf_frame.specs.Verdict.{Verdict, with_first_known}
-use Rattle.pbfcut.specs.Judged.{payload_fault, fully_known}
-use Rattle.pbfcut.specs.Showing.{frame_text, TookText, StoppedInText}
+use Rattle.pbf_frame.specs.declared.device.Drain as drain
+use Rattle.pbf_frame.specs.declared.device.Feed as feed
+use Rattle.pbf_frame.specs.declared.reader.FrameReader.{FrameReader}
+use Rattle.pbf_frame.specs.declared.stop.Stop.{Stop}
+use Rattle.pbf_frame.specs.Next.{Gave, verdict}
+use Rattle.pbf_frame.specs.Reads.{IsReaderStop}
+use Rattle.pbf_block.specs.declared.counts.Counts.{Counts}
+use Rattle.pbfcut.specs.Judged.{payload_fault, fully_known, judged_file}
+use Rattle.pbfcut.specs.Pass.{CountsFile}
+use Rattle.pbfcut.specs.Showing.{frame_text, Shown, StopsShowing, StoppedInPayload}
 use Rattle.pbfcut.specs.Stops.{Caused, Only, unchanged}
 use Rattle.pbf_frame.proofs.Beginnings.{front_longer, front_then}
 use Rattle.osm_text.specs.EntityText.{entity_line}
 use Rattle.pbfcut.proofs.ListingLemmas.{StoppedWithin, text_one}
-use Rattle.pbfcut.proofs.StepLemmas.{fully_first}
+use Rattle.pbfcut.proofs.GivenLemmas.{Tells, says_told}
+use Rattle.pbfcut.proofs.StepLemmas.{StoppedStep, fully_first}
 
 -- why the reading of a payload stops
 pub read_stops : (fault : Option Fault) (e : ReadFault) (before now : ℕ) → ((x : Fault) → e ≡ read.Refused x → fault ≡ Some x) → Caused (Only fault) ⊥ (HasRisen before now) unchanged (stop_of e)
 read_stops fault (read.Refused x) before now refused = refused x refl
 read_stops fault read.Memory before now refused = tt
 
-pub took_text : (dates : Bool) (old_verdict verdict : Option Verdict) (old new : Option (List ℕ)) (more : Bool) → more ≡ true → TookText dates old_verdict verdict old new more
-    → (f : FrameSpec) × (old_verdict ≡ with_first_known f verdict) × (payload_fault f ≡ None) × (new ≡ append old (frame_text dates f))
-took_text dates old_verdict verdict old new more e took = subst (TookText dates old_verdict verdict old new) e took
+-- whatever a step that stopped wrote, it went out of the next frame's text
+pub stopped_fully : {F D : Type 0} (g : feed.Ghosts F) (d : drain.Ghosts D) (dates : Bool) (reader read : FrameReader F) (old new : D) (s : Stop) → StoppedStep g reader read (StopsShowing d dates old new) (new ≡ old) s
+    → StoppedWithin (frame_text dates) (fully_known (verdict g.remaining reader)) (d.taken old) (d.taken new)
+stopped_fully g d dates reader read old new s stopped = of stopped.where_it_stopped where
+  mid : Option Verdict
+  mid = verdict g.remaining reader
 
--- the same by the verdict of all phases
-pub stopped_fully : (dates : Bool) (known : Option Verdict) (old new : Option (List ℕ)) → StoppedInText dates known old new → StoppedWithin (frame_text dates) (fully_known known) old new
-stopped_fully dates known old new (inl same) = inl same
-stopped_fully dates known old new (inr (f, rest, is, sound, front)) = inr (f, fully_known rest, fully_first known rest f is sound, front)
+  at_frame : (f : FrameSpec) → mid ≡ with_first_known f (verdict g.remaining read) → StoppedInPayload (payload_fault f) (frame_text dates f) (d.taken old) (d.taken new) → StoppedWithin (frame_text dates) (fully_known mid) (d.taken old) (d.taken new)
+  at_frame f is (inl same) = inl same
+  at_frame f is (inr (sound, front)) = inr (f, fully_known (verdict g.remaining read), fully_first mid (verdict g.remaining read) f is sound, front)
+
+  of : ((Gave mid (Err s) (verdict g.remaining read) × IsReaderStop (g.failures reader.feed) (g.failures read.feed) s × (new ≡ old)) ⊎ ((f : FrameSpec) × (mid ≡ with_first_known f (verdict g.remaining read)) × StopsShowing d dates old new f s))
+      → StoppedWithin (frame_text dates) (fully_known mid) (d.taken old) (d.taken new)
+  of (inl (gave, why, same)) = inl (ap d.taken same)
+  of (inr (f, is, why)) = at_frame f is why.front
+
+-- the text of the file that is given is that of the file that is reported
+pub shown_told : (dates : Bool) (known : Option (List ℕ)) (file written : List ℕ) → Tells known file → Shown dates (judged_file (Some file)) written → Shown dates (judged_file known) written
+shown_told dates known file written tells shown = record {
+  frames = shown.frames;
+  says = says_told known file (shown.frames, None) tells shown.says;
+  is = shown.is;
+}
+
+pub counts_told : (known : Option (List ℕ)) (file : List ℕ) (counts : Counts) → Tells known file → CountsFile (judged_file (Some file)) counts → CountsFile (judged_file known) counts
+counts_told known file counts tells c = (c.0, says_told known file (c.0, None) tells c.1, c.2)
 
 -- one entity more is done
 pub entities_more : (done left rest all : List EntitySpec) (e : EntitySpec) → left ≡ e ∷ rest → done ++ left ≡ all → (done ++ e ∷ []) ++ rest ≡ all

@@ -1,4 +1,4 @@
--- The stored_entities entities of a file. They are counted as those of a block are.
+-- The entities of a file as they are stored. They are counted as those of a block are.
 use Rattle.std.specs.Prelude.{ℕ, List, []}
 use Rattle.std.specs.List.{flat_map}
 use Rattle.osm_entity.specs.Entity.{EntitySpec}

@@ -6,12 +6,16 @@ use Rattle.pbf_block.specs.Header.{header_in}
 use Rattle.pbf_block.specs.Payload.{entities}
 use Rattle.pbf_frame.specs.declared.frame.FrameKind.{FrameKind}
 use Rattle.pbf_frame.specs.declared.frame.FrameKind.TheVariants as kind
-use Rattle.pbf_frame.specs.Devices.{append, IsFront}
+use Rattle.pbf_frame.specs.declared.device.Drain as drain
+use Rattle.pbf_frame.specs.declared.stop.Stop.{Stop}
+use Rattle.pbf_frame.specs.Devices.{IsFront}
+use Rattle.pbf_frame.specs.Transfers.{Added}
 use Rattle.pbf_frame.specs.Frames.{FrameSpec, frame_kind, frame_payload, frame_payload_at}
-use Rattle.pbf_frame.specs.Verdict.{Verdict, with_first_known, Says}
+use Rattle.pbf_frame.specs.Verdict.{Verdict, Says}
 use Rattle.osm_text.specs.EntityText.{entity_line}
 use Rattle.osm_text.specs.HeaderText.{header_text}
 use Rattle.pbfcut.specs.Judged.{payload_fault}
+use Rattle.pbfcut.specs.Stops.{Caused, Only, unchanged, WriteFailed}
 
 -- ---- the text
 
@@ -35,9 +39,11 @@ answer_text dates (frames, Some e) = []
 
 -- ---- a whole call
 
--- the file has no fault, and the text of its frames went out
-abbrev pub Shown : Bool → Option Verdict → Option (List ℕ) → Option (List ℕ) → Type 0
-Shown dates known old new = (frames : List FrameSpec) × Says known (frames, None) × (new ≡ append old (file_text dates frames))
+-- the file has no fault, and these bytes are the text of its frames
+pub record Shown (dates : Bool) (known : Option Verdict) (written : List ℕ) : Type 0 where
+  pub frames : List FrameSpec
+  pub says : Says known (frames, None)
+  pub is : written ≡ file_text dates frames
 
 -- a beginning of what is to be written for the file went out
 abbrev pub ShowsFront : Bool → Option Verdict → Option (List ℕ) → Option (List ℕ) → Type 0
@@ -51,17 +57,16 @@ WritesFront dates known old new = (all : Verdict) → known ≡ Some all → IsF
 
 -- ---- one frame of it
 
--- the next frame has no fault, and its text went out; or there was none
-abbrev pub TookText : Bool → Option Verdict → Option Verdict → Option (List ℕ) → Option (List ℕ) → Bool → Type 0
-TookText dates old_verdict verdict old new true = (f : FrameSpec) × (old_verdict ≡ with_first_known f verdict) × (payload_fault f ≡ None) × (new ≡ append old (frame_text dates f))
-TookText dates old_verdict verdict old new false = Says old_verdict ([], None) × (new ≡ old)
-
--- of the next frame nothing went out; or it has no fault, and a beginning of its text went out
-abbrev pub StoppedInText : Bool → Option Verdict → Option (List ℕ) → Option (List ℕ) → Type 0
-StoppedInText dates known old new = (new ≡ old) ⊎ ((f : FrameSpec) × (rest : Option Verdict) × (known ≡ with_first_known f rest) × (payload_fault f ≡ None) × IsFront old new (frame_text dates f))
-
--- ---- one payload
+-- a frame without a fault was shown
+pub record ShowsFrame {D : Type 0} (d : drain.Ghosts D) (dates : Bool) (old new : D) (f : FrameSpec) : Type 0 where
+  pub sound : payload_fault f ≡ None
+  pub added : Added d old (frame_text dates f) new
 
 -- of a payload with a fault nothing went out, else a beginning of its text
 abbrev pub StoppedInPayload : Option Fault → List ℕ → Option (List ℕ) → Option (List ℕ) → Type 0
 StoppedInPayload fault text old new = (new ≡ old) ⊎ ((fault ≡ None) × IsFront old new text)
+
+-- a step stopped at a frame
+pub record StopsShowing {D : Type 0} (d : drain.Ghosts D) (dates : Bool) (old new : D) (f : FrameSpec) (stop : Stop) : Type 0 where
+  pub cause : Caused (Only (payload_fault f)) ⊥ (WriteFailed d old new) unchanged stop
+  pub front : StoppedInPayload (payload_fault f) (frame_text dates f) (d.taken old) (d.taken new)

@@ -1,11 +1,13 @@
 //! `check`: a whole file, judged and counted.
 
-ghost use Rattle.std.specs.Prelude.{◌≤◌, IfOk, IfErr};
+ghost use Rattle.std.specs.Prelude.{◌≤◌, Some, IfOk, IfErr};
+ghost use Rattle.pbfcut.specs.Given.{GaveFile};
 ghost use Rattle.pbfcut.specs.Judged.{judged_file};
 ghost use Rattle.pbfcut.specs.Pass.{CountsFile};
 ghost use Rattle.pbfcut.specs.Stops.{Caused, FaultOf, unchanged, ReadFailed};
 
 use crate::pass::{Nothing, judge};
+use crate::receipt::InputReceipt;
 use pbf_block::Counts;
 use pbf_frame::{Feed, Stop};
 use std::alloc::Global;
@@ -19,5 +21,20 @@ pub fn check<F: Feed>(alloc: Global, feed: &mut F) -> Result<Counts, Stop>
     ensures stops { IfErr result (Caused (FaultOf (judged_file (F.remaining feed.old))) (ReadFailed F.Feed feed.old feed.new) ⊥ unchanged) }
     ensures counts { F.failures feed.old ≤ F.failures feed.new }
 {
-    Ok(judge(alloc, feed, &mut Nothing)?.pass.counts)
+    Ok(check_with_receipt(alloc, feed)?.counts)
+}
+
+/// As [`check`], and reports the digest of the bytes that were judged, whether the feed reports its bytes or not.
+pub fn check_with_receipt<F: Feed>(alloc: Global, feed: &mut F) -> Result<InputReceipt, Stop>
+    // The feed gave a file of this digest, to its end. It has no fault, and the counts are those of its entities.
+    ensures receipt { IfOk result (λ receipt. GaveFile F.Feed feed.old feed.new receipt.input
+        (λ file. CountsFile (judged_file (Some file)) receipt.counts)) }
+    ensures stops { IfErr result (Caused (FaultOf (judged_file (F.remaining feed.old))) (ReadFailed F.Feed feed.old feed.new) ⊥ unchanged) }
+    ensures counts { F.failures feed.old ≤ F.failures feed.new }
+{
+    let told = judge(alloc, feed, &mut Nothing)?;
+    Ok(InputReceipt {
+        counts: told.pass.counts,
+        input: told.digest,
+    })
 }

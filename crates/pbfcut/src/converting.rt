@@ -1,16 +1,19 @@
 //! `convert`: all entities, in canonical form.
 
-ghost use Rattle.std.specs.Prelude.{◌⊎◌, ℕ, List, IfOk, IfErr, OnOk, OnErr};
+ghost use Rattle.std.specs.Prelude.{◌≡◌, ◌⊎◌, ℕ, List, IfOk, IfErr, OnOk, OnErr};
 ghost use Rattle.pbf_frame.specs.Devices.{IsFront};
-ghost use Rattle.pbfcut.specs.Calls.{BothSupply, Converted, RefusedFirst, ChangedIn};
+ghost use Rattle.pbfcut.specs.Calls.{BothSupply, Converted, ConvertStops};
 ghost use Rattle.pbfcut.specs.Converting.{CanBeWritten, judged_writable};
-ghost use Rattle.pbfcut.specs.Kept.{conversion_of};
+ghost use Rattle.pbfcut.specs.Given.{GaveFile, Took, TookFile};
+ghost use Rattle.pbfcut.specs.Kept.{IsWritable, conversion_of};
 ghost use Rattle.pbfcut.specs.Repeat.{SameDigest};
-ghost use Rattle.pbfcut.specs.Stops.{Caused, ReadFailed, WriteFailed};
+ghost use Rattle.pbfcut.specs.Stops.{ReadFailed, WriteFailed};
 
+use crate::hashed::HashedDrain;
 use crate::header_limit::writable_header;
 use crate::pass::{Nothing, judge};
 use crate::pick::{Selection, Writing};
+use crate::receipt::{InputReceipt, Receipt};
 use crate::repeat::Repeat;
 use pbf_block::Counts;
 use pbf_frame::{Drain, Feed, Stop};
@@ -37,15 +40,58 @@ pub fn convert<F: Feed, G: Feed, D: Drain, S: BuildHasher + Drop>(
     ensures judged { OnOk result (CanBeWritten (judged_writable (F.remaining first.old))) }
     // Where both feeds supply these bytes, the drain took exactly their conversion: a file that is read as the same entities. The
     // counts are theirs.
-    ensures converted { IfOk result (λ counts. (b : List ℕ) → BothSupply b (F.remaining first.old) (G.remaining second.old) → Converted b counts (D.taken drain.old) (D.taken drain.new)) }
+    ensures converted { IfOk result (λ counts. (b : List ℕ) → BothSupply b (F.remaining first.old) (G.remaining second.old)
+        → Took D.Drain drain.old drain.new (Converted b counts)) }
     // No files that differ, unless two unlike lists share a digest.
     ensures digests { OnOk result (SameDigest (F.remaining first.old) (G.remaining second.old)) }
     // Each stop has its cause; what is refused is the first file, by its first fault, and then the drain took nothing.
-    ensures stops { IfErr result (Caused (RefusedFirst (judged_writable (F.remaining first.old)) (D.taken drain.old) (D.taken drain.new))
-        (ReadFailed F.Feed first.old first.new ⊎ ReadFailed G.Feed second.old second.new)
-        (WriteFailed D.Drain drain.old drain.new)
-        (ChangedIn 2 (F.remaining first.old) (G.remaining second.old))) }
+    ensures stops { IfErr result (ConvertStops (F.remaining first.old) (G.remaining second.old) (D.taken drain.old) (D.taken drain.new)
+        (ReadFailed F.Feed first.old first.new ⊎ ReadFailed G.Feed second.old second.new) (WriteFailed D.Drain drain.old drain.new)) }
     // Whatever stopped it, where both feeds supply these bytes a prefix of their conversion went out, and nothing where they have a fault.
+    ensures beginning { OnErr result ((b : List ℕ) → BothSupply b (F.remaining first.old) (G.remaining second.old) → IsFront (D.taken drain.old) (D.taken drain.new) (conversion_of b)) }
+{
+    Ok(convert_file(alloc, first, second, drain, hasher)?.counts)
+}
+
+/// As [`convert`], and reports the digests of what was read and of what was written, whether the devices report their bytes or not.
+pub fn convert_with_receipt<F: Feed, G: Feed, D: Drain, S: BuildHasher + Drop>(
+    alloc: Global,
+    first: &mut F,
+    second: &mut G,
+    drain: &mut D,
+    hasher: S,
+) -> Result<Receipt, Stop>
+    // Each feed gave a file of the digest `input`, to its end; the first has no fault, and its header can be written. The drain took
+    // bytes of the digest `output`. Where both files are one, these bytes are exactly its conversion, and the counts are its.
+    ensures receipt { IfOk result (λ receipt. GaveFile F.Feed first.old first.new receipt.input (λ b. IsWritable b
+        × GaveFile G.Feed second.old second.new receipt.input (λ c. TookFile D.Drain drain.old drain.new receipt.output
+        (λ written. b ≡ c → Converted b receipt.counts written)))) }
+    ensures stops { IfErr result (ConvertStops (F.remaining first.old) (G.remaining second.old) (D.taken drain.old) (D.taken drain.new)
+        (ReadFailed F.Feed first.old first.new ⊎ ReadFailed G.Feed second.old second.new) (WriteFailed D.Drain drain.old drain.new)) }
+    // Whatever stopped it, where both feeds supply these bytes a prefix of their conversion went out, and nothing where they have a fault.
+    ensures beginning { OnErr result ((b : List ℕ) → BothSupply b (F.remaining first.old) (G.remaining second.old) → IsFront (D.taken drain.old) (D.taken drain.new) (conversion_of b)) }
+{
+    let mut hashed = HashedDrain::new(&mut *drain);
+    let outcome = convert_file(alloc, first, second, &mut hashed, hasher);
+    let output = hashed.digest();
+    // What is known of the drain comes back with the reference itself.
+    let _drain = hashed.into_inner();
+    Ok(outcome?.with_output(output))
+}
+
+/// The work of [`convert`].
+fn convert_file<F: Feed, G: Feed, D: Drain, S: BuildHasher + Drop>(
+    alloc: Global,
+    first: &mut F,
+    second: &mut G,
+    drain: &mut D,
+    hasher: S,
+) -> Result<InputReceipt, Stop>
+    ensures given { IfOk result (λ receipt. GaveFile F.Feed first.old first.new receipt.input (λ b. IsWritable b
+        × GaveFile G.Feed second.old second.new receipt.input (λ c. Took D.Drain drain.old drain.new
+        (λ written. b ≡ c → Converted b receipt.counts written)))) }
+    ensures stops { IfErr result (ConvertStops (F.remaining first.old) (G.remaining second.old) (D.taken drain.old) (D.taken drain.new)
+        (ReadFailed F.Feed first.old first.new ⊎ ReadFailed G.Feed second.old second.new) (WriteFailed D.Drain drain.old drain.new)) }
     ensures beginning { OnErr result ((b : List ℕ) → BothSupply b (F.remaining first.old) (G.remaining second.old) → IsFront (D.taken drain.old) (D.taken drain.new) (conversion_of b)) }
 {
     let told = judge(alloc, first, &mut Nothing)?;
@@ -57,5 +103,9 @@ pub fn convert<F: Feed, G: Feed, D: Drain, S: BuildHasher + Drop>(
         number: 2,
         digest: told.digest,
     };
-    last.write(alloc, second, drain, hasher, writing)
+    let counts = last.write(alloc, second, drain, hasher, writing)?;
+    Ok(InputReceipt {
+        counts,
+        input: told.digest,
+    })
 }

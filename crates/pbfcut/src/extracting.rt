@@ -1,22 +1,25 @@
 //! `extract` and `extract_parents`: what a box cuts out of a file, in canonical form.
 
-ghost use Rattle.std.specs.Prelude.{◌⊎◌, ℕ, List, IfOk, IfErr, OnOk, OnErr};
+ghost use Rattle.std.specs.Prelude.{◌≡◌, ◌⊎◌, ℕ, List, IfOk, IfErr, OnOk, OnErr};
 ghost use Rattle.osm_ways.specs.Parents.{extract_with_parents};
 ghost use Rattle.osm_ways.specs.Seen.{seen_decoded};
 ghost use Rattle.osm_ways.specs.Selection.{extract};
 ghost use Rattle.pbf_block.specs.Header.{header_of};
 ghost use Rattle.pbf_block.specs.WrittenHeader.{edges_of, EdgesTyped};
 ghost use Rattle.pbf_frame.specs.Devices.{IsFront};
-ghost use Rattle.pbfcut.specs.Calls.{AllSupply, FourSupply, Extracted, RefusedFirst, ChangedIn, ChangedBefore};
+ghost use Rattle.pbfcut.specs.Calls.{AllSupply, FourSupply, Extracted, ExtractStops, ParentsStops, ChangedIn};
 ghost use Rattle.pbfcut.specs.Converting.{CanBeWritten, judged_writable};
 ghost use Rattle.pbfcut.specs.Extracting.{complete_ways, all_parents, IsChoice, IsChoiceWithParents};
-ghost use Rattle.pbfcut.specs.Kept.{extract_of};
+ghost use Rattle.pbfcut.specs.Given.{GaveFile, Took, TookFile};
+ghost use Rattle.pbfcut.specs.Kept.{IsWritable, extract_of};
 ghost use Rattle.pbfcut.specs.Repeat.{SameDigest};
 ghost use Rattle.pbfcut.specs.Stops.{Caused, FaultOf, ReadFailed, WriteFailed};
 
+use crate::hashed::HashedDrain;
 use crate::header_limit::writable_header;
 use crate::pass::judge;
 use crate::pick::{Selection, Writing};
+use crate::receipt::{InputReceipt, Receipt};
 use crate::repeat::Repeat;
 use osm_entity::BoundingBox;
 use osm_ways::{Chosen, ChosenParents, NodePhase};
@@ -56,7 +59,8 @@ fn choose<F: Feed, G: Feed>(
     second: &mut G,
     area: BoundingBox,
 ) -> Result<Choice, Stop>
-    ensures chosen { IfOk result (λ choice. IsChoice area (F.remaining first.old) (G.remaining second.old) choice.chosen (header_of choice.header) choice.digest) }
+    ensures chosen { IfOk result (λ choice. GaveFile F.Feed first.old first.new choice.digest (λ b.
+        GaveFile G.Feed second.old second.new choice.digest (λ c. IsChoice area b c choice.chosen (header_of choice.header)))) }
     ensures stops { IfErr result (Caused (FaultOf (judged_writable (F.remaining first.old)))
         (ReadFailed F.Feed first.old first.new ⊎ ReadFailed G.Feed second.old second.new) ⊥
         (ChangedIn 2 (F.remaining first.old) (G.remaining second.old))) }
@@ -102,27 +106,81 @@ pub fn extract<F: Feed, G: Feed, H: Feed, D: Drain, S: BuildHasher + Drop>(
     ensures judged { OnOk result (CanBeWritten (judged_writable (F.remaining first.old))) }
     // Where all feeds supply these bytes, the drain took exactly the complete-ways extract of the decoded bytes, in input order and
     // in canonical form, after the header of the box; the counts are those of its entities.
-    ensures extracted { IfOk result (λ counts. (b : List ℕ) → AllSupply b (F.remaining first.old) (G.remaining second.old) (H.remaining third.old) → Extracted (complete_ways area) (extract (seen_decoded area)) area b counts (D.taken drain.old) (D.taken drain.new)) }
+    ensures extracted { IfOk result (λ counts. (b : List ℕ) → AllSupply b (F.remaining first.old) (G.remaining second.old) (H.remaining third.old)
+        → Took D.Drain drain.old drain.new (Extracted (complete_ways area) (extract (seen_decoded area)) area b counts)) }
     // No files that differ, unless two unlike lists share a digest.
     ensures digests { OnOk result (SameDigest (F.remaining first.old) (G.remaining second.old) × SameDigest (F.remaining first.old) (H.remaining third.old)) }
     // Each stop has its cause; what is refused is the first file, by its first fault, and then the drain took nothing.
-    ensures stops { IfErr result (Caused (RefusedFirst (judged_writable (F.remaining first.old)) (D.taken drain.old) (D.taken drain.new))
+    ensures stops { IfErr result (ExtractStops (F.remaining first.old) (G.remaining second.old) (H.remaining third.old) (D.taken drain.old) (D.taken drain.new)
         (ReadFailed F.Feed first.old first.new ⊎ (ReadFailed G.Feed second.old second.new ⊎ ReadFailed H.Feed third.old third.new))
-        (WriteFailed D.Drain drain.old drain.new)
-        (λ pass. ChangedBefore 2 (F.remaining first.old) (G.remaining second.old) (D.taken drain.old) (D.taken drain.new) pass ⊎ ChangedIn 3 (F.remaining first.old) (H.remaining third.old) pass)) }
+        (WriteFailed D.Drain drain.old drain.new)) }
     // Whatever stopped it, where all feeds supply these bytes a prefix of the answer went out, and nothing where they have a fault.
     ensures beginning { OnErr result ((b : List ℕ) → AllSupply b (F.remaining first.old) (G.remaining second.old) (H.remaining third.old) → IsFront (D.taken drain.old) (D.taken drain.new) (extract_of (complete_ways area) area b)) }
 {
+    Ok(extract_file(alloc, first, second, third, area, drain, hasher)?.counts)
+}
+
+/// As [`extract`], and reports the digests of what was read and of what was written, whether the devices report their bytes or not.
+pub fn extract_with_receipt<F: Feed, G: Feed, H: Feed, D: Drain, S: BuildHasher + Drop>(
+    alloc: Global,
+    first: &mut F,
+    second: &mut G,
+    third: &mut H,
+    area: BoundingBox,
+    drain: &mut D,
+    hasher: S,
+) -> Result<Receipt, Stop>
+    // Each feed gave a file of the digest `input`, to its end; the first has no fault, and its header can be written. The drain took
+    // bytes of the digest `output`. Where the files are one, these bytes are exactly its complete-ways extract, and the counts are
+    // those of the entities in it.
+    ensures receipt { IfOk result (λ receipt. GaveFile F.Feed first.old first.new receipt.input (λ b. IsWritable b
+        × GaveFile G.Feed second.old second.new receipt.input (λ c. GaveFile H.Feed third.old third.new receipt.input (λ d.
+        TookFile D.Drain drain.old drain.new receipt.output
+        (λ written. b ≡ c → b ≡ d → Extracted (complete_ways area) (extract (seen_decoded area)) area b receipt.counts written))))) }
+    ensures stops { IfErr result (ExtractStops (F.remaining first.old) (G.remaining second.old) (H.remaining third.old) (D.taken drain.old) (D.taken drain.new)
+        (ReadFailed F.Feed first.old first.new ⊎ (ReadFailed G.Feed second.old second.new ⊎ ReadFailed H.Feed third.old third.new))
+        (WriteFailed D.Drain drain.old drain.new)) }
+    // Whatever stopped it, where all feeds supply these bytes a prefix of the answer went out, and nothing where they have a fault.
+    ensures beginning { OnErr result ((b : List ℕ) → AllSupply b (F.remaining first.old) (G.remaining second.old) (H.remaining third.old) → IsFront (D.taken drain.old) (D.taken drain.new) (extract_of (complete_ways area) area b)) }
+{
+    let mut hashed = HashedDrain::new(&mut *drain);
+    let outcome = extract_file(alloc, first, second, third, area, &mut hashed, hasher);
+    let output = hashed.digest();
+    // What is known of the drain comes back with the reference itself.
+    let _drain = hashed.into_inner();
+    Ok(outcome?.with_output(output))
+}
+
+/// The work of [`extract`].
+fn extract_file<F: Feed, G: Feed, H: Feed, D: Drain, S: BuildHasher + Drop>(
+    alloc: Global,
+    first: &mut F,
+    second: &mut G,
+    third: &mut H,
+    area: BoundingBox,
+    drain: &mut D,
+    hasher: S,
+) -> Result<InputReceipt, Stop>
+    ensures given { IfOk result (λ receipt. GaveFile F.Feed first.old first.new receipt.input (λ b. IsWritable b
+        × GaveFile G.Feed second.old second.new receipt.input (λ c. GaveFile H.Feed third.old third.new receipt.input (λ d.
+        Took D.Drain drain.old drain.new
+        (λ written. b ≡ c → b ≡ d → Extracted (complete_ways area) (extract (seen_decoded area)) area b receipt.counts written))))) }
+    ensures stops { IfErr result (ExtractStops (F.remaining first.old) (G.remaining second.old) (H.remaining third.old) (D.taken drain.old) (D.taken drain.new)
+        (ReadFailed F.Feed first.old first.new ⊎ (ReadFailed G.Feed second.old second.new ⊎ ReadFailed H.Feed third.old third.new))
+        (WriteFailed D.Drain drain.old drain.new)) }
+    ensures beginning { OnErr result ((b : List ℕ) → AllSupply b (F.remaining first.old) (G.remaining second.old) (H.remaining third.old) → IsFront (D.taken drain.old) (D.taken drain.new) (extract_of (complete_ways area) area b)) }
+{
     let choice = choose(alloc, first, second, area)?;
+    let digest = choice.digest;
     let writing = Writing {
         header: &choice.header,
         selection: Selection::Ways(&choice.chosen),
     };
-    let last = Repeat {
-        number: 3,
-        digest: choice.digest,
-    };
-    last.write(alloc, third, drain, hasher, writing)
+    let counts = Repeat { number: 3, digest }.write(alloc, third, drain, hasher, writing)?;
+    Ok(InputReceipt {
+        counts,
+        input: digest,
+    })
 }
 
 /// The passes before the one that writes: over nodes and ways as without parents, and a third that takes the relations.
@@ -133,7 +191,9 @@ fn choose_parents<F: Feed, G: Feed, H: Feed>(
     third: &mut H,
     area: BoundingBox,
 ) -> Result<ChoiceWithParents, Stop>
-    ensures chosen { IfOk result (λ choice. IsChoiceWithParents area (F.remaining first.old) (G.remaining second.old) (H.remaining third.old) choice.chosen (header_of choice.header) choice.digest) }
+    ensures chosen { IfOk result (λ choice. GaveFile F.Feed first.old first.new choice.digest (λ b.
+        GaveFile G.Feed second.old second.new choice.digest (λ c. GaveFile H.Feed third.old third.new choice.digest
+        (λ d. IsChoiceWithParents area b c d choice.chosen (header_of choice.header))))) }
     ensures stops { IfErr result (Caused (FaultOf (judged_writable (F.remaining first.old)))
         (ReadFailed F.Feed first.old first.new ⊎ (ReadFailed G.Feed second.old second.new ⊎ ReadFailed H.Feed third.old third.new)) ⊥
         (λ pass. ChangedIn 2 (F.remaining first.old) (G.remaining second.old) pass ⊎ ChangedIn 3 (F.remaining first.old) (H.remaining third.old) pass)) }
@@ -172,25 +232,98 @@ pub fn extract_parents<F: Feed, G: Feed, H: Feed, I: Feed, D: Drain, S: BuildHas
     ensures judged { OnOk result (CanBeWritten (judged_writable (F.remaining first.old))) }
     // Where all feeds supply these bytes, the drain took exactly the complete-ways extract with all parents of the decoded bytes, in
     // input order and in canonical form, after the header of the box; the counts are those of its entities.
-    ensures extracted { IfOk result (λ counts. (b : List ℕ) → FourSupply b (F.remaining first.old) (G.remaining second.old) (H.remaining third.old) (I.remaining fourth.old) → Extracted (all_parents area) (extract_with_parents (seen_decoded area)) area b counts (D.taken drain.old) (D.taken drain.new)) }
+    ensures extracted { IfOk result (λ counts. (b : List ℕ) → FourSupply b (F.remaining first.old) (G.remaining second.old) (H.remaining third.old) (I.remaining fourth.old)
+        → Took D.Drain drain.old drain.new (Extracted (all_parents area) (extract_with_parents (seen_decoded area)) area b counts)) }
     // No files that differ, unless two unlike lists share a digest.
     ensures digests { OnOk result (SameDigest (F.remaining first.old) (G.remaining second.old) × SameDigest (F.remaining first.old) (H.remaining third.old) × SameDigest (F.remaining first.old) (I.remaining fourth.old)) }
     // Each stop has its cause; what is refused is the first file, by its first fault, and then the drain took nothing.
-    ensures stops { IfErr result (Caused (RefusedFirst (judged_writable (F.remaining first.old)) (D.taken drain.old) (D.taken drain.new))
+    ensures stops { IfErr result (ParentsStops (F.remaining first.old) (G.remaining second.old) (H.remaining third.old) (I.remaining fourth.old) (D.taken drain.old) (D.taken drain.new)
         ((ReadFailed F.Feed first.old first.new ⊎ (ReadFailed G.Feed second.old second.new ⊎ ReadFailed H.Feed third.old third.new)) ⊎ ReadFailed I.Feed fourth.old fourth.new)
-        (WriteFailed D.Drain drain.old drain.new)
-        (λ pass. (ChangedBefore 2 (F.remaining first.old) (G.remaining second.old) (D.taken drain.old) (D.taken drain.new) pass ⊎ ChangedBefore 3 (F.remaining first.old) (H.remaining third.old) (D.taken drain.old) (D.taken drain.new) pass) ⊎ ChangedIn 4 (F.remaining first.old) (I.remaining fourth.old) pass)) }
+        (WriteFailed D.Drain drain.old drain.new)) }
     // Whatever stopped it, where all feeds supply these bytes a prefix of the answer went out, and nothing where they have a fault.
     ensures beginning { OnErr result ((b : List ℕ) → FourSupply b (F.remaining first.old) (G.remaining second.old) (H.remaining third.old) (I.remaining fourth.old) → IsFront (D.taken drain.old) (D.taken drain.new) (extract_of (all_parents area) area b)) }
 {
+    Ok(extract_file_with_parents(alloc, first, second, third, fourth, area, drain, hasher)?.counts)
+}
+
+/// As [`extract_parents`], and reports the digests of what was read and of what was written, whether the devices report their bytes
+/// or not.
+pub fn extract_parents_with_receipt<
+    F: Feed,
+    G: Feed,
+    H: Feed,
+    I: Feed,
+    D: Drain,
+    S: BuildHasher + Drop,
+>(
+    alloc: Global,
+    first: &mut F,
+    second: &mut G,
+    third: &mut H,
+    fourth: &mut I,
+    area: BoundingBox,
+    drain: &mut D,
+    hasher: S,
+) -> Result<Receipt, Stop>
+    // Each feed gave a file of the digest `input`, to its end; the first has no fault, and its header can be written. The drain took
+    // bytes of the digest `output`. Where the files are one, these bytes are exactly its complete-ways extract with all parents, and
+    // the counts are those of the entities in it.
+    ensures receipt { IfOk result (λ receipt. GaveFile F.Feed first.old first.new receipt.input (λ b. IsWritable b
+        × GaveFile G.Feed second.old second.new receipt.input (λ c. GaveFile H.Feed third.old third.new receipt.input (λ d.
+        GaveFile I.Feed fourth.old fourth.new receipt.input (λ e. TookFile D.Drain drain.old drain.new receipt.output
+        (λ written. b ≡ c → b ≡ d → b ≡ e → Extracted (all_parents area) (extract_with_parents (seen_decoded area)) area b receipt.counts written)))))) }
+    ensures stops { IfErr result (ParentsStops (F.remaining first.old) (G.remaining second.old) (H.remaining third.old) (I.remaining fourth.old) (D.taken drain.old) (D.taken drain.new)
+        ((ReadFailed F.Feed first.old first.new ⊎ (ReadFailed G.Feed second.old second.new ⊎ ReadFailed H.Feed third.old third.new)) ⊎ ReadFailed I.Feed fourth.old fourth.new)
+        (WriteFailed D.Drain drain.old drain.new)) }
+    // Whatever stopped it, where all feeds supply these bytes a prefix of the answer went out, and nothing where they have a fault.
+    ensures beginning { OnErr result ((b : List ℕ) → FourSupply b (F.remaining first.old) (G.remaining second.old) (H.remaining third.old) (I.remaining fourth.old) → IsFront (D.taken drain.old) (D.taken drain.new) (extract_of (all_parents area) area b)) }
+{
+    let mut hashed = HashedDrain::new(&mut *drain);
+    let outcome = extract_file_with_parents(
+        alloc,
+        first,
+        second,
+        third,
+        fourth,
+        area,
+        &mut hashed,
+        hasher,
+    );
+    let output = hashed.digest();
+    // What is known of the drain comes back with the reference itself.
+    let _drain = hashed.into_inner();
+    Ok(outcome?.with_output(output))
+}
+
+/// The work of [`extract_parents`].
+fn extract_file_with_parents<F: Feed, G: Feed, H: Feed, I: Feed, D: Drain, S: BuildHasher + Drop>(
+    alloc: Global,
+    first: &mut F,
+    second: &mut G,
+    third: &mut H,
+    fourth: &mut I,
+    area: BoundingBox,
+    drain: &mut D,
+    hasher: S,
+) -> Result<InputReceipt, Stop>
+    ensures given { IfOk result (λ receipt. GaveFile F.Feed first.old first.new receipt.input (λ b. IsWritable b
+        × GaveFile G.Feed second.old second.new receipt.input (λ c. GaveFile H.Feed third.old third.new receipt.input (λ d.
+        GaveFile I.Feed fourth.old fourth.new receipt.input (λ e. Took D.Drain drain.old drain.new
+        (λ written. b ≡ c → b ≡ d → b ≡ e → Extracted (all_parents area) (extract_with_parents (seen_decoded area)) area b receipt.counts written)))))) }
+    ensures stops { IfErr result (ParentsStops (F.remaining first.old) (G.remaining second.old) (H.remaining third.old) (I.remaining fourth.old) (D.taken drain.old) (D.taken drain.new)
+        ((ReadFailed F.Feed first.old first.new ⊎ (ReadFailed G.Feed second.old second.new ⊎ ReadFailed H.Feed third.old third.new)) ⊎ ReadFailed I.Feed fourth.old fourth.new)
+        (WriteFailed D.Drain drain.old drain.new)) }
+    ensures beginning { OnErr result ((b : List ℕ) → FourSupply b (F.remaining first.old) (G.remaining second.old) (H.remaining third.old) (I.remaining fourth.old) → IsFront (D.taken drain.old) (D.taken drain.new) (extract_of (all_parents area) area b)) }
+{
     let choice = choose_parents(alloc, first, second, third, area)?;
+    let digest = choice.digest;
     let writing = Writing {
         header: &choice.header,
         selection: Selection::Parents(&choice.chosen),
     };
-    let last = Repeat {
-        number: 4,
-        digest: choice.digest,
-    };
-    last.write(alloc, fourth, drain, hasher, writing)
+    let counts = Repeat { number: 4, digest }.write(alloc, fourth, drain, hasher, writing)?;
+    Ok(InputReceipt {
+        counts,
+        input: digest,
+    })
 }

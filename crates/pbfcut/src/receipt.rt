@@ -1,5 +1,7 @@
 //! What a call reports besides its work: the digests of the bytes that went through its devices.
 
+ghost use Rattle.std.specs.Prelude.{◌≡◌};
+
 use pbf_block::Counts;
 
 /// What a call that reads reports: how many entities, and the SHA-256 digest of its input.
@@ -7,7 +9,7 @@ use pbf_block::Counts;
 pub struct InputReceipt {
     /// The numbers of the entities.
     pub counts: Counts,
-    /// The digest of the bytes that its feed gave; where a call has several feeds, that of each of them.
+    /// The digest of the bytes that the feed gave; where a call has several feeds, of those that each of them gave.
     pub input: [u8; 32],
 }
 
@@ -16,8 +18,23 @@ pub struct InputReceipt {
 pub struct Receipt {
     /// The numbers of the entities.
     pub counts: Counts,
-    /// The digest of the bytes that each of its feeds gave.
+    /// The digest of the bytes that each of the feeds gave.
     pub input: [u8; 32],
-    /// The digest of the bytes that its drain took.
+    /// The digest of the bytes that the drain took.
     pub output: [u8; 32],
+}
+
+impl InputReceipt {
+    /// The same with the digest of the output.
+    pub(crate) fn with_output(self, output: [u8; 32]) -> Receipt
+        ensures counts { result.counts ≡ self.counts }
+        ensures input { result.input ≡ self.input }
+        ensures output { result.output ≡ output }
+    {
+        Receipt {
+            counts: self.counts,
+            input: self.input,
+            output,
+        }
+    }
 }

@@ -1,24 +1,27 @@
 //! `show`: a line for each field of the header and for each entity.
 
-ghost use Rattle.std.specs.Prelude.{false, ◌≡◌, ◌+◌, ◌<◌, ◌≤◌, ◌^◌, ◌⊎◌, ℕ, List, None, Some, IsTrue, IfOk, IfErr, IfSome, OnOk, OnErr, length};
+ghost use Rattle.std.specs.Prelude.{◌≡◌, ◌+◌, ◌≤◌, ◌^◌, ◌⊎◌, None, Some, IfOk, IfErr, OnOk, OnErr, length};
 ghost use Rattle.std.specs.List.{flat_map};
 ghost use Rattle.osm_entity.specs.Views.{entity_of};
 ghost use Rattle.pbf_block.specs.Cursors.{entities_left};
 ghost use Rattle.pbf_block.specs.Header.{header_in};
+ghost use Rattle.osm_text.specs.EntityText.{entity_line};
 ghost use Rattle.osm_text.specs.HeaderText.{header_text};
 ghost use Rattle.pbf_frame.specs.declared.frame.FrameKind.TheVariants as kind;
-ghost use Rattle.pbf_frame.specs.Devices.{IsAtEnd, IsFront, append};
+ghost use Rattle.pbf_frame.specs.Devices.{IsFront};
 ghost use Rattle.pbf_frame.specs.Next.{IsReading, place_of, verdict};
-ghost use Rattle.osm_text.specs.EntityText.{entity_line};
-ghost use Rattle.pbfcut.specs.Judged.{payload_fault_of, fully_known, judged_file};
-ghost use Rattle.pbfcut.specs.Showing.{payload_text, Shown, ShowsFront, WritesFront, TookText, StoppedInText, StoppedInPayload};
+ghost use Rattle.pbf_frame.specs.Transfers.{Added};
 ghost use Rattle.pbfcut.specs.Calls.{RefusedFirst, ChangedIn};
-ghost use Rattle.pbfcut.specs.Pass.{CountsFile, IsDigest};
+ghost use Rattle.pbfcut.specs.Given.{GaveRest, GaveFile, Took, TookFile};
+ghost use Rattle.pbfcut.specs.Judged.{payload_fault_of, fully_known, judged_file};
+ghost use Rattle.pbfcut.specs.Pass.{CountsFile, IsStep};
 ghost use Rattle.pbfcut.specs.Repeat.{SameDigest};
-ghost use Rattle.pbfcut.specs.Stops.{Caused, FaultOf, FaultNext, Only, unchanged, ReadFailed, WriteFailed};
+ghost use Rattle.pbfcut.specs.Showing.{payload_text, Shown, ShowsFront, WritesFront, ShowsFrame, StopsShowing, StoppedInPayload};
+ghost use Rattle.pbfcut.specs.Stops.{Caused, FaultOf, Only, unchanged, KeepsFeed, ReadFailed, WriteFailed};
 
-use crate::hashed::Hashed;
+use crate::hashed::{HashedDrain, HashedFeed};
 use crate::pass::{Nothing, judge};
+use crate::receipt::{InputReceipt, Receipt};
 use crate::repeat::Repeat;
 use osm_entity::EntityRef;
 use osm_text::{put_entity, put_header};
@@ -33,7 +36,7 @@ fn write_entity<D: Drain>(
     drain: &mut D,
     dates: bool,
 ) -> Result<(), Stop>
-    ensures shown { OnOk result (D.taken drain.new ≡ append (D.taken drain.old) (entity_line dates (entity_of entity.now))) }
+    ensures shown { OnOk result (Added D.Drain drain.old (entity_line dates (entity_of entity.now)) drain.new) }
     ensures front { IsFront (D.taken drain.old) (D.taken drain.new) (entity_line dates (entity_of entity.now)) }
     ensures stops { IfErr result (Caused (Only None) ⊥ (WriteFailed D.Drain drain.old drain.new) unchanged) }
     ensures drain_counts { D.failures drain.old ≤ D.failures drain.new }
@@ -51,7 +54,7 @@ fn write_entities<D: Drain>(
     drain: &mut D,
     dates: bool,
 ) -> Result<(), Stop>
-    ensures shown { OnOk result (D.taken drain.new ≡ append (D.taken drain.old) (flat_map (entity_line dates) (entities_left entities.entry))) }
+    ensures shown { OnOk result (Added D.Drain drain.old (flat_map (entity_line dates) (entities_left entities.entry)) drain.new) }
     ensures front { OnErr result (IsFront (D.taken drain.old) (D.taken drain.new) (flat_map (entity_line dates) (entities_left entities.entry))) }
     ensures stops { IfErr result (Caused (Only None) ⊥ (WriteFailed D.Drain drain.old drain.new) unchanged) }
     ensures drain_counts { D.failures drain.old ≤ D.failures drain.new }
@@ -71,7 +74,7 @@ fn write_header<D: Drain>(
     drain: &mut D,
 ) -> Result<(), Stop>
     requires { at + length payload.now ≤ 2 ^ 63 }
-    ensures shown { OnOk result (D.taken drain.new ≡ append (D.taken drain.old) (header_text (header_in at payload.now))) }
+    ensures shown { OnOk result (Added D.Drain drain.old (header_text (header_in at payload.now)) drain.new) }
     ensures sound { OnOk result (payload_fault_of kind.Header at payload.now ≡ None) }
     ensures stopped { OnErr result (StoppedInPayload (payload_fault_of kind.Header at payload.now) (header_text (header_in at payload.now)) (D.taken drain.old) (D.taken drain.new)) }
     ensures stops { IfErr result (Caused (Only (payload_fault_of kind.Header at payload.now)) ⊥ (WriteFailed D.Drain drain.old drain.new) unchanged) }
@@ -95,7 +98,7 @@ fn write_block<D: Drain>(
 ) -> Result<(), Stop>
     requires placed { at + length payload.now ≤ 2 ^ 63 }
     requires short { length payload.now < 33554432 }
-    ensures shown { OnOk result (D.taken drain.new ≡ append (D.taken drain.old) (payload_text dates kind.Data at payload.now)) }
+    ensures shown { OnOk result (Added D.Drain drain.old (payload_text dates kind.Data at payload.now) drain.new) }
     ensures sound { OnOk result (payload_fault_of kind.Data at payload.now ≡ None) }
     ensures stopped { OnErr result (StoppedInPayload (payload_fault_of kind.Data at payload.now) (payload_text dates kind.Data at payload.now) (D.taken drain.old) (D.taken drain.new)) }
     ensures stops { IfErr result (Caused (Only (payload_fault_of kind.Data at payload.now)) ⊥ (WriteFailed D.Drain drain.old drain.new) unchanged) }
@@ -114,7 +117,7 @@ fn write_payload<D: Drain>(
     drain: &mut D,
     dates: bool,
 ) -> Result<(), Stop>
-    ensures shown { OnOk result (D.taken drain.new ≡ append (D.taken drain.old) (payload_text dates frame.now.kind frame.now.payload_at frame.now.payload.now)) }
+    ensures shown { OnOk result (Added D.Drain drain.old (payload_text dates frame.now.kind frame.now.payload_at frame.now.payload.now) drain.new) }
     ensures sound { OnOk result (payload_fault_of frame.now.kind frame.now.payload_at frame.now.payload.now ≡ None) }
     ensures stopped { OnErr result (StoppedInPayload (payload_fault_of frame.now.kind frame.now.payload_at frame.now.payload.now) (payload_text dates frame.now.kind frame.now.payload_at frame.now.payload.now) (D.taken drain.old) (D.taken drain.new)) }
     ensures stops { IfErr result (Caused (Only (payload_fault_of frame.now.kind frame.now.payload_at frame.now.payload.now)) ⊥ (WriteFailed D.Drain drain.old drain.new) unchanged) }
@@ -139,18 +142,9 @@ fn step_show<F: Feed, D: Drain>(
     drain: &mut D,
     dates: bool,
 ) -> Result<bool, Stop>
-    requires { IsReading reader.old }
-    ensures took { IfOk result (TookText dates (verdict F.remaining reader.old) (verdict F.remaining reader.new) (D.taken drain.old) (D.taken drain.new)) }
-    ensures stopped { OnErr result (StoppedInText dates (verdict F.remaining reader.old) (D.taken drain.old) (D.taken drain.new)) }
-    ensures stops { IfErr result (Caused (FaultNext (fully_known (verdict F.remaining reader.old))) (ReadFailed F.Feed reader.old.feed reader.new.feed) (WriteFailed D.Drain drain.old drain.new) unchanged) }
-    ensures end { IfOk result (λ more. more ≡ false → IsAtEnd (F.remaining reader.new.feed)) }
-    ensures rises { IfOk result (λ more. IsTrue more → place_of reader.old < place_of reader.new) }
-    ensures reading { IfOk result (λ more. IsTrue more → IsReading reader.new) }
+    ensures step { IsStep F.Feed reader.old reader.new (ShowsFrame D.Drain dates drain.old drain.new) (StopsShowing D.Drain dates drain.old drain.new) (drain.new ≡ drain.old) result }
     ensures limited { place_of reader.new ≤ 2 ^ 62 }
-    ensures carries { OnOk result ((b : List ℕ) → F.carries reader.old.feed b → F.carries reader.new.feed b) }
-    ensures counts { F.failures reader.old.feed ≤ F.failures reader.new.feed }
     ensures drain_counts { D.failures drain.old ≤ D.failures drain.new }
-    ensures lender { F.lender reader.new.feed ≡ F.lender reader.old.feed }
 {
     let Some(frame) = reader.next()? else {
         return Ok(false);
@@ -167,12 +161,10 @@ fn show_all<F: Feed, D: Drain>(
     dates: bool,
 ) -> Result<(), Stop>
     requires { IsReading reader.old }
-    ensures shown { OnOk result (Shown dates (fully_known (verdict F.remaining reader.old)) (D.taken drain.old) (D.taken drain.new)) }
+    ensures shown { OnOk result (GaveRest F.Feed reader.old reader.new (λ known. Took D.Drain drain.old drain.new (Shown dates known))) }
     ensures beginning { OnErr result (WritesFront dates (fully_known (verdict F.remaining reader.old)) (D.taken drain.old) (D.taken drain.new)) }
     ensures stops { IfErr result (Caused (FaultOf (fully_known (verdict F.remaining reader.old))) (ReadFailed F.Feed reader.old.feed reader.new.feed) (WriteFailed D.Drain drain.old drain.new) unchanged) }
-    ensures carries { OnOk result ((b : List ℕ) → F.carries reader.old.feed b → F.carries reader.new.feed b) }
-    ensures end { OnOk result (IsAtEnd (F.remaining reader.new.feed)) }
-    ensures lender { F.lender reader.new.feed ≡ F.lender reader.old.feed }
+    ensures keeps { KeepsFeed F.Feed reader.old.feed reader.new.feed }
 {
     let mut text = Vec::new(alloc);
     'frames: while step_show(alloc, reader, &mut text, drain, dates)? {}
@@ -186,12 +178,11 @@ fn write_text<F: Feed, D: Drain>(
     drain: &mut D,
     dates: bool,
 ) -> Result<[u8; 32], Stop>
-    ensures shown { OnOk result (Shown dates (judged_file (F.remaining feed.old)) (D.taken drain.old) (D.taken drain.new)) }
+    ensures shown { IfOk result (λ digest. GaveFile F.Feed feed.old feed.new digest (λ file. Took D.Drain drain.old drain.new (Shown dates (judged_file (Some file))))) }
     ensures beginning { OnErr result (WritesFront dates (judged_file (F.remaining feed.old)) (D.taken drain.old) (D.taken drain.new)) }
-    ensures digest { IfOk result (IsDigest (F.remaining feed.old)) }
     ensures stops { IfErr result (Caused (FaultOf (judged_file (F.remaining feed.old))) (ReadFailed F.Feed feed.old feed.new) (WriteFailed D.Drain drain.old drain.new) unchanged) }
 {
-    let mut reader = FrameReader::new(alloc, Hashed::new(&mut *feed));
+    let mut reader = FrameReader::new(alloc, HashedFeed::new(&mut *feed));
     let outcome = show_all(alloc, &mut reader, drain, dates);
     let digest = reader.feed.digest();
     // What is known of the feed comes back with the reference itself.
@@ -217,9 +208,7 @@ pub fn show<F: Feed, G: Feed, D: Drain>(
     // The first file has no fault, and the counts are those of its entities.
     ensures counted { IfOk result (CountsFile (judged_file (F.remaining first.old))) }
     // The drain took exactly the text of the second file, which has no fault.
-    ensures shown { OnOk result (Shown dates (judged_file (G.remaining second.old)) (D.taken drain.old) (D.taken drain.new)) }
-    // So where the feeds are alike, it took exactly the text of that file.
-    ensures alike { OnOk result (F.remaining first.old ≡ G.remaining second.old → Shown dates (judged_file (F.remaining first.old)) (D.taken drain.old) (D.taken drain.new)) }
+    ensures shown { OnOk result (Took D.Drain drain.old drain.new (Shown dates (judged_file (G.remaining second.old)))) }
     // No files that differ, unless two unlike lists share a digest.
     ensures digests { OnOk result (SameDigest (F.remaining first.old) (G.remaining second.old)) }
     // Each stop has its cause; what is refused is the first file, by its first fault, and then the drain took nothing.
@@ -230,13 +219,63 @@ pub fn show<F: Feed, G: Feed, D: Drain>(
     // Whatever stopped it, where the feeds are alike a prefix of that file's text went out, and nothing where it has a fault.
     ensures beginning { OnErr result (F.remaining first.old ≡ G.remaining second.old → ShowsFront dates (judged_file (F.remaining first.old)) (D.taken drain.old) (D.taken drain.new)) }
 {
+    Ok(show_file(alloc, first, second, drain, dates)?.counts)
+}
+
+/// As [`show`], and reports the digests of what was read and of the text, whether the devices report their bytes or not.
+pub fn show_with_receipt<F: Feed, G: Feed, D: Drain>(
+    alloc: Global,
+    first: &mut F,
+    second: &mut G,
+    drain: &mut D,
+    dates: bool,
+) -> Result<Receipt, Stop>
+    // Each feed gave a file of the digest `input`, to its end. The first has no fault, and the counts are those of its entities. The
+    // drain took bytes of the digest `output`: exactly the text of the second, which has no fault.
+    ensures receipt { IfOk result (λ receipt. GaveFile F.Feed first.old first.new receipt.input (λ b. CountsFile (judged_file (Some b)) receipt.counts
+        × GaveFile G.Feed second.old second.new receipt.input (λ c. TookFile D.Drain drain.old drain.new receipt.output (Shown dates (judged_file (Some c)))))) }
+    ensures stops { IfErr result (Caused (RefusedFirst (judged_file (F.remaining first.old)) (D.taken drain.old) (D.taken drain.new))
+        (ReadFailed F.Feed first.old first.new ⊎ ReadFailed G.Feed second.old second.new)
+        (WriteFailed D.Drain drain.old drain.new)
+        (ChangedIn 2 (F.remaining first.old) (G.remaining second.old))) }
+    ensures beginning { OnErr result (F.remaining first.old ≡ G.remaining second.old → ShowsFront dates (judged_file (F.remaining first.old)) (D.taken drain.old) (D.taken drain.new)) }
+{
+    let mut hashed = HashedDrain::new(&mut *drain);
+    let outcome = show_file(alloc, first, second, &mut hashed, dates);
+    let output = hashed.digest();
+    // What is known of the drain comes back with the reference itself.
+    let _drain = hashed.into_inner();
+    Ok(outcome?.with_output(output))
+}
+
+/// The work of [`show`].
+fn show_file<F: Feed, G: Feed, D: Drain>(
+    alloc: Global,
+    first: &mut F,
+    second: &mut G,
+    drain: &mut D,
+    dates: bool,
+) -> Result<InputReceipt, Stop>
+    ensures given { IfOk result (λ receipt. GaveFile F.Feed first.old first.new receipt.input (λ b. CountsFile (judged_file (Some b)) receipt.counts
+        × GaveFile G.Feed second.old second.new receipt.input (λ c. Took D.Drain drain.old drain.new (Shown dates (judged_file (Some c)))))) }
+    ensures stops { IfErr result (Caused (RefusedFirst (judged_file (F.remaining first.old)) (D.taken drain.old) (D.taken drain.new))
+        (ReadFailed F.Feed first.old first.new ⊎ ReadFailed G.Feed second.old second.new)
+        (WriteFailed D.Drain drain.old drain.new)
+        (ChangedIn 2 (F.remaining first.old) (G.remaining second.old))) }
+    ensures beginning { OnErr result (F.remaining first.old ≡ G.remaining second.old → ShowsFront dates (judged_file (F.remaining first.old)) (D.taken drain.old) (D.taken drain.new)) }
+{
     let told = judge(alloc, first, &mut Nothing)?;
-    let digest = told.digest;
-    let last = Repeat { number: 2, digest };
+    let last = Repeat {
+        number: 2,
+        digest: told.digest,
+    };
     match write_text(alloc, second, drain, dates) {
         Ok(digest) => {
             last.compare(digest)?;
-            Ok(told.pass.counts)
+            Ok(InputReceipt {
+                counts: told.pass.counts,
+                input: told.digest,
+            })
         }
         Err(stop) => Err(last.changed(stop)),
     }

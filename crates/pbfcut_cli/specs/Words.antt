@@ -26,6 +26,10 @@ abbrev pub progress_rule : Rule
 progress_rule =
     record (new_rule (codes "progress")) { long = Some (codes "progress"); action = Some SetTrue }
 
+abbrev pub digests_rule : Rule
+digests_rule =
+    record (new_rule (codes "digests")) { long = Some (codes "digests"); action = Some SetTrue }
+
 abbrev pub parents_rule : Rule
 parents_rule =
     record (new_rule (codes "parents")) { long = Some (codes "parents"); action = Some SetTrue }
@@ -46,14 +50,16 @@ abbrev pub show_app : App
 show_app = with_rule (with_rule (with_rule (new_app (codes "show")) dates_rule) progress_rule) input_rule
 
 abbrev pub check_app : App
-check_app = with_rule (with_rule (new_app (codes "check")) progress_rule) input_rule
+check_app = with_rule (with_rule (with_rule (new_app (codes "check")) progress_rule) digests_rule) input_rule
 
 abbrev pub convert_app : App
-convert_app = with_rule (with_rule (with_rule (new_app (codes "convert")) progress_rule) input_rule) output_rule
+convert_app = with_rule (with_rule (with_rule (with_rule (new_app (codes "convert")) progress_rule)
+    digests_rule) input_rule) output_rule
 
 -- `extract` with its options
 abbrev pub options_app : App
-options_app = with_rule (with_rule (with_rule (new_app (codes "extract")) parents_rule) progress_rule) box_rule
+options_app = with_rule (with_rule (with_rule (with_rule (new_app (codes "extract")) parents_rule)
+    progress_rule) digests_rule) box_rule
 
 abbrev pub extract_app : App
 extract_app = with_rule (with_rule options_app input_rule) output_rule
@@ -93,15 +99,16 @@ ReadsAs name rows (Blobs input) = (name ≡ codes "blobs") × (input.now ≡ val
 ReadsAs name rows (Show input dates progress) = (name ≡ codes "show")
     × (input.now ≡ value_of (codes "IN") rows) × ReadsFlag dates (codes "dates") rows
     × ReadsFlag progress (codes "progress") rows
-ReadsAs name rows (Check input progress) = (name ≡ codes "check")
+ReadsAs name rows (Check input progress digests) = (name ≡ codes "check")
     × (input.now ≡ value_of (codes "IN") rows) × ReadsFlag progress (codes "progress") rows
-ReadsAs name rows (Convert input output progress) = (name ≡ codes "convert")
+    × ReadsFlag digests (codes "digests") rows
+ReadsAs name rows (Convert input output progress digests) = (name ≡ codes "convert")
     × (input.now ≡ value_of (codes "IN") rows) × (output.now ≡ value_of (codes "OUT") rows)
-    × ReadsFlag progress (codes "progress") rows
-ReadsAs name rows (Extract area parents input output progress) = (name ≡ codes "extract")
+    × ReadsFlag progress (codes "progress") rows × ReadsFlag digests (codes "digests") rows
+ReadsAs name rows (Extract area parents input output progress digests) = (name ≡ codes "extract")
     × (box_of_text (value_of (codes "box") rows) ≡ Ok area) × ReadsFlag parents (codes "parents") rows
     × (input.now ≡ value_of (codes "IN") rows) × (output.now ≡ value_of (codes "OUT") rows)
-    × ReadsFlag progress (codes "progress") rows
+    × ReadsFlag progress (codes "progress") rows × ReadsFlag digests (codes "digests") rows
 ReadsAs name rows (Help text) = ⊥
 
 abbrev pub IsRead : Option (Text × List Row) → Command → Type 0

@@ -10,6 +10,7 @@ ghost use Rattle.pbfcut_cli.specs.Words.{
   check_app,
   convert_app,
   dates_rule,
+  digests_rule,
   extract_app,
   input_rule,
   options_app,
@@ -59,6 +60,16 @@ fn progress<'a>(alloc: Global) -> Arg<'a>
         .long("progress")
         .action(ArgAction::SetTrue)
         .help(help::PROGRESS)
+}
+
+fn digests<'a>(alloc: Global) -> Arg<'a>
+    ensures rule { rule_of result ≡ digests_rule }
+    ensures local { result.global ≡ false }
+{
+    Arg::new(alloc, "digests")
+        .long("digests")
+        .action(ArgAction::SetTrue)
+        .help(help::DIGESTS)
 }
 
 fn parents<'a>(alloc: Global) -> Arg<'a>
@@ -113,6 +124,7 @@ fn check<'a>(alloc: Global) -> Result<Command<'a>, AllocError>
         .about(help::CHECK)
         .after_help(help::AFTER_CHECK)
         .arg(progress(alloc))?
+        .arg(digests(alloc))?
         .arg(input(alloc))
 }
 
@@ -124,6 +136,7 @@ fn convert<'a>(alloc: Global) -> Result<Command<'a>, AllocError>
         .about(help::CONVERT)
         .after_help(help::AFTER_CONVERT)
         .arg(progress(alloc))?
+        .arg(digests(alloc))?
         .arg(input(alloc))?
         .arg(output(alloc))
 }
@@ -139,6 +152,7 @@ fn options<'a>(alloc: Global) -> Result<Command<'a>, AllocError>
         .override_usage(help::USAGE_OF_EXTRACT)
         .arg(parents(alloc))?
         .arg(progress(alloc))?
+        .arg(digests(alloc))?
         .arg(area(alloc))
 }
 

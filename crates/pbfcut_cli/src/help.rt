@@ -43,6 +43,8 @@ pub(crate) const DATES: &str = "Prints the times from 1970 to 2099 as dates";
 
 pub(crate) const PROGRESS: &str = "Reports progress on standard error";
 
+pub(crate) const DIGESTS: &str = "Prints the SHA-256 of IN and OUT after the counts";
+
 pub(crate) const PARENTS: &str = "Keeps the relations above kept ones too";
 
 pub(crate) const BOX: &str = "The edges of the box, in degrees";

@@ -41,12 +41,14 @@ pub enum Command<'a> {
     Check {
         input: &'a str,
         progress: bool,
+        digests: bool,
     },
     /// `convert IN OUT`: write all entities of the file at `input` to a new file at `output`.
     Convert {
         input: &'a str,
         output: &'a str,
         progress: bool,
+        digests: bool,
     },
     /// `extract [--parents] --box=L,B,R,T IN OUT`: cut `area` out of the file at `input` into a new file at `output`, with
     /// `parents` all relations above the kept ones too.
@@ -56,6 +58,7 @@ pub enum Command<'a> {
         input: &'a str,
         output: &'a str,
         progress: bool,
+        digests: bool,
     },
     /// Help or the version was asked for: this text of it, with its line ends, for standard output.
     Help(String),
@@ -117,15 +120,22 @@ fn command_in<'a>(matches: &ArgMatches<'a>) -> Result<Command<'a>, BoxFault>
         }
         "check" => {
             let progress = flag(inner, "progress");
-            Ok(Command::Check { input, progress })
+            let digests = flag(inner, "digests");
+            Ok(Command::Check {
+                input,
+                progress,
+                digests,
+            })
         }
         "convert" => {
             let output = value(inner, "OUT");
             let progress = flag(inner, "progress");
+            let digests = flag(inner, "digests");
             Ok(Command::Convert {
                 input,
                 output,
                 progress,
+                digests,
             })
         }
         _ => {
@@ -133,12 +143,14 @@ fn command_in<'a>(matches: &ArgMatches<'a>) -> Result<Command<'a>, BoxFault>
             let parents = flag(inner, "parents");
             let output = value(inner, "OUT");
             let progress = flag(inner, "progress");
+            let digests = flag(inner, "digests");
             Ok(Command::Extract {
                 area,
                 parents,
                 input,
                 output,
                 progress,
+                digests,
             })
         }
     }

@@ -58,7 +58,8 @@ fn commands_that_read(rt: HostRuntime) -> Result<(), Fail> {
             &check,
             Ok(Command::Check {
                 input: "a",
-                progress: false
+                progress: false,
+                digests: false
             })
         )
     );
@@ -68,7 +69,8 @@ fn commands_that_read(rt: HostRuntime) -> Result<(), Fail> {
             &dashed,
             Ok(Command::Check {
                 input: "--dates",
-                progress: false
+                progress: false,
+                digests: false
             })
         )
     );
@@ -85,7 +87,8 @@ fn commands_that_write(rt: HostRuntime) -> Result<(), Fail> {
             Ok(Command::Convert {
                 input: "a",
                 output: "b",
-                progress: false
+                progress: false,
+                digests: false
             })
         )
     );
@@ -97,6 +100,7 @@ fn commands_that_write(rt: HostRuntime) -> Result<(), Fail> {
             input,
             output,
             progress,
+            digests,
         },
     ) = read_words(alloc, &words)
     else {
@@ -104,13 +108,14 @@ fn commands_that_write(rt: HostRuntime) -> Result<(), Fail> {
     };
     assert_eq!(rt; area, LONDON);
     assert_eq!(rt;
-        (parents, input, output, progress),
-        (false, "a", "b", false)
+        (parents, input, output, progress, digests),
+        (false, "a", "b", false, false)
     );
     let words = [
         "extract",
         "--parents",
         "--progress",
+        "--digests",
         "--box=-0.5,51.25,0.3,51.7",
         "a",
         "b",
@@ -122,13 +127,17 @@ fn commands_that_write(rt: HostRuntime) -> Result<(), Fail> {
             input,
             output,
             progress,
+            digests,
         },
     ) = read_words(alloc, &words)
     else {
         return Err("extract with parents".into());
     };
     assert_eq!(rt; area, LONDON);
-    assert_eq!(rt; (parents, input, output, progress), (true, "a", "b", true));
+    assert_eq!(rt;
+        (parents, input, output, progress, digests),
+        (true, "a", "b", true, true)
+    );
     Ok(())
 }
 
@@ -141,7 +150,8 @@ fn commands_with_progress(rt: HostRuntime) -> Result<(), Fail> {
             &check,
             Ok(Command::Check {
                 input: "a",
-                progress: true
+                progress: true,
+                digests: false
             })
         )
     );
@@ -163,7 +173,37 @@ fn commands_with_progress(rt: HostRuntime) -> Result<(), Fail> {
             Ok(Command::Convert {
                 input: "a",
                 output: "b",
-                progress: true
+                progress: true,
+                digests: false
+            })
+        )
+    );
+    Ok(())
+}
+
+#[test]
+fn commands_with_digests(rt: HostRuntime) -> Result<(), Fail> {
+    let alloc = rt.alloc();
+    let check = read_words(alloc, &["check", "a", "--digests"]);
+    assert!(rt;
+        matches!(
+            &check,
+            Ok(Command::Check {
+                input: "a",
+                progress: false,
+                digests: true
+            })
+        )
+    );
+    let convert = read_words(alloc, &["convert", "--digests", "a", "b"]);
+    assert!(rt;
+        matches!(
+            &convert,
+            Ok(Command::Convert {
+                input: "a",
+                output: "b",
+                progress: false,
+                digests: true
             })
         )
     );

@@ -13,7 +13,7 @@ use pbfcut_cli::{Command, Ending, join_box, read_words, status};
 use readers::{run_blobs, run_check, run_show};
 use std::process::ExitCode;
 use std::{env, io};
-use writers::{run_convert, run_extract, run_extract_parents};
+use writers::{Files, run_convert, run_extract, run_extract_parents};
 
 /// The words after the program's name.
 fn words(rt: &HostRuntime) -> Result<Vec<String>, Ending> {
@@ -41,26 +41,45 @@ fn run(rt: &HostRuntime, words: &[&str]) -> Result<(), Ending> {
             dates,
             progress,
         } => run_show(rt, input, dates, progress),
-        Command::Check { input, progress } => run_check(rt, input, progress),
+        Command::Check {
+            input,
+            progress,
+            digests,
+        } => run_check(rt, input, progress, digests),
         Command::Convert {
             input,
             output,
             progress,
-        } => run_convert(rt, input, output, progress),
+            digests,
+        } => {
+            let files = Files {
+                input,
+                output,
+                progress,
+                digests,
+            };
+            run_convert(rt, files)
+        }
         Command::Extract {
             area,
-            parents: false,
+            parents,
             input,
             output,
             progress,
-        } => run_extract(rt, area, input, output, progress),
-        Command::Extract {
-            area,
-            parents: true,
-            input,
-            output,
-            progress,
-        } => run_extract_parents(rt, area, input, output, progress),
+            digests,
+        } => {
+            let files = Files {
+                input,
+                output,
+                progress,
+                digests,
+            };
+            if parents {
+                run_extract_parents(rt, area, files)
+            } else {
+                run_extract(rt, area, files)
+            }
+        }
     }
 }
 

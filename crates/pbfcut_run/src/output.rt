@@ -1,8 +1,10 @@
-//! What goes to standard output beside listings and texts: counts and help.
+//! What goes to standard output beside listings and texts: counts, digests and help.
 
+use osm_text::put_digest_line;
 use pbf_frame::Stop;
 use pbfcut::Counts;
 use pbfcut_cli::Ending;
+use std::io::Write;
 
 /// Prints the line of counts.
 pub(crate) fn print_counts(rt: &HostRuntime, counts: Counts) -> Result<(), Ending> {
@@ -12,6 +14,19 @@ pub(crate) fn print_counts(rt: &HostRuntime, counts: Counts) -> Result<(), Endin
         relations,
     } = counts;
     if println!(rt; "nodes {nodes} ways {ways} relations {relations}").is_err() {
+        return Err(Ending::Stopped(Stop::Write));
+    }
+    Ok(())
+}
+
+/// Prints the line of a file and its digest, as `sha256sum` does.
+pub(crate) fn print_digest(rt: &HostRuntime, digest: [u8; 32], path: &str) -> Result<(), Ending> {
+    let mut line = Vec::new(rt.alloc());
+    if put_digest_line(&mut line, &digest, path.as_bytes()).is_err() {
+        return Err(Ending::Stopped(Stop::Memory));
+    }
+    let mut screen = rt.stdout();
+    if screen.write_all(&line).is_err() || screen.flush().is_err() {
         return Err(Ending::Stopped(Stop::Write));
     }
     Ok(())

@@ -1,10 +1,10 @@
 //! The commands that write no file: `blobs`, `show` and `check`.
 
 use crate::files::{OUTPUT_BUFFER, open_input, open_pass};
-use crate::output::print_counts;
+use crate::output::{print_counts, print_digest};
 use crate::progress::end_line;
 use pbf_frame::{Stop, ToWrite};
-use pbfcut::{check, list_blobs, show};
+use pbfcut::{check_with_receipt, list_blobs, show};
 use pbfcut_cli::Ending;
 use std::io::{BufWriter, Write};
 
@@ -51,10 +51,21 @@ pub(crate) fn run_show(
     Ok(())
 }
 
-/// `check [--progress] IN`: the numbers of entities go to standard output, where the file is accepted.
-pub(crate) fn run_check(rt: &HostRuntime, input: &str, progress: bool) -> Result<(), Ending> {
+/// `check [--progress] [--digests] IN`: the numbers of entities go to standard output, where the file is accepted, and with
+/// `digests` the digest of IN.
+pub(crate) fn run_check(
+    rt: &HostRuntime,
+    input: &str,
+    progress: bool,
+    digests: bool,
+) -> Result<(), Ending> {
     let mut feed = open_pass(rt, input, progress, 1, 1)?;
-    let outcome = check(rt.alloc(), &mut feed);
+    let outcome = check_with_receipt(rt.alloc(), &mut feed);
     end_line(rt, progress);
-    print_counts(rt, outcome?)
+    let receipt = outcome?;
+    print_counts(rt, receipt.counts)?;
+    if digests {
+        print_digest(rt, receipt.input, input)?;
+    }
+    Ok(())
 }

@@ -2,11 +2,14 @@
 //! opened once for each pass, and there is a seed.
 
 use crate::files::{create_output, open_pass, refuse_existing};
-use crate::output::print_counts;
+use crate::output::{print_counts, print_digest};
 use crate::progress::end_line;
 use osm_entity::BoundingBox;
 use pbf_frame::{Stop, ToWrite};
-use pbfcut::{Counts, convert, extract, extract_parents};
+use pbfcut::{
+    Counts, Receipt, convert, convert_with_receipt, extract, extract_parents,
+    extract_parents_with_receipt, extract_with_receipt,
+};
 use pbfcut_cli::Ending;
 use std::fs::File;
 use std::hash::RandomState;
@@ -20,95 +23,114 @@ fn seeded(rt: &HostRuntime) -> Result<RandomState, Ending> {
     }
 }
 
-/// Writes to OUT what is left in its buffer, also after a stop, and prints the counts after none.
+/// The files of a command that writes, and what it reports of them.
+#[derive(Clone, Copy)]
+pub(crate) struct Files<'a> {
+    /// The path of IN.
+    pub(crate) input: &'a str,
+    /// The path of OUT.
+    pub(crate) output: &'a str,
+    /// Whether the run reports how far it has come.
+    pub(crate) progress: bool,
+    /// Whether the digests of IN and OUT are printed.
+    pub(crate) digests: bool,
+}
+
+/// What a call reports: the counts, or a receipt, for which OUT is hashed as it is written.
+enum Report {
+    Counted(Counts),
+    Receipted(Receipt),
+}
+
+/// Writes to OUT what is left in its buffer, also after a stop, and prints after none what the call reports.
 fn end(
     rt: &HostRuntime,
-    output: &mut BufWriter<File>,
-    outcome: Result<Counts, Stop>,
+    files: Files<'_>,
+    file: &mut BufWriter<File>,
+    outcome: Result<Report, Stop>,
 ) -> Result<(), Ending> {
-    let flushed = output.flush();
-    let counts = outcome?;
+    end_line(rt, files.progress);
+    let flushed = file.flush();
+    let report = outcome?;
     if flushed.is_err() {
         return Err(Ending::Stopped(Stop::Write));
     }
-    print_counts(rt, counts)
+    match report {
+        Report::Counted(counts) => print_counts(rt, counts),
+        Report::Receipted(receipt) => {
+            print_counts(rt, receipt.counts)?;
+            print_digest(rt, receipt.input, files.input)?;
+            print_digest(rt, receipt.output, files.output)
+        }
+    }
 }
 
-/// `convert [--progress] IN OUT`.
-pub(crate) fn run_convert(
-    rt: &HostRuntime,
-    input: &str,
-    output: &str,
-    progress: bool,
-) -> Result<(), Ending> {
-    refuse_existing(rt, output)?;
+/// `convert [--progress] [--digests] IN OUT`.
+pub(crate) fn run_convert(rt: &HostRuntime, files: Files<'_>) -> Result<(), Ending> {
+    let (alloc, input, progress) = (rt.alloc(), files.input, files.progress);
+    refuse_existing(rt, files.output)?;
     let mut first = open_pass(rt, input, progress, 1, 2)?;
     let mut second = open_pass(rt, input, progress, 2, 2)?;
     let hasher = seeded(rt)?;
-    let mut file = create_output(rt, output)?;
-    let outcome = convert(
-        rt.alloc(),
-        &mut first,
-        &mut second,
-        &mut ToWrite::new(&mut file),
-        hasher,
-    );
-    end_line(rt, progress);
-    end(rt, &mut file, outcome)
+    let mut file = create_output(rt, files.output)?;
+    let drain = &mut ToWrite::new(&mut file);
+    let outcome = if files.digests {
+        convert_with_receipt(alloc, &mut first, &mut second, drain, hasher).map(
+            |receipt| Report::Receipted(receipt),
+        )
+    } else {
+        convert(alloc, &mut first, &mut second, drain, hasher).map(|counts| Report::Counted(counts))
+    };
+    end(rt, files, &mut file, outcome)
 }
 
-/// `extract [--progress] --box=L,B,R,T IN OUT`.
+/// `extract [--progress] [--digests] --box=L,B,R,T IN OUT`.
 pub(crate) fn run_extract(
     rt: &HostRuntime,
     area: BoundingBox,
-    input: &str,
-    output: &str,
-    progress: bool,
+    files: Files<'_>,
 ) -> Result<(), Ending> {
-    refuse_existing(rt, output)?;
-    let mut first = open_pass(rt, input, progress, 1, 3)?;
-    let mut second = open_pass(rt, input, progress, 2, 3)?;
-    let mut third = open_pass(rt, input, progress, 3, 3)?;
+    let (alloc, input, progress) = (rt.alloc(), files.input, files.progress);
+    refuse_existing(rt, files.output)?;
+    let one = &mut open_pass(rt, input, progress, 1, 3)?;
+    let two = &mut open_pass(rt, input, progress, 2, 3)?;
+    let three = &mut open_pass(rt, input, progress, 3, 3)?;
     let hasher = seeded(rt)?;
-    let mut file = create_output(rt, output)?;
-    let outcome = extract(
-        rt.alloc(),
-        &mut first,
-        &mut second,
-        &mut third,
-        area,
-        &mut ToWrite::new(&mut file),
-        hasher,
-    );
-    end_line(rt, progress);
-    end(rt, &mut file, outcome)
+    let mut file = create_output(rt, files.output)?;
+    let drain = &mut ToWrite::new(&mut file);
+    let outcome = if files.digests {
+        extract_with_receipt(alloc, one, two, three, area, drain, hasher).map(
+            |receipt| Report::Receipted(receipt),
+        )
+    } else {
+        extract(alloc, one, two, three, area, drain, hasher).map(|counts| Report::Counted(counts))
+    };
+    end(rt, files, &mut file, outcome)
 }
 
-/// `extract --parents [--progress] --box=L,B,R,T IN OUT`.
+/// `extract --parents [--progress] [--digests] --box=L,B,R,T IN OUT`.
 pub(crate) fn run_extract_parents(
     rt: &HostRuntime,
     area: BoundingBox,
-    input: &str,
-    output: &str,
-    progress: bool,
+    files: Files<'_>,
 ) -> Result<(), Ending> {
-    refuse_existing(rt, output)?;
-    let mut first = open_pass(rt, input, progress, 1, 4)?;
-    let mut second = open_pass(rt, input, progress, 2, 4)?;
-    let mut third = open_pass(rt, input, progress, 3, 4)?;
-    let mut fourth = open_pass(rt, input, progress, 4, 4)?;
+    let (alloc, input, progress) = (rt.alloc(), files.input, files.progress);
+    refuse_existing(rt, files.output)?;
+    let one = &mut open_pass(rt, input, progress, 1, 4)?;
+    let two = &mut open_pass(rt, input, progress, 2, 4)?;
+    let three = &mut open_pass(rt, input, progress, 3, 4)?;
+    let four = &mut open_pass(rt, input, progress, 4, 4)?;
     let hasher = seeded(rt)?;
-    let mut file = create_output(rt, output)?;
-    let outcome = extract_parents(
-        rt.alloc(),
-        &mut first,
-        &mut second,
-        &mut third,
-        &mut fourth,
-        area,
-        &mut ToWrite::new(&mut file),
-        hasher,
-    );
-    end_line(rt, progress);
-    end(rt, &mut file, outcome)
+    let mut file = create_output(rt, files.output)?;
+    let drain = &mut ToWrite::new(&mut file);
+    let outcome = if files.digests {
+        extract_parents_with_receipt(alloc, one, two, three, four, area, drain, hasher).map(
+            |receipt| Report::Receipted(receipt),
+        )
+    } else {
+        extract_parents(alloc, one, two, three, four, area, drain, hasher).map(
+            |counts| Report::Counted(counts),
+        )
+    };
+    end(rt, files, &mut file, outcome)
 }

@@ -2,7 +2,7 @@ use Rattle.std.proofs.Common.{[], ◌∷◌, ◌++◌, arith, rules}
 use Rattle.std.proofs.lemmas.Result.{err_from_is_err_and}
 use Rattle.osm_entity.specs.Views.{entity_of}
 use Rattle.osm_text.specs.EntityText.{entity_line}
-use Rattle.pbfcut.proofs.ListingLemmas.{texts_more}
+use Rattle.pbfcut.proofs.ListingLemmas.{texts_added}
 use Rattle.pbfcut.proofs.ShowingLemmas.{entities_more, entities_front}
 use Rattle.pbfcut.proofs.showing.write_entities.Goals as goal
 
@@ -13,7 +13,7 @@ loop-entity-preserved g c =
     record {
       can = search rules;
       ends = search rules;
-      so_far = (so_far.0 ++ e ∷ [], entities_more so_far.0 _ _ _ e c.in-Some.ensures.steps so_far.1, texts_more (entity_line c.args.dates) _ _ _ so_far.0 e so_far.2 c.in_ok-write_entity.ensures.shown);
+      so_far = (so_far.0 ++ e ∷ [], entities_more so_far.0 _ _ _ e c.in-Some.ensures.steps so_far.1, texts_added g.D.Drain (entity_line c.args.dates) _ _ _ so_far.0 e so_far.2 c.in_ok-write_entity.ensures.shown);
       drain_counts = omega (arith, c.loop-entity.invariant.drain_counts, c.write_entity.ensures.drain_counts);
     }
 
@@ -21,4 +21,4 @@ pub returns-in_err-write_entity-clause-front : goal.returns-in_err-write_entity-
 returns-in_err-write_entity-clause-front g c =
     let p = err_from_is_err_and c.from_residual.result c.from_residual.ensures.1 in
     let so_far = c.loop-entity.invariant.so_far in
-    rw p.1 (entities_front c.args.dates so_far.0 _ _ _ (entity_of c.in-Some.entity) _ _ _ c.in-Some.ensures.steps so_far.1 so_far.2 c.in_err-write_entity.ensures.front)
+    rw p.1 (entities_front c.args.dates so_far.0 _ _ _ (entity_of c.in-Some.entity) _ _ _ c.in-Some.ensures.steps so_far.1 so_far.2.told c.in_err-write_entity.ensures.front)

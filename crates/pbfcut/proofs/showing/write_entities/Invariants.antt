@@ -2,7 +2,7 @@ use Rattle.std.proofs.Common.{◌≡◌, ◌++◌, ◌≤◌, List}
 use Rattle.std.specs.List.{flat_map}
 use Rattle.osm_entity.specs.Entity.{EntitySpec}
 use Rattle.pbf_block.specs.Cursors.{entities_left}
-use Rattle.pbf_frame.specs.Devices.{append}
+use Rattle.pbf_frame.specs.Transfers.{Added}
 use Rattle.osm_text.specs.EntityText.{entity_line}
 use Rattle.pbfcut.proofs.showing.write_entities.Given as goal
 
@@ -11,6 +11,6 @@ abbrev pub invariant-loop-entity : goal.invariant-loop-entity
 invariant-loop-entity g l = record {
   can : (goal.iterator-loop-entity g).can_next l.entity-iterator;
   ends : (goal.iterator-loop-entity g).is_finite l.entity-iterator;
-  so_far : (done : List EntitySpec) × (done ++ entities_left l.entity-iterator ≡ entities_left l.fn.entities) × (g.D.Drain.taken l.drain ≡ append (g.D.Drain.taken l.initial.drain) (flat_map (entity_line l.dates) done));
+  so_far : (done : List EntitySpec) × (done ++ entities_left l.entity-iterator ≡ entities_left l.fn.entities) × Added g.D.Drain l.initial.drain (flat_map (entity_line l.dates) done) l.drain;
   drain_counts : g.D.Drain.failures l.initial.drain ≤ g.D.Drain.failures l.drain;
 }

@@ -1,0 +1,74 @@
+use Rattle.std.proofs.Common.{List, ℕ, Some, ap, sym, inr, refl}
+use Rattle.std.proofs.lemmas.Result.{err_from_is_err_and}
+use Rattle.pbf_block.specs.Header.{header_of}
+use Rattle.pbfcut.specs.Calls.{RefusedFirst, ChangedIn}
+use Rattle.pbfcut.specs.Converting.{header_limit, held_header, judged_writable}
+use Rattle.pbfcut.specs.Judged.{judged_file}
+use Rattle.pbfcut.specs.Pass.{as_it_was}
+use Rattle.pbfcut.specs.Stops.{Only, unchanged}
+use Rattle.pbfcut.proofs.ConvertingLemmas.{limit_refused, nothing_out, passed, passed_sound, converted, converts_front}
+use Rattle.pbfcut.proofs.ExtractingLemmas.{stops_earlier, stops_later}
+use Rattle.pbfcut.proofs.GivenLemmas.{tells_file, told_holds, told_digest, told_says, takes_told}
+use Rattle.pbfcut.proofs.converting.convert_file.Goals as goal
+
+pub returns-in_err-writable_header-clause-stops : goal.returns-in_err-writable_header-clause-stops
+returns-in_err-writable_header-clause-stops g c =
+    let p = err_from_is_err_and c.from_residual-in_err-writable_header.result c.from_residual-in_err-writable_header.ensures.1 in
+    let one = c.in_ok-told.ensures.judged in
+    let first = g.F.Feed.remaining c.args.first.now in
+    let old = g.D.Drain.taken c.args.drain.now in
+    rw (p.1, p.2) (stops_earlier (Only (header_limit (held_header c.in_ok-told.told.pass))) (RefusedFirst (judged_writable first) old old) ⊥ _ _ unchanged (ChangedIn 2 first (g.G.Feed.remaining c.args.second.now)) _
+    (λ e limit. (limit_refused as_it_was _ _ _ _ e (takes_told as_it_was first one.file _ _ _ (tells_file g.F.Feed _ _ _ _ one) one.holding) limit, refl)) (λ r. absurd r) (λ pass h. absurd h) c.in_err-writable_header.ensures.refused)
+
+pub returns-in_err-writable_header-clause-beginning : goal.returns-in_err-writable_header-clause-beginning
+returns-in_err-writable_header-clause-beginning g c =
+    let p = err_from_is_err_and c.from_residual-in_err-writable_header.result c.from_residual-in_err-writable_header.ensures.1 in
+    rw p.1 (λ b supply. nothing_out _ _)
+
+pub returns-in_err-write-clause-stops : goal.returns-in_err-write-clause-stops
+returns-in_err-write-clause-stops g c =
+    let p = err_from_is_err_and c.from_residual-in_err-write.result c.from_residual-in_err-write.ensures.1 in
+    let one = c.in_ok-told.ensures.judged in
+    let first = g.F.Feed.remaining c.args.first.now in
+    let second = g.G.Feed.remaining c.args.second.now in
+    let old = g.D.Drain.taken c.args.drain.now in
+    let new = g.D.Drain.taken c.write.new.drain in
+    rw (p.1, p.2) (stops_later (record { number = 2; digest = c.in_ok-told.told.digest }) first second _ one.holding.frames (RefusedFirst (judged_writable first) old new) _ _ _ (ChangedIn 2 first second) _
+    (told_digest g.F.Feed _ _ _ _ one) (told_says g.F.Feed _ _ _ _ _ one one.holding.says) refl (λ r. inr r) (λ pass is. is) c.in_err-write.ensures.stops)
+
+pub returns-in_err-write-clause-beginning : goal.returns-in_err-write-clause-beginning
+returns-in_err-write-clause-beginning g c =
+    let p = err_from_is_err_and c.from_residual-in_err-write.result c.from_residual-in_err-write.ensures.1 in
+    let pass = c.in_ok-told.told.pass in
+    let header = c.in_ok-writable_header in
+    let h = header_of header.field-0.now in
+    rw p.1 (λ b supply.
+    converts_front b pass h _ _ _ (ap judged_file supply.1) (passed as_it_was _ _ b pass h _ refl (told_holds g.F.Feed _ _ _ _ b c.in_ok-told.ensures.judged supply.0) header.ensures.header header.ensures.within) c.in_err-write.ensures.beginning)
+
+pub returns-clause-given : goal.returns-clause-given
+returns-clause-given g c =
+    let pass = c.in_ok-told.told.pass in
+    let header = c.in_ok-writable_header in
+    let h = header_of header.field-0.now in
+    let one = c.in_ok-told.ensures.judged in
+    let two = c.in_ok-counts.ensures.packed in
+    let took = two.holding in
+    let p = passed as_it_was _ _ one.file pass h _ refl one.holding header.ensures.header header.ensures.within in
+    record {
+      file = one.file;
+      supplied = one.supplied;
+      digest_is = one.digest_is;
+      holding = (
+        passed_sound one.file pass h p,
+        record {
+          file = two.file;
+          supplied = two.supplied;
+          digest_is = two.digest_is;
+          holding = record {
+            written = took.written;
+            added = took.added;
+            holding = λ same. converted one.file pass h c.in_ok-counts.counts _ took.written (ap (λ (l : List ℕ). judged_file (Some l)) (sym same)) p took.holding;
+          };
+        },
+      );
+    }

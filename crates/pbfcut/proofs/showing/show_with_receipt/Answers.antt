@@ -1,0 +1,31 @@
+use Rattle.std.proofs.Common.{zero, suc, [], rules}
+use Rattle.pbf_frame.proofs.Passed.{added_as}
+use Rattle.pbfcut.proofs.showing.show_with_receipt.Goals as goal
+
+pub returns-clause-receipt : goal.returns-clause-receipt
+returns-clause-receipt g c =
+    let one = c.in_ok-outcome.ensures.given in
+    let two = one.holding.1 in
+    let took = two.holding in
+    record {
+      file = one.file;
+      supplied = one.supplied;
+      digest_is = one.digest_is;
+      holding = (
+        one.holding.0,
+        record {
+          file = two.file;
+          supplied = two.supplied;
+          digest_is = two.digest_is;
+          holding = record {
+            written = took.written;
+            added = added_as g.D.Drain c.new-hashed.result.drain.now c.args.drain.now c.show_file-outcome.new.drain.drain.now _ took.written (search rules) (search rules) record {
+              told = took.added.told;
+              logged = λ log. took.added.logged (suc log);
+            };
+            digest_is = c.digest-output.ensures.digest took.written (took.added.logged zero [] c.new-hashed.ensures.hasher);
+            holding = took.holding;
+          };
+        },
+      );
+    }

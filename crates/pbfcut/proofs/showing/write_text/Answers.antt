@@ -1,0 +1,17 @@
+use Rattle.std.proofs.Common.{zero, suc, [], rules}
+use Rattle.pbfcut.proofs.GivenLemmas.{supplied_as}
+use Rattle.pbfcut.proofs.showing.write_text.Goals as goal
+
+pub returns-clause-shown : goal.returns-clause-shown
+returns-clause-shown g c =
+    let given = c.in_ok-outcome.ensures.shown in
+    record {
+      file = given.bytes;
+      supplied = supplied_as g.F.Feed c.new-reader.result.feed.feed.now c.args.feed.now c.show_all-outcome.new.reader.feed.feed.now _ given.bytes (search rules) (search rules) record {
+        told = given.supplied.told;
+        end = given.supplied.end;
+        logged = λ log. given.supplied.logged (suc log);
+      };
+      digest_is = c.digest-digest.ensures.digest given.bytes (given.supplied.logged zero [] (rw c.new-reader.ensures.feed c.new.ensures.hasher));
+      holding = given.holding;
+    }
