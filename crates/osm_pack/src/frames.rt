@@ -6,7 +6,8 @@ ghost use Rattle.osm_entity.specs.Ranges.{EntityFits};
 ghost use Rattle.osm_entity.specs.Views.{entity_of};
 ghost use Rattle.osm_entity.specs.Weight.{text_weight};
 ghost use Rattle.pbf_block.specs.Header.{header_of};
-ghost use Rattle.pbf_frame.specs.Devices.{append, IsFront};
+ghost use Rattle.pbf_frame.specs.Devices.{IsFront};
+ghost use Rattle.pbf_frame.specs.Transfers.{Added};
 ghost use Rattle.osm_pack.specs.Cuts.{block_frame, header_frame, then_pending, then_written, at_end};
 ghost use Rattle.osm_pack.specs.Open.{Holds, IsOpen};
 ghost use Rattle.osm_pack.specs.Stops.{IsPackStop};
@@ -25,7 +26,7 @@ pub(crate) fn close_into<D: Drain, S: BuildHasher>(
     block: &mut Block<S>,
 ) -> Result<(), Stop>
     requires { IsOpen block.old }
-    ensures written { (es : List EntitySpec) → Holds block.old es → OnOk result (D.taken drain.new ≡ append (D.taken drain.old) (block_frame es)) }
+    ensures written { (es : List EntitySpec) → Holds block.old es → OnOk result (Added D.Drain drain.old (block_frame es) drain.new) }
     ensures empty { OnOk result (Holds block.new []) }
     ensures front { (es : List EntitySpec) → Holds block.old es → IsFront (D.taken drain.old) (D.taken drain.new) (block_frame es) }
     ensures stops { IfErr result (IsPackStop (D.failures drain.old) (D.failures drain.new)) }
@@ -48,7 +49,7 @@ pub(crate) fn push_into<D: Drain, S: BuildHasher>(
     requires fits { EntityFits (entity_of entity.now) }
     ensures open { OnOk result (IsOpen block.new) }
     ensures pending { (es : List EntitySpec) → Holds block.old es → OnOk result (Holds block.new (then_pending es (entity_of entity.now))) }
-    ensures written { (es : List EntitySpec) → Holds block.old es → OnOk result (D.taken drain.new ≡ append (D.taken drain.old) (then_written es (entity_of entity.now))) }
+    ensures written { (es : List EntitySpec) → Holds block.old es → OnOk result (Added D.Drain drain.old (then_written es (entity_of entity.now)) drain.new) }
     ensures front { (es : List EntitySpec) → Holds block.old es → IsFront (D.taken drain.old) (D.taken drain.new) (then_written es (entity_of entity.now)) }
     ensures stops { IfErr result (IsPackStop (D.failures drain.old) (D.failures drain.new)) }
     ensures counts { D.failures drain.old ≤ D.failures drain.new }
@@ -69,7 +70,7 @@ pub(crate) fn put_header_into<D: Drain>(
     header: &Header,
 ) -> Result<(), Stop>
     requires { text_weight (header_of header.now).source + text_weight (header_of header.now).url ≤ 12000000 }
-    ensures written { OnOk result (D.taken drain.new ≡ append (D.taken drain.old) (header_frame (header_of header.now))) }
+    ensures written { OnOk result (Added D.Drain drain.old (header_frame (header_of header.now)) drain.new) }
     ensures front { IsFront (D.taken drain.old) (D.taken drain.new) (header_frame (header_of header.now)) }
     ensures stops { IfErr result (IsPackStop (D.failures drain.old) (D.failures drain.new)) }
     ensures counts { D.failures drain.old ≤ D.failures drain.new }
@@ -88,7 +89,7 @@ pub(crate) fn finish_into<D: Drain, S: BuildHasher>(
     block: &mut Block<S>,
 ) -> Result<(), Stop>
     requires { IsOpen block.old }
-    ensures written { (es : List EntitySpec) → Holds block.old es → OnOk result (D.taken drain.new ≡ append (D.taken drain.old) (at_end es)) }
+    ensures written { (es : List EntitySpec) → Holds block.old es → OnOk result (Added D.Drain drain.old (at_end es) drain.new) }
     ensures open { OnOk result (IsOpen block.new) }
     ensures empty { OnOk result (Holds block.new []) }
     ensures front { (es : List EntitySpec) → Holds block.old es → IsFront (D.taken drain.old) (D.taken drain.new) (at_end es) }

@@ -44,7 +44,8 @@ impl<D: Drain, S: BuildHasher> Packer<D, S> {
     ghost use Rattle.pbf_block.specs.WrittenBlock.{is_block};
     ghost use Rattle.osm_entity.specs.Weight.{text_weight};
     ghost use Rattle.pbf_frame.specs.declared.stop.Stop.{Stop};
-    ghost use Rattle.pbf_frame.specs.Devices.{append, IsFront};
+    ghost use Rattle.pbf_frame.specs.Devices.{IsFront};
+    ghost use Rattle.pbf_frame.specs.Transfers.{Added};
     ghost use Rattle.osm_pack.specs.Cuts.{header_frame, then_pending, then_written, at_end};
     ghost use Rattle.osm_pack.specs.Stops.{IsPackStop};
     ghost use Rattle.osm_pack.specs.Packing.{Pending, IsPacking, HasStopped, has_header, packer_held};
@@ -89,7 +90,7 @@ impl<D: Drain, S: BuildHasher> Packer<D, S> {
         requires once { has_header self.old ≡ false }
         requires kept { text_weight (header_of header.now).source + text_weight (header_of header.now).url ≤ 12000000 }
         ensures begun { has_header self.new ≡ true }
-        ensures written { IsPacking self.old → OnOk result (D.taken self.new.drain ≡ append (D.taken self.old.drain) (header_frame (header_of header.now))) }
+        ensures written { IsPacking self.old → OnOk result (Added D.Drain self.old.drain (header_frame (header_of header.now)) self.new.drain) }
         ensures pending { (es : List EntitySpec) → Pending self.old es → OnOk result (Pending self.new es) }
         ensures packing { OnOk result (IsPacking self.new) }
         ensures front { IsPacking self.old → IsFront (D.taken self.old.drain) (D.taken self.new.drain) (header_frame (header_of header.now)) }
@@ -120,7 +121,7 @@ impl<D: Drain, S: BuildHasher> Packer<D, S> {
         requires fits { EntityFits (entity_of entity.now) }
         ensures header { has_header self.new ≡ true }
         ensures pending { (es : List EntitySpec) → Pending self.old es → OnOk result (Pending self.new (then_pending es (entity_of entity.now))) }
-        ensures written { (es : List EntitySpec) → Pending self.old es → OnOk result (D.taken self.new.drain ≡ append (D.taken self.old.drain) (then_written es (entity_of entity.now))) }
+        ensures written { (es : List EntitySpec) → Pending self.old es → OnOk result (Added D.Drain self.old.drain (then_written es (entity_of entity.now)) self.new.drain) }
         ensures packing { OnOk result (IsPacking self.old × IsPacking self.new) }
         ensures front { IsPacking self.old → (es : List EntitySpec) → Pending self.old es → IsFront (D.taken self.old.drain) (D.taken self.new.drain) (then_written es (entity_of entity.now)) }
         ensures stopped { IfErr result (HasStopped self.new) }
@@ -147,7 +148,7 @@ impl<D: Drain, S: BuildHasher> Packer<D, S> {
         requires { has_header self.old ≡ true }
         ensures header { has_header self.new ≡ true }
         ensures pending { OnOk result (Pending self.new []) }
-        ensures written { (es : List EntitySpec) → Pending self.old es → OnOk result (D.taken self.new.drain ≡ append (D.taken self.old.drain) (at_end es)) }
+        ensures written { (es : List EntitySpec) → Pending self.old es → OnOk result (Added D.Drain self.old.drain (at_end es) self.new.drain) }
         ensures packing { OnOk result (IsPacking self.old × IsPacking self.new) }
         ensures front { IsPacking self.old → (es : List EntitySpec) → Pending self.old es → IsFront (D.taken self.old.drain) (D.taken self.new.drain) (at_end es) }
         ensures stopped { IfErr result (HasStopped self.new) }
