@@ -8,6 +8,7 @@ PROGRAM is crates/pbfcut_run/out/pbfcut_run where it is left out. The files that
 at the first difference, with status 1.
 """
 
+import hashlib
 import os
 import re
 import resource
@@ -389,6 +390,57 @@ def progress(bench: Bench):
                stderr=lambda text: b"'--progress'" in text)
 
 
+def digest(content: bytes, name: bytes) -> bytes:
+    """The line of `sha256sum` for a file."""
+    escaped = name.replace(b"\\", b"\\\\").replace(b"\n", b"\\n")
+    mark = b"" if escaped == name else b"\\"
+    return mark + hashlib.sha256(content).hexdigest().encode() + b"  " + escaped + b"\n"
+
+
+def digests(bench: Bench):
+    """The lines after the counts: those of IN, and of OUT where there is one."""
+    for words, counts, out in [
+        (["check", "--digests", "in"], (3, 0, 0), None),
+        (["convert", "--digests", "in", "out"], (3, 0, 0), PLAIN_HEADER + DENSE_FRAME),
+        (["extract", "--digests", BOX, "in", "out"], (2, 0, 0), THREE_DENSE_CUT),
+        (["extract", BOX, "in", "out", "--parents", "--digests"], (2, 0, 0), THREE_DENSE_CUT),
+    ]:
+        shown = counted(*counts) + digest(THREE_DENSE, b"in") + (digest(out, b"out") if out else b"")
+        bench.case(f"digests of {words}", words, given=THREE_DENSE, stdout=shown, out=out)
+    bench.case("digest of a pipe", ["check", "--digests", "in"], fifo=(THREE_DENSE, 1),
+               stdout=counted(3, 0, 0) + digest(THREE_DENSE, b"in"))
+    bench.case("no digest of a file that is refused", ["check", "--digests", "in"], given=THREE_DENSE + b"\x00", status=1,
+               stderr=told(f"refused at {len(THREE_DENSE)}: 10 PrefixCut"))
+    for command in ["blobs", "show"]:
+        bench.case(f"no digests of {command}", [command, "--digests", "in"], given=THREE_DENSE, status=2,
+                   stderr=lambda text: b"'--digests'" in text)
+    for name in [b"a\\b", b"a\nb", b"\\\n\\n", "Stra\u00dfe \u6c34".encode()]:
+        bench.case(f"digest of a file of the name {name}", ["check", "--digests", name], files={name.decode(): THREE_DENSE},
+                   stdout=counted(3, 0, 0) + digest(THREE_DENSE, name))
+    checked_by_sha256sum(bench)
+
+
+def checked_by_sha256sum(bench: Bench):
+    """`sha256sum -c` says that the files are the ones that were read and written, and that a changed one isn't."""
+    folder = os.path.join(bench.folder, "sums")
+    os.mkdir(folder)
+    shutil.copy(os.path.join(TOP, "sample", "town.osm.pbf"), os.path.join(folder, "a\\ town\n.osm.pbf"))
+    words = ["extract", "--digests", "--box=9.997,49.999,10.003,50.003", "a\\ town\n.osm.pbf", "old\\town"]
+    printed = subprocess.run([bench.program, *words], cwd=folder, capture_output=True, check=True).stdout
+    sums = b"".join(printed.splitlines(keepends=True)[-2:])
+
+    def sound() -> bool:
+        return subprocess.run(["sha256sum", "-c", "--strict", "--quiet"], input=sums, cwd=folder, capture_output=True).returncode == 0
+
+    if not sound():
+        sys.exit("tests/program.py: sha256sum -c refuses the digests of the sample and its extract")
+    with open(os.path.join(folder, "old\\town"), "r+b") as file:
+        file.write(b"\x01")
+    if sound():
+        sys.exit("tests/program.py: sha256sum -c accepts the digests of an extract that was changed")
+    bench.count += 2
+
+
 def files_that_cannot_be(bench: Bench):
     for command in ["blobs", "show", "check"]:
         bench.case(f"{command} of no file", [command, "in"], status=3, stderr=told("cannot open"))
@@ -657,7 +709,7 @@ def main():
     folder = tempfile.mkdtemp(prefix="pbfcut-program-")
     try:
         bench = Bench(program, folder)
-        for part in [words_of_all_kinds, boxes, progress, files_that_cannot_be, files_that_change, files_that_are_refused,
+        for part in [words_of_all_kinds, boxes, progress, digests, files_that_cannot_be, files_that_change, files_that_are_refused,
                      files_that_are_accepted, extracts, conversions, sample]:
             part(bench)
     finally:

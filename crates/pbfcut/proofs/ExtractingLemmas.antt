@@ -1,5 +1,5 @@
 -- A file's extract, from what its passes say.
-use Rattle.std.proofs.Common.{◌≡◌, ℕ, ◌≤◌, ◌^◌, length, List, [], ◌∷◌, map, Bor, Bool, Option, Some, None, subst, refl, sym, ap, ◌∙◌}
+use Rattle.std.proofs.Common.{◌≡◌, ◌⊎◌, inr, ℕ, ◌≤◌, ◌^◌, length, List, [], ◌∷◌, map, Bor, Bool, Option, Some, None, subst, refl, sym, ap, ◌∙◌}
 use Rattle.std.specs.FinSet as set
 use Rattle.std.specs.List.{fold, filter}
 use Rattle.std.specs.Option.{option_map}
@@ -30,7 +30,7 @@ use Rattle.pbfcut.specs.declared.pass.Pass.{Pass}
 use Rattle.pbfcut.specs.declared.pick.Selection.TheVariants as selection
 use Rattle.pbfcut.specs.Converting.{header_limit, limited, judged_writable, held_header, CanBeWritten}
 use Rattle.pbfcut.specs.Counting.{counts_of, stored_entities}
-use Rattle.pbfcut.specs.Calls.{Extracted, Differ, ChangedIn}
+use Rattle.pbfcut.specs.Calls.{Extracted, Differ, ChangedIn, ChangedBefore, RefusedFirst, ConvertStops, ExtractStops, ParentsStops}
 use Rattle.pbfcut.specs.Extracting.{Choice, complete_ways, all_parents, extraction, extract_bytes, Chooses, ChoosesParents}
 use Rattle.pbfcut.specs.Kept.{verdict_on, extract_of, IsWritable, IsExtract}
 use Rattle.pbfcut.proofs.GivenLemmas.{IsDigest}
@@ -166,6 +166,23 @@ stops_later again first other digest frames refused read later wrote changed sto
 stops_later again first other digest frames refused read later wrote changed stop.Write same says is r d h = h
 stops_later again first other digest frames refused read later wrote changed stop.Memory same says is r d h = tt
 stops_later again first other digest frames refused read later wrote changed (stop.Changed n) same says is r d h = d n (h.0, later_differs first other digest frames same says (subst (λ (l : List ℕ). Unlike other l) is h.1))
+
+-- those of the pass that writes, in each call
+pub convert_stops : (digest : List ℕ) (first second old new : Option (List ℕ)) (frames : List FrameSpec) (read later wrote : Type 0) (s : Stop) → IsDigest first digest → Says (judged_file first) (frames, None)
+    → (later → read) → StopsAgain (record { number = 2; digest = digest }) second later wrote s → ConvertStops first second old new read wrote s
+convert_stops digest first second old new frames read later wrote s same says r h =
+    stops_later (record { number = 2; digest = digest }) first second digest frames (RefusedFirst (judged_writable first) old new) read later wrote (ChangedIn 2 first second) s same says refl r (λ pass is. is) h
+
+pub extract_stops : (digest : List ℕ) (first second third old new : Option (List ℕ)) (frames : List FrameSpec) (read later wrote : Type 0) (s : Stop) → IsDigest first digest → Says (judged_file first) (frames, None)
+    → (later → read) → StopsAgain (record { number = 3; digest = digest }) third later wrote s → ExtractStops first second third old new read wrote s
+extract_stops digest first second third old new frames read later wrote s same says r h =
+    stops_later (record { number = 3; digest = digest }) first third digest frames (RefusedFirst (judged_writable first) old new) read later wrote (λ pass. ChangedBefore 2 first second old new pass ⊎ ChangedIn 3 first third pass) s same says refl r (λ pass is. inr is) h
+
+pub parents_stops : (digest : List ℕ) (first second third fourth old new : Option (List ℕ)) (frames : List FrameSpec) (read later wrote : Type 0) (s : Stop) → IsDigest first digest → Says (judged_file first) (frames, None)
+    → (later → read) → StopsAgain (record { number = 4; digest = digest }) fourth later wrote s → ParentsStops first second third fourth old new read wrote s
+parents_stops digest first second third fourth old new frames read later wrote s same says r h =
+    stops_later (record { number = 4; digest = digest }) first fourth digest frames (RefusedFirst (judged_writable first) old new) read later wrote
+    (λ pass. (ChangedBefore 2 first second old new pass ⊎ ChangedBefore 3 first third old new pass) ⊎ ChangedIn 4 first fourth pass) s same says refl r (λ pass is. inr is) h
 
 -- the stops of earlier passes, in a call with more of them
 pub stops_earlier : (refused also : Fault → Type 0) (read more wrote : Type 0) (changed too : ℕ → Type 0) (s : Stop) → ((e : Fault) → refused e → also e) → (read → more) → ((pass : ℕ) → changed pass → too pass) → Caused refused read ⊥ changed s → Caused also more wrote too s

@@ -1,5 +1,5 @@
 -- What holds of the bytes that went through a device holds of those that it reports.
-use Rattle.std.proofs.Common.{◌≡◌, ℕ, List, [], ◌++◌, Option, Some, None, refl, sym, ap, ◌∙◌, subst}
+use Rattle.std.proofs.Common.{◌≡◌, ℕ, Bool, false, List, [], ◌++◌, Option, Some, None, refl, sym, ap, ◌∙◌, subst}
 use Rattle.std.proofs.lemmas.List.{append-nil}
 use Rattle.sha2.specs.Sha256.{sha256}
 use Rattle.osm_entity.specs.Entity.{EntitySpec}
@@ -9,7 +9,7 @@ use Rattle.pbf_frame.specs.Transfers.{Supplied}
 use Rattle.pbf_frame.specs.Verdict.{Verdict, Says}
 use Rattle.pbf_frame.proofs.Parting.{none_some}
 use Rattle.pbfcut.specs.declared.pass.Pass.{Pass}
-use Rattle.pbfcut.specs.Given.{GaveFile}
+use Rattle.pbfcut.specs.Given.{GaveFile, judged_from}
 use Rattle.pbfcut.specs.Judged.{judged_file}
 use Rattle.pbfcut.specs.Pass.{TakesFile}
 
@@ -45,6 +45,10 @@ module _ {F : Type 0} (f : feed.Ghosts F) (old new : F) (digest : List ℕ) wher
 
   pub told_says : (holds : List ℕ → Type 0) (v : Verdict) (given : GaveFile f old new digest holds) → Says (judged_file (Some given.file)) v → Says (judged_file (f.remaining old)) v
   told_says holds v given says = says_told (f.remaining old) given.file v (tells_file holds given) says
+
+-- what holds of the bytes that a fresh reader's feed gave holds of the file
+pub holds_of_file : (h : Bool) (p : ℕ) (file : List ℕ) (holds : Option Verdict → Type 0) → h ≡ false → p ≡ 0 → holds (judged_from h p file) → holds (judged_file (Some file))
+holds_of_file h p file holds had place holding = subst (λ (b : Bool). holds (judged_from b 0 file)) had (subst (λ (n : ℕ). holds (judged_from h n file)) place holding)
 
 -- two feeds that report the same bytes gave one file
 pub one_file : (first other : Option (List ℕ)) (file second b : List ℕ) → Tells first file → Tells other second → first ≡ Some b → other ≡ Some b → file ≡ second

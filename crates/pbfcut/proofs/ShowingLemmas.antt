@@ -9,7 +9,7 @@ use Rattle.pbf_wire.specs.declared.fault.ReadFault.TheVariants as read
 use Rattle.pbf_frame.specs.Devices.{append, HasRisen, IsFront}
 use Rattle.pbf_frame.specs.Frames.{FrameSpec}
 use Rattle.pbf_frame.specs.Stops.{stop_of}
-use Rattle.pbf_frame.specs.Verdict.{Verdict, with_first_known}
+use Rattle.pbf_frame.specs.Verdict.{Verdict, with_first_known, Says}
 use Rattle.pbf_frame.specs.declared.device.Drain as drain
 use Rattle.pbf_frame.specs.declared.device.Feed as feed
 use Rattle.pbf_frame.specs.declared.reader.FrameReader.{FrameReader}
@@ -19,9 +19,9 @@ use Rattle.pbf_frame.specs.Reads.{IsReaderStop}
 use Rattle.pbf_block.specs.declared.counts.Counts.{Counts}
 use Rattle.pbfcut.specs.Judged.{payload_fault, fully_known, judged_file}
 use Rattle.pbfcut.specs.Pass.{CountsFile}
-use Rattle.pbfcut.specs.Showing.{frame_text, Shown, StopsShowing, StoppedInPayload}
+use Rattle.pbfcut.specs.Showing.{frame_text, file_text, answer_text, Shown, ShowsFront, StopsShowing, StoppedInPayload}
 use Rattle.pbfcut.specs.Stops.{Caused, Only, unchanged}
-use Rattle.pbf_frame.proofs.Beginnings.{front_longer, front_then}
+use Rattle.pbf_frame.proofs.Beginnings.{front_whole, front_longer, front_then}
 use Rattle.osm_text.specs.EntityText.{entity_line}
 use Rattle.pbfcut.proofs.ListingLemmas.{StoppedWithin, text_one}
 use Rattle.pbfcut.proofs.GivenLemmas.{Tells, says_told}
@@ -55,6 +55,12 @@ shown_told dates known file written tells shown = record {
   says = says_told known file (shown.frames, None) tells shown.says;
   is = shown.is;
 }
+
+-- the whole text is a beginning of itself
+pub shown_front : (dates : Bool) (known : Option Verdict) (old new : Option (List ℕ)) (written : List ℕ) → Shown dates known written → new ≡ append old written → ShowsFront dates known old new
+shown_front dates known old new written s taken all is =
+    subst (λ (v : Verdict). IsFront old new (answer_text dates v)) (sym (subst (λ (k : Option Verdict). Says k (s.frames, None)) is s.says))
+    (front_whole old new (file_text dates s.frames) (taken ∙ ap (append old) s.is))
 
 pub counts_told : (known : Option (List ℕ)) (file : List ℕ) (counts : Counts) → Tells known file → CountsFile (judged_file (Some file)) counts → CountsFile (judged_file known) counts
 counts_told known file counts tells c = (c.0, says_told known file (c.0, None) tells c.1, c.2)

@@ -33,8 +33,9 @@ pub fn check_with_receipt<F: Feed>(alloc: Global, feed: &mut F) -> Result<InputR
     ensures counts { F.failures feed.old ≤ F.failures feed.new }
 {
     let told = judge(alloc, feed, &mut Nothing)?;
+    let input = told.digest;
     Ok(InputReceipt {
         counts: told.pass.counts,
-        input: told.digest,
+        input,
     })
 }

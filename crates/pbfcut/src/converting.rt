@@ -7,7 +7,7 @@ ghost use Rattle.pbfcut.specs.Converting.{CanBeWritten, judged_writable};
 ghost use Rattle.pbfcut.specs.Given.{GaveFile, Took, TookFile};
 ghost use Rattle.pbfcut.specs.Kept.{IsWritable, conversion_of};
 ghost use Rattle.pbfcut.specs.Repeat.{SameDigest};
-ghost use Rattle.pbfcut.specs.Stops.{ReadFailed, WriteFailed};
+ghost use Rattle.pbfcut.specs.Stops.{KeepsDrain, ReadFailed, WriteFailed};
 
 use crate::hashed::HashedDrain;
 use crate::header_limit::writable_header;
@@ -76,7 +76,12 @@ pub fn convert_with_receipt<F: Feed, G: Feed, D: Drain, S: BuildHasher + Drop>(
     let output = hashed.digest();
     // What is known of the drain comes back with the reference itself.
     let _drain = hashed.into_inner();
-    Ok(outcome?.with_output(output))
+    let InputReceipt { counts, input } = outcome?;
+    Ok(Receipt {
+        counts,
+        input,
+        output,
+    })
 }
 
 /// The work of [`convert`].
@@ -93,19 +98,17 @@ fn convert_file<F: Feed, G: Feed, D: Drain, S: BuildHasher + Drop>(
     ensures stops { IfErr result (ConvertStops (F.remaining first.old) (G.remaining second.old) (D.taken drain.old) (D.taken drain.new)
         (ReadFailed F.Feed first.old first.new ⊎ ReadFailed G.Feed second.old second.new) (WriteFailed D.Drain drain.old drain.new)) }
     ensures beginning { OnErr result ((b : List ℕ) → BothSupply b (F.remaining first.old) (G.remaining second.old) → IsFront (D.taken drain.old) (D.taken drain.new) (conversion_of b)) }
+    ensures drain { KeepsDrain D.Drain drain.old drain.new }
 {
     let told = judge(alloc, first, &mut Nothing)?;
     let writing = Writing {
         header: writable_header(&told.pass)?,
         selection: Selection::Everything,
     };
-    let last = Repeat {
-        number: 2,
-        digest: told.digest,
-    };
-    let counts = last.write(alloc, second, drain, hasher, writing)?;
+    let digest = told.digest;
+    let counts = Repeat { number: 2, digest }.write(alloc, second, drain, hasher, writing)?;
     Ok(InputReceipt {
         counts,
-        input: told.digest,
+        input: digest,
     })
 }

@@ -13,7 +13,7 @@ ghost use Rattle.pbfcut.specs.Extracting.{complete_ways, all_parents, IsChoice, 
 ghost use Rattle.pbfcut.specs.Given.{GaveFile, Took, TookFile};
 ghost use Rattle.pbfcut.specs.Kept.{IsWritable, extract_of};
 ghost use Rattle.pbfcut.specs.Repeat.{SameDigest};
-ghost use Rattle.pbfcut.specs.Stops.{Caused, FaultOf, ReadFailed, WriteFailed};
+ghost use Rattle.pbfcut.specs.Stops.{Caused, FaultOf, KeepsDrain, ReadFailed, WriteFailed};
 
 use crate::hashed::HashedDrain;
 use crate::header_limit::writable_header;
@@ -148,7 +148,12 @@ pub fn extract_with_receipt<F: Feed, G: Feed, H: Feed, D: Drain, S: BuildHasher 
     let output = hashed.digest();
     // What is known of the drain comes back with the reference itself.
     let _drain = hashed.into_inner();
-    Ok(outcome?.with_output(output))
+    let InputReceipt { counts, input } = outcome?;
+    Ok(Receipt {
+        counts,
+        input,
+        output,
+    })
 }
 
 /// The work of [`extract`].
@@ -169,6 +174,7 @@ fn extract_file<F: Feed, G: Feed, H: Feed, D: Drain, S: BuildHasher + Drop>(
         (ReadFailed F.Feed first.old first.new ⊎ (ReadFailed G.Feed second.old second.new ⊎ ReadFailed H.Feed third.old third.new))
         (WriteFailed D.Drain drain.old drain.new)) }
     ensures beginning { OnErr result ((b : List ℕ) → AllSupply b (F.remaining first.old) (G.remaining second.old) (H.remaining third.old) → IsFront (D.taken drain.old) (D.taken drain.new) (extract_of (complete_ways area) area b)) }
+    ensures drain { KeepsDrain D.Drain drain.old drain.new }
 {
     let choice = choose(alloc, first, second, area)?;
     let digest = choice.digest;
@@ -292,7 +298,12 @@ pub fn extract_parents_with_receipt<
     let output = hashed.digest();
     // What is known of the drain comes back with the reference itself.
     let _drain = hashed.into_inner();
-    Ok(outcome?.with_output(output))
+    let InputReceipt { counts, input } = outcome?;
+    Ok(Receipt {
+        counts,
+        input,
+        output,
+    })
 }
 
 /// The work of [`extract_parents`].
@@ -314,6 +325,7 @@ fn extract_file_with_parents<F: Feed, G: Feed, H: Feed, I: Feed, D: Drain, S: Bu
         ((ReadFailed F.Feed first.old first.new ⊎ (ReadFailed G.Feed second.old second.new ⊎ ReadFailed H.Feed third.old third.new)) ⊎ ReadFailed I.Feed fourth.old fourth.new)
         (WriteFailed D.Drain drain.old drain.new)) }
     ensures beginning { OnErr result ((b : List ℕ) → FourSupply b (F.remaining first.old) (G.remaining second.old) (H.remaining third.old) (I.remaining fourth.old) → IsFront (D.taken drain.old) (D.taken drain.new) (extract_of (all_parents area) area b)) }
+    ensures drain { KeepsDrain D.Drain drain.old drain.new }
 {
     let choice = choose_parents(alloc, first, second, third, area)?;
     let digest = choice.digest;

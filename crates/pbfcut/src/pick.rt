@@ -369,6 +369,7 @@ pub(crate) fn write<F: Feed, D: Drain, S: BuildHasher + Drop>(
     ensures packed { IfOk result (λ wrote. GaveFile F.Feed feed.old feed.new wrote.input (λ file. Took D.Drain drain.old drain.new (Packed (pick_of writing.entry.selection) (header_of writing.entry.header.now) wrote.counts (judged_file (Some file))))) }
     ensures beginning { OnErr result (PacksFront (pick_of writing.entry.selection) (header_of writing.entry.header.now) (judged_file (F.remaining feed.old)) (D.taken drain.old) (D.taken drain.new)) }
     ensures stops { IfErr result (Caused (FaultOf (judged_file (F.remaining feed.old))) (ReadFailed F.Feed feed.old feed.new) (WriteFailed D.Drain drain.old drain.new) unchanged) }
+    ensures drain { KeepsDrain D.Drain drain.old drain.new }
 {
     let mut packer = Packer::new(alloc, &mut *drain, hasher);
     let mut reader = FrameReader::new(alloc, HashedFeed::new(&mut *feed));

@@ -1,7 +1,5 @@
 //! What a call reports besides its work: the digests of the bytes that went through its devices.
 
-ghost use Rattle.std.specs.Prelude.{◌≡◌};
-
 use pbf_block::Counts;
 
 /// What a call that reads reports: how many entities, and the SHA-256 digest of its input.
@@ -22,19 +20,4 @@ pub struct Receipt {
     pub input: [u8; 32],
     /// The digest of the bytes that the drain took.
     pub output: [u8; 32],
-}
-
-impl InputReceipt {
-    /// The same with the digest of the output.
-    pub(crate) fn with_output(self, output: [u8; 32]) -> Receipt
-        ensures counts { result.counts ≡ self.counts }
-        ensures input { result.input ≡ self.input }
-        ensures output { result.output ≡ output }
-    {
-        Receipt {
-            counts: self.counts,
-            input: self.input,
-            output,
-        }
-    }
 }

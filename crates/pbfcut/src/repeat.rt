@@ -6,7 +6,7 @@ ghost use Rattle.pbf_frame.specs.declared.stop.Stop.TheVariants.{Changed};
 ghost use Rattle.pbfcut.specs.Judged.{judged_file};
 ghost use Rattle.pbfcut.specs.Given.{GaveFile, Took};
 ghost use Rattle.pbfcut.specs.Pick.{pick_of, Packed, PacksFront, IsShort};
-ghost use Rattle.pbfcut.specs.Stops.{ReadFailed, WriteFailed};
+ghost use Rattle.pbfcut.specs.Stops.{KeepsDrain, ReadFailed, WriteFailed};
 ghost use Rattle.pbfcut.specs.Repeat.{GathersAgain, StopsAgain, as_change};
 
 use crate::pass::{Gather, judge};
@@ -77,6 +77,7 @@ impl Repeat {
         ensures packed { IfOk result (λ counts. GaveFile F.Feed feed.old feed.new self.digest (λ file. Took D.Drain drain.old drain.new (Packed (pick_of writing.entry.selection) (header_of writing.entry.header.now) counts (judged_file (Some file))))) }
         ensures beginning { OnErr result (PacksFront (pick_of writing.entry.selection) (header_of writing.entry.header.now) (judged_file (F.remaining feed.old)) (D.taken drain.old) (D.taken drain.new)) }
         ensures stops { IfErr result (StopsAgain self (F.remaining feed.old) (ReadFailed F.Feed feed.old feed.new) (WriteFailed D.Drain drain.old drain.new)) }
+        ensures drain { KeepsDrain D.Drain drain.old drain.new }
     {
         match write(alloc, feed, drain, hasher, writing) {
             Ok(wrote) => {

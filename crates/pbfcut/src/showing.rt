@@ -1,6 +1,6 @@
 //! `show`: a line for each field of the header and for each entity.
 
-ghost use Rattle.std.specs.Prelude.{◌≡◌, ◌+◌, ◌≤◌, ◌^◌, ◌⊎◌, None, Some, IfOk, IfErr, OnOk, OnErr, length};
+ghost use Rattle.std.specs.Prelude.{◌≡◌, ◌+◌, ◌<◌, ◌≤◌, ◌^◌, ◌⊎◌, None, Some, IfOk, IfErr, OnOk, OnErr, length};
 ghost use Rattle.std.specs.List.{flat_map};
 ghost use Rattle.osm_entity.specs.Views.{entity_of};
 ghost use Rattle.pbf_block.specs.Cursors.{entities_left};
@@ -17,7 +17,7 @@ ghost use Rattle.pbfcut.specs.Judged.{payload_fault_of, fully_known, judged_file
 ghost use Rattle.pbfcut.specs.Pass.{CountsFile, IsStep};
 ghost use Rattle.pbfcut.specs.Repeat.{SameDigest};
 ghost use Rattle.pbfcut.specs.Showing.{payload_text, Shown, ShowsFront, WritesFront, ShowsFrame, StopsShowing, StoppedInPayload};
-ghost use Rattle.pbfcut.specs.Stops.{Caused, FaultOf, Only, unchanged, KeepsFeed, ReadFailed, WriteFailed};
+ghost use Rattle.pbfcut.specs.Stops.{Caused, FaultOf, Only, unchanged, KeepsFeed, KeepsDrain, ReadFailed, WriteFailed};
 
 use crate::hashed::{HashedDrain, HashedFeed};
 use crate::pass::{Nothing, judge};
@@ -39,7 +39,7 @@ fn write_entity<D: Drain>(
     ensures shown { OnOk result (Added D.Drain drain.old (entity_line dates (entity_of entity.now)) drain.new) }
     ensures front { IsFront (D.taken drain.old) (D.taken drain.new) (entity_line dates (entity_of entity.now)) }
     ensures stops { IfErr result (Caused (Only None) ⊥ (WriteFailed D.Drain drain.old drain.new) unchanged) }
-    ensures drain_counts { D.failures drain.old ≤ D.failures drain.new }
+    ensures keeps { KeepsDrain D.Drain drain.old drain.new }
 {
     text.clear();
     put_entity(text, entity, dates)?;
@@ -57,7 +57,7 @@ fn write_entities<D: Drain>(
     ensures shown { OnOk result (Added D.Drain drain.old (flat_map (entity_line dates) (entities_left entities.entry)) drain.new) }
     ensures front { OnErr result (IsFront (D.taken drain.old) (D.taken drain.new) (flat_map (entity_line dates) (entities_left entities.entry))) }
     ensures stops { IfErr result (Caused (Only None) ⊥ (WriteFailed D.Drain drain.old drain.new) unchanged) }
-    ensures drain_counts { D.failures drain.old ≤ D.failures drain.new }
+    ensures keeps { KeepsDrain D.Drain drain.old drain.new }
 {
     for entity in entities {
         write_entity(&entity, text, drain, dates)?;
@@ -78,7 +78,7 @@ fn write_header<D: Drain>(
     ensures sound { OnOk result (payload_fault_of kind.Header at payload.now ≡ None) }
     ensures stopped { OnErr result (StoppedInPayload (payload_fault_of kind.Header at payload.now) (header_text (header_in at payload.now)) (D.taken drain.old) (D.taken drain.new)) }
     ensures stops { IfErr result (Caused (Only (payload_fault_of kind.Header at payload.now)) ⊥ (WriteFailed D.Drain drain.old drain.new) unchanged) }
-    ensures drain_counts { D.failures drain.old ≤ D.failures drain.new }
+    ensures keeps { KeepsDrain D.Drain drain.old drain.new }
 {
     let header = Header::read(alloc, payload, at)?;
     text.clear();
@@ -102,7 +102,7 @@ fn write_block<D: Drain>(
     ensures sound { OnOk result (payload_fault_of kind.Data at payload.now ≡ None) }
     ensures stopped { OnErr result (StoppedInPayload (payload_fault_of kind.Data at payload.now) (payload_text dates kind.Data at payload.now) (D.taken drain.old) (D.taken drain.new)) }
     ensures stops { IfErr result (Caused (Only (payload_fault_of kind.Data at payload.now)) ⊥ (WriteFailed D.Drain drain.old drain.new) unchanged) }
-    ensures drain_counts { D.failures drain.old ≤ D.failures drain.new }
+    ensures keeps { KeepsDrain D.Drain drain.old drain.new }
 {
     let block = Block::read(alloc, payload, at)?;
     write_entities(block.entities(), text, drain, dates)?;
@@ -121,7 +121,7 @@ fn write_payload<D: Drain>(
     ensures sound { OnOk result (payload_fault_of frame.now.kind frame.now.payload_at frame.now.payload.now ≡ None) }
     ensures stopped { OnErr result (StoppedInPayload (payload_fault_of frame.now.kind frame.now.payload_at frame.now.payload.now) (payload_text dates frame.now.kind frame.now.payload_at frame.now.payload.now) (D.taken drain.old) (D.taken drain.new)) }
     ensures stops { IfErr result (Caused (Only (payload_fault_of frame.now.kind frame.now.payload_at frame.now.payload.now)) ⊥ (WriteFailed D.Drain drain.old drain.new) unchanged) }
-    ensures drain_counts { D.failures drain.old ≤ D.failures drain.new }
+    ensures keeps { KeepsDrain D.Drain drain.old drain.new }
 {
     match frame.kind {
         FrameKind::Header => write_header(alloc, frame.payload, frame.payload_at, text, drain)?,
@@ -144,7 +144,7 @@ fn step_show<F: Feed, D: Drain>(
 ) -> Result<bool, Stop>
     ensures step { IsStep F.Feed reader.old reader.new (ShowsFrame D.Drain dates drain.old drain.new) (StopsShowing D.Drain dates drain.old drain.new) (drain.new ≡ drain.old) result }
     ensures limited { place_of reader.new ≤ 2 ^ 62 }
-    ensures drain_counts { D.failures drain.old ≤ D.failures drain.new }
+    ensures keeps { KeepsDrain D.Drain drain.old drain.new }
 {
     let Some(frame) = reader.next()? else {
         return Ok(false);
@@ -164,7 +164,8 @@ fn show_all<F: Feed, D: Drain>(
     ensures shown { OnOk result (GaveRest F.Feed reader.old reader.new (λ known. Took D.Drain drain.old drain.new (Shown dates known))) }
     ensures beginning { OnErr result (WritesFront dates (fully_known (verdict F.remaining reader.old)) (D.taken drain.old) (D.taken drain.new)) }
     ensures stops { IfErr result (Caused (FaultOf (fully_known (verdict F.remaining reader.old))) (ReadFailed F.Feed reader.old.feed reader.new.feed) (WriteFailed D.Drain drain.old drain.new) unchanged) }
-    ensures keeps { KeepsFeed F.Feed reader.old.feed reader.new.feed }
+    ensures feed { KeepsFeed F.Feed reader.old.feed reader.new.feed }
+    ensures drain { KeepsDrain D.Drain drain.old drain.new }
 {
     let mut text = Vec::new(alloc);
     'frames: while step_show(alloc, reader, &mut text, drain, dates)? {}
@@ -181,6 +182,7 @@ fn write_text<F: Feed, D: Drain>(
     ensures shown { IfOk result (λ digest. GaveFile F.Feed feed.old feed.new digest (λ file. Took D.Drain drain.old drain.new (Shown dates (judged_file (Some file))))) }
     ensures beginning { OnErr result (WritesFront dates (judged_file (F.remaining feed.old)) (D.taken drain.old) (D.taken drain.new)) }
     ensures stops { IfErr result (Caused (FaultOf (judged_file (F.remaining feed.old))) (ReadFailed F.Feed feed.old feed.new) (WriteFailed D.Drain drain.old drain.new) unchanged) }
+    ensures drain { KeepsDrain D.Drain drain.old drain.new }
 {
     let mut reader = FrameReader::new(alloc, HashedFeed::new(&mut *feed));
     let outcome = show_all(alloc, &mut reader, drain, dates);
@@ -245,7 +247,12 @@ pub fn show_with_receipt<F: Feed, G: Feed, D: Drain>(
     let output = hashed.digest();
     // What is known of the drain comes back with the reference itself.
     let _drain = hashed.into_inner();
-    Ok(outcome?.with_output(output))
+    let InputReceipt { counts, input } = outcome?;
+    Ok(Receipt {
+        counts,
+        input,
+        output,
+    })
 }
 
 /// The work of [`show`].
@@ -263,18 +270,20 @@ fn show_file<F: Feed, G: Feed, D: Drain>(
         (WriteFailed D.Drain drain.old drain.new)
         (ChangedIn 2 (F.remaining first.old) (G.remaining second.old))) }
     ensures beginning { OnErr result (F.remaining first.old ≡ G.remaining second.old → ShowsFront dates (judged_file (F.remaining first.old)) (D.taken drain.old) (D.taken drain.new)) }
+    ensures drain { KeepsDrain D.Drain drain.old drain.new }
 {
     let told = judge(alloc, first, &mut Nothing)?;
+    let input = told.digest;
     let last = Repeat {
         number: 2,
-        digest: told.digest,
+        digest: input,
     };
     match write_text(alloc, second, drain, dates) {
         Ok(digest) => {
             last.compare(digest)?;
             Ok(InputReceipt {
                 counts: told.pass.counts,
-                input: told.digest,
+                input,
             })
         }
         Err(stop) => Err(last.changed(stop)),

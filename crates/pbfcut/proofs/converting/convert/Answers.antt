@@ -20,7 +20,7 @@ returns-clause-converted g c =
     λ b supply. record {
       written = took.written;
       added = took.added;
-      holding = subst (λ (l : List ℕ). Converted l _ took.written) (first b supply.0) (took.holding (one_file _ _ one.file two.file b first second supply.0 supply.1));
+      holding = subst (λ (l : List ℕ). Converted l c.in_ok-convert_file.field-0.counts took.written) (first b supply.0) (took.holding (one_file _ _ one.file two.file b first second supply.0 supply.1));
     }
 
 pub returns-clause-digests : goal.returns-clause-digests

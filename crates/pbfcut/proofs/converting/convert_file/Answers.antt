@@ -1,13 +1,13 @@
-use Rattle.std.proofs.Common.{List, ℕ, Some, ap, sym, inr, refl}
+use Rattle.std.proofs.Common.{◌⊎◌, List, ℕ, Some, ap, sym, inr, refl}
 use Rattle.std.proofs.lemmas.Result.{err_from_is_err_and}
 use Rattle.pbf_block.specs.Header.{header_of}
 use Rattle.pbfcut.specs.Calls.{RefusedFirst, ChangedIn}
 use Rattle.pbfcut.specs.Converting.{header_limit, held_header, judged_writable}
 use Rattle.pbfcut.specs.Judged.{judged_file}
 use Rattle.pbfcut.specs.Pass.{as_it_was}
-use Rattle.pbfcut.specs.Stops.{Only, unchanged}
+use Rattle.pbfcut.specs.Stops.{Only, unchanged, ReadFailed, WriteFailed}
 use Rattle.pbfcut.proofs.ConvertingLemmas.{limit_refused, nothing_out, passed, passed_sound, converted, converts_front}
-use Rattle.pbfcut.proofs.ExtractingLemmas.{stops_earlier, stops_later}
+use Rattle.pbfcut.proofs.ExtractingLemmas.{convert_stops, stops_earlier}
 use Rattle.pbfcut.proofs.GivenLemmas.{tells_file, told_holds, told_digest, told_says, takes_told}
 use Rattle.pbfcut.proofs.converting.convert_file.Goals as goal
 
@@ -25,25 +25,27 @@ returns-in_err-writable_header-clause-beginning g c =
     let p = err_from_is_err_and c.from_residual-in_err-writable_header.result c.from_residual-in_err-writable_header.ensures.1 in
     rw p.1 (λ b supply. nothing_out _ _)
 
-pub returns-in_err-write-clause-stops : goal.returns-in_err-write-clause-stops
-returns-in_err-write-clause-stops g c =
-    let p = err_from_is_err_and c.from_residual-in_err-write.result c.from_residual-in_err-write.ensures.1 in
+pub returns-in_err-counts-clause-stops : goal.returns-in_err-counts-clause-stops
+returns-in_err-counts-clause-stops g c =
+    let p = err_from_is_err_and c.from_residual-in_err-counts.result c.from_residual-in_err-counts.ensures.1 in
     let one = c.in_ok-told.ensures.judged in
     let first = g.F.Feed.remaining c.args.first.now in
     let second = g.G.Feed.remaining c.args.second.now in
     let old = g.D.Drain.taken c.args.drain.now in
     let new = g.D.Drain.taken c.write.new.drain in
-    rw (p.1, p.2) (stops_later (record { number = 2; digest = c.in_ok-told.told.digest }) first second _ one.holding.frames (RefusedFirst (judged_writable first) old new) _ _ _ (ChangedIn 2 first second) _
-    (told_digest g.F.Feed _ _ _ _ one) (told_says g.F.Feed _ _ _ _ _ one one.holding.says) refl (λ r. inr r) (λ pass is. is) c.in_err-write.ensures.stops)
+    let read = ReadFailed g.F.Feed c.args.first.now c.judge.new.feed ⊎ ReadFailed g.G.Feed c.args.second.now c.write.new.feed in
+    let later = ReadFailed g.G.Feed c.args.second.now c.write.new.feed in
+    let wrote = WriteFailed g.D.Drain c.args.drain.now c.write.new.drain in
+    rw (p.1, p.2) (convert_stops c.in_ok-told.told.digest first second old new one.holding.frames read later wrote _ (told_digest g.F.Feed _ _ _ _ one) (told_says g.F.Feed _ _ _ _ _ one one.holding.says) (λ r. inr r) c.in_err-counts.ensures.stops)
 
-pub returns-in_err-write-clause-beginning : goal.returns-in_err-write-clause-beginning
-returns-in_err-write-clause-beginning g c =
-    let p = err_from_is_err_and c.from_residual-in_err-write.result c.from_residual-in_err-write.ensures.1 in
+pub returns-in_err-counts-clause-beginning : goal.returns-in_err-counts-clause-beginning
+returns-in_err-counts-clause-beginning g c =
+    let p = err_from_is_err_and c.from_residual-in_err-counts.result c.from_residual-in_err-counts.ensures.1 in
     let pass = c.in_ok-told.told.pass in
     let header = c.in_ok-writable_header in
     let h = header_of header.field-0.now in
     rw p.1 (λ b supply.
-    converts_front b pass h _ _ _ (ap judged_file supply.1) (passed as_it_was _ _ b pass h _ refl (told_holds g.F.Feed _ _ _ _ b c.in_ok-told.ensures.judged supply.0) header.ensures.header header.ensures.within) c.in_err-write.ensures.beginning)
+    converts_front b pass h _ _ _ (ap judged_file supply.1) (passed as_it_was _ _ b pass h _ refl (told_holds g.F.Feed _ _ _ _ b c.in_ok-told.ensures.judged supply.0) header.ensures.header header.ensures.within) c.in_err-counts.ensures.beginning)
 
 pub returns-clause-given : goal.returns-clause-given
 returns-clause-given g c =

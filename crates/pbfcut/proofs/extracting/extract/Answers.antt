@@ -26,7 +26,7 @@ returns-clause-extracted g c =
     λ b supply. record {
       written = took.written;
       added = took.added;
-      holding = subst (λ (l : List ℕ). Extracted (complete_ways area) (λ meant. extract (seen_decoded area) meant) area l _ took.written) (tells_one b supply.0) (took.holding (one_file _ _ one.file two.file b tells_one tells_two supply.0 supply.1) (one_file _ _ one.file three.file b tells_one tells_three supply.0 supply.2));
+      holding = subst (λ (l : List ℕ). Extracted (complete_ways area) (λ meant. extract (seen_decoded area) meant) area l c.in_ok-extract_file.field-0.counts took.written) (tells_one b supply.0) (took.holding (one_file _ _ one.file two.file b tells_one tells_two supply.0 supply.1) (one_file _ _ one.file three.file b tells_one tells_three supply.0 supply.2));
     }
 
 pub returns-clause-digests : goal.returns-clause-digests

@@ -3,33 +3,36 @@ use Rattle.std.proofs.lemmas.Result.{err_from_is_err_and}
 use Rattle.pbf_block.specs.Header.{header_of}
 use Rattle.osm_ways.specs.Seen.{seen_decoded}
 use Rattle.osm_ways.specs.Parents.{extract_with_parents}
-use Rattle.pbfcut.specs.Calls.{RefusedFirst, ChangedIn, ChangedBefore}
-use Rattle.pbfcut.specs.Converting.{judged_writable}
 use Rattle.pbfcut.specs.Extracting.{all_parents}
 use Rattle.pbfcut.specs.Judged.{judged_file}
-use Rattle.pbfcut.proofs.ExtractingLemmas.{chosen_sound, selects_parents, extracted, extracts_front, stops_later}
+use Rattle.pbfcut.specs.Stops.{ReadFailed, WriteFailed}
+use Rattle.pbfcut.proofs.ExtractingLemmas.{chosen_sound, selects_parents, extracted, extracts_front, parents_stops}
 use Rattle.pbfcut.proofs.GivenLemmas.{tells_file, told_digest, told_says}
 use Rattle.pbfcut.proofs.KeptLaw.{all_parents_select}
 use Rattle.pbfcut.proofs.extracting.extract_file_with_parents.Goals as goal
 
-pub returns-in_err-write-clause-stops : goal.returns-in_err-write-clause-stops
-returns-in_err-write-clause-stops g c =
-    let p = err_from_is_err_and c.from_residual-in_err-write.result c.from_residual-in_err-write.ensures.1 in
+pub returns-in_err-counts-clause-stops : goal.returns-in_err-counts-clause-stops
+returns-in_err-counts-clause-stops g c =
+    let p = err_from_is_err_and c.from_residual-in_err-counts.result c.from_residual-in_err-counts.ensures.1 in
     let one = c.in_ok-choice.ensures.chosen in
     let two = one.holding in
     let three = two.holding in
     let choice = three.holding in
     let first = g.F.Feed.remaining c.args.first.now in
     let second = g.G.Feed.remaining c.args.second.now in
-    let last = g.I.Feed.remaining c.args.fourth.now in
     let old = g.D.Drain.taken c.args.drain.now in
     let new = g.D.Drain.taken c.write.new.drain in
-    rw (p.1, p.2) (stops_later (record { number = 4; digest = c.in_ok-choice.choice.digest }) first last _ choice.chosen.chosen.frames (RefusedFirst (judged_writable first) old new) _ _ _ (λ pass. (ChangedBefore 2 first second old new pass ⊎ ChangedBefore 3 first (g.H.Feed.remaining c.args.third.now) old new pass) ⊎ ChangedIn 4 first last pass) _
-    (told_digest g.F.Feed _ _ _ _ one) (told_says g.F.Feed _ _ _ _ _ one choice.chosen.chosen.judged) refl (λ r. inr r) (λ pass is. inr is) c.in_err-write.ensures.stops)
+    let third = g.H.Feed.remaining c.args.third.now in
+    let fourth = g.I.Feed.remaining c.args.fourth.now in
+    let earlier = ReadFailed g.F.Feed c.args.first.now c.choose_parents.new.first ⊎ (ReadFailed g.G.Feed c.args.second.now c.choose_parents.new.second ⊎ ReadFailed g.H.Feed c.args.third.now c.choose_parents.new.third) in
+    let read = earlier ⊎ ReadFailed g.I.Feed c.args.fourth.now c.write.new.feed in
+    let later = ReadFailed g.I.Feed c.args.fourth.now c.write.new.feed in
+    let wrote = WriteFailed g.D.Drain c.args.drain.now c.write.new.drain in
+    rw (p.1, p.2) (parents_stops c.in_ok-choice.choice.digest first second third fourth old new choice.chosen.chosen.frames read later wrote _ (told_digest g.F.Feed _ _ _ _ one) (told_says g.F.Feed _ _ _ _ _ one choice.chosen.chosen.judged) (λ r. inr r) c.in_err-counts.ensures.stops)
 
-pub returns-in_err-write-clause-beginning : goal.returns-in_err-write-clause-beginning
-returns-in_err-write-clause-beginning g c =
-    let p = err_from_is_err_and c.from_residual-in_err-write.result c.from_residual-in_err-write.ensures.1 in
+pub returns-in_err-counts-clause-beginning : goal.returns-in_err-counts-clause-beginning
+returns-in_err-counts-clause-beginning g c =
+    let p = err_from_is_err_and c.from_residual-in_err-counts.result c.from_residual-in_err-counts.ensures.1 in
     let area = c.args.area in
     let h = header_of c.in_ok-choice.choice.header in
     let one = c.in_ok-choice.ensures.chosen in
@@ -37,7 +40,7 @@ returns-in_err-write-clause-beginning g c =
     let three = two.holding in
     let choice = three.holding in
     rw p.1 (λ b supply.
-    extracts_front (all_parents area) (λ meant. extract_with_parents (seen_decoded area) meant) (all_parents_select area) area choice.edges b _ h (selects_parents _ area b _ _ _ h (ap (λ (l : List ℕ). judged_file (Some l)) (tells_file g.F.Feed _ _ _ _ one b supply.0)) (ap (λ (l : List ℕ). judged_file (Some l)) (tells_file g.G.Feed _ _ _ _ two b supply.1)) (ap (λ (l : List ℕ). judged_file (Some l)) (tells_file g.H.Feed _ _ _ _ three b supply.2)) choice.chosen) _ _ _ (ap judged_file supply.3) c.in_err-write.ensures.beginning)
+    extracts_front (all_parents area) (λ meant. extract_with_parents (seen_decoded area) meant) (all_parents_select area) area choice.edges b _ h (selects_parents _ area b _ _ _ h (ap (λ (l : List ℕ). judged_file (Some l)) (tells_file g.F.Feed _ _ _ _ one b supply.0)) (ap (λ (l : List ℕ). judged_file (Some l)) (tells_file g.G.Feed _ _ _ _ two b supply.1)) (ap (λ (l : List ℕ). judged_file (Some l)) (tells_file g.H.Feed _ _ _ _ three b supply.2)) choice.chosen) _ _ _ (ap judged_file supply.3) c.in_err-counts.ensures.beginning)
 
 pub returns-clause-given : goal.returns-clause-given
 returns-clause-given g c =

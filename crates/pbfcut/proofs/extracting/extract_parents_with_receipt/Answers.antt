@@ -4,7 +4,7 @@ use Rattle.pbfcut.proofs.extracting.extract_parents_with_receipt.Goals as goal
 
 pub returns-clause-receipt : goal.returns-clause-receipt
 returns-clause-receipt g c =
-    let one = c.in_ok-outcome.ensures.given in
+    let one = c.in_ok-counts.ensures.given in
     let two = one.holding.1 in
     let three = two.holding in
     let four = three.holding in

@@ -1,5 +1,6 @@
 use Rattle.std.proofs.Common.{zero, suc, [], rules}
-use Rattle.pbfcut.proofs.GivenLemmas.{supplied_as}
+use Rattle.pbfcut.specs.Pass.{TakesFile}
+use Rattle.pbfcut.proofs.GivenLemmas.{supplied_as, holds_of_file}
 use Rattle.pbfcut.proofs.pass.judge.Goals as goal
 
 pub returns-clause-judged : goal.returns-clause-judged
@@ -13,5 +14,5 @@ returns-clause-judged g c =
         logged = λ log. given.supplied.logged (suc log);
       };
       digest_is = c.digest-digest.ensures.digest given.bytes (given.supplied.logged zero [] (rw c.new-reader.ensures.feed c.new.ensures.hasher));
-      holding = given.holding;
+      holding = holds_of_file _ _ given.bytes (λ known. TakesFile g.G.Gather.gathered known c.args.gathering.now c.steps-outcome.new.gathering c.in_ok-pass.pass) c.new-reader.ensures.had_header c.new-reader.ensures.place given.holding;
     }

@@ -9,7 +9,7 @@ use Rattle.pbfcut.proofs.pass.steps.Goals as goal
 
 pub frames-init : goal.frames-init
 frames-init g c = record {
-  done = ([], refl, c.new-pass.ensures.2, c.new-pass.ensures.0, refl, has_read_none g.F.Feed c.args.reader.now);
+  done = ([], search rules, c.new-pass.ensures.2, c.new-pass.ensures.0, refl, has_read_none g.F.Feed c.args.reader.now);
   reading = c.requires;
   counts = search rules;
   lender = refl;

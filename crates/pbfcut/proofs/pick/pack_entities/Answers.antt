@@ -82,7 +82,7 @@ returns-in_err-push-clause-stopped g c =
         refl,
         record {
           begun = λ start done h.
-              stopped_here g.D.Drain pick start done so_far.gone _ _ _ (entity_of c.in-Some.entity) c.loop-entity.packer _ c.in-Some.ensures.steps so_far.split picked (so_far.packed start done h) fits.0 (c.in_err-push.ensures.front so_far.going);
+              stopped_here g.D.Drain pick start done so_far.gone _ _ _ (entity_of c.in-Some.entity) c.loop-entity.packer c.push.new.self c.in-Some.ensures.steps so_far.split picked (so_far.packed start done h) fits.0 (c.in_err-push.ensures.front so_far.going);
         },
       );
     })

@@ -1,6 +1,8 @@
 use Rattle.std.proofs.Common.{zero, suc, [], rules}
 use Rattle.pbf_frame.proofs.Passed.{added_as}
-use Rattle.pbfcut.proofs.GivenLemmas.{supplied_as}
+use Rattle.pbf_block.specs.Header.{header_of}
+use Rattle.pbfcut.specs.Pick.{Packed, pick_of}
+use Rattle.pbfcut.proofs.GivenLemmas.{supplied_as, holds_of_file}
 use Rattle.pbfcut.proofs.pick.write.Goals as goal
 
 pub returns-clause-packed : goal.returns-clause-packed
@@ -21,6 +23,6 @@ returns-clause-packed g c =
           told = took.added.told;
           logged = took.added.logged;
         };
-        holding = took.holding;
+        holding = holds_of_file _ _ given.bytes (λ known. Packed (pick_of c.args.writing.selection) (header_of c.args.writing.header.now) c.in_ok-counts.counts known took.written) c.new-reader.ensures.had_header c.new-reader.ensures.place took.holding;
       };
     }

@@ -73,7 +73,7 @@ returns-in_err-finish-clause-beginning g c =
     let packed = same_packed g.D.Drain _ (filter pick (stored_entities frames)) c.frames.packer _ e.stays.1 so_far.done.2 in
     rw p.1 (λ all is. behind_header (header_of c.args.writing.header.now) _ _ _ (filter pick (stored_entities all.0)) (c.in_ok-put_header.ensures.written c.requires.fresh.packing).told
     (last_front pick _ _ _ _ all (says_end _ _ frames so_far.done.1 e.none) is
-    (end_front g.D.Drain _ (filter pick (stored_entities frames)) c.step_pack.new.packer _ packed (c.in_err-finish.ensures.front (ap (λ p. p.stop) e.stays.1 ∙ so_far.going)))))
+    (end_front g.D.Drain _ (filter pick (stored_entities frames)) c.step_pack.new.packer c.finish.new.self packed (c.in_err-finish.ensures.front (ap (λ p. p.stop) e.stays.1 ∙ so_far.going)))))
 
 pub returns-clause-packed : goal.returns-clause-packed
 returns-clause-packed g c =
@@ -86,7 +86,7 @@ returns-clause-packed g c =
     let packed = same_packed g.D.Drain _ es c.frames.packer _ e.stays.1 so_far.done.2 in
     has_read_all g.F.Feed _ _ _ frames _ so_far.done.4 e.gave (λ known says. record {
       written = written_file h es;
-      added = whole_file g.D.Drain h _ _ _ es (c.in_ok-put_header.ensures.written c.requires.fresh.packing) (ended g.D.Drain _ es c.step_pack.new.packer _ packed c.in_ok-finish.ensures.written);
+      added = whole_file g.D.Drain h _ _ _ es (c.in_ok-put_header.ensures.written c.requires.fresh.packing) (ended g.D.Drain _ es c.step_pack.new.packer c.finish.new.self packed c.in_ok-finish.ensures.written);
       holding = record {
         frames = frames;
         says = says;

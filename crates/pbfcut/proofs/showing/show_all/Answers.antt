@@ -17,6 +17,7 @@ frames-init g c = record {
   reading = c.requires;
   counts = search rules;
   drain_counts = search rules;
+  drain_lender = refl;
   lender = refl;
 }
 
@@ -34,7 +35,8 @@ frames-preserved g c =
       );
       reading = t.reading;
       counts = omega (arith, so_far.counts, t.keeps.counts);
-      drain_counts = omega (arith, so_far.drain_counts, c.step_show.ensures.drain_counts);
+      drain_counts = omega (arith, so_far.drain_counts, c.step_show.ensures.keeps.counts);
+      drain_lender = c.step_show.ensures.keeps.lender ∙ so_far.drain_lender;
       lender = t.keeps.lender ∙ so_far.lender;
     }
 

@@ -18,6 +18,7 @@ invariant-frames g l =
       reading : IsReading l.reader;
       counts : g.F.Feed.failures first.feed ≤ g.F.Feed.failures l.reader.feed;
       drain_counts : g.D.Drain.failures l.initial.drain ≤ g.D.Drain.failures l.drain;
+      drain_lender : g.D.Drain.lender l.drain ≡ g.D.Drain.lender l.initial.drain;
       lender : g.F.Feed.lender l.reader.feed ≡ g.F.Feed.lender first.feed;
     }
 

@@ -4,7 +4,7 @@ use Rattle.pbfcut.proofs.showing.show_with_receipt.Goals as goal
 
 pub returns-clause-receipt : goal.returns-clause-receipt
 returns-clause-receipt g c =
-    let one = c.in_ok-outcome.ensures.given in
+    let one = c.in_ok-counts.ensures.given in
     let two = one.holding.1 in
     let took = two.holding in
     record {

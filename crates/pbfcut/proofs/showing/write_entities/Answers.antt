@@ -1,4 +1,4 @@
-use Rattle.std.proofs.Common.{[], ◌∷◌, ◌++◌, arith, rules}
+use Rattle.std.proofs.Common.{[], ◌∷◌, ◌++◌, ◌∙◌, arith, rules}
 use Rattle.std.proofs.lemmas.Result.{err_from_is_err_and}
 use Rattle.osm_entity.specs.Views.{entity_of}
 use Rattle.osm_text.specs.EntityText.{entity_line}
@@ -14,7 +14,8 @@ loop-entity-preserved g c =
       can = search rules;
       ends = search rules;
       so_far = (so_far.0 ++ e ∷ [], entities_more so_far.0 _ _ _ e c.in-Some.ensures.steps so_far.1, texts_added g.D.Drain (entity_line c.args.dates) _ _ _ so_far.0 e so_far.2 c.in_ok-write_entity.ensures.shown);
-      drain_counts = omega (arith, c.loop-entity.invariant.drain_counts, c.write_entity.ensures.drain_counts);
+      drain_counts = omega (arith, c.loop-entity.invariant.drain_counts, c.write_entity.ensures.keeps.counts);
+      drain_lender = c.write_entity.ensures.keeps.lender ∙ c.loop-entity.invariant.drain_lender;
     }
 
 pub returns-in_err-write_entity-clause-front : goal.returns-in_err-write_entity-clause-front

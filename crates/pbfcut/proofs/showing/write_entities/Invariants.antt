@@ -13,4 +13,5 @@ invariant-loop-entity g l = record {
   ends : (goal.iterator-loop-entity g).is_finite l.entity-iterator;
   so_far : (done : List EntitySpec) × (done ++ entities_left l.entity-iterator ≡ entities_left l.fn.entities) × Added g.D.Drain l.initial.drain (flat_map (entity_line l.dates) done) l.drain;
   drain_counts : g.D.Drain.failures l.initial.drain ≤ g.D.Drain.failures l.drain;
+  drain_lender : g.D.Drain.lender l.drain ≡ g.D.Drain.lender l.initial.drain;
 }
