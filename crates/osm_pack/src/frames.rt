@@ -12,7 +12,7 @@ ghost use Rattle.osm_pack.specs.Cuts.{block_frame, header_frame, then_pending, t
 ghost use Rattle.osm_pack.specs.Open.{Holds, IsOpen};
 ghost use Rattle.osm_pack.specs.Stops.{IsPackStop};
 
-use crate::block::Block;
+use crate::open_block::OpenBlock;
 use osm_entity::EntityRef;
 use pbf_block::Header;
 use pbf_frame::{Drain, FrameKind, Stop, put_frame};
@@ -23,7 +23,7 @@ use std::hash::BuildHasher;
 pub(crate) fn close_into<D: Drain, S: BuildHasher>(
     alloc: Global,
     drain: &mut D,
-    block: &mut Block<S>,
+    block: &mut OpenBlock<S>,
 ) -> Result<(), Stop>
     requires { IsOpen block.old }
     ensures written { (es : List EntitySpec) → Holds block.old es → OnOk result (Added D.Drain drain.old (block_frame es) drain.new) }
@@ -42,7 +42,7 @@ pub(crate) fn close_into<D: Drain, S: BuildHasher>(
 pub(crate) fn push_into<D: Drain, S: BuildHasher>(
     alloc: Global,
     drain: &mut D,
-    block: &mut Block<S>,
+    block: &mut OpenBlock<S>,
     entity: &EntityRef<'_>,
 ) -> Result<(), Stop>
     requires open { IsOpen block.old }
@@ -86,7 +86,7 @@ pub(crate) fn put_header_into<D: Drain>(
 pub(crate) fn finish_into<D: Drain, S: BuildHasher>(
     alloc: Global,
     drain: &mut D,
-    block: &mut Block<S>,
+    block: &mut OpenBlock<S>,
 ) -> Result<(), Stop>
     requires { IsOpen block.old }
     ensures written { (es : List EntitySpec) → Holds block.old es → OnOk result (Added D.Drain drain.old (at_end es) drain.new) }

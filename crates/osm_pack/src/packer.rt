@@ -1,7 +1,7 @@
 //! Entities on their way into a drain.
 
-use crate::block::Block;
 use crate::frames::{finish_into, push_into, put_header_into};
+use crate::open_block::OpenBlock;
 use osm_entity::EntityRef;
 use pbf_block::Header;
 use pbf_frame::{Drain, Stop};
@@ -17,7 +17,7 @@ use std::marker::Model;
 #[derive(Drop)]
 pub struct Packer<D: Drain, S: BuildHasher> {
     drain: D,
-    block: Block<S>,
+    block: OpenBlock<S>,
     begun: bool,
     stop: Option<Stop>,
     alloc: Global,
@@ -60,7 +60,7 @@ impl<D: Drain, S: BuildHasher> Packer<D, S> {
     {
         Packer {
             drain,
-            block: Block::new(alloc, hasher),
+            block: OpenBlock::new(alloc, hasher),
             begun: false,
             stop: None,
             alloc,

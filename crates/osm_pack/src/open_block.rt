@@ -7,9 +7,9 @@ ghost use Rattle.osm_entity.specs.Views.{entity_of};
 ghost use Rattle.osm_entity.specs.Weight.{entity_weight};
 ghost use Rattle.pbf_block.specs.WrittenBlock.{is_block, block_message, scale_among};
 ghost use Rattle.osm_pack.specs.Open.{Holds, IsOpen, Encodes, block_held};
-ghost use Rattle.osm_pack.specs.Sorts.{sort_of, is_like};
+ghost use Rattle.osm_pack.specs.Likenesses.{likeness_of, is_like};
 
-use crate::sort::Sort;
+use crate::likeness::Likeness;
 use osm_entity::{EntityRef, Scale};
 use pbf_block::{EntityOut, put_block, put_dense};
 use pbf_dense::DenseOut;
@@ -34,8 +34,8 @@ const DEFAULT_SCALE: Scale = Scale {
 
 /// The entities of a block, encoded as they come: nodes as columns, ways and relations as messages.
 #[derive(Drop)]
-pub(crate) struct Block<S: BuildHasher> {
-    sort: Option<Sort>,
+pub(crate) struct OpenBlock<S: BuildHasher> {
+    likeness: Option<Likeness>,
     count: usize,
     weight: u64,
     texts: TableOut<S>,
@@ -52,13 +52,13 @@ fn may_join(is_alike: bool, count: usize, weight: u64, more: u64) -> bool
     is_alike && count < MOST_ENTITIES && weight.saturating_add(more) <= MOST_WEIGHT
 }
 
-impl<S: BuildHasher> Block<S> {
+impl<S: BuildHasher> OpenBlock<S> {
     /// A block without entities, which takes no memory yet.
-    pub(crate) fn new(alloc: Global, hasher: S) -> Block<S>
+    pub(crate) fn new(alloc: Global, hasher: S) -> OpenBlock<S>
         ensures { Holds result [] }
     {
-        Block {
-            sort: None,
+        OpenBlock {
+            likeness: None,
             count: 0,
             weight: 0,
             texts: TableOut::new(alloc, hasher),
@@ -72,7 +72,7 @@ impl<S: BuildHasher> Block<S> {
     pub(crate) fn clear(&mut self, alloc: Global)
         ensures { Holds self.new [] }
     {
-        self.sort = None;
+        self.likeness = None;
         self.count = 0;
         self.weight = 0;
         self.texts.clear();
@@ -90,10 +90,10 @@ impl<S: BuildHasher> Block<S> {
 
     /// Whether an entity is like those that are there.
     fn is_alike(&self, entity: &EntityRef<'_>) -> bool
-        ensures { result ≡ is_like self.now.sort (sort_of (entity_of entity.now)) }
+        ensures { result ≡ is_like self.now.likeness (likeness_of (entity_of entity.now)) }
     {
-        match self.sort {
-            Some(sort) => sort.same(Sort::of(entity)),
+        match self.likeness {
+            Some(likeness) => likeness.same(Likeness::of(entity)),
             None => true,
         }
     }
@@ -137,7 +137,7 @@ impl<S: BuildHasher> Block<S> {
         ensures { (es : List EntitySpec) → Holds self.old es → OnOk result (Holds self.new (es ++ entity_of entity.now ∷ [])) }
     {
         self.put(entity)?;
-        self.sort = Some(self.sort.unwrap_or(Sort::of(entity)));
+        self.likeness = Some(self.likeness.unwrap_or(Likeness::of(entity)));
         self.count += 1;
         self.weight += weight;
         Ok(())
@@ -147,8 +147,8 @@ impl<S: BuildHasher> Block<S> {
     fn scale(&self) -> Scale
         ensures { (es : List EntitySpec) → Holds self.now es → result ≡ scale_among es }
     {
-        match self.sort {
-            Some(sort) => sort.scale,
+        match self.likeness {
+            Some(likeness) => likeness.scale,
             None => DEFAULT_SCALE,
         }
     }
