@@ -24,6 +24,8 @@ use Rattle.osm_pack.specs.declared.open_block.OpenBlock.{OpenBlock}
 use Rattle.osm_pack.specs.Likenesses.{likeness_of, same_likeness, is_like}
 use Rattle.osm_pack.specs.Open.{likeness_among, Holds, IsOpen, Encodes, block_held}
 use Rattle.osm_pack.proofs.CutLemmas.{like_first, joins, both, kept_parts, kept_bounds, kept_none, kept_one}
+use Rattle.osm_entity.specs.declared.weight.TheConstants.{HIGHEST_WEIGHT}
+use Rattle.pbf_block.specs.declared.block_write.TheConstants.{MOST_ENTITIES}
 
 -- ---- what entities have alike
 
@@ -212,7 +214,7 @@ like : (es : List EntitySpec) (f : EntitySpec) → is_like (likeness_among es) (
 like [] f = refl
 like (e ∷ es) f = alike_likeness e f
 
-light : (e : EntitySpec) → EntityFits e → entity_weight e ≤ 12000000
+light : (e : EntitySpec) → EntityFits e → entity_weight e ≤ HIGHEST_WEIGHT
 light (node n) h = h.light
 light (way w) h = h.light
 light (relation r) h = h.light
@@ -312,14 +314,14 @@ module _ {S H : Type 0} where
   pub room_held : (b : OpenBlock S H) (es : List EntitySpec) (e : EntitySpec) → Holds b es → is_block (es ++ e ∷ []) ≡ true → length b.texts + length (entity_texts e) ≤ 1048575
   room_held b es e h join = rw h.texts (room es e join)
 
-  pub bounds : (b : OpenBlock S H) (es : List EntitySpec) (e : EntitySpec) → Holds b es → is_block (es ++ e ∷ []) ≡ true → (b.count + 1 ≤ 8000) × (b.weight + entity_weight e ≤ 12000000)
+  pub bounds : (b : OpenBlock S H) (es : List EntitySpec) (e : EntitySpec) → Holds b es → is_block (es ++ e ∷ []) ≡ true → (b.count + 1 ≤ MOST_ENTITIES) × (b.weight + entity_weight e ≤ HIGHEST_WEIGHT)
   bounds b es e h join =
       let n = kept_bounds (es ++ e ∷ []) join in
       (omega (arith, n.0, h.count, length_push es e), omega (arith, n.1, h.weight, sum_by_push entity_weight es e))
 
   -- whether an entity may join, as the code finds it
   pub taken : (b : OpenBlock S H) (es : List EntitySpec) (e : EntitySpec) (alike : Bool) (more : ℕ) (answer : Bool) → Holds b es → EntityFits e → alike ≡ is_like b.likeness (likeness_of e) → more ≡ min (entity_weight e) (2 ^ 64 - 1)
-      → answer ≡ (alike && (nat_le (b.count + 1) 8000 && nat_le (b.weight + more) 12000000)) → answer ≡ is_block (es ++ e ∷ [])
+      → answer ≡ (alike && (nat_le (b.count + 1) MOST_ENTITIES && nat_le (b.weight + more) HIGHEST_WEIGHT)) → answer ≡ is_block (es ++ e ∷ [])
   taken b es e alike more answer h fits a m r =
       r ∙ (rw (a, h.likeness, like es e, h.count, h.weight, exact e more fits m) refl ∙ joins es e h.block)
 

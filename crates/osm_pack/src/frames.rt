@@ -11,6 +11,7 @@ ghost use Rattle.pbf_frame.specs.Transfers.{Added};
 ghost use Rattle.osm_pack.specs.Cuts.{block_frame, header_frame, then_pending, then_written, at_end};
 ghost use Rattle.osm_pack.specs.Open.{Holds, IsOpen};
 ghost use Rattle.osm_pack.specs.Stops.{IsPackStop};
+ghost use Rattle.pbf_block.specs.declared.header_write.TheConstants.{MOST_HEADER_TEXT};
 
 use crate::open_block::OpenBlock;
 use osm_entity::EntityRef;
@@ -69,7 +70,7 @@ pub(crate) fn put_header_into<D: Drain>(
     drain: &mut D,
     header: &Header,
 ) -> Result<(), Stop>
-    requires { text_weight (header_of header.now).source + text_weight (header_of header.now).url ≤ 12000000 }
+    requires { text_weight (header_of header.now).source + text_weight (header_of header.now).url ≤ MOST_HEADER_TEXT }
     ensures written { OnOk result (Added D.Drain drain.old (header_frame (header_of header.now)) drain.new) }
     ensures front { IsFront (D.taken drain.old) (D.taken drain.new) (header_frame (header_of header.now)) }
     ensures stops { IfErr result (IsPackStop (D.failures drain.old) (D.failures drain.new)) }

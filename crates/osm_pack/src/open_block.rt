@@ -8,21 +8,17 @@ ghost use Rattle.osm_entity.specs.Weight.{entity_weight};
 ghost use Rattle.pbf_block.specs.WrittenBlock.{is_block, block_message, scale_among};
 ghost use Rattle.osm_pack.specs.Open.{Holds, IsOpen, Encodes, block_held};
 ghost use Rattle.osm_pack.specs.Likenesses.{likeness_of, is_like};
+ghost use Rattle.osm_entity.specs.declared.weight.TheConstants.{HIGHEST_WEIGHT};
+ghost use Rattle.pbf_block.specs.declared.block_write.TheConstants.{MOST_ENTITIES};
 
 use crate::likeness::Likeness;
-use osm_entity::{EntityRef, Scale};
-use pbf_block::{EntityOut, put_block, put_dense};
+use osm_entity::{EntityRef, HIGHEST_WEIGHT, Scale};
+use pbf_block::{EntityOut, MOST_ENTITIES, put_block, put_dense};
 use pbf_dense::DenseOut;
 use pbf_strings::TableOut;
 use std::alloc::{AllocError, Global};
 use std::hash::BuildHasher;
 use std::mem;
-
-/// The most entities that a block has.
-const MOST_ENTITIES: usize = 8_000;
-
-/// The most that the entities of a block weigh together.
-const MOST_WEIGHT: u64 = 12_000_000;
 
 /// The scale that a block has where it says nothing else.
 const DEFAULT_SCALE: Scale = Scale {
@@ -47,9 +43,9 @@ pub(crate) struct OpenBlock<S: BuildHasher> {
 /// Whether an entity may join a block: by whether it is like those that are there, how many these are, what they weigh, and
 /// what it weighs.
 fn may_join(is_alike: bool, count: usize, weight: u64, more: u64) -> bool
-    ensures { result ≡ (is_alike && (nat_le (count + 1) 8000 && nat_le (weight + more) 12000000)) }
+    ensures { result ≡ (is_alike && (nat_le (count + 1) MOST_ENTITIES && nat_le (weight + more) HIGHEST_WEIGHT)) }
 {
-    is_alike && count < MOST_ENTITIES && weight.saturating_add(more) <= MOST_WEIGHT
+    is_alike && count < MOST_ENTITIES && weight.saturating_add(more) <= HIGHEST_WEIGHT
 }
 
 impl<S: BuildHasher> OpenBlock<S> {
