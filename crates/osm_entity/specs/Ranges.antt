@@ -6,6 +6,7 @@ use Rattle.osm_entity.specs.declared.scale.Scale.{Scale}
 use Rattle.osm_entity.specs.Scale.{ScaleFits}
 use Rattle.osm_entity.specs.Entity.{MetaSpec, MemberSpec, LocationSpec, NodeSpec, WaySpec, RelationSpec, EntitySpec, node, way, relation, entity_meta, entity_scale}
 use Rattle.osm_entity.specs.Weight.{node_weight, way_weight, relation_weight}
+use Rattle.osm_entity.specs.declared.weight.TheConstants.{HIGHEST_WEIGHT}
 
 -- an id, a coordinate, a time or a changeset is strictly between -2^62 and 2^62
 abbrev pub IsStored : ℤ → Type 0
@@ -41,7 +42,7 @@ pub record NodeFits (n : NodeSpec) : Type 0 where
   pub lon : IsStored n.lon
   pub meta : MetaFits n.meta
   pub scale : ScaleFits n.scale
-  pub light : node_weight n ≤ 12000000
+  pub light : node_weight n ≤ HIGHEST_WEIGHT
 
 pub record WayFits (w : WaySpec) : Type 0 where
   pub id : IsStored w.id
@@ -50,14 +51,14 @@ pub record WayFits (w : WaySpec) : Type 0 where
   pub refs : AllByRecursion IsStored w.refs
   pub locations : AllByRecursion LocationFits w.locations
   pub located : AreLocated w.refs w.locations
-  pub light : way_weight w ≤ 12000000
+  pub light : way_weight w ≤ HIGHEST_WEIGHT
 
 pub record RelationFits (r : RelationSpec) : Type 0 where
   pub id : IsStored r.id
   pub meta : MetaFits r.meta
   pub scale : ScaleFits r.scale
   pub members : AllByRecursion MemberFits r.members
-  pub light : relation_weight r ≤ 12000000
+  pub light : relation_weight r ≤ HIGHEST_WEIGHT
 
 abbrev pub EntityFits : EntitySpec → Type 0
 EntityFits (node n) = NodeFits n

@@ -10,6 +10,8 @@ use Rattle.osm_entity.specs.Entity.{EntitySpec}
 use Rattle.osm_entity.specs.Weight.{entity_weight}
 use Rattle.pbf_block.specs.WrittenBlock.{are_alike, all_alike, is_block}
 use Rattle.osm_pack.specs.Cuts.{extra, cuts_at_most, cuts, block_frame, written_entities, then_pending, then_written, at_end}
+use Rattle.osm_entity.specs.declared.weight.TheConstants.{HIGHEST_WEIGHT}
+use Rattle.pbf_block.specs.declared.block_write.TheConstants.{MOST_ENTITIES}
 
 pub both : (a b : Bool) → (a && b) ≡ true → (a ≡ true) × (b ≡ true)
 both true b h = (refl, h)
@@ -25,25 +27,25 @@ all_append test (x ∷ xs) ys = ap (λ b. test x && b) (all_append test xs ys) �
 
 pub record Keeps (e : EntitySpec) (es : List EntitySpec) : Type 0 where
   pub kinds : list_all (λ f. are_alike e f) es ≡ true
-  pub count : length es + 1 ≤ 8000
-  pub weight : entity_weight e + sum_by entity_weight es ≤ 12000000
+  pub count : length es + 1 ≤ MOST_ENTITIES
+  pub weight : entity_weight e + sum_by entity_weight es ≤ HIGHEST_WEIGHT
 
 pub kept_parts : (e : EntitySpec) (es : List EntitySpec) → is_block (e ∷ es) ≡ true → Keeps e es
 unfolding is_block
 kept_parts e es h =
-    let all = both (list_all (λ f. are_alike e f) es) (nat_le (length (e ∷ es)) 8000 && nat_le (sum_by entity_weight (e ∷ es)) 12000000) h in
-    let sums = both (nat_le (length (e ∷ es)) 8000) (nat_le (sum_by entity_weight (e ∷ es)) 12000000) all.1 in
+    let all = both (list_all (λ f. are_alike e f) es) (nat_le (length (e ∷ es)) MOST_ENTITIES && nat_le (sum_by entity_weight (e ∷ es)) HIGHEST_WEIGHT) h in
+    let sums = both (nat_le (length (e ∷ es)) MOST_ENTITIES) (nat_le (sum_by entity_weight (e ∷ es)) HIGHEST_WEIGHT) all.1 in
     record {
       kinds = all.0;
-      count = omega (arith, leb-true (length (e ∷ es)) 8000 sums.0);
-      weight = omega (arith, leb-true (sum_by entity_weight (e ∷ es)) 12000000 sums.1, sum_by-cons entity_weight e es);
+      count = omega (arith, leb-true (length (e ∷ es)) MOST_ENTITIES sums.0);
+      weight = omega (arith, leb-true (sum_by entity_weight (e ∷ es)) HIGHEST_WEIGHT sums.1, sum_by-cons entity_weight e es);
     }
 
 kept_from : (e : EntitySpec) (es : List EntitySpec) → Keeps e es → is_block (e ∷ es) ≡ true
 unfolding is_block
 kept_from e es h =
-    let count : leb (suc (length es)) 8000 ≡ true = le-leb _ _ (omega (arith, h.count)) in
-    let weight : leb (sum_by entity_weight (e ∷ es)) 12000000 ≡ true = le-leb _ _ (omega (arith, h.weight, sum_by-cons entity_weight e es)) in
+    let count : leb (suc (length es)) MOST_ENTITIES ≡ true = le-leb _ _ (omega (arith, h.count)) in
+    let weight : leb (sum_by entity_weight (e ∷ es)) HIGHEST_WEIGHT ≡ true = le-leb _ _ (omega (arith, h.weight, sum_by-cons entity_weight e es)) in
     rw (h.kinds, count, weight) refl
 
 -- a front of what may stand in a block may stand in one
@@ -127,7 +129,7 @@ like_first [] f = true
 like_first (e ∷ es) f = are_alike e f
 
 joins_more : (e : EntitySpec) (es : List EntitySpec) (f : EntitySpec) → is_block (e ∷ es) ≡ true
-    → (are_alike e f && (nat_le (length (e ∷ es) + 1) 8000 && nat_le (sum_by entity_weight (e ∷ es) + entity_weight f) 12000000)) ≡ is_block (e ∷ (es ++ f ∷ []))
+    → (are_alike e f && (nat_le (length (e ∷ es) + 1) MOST_ENTITIES && nat_le (sum_by entity_weight (e ∷ es) + entity_weight f) HIGHEST_WEIGHT)) ≡ is_block (e ∷ (es ++ f ∷ []))
 unfolding is_block
 joins_more e es f h =
     let kept = kept_parts e es h in
@@ -139,23 +141,23 @@ joins_more e es f h =
 
 -- whether one more may join
 pub joins : (es : List EntitySpec) (f : EntitySpec) → is_block es ≡ true
-    → (like_first es f && (nat_le (length es + 1) 8000 && nat_le (sum_by entity_weight es + entity_weight f) 12000000)) ≡ is_block (es ++ f ∷ [])
+    → (like_first es f && (nat_le (length es + 1) MOST_ENTITIES && nat_le (sum_by entity_weight es + entity_weight f) HIGHEST_WEIGHT)) ≡ is_block (es ++ f ∷ [])
 unfolding is_block
 joins [] f h = refl
 joins (e ∷ es) f h = joins_more e es f h
 
-pub kept_bounds : (es : List EntitySpec) → is_block es ≡ true → (length es ≤ 8000) × (sum_by entity_weight es ≤ 12000000)
+pub kept_bounds : (es : List EntitySpec) → is_block es ≡ true → (length es ≤ MOST_ENTITIES) × (sum_by entity_weight es ≤ HIGHEST_WEIGHT)
 unfolding is_block
 kept_bounds es h =
-    let all = both (all_alike es) (nat_le (length es) 8000 && nat_le (sum_by entity_weight es) 12000000) h in
-    let sums = both (nat_le (length es) 8000) (nat_le (sum_by entity_weight es) 12000000) all.1 in
-    (leb-true (length es) 8000 sums.0, leb-true (sum_by entity_weight es) 12000000 sums.1)
+    let all = both (all_alike es) (nat_le (length es) MOST_ENTITIES && nat_le (sum_by entity_weight es) HIGHEST_WEIGHT) h in
+    let sums = both (nat_le (length es) MOST_ENTITIES) (nat_le (sum_by entity_weight es) HIGHEST_WEIGHT) all.1 in
+    (leb-true (length es) MOST_ENTITIES sums.0, leb-true (sum_by entity_weight es) HIGHEST_WEIGHT sums.1)
 
 pub kept_none : is_block [] ≡ true
 unfolding is_block
 kept_none = refl
 
-pub kept_one : (e : EntitySpec) → entity_weight e ≤ 12000000 → is_block (e ∷ []) ≡ true
+pub kept_one : (e : EntitySpec) → entity_weight e ≤ HIGHEST_WEIGHT → is_block (e ∷ []) ≡ true
 kept_one e h = kept_from e [] (record { kinds = refl; count = omega arith; weight = omega (arith, h) })
 
 pub bytes_none : written_entities [] ≡ []

@@ -20,27 +20,29 @@ use Rattle.pbf_dense.specs.WrittenDense.{HoldsNodes, columns_of, dense_message, 
 use Rattle.pbf_block.specs.WrittenBlock.{are_alike, is_block, nodes_among, ways_among, relations_among, texts_of_all, messages_among, group_message, scale_among, block_slots, block_message}
 use Rattle.pbf_block.specs.WrittenEntity.{way_message, relation_message, writer_length}
 use Rattle.pbf_block.proofs.LengthLaw.{open_short}
-use Rattle.osm_pack.specs.declared.block.Block.{Block}
-use Rattle.osm_pack.specs.Sorts.{sort_of, same_sort, is_like}
-use Rattle.osm_pack.specs.Open.{sort_among, Holds, IsOpen, Encodes, block_held}
+use Rattle.osm_pack.specs.declared.open_block.OpenBlock.{OpenBlock}
+use Rattle.osm_pack.specs.Likenesses.{likeness_of, same_likeness, is_like}
+use Rattle.osm_pack.specs.Open.{likeness_among, Holds, IsOpen, Encodes, block_held}
 use Rattle.osm_pack.proofs.CutLemmas.{like_first, joins, both, kept_parts, kept_bounds, kept_none, kept_one}
+use Rattle.osm_entity.specs.declared.weight.TheConstants.{HIGHEST_WEIGHT}
+use Rattle.pbf_block.specs.declared.block_write.TheConstants.{MOST_ENTITIES}
 
--- ---- sorts
+-- ---- what entities have alike
 
-pub alike_sorts : (e f : EntitySpec) → same_sort (sort_of e) (sort_of f) ≡ are_alike e f
-alike_sorts (node m) (node n) = refl
-alike_sorts (node m) (way w) = refl
-alike_sorts (node m) (relation r) = refl
-alike_sorts (way v) (node n) = refl
-alike_sorts (way v) (way w) = and-true _
-alike_sorts (way v) (relation r) = refl
-alike_sorts (relation q) (node n) = refl
-alike_sorts (relation q) (way w) = refl
-alike_sorts (relation q) (relation r) = and-true _
+pub alike_likeness : (e f : EntitySpec) → same_likeness (likeness_of e) (likeness_of f) ≡ are_alike e f
+alike_likeness (node m) (node n) = refl
+alike_likeness (node m) (way w) = refl
+alike_likeness (node m) (relation r) = refl
+alike_likeness (way v) (node n) = refl
+alike_likeness (way v) (way w) = and-true _
+alike_likeness (way v) (relation r) = refl
+alike_likeness (relation q) (node n) = refl
+alike_likeness (relation q) (way w) = refl
+alike_likeness (relation q) (relation r) = and-true _
 
-pub sort_push : (es : List EntitySpec) (e : EntitySpec) → sort_among (es ++ e ∷ []) ≡ Some (unwrap_or (sort_among es) (sort_of e))
-sort_push [] e = refl
-sort_push (x ∷ es) e = refl
+pub likeness_push : (es : List EntitySpec) (e : EntitySpec) → likeness_among (es ++ e ∷ []) ≡ Some (unwrap_or (likeness_among es) (likeness_of e))
+likeness_push [] e = refl
+likeness_push (x ∷ es) e = refl
 
 -- ---- texts
 
@@ -208,11 +210,11 @@ nodes_later out texts used ns h = record { columns = λ more. h.columns (used ++
 
 -- ---- the block
 
-like : (es : List EntitySpec) (f : EntitySpec) → is_like (sort_among es) (sort_of f) ≡ like_first es f
+like : (es : List EntitySpec) (f : EntitySpec) → is_like (likeness_among es) (likeness_of f) ≡ like_first es f
 like [] f = refl
-like (e ∷ es) f = alike_sorts e f
+like (e ∷ es) f = alike_likeness e f
 
-light : (e : EntitySpec) → EntityFits e → entity_weight e ≤ 12000000
+light : (e : EntitySpec) → EntityFits e → entity_weight e ≤ HIGHEST_WEIGHT
 light (node n) h = h.light
 light (way w) h = h.light
 light (relation r) h = h.light
@@ -225,30 +227,30 @@ pub exact : (e : EntitySpec) (n : ℕ) → EntityFits e → n ≡ min (entity_we
 exact e n h m = let l = light e h in omega (arith, m, l)
 
 module _ {S H : Type 0} where
-  pub none_held : (b : Block S H) → b.sort ≡ None → b.count ≡ 0 → b.weight ≡ 0 → b.texts ≡ [] → ((texts : List (List ℕ)) → HoldsNodes b.nodes texts []) → b.group.items ≡ [] → writer_length b.writer ≡ 0 → Holds b []
-  none_held b s n w t d g e = record { block = kept_none; sort = s; count = n; weight = w; texts = t; nodes = d []; messages = λ used. g ∙ sym (no_messages (texts_after [] used)); writer = e }
+  pub none_held : (b : OpenBlock S H) → b.likeness ≡ None → b.count ≡ 0 → b.weight ≡ 0 → b.texts ≡ [] → ((texts : List (List ℕ)) → HoldsNodes b.nodes texts []) → b.group.items ≡ [] → writer_length b.writer ≡ 0 → Holds b []
+  none_held b s n w t d g e = record { block = kept_none; likeness = s; count = n; weight = w; texts = t; nodes = d []; messages = λ used. g ∙ sym (no_messages (texts_after [] used)); writer = e }
 
-  pub record Kept (old new : Block S H) : Type 0 where
-    pub sort : new.sort ≡ old.sort
+  pub record Kept (old new : OpenBlock S H) : Type 0 where
+    pub likeness : new.likeness ≡ old.likeness
     pub count : new.count ≡ old.count
     pub weight : new.weight ≡ old.weight
 
-  used_now : (old new : Block S H) (es : List EntitySpec) (e : EntitySpec) → Holds old es → new.texts ≡ texts_after old.texts (entity_texts e) → new.texts ≡ texts_of_all (es ++ e ∷ [])
+  used_now : (old new : OpenBlock S H) (es : List EntitySpec) (e : EntitySpec) → Holds old es → new.texts ≡ texts_after old.texts (entity_texts e) → new.texts ≡ texts_of_all (es ++ e ∷ [])
   used_now old new es e h t = t ∙ (ap (λ ts. texts_after ts (entity_texts e)) h.texts ∙ texts_push es e)
 
-  messages_now : (old : Block S H) (es : List EntitySpec) (e : EntitySpec) (used : List (List ℕ)) → Holds old es → old.group.items ≡ messages_among (texts_after (texts_of_all (es ++ e ∷ [])) used) es
+  messages_now : (old : OpenBlock S H) (es : List EntitySpec) (e : EntitySpec) (used : List (List ℕ)) → Holds old es → old.group.items ≡ messages_among (texts_after (texts_of_all (es ++ e ∷ [])) used) es
   messages_now old es e used h = h.messages (entity_texts e ++ used) ∙ ap (λ ts. messages_among ts es) (texts_later es e used)
 
-  nodes_now : (old : Block S H) (es : List EntitySpec) (e : EntitySpec) → Holds old es → HoldsNodes old.nodes (texts_of_all (es ++ e ∷ [])) (nodes_among es)
+  nodes_now : (old : OpenBlock S H) (es : List EntitySpec) (e : EntitySpec) → Holds old es → HoldsNodes old.nodes (texts_of_all (es ++ e ∷ [])) (nodes_among es)
   nodes_now old es e h = subst (λ ts. HoldsNodes old.nodes ts (nodes_among es)) (texts_push es e) (nodes_later old.nodes (texts_of_all es) (entity_texts e) (nodes_among es) h.nodes)
 
-  pub node_encoded : (old new : Block S H) (es : List EntitySpec) (n : NodeSpec) → Holds old es → Kept old new
+  pub node_encoded : (old new : OpenBlock S H) (es : List EntitySpec) (n : NodeSpec) → Holds old es → Kept old new
       → new.texts ≡ texts_after old.texts (node_texts n) → ((ns : List NodeSpec) → HoldsNodes old.nodes old.texts ns → HoldsNodes new.nodes new.texts (ns ++ n ∷ [])) → new.group ≡ old.group
       → new.writer ≡ old.writer → Encodes old new es (node n)
   node_encoded old new es n h k t d g e =
       let now = used_now old new es (node n) h t in
       record {
-        sort = k.sort;
+        likeness = k.likeness;
         count = k.count;
         weight = k.weight;
         texts = now;
@@ -258,13 +260,13 @@ module _ {S H : Type 0} where
         writer = ap writer_length e ∙ h.writer;
       }
 
-  pub way_encoded : (old new : Block S H) (es : List EntitySpec) (w : WaySpec) → Holds old es → Kept old new → is_block (es ++ way w ∷ []) ≡ true
+  pub way_encoded : (old new : OpenBlock S H) (es : List EntitySpec) (w : WaySpec) → Holds old es → Kept old new → is_block (es ++ way w ∷ []) ≡ true
       → new.texts ≡ texts_after old.texts (way_texts w) → new.nodes ≡ old.nodes → ((used : List (List ℕ)) → new.group.items ≡ old.group.items ++ slot_bytes (Each 3 (way_message (texts_after new.texts used) w ∷ [])))
       → writer_length new.writer ≡ 0 → Encodes old new es (way w)
   way_encoded old new es w h k join t d g e =
       let now = used_now old new es (way w) h t in
       record {
-        sort = k.sort;
+        likeness = k.likeness;
         count = k.count;
         weight = k.weight;
         texts = now;
@@ -276,13 +278,13 @@ module _ {S H : Type 0} where
         writer = e;
       }
 
-  pub relation_encoded : (old new : Block S H) (es : List EntitySpec) (r : RelationSpec) → Holds old es → Kept old new
+  pub relation_encoded : (old new : OpenBlock S H) (es : List EntitySpec) (r : RelationSpec) → Holds old es → Kept old new
       → new.texts ≡ texts_after old.texts (relation_texts r) → new.nodes ≡ old.nodes → ((used : List (List ℕ)) → new.group.items ≡ old.group.items ++ slot_bytes (Each 4 (relation_message (texts_after new.texts used) r ∷ [])))
       → writer_length new.writer ≡ 0 → Encodes old new es (relation r)
   relation_encoded old new es r h k t d g e =
       let now = used_now old new es (relation r) h t in
       record {
-        sort = k.sort;
+        likeness = k.likeness;
         count = k.count;
         weight = k.weight;
         texts = now;
@@ -295,12 +297,12 @@ module _ {S H : Type 0} where
       }
 
   -- an entity that is encoded and counted
-  pub added : (old new block : Block S H) (es : List EntitySpec) (e : EntitySpec) → Holds old es → is_block (es ++ e ∷ []) ≡ true → Encodes old new es e
-      → block.sort ≡ Some (unwrap_or new.sort (sort_of e)) → block.count ≡ new.count + 1 → block.weight ≡ new.weight + entity_weight e → block.texts ≡ new.texts → block.nodes ≡ new.nodes → block.group ≡ new.group → block.writer ≡ new.writer
+  pub added : (old new block : OpenBlock S H) (es : List EntitySpec) (e : EntitySpec) → Holds old es → is_block (es ++ e ∷ []) ≡ true → Encodes old new es e
+      → block.likeness ≡ Some (unwrap_or new.likeness (likeness_of e)) → block.count ≡ new.count + 1 → block.weight ≡ new.weight + entity_weight e → block.texts ≡ new.texts → block.nodes ≡ new.nodes → block.group ≡ new.group → block.writer ≡ new.writer
       → Holds block (es ++ e ∷ [])
   added old new block es e h join n s c w t d g r = record {
     block = join;
-    sort = s ∙ (ap (λ o. Some (unwrap_or o (sort_of e))) (n.sort ∙ h.sort) ∙ sym (sort_push es e));
+    likeness = s ∙ (ap (λ o. Some (unwrap_or o (likeness_of e))) (n.likeness ∙ h.likeness) ∙ sym (likeness_push es e));
     count = c ∙ (ap (λ k. k + 1) (n.count ∙ h.count) ∙ sym (length_push es e));
     weight = w ∙ (ap (λ k. k + entity_weight e) (n.weight ∙ h.weight) ∙ sym (sum_by_push entity_weight es e));
     texts = t ∙ n.texts;
@@ -309,22 +311,22 @@ module _ {S H : Type 0} where
     writer = ap writer_length r ∙ n.writer;
   }
 
-  pub room_held : (b : Block S H) (es : List EntitySpec) (e : EntitySpec) → Holds b es → is_block (es ++ e ∷ []) ≡ true → length b.texts + length (entity_texts e) ≤ 1048575
+  pub room_held : (b : OpenBlock S H) (es : List EntitySpec) (e : EntitySpec) → Holds b es → is_block (es ++ e ∷ []) ≡ true → length b.texts + length (entity_texts e) ≤ 1048575
   room_held b es e h join = rw h.texts (room es e join)
 
-  pub bounds : (b : Block S H) (es : List EntitySpec) (e : EntitySpec) → Holds b es → is_block (es ++ e ∷ []) ≡ true → (b.count + 1 ≤ 8000) × (b.weight + entity_weight e ≤ 12000000)
+  pub bounds : (b : OpenBlock S H) (es : List EntitySpec) (e : EntitySpec) → Holds b es → is_block (es ++ e ∷ []) ≡ true → (b.count + 1 ≤ MOST_ENTITIES) × (b.weight + entity_weight e ≤ HIGHEST_WEIGHT)
   bounds b es e h join =
       let n = kept_bounds (es ++ e ∷ []) join in
       (omega (arith, n.0, h.count, length_push es e), omega (arith, n.1, h.weight, sum_by_push entity_weight es e))
 
   -- whether an entity may join, as the code finds it
-  pub taken : (b : Block S H) (es : List EntitySpec) (e : EntitySpec) (alike : Bool) (more : ℕ) (answer : Bool) → Holds b es → EntityFits e → alike ≡ is_like b.sort (sort_of e) → more ≡ min (entity_weight e) (2 ^ 64 - 1)
-      → answer ≡ (alike && (nat_le (b.count + 1) 8000 && nat_le (b.weight + more) 12000000)) → answer ≡ is_block (es ++ e ∷ [])
+  pub taken : (b : OpenBlock S H) (es : List EntitySpec) (e : EntitySpec) (alike : Bool) (more : ℕ) (answer : Bool) → Holds b es → EntityFits e → alike ≡ is_like b.likeness (likeness_of e) → more ≡ min (entity_weight e) (2 ^ 64 - 1)
+      → answer ≡ (alike && (nat_le (b.count + 1) MOST_ENTITIES && nat_le (b.weight + more) HIGHEST_WEIGHT)) → answer ≡ is_block (es ++ e ∷ [])
   taken b es e alike more answer h fits a m r =
-      r ∙ (rw (a, h.sort, like es e, h.count, h.weight, exact e more fits m) refl ∙ joins es e h.block)
+      r ∙ (rw (a, h.likeness, like es e, h.count, h.weight, exact e more fits m) refl ∙ joins es e h.block)
 
   -- the bytes of a block that is closed
-  pub closed : (b : Block S H) (es : List EntitySpec) (scale : Scale) (table dense group payload : List ℕ) → Holds b es → scale ≡ scale_among es → table ≡ table_message b.texts
+  pub closed : (b : OpenBlock S H) (es : List EntitySpec) (scale : Scale) (table dense group payload : List ℕ) → Holds b es → scale ≡ scale_among es → table ≡ table_message b.texts
       → dense ≡ dense_message (texts_of_all es) (nodes_among es) → group ≡ b.group.items ++ slot_bytes (Each 2 (unless_empty dense))
       → ((texts : List (List ℕ)) → table ≡ table_message texts → payload ≡ message (block_slots scale texts group)) → payload ≡ block_message es
   unfolding block_message
@@ -334,12 +336,12 @@ module _ {S H : Type 0} where
       p (texts_of_all es) (t ∙ ap table_message h.texts) ∙ rw (s, whole) refl
 
   -- a block without entities holds no others
-  pub only_none : (b : Block S H) (es : List EntitySpec) → Holds b [] → Holds b es → es ≡ []
+  pub only_none : (b : OpenBlock S H) (es : List EntitySpec) → Holds b [] → Holds b es → es ≡ []
   only_none b [] h k = refl
   only_none b (e ∷ es) h k = absurd (omega (arith, h.count, k.count))
 
   -- what it holds
-  pub held_bounded : (b : Block S H) → IsOpen b → block_held b ≤ 28000000
+  pub held_bounded : (b : OpenBlock S H) → IsOpen b → block_held b ≤ 28000000
   held_bounded b o =
       let es = o.entities in
       let h = o.held in

@@ -1,5 +1,5 @@
 -- How entities are cut into blocks, and the frames that are written for them.
-use Rattle.std.specs.Prelude.{ℕ, zero, suc, List, [], ◌∷◌, ◌++◌, if◌then◌else◌, length, take, drop}
+use Rattle.std.specs.Prelude.{◌≡◌, ℕ, zero, suc, true, false, List, [], ◌∷◌, ◌++◌, if◌then◌else◌, length, take, drop}
 use Rattle.std.specs.List.{flat_map}
 use Rattle.osm_entity.specs.Entity.{EntitySpec}
 use Rattle.pbf_block.specs.Header.{HeaderSpec}
@@ -24,6 +24,16 @@ cuts_at_most (suc most) (e ∷ es) = let more = extra (length es) e es in (e ∷
 -- the entities block by block
 unfoldable pub cuts : List EntitySpec → List (List EntitySpec)
 cuts es = cuts_at_most (length es) es
+
+-- each block is as long as may be: the first entity of the next one may not join it
+abbrev pub AreLongest : List (List EntitySpec) → Type 0
+AreLongest [] = Unit {0}
+AreLongest (block ∷ []) = Unit {0}
+AreLongest (block ∷ next ∷ more) = (is_block (block ++ take 1 next) ≡ false) × AreLongest (next ∷ more)
+
+-- there are entities in it, and they may stand in one block
+abbrev pub MayStand : List EntitySpec → Type 0
+MayStand block = (block ≡ [] → ⊥) × (is_block block ≡ true)
 
 -- ---- what is written
 

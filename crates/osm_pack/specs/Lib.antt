@@ -1,5 +1,5 @@
 pub mod Cuts
-pub mod Sorts
+pub mod Likenesses
 pub mod Open
 pub mod Stops
 pub mod Packing

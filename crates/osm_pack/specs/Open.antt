@@ -7,20 +7,20 @@ use Rattle.osm_entity.specs.Weight.{entity_weight}
 use Rattle.pbf_dense.specs.WrittenDense.{HoldsNodes, columns_held, dense_length}
 use Rattle.pbf_block.specs.WrittenBlock.{is_block, texts_of_all, nodes_among, messages_among}
 use Rattle.pbf_block.specs.WrittenEntity.{writer_length}
-use Rattle.osm_pack.specs.declared.block.Block.{Block}
-use Rattle.osm_pack.specs.declared.sort.Sort.{Sort}
-use Rattle.osm_pack.specs.Sorts.{sort_of}
+use Rattle.osm_pack.specs.declared.open_block.OpenBlock.{OpenBlock}
+use Rattle.osm_pack.specs.declared.likeness.Likeness.{Likeness}
+use Rattle.osm_pack.specs.Likenesses.{likeness_of}
 
 -- what all are like, once there is one
-abbrev pub sort_among : List EntitySpec → Option Sort
-sort_among [] = None
-sort_among (e ∷ es) = Some (sort_of e)
+abbrev pub likeness_among : List EntitySpec → Option Likeness
+likeness_among [] = None
+likeness_among (e ∷ es) = Some (likeness_of e)
 
 -- its fields are those of these entities, which may stand in one block, whatever texts are used later; of none of them does
 -- anything stay in the writer
-pub record Holds {S H : Type 0} (b : Block S H) (es : List EntitySpec) : Type 0 where
+pub record Holds {S H : Type 0} (b : OpenBlock S H) (es : List EntitySpec) : Type 0 where
   pub block : is_block es ≡ true
-  pub sort : b.sort ≡ sort_among es
+  pub likeness : b.likeness ≡ likeness_among es
   pub count : b.count ≡ length es
   pub weight : b.weight ≡ sum_by entity_weight es
   pub texts : b.texts ≡ texts_of_all es
@@ -29,13 +29,13 @@ pub record Holds {S H : Type 0} (b : Block S H) (es : List EntitySpec) : Type 0 
   pub writer : writer_length b.writer ≡ 0
 
 -- it is open: these are its entities, for some
-pub record IsOpen {S H : Type 0} (b : Block S H) : Type 0 where
+pub record IsOpen {S H : Type 0} (b : OpenBlock S H) : Type 0 where
   pub entities : List EntitySpec
   pub held : Holds b entities
 
 -- one more entity is encoded behind these, and nothing else is done
-pub record Encodes {S H : Type 0} (old new : Block S H) (es : List EntitySpec) (e : EntitySpec) : Type 0 where
-  pub sort : new.sort ≡ old.sort
+pub record Encodes {S H : Type 0} (old new : OpenBlock S H) (es : List EntitySpec) (e : EntitySpec) : Type 0 where
+  pub likeness : new.likeness ≡ old.likeness
   pub count : new.count ≡ old.count
   pub weight : new.weight ≡ old.weight
   pub texts : new.texts ≡ texts_of_all (es ++ e ∷ [])
@@ -44,5 +44,5 @@ pub record Encodes {S H : Type 0} (old new : Block S H) (es : List EntitySpec) (
   pub writer : writer_length new.writer ≡ 0
 
 -- the bytes that it holds: the lengths of its texts, its columns and its messages, and four for each text
-abbrev pub block_held : {S H : Type 0} → Block S H → ℕ
+abbrev pub block_held : {S H : Type 0} → OpenBlock S H → ℕ
 block_held b = sum_by text_held b.texts + dense_length (columns_held b.nodes) + length b.group.items + writer_length b.writer

@@ -3,12 +3,12 @@ use Rattle.std.specs.Prelude.{◌≡◌, ℕ, Bool, List, Option, Some, None}
 use Rattle.osm_entity.specs.Entity.{EntitySpec}
 use Rattle.pbf_frame.specs.declared.stop.Stop.{Stop}
 use Rattle.osm_pack.specs.Open.{Holds, block_held}
-use Rattle.osm_pack.specs.declared.block.Block.{Block}
+use Rattle.osm_pack.specs.declared.open_block.OpenBlock.{OpenBlock}
 
 -- the drain behind the frames that are written, the block that is open, whether a header was put, and why it stopped
 pub record Packing (D S H : Type 0) : Type 0 where
   pub drain : D
-  pub block : Block S H
+  pub block : OpenBlock S H
   pub begun : Bool
   pub stop : Option Stop
 

@@ -11,8 +11,9 @@ ghost use Rattle.pbf_frame.specs.Transfers.{Added};
 ghost use Rattle.osm_pack.specs.Cuts.{block_frame, header_frame, then_pending, then_written, at_end};
 ghost use Rattle.osm_pack.specs.Open.{Holds, IsOpen};
 ghost use Rattle.osm_pack.specs.Stops.{IsPackStop};
+ghost use Rattle.pbf_block.specs.declared.header_write.TheConstants.{MOST_HEADER_TEXT};
 
-use crate::block::Block;
+use crate::open_block::OpenBlock;
 use osm_entity::EntityRef;
 use pbf_block::Header;
 use pbf_frame::{Drain, FrameKind, Stop, put_frame};
@@ -23,7 +24,7 @@ use std::hash::BuildHasher;
 pub(crate) fn close_into<D: Drain, S: BuildHasher>(
     alloc: Global,
     drain: &mut D,
-    block: &mut Block<S>,
+    block: &mut OpenBlock<S>,
 ) -> Result<(), Stop>
     requires { IsOpen block.old }
     ensures written { (es : List EntitySpec) → Holds block.old es → OnOk result (Added D.Drain drain.old (block_frame es) drain.new) }
@@ -42,7 +43,7 @@ pub(crate) fn close_into<D: Drain, S: BuildHasher>(
 pub(crate) fn push_into<D: Drain, S: BuildHasher>(
     alloc: Global,
     drain: &mut D,
-    block: &mut Block<S>,
+    block: &mut OpenBlock<S>,
     entity: &EntityRef<'_>,
 ) -> Result<(), Stop>
     requires open { IsOpen block.old }
@@ -69,7 +70,7 @@ pub(crate) fn put_header_into<D: Drain>(
     drain: &mut D,
     header: &Header,
 ) -> Result<(), Stop>
-    requires { text_weight (header_of header.now).source + text_weight (header_of header.now).url ≤ 12000000 }
+    requires { text_weight (header_of header.now).source + text_weight (header_of header.now).url ≤ MOST_HEADER_TEXT }
     ensures written { OnOk result (Added D.Drain drain.old (header_frame (header_of header.now)) drain.new) }
     ensures front { IsFront (D.taken drain.old) (D.taken drain.new) (header_frame (header_of header.now)) }
     ensures stops { IfErr result (IsPackStop (D.failures drain.old) (D.failures drain.new)) }
@@ -86,7 +87,7 @@ pub(crate) fn put_header_into<D: Drain>(
 pub(crate) fn finish_into<D: Drain, S: BuildHasher>(
     alloc: Global,
     drain: &mut D,
-    block: &mut Block<S>,
+    block: &mut OpenBlock<S>,
 ) -> Result<(), Stop>
     requires { IsOpen block.old }
     ensures written { (es : List EntitySpec) → Holds block.old es → OnOk result (Added D.Drain drain.old (at_end es) drain.new) }

@@ -7,12 +7,21 @@ ghost use Rattle.osm_entity.specs.Entity.{EntitySpec};
 ghost use Rattle.osm_entity.specs.Ranges.{EntityFits};
 ghost use Rattle.osm_entity.specs.Weight.{entity_weight};
 ghost use Rattle.pbf_block.specs.WrittenBlock.{is_block};
-ghost use Rattle.osm_pack.specs.Cuts.{cuts, written_entities, at_end, pending_after, written_after};
+ghost use Rattle.osm_pack.specs.Cuts.{cuts, AreLongest, MayStand, written_entities, at_end, pending_after, written_after};
+ghost use Rattle.osm_entity.specs.declared.weight.TheConstants.{HIGHEST_WEIGHT};
 
 /// The blocks of a list, joined, are the list; and where no entity is too heavy by itself, each may stand as a block.
 pub fn cuts_are_blocks()
     ensures joined { (es : List EntitySpec) → flat_map (λ block. block) (cuts es) ≡ es }
-    ensures blocks { (es : List EntitySpec) → AllByRecursion (λ e. entity_weight e ≤ 12000000) es → AllByRecursion (λ block. is_block block ≡ true) (cuts es) }
+    ensures blocks { (es : List EntitySpec) → AllByRecursion (λ e. entity_weight e ≤ HIGHEST_WEIGHT) es → AllByRecursion (λ block. is_block block ≡ true) (cuts es) }
+{}
+
+/// Each block is as long as may be: it ends only where the next entity may not join it. Since a front of what may stand in a
+/// block may stand in one, no two neighbours could have been one block. And no other list of blocks is so.
+pub fn cuts_are_longest()
+    ensures longest { (es : List EntitySpec) → AreLongest (cuts es) }
+    ensures fronts { (xs ys : List EntitySpec) → is_block (xs ++ ys) ≡ true → is_block xs ≡ true }
+    ensures only { (blocks : List (List EntitySpec)) → AllByRecursion MayStand blocks → AreLongest blocks → cuts (flat_map (λ block. block) blocks) ≡ blocks }
 {}
 
 /// Entities that come one by one are written as they are all together: what went out by then, and in the end what is pending.

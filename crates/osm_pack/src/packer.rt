@@ -1,7 +1,7 @@
 //! Entities on their way into a drain.
 
-use crate::block::Block;
 use crate::frames::{finish_into, push_into, put_header_into};
+use crate::open_block::OpenBlock;
 use osm_entity::EntityRef;
 use pbf_block::Header;
 use pbf_frame::{Drain, Stop};
@@ -17,7 +17,7 @@ use std::marker::Model;
 #[derive(Drop)]
 pub struct Packer<D: Drain, S: BuildHasher> {
     drain: D,
-    block: Block<S>,
+    block: OpenBlock<S>,
     begun: bool,
     stop: Option<Stop>,
     alloc: Global,
@@ -43,6 +43,7 @@ impl<D: Drain, S: BuildHasher> Packer<D, S> {
     ghost use Rattle.pbf_block.specs.Header.{header_of};
     ghost use Rattle.pbf_block.specs.WrittenBlock.{is_block};
     ghost use Rattle.osm_entity.specs.Weight.{text_weight};
+    ghost use Rattle.pbf_block.specs.declared.header_write.TheConstants.{MOST_HEADER_TEXT};
     ghost use Rattle.pbf_frame.specs.declared.stop.Stop.{Stop};
     ghost use Rattle.pbf_frame.specs.Devices.{IsFront};
     ghost use Rattle.pbf_frame.specs.Transfers.{Added};
@@ -60,7 +61,7 @@ impl<D: Drain, S: BuildHasher> Packer<D, S> {
     {
         Packer {
             drain,
-            block: Block::new(alloc, hasher),
+            block: OpenBlock::new(alloc, hasher),
             begun: false,
             stop: None,
             alloc,
@@ -88,7 +89,7 @@ impl<D: Drain, S: BuildHasher> Packer<D, S> {
     /// device.
     pub fn put_header(&mut self, header: &Header) -> Result<(), Stop>
         requires once { has_header self.old ≡ false }
-        requires kept { text_weight (header_of header.now).source + text_weight (header_of header.now).url ≤ 12000000 }
+        requires kept { text_weight (header_of header.now).source + text_weight (header_of header.now).url ≤ MOST_HEADER_TEXT }
         ensures begun { has_header self.new ≡ true }
         ensures written { IsPacking self.old → OnOk result (Added D.Drain self.old.drain (header_frame (header_of header.now)) self.new.drain) }
         ensures pending { (es : List EntitySpec) → Pending self.old es → OnOk result (Pending self.new es) }

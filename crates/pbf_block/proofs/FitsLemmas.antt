@@ -38,6 +38,7 @@ use Rattle.pbf_block.specs.ValueFaults.{stored_limit, signed_range, wide_range, 
 use Rattle.pbf_block.proofs.SlotLemmas.{IfSome}
 use Rattle.pbf_block.proofs.ValueLemmas.{later_value, last_is}
 use Rattle.pbf_block.proofs.ReadsLemmas.{entered_nil}
+use Rattle.osm_entity.specs.declared.weight.TheConstants.{HIGHEST_WEIGHT}
 
 -- ---- the last number of a field
 
@@ -153,7 +154,7 @@ values_fit k os e = sums_within_limit stored_limit OutOfRange false (joined k os
 -- ---- entities, where they are light
 
 abbrev pub IsLight : EntitySpec → Type 0
-IsLight e = entity_weight e ≤ 12000000
+IsLight e = entity_weight e ≤ HIGHEST_WEIGHT
 
 -- an entity that is light can be written
 abbrev pub FitsLight : EntitySpec → Type 0

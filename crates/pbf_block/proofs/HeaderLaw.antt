@@ -23,6 +23,7 @@ use Rattle.pbf_block.specs.WrittenHeader.{known_features, header_out, header_out
 use Rattle.pbf_block.proofs.HeaderLemmas.{header_again}
 use Rattle.pbf_block.proofs.RoomLemmas.{each_room, message_short}
 use Rattle.pbf_block.proofs.SlotLemmas.{IfSome, present, none_given, option_few, option_read, last_text_of, scalar_fits, last_given}
+use Rattle.pbf_block.specs.declared.header_write.TheConstants.{MOST_HEADER_TEXT}
 
 -- ---- the box
 
@@ -220,7 +221,7 @@ text_short : (text : Option (List ℕ)) → text_room text ≤ 20 + text_weight 
 text_short None = omega arith
 text_short (Some t) = omega arith
 
-canonical_short : (h : HeaderSpec) → header_out_for_convert h ≡ h → text_weight h.source + text_weight h.url ≤ 12000000 → length (header_message h) < 33554432
+canonical_short : (h : HeaderSpec) → header_out_for_convert h ≡ h → text_weight h.source + text_weight h.url ≤ MOST_HEADER_TEXT → length (header_message h) < 33554432
 unfolding header_message
 canonical_short h canonical light =
     let required = ap (λ (g : HeaderSpec). each_room g.required) canonical in
@@ -228,18 +229,18 @@ canonical_short h canonical light =
     let program = ap (λ (g : HeaderSpec). text_room g.program) canonical in
     omega (arith, message_short (header_slots h), box_room h.bbox, required, optional, kept_room h.optional, program, text_short h.source, text_short h.url, light)
 
-pub header_short : (h : HeaderSpec) → HeaderFits h → text_weight h.source + text_weight h.url ≤ 12000000 → length (header_message h) < 33554432
+pub header_short : (h : HeaderSpec) → HeaderFits h → text_weight h.source + text_weight h.url ≤ MOST_HEADER_TEXT → length (header_message h) < 33554432
 header_short h fits light = canonical_short h fits.canonical light
 
 -- what is written for any header
-pub out_short : (h : HeaderSpec) → text_weight h.source + text_weight h.url ≤ 12000000 → length (header_message (header_out_for_convert h)) < 33554432
+pub out_short : (h : HeaderSpec) → text_weight h.source + text_weight h.url ≤ MOST_HEADER_TEXT → length (header_message (header_out_for_convert h)) < 33554432
 out_short h light = canonical_short (header_out_for_convert h) (header_again h.bbox h.bbox h) light
 
 -- a header that is written out is one that can be written
 pub out_fits : (bbox : Option HeaderBox) (h : HeaderSpec) → BoxTyped bbox → IfPresent IsInt64 h.timestamp → IfPresent IsInt64 h.sequence → HeaderFits (header_out bbox h)
 out_fits bbox h box timestamp sequence = record { canonical = header_again bbox bbox h; bbox = box; timestamp = timestamp; sequence = sequence }
 
-module _ (at : ℕ) (h : HeaderSpec) (fits : HeaderFits h) (light : text_weight h.source + text_weight h.url ≤ 12000000) where
+module _ (at : ℕ) (h : HeaderSpec) (fits : HeaderFits h) (light : text_weight h.source + text_weight h.url ≤ MOST_HEADER_TEXT) where
   below : length (header_message h) < 2 ^ 64
   below = omega (arith, header_short h fits light)
 

@@ -21,6 +21,8 @@ use Rattle.pbf_dense.proofs.InfoLaw.{deltas_length}
 use Rattle.pbf_block.specs.WrittenEntity.{key_index, value_index, role_index, kind_number, info_slots, info_message, way_slots, way_message, relation_slots, relation_message}
 use Rattle.pbf_block.specs.WrittenBlock.{all_alike, is_block, nodes_among, ways_among, relations_among, group_slots, group_message, block_slots, scale_among, texts_of_all, messages_among, block_message}
 use Rattle.pbf_block.proofs.RoomLemmas.{packed_short, each_room, each_short, message_short}
+use Rattle.osm_entity.specs.declared.weight.TheConstants.{HIGHEST_WEIGHT}
+use Rattle.pbf_block.specs.declared.block_write.TheConstants.{MOST_ENTITIES}
 
 -- ---- parts
 
@@ -231,8 +233,8 @@ block_short es =
 pub block_fits : (es : List EntitySpec) → is_block es ≡ true → length (block_message es) < 33554432
 unfolding is_block
 block_fits es h =
-    let few = (and_parts (all_alike es) (nat_le (length es) 8000 && nat_le (sum_by entity_weight es) 12000000) h).1 in
-    let light = leb-true _ _ (and_parts (nat_le (length es) 8000) (nat_le (sum_by entity_weight es) 12000000) few).1 in
+    let few = (and_parts (all_alike es) (nat_le (length es) MOST_ENTITIES && nat_le (sum_by entity_weight es) HIGHEST_WEIGHT) h).1 in
+    let light = leb-true _ _ (and_parts (nat_le (length es) MOST_ENTITIES) (nat_le (sum_by entity_weight es) HIGHEST_WEIGHT) few).1 in
     omega (arith, light, block_short es)
 
 -- ---- a block that is open

@@ -28,6 +28,7 @@ use Rattle.pbf_block.specs.declared.message.TheConstants.{NODES, DENSE, WAYS, RE
 use Rattle.pbf_block.specs.Members.{node_in, way_in, relation_in, values_in, message_entities}
 use Rattle.pbf_block.specs.Payload.{along}
 use Rattle.pbf_block.specs.Weights.{weight_fault}
+use Rattle.osm_entity.specs.declared.weight.TheConstants.{HIGHEST_WEIGHT}
 
 -- ---- texts
 
@@ -103,8 +104,8 @@ after_short (suc key ∷ value ∷ rest) = omega (arith, after_short rest)
 
 -- ---- entities
 
-light_none : (place : ℕ) (entity : EntitySpec) → entity_weight entity ≤ 12000000 → weight_fault place entity ≡ []
-light_none place entity le = rw (le-ltb 12000000 (entity_weight entity) le) refl
+light_none : (place : ℕ) (entity : EntitySpec) → entity_weight entity ≤ HIGHEST_WEIGHT → weight_fault place entity ≡ []
+light_none place entity le = rw (le-ltb HIGHEST_WEIGHT (entity_weight entity) le) refl
 
 -- what a message of this length holds weighs this much at most
 module _ (table : List (List ℕ)) (scale : Scale) (u : ℕ) (h : 32 + 2 * longest table ≤ u) (at : ℕ) (m : List ℕ) where
@@ -161,19 +162,19 @@ module _ (table : List (List ℕ)) (scale : Scale) (u : ℕ) (h : 32 + 2 * longe
 
 -- ---- dense nodes
 
-module _ (table : List (List ℕ)) (scale : Scale) (u c : ℕ) (h : 32 + 2 * longest table ≤ u) (few : 160 + longest table + c * u ≤ 12000000) (place : ℕ) where
+module _ (table : List (List ℕ)) (scale : Scale) (u c : ℕ) (h : 32 + 2 * longest table ≤ u) (few : 160 + longest table + c * u ≤ HIGHEST_WEIGHT) (place : ℕ) where
   moving_light : (ids lats lons : List ℤ) (info : InfoSpec) (keys_vals : List ℕ) → length keys_vals ≤ 2 * c + 1 → flat_map (weight_fault place) (map node (moving table scale ids lats lons info keys_vals)) ≡ []
   moving_light [] lats lons info keys_vals le = refl
   moving_light (id ∷ ids) [] lons info keys_vals le = refl
   moving_light (id ∷ ids) (lat ∷ lats) [] info keys_vals le = refl
   moving_light (id ∷ ids) (lat ∷ lats) (lon ∷ lons) info keys_vals le =
       let runs : length (run keys_vals) ≤ c = omega (arith, run_short keys_vals, le) in
-      let light : 160 + text_weight (option_map (user_text table) (slice_get info.users 0)) + tags_weight (map (tag_of table) (run keys_vals)) ≤ 12000000 = omega (arith, few, user_at_short table (slice_get info.users 0), tags_short table u h (run keys_vals), mul-le-mul_right u runs) in
+      let light : 160 + text_weight (option_map (user_text table) (slice_get info.users 0)) + tags_weight (map (tag_of table) (run keys_vals)) ≤ HIGHEST_WEIGHT = omega (arith, few, user_at_short table (slice_get info.users 0), tags_short table u h (run keys_vals), mul-le-mul_right u runs) in
       ap₂ (λ (a b : List Fault). a ++ b) (light_none place (node (record { id = id; lat = lat; lon = lon; meta = meta_at table info 0; tags = map (tag_of table) (run keys_vals); scale = scale })) light) (moving_light ids lats lons (later info) (after_run keys_vals) (omega (arith, after_short keys_vals, le)))
 
 -- a dense message with so many numbers of texts has no heavy node
 pub dense_member : (table : List (List ℕ)) (scale : Scale) (most place k : ℕ) (os : List Occurrence) → longest table ≤ most → k ≡ DENSE
-    → 160 + most + (column_count KEYS_VALS os / 2) * (32 + 2 * most) ≤ 12000000 → flat_map (weight_fault place) (message_entities along table scale k os) ≡ []
+    → 160 + most + (column_count KEYS_VALS os / 2) * (32 + 2 * most) ≤ HIGHEST_WEIGHT → flat_map (weight_fault place) (message_entities along table scale k os) ≡ []
 unfolding nodes_along
 dense_member table scale most place k os short same few =
     let u = 32 + 2 * most in
@@ -181,17 +182,17 @@ dense_member table scale most place k os short same few =
     let long : length (map low_32 (column KEYS_VALS os)) ≤ 2 * c + 1 = omega (arith, length-map {B = ℕ} (column KEYS_VALS os) low_32, column_counted KEYS_VALS os) in
     rw same (moving_light table scale u c (omega (arith, short)) (omega (arith, few, short)) place _ _ _ (info_along (embedded 5 os)) (map low_32 (column KEYS_VALS os)) long)
 
-one_light : (place : ℕ) (entity : EntitySpec) → entity_weight entity ≤ 12000000 → flat_map (weight_fault place) (entity ∷ []) ≡ []
+one_light : (place : ℕ) (entity : EntitySpec) → entity_weight entity ≤ HIGHEST_WEIGHT → flat_map (weight_fault place) (entity ∷ []) ≡ []
 one_light place entity le = rw (light_none place entity le) refl
 
 -- a message of this length that isn't dense has no heavy entity
 pub other_member : (table : List (List ℕ)) (scale : Scale) (most place k at : ℕ) (m : List ℕ) → longest table ≤ most → ¬ (k ≡ DENSE)
-    → 160 + most + (3 * length m) * (32 + 2 * most) ≤ 12000000 → flat_map (weight_fault place) (message_entities along table scale k (fields_in at m)) ≡ []
+    → 160 + most + (3 * length m) * (32 + 2 * most) ≤ HIGHEST_WEIGHT → flat_map (weight_fault place) (message_entities along table scale k (fields_in at m)) ≡ []
 other_member table scale most place k at m short unlike few =
     let other : (k == DENSE) ≡ false = grind (arith, unlike) in
     let u = 32 + 2 * most in
     let h : 32 + 2 * longest table ≤ u = omega (arith, short) in
-    let room : 160 + longest table + 3 * (length m * u) ≤ 12000000 = omega (arith, few, short) in
+    let room : 160 + longest table + 3 * (length m * u) ≤ HIGHEST_WEIGHT = omega (arith, few, short) in
     let os = fields_in at m in
     rw other (by_kind (k == NODES) (k == WAYS) (k == RELATIONS) _ _ _
     (one_light place (node (node_in table scale os)) (omega (arith, room, node_light table scale u h at m)))
@@ -206,5 +207,5 @@ other_member table scale most place k at m short unlike few =
     by_kind false false false x y z p q r = refl
 
 -- no product is too large
-pub product_small : (a b : ℕ) → a ≤ 12000000 → b ≤ 12000000 → a * (32 + 2 * b) ≤ 288000384000000
+pub product_small : (a b : ℕ) → a ≤ HIGHEST_WEIGHT → b ≤ HIGHEST_WEIGHT → a * (32 + 2 * b) ≤ 288000384000000
 product_small a b p q = omega (arith, mul-le-mul_right (32 + 2 * b) p, q)

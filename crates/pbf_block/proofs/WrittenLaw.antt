@@ -31,6 +31,8 @@ use Rattle.pbf_block.proofs.NodesLaw.{group_of_nodes, nodes_good}
 use Rattle.pbf_block.proofs.EachLaw.{WayHeld, ways_good, RelationHeld, relations_good}
 use Rattle.pbf_block.proofs.LengthLaw.{block_fits}
 use Rattle.pbf_block.proofs.BlockLaw.{block_sound, block_read}
+use Rattle.osm_entity.specs.declared.weight.TheConstants.{HIGHEST_WEIGHT}
+use Rattle.pbf_block.specs.declared.block_write.TheConstants.{MOST_ENTITIES}
 
 -- ---- what the tests of likeness say
 
@@ -254,13 +256,13 @@ scale_fits (e ∷ es) h = first_fits e h.0
 
 record Parts (es : List EntitySpec) : Type 0 where
   alike : all_alike es ≡ true
-  light : sum_by entity_weight es ≤ 12000000
+  light : sum_by entity_weight es ≤ HIGHEST_WEIGHT
 
 block_parts : (es : List EntitySpec) → is_block es ≡ true → Parts es
 unfolding is_block
 block_parts es e =
-    let first = two (all_alike es) (nat_le (length es) 8000 && nat_le (sum_by entity_weight es) 12000000) e in
-    let second = two (nat_le (length es) 8000) (nat_le (sum_by entity_weight es) 12000000) first.1 in
+    let first = two (all_alike es) (nat_le (length es) MOST_ENTITIES && nat_le (sum_by entity_weight es) HIGHEST_WEIGHT) e in
+    let second = two (nat_le (length es) MOST_ENTITIES) (nat_le (sum_by entity_weight es) HIGHEST_WEIGHT) first.1 in
     record { alike = first.0; light = leb-true _ _ second.1 }
 
 module _ (es : List EntitySpec) (is : is_block es ≡ true) (fit : AllByRecursion EntityFits es) (typed : AllByRecursion EntityTyped es) where

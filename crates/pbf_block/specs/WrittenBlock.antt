@@ -13,6 +13,8 @@ use Rattle.osm_entity.specs.Weight.{entity_weight}
 use Rattle.pbf_dense.specs.WrittenDense.{dense_message}
 use Rattle.pbf_block.specs.declared.message.TheConstants.{STRINGTABLE, PRIMITIVEGROUP, GRANULARITY, DATE_GRANULARITY, LAT_OFFSET, LON_OFFSET, DENSE, WAYS, RELATIONS}
 use Rattle.pbf_block.specs.WrittenEntity.{way_message, relation_message}
+use Rattle.osm_entity.specs.declared.weight.TheConstants.{HIGHEST_WEIGHT}
+use Rattle.pbf_block.specs.declared.block_write.TheConstants.{MOST_ENTITIES}
 
 -- ---- what may stand in one block
 
@@ -49,9 +51,9 @@ abbrev pub all_alike : List EntitySpec → Bool
 all_alike [] = true
 all_alike (e ∷ es) = list_all (are_alike e) es
 
--- they may stand in one block: they are alike, at most 8,000, and not too heavy together
+-- they may stand in one block: they are alike, not too many, and together no heavier than one entity may be
 unfoldable pub is_block : List EntitySpec → Bool
-is_block es = all_alike es && (nat_le (length es) 8000 && nat_le (sum_by entity_weight es) 12000000)
+is_block es = all_alike es && (nat_le (length es) MOST_ENTITIES && nat_le (sum_by entity_weight es) HIGHEST_WEIGHT)
 
 -- ---- the entities of each kind
 

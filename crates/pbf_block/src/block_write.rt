@@ -12,6 +12,9 @@ use osm_entity::Scale;
 use pbf_wire::{put_bytes, put_number, put_unless_empty, sign_extended};
 use std::alloc::AllocError;
 
+/// The most entities that a block has. Together they weigh no more than one entity may.
+pub const MOST_ENTITIES: usize = 8_000;
+
 /// Appends a number, if it is not the default.
 fn put_unless_default(
     out: &mut Vec<u8>,

@@ -17,6 +17,9 @@ use crate::writing::{put_int64, put_text};
 use pbf_wire::{put_bytes, put_number, put_varint, varint_len, zigzag};
 use std::alloc::AllocError;
 
+/// The most bytes that the source and the base URL of a written header have together: it fits a frame then.
+pub const MOST_HEADER_TEXT: u64 = 12_000_000;
+
 /// The length of an edge in a HeaderBBox: a byte for its field number, and the number.
 fn edge_len(edge: i64) -> usize
     ensures exact { result ≡ 1 + length (shortest (zigzag edge)) }

@@ -24,6 +24,7 @@ ghost use Rattle.pbf_block.specs.WireFaults.{way_wire, relation_wire};
 ghost use Rattle.pbf_block.specs.WrittenBlock.{is_block, block_message};
 ghost use Rattle.pbf_block.specs.WrittenEntity.{way_message, relation_message};
 ghost use Rattle.pbf_block.specs.WrittenHeader.{BoxTyped, EdgesTyped, HeaderFits, edges_of, header_message, header_out, header_out_for_box, header_out_for_convert};
+ghost use Rattle.pbf_block.specs.declared.header_write.TheConstants.{MOST_HEADER_TEXT};
 
 /// The first fault of a payload, phase by phase, is the least of all its faults by phase, then offset, then the reason's
 /// number, then the field that is missing.
@@ -50,9 +51,9 @@ pub fn written_header_is_read()
     ensures out { (bbox : Option HeaderBox) (h : HeaderSpec) → BoxTyped bbox → IfPresent IsInt64 h.timestamp → IfPresent IsInt64 h.sequence → HeaderFits (header_out bbox h) }
     ensures read { (at : ℕ) (h : HeaderSpec) → HeaderFits h → length (header_message h) < 2 ^ 64 → header_in at (header_message h) ≡ h }
     ensures sound { (at : ℕ) (h : HeaderSpec) → HeaderFits h → length (header_message h) < 2 ^ 64 → header_fault at (header_message h) ≡ None }
-    ensures short { (h : HeaderSpec) → HeaderFits h → text_weight h.source + text_weight h.url ≤ 12000000 → length (header_message h) < 33554432 }
-    ensures light_read { (at : ℕ) (h : HeaderSpec) → HeaderFits h → text_weight h.source + text_weight h.url ≤ 12000000 → header_in at (header_message h) ≡ h }
-    ensures light_sound { (at : ℕ) (h : HeaderSpec) → HeaderFits h → text_weight h.source + text_weight h.url ≤ 12000000 → header_fault at (header_message h) ≡ None }
+    ensures short { (h : HeaderSpec) → HeaderFits h → text_weight h.source + text_weight h.url ≤ MOST_HEADER_TEXT → length (header_message h) < 33554432 }
+    ensures light_read { (at : ℕ) (h : HeaderSpec) → HeaderFits h → text_weight h.source + text_weight h.url ≤ MOST_HEADER_TEXT → header_in at (header_message h) ≡ h }
+    ensures light_sound { (at : ℕ) (h : HeaderSpec) → HeaderFits h → text_weight h.source + text_weight h.url ≤ MOST_HEADER_TEXT → header_fault at (header_message h) ≡ None }
 {}
 
 /// The header of every payload can be written, whatever is wrong with the payload: its numbers fit the types of the format. So it

@@ -34,10 +34,11 @@ mod wire;
 mod writing;
 
 pub use block::Block;
-pub use block_write::{put_block, put_dense};
+pub use block_write::{MOST_ENTITIES, put_block, put_dense};
 pub use counts::Counts;
 pub use entities::Entities;
 pub use entity_out::EntityOut;
 pub use header::{Header, HeaderBox};
+pub use header_write::MOST_HEADER_TEXT;
 pub use kinds::Kinds;
 pub use runs::{Run, Runs};

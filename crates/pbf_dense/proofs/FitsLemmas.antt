@@ -22,6 +22,7 @@ use Rattle.pbf_dense.specs.Nodes.{value_at, node_at, nodes}
 use Rattle.pbf_dense.specs.Judged.{IsSound}
 use Rattle.pbf_dense.proofs.ReadableLemmas.{InRange, InfoReads, DenseReads}
 use Rattle.pbf_dense.proofs.SoundDense.{dense_reads}
+use Rattle.osm_entity.specs.declared.weight.TheConstants.{HIGHEST_WEIGHT}
 
 -- ---- ranges
 
@@ -36,7 +37,7 @@ meta_fits table os i h = record { timestamp = get_all IsStored _ i h.timestamps;
 
 -- a node that is light can be written
 abbrev pub FitsLight : NodeSpec → Type 0
-FitsLight n = node_weight n ≤ 12000000 → NodeFits n
+FitsLight n = node_weight n ≤ HIGHEST_WEIGHT → NodeFits n
 
 module _ (table : List (List ℕ)) (scale : Scale) (scaled : ScaleFits scale) (os : List Occurrence) (h : DenseReads os) where
   in_all : (k n : ℕ) → InRange k os → length (column k os) ≡ n → AllByRecursion IsStored (map (value_at k os) (range_with_len 0 n))

@@ -16,6 +16,7 @@ use Rattle.pbf_dense.specs.declared.message.TheConstants.{DENSE_KINDS, DENSEINFO
 use Rattle.pbf_dense.specs.declared.phase.Phase.{Phase}
 use Rattle.pbf_dense.specs.declared.phase.Phase.TheVariants as phase
 use Rattle.pbf_dense.specs.Nodes.{nodes}
+use Rattle.osm_entity.specs.declared.weight.TheConstants.{HIGHEST_WEIGHT}
 
 -- ---- wire form
 
@@ -97,7 +98,7 @@ dense_values limit place at m =
 -- ---- weights
 
 abbrev pub weight_fault : ℕ → NodeSpec → List Fault
-weight_fault place n = fault_where (nat_lt 12000000 (node_weight n)) place EntityLarge
+weight_fault place n = fault_where (nat_lt HIGHEST_WEIGHT (node_weight n)) place EntityLarge
 
 -- each node that is too heavy
 unfoldable pub dense_weights : ℕ → List NodeSpec → List Fault

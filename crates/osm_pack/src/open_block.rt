@@ -7,22 +7,18 @@ ghost use Rattle.osm_entity.specs.Views.{entity_of};
 ghost use Rattle.osm_entity.specs.Weight.{entity_weight};
 ghost use Rattle.pbf_block.specs.WrittenBlock.{is_block, block_message, scale_among};
 ghost use Rattle.osm_pack.specs.Open.{Holds, IsOpen, Encodes, block_held};
-ghost use Rattle.osm_pack.specs.Sorts.{sort_of, is_like};
+ghost use Rattle.osm_pack.specs.Likenesses.{likeness_of, is_like};
+ghost use Rattle.osm_entity.specs.declared.weight.TheConstants.{HIGHEST_WEIGHT};
+ghost use Rattle.pbf_block.specs.declared.block_write.TheConstants.{MOST_ENTITIES};
 
-use crate::sort::Sort;
-use osm_entity::{EntityRef, Scale};
-use pbf_block::{EntityOut, put_block, put_dense};
+use crate::likeness::Likeness;
+use osm_entity::{EntityRef, HIGHEST_WEIGHT, Scale};
+use pbf_block::{EntityOut, MOST_ENTITIES, put_block, put_dense};
 use pbf_dense::DenseOut;
 use pbf_strings::TableOut;
 use std::alloc::{AllocError, Global};
 use std::hash::BuildHasher;
 use std::mem;
-
-/// The most entities that a block has.
-const MOST_ENTITIES: usize = 8_000;
-
-/// The most that the entities of a block weigh together.
-const MOST_WEIGHT: u64 = 12_000_000;
 
 /// The scale that a block has where it says nothing else.
 const DEFAULT_SCALE: Scale = Scale {
@@ -34,8 +30,8 @@ const DEFAULT_SCALE: Scale = Scale {
 
 /// The entities of a block, encoded as they come: nodes as columns, ways and relations as messages.
 #[derive(Drop)]
-pub(crate) struct Block<S: BuildHasher> {
-    sort: Option<Sort>,
+pub(crate) struct OpenBlock<S: BuildHasher> {
+    likeness: Option<Likeness>,
     count: usize,
     weight: u64,
     texts: TableOut<S>,
@@ -47,18 +43,18 @@ pub(crate) struct Block<S: BuildHasher> {
 /// Whether an entity may join a block: by whether it is like those that are there, how many these are, what they weigh, and
 /// what it weighs.
 fn may_join(is_alike: bool, count: usize, weight: u64, more: u64) -> bool
-    ensures { result ≡ (is_alike && (nat_le (count + 1) 8000 && nat_le (weight + more) 12000000)) }
+    ensures { result ≡ (is_alike && (nat_le (count + 1) MOST_ENTITIES && nat_le (weight + more) HIGHEST_WEIGHT)) }
 {
-    is_alike && count < MOST_ENTITIES && weight.saturating_add(more) <= MOST_WEIGHT
+    is_alike && count < MOST_ENTITIES && weight.saturating_add(more) <= HIGHEST_WEIGHT
 }
 
-impl<S: BuildHasher> Block<S> {
+impl<S: BuildHasher> OpenBlock<S> {
     /// A block without entities, which takes no memory yet.
-    pub(crate) fn new(alloc: Global, hasher: S) -> Block<S>
+    pub(crate) fn new(alloc: Global, hasher: S) -> OpenBlock<S>
         ensures { Holds result [] }
     {
-        Block {
-            sort: None,
+        OpenBlock {
+            likeness: None,
             count: 0,
             weight: 0,
             texts: TableOut::new(alloc, hasher),
@@ -72,7 +68,7 @@ impl<S: BuildHasher> Block<S> {
     pub(crate) fn clear(&mut self, alloc: Global)
         ensures { Holds self.new [] }
     {
-        self.sort = None;
+        self.likeness = None;
         self.count = 0;
         self.weight = 0;
         self.texts.clear();
@@ -90,10 +86,10 @@ impl<S: BuildHasher> Block<S> {
 
     /// Whether an entity is like those that are there.
     fn is_alike(&self, entity: &EntityRef<'_>) -> bool
-        ensures { result ≡ is_like self.now.sort (sort_of (entity_of entity.now)) }
+        ensures { result ≡ is_like self.now.likeness (likeness_of (entity_of entity.now)) }
     {
-        match self.sort {
-            Some(sort) => sort.same(Sort::of(entity)),
+        match self.likeness {
+            Some(likeness) => likeness.same(Likeness::of(entity)),
             None => true,
         }
     }
@@ -137,7 +133,7 @@ impl<S: BuildHasher> Block<S> {
         ensures { (es : List EntitySpec) → Holds self.old es → OnOk result (Holds self.new (es ++ entity_of entity.now ∷ [])) }
     {
         self.put(entity)?;
-        self.sort = Some(self.sort.unwrap_or(Sort::of(entity)));
+        self.likeness = Some(self.likeness.unwrap_or(Likeness::of(entity)));
         self.count += 1;
         self.weight += weight;
         Ok(())
@@ -147,8 +143,8 @@ impl<S: BuildHasher> Block<S> {
     fn scale(&self) -> Scale
         ensures { (es : List EntitySpec) → Holds self.now es → result ≡ scale_among es }
     {
-        match self.sort {
-            Some(sort) => sort.scale,
+        match self.likeness {
+            Some(likeness) => likeness.scale,
             None => DEFAULT_SCALE,
         }
     }

@@ -3,7 +3,7 @@
 ghost use Rattle.std.specs.Prelude.{◌≡◌};
 ghost use Rattle.osm_entity.specs.Views.{meta_of, entity_of};
 ghost use Rattle.pbf_block.specs.WrittenBlock.{both, same_scale};
-ghost use Rattle.osm_pack.specs.Sorts.{fields_of, no_fields, sort_of, same_kind, same_present, same_sort};
+ghost use Rattle.osm_pack.specs.Likenesses.{present_fields, no_fields, likeness_of, same_kind, same_present, same_likeness};
 
 use osm_entity::{EntityRef, MemberKind, MetaRef, Scale};
 
@@ -16,7 +16,7 @@ fn both(one: bool, other: bool) -> bool
 
 /// Which fields of metadata are present.
 #[derive(Clone, Copy)]
-pub(crate) struct Fields {
+pub(crate) struct PresentFields {
     version: bool,
     timestamp: bool,
     changeset: bool,
@@ -25,12 +25,12 @@ pub(crate) struct Fields {
     visible: bool,
 }
 
-impl Fields {
+impl PresentFields {
     /// None of them, as for ways and relations, where it does not matter.
-    fn none() -> Fields
+    fn none() -> PresentFields
         ensures { result ≡ no_fields }
     {
-        Fields {
+        PresentFields {
             version: false,
             timestamp: false,
             changeset: false,
@@ -41,10 +41,10 @@ impl Fields {
     }
 
     /// Those of a node.
-    fn of(meta: &MetaRef<'_>) -> Fields
-        ensures { result ≡ fields_of (meta_of meta.now) }
+    fn of(meta: &MetaRef<'_>) -> PresentFields
+        ensures { result ≡ present_fields (meta_of meta.now) }
     {
-        Fields {
+        PresentFields {
             version: meta.version.is_some(),
             timestamp: meta.timestamp.is_some(),
             changeset: meta.changeset.is_some(),
@@ -55,7 +55,7 @@ impl Fields {
     }
 
     /// Whether the same ones are present.
-    fn same(self, other: Fields) -> bool
+    fn same(self, other: PresentFields) -> bool
         ensures { result ≡ same_present self other }
     {
         both(self.version, other.version)
@@ -86,23 +86,23 @@ fn is_same_kind(kind: MemberKind, other: MemberKind) -> bool
 
 /// The kind and the scale of an entity, and of a node the fields of metadata that are present.
 #[derive(Clone, Copy)]
-pub(crate) struct Sort {
+pub(crate) struct Likeness {
     kind: MemberKind,
     pub(crate) scale: Scale,
-    fields: Fields,
+    fields: PresentFields,
 }
 
-impl Sort {
+impl Likeness {
     /// That of an entity.
-    pub(crate) fn of(entity: &EntityRef<'_>) -> Sort
-        ensures { result ≡ sort_of (entity_of entity.now) }
+    pub(crate) fn of(entity: &EntityRef<'_>) -> Likeness
+        ensures { result ≡ likeness_of (entity_of entity.now) }
     {
         let (kind, fields) = match entity {
-            EntityRef::Node(node) => (MemberKind::Node, Fields::of(&node.meta())),
-            EntityRef::Way(_) => (MemberKind::Way, Fields::none()),
-            EntityRef::Relation(_) => (MemberKind::Relation, Fields::none()),
+            EntityRef::Node(node) => (MemberKind::Node, PresentFields::of(&node.meta())),
+            EntityRef::Way(_) => (MemberKind::Way, PresentFields::none()),
+            EntityRef::Relation(_) => (MemberKind::Relation, PresentFields::none()),
         };
-        Sort {
+        Likeness {
             kind,
             scale: entity.scale(),
             fields,
@@ -110,8 +110,8 @@ impl Sort {
     }
 
     /// Whether entities of the one and of the other may stand in one block.
-    pub(crate) fn same(self, other: Sort) -> bool
-        ensures { result ≡ same_sort self other }
+    pub(crate) fn same(self, other: Likeness) -> bool
+        ensures { result ≡ same_likeness self other }
     {
         is_same_kind(self.kind, other.kind)
             && is_same_scale(self.scale, other.scale)

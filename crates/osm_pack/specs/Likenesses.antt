@@ -5,12 +5,12 @@ use Rattle.osm_entity.specs.declared.member.MemberKind.{MemberKind}
 use Rattle.osm_entity.specs.declared.member.MemberKind.TheVariants as kind
 use Rattle.osm_entity.specs.Entity.{MetaSpec, EntitySpec, node, way, relation}
 use Rattle.pbf_block.specs.WrittenBlock.{both, same_scale}
-use Rattle.osm_pack.specs.declared.sort.Fields.{Fields}
-use Rattle.osm_pack.specs.declared.sort.Sort.{Sort}
+use Rattle.osm_pack.specs.declared.likeness.PresentFields.{PresentFields}
+use Rattle.osm_pack.specs.declared.likeness.Likeness.{Likeness}
 
 -- which fields of metadata are present
-abbrev pub fields_of : MetaSpec → Fields
-fields_of m = record {
+abbrev pub present_fields : MetaSpec → PresentFields
+present_fields m = record {
   version = is_some m.version;
   timestamp = is_some m.timestamp;
   changeset = is_some m.changeset;
@@ -20,13 +20,13 @@ fields_of m = record {
 }
 
 -- ways and relations have messages of their own, where it doesn't matter which fields others have
-abbrev pub no_fields : Fields
+abbrev pub no_fields : PresentFields
 no_fields = record { version = false; timestamp = false; changeset = false; uid = false; user = false; visible = false }
 
-abbrev pub sort_of : EntitySpec → Sort
-sort_of (node n) = record { kind = kind.Node; scale = n.scale; fields = fields_of n.meta }
-sort_of (way w) = record { kind = kind.Way; scale = w.scale; fields = no_fields }
-sort_of (relation r) = record { kind = kind.Relation; scale = r.scale; fields = no_fields }
+abbrev pub likeness_of : EntitySpec → Likeness
+likeness_of (node n) = record { kind = kind.Node; scale = n.scale; fields = present_fields n.meta }
+likeness_of (way w) = record { kind = kind.Way; scale = w.scale; fields = no_fields }
+likeness_of (relation r) = record { kind = kind.Relation; scale = r.scale; fields = no_fields }
 
 abbrev pub same_kind : MemberKind → MemberKind → Bool
 same_kind kind.Node kind.Node = true
@@ -39,15 +39,15 @@ same_kind kind.Relation kind.Node = false
 same_kind kind.Relation kind.Way = false
 same_kind kind.Relation kind.Relation = true
 
-abbrev pub same_present : Fields → Fields → Bool
+abbrev pub same_present : PresentFields → PresentFields → Bool
 same_present f g =
     both f.version g.version && both f.timestamp g.timestamp && both f.changeset g.changeset
     && both f.uid g.uid && both f.user g.user && both f.visible g.visible
 
-abbrev pub same_sort : Sort → Sort → Bool
-same_sort s t = same_kind s.kind t.kind && (same_scale s.scale t.scale && same_present s.fields t.fields)
+abbrev pub same_likeness : Likeness → Likeness → Bool
+same_likeness s t = same_kind s.kind t.kind && (same_scale s.scale t.scale && same_present s.fields t.fields)
 
 -- where there are entities, it is like theirs
-abbrev pub is_like : Option Sort → Sort → Bool
+abbrev pub is_like : Option Likeness → Likeness → Bool
 is_like None other = true
-is_like (Some sort) other = same_sort sort other
+is_like (Some likeness) other = same_likeness likeness other

@@ -4,7 +4,7 @@ use Rattle.pbf_dense.specs.WrittenDense.{HoldsNodes}
 use Rattle.pbf_strings.specs.TableOut.{table_message}
 use Rattle.pbf_block.specs.WrittenBlock.{texts_of_all, nodes_among, block_slots}
 use Rattle.osm_pack.proofs.OpenLemmas.{closed}
-use Rattle.osm_pack.proofs.block.Block.close.Goals as goal
+use Rattle.osm_pack.proofs.open_block.OpenBlock.close.Goals as goal
 
 pub returns-clause-payload : goal.returns-clause-payload
 returns-clause-payload g c = λ es h.

@@ -3,7 +3,7 @@ use Rattle.osm_entity.specs.EntityTexts.{entity_texts}
 use Rattle.osm_entity.specs.Views.{entity_of}
 use Rattle.pbf_block.specs.WrittenBlock.{is_block}
 use Rattle.osm_pack.proofs.OpenLemmas.{room_held, node_encoded, way_encoded, relation_encoded}
-use Rattle.osm_pack.proofs.block.Block.put.Goals as goal
+use Rattle.osm_pack.proofs.open_block.OpenBlock.put.Goals as goal
 
 pub push-requires-clause-room : goal.push-requires-clause-room
 push-requires-clause-room g c =
@@ -21,12 +21,12 @@ put_relation-requires-clause-room g c =
     subst (λ v. length c.args.self.now.texts + length (entity_texts (entity_of v)) ≤ 1048575) c.in-Relation.is (room_held c.args.self.now was.entities (entity_of c.args.entity.now) was.held (c.requires.joins was.entities was.held))
 
 pub returns-in_ok-push-in-Node : goal.returns-in_ok-push-in-Node
-returns-in_ok-push-in-Node g c = λ es h. rw c.in-Node.is (node_encoded _ _ es _ h (record { sort = refl; count = refl; weight = refl }) c.in_ok-push-in-Node.ensures.texts c.in_ok-push-in-Node.ensures.pushed refl refl)
+returns-in_ok-push-in-Node g c = λ es h. rw c.in-Node.is (node_encoded _ _ es _ h (record { likeness = refl; count = refl; weight = refl }) c.in_ok-push-in-Node.ensures.texts c.in_ok-push-in-Node.ensures.pushed refl refl)
 
 pub returns-in_ok-put_way-in-Way : goal.returns-in_ok-put_way-in-Way
 returns-in_ok-put_way-in-Way g c = λ es h.
     let join = subst (λ v. is_block (es ++ entity_of v ∷ []) ≡ true) c.in-Way.is (c.requires.joins es h) in
-    rw c.in-Way.is (way_encoded _ _ es _ h (record { sort = refl; count = refl; weight = refl }) join c.in_ok-put_way-in-Way.ensures.texts refl c.in_ok-put_way-in-Way.ensures.written c.in_ok-put_way-in-Way.ensures.empty)
+    rw c.in-Way.is (way_encoded _ _ es _ h (record { likeness = refl; count = refl; weight = refl }) join c.in_ok-put_way-in-Way.ensures.texts refl c.in_ok-put_way-in-Way.ensures.written c.in_ok-put_way-in-Way.ensures.empty)
 
 pub returns-in_ok-put_relation-in-Relation : goal.returns-in_ok-put_relation-in-Relation
-returns-in_ok-put_relation-in-Relation g c = λ es h. rw c.in-Relation.is (relation_encoded _ _ es _ h (record { sort = refl; count = refl; weight = refl }) c.in_ok-put_relation-in-Relation.ensures.texts refl c.in_ok-put_relation-in-Relation.ensures.written c.in_ok-put_relation-in-Relation.ensures.empty)
+returns-in_ok-put_relation-in-Relation g c = λ es h. rw c.in-Relation.is (relation_encoded _ _ es _ h (record { likeness = refl; count = refl; weight = refl }) c.in_ok-put_relation-in-Relation.ensures.texts refl c.in_ok-put_relation-in-Relation.ensures.written c.in_ok-put_relation-in-Relation.ensures.empty)
