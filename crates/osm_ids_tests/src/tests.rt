@@ -1,4 +1,6 @@
 //! What no clause says: that the calls succeed, and how many bytes known sets take.
+//!
+//! Sets are held by functions that answer a `bool`: a test that holds one while it asserts takes far longer to prove.
 
 use osm_ids::{IdSet, Links, SealedIds};
 use std::alloc::{AllocError, Global};
@@ -23,42 +25,86 @@ fn sealed(ids: IdSet) -> Result<SealedIds, AllocError> {
     }
 }
 
+/// Whether each id is new to the set, or not, as expected.
+fn takes(set: &mut IdSet, expected: &[(i64, bool)]) -> Result<bool, AllocError> {
+    for (id, is_new) in expected {
+        if set.add(*id)? != *is_new {
+            return Ok(false);
+        }
+    }
+    Ok(true)
+}
+
+fn has_all(ids: &SealedIds, expected: &[i64]) -> bool {
+    for id in expected {
+        if !ids.has(*id) {
+            return false;
+        }
+    }
+    true
+}
+
+fn has_none(ids: &SealedIds, absent: &[i64]) -> bool {
+    for id in absent {
+        if ids.has(*id) {
+            return false;
+        }
+    }
+    true
+}
+
+/// How many ids, pages and bytes there are.
+fn sizes(ids: &SealedIds) -> (u64, u64, u64) {
+    (ids.count(), ids.pages(), ids.bytes())
+}
+
+/// Whether a set takes 5 once, and the least id, and has both.
+fn takes_five_and_the_least_id(alloc: Global) -> Result<bool, AllocError> {
+    let mut set = IdSet::new(alloc);
+    if !takes(&mut set, &[(5, true), (5, false), (LEAST, true)])? {
+        return Ok(false);
+    }
+    let ids = sealed(set)?;
+    Ok(has_all(&ids, &[5, LEAST]) && has_none(&ids, &[4]) && ids.count() == 2)
+}
+
 #[test]
 fn five_twice_and_the_least_id(rt: HostRuntime) -> Result<(), AllocError> {
-    let mut set = IdSet::new(rt.alloc());
-    assert!(rt; set.add(5)?);
-    assert!(rt; !set.add(5)?);
-    assert!(rt; set.add(LEAST)?);
-    let ids = sealed(set)?;
-    assert!(rt; ids.has(5) && ids.has(LEAST) && !ids.has(4));
-    assert_eq!(rt; ids.count(), 2);
+    assert!(rt; takes_five_and_the_least_id(rt.alloc())?);
     Ok(())
+}
+
+/// Whether a set of these ids lies in so many pages and bytes, and has them, and neither 0 nor 130.
+fn lies_in(alloc: Global, ids: &[i64], pages: u64, bytes: u64) -> Result<bool, AllocError> {
+    let set = sealed(gathered(alloc, ids)?)?;
+    Ok(
+        sizes(&set) == (ids.len() as u64, pages, bytes)
+            && has_all(&set, ids)
+            && has_none(&set, &[0, 130]),
+    )
 }
 
 #[test]
 fn ids_of_known_sizes(rt: HostRuntime) -> Result<(), AllocError> {
-    let alloc = rt.alloc();
-    let mut up_to_129 = Vec::new(alloc);
+    assert!(rt; lies_in(rt.alloc(), &[], 0, 0)?);
+    assert!(rt; lies_in(rt.alloc(), &[300, 3, 1, 2], 1, 4)?);
+    assert!(rt; lies_in(rt.alloc(), &[GREATEST, LEAST], 1, 9)?);
+    assert!(rt; lies_in(rt.alloc(), &[i64::MIN, i64::MAX], 1, 10)?);
+    Ok(())
+}
+
+/// Whether 1 to 129 lie in two pages of 127 bytes.
+fn up_to_129_lie_in_two_pages(alloc: Global) -> Result<bool, AllocError> {
+    let mut ids = Vec::new(alloc);
     for id in 1..130i64 {
-        up_to_129.push(id)?;
+        ids.push(id)?;
     }
-    let none: [i64; 0] = [];
-    let few = [300, 3, 1, 2];
-    let far = [GREATEST, LEAST];
-    let ends = [i64::MIN, i64::MAX];
-    for (ids, pages, bytes) in [
-        (&none[..], 0, 0),
-        (&few[..], 1, 4),
-        (&up_to_129[..], 2, 127),
-        (&far[..], 1, 9),
-        (&ends[..], 1, 10),
-    ] {
-        let sealed = sealed(gathered(alloc, ids)?)?;
-        assert_eq!(rt; (sealed.pages(), sealed.bytes()), (pages, bytes));
-        assert_eq!(rt; sealed.count(), ids.len() as u64);
-        assert!(rt; ids.iter().all(|id| sealed.has(*id)));
-        assert!(rt; !sealed.has(0) && !sealed.has(130));
-    }
+    lies_in(alloc, &ids, 2, 127)
+}
+
+#[test]
+fn ids_up_to_129(rt: HostRuntime) -> Result<(), AllocError> {
+    assert!(rt; up_to_129_lie_in_two_pages(rt.alloc())?);
     Ok(())
 }
 
@@ -137,131 +183,195 @@ fn lookup_in_the_empty_set(rt: HostRuntime) -> Result<(), AllocError> {
     Ok(())
 }
 
-/// Ids that come late, among them some that are in the pages or came late before, and rising ones after them.
-#[test]
-fn rising_then_late_then_rising(rt: HostRuntime) -> Result<(), AllocError> {
-    let mut set = IdSet::new(rt.alloc());
+/// 0, 10, .. 1990, each of them new.
+fn tens(alloc: Global) -> Result<Option<IdSet>, AllocError> {
+    let mut set = IdSet::new(alloc);
     for turn in 0..200i32 {
-        assert!(rt; set.add(i64::from(turn) * 10)?);
+        if !set.add(i64::from(turn) * 10)? {
+            return Ok(None);
+        }
     }
-    for (id, is_new) in [
+    Ok(Some(set))
+}
+
+/// Whether the set takes late ids and then rising ones, each new or not as expected, and what is sealed then has them.
+fn takes_late_ids(set: IdSet) -> Result<bool, AllocError> {
+    const ADDED: [(i64, bool); 9] = [
         (1990, false),
         (0, false),
         (15, true),
         (15, false),
         (1275, true),
         (-7, true),
-    ] {
-        assert_eq!(rt; set.add(id)?, is_new);
+        (1991, true),
+        (1991, false),
+        (1985, true),
+    ];
+    const THERE: [i64; 11] = [-7, 0, 10, 15, 20, 1270, 1275, 1280, 1985, 1990, 1991];
+    const ABSENT: [i64; 9] = [i64::MIN, -8, 5, 14, 16, 1274, 1989, 1992, i64::MAX];
+    let mut set = set;
+    if !takes(&mut set, &ADDED)? {
+        return Ok(false);
     }
-    assert!(rt; set.add(1991)?);
-    assert!(rt; !set.add(1991)?);
-    assert!(rt; set.add(1985)?);
     let ids = sealed(set)?;
-    assert_eq!(rt; (ids.count(), ids.pages(), ids.bytes()), (205, 2, 203));
-    for id in [-7, 0, 10, 15, 20, 1270, 1275, 1280, 1985, 1990, 1991] {
-        assert!(rt; ids.has(id));
-    }
-    for id in [i64::MIN, -8, 5, 14, 16, 1274, 1989, 1992, i64::MAX] {
-        assert!(rt; !ids.has(id));
+    Ok(sizes(&ids) == (205, 2, 203) && has_all(&ids, &THERE) && has_none(&ids, &ABSENT))
+}
+
+/// Ids that come late, among them some that are in the pages or came late before, and rising ones after them.
+#[test]
+fn rising_then_late_then_rising(rt: HostRuntime) -> Result<(), AllocError> {
+    match tens(rt.alloc())? {
+        Some(set) => assert!(rt; takes_late_ids(set)?),
+        None => panic!(rt; "one of the tens is not new"),
     }
     Ok(())
+}
+
+/// 300 ids, each 300 above the one before.
+fn rising(alloc: Global) -> Result<Vec<i64>, AllocError> {
+    let mut ids = Vec::new(alloc);
+    for turn in 0..300i32 {
+        ids.push(i64::from(turn) * 300 - 40_000)?;
+    }
+    Ok(ids)
+}
+
+/// The same ids, the last one first.
+fn falling(alloc: Global) -> Result<Vec<i64>, AllocError> {
+    let mut ids = Vec::new(alloc);
+    for turn in 0..300i32 {
+        ids.push(49_700 - i64::from(turn) * 300)?;
+    }
+    Ok(ids)
+}
+
+/// Whether a set of these ids has those that rise, in as many pages and bytes as it takes.
+fn lies_as_rising(alloc: Global, ids: &[i64]) -> Result<bool, AllocError> {
+    let set = sealed(gathered(alloc, ids)?)?;
+    Ok(sizes(&set) == (300, 3, 594) && has_all(&set, &rising(alloc)?))
 }
 
 /// The same ids lie in as many bytes, whatever order they came in.
 #[test]
 fn falling_ids_lie_as_rising_ones(rt: HostRuntime) -> Result<(), AllocError> {
-    let alloc = rt.alloc();
-    let mut rising = Vec::new(alloc);
-    let mut falling = Vec::new(alloc);
-    for turn in 0..300i32 {
-        rising.push(i64::from(turn) * 300 - 40_000)?;
-        falling.push(49_700 - i64::from(turn) * 300)?;
-    }
-    let in_order = sealed(gathered(alloc, &rising)?)?;
-    let turned = sealed(gathered(alloc, &falling)?)?;
-    for ids in [&in_order, &turned] {
-        assert_eq!(rt; (ids.count(), ids.pages(), ids.bytes()), (300, 3, 594));
-        assert!(rt; rising.iter().all(|id| ids.has(*id)));
-    }
+    assert!(rt; lies_as_rising(rt.alloc(), &rising(rt.alloc())?)?);
+    assert!(rt; lies_as_rising(rt.alloc(), &falling(rt.alloc())?)?);
     Ok(())
+}
+
+/// Whether a set of these ids has them, in one page of four bytes.
+fn lies_in_four_bytes(alloc: Global, ids: &[i64]) -> Result<bool, AllocError> {
+    let set = sealed(gathered(alloc, ids)?)?;
+    Ok(sizes(&set) == (4, 1, 4) && has_all(&set, ids))
 }
 
 /// The pages and the bytes of known ids, with a late one and with none: one byte for 3, one for 5, two for 300.
 #[test]
 fn bytes_of_known_ids(rt: HostRuntime) -> Result<(), AllocError> {
-    for ids in [[3, 5, 300, -2], [-2, 3, 5, 300]] {
-        let sealed = sealed(gathered(rt.alloc(), &ids)?)?;
-        assert_eq!(rt; (sealed.count(), sealed.pages(), sealed.bytes()), (4, 1, 4));
-        assert!(rt; ids.iter().all(|id| sealed.has(*id)));
-    }
+    assert!(rt; lies_in_four_bytes(rt.alloc(), &[3, 5, 300, -2])?);
+    assert!(rt; lies_in_four_bytes(rt.alloc(), &[-2, 3, 5, 300])?);
     Ok(())
+}
+
+/// Whether the id is new. An `add` that is refused is tried again.
+fn add_again(set: &mut IdSet, id: i64) -> Result<bool, AllocError> {
+    match set.add(id) {
+        Ok(is_new) => Ok(is_new),
+        Err(_) => set.add(id),
+    }
+}
+
+/// What is sealed; a `seal` that is refused is tried again. None where the set that it hands back lacks one of these ids.
+fn sealed_again(set: IdSet, known: &[(i64, bool)]) -> Result<Option<SealedIds>, AllocError> {
+    match set.seal() {
+        Ok(ids) => Ok(Some(ids)),
+        Err((mut set, _)) => {
+            if !takes(&mut set, known)? {
+                return Ok(None);
+            }
+            Ok(Some(sealed(set)?))
+        }
+    }
+}
+
+/// Whether a set takes 0 to 299, all of them new, and has them.
+fn takes_300(alloc: Global) -> Result<bool, AllocError> {
+    let mut set = IdSet::new(alloc);
+    for id in 0..300i64 {
+        if !add_again(&mut set, id)? {
+            return Ok(false);
+        }
+    }
+    let Some(ids) = sealed_again(set, &[])? else {
+        return Ok(false);
+    };
+    Ok(sizes(&ids) == (300, 3, 297) && has_all(&ids, &[0, 128, 299]) && has_none(&ids, &[300]))
 }
 
 /// The set is as before after an `add` that is refused, and is handed back by a `seal` that is: both can be tried again.
 #[test]
 fn refused_once_and_tried_again(rt: HostRuntime) -> Result<(), AllocError> {
-    let mut set = IdSet::new(rt.alloc());
-    for id in 0..300i64 {
-        match set.add(id) {
-            Ok(is_new) => assert!(rt; is_new),
-            Err(_) => assert!(rt; set.add(id)?),
+    assert!(rt; takes_300(rt.alloc())?);
+    Ok(())
+}
+
+/// Whether a set takes 0, -6, 4, -2, .. 596, 590, all of them new, and has them.
+fn takes_300_late_ones(alloc: Global) -> Result<bool, AllocError> {
+    let mut set = IdSet::new(alloc);
+    for turn in 0..150i32 {
+        let rising = i64::from(turn) * 4;
+        if !add_again(&mut set, rising)? || !add_again(&mut set, rising - 6)? {
+            return Ok(false);
         }
     }
-    let ids = match set.seal() {
-        Ok(ids) => ids,
-        Err((set, _)) => sealed(set)?,
+    let Some(ids) = sealed_again(set, &[(596, false), (-6, false)])? else {
+        return Ok(false);
     };
-    assert_eq!(rt; (ids.count(), ids.pages(), ids.bytes()), (300, 3, 297));
-    assert!(rt; ids.has(0) && ids.has(128) && ids.has(299) && !ids.has(300));
-    Ok(())
+    Ok(sizes(&ids) == (300, 3, 297) && has_all(&ids, &[-6, 0, 590, 596]) && has_none(&ids, &[594]))
 }
 
 /// The same where ids come late, so that the seal makes new pages.
 #[test]
 fn late_ids_refused_once(rt: HostRuntime) -> Result<(), AllocError> {
-    let mut set = IdSet::new(rt.alloc());
-    for turn in 0..150i32 {
-        let rising = i64::from(turn) * 4;
-        for id in [rising, rising - 6] {
-            match set.add(id) {
-                Ok(is_new) => assert!(rt; is_new),
-                Err(_) => assert!(rt; set.add(id)?),
-            }
+    assert!(rt; takes_300_late_ones(rt.alloc())?);
+    Ok(())
+}
+
+/// Links from 0 to 1, 1 to 2, .. 99 to 100, each of them new. An `add` that is refused is tried again.
+fn hundred_links(alloc: Global) -> Result<Option<Links>, AllocError> {
+    let mut links = Links::new(alloc);
+    for member in 0..100i64 {
+        let is_new = match links.add(member, member + 1) {
+            Ok(is_new) => is_new,
+            Err(_) => links.add(member, member + 1)?,
+        };
+        if !is_new {
+            return Ok(None);
         }
     }
-    let ids = match set.seal() {
-        Ok(ids) => ids,
-        Err((mut set, _)) => {
-            assert!(rt; !set.add(596)? && !set.add(-6)?);
-            sealed(set)?
-        }
+    Ok(Some(links))
+}
+
+/// Whether the set that the links close has 90 to 100, or the closing is refused.
+fn closes_or_refuses(links: Links, start: IdSet) -> Result<bool, AllocError> {
+    let Ok(ids) = links.close(start) else {
+        return Ok(true);
     };
-    assert_eq!(rt; (ids.count(), ids.pages(), ids.bytes()), (300, 3, 297));
-    assert!(rt; ids.has(-6) && ids.has(0) && ids.has(590) && ids.has(596) && !ids.has(594));
-    Ok(())
+    match ids.seal() {
+        Ok(ids) => Ok(ids.count() == 11 && ids.has(100) && !ids.has(89)),
+        Err((ids, _)) => Ok(sealed(ids)?.count() == 11),
+    }
 }
 
 /// The links are as before after an `add` that is refused. A refused `close` says so.
 #[test]
 fn links_refused_once(rt: HostRuntime) -> Result<(), AllocError> {
-    let mut links = Links::new(rt.alloc());
-    for member in 0..100i64 {
-        match links.add(member, member + 1) {
-            Ok(is_new) => assert!(rt; is_new),
-            Err(_) => assert!(rt; links.add(member, member + 1)?),
-        }
-    }
+    let Some(links) = hundred_links(rt.alloc())? else {
+        panic!(rt; "one of the links is not new");
+    };
     let mut start = IdSet::new(rt.alloc());
-    if start.add(90).is_err() {
-        assert!(rt; start.add(90)?);
-    }
-    if let Ok(ids) = links.close(start) {
-        match ids.seal() {
-            Ok(ids) => assert!(rt; ids.count() == 11 && ids.has(100) && !ids.has(89)),
-            Err((ids, _)) => assert_eq!(rt; sealed(ids)?.count(), 11),
-        }
-    }
+    assert!(rt; add_again(&mut start, 90)?);
+    assert!(rt; closes_or_refuses(links, start)?);
     Ok(())
 }
 
@@ -291,16 +401,18 @@ fn cycle_that_the_start_reaches(rt: HostRuntime) -> Result<(), AllocError> {
     Ok(())
 }
 
+/// Whether the links from 8 to 9 and to the least id are new once, and close 8 to three ids.
+fn eight_has_two_parents(alloc: Global) -> Result<bool, AllocError> {
+    let mut links = Links::new(alloc);
+    if !links.add(8, 9)? || links.add(8, 9)? || !links.add(8, i64::MIN)? {
+        return Ok(false);
+    }
+    let kept = sealed(links.close(gathered(alloc, &[8])?)?)?;
+    Ok(has_all(&kept, &[9, i64::MIN]) && kept.count() == 3)
+}
+
 #[test]
 fn link_added_twice(rt: HostRuntime) -> Result<(), AllocError> {
-    let mut links = Links::new(rt.alloc());
-    assert!(rt; links.add(8, 9)?);
-    assert!(rt; !links.add(8, 9)?);
-    assert!(rt; links.add(8, i64::MIN)?);
-    let mut start = IdSet::new(rt.alloc());
-    start.add(8)?;
-    let kept = sealed(links.close(start)?)?;
-    assert!(rt; kept.has(9) && kept.has(i64::MIN));
-    assert_eq!(rt; kept.count(), 3);
+    assert!(rt; eight_has_two_parents(rt.alloc())?);
     Ok(())
 }
