@@ -1,7 +1,7 @@
 -- Blocks. The payload of an OSMData frame is a PrimitiveBlock: a table of texts, groups of
--- entities, and the scale, four numbers
--- that say what the stored numbers mean. In the files of this chapter the block stands from byte 36
--- on.
+-- entities, and the scale, four numbers that say what the stored numbers mean.
+--
+-- In the files of this chapter the block stands from byte 36 on.
 use Rattle.std.specs.Prelude.{ℕ, List, [], ◌∷◌, ◌++◌, pos}
 use Rattle.pbf_wire.specs.declared.fault.Reason.TheVariants.{VarintCut, VarintLong, LengthPast, Missing, TwiceMessage, MixedGroup, Changesets, StringIndex, Granularity, DateGranularity, TagColumns}
 use Rattle.pbf_examples.specs.Hex.{hex}
@@ -76,7 +76,7 @@ pub record Scales : Type 0 where
   pub up : scaled (hex "98 01 05  a0 01 07") means node (pos 1) (pos 105) (pos 107) [] ∷ []
   pub down :
       scaled (hex "98 01 fe ff ff ff ff ff ff ff ff 01")
-        means node (pos 1) (pos 98) (pos 100) [] ∷ []
+      means node (pos 1) (pos 98) (pos 100) [] ∷ []
   pub all :
       scaled (hex "88 01 e8 07" ++ hex "98 01 ff ff ff ff ff ff ff ff ff 01"
       ++ hex "a0 01 ff ff ff ff ff ff ff ff ff 01")
@@ -112,7 +112,7 @@ pub record FirstFault : Type 0 where
   -- two ways: a key that the table has not, and behind it a way that is cut
   pub value_and_wire :
       with_block (one_text
-        ++ field "12" (hex "1a 08  08 01  12 01 05  1a 01 00" ++ hex "1a 01  08"))
+      ++ field "12" (hex "1a 08  08 01  12 01 05  1a 01 00" ++ hex "1a 01  08"))
       refused_at 54 for VarintCut
   pub value_alone :
       with_block (one_text ++ field "12" (hex "1a 08  08 01  12 01 05  1a 01 00"))

@@ -1,8 +1,9 @@
--- Extracts. A node is in the box where its place is, edges included; a way is kept, with all its
--- nodes, where a node of it is in
--- the box; a relation is kept where a member of it is kept, its relations aside. The box is one
--- degree by one degree, from where
--- the equator meets the prime meridian.
+-- Extracts. A node is in the box where its place is, edges included. A way is kept where a node
+-- of it is in the box, and then all its nodes are. A relation is kept where a node or a way
+-- among its members is; with all parents also where a relation among them is.
+--
+-- The box of most lines is one degree by one degree, from where the equator meets the prime
+-- meridian.
 use Prim.Native.String.{String}
 use Rattle.std.specs.Prelude.{◌≡◌, ℕ, List, [], ◌∷◌, ◌++◌, pos, codes, Ok, Err}
 use Rattle.osm_entity.specs.declared.bounding_box.BoundingBox.{BoundingBox}
@@ -48,7 +49,7 @@ pub record NodeExtract : Type 0 where
   pub extract : three_nodes cut_by box gives two_nodes
   pub meaning :
       two_nodes
-        means node (pos 10) (pos 100) (pos 100) [] ∷ node (pos 15) (pos 100) (pos 100) [] ∷ []
+      means node (pos 10) (pos 100) (pos 100) [] ∷ node (pos 15) (pos 100) (pos 100) [] ∷ []
   pub again : two_nodes cut_by box gives two_nodes
 
 -- node 1 at this latitude and longitude, each spelled as its column, in a block with two texts that
@@ -128,6 +129,9 @@ same_ids =
 abbrev pub way_through_1 : List ℕ
 way_through_1 = hex "1a 05  08 07  42 01 02"
 
+abbrev pub way_6 : List ℕ
+way_6 = hex "1a 05  08 06  42 01 04"
+
 abbrev pub way_through_2 : List ℕ
 way_through_2 = hex "1a 05  08 07  42 01 04"
 
@@ -140,6 +144,10 @@ pub record WayExtracts : Type 0 where
   pub located :
       header ++ located_frame ++ nodes_frame
       cut_by box gives written_header ++ located_frame ++ nodes_frame
+  -- a way through node 2 alone, which is outside
+  pub outside :
+      header ++ data_frame (one_text ++ field "12" way_6) ++ nodes_frame
+      cut_by box gives written_header ++ node_1
   -- each of two nodes with one id is kept, and of two ways with one id the one that has the node
   pub same_id :
       header ++ same_ids ++ data_frame (one_text ++ field "12" (way_through_1 ++ way_through_2))
@@ -148,17 +156,19 @@ pub record WayExtracts : Type 0 where
 
 -- ---- relations
 
--- a relation with one member, which is node 1, and one whose member is a relation; the member's
--- role
--- is the text of this place in the table
+-- a relation with one member: its id, the place of the role in the table, the member's id as its
+-- zigzag, and the kind
+abbrev pub with_member : String → String → String → String → List ℕ
+with_member id role member kind =
+    hex "22 0b  08" ++ hex id ++ hex "42 01" ++ hex role ++ hex "4a 01" ++ hex member
+    ++ hex "52 01" ++ hex kind
+
+-- member node 1, and a member that is a relation
 abbrev pub of_node : String → String → List ℕ
-of_node id role =
-    hex "22 0b  08" ++ hex id ++ hex "42 01" ++ hex role ++ hex "4a 01 02  52 01 00"
+of_node id role = with_member id role "02" "00"
 
 abbrev pub of_relation : String → String → String → List ℕ
-of_relation id member role =
-    hex "22 0b  08" ++ hex id ++ hex "42 01" ++ hex role ++ hex "4a 01" ++ hex member
-    ++ hex "52 01 02"
+of_relation id member role = with_member id role member "02"
 
 -- behind node 1, as they are read: a role is text 0
 abbrev pub read : List ℕ → List ℕ
@@ -192,9 +202,33 @@ same_id_read =
     read (of_node "08" "00" ++ hex "22 0b  08 08  42 01 00  4a 01 04  52 01 00"
     ++ of_relation "09" "10" "00")
 
+-- way 7 has nodes 1, 2 and 3; relation 8 has way 7, 9 has node 2, and 10 node 3, which is absent
+abbrev pub around_the_way : String → List ℕ
+around_the_way role =
+    with_member "08" role "0e" "01" ++ with_member "09" role "04" "00"
+    ++ with_member "0a" role "06" "00"
+
+-- 11 has node 4 and 12 way 6, which are nowhere, and 13 way 1, where only a node has this number
+abbrev pub beside_the_way : List ℕ
+beside_the_way =
+    with_member "0b" "00" "08" "00" ++ with_member "0c" "00" "0c" "01"
+    ++ with_member "0d" "00" "02" "01"
+
+abbrev pub relations_first : List ℕ
+relations_first =
+    header ++ data_frame (one_text ++ field "12" (around_the_way "00" ++ beside_the_way))
+    ++ way_frame ++ nodes_frame
+
+abbrev pub relations_first_cut : List ℕ
+relations_first_cut =
+    written_header
+    ++ data_frame (hex "0a 04 0a 00 0a 00" ++ field "12" (around_the_way "01"))
+    ++ way_frame ++ nodes_frame
+
 pub record RelationExtracts : Type 0 where
   pub without : both_read cut_by box gives written (of_node "08" "01")
   pub parents : both_read cut_with_parents_by box gives both_written
   pub again : both_written cut_with_parents_by box gives both_written
   pub chain : chain_and_rings cut_with_parents_by box gives chain_written
   pub same_id : same_id_read cut_with_parents_by box gives both_written
+  pub of_ways : relations_first cut_by box gives relations_first_cut

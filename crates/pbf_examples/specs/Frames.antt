@@ -1,7 +1,11 @@
 -- Frames. A file is a list of them. Each is four bytes, the most significant first, that say how
--- long its BlobHeader is; the
--- BlobHeader, which names the type and says the size of the blob; and the Blob, whose `raw` is the
--- payload.
+-- long its BlobHeader is; the BlobHeader, which names the type and says the size of the blob;
+-- and the Blob, whose `raw` is the payload.
+--
+-- All three, and the messages in them, are made of fields. A field begins with its tag, `number
+-- * 8 + wire type`: 0a is field 1 with a length and so many bytes, 18 is field 3 with a number.
+-- The chapter Wire says the rest. A number of type sint32 or sint64 is stored as its zigzag: n
+-- as 2n, and -n as 2n - 1.
 use Prim.Native.String.{String}
 use Rattle.std.specs.Prelude.{◌≡◌, ℕ, ◌+◌, ◌-◌, ◌^◌, false, List, [], ◌∷◌, ◌++◌, length, drop, replicate, pos, Some, None}
 use Rattle.pbf_wire.specs.declared.fault.Reason.TheVariants.{VarintCut, WrongType, PrefixCut, HeaderLong, HeaderCut, BlobCut, DataSize, NoRaw, Zlib, Lzma, Bzip2, Lz4, Zstd, NoHeader, SecondHeader, DataFirst, Missing, FileLong}
@@ -96,8 +100,12 @@ pub record ShortForms : Type 0 where
 pub record SpelledFrames : Type 0 where
   -- `datasize` before `type`
   pub turned : hex "00 00 00 0d  18 02" ++ header_type ++ hex "0a 00" means []
+  pub turned_listed :
+      hex "00 00 00 0d  18 02" ++ header_type ++ hex "0a 00" lists "0 OSMHeader 2 0" ∷ []
   -- 2 in two bytes
   pub longer : hex "00 00 00 0e" ++ header_type ++ hex "18 82 00  0a 00" means []
+  pub longer_listed :
+      hex "00 00 00 0e" ++ header_type ++ hex "18 82 00  0a 00" lists "0 OSMHeader 2 0" ∷ []
   -- 2 `indexdata` is not looked at, and an unknown field 4 is passed over
   pub more : hex "00 00 00 13" ++ header_type ++ hex "12 01 ff  22 01 ff  18 02  0a 00" means []
   -- the last `datasize` counts, and so does the last `raw`
@@ -127,6 +135,7 @@ pub record OtherTypes : Type 0 where
 
 pub record FrameOrder : Type 0 where
   pub empty : [] refused_at 0 for NoHeader
+  pub empty_listed : [] lists []
   pub second_header : header ++ header refused_at 19 for SecondHeader
   pub header_last : node_1 ++ header refused_at 0 for DataFirst
   pub no_header : drop 19 three_nodes refused_at 0 for DataFirst

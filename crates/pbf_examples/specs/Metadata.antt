@@ -1,6 +1,5 @@
--- Metadata. A Node, Way or Relation may have an Info of six fields, and DenseNodes a DenseInfo of
--- six columns. Each field may be
--- there or not by itself; a default is not filled in.
+-- Metadata. A Node, Way or Relation may have an Info of six fields, and DenseNodes a DenseInfo
+-- of six columns. Each field may be there or not by itself; a default is not filled in.
 use Rattle.std.specs.Prelude.{ℕ, List, [], ◌∷◌, ◌++◌, pos, Some, None, Bool, true, false, codes}
 use Rattle.pbf_wire.specs.declared.fault.Reason.TheVariants.{ColumnLengths, TwiceMessage, StringIndex, OutOfRange}
 use Rattle.osm_entity.specs.Entity.{MetaSpec, Decoded, node_at, way_through, relation_among}

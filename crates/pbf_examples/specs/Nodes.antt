@@ -1,7 +1,6 @@
 -- Nodes. A group has plain Node messages, as in the chapter Wire, or one DenseNodes message: a
--- column of ids, one of latitudes,
--- one of longitudes. Each is a delta column: its first entry is a value, each further one what is
--- added to the value before.
+-- column of ids, one of latitudes, one of longitudes. Each is a delta column: its first entry is
+-- a value, each further one what is added to the value before.
 use Rattle.std.specs.Prelude.{ℕ, suc, List, [], ◌∷◌, ◌++◌, pos, take, drop}
 use Rattle.pbf_wire.specs.declared.fault.Reason.TheVariants.{VarintCut, Group, LengthPast, WrongType, BlobCut, Missing, ColumnLengths, OutOfRange}
 use Rattle.pbf_examples.specs.Hex.{hex}

@@ -1,6 +1,6 @@
--- Relations. A relation has members, in three columns of one length: the roles, which are places in
--- the table of texts; the ids,
--- which are deltas; the kinds, 0 for a node, 1 for a way and 2 for a relation.
+-- Relations. A relation has members, in three columns of one length: the roles, which are places
+-- in the table of texts; the ids, which are deltas; the kinds, 0 for a node, 1 for a way and 2
+-- for a relation.
 use Rattle.std.specs.Prelude.{ℕ, List, [], ◌∷◌, ◌++◌, pos, codes}
 use Rattle.osm_entity.specs.declared.member.MemberKind.TheVariants as kind
 use Rattle.osm_entity.specs.Entity.{Decoded}

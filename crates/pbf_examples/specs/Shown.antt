@@ -1,6 +1,6 @@
 -- What is printed. `show` writes a line for each entity: its kind and id, a node's place in
--- nanodegrees, metadata, tags, refs,
--- members. A text stands in quotes, and bytes that have no form in it as `\x` and two digits.
+-- nanodegrees, metadata, tags, refs, members. A text stands in quotes, and bytes that have no
+-- form in it as `\x` and two digits.
 use Rattle.std.specs.Prelude.{ℕ, List, [], ◌∷◌, ◌++◌}
 use Rattle.pbf_examples.specs.Hex.{hex}
 use Rattle.pbf_examples.specs.Reading.{◌shows◌, ◌shows_dated◌}
@@ -10,6 +10,7 @@ use Rattle.pbf_examples.specs.Blocks.{with_block, ab}
 use Rattle.pbf_examples.specs.Tags.{tagged, two_with, way_with}
 use Rattle.pbf_examples.specs.Metadata.{stop, with_info}
 use Rattle.pbf_examples.specs.Ways.{way_frame, nodes_frame, located_frame}
+use Rattle.pbf_examples.specs.Extracts.{fine_node}
 use Rattle.pbf_examples.specs.Relations.{three_members, with_relation}
 
 -- ---- headers
@@ -40,6 +41,7 @@ pub record HeaderLines : Type 0 where
 pub record EntityLines : Type 0 where
   pub nodes : three_nodes shows "N 10 100 100" ∷ "N 11 -100 100" ∷ "N 15 100 100" ∷ []
   pub no_tags : two_with (hex "52 02  00 00") shows "N 1 100 100" ∷ "N 2 100 100" ∷ []
+  pub fine : header ++ fine_node "ff ff ff ff ff ff ff ff ff 01" shows "N 1 999 999" ∷ []
   pub tag : tagged shows "N 1 100 100 \"\"=\"a\"" ∷ []
   pub repeated_tag :
       way_with (hex "12 03 01 01 01  1a 03 02 02 01")
@@ -72,6 +74,8 @@ pub record QuotedTexts : Type 0 where
   pub quote : keyed (hex "61 22 5c 0a") shows "N 1 100 100 \"a\\\"\\\\\\x0a\"=\"b\"" ∷ []
   -- a letter of two bytes stands as it is, a control character does not
   pub letter : keyed (hex "c3 a9 7f") shows "N 1 100 100 \"é\\x7f\"=\"b\"" ∷ []
+  -- a control character past ASCII stands as it is too
+  pub control : keyed (hex "c2 80") shows "N 1 100 100 \"\u{80}\"=\"b\"" ∷ []
   -- these are not UTF-8 as a whole: a stray byte, a surrogate, a zero in two bytes
   pub stray : keyed (hex "c3 a9 ff") shows "N 1 100 100 \"\\xc3\\xa9\\xff\"=\"b\"" ∷ []
   pub surrogate : keyed (hex "ed a0 80") shows "N 1 100 100 \"\\xed\\xa0\\x80\"=\"b\"" ∷ []
@@ -93,6 +97,10 @@ pub record Dates : Type 0 where
   -- 86,400,001,001
   pub a_thousand_days :
       at_time (hex "d2 8f bb dd 83 05") shows_dated "N 1 100 100 t1972-09-27T00:00:01.001Z" ∷ []
+  pub leap_day :
+      at_time (hex "aa b2 d0 d5 b3 37") shows_dated "N 1 100 100 t2000-02-29T12:34:56.789Z" ∷ []
+  pub stop_sign :
+      stop shows_dated "N 1 100 100 v2 t2009-02-13T23:31:30.000Z s\"ann\" \"highway\"=\"stop\"" ∷ []
   pub before : at_time (hex "01") shows_dated "N 1 100 100 t-1" ∷ []
   -- the first millisecond of 2100
   pub after : at_time (hex "80 e0 9e cc e5 ee 01") shows_dated "N 1 100 100 t4102444800000" ∷ []

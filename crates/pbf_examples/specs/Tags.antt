@@ -1,7 +1,6 @@
 -- Tags. A key and a value are places in the block's table of texts, from 0 on. A Node, Way or
--- Relation has the columns `keys` and
--- `vals`; DenseNodes has one column `keys_vals`: for each node key, value, key, value and so on,
--- and 0 at its end.
+-- Relation has the columns `keys` and `vals`. DenseNodes has one column `keys_vals`: for each
+-- node key, value, key, value and so on, and 0 at its end.
 use Rattle.std.specs.Prelude.{ℕ, List, [], ◌∷◌, ◌++◌, pos}
 use Rattle.pbf_wire.specs.declared.fault.Reason.TheVariants.{StringIndex, KeysVals, TagColumns}
 use Rattle.osm_entity.specs.Entity.{TagSpec, Decoded, way_through}
@@ -126,7 +125,7 @@ by_table texts = with_block (field "0a" texts ++ hex "12 0a  1a 08  08 07  12 01
 pub record Texts : Type 0 where
   pub behind :
       with_block (hex "12 0a  1a 08  08 07  12 01 01  1a 01 02" ++ ab)
-        means way_7 (tag "a" "b" ∷ [])
+      means way_7 (tag "a" "b" ∷ [])
   -- the first text need not be empty, and a text may stand twice
   pub first_is_used :
       with_block (hex "0a 03 0a 01 61  12 0a  1a 08  08 07  12 01 00  1a 01 00")
@@ -137,4 +136,4 @@ pub record Texts : Type 0 where
       by_table (hex "0a 00  0a 02 c3 a9  0a 01 ff") means way_7 ((hex "c3 a9", hex "ff") ∷ [])
   pub empty_table :
       with_block (hex "0a 00  12 0a  1a 08  08 07  12 01 00  1a 01 00")
-        refused_at 44 for StringIndex
+      refused_at 44 for StringIndex

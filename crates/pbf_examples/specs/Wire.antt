@@ -1,8 +1,9 @@
--- Wire: how numbers and fields are spelled. A field is its tag, the varint of `number * 8 + wire
--- type`, and what the type says:
--- 0 a varint, 1 eight bytes, 2 a length and so many bytes, 5 four bytes. The file of this chapter
--- is a header and one Node
--- message, whose three fields stand from byte 44 on.
+-- Wire: how numbers and fields are spelled. A field is its tag, which is the varint of `number *
+-- 8 + wire type`, and what the type says: 0 a varint, 1 eight bytes, 2 a length and so many
+-- bytes, 5 four bytes.
+--
+-- The file of this chapter is a header and one Node message, whose three fields stand from byte
+-- 44 on.
 use Rattle.std.specs.Prelude.{ℕ, List, [], ◌∷◌, ◌++◌, pos}
 use Rattle.pbf_wire.specs.declared.fault.Reason.TheVariants.{VarintCut, VarintLong, NumberZero, TagLarge, Group, WireType, LengthPast, FixedCut, WrongType}
 use Rattle.osm_entity.specs.Entity.{Decoded}

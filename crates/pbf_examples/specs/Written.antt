@@ -1,15 +1,13 @@
--- The written form. A conversion writes all entities, and an extract those that are kept: shortest
--- numbers, fields in ascending
--- order, columns packed, what equals the default left out. A block has entities of one kind and one
--- scale, and nodes of one set
--- of metadata fields.
+-- The written form. A conversion writes all entities, and an extract those that are kept:
+-- shortest numbers, fields in ascending order, columns packed, what equals the default left out.
+-- A block has entities of one kind and one scale, and nodes of one set of metadata fields.
 use Rattle.std.specs.Prelude.{ℕ, List, ◌++◌, codes}
 use Rattle.pbf_examples.specs.Hex.{hex}
 use Rattle.pbf_examples.specs.Reading.{◌cut_by◌gives◌, ◌converts_to◌, box}
 use Rattle.pbf_examples.specs.Frames.{header, three_nodes, data_head, data_frame}
 use Rattle.pbf_examples.specs.Headers.{written_header, converted_header}
 use Rattle.pbf_examples.specs.Wire.{plain_node, with_node}
-use Rattle.pbf_examples.specs.Blocks.{with_block, one_text, dense_1}
+use Rattle.pbf_examples.specs.Blocks.{with_block, one_text, dense_1, scaled}
 use Rattle.pbf_examples.specs.Nodes.{with_dense}
 use Rattle.pbf_examples.specs.Tags.{tagged}
 use Rattle.pbf_examples.specs.Metadata.{stop}
@@ -36,7 +34,7 @@ pub record WrittenNodes : Type 0 where
   pub plain : plain_node converts_to converted_header ++ ten_frame
   pub longer :
       with_node (hex "48 02  40 82 00  78 05  88 00 94 00")
-        converts_to converted_header ++ ten_frame
+      converts_to converted_header ++ ten_frame
   pub cut_of_pieces :
       with_dense (hex "0a 01 14  0a 01 02  08 08  42 03 02 03 04  4a 03 02 00 00")
       cut_by box
@@ -117,6 +115,10 @@ pub record WrittenBlocks : Type 0 where
       ++ data_frame (one_text ++ dense_1 ++ hex "88 01 e8 07")
       converts_to converted_header ++ data_frame (one_text ++ dense_1)
       ++ data_frame (one_text ++ dense_1 ++ hex "88 01 e8 07")
+  -- 2^32 + 100 is 100
+  pub high_bits :
+      scaled (hex "88 01 e4 80 80 80 10")
+      converts_to converted_header ++ data_frame (one_text ++ dense_1)
   -- a scale that is spelled out and is the default is left out
   pub default_scale :
       with_block (hex "88 01 64  90 01 e8 07  98 01 00  a0 01 00" ++ one_text ++ dense_1)
