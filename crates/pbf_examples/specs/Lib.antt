@@ -1,4 +1,14 @@
 pub mod Hex
 pub mod Reading
-pub mod Files
-pub mod Examples
+pub mod Frames
+pub mod Wire
+pub mod Headers
+pub mod Blocks
+pub mod Nodes
+pub mod Tags
+pub mod Metadata
+pub mod Ways
+pub mod Relations
+pub mod Extracts
+pub mod Written
+pub mod Shown
