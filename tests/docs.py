@@ -33,7 +33,7 @@ n2 v2 dD c3 t2012-01-01T00:00:00Z i1 ua
 def filled(words: list) -> str:
     """A command inside a sentence, with file names: the last word is a file that is made, but for a command that only reads."""
     last = "given.raw.osm.pbf" if {"show", "check", "-c"} & set(words) else "made.osm.pbf"
-    names = ["given.raw.osm.pbf" if word in GIVEN else word for word in words]
+    names = ["made.osm.pbf" if word == "OUT" else "given.raw.osm.pbf" if word in GIVEN else word for word in words]
     if words[-1] in GIVEN:
         names[-1] = last
     return " ".join(names).replace("COMMAND", "extract").replace("=BOX", "=" + BOX)

@@ -14,7 +14,7 @@ import sys
 TOP = os.path.dirname(os.path.dirname(os.path.abspath(__file__)))
 PAGE = os.path.join(TOP, "docs", "STATEMENT.md")
 CALLS = {
-    "extract": "extracting", "extract_parents": "extracting", "convert": "converting",
+    "extract": "extracting", "extract_with_receipt": "extracting", "extract_parents": "extracting", "convert": "converting",
     "show": "showing", "check": "checking", "list_blobs": "blobs",
 }
 MODIFIERS = ("abbrev", "unfoldable", "pub", "record")

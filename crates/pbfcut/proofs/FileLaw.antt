@@ -39,6 +39,8 @@ use Rattle.pbfcut.specs.Counting.{entities_of, frame_entities, stored_entities}
 use Rattle.pbfcut.specs.Kept.{verdict_on}
 use Rattle.pbfcut.specs.Judged.{payload_fault_of, payload_fault, sound_first, sound_front, fully, judged_file}
 use Rattle.pbfcut.specs.Pass.{headers_of, frame_headers, file_header}
+use Rattle.pbf_block.specs.declared.header_write.TheConstants.{MOST_HEADER_TEXT}
+use Rattle.osm_entity.specs.declared.weight.TheConstants.{HIGHEST_WEIGHT}
 
 -- ---- what a file says
 
@@ -156,7 +158,7 @@ blocks_headers place (block ∷ blocks) are =
 
 -- ---- the blocks of entities
 
-light : (es : List EntitySpec) → AllByRecursion EntityFits es → AllByRecursion (λ e. entity_weight e ≤ 12000000) es
+light : (es : List EntitySpec) → AllByRecursion EntityFits es → AllByRecursion (λ e. entity_weight e ≤ HIGHEST_WEIGHT) es
 light [] fits = tt
 light (e ∷ es) fits = (omega (arith, (kept_bounds (e ∷ []) (alone e fits.0)).1, sum_by-cons entity_weight e []), light es fits.1)
 
@@ -184,7 +186,7 @@ nothing_left : (place : ℕ) → judged true place [] ≡ ([], None)
 unfolding judged judged_within next_of prefix_at after_prefix
 nothing_left place = refl
 
-module _ (h : HeaderSpec) (es : List EntitySpec) (fits : HeaderFits (header_out_for_convert h)) (short : text_weight h.source + text_weight h.url ≤ 12000000) (fit : AllByRecursion EntityFits es) (typed : AllByRecursion EntityTyped es) (small : length (written_file h es) ≤ 2 ^ 62) where
+module _ (h : HeaderSpec) (es : List EntitySpec) (fits : HeaderFits (header_out_for_convert h)) (short : text_weight h.source + text_weight h.url ≤ MOST_HEADER_TEXT) (fit : AllByRecursion EntityFits es) (typed : AllByRecursion EntityTyped es) (small : length (written_file h es) ≤ 2 ^ 62) where
   abbrev message : List ℕ
   message = header_message (header_out_for_convert h)
 
@@ -268,7 +270,7 @@ module _ (h : HeaderSpec) (es : List EntitySpec) (fits : HeaderFits (header_out_
 
   header_within : header_limit (file_header file_frames) ≡ None
   header_within =
-      let light : nat_le (text_weight h.source + text_weight h.url) 12000000 ≡ true = grind (arith, nat_tests, short) in
+      let light : nat_le (text_weight h.source + text_weight h.url) MOST_HEADER_TEXT ≡ true = grind (arith, nat_tests, short) in
       ap header_limit file_placed ∙ ap (λ (b : Bool). if b then None else Some (fault placed.0 EntityLarge)) light
 
   file_limited : verdict_on (written_file h es) ≡ (file_frames, None)

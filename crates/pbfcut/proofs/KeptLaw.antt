@@ -38,6 +38,7 @@ use Rattle.pbfcut.specs.Judged.{payload_fault_of, payload_fault, sound_first, so
 use Rattle.pbfcut.specs.Kept.{verdict_on, IsWritable, header_in_file, entities_in_file, conversion_of, extract_of, IsConversion, IsExtract}
 use Rattle.pbfcut.specs.Pass.{headers_of, frame_headers, file_header}
 use Rattle.pbfcut.proofs.FileLaw.{IsFileOf, written_is_file}
+use Rattle.pbf_block.specs.declared.header_write.TheConstants.{MOST_HEADER_TEXT}
 
 -- ---- the payloads of a file without a fault
 
@@ -96,7 +97,7 @@ record HasHeader (found : Option Placed) : Type 0 where
   place : ℕ
   header : HeaderSpec
   is : found ≡ Some (place, header)
-  short : text_weight header.source + text_weight header.url ≤ 12000000
+  short : text_weight header.source + text_weight header.url ≤ MOST_HEADER_TEXT
   fits : HeaderFits (header_out_for_convert header)
 
 within : (b : Bool) (place : ℕ) → (if b then None else Some (fault place EntityLarge)) ≡ None → b ≡ true
@@ -107,7 +108,7 @@ has_header : (found : Option Placed) → header_limit found ≡ None → IfSome 
 has_header None e h = absurd (cc)
 has_header (Some p) e h =
     let weight = text_weight p.1.source + text_weight p.1.url in
-    record { place = p.0; header = p.1; is = refl; short = leb-true weight 12000000 (within (is_short p.1) p.0 e); fits = h }
+    record { place = p.0; header = p.1; is = refl; short = leb-true weight MOST_HEADER_TEXT (within (is_short p.1) p.0 e); fits = h }
 
 -- ---- the limit of the header
 
@@ -129,7 +130,7 @@ passes (frames, Some x) e = absurd (cc)
 -- of this header and of these entities a file can be written
 record CanWrite (h : HeaderSpec) (es : List EntitySpec) : Type 0 where
   fits : HeaderFits (header_out_for_convert h)
-  short : text_weight h.source + text_weight h.url ≤ 12000000
+  short : text_weight h.source + text_weight h.url ≤ MOST_HEADER_TEXT
   fit : AllByRecursion EntityFits es
   typed : AllByRecursion EntityTyped es
 

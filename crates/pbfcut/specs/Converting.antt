@@ -14,6 +14,7 @@ use Rattle.pbfcut.specs.declared.pass.Pass.{Pass}
 use Rattle.pbfcut.specs.Counting.{stored_entities}
 use Rattle.pbfcut.specs.Judged.{judged_file}
 use Rattle.pbfcut.specs.Pass.{file_header}
+use Rattle.pbf_block.specs.declared.header_write.TheConstants.{MOST_HEADER_TEXT}
 
 -- ---- the bytes
 
@@ -26,7 +27,7 @@ conversion (Some header) es = written_file header.1 es
 
 -- its source and its base URL aren't too long to be written
 abbrev pub is_short : HeaderSpec → Bool
-is_short h = nat_le (text_weight h.source + text_weight h.url) 12000000
+is_short h = nat_le (text_weight h.source + text_weight h.url) MOST_HEADER_TEXT
 
 -- the fault of a header that can't be written, at its place; where there is none, which a file without a fault has
 abbrev pub header_limit : Option (ℕ × HeaderSpec) → Option Fault

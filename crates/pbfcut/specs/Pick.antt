@@ -27,6 +27,7 @@ use Rattle.pbfcut.specs.Counting.{counts_of, stored_entities, frame_entities}
 use Rattle.pbfcut.specs.Judged.{payload_fault}
 use Rattle.pbfcut.specs.Pass.{TakesSome}
 use Rattle.pbfcut.specs.Stops.{Caused, Only, unchanged, KeepsDrain, WriteFailed}
+use Rattle.pbf_block.specs.declared.header_write.TheConstants.{MOST_HEADER_TEXT}
 
 -- ---- which are picked
 
@@ -152,4 +153,4 @@ PacksFront pick h known old new = (all : Verdict) → known ≡ Some all → IsF
 
 -- a header that isn't too long to be written
 abbrev pub IsShort : HeaderSpec → Type 0
-IsShort h = text_weight h.source + text_weight h.url ≤ 12000000
+IsShort h = text_weight h.source + text_weight h.url ≤ MOST_HEADER_TEXT

@@ -9,12 +9,9 @@ ghost use Rattle.pbfcut.specs.Stops.{Caused, Only, unchanged};
 ghost use Rattle.pbfcut.specs.Converting.{is_short, held_header, header_limit};
 
 use crate::pass::Pass;
-use pbf_block::Header;
+use pbf_block::{Header, MOST_HEADER_TEXT};
 use pbf_frame::Stop;
 use pbf_wire::{Fault, Reason};
-
-/// The most bytes that the source and the base URL of a header that is written have together.
-const MOST_HEADER_TEXT: u64 = 12_000_000;
 
 /// The header that a pass took, if it can be written.
 pub(crate) fn writable_header(pass: &Pass) -> Result<&Header, Stop>

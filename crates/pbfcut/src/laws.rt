@@ -13,6 +13,7 @@ ghost use Rattle.osm_ways.specs.Seen.{seen_decoded};
 ghost use Rattle.osm_ways.specs.Selection.{extract};
 ghost use Rattle.osm_pack.specs.Cuts.{written_file};
 ghost use Rattle.pbf_block.specs.Header.{HeaderSpec};
+ghost use Rattle.pbf_block.specs.declared.header_write.TheConstants.{MOST_HEADER_TEXT};
 ghost use Rattle.pbf_block.specs.WrittenHeader.{edges_of, EdgesTyped, HeaderFits, header_out_for_convert};
 ghost use Rattle.pbf_frame.specs.Frames.{FrameSpec};
 ghost use Rattle.pbfcut.specs.Counting.{stored_entities};
@@ -24,7 +25,7 @@ ghost use Rattle.pbfcut.specs.Pass.{file_header};
 /// A file that is written is read back: where it is at most 2^62 bytes long, it has no fault of any phase, its header is the
 /// header that was written, and its entities are those that were written.
 pub fn written_file_is_read()
-    ensures { (h : HeaderSpec) (es : List EntitySpec) → HeaderFits (header_out_for_convert h) → text_weight h.source + text_weight h.url ≤ 12000000 → AllByRecursion EntityFits es → AllByRecursion EntityTyped es → length (written_file h es) ≤ 2 ^ 62
+    ensures { (h : HeaderSpec) (es : List EntitySpec) → HeaderFits (header_out_for_convert h) → text_weight h.source + text_weight h.url ≤ MOST_HEADER_TEXT → AllByRecursion EntityFits es → AllByRecursion EntityTyped es → length (written_file h es) ≤ 2 ^ 62
         → (frames : List FrameSpec) × (judged_file (Some (written_file h es)) ≡ Some (frames, None)) × (stored_entities frames ≡ es) × (option_map (λ p. p.1) (file_header frames) ≡ Some (header_out_for_convert h)) }
 {}
 
