@@ -16,13 +16,15 @@ use Rattle.osm_entity.specs.Ranges.{EntityFits}
 use Rattle.osm_entity.specs.Weight.{entity_weight}
 use Rattle.osm_entity.proofs.TextCounts.{node_count, way_count, relation_count}
 use Rattle.pbf_dense.specs.declared.dense_out.DenseOut.{DenseOut}
-use Rattle.pbf_dense.specs.WrittenDense.{HoldsNodes, columns_of, dense_message, info_message, dense_length}
+use Rattle.pbf_dense.specs.WrittenDense.{HoldsNodes, columns_of, columns_held, dense_message, info_message, dense_length}
 use Rattle.pbf_block.specs.WrittenBlock.{are_alike, is_block, nodes_among, ways_among, relations_among, texts_of_all, messages_among, group_message, scale_among, block_slots, block_message}
 use Rattle.pbf_block.specs.WrittenEntity.{way_message, relation_message, writer_length}
 use Rattle.pbf_block.proofs.LengthLaw.{open_short}
+use Rattle.pbf_block.proofs.ClosingLaw.{table_fits, nodes_fit, group_fits, closing_fits}
 use Rattle.osm_pack.specs.declared.open_block.OpenBlock.{OpenBlock}
+use Rattle.osm_pack.specs.declared.open_block.TheConstants.{MOST_HELD}
 use Rattle.osm_pack.specs.Likenesses.{likeness_of, same_likeness, is_like}
-use Rattle.osm_pack.specs.Open.{likeness_among, Holds, IsOpen, Encodes, block_held}
+use Rattle.osm_pack.specs.Open.{likeness_among, Holds, IsOpen, Encodes, IsClosing, block_held}
 use Rattle.osm_pack.proofs.CutLemmas.{like_first, joins, both, kept_parts, kept_bounds, kept_none, kept_one}
 use Rattle.osm_entity.specs.declared.weight.TheConstants.{HIGHEST_WEIGHT}
 use Rattle.pbf_block.specs.declared.block_write.TheConstants.{MOST_ENTITIES}
@@ -325,15 +327,61 @@ module _ {S H : Type 0} where
   taken b es e alike more answer h fits a m r =
       r ∙ (rw (a, h.likeness, like es e, h.count, h.weight, exact e more fits m) refl ∙ joins es e h.block)
 
-  -- the bytes of a block that is closed
-  pub closed : (b : OpenBlock S H) (es : List EntitySpec) (scale : Scale) (table dense group payload : List ℕ) → Holds b es → scale ≡ scale_among es → table ≡ table_message b.texts
-      → dense ≡ dense_message (texts_of_all es) (nodes_among es) → group ≡ b.group.items ++ slot_bytes (Each 2 (unless_empty dense))
-      → ((texts : List (List ℕ)) → table ≡ table_message texts → payload ≡ message (block_slots scale texts group)) → payload ≡ block_message es
+  -- ---- a block that is closed
+
+  -- its texts, and their table beside them
+  pub table_held : (b : OpenBlock S H) (table : List ℕ) → IsOpen b → table ≡ table_message b.texts → block_held b + length table ≤ MOST_HELD
+  table_held b table o t =
+      let es = o.entities in
+      let h = o.held in
+      let texts = ap (λ (ts : List (List ℕ)). sum_by text_held ts) h.texts in
+      let columns = ap dense_length (h.nodes.columns []) in
+      let messages = ap (λ (bs : List ℕ). length bs) (h.messages []) in
+      let long = ap (λ (bs : List ℕ). length bs) (t ∙ ap table_message h.texts) in
+      omega (arith, texts, columns, messages, h.writer, long, table_fits (texts_of_all es) es h.block)
+
+  -- its group, once the message of its nodes is in it
+  pub group_whole : (b : OpenBlock S H) (es : List EntitySpec) (dense group : List ℕ) → Holds b es → dense ≡ dense_message (texts_of_all es) (nodes_among es)
+      → group ≡ b.group.items ++ slot_bytes (Each 2 (unless_empty dense)) → group ≡ group_message (texts_of_all es) es
+  group_whole b es dense group h d g =
+      g ∙ (ap (λ (bs : List ℕ). b.group.items ++ slot_bytes (Each 2 (unless_empty bs))) d
+      ∙ (ap (λ (bs : List ℕ). bs ++ slot_bytes (Each 2 (unless_empty (dense_message (texts_of_all es) (nodes_among es))))) (h.messages []) ∙ group_closed (texts_of_all es) es h.block))
+
+  -- the message of its nodes, beside its columns and the table
+  pub nodes_held : (b : OpenBlock S H) (es : List EntitySpec) → Holds b es
+      → length (table_message b.texts) + (dense_length (columns_held b.nodes) + length b.group.items) + length (dense_message (texts_of_all es) (nodes_among es)) ≤ MOST_HELD
+  nodes_held b es h =
+      let table = ap (λ (ts : List (List ℕ)). length (table_message ts)) h.texts in
+      let columns = ap dense_length (h.nodes.columns []) in
+      let messages = ap (λ (bs : List ℕ). length bs) (h.messages []) in
+      omega (arith, table, columns, messages, nodes_fit (texts_of_all es) es h.block)
+
+  -- the same message in the group, beside itself and the table
+  pub group_held : (b : OpenBlock S H) (es : List EntitySpec) (group : List ℕ) → Holds b es → group ≡ group_message (texts_of_all es) es
+      → length (table_message b.texts) + length (dense_message (texts_of_all es) (nodes_among es)) + length group ≤ MOST_HELD
+  group_held b es group h g =
+      let table = ap (λ (ts : List (List ℕ)). length (table_message ts)) h.texts in
+      let whole = ap (λ (bs : List ℕ). length bs) g in
+      omega (arith, table, whole, group_fits (texts_of_all es) es h.block)
+
+  -- nothing else is held then
+  pub nothing_else : (b : OpenBlock S H) (es : List EntitySpec) (texts : List (List ℕ)) (nodes : DenseOut) → Holds b es → texts ≡ [] → HoldsNodes nodes [] []
+      → sum_by text_held texts + dense_length (columns_held nodes) + writer_length b.writer ≡ 0
+  nothing_else b es texts nodes h t n = omega (arith, ap (λ (ts : List (List ℕ)). sum_by text_held ts) t, ap dense_length (n.columns []), h.writer)
+
+  -- its bytes
+  pub closed : (b : OpenBlock S H) (es : List EntitySpec) (scale : Scale) (table payload : List ℕ) → IsClosing b table es → scale ≡ scale_among es
+      → ((texts : List (List ℕ)) → table ≡ table_message texts → payload ≡ message (block_slots scale texts b.group.items)) → payload ≡ block_message es
   unfolding block_message
-  closed b es scale table dense group payload h s t d g p =
-      let whole : group ≡ group_message (texts_of_all es) es =
-      g ∙ (ap (λ (bs : List ℕ). b.group.items ++ slot_bytes (Each 2 (unless_empty bs))) d ∙ (ap (λ (bs : List ℕ). bs ++ slot_bytes (Each 2 (unless_empty (dense_message (texts_of_all es) (nodes_among es))))) (h.messages []) ∙ group_closed (texts_of_all es) es h.block)) in
-      p (texts_of_all es) (t ∙ ap table_message h.texts) ∙ rw (s, whole) refl
+  closed b es scale table payload c s p = p (texts_of_all es) c.table ∙ rw (s, c.group) refl
+
+  -- table, group and bytes beside each other
+  pub closing_held : (b : OpenBlock S H) (es : List EntitySpec) (table payload : List ℕ) → IsClosing b table es → payload ≡ block_message es → block_held b + length table + length payload ≤ MOST_HELD
+  closing_held b es table payload c p =
+      let tables = ap (λ (bs : List ℕ). length bs) c.table in
+      let groups = ap (λ (bs : List ℕ). length bs) c.group in
+      let whole = ap (λ (bs : List ℕ). length bs) p in
+      omega (arith, c.rest, tables, groups, whole, closing_fits es c.block)
 
   -- a block without entities holds no others
   pub only_none : (b : OpenBlock S H) (es : List EntitySpec) → Holds b [] → Holds b es → es ≡ []
@@ -341,7 +389,7 @@ module _ {S H : Type 0} where
   only_none b (e ∷ es) h k = absurd (omega (arith, h.count, k.count))
 
   -- what it holds
-  pub held_bounded : (b : OpenBlock S H) → IsOpen b → block_held b ≤ 28000000
+  pub held_bounded : (b : OpenBlock S H) → IsOpen b → block_held b ≤ MOST_HELD
   held_bounded b o =
       let es = o.entities in
       let h = o.held in

@@ -1,11 +1,11 @@
 -- The block that is open: what it holds of its entities.
 use Rattle.std.specs.Prelude.{◌≡◌, ℕ, ◌+◌, List, [], ◌∷◌, ◌++◌, length, true, Option, Some, None}
 use Rattle.std.specs.List.{sum_by}
-use Rattle.pbf_strings.specs.TableOut.{texts_after, text_held}
+use Rattle.pbf_strings.specs.TableOut.{texts_after, table_message, text_held}
 use Rattle.osm_entity.specs.Entity.{EntitySpec}
 use Rattle.osm_entity.specs.Weight.{entity_weight}
 use Rattle.pbf_dense.specs.WrittenDense.{HoldsNodes, columns_held, dense_length}
-use Rattle.pbf_block.specs.WrittenBlock.{is_block, texts_of_all, nodes_among, messages_among}
+use Rattle.pbf_block.specs.WrittenBlock.{is_block, texts_of_all, nodes_among, messages_among, group_message}
 use Rattle.pbf_block.specs.WrittenEntity.{writer_length}
 use Rattle.osm_pack.specs.declared.open_block.OpenBlock.{OpenBlock}
 use Rattle.osm_pack.specs.declared.likeness.Likeness.{Likeness}
@@ -42,6 +42,13 @@ pub record Encodes {S H : Type 0} (old new : OpenBlock S H) (es : List EntitySpe
   pub nodes : HoldsNodes new.nodes (texts_of_all (es ++ e ∷ [])) (nodes_among (es ++ e ∷ []))
   pub messages : (used : List (List ℕ)) → new.group.items ≡ messages_among (texts_after (texts_of_all (es ++ e ∷ [])) used) (es ++ e ∷ [])
   pub writer : writer_length new.writer ≡ 0
+
+-- it is being closed: its texts are in this table, all its entities are in the group, and it holds nothing else
+pub record IsClosing {S H : Type 0} (b : OpenBlock S H) (bytes : List ℕ) (es : List EntitySpec) : Type 0 where
+  pub block : is_block es ≡ true
+  pub table : bytes ≡ table_message (texts_of_all es)
+  pub group : b.group.items ≡ group_message (texts_of_all es) es
+  pub rest : sum_by text_held b.texts + dense_length (columns_held b.nodes) + writer_length b.writer ≡ 0
 
 -- the bytes that it holds: the lengths of its texts, its columns and its messages, and four for each text
 abbrev pub block_held : {S H : Type 0} → OpenBlock S H → ℕ

@@ -7,4 +7,5 @@ mod likeness;
 mod open_block;
 mod packer;
 
+pub use open_block::MOST_HELD;
 pub use packer::Packer;

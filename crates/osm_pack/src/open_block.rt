@@ -5,10 +5,13 @@ ghost use Rattle.osm_entity.specs.Entity.{EntitySpec, node, way, relation};
 ghost use Rattle.osm_entity.specs.Ranges.{EntityFits};
 ghost use Rattle.osm_entity.specs.Views.{entity_of};
 ghost use Rattle.osm_entity.specs.Weight.{entity_weight};
-ghost use Rattle.pbf_block.specs.WrittenBlock.{is_block, block_message, scale_among};
-ghost use Rattle.osm_pack.specs.Open.{Holds, IsOpen, Encodes, block_held};
+ghost use Rattle.pbf_strings.specs.TableOut.{table_message};
+ghost use Rattle.pbf_block.specs.WrittenBlock.{is_block, block_message, scale_among, texts_of_all, nodes_among};
+ghost use Rattle.pbf_dense.specs.WrittenDense.{columns_held, dense_length, dense_message};
+ghost use Rattle.osm_pack.specs.Open.{Holds, IsOpen, Encodes, IsClosing, block_held};
 ghost use Rattle.osm_pack.specs.Likenesses.{likeness_of, is_like};
 ghost use Rattle.osm_entity.specs.declared.weight.TheConstants.{HIGHEST_WEIGHT};
+ghost use Rattle.osm_pack.specs.declared.open_block.TheConstants.{MOST_HELD};
 ghost use Rattle.pbf_block.specs.declared.block_write.TheConstants.{MOST_ENTITIES};
 
 use crate::likeness::Likeness;
@@ -19,6 +22,10 @@ use pbf_strings::TableOut;
 use std::alloc::{AllocError, Global};
 use std::hash::BuildHasher;
 use std::mem;
+
+/// The most bytes that a block holds: its columns, messages and texts, and four for each text. While it is put together the
+/// bytes that are made of them count too.
+pub const MOST_HELD: u64 = 28_000_000;
 
 /// The scale that a block has where it says nothing else.
 const DEFAULT_SCALE: Scale = Scale {
@@ -161,6 +168,42 @@ impl<S: BuildHasher> OpenBlock<S> {
             .saturating_add(self.writer.held())
     }
 
+    /// The StringTable of the texts, beside which it is held.
+    fn table(&self, alloc: Global) -> Result<Vec<u8>, AllocError>
+        requires { IsOpen self.now }
+        ensures table { IfOk result (λ table. table.items ≡ table_message self.now.texts) }
+        ensures room { IfOk result (λ table. block_held self.now + length table.items ≤ MOST_HELD) }
+    {
+        let mut table = Vec::new(alloc);
+        self.texts.write(&mut table)?;
+        Ok(table)
+    }
+
+    /// Takes the texts out, and then adds the message of the nodes to the group. The texts go first, so that no more than two
+    /// copies of them are held at a time. The table, the columns and the message are held beside each other (`made`), and then
+    /// the table, the message and the group (`room`). After an `Err` the block has no stated content.
+    fn end_group(&mut self, alloc: Global) -> Result<(), AllocError>
+        ensures closing { (es : List EntitySpec) → Holds self.old es → OnOk result (IsClosing self.new (table_message self.old.texts) es) }
+        ensures made { (es : List EntitySpec) → Holds self.old es → length (table_message self.old.texts) + (dense_length (columns_held self.old.nodes) + length self.old.group.items) + length (dense_message (texts_of_all es) (nodes_among es)) ≤ MOST_HELD }
+        ensures room { (es : List EntitySpec) → Holds self.old es → OnOk result (length (table_message self.old.texts) + length (dense_message (texts_of_all es) (nodes_among es)) + length self.new.group.items ≤ MOST_HELD) }
+    {
+        let texts = &mut self.texts;
+        texts.clear();
+        let dense = mem::replace(&mut self.nodes, DenseOut::new(alloc)).finish(alloc)?;
+        put_dense(&mut self.group, &dense)?;
+        Ok(())
+    }
+
+    /// The PrimitiveBlock of the table and the group, beside which it is held.
+    fn put_together(&self, table: &[u8], scale: Scale, alloc: Global) -> Result<Vec<u8>, AllocError>
+        ensures payload { (es : List EntitySpec) → IsClosing self.now table.now es → scale ≡ scale_among es → IfOk result (λ payload. payload.items ≡ block_message es) }
+        ensures room { (es : List EntitySpec) → IsClosing self.now table.now es → scale ≡ scale_among es → IfOk result (λ payload. block_held self.now + length table.now + length payload.items ≤ MOST_HELD) }
+    {
+        let mut payload = Vec::new(alloc);
+        put_block(&mut payload, table, &self.group, scale)?;
+        Ok(payload)
+    }
+
     /// The PrimitiveBlock of the entities, which are taken out. After an `Err` the block has no stated content.
     pub(crate) fn close(&mut self, alloc: Global) -> Result<Vec<u8>, AllocError>
         requires { IsOpen self.old }
@@ -168,15 +211,9 @@ impl<S: BuildHasher> OpenBlock<S> {
         ensures empty { OnOk result (Holds self.new []) }
     {
         let scale = self.scale();
-        let mut table = Vec::new(alloc);
-        let texts = &mut self.texts;
-        texts.write(&mut table)?;
-        // The texts go before the payload is put together, so that no more than two copies of them are held at a time.
-        texts.clear();
-        let dense = mem::replace(&mut self.nodes, DenseOut::new(alloc)).finish(alloc)?;
-        put_dense(&mut self.group, &dense)?;
-        let mut payload = Vec::new(alloc);
-        put_block(&mut payload, &table, &self.group, scale)?;
+        let table = self.table(alloc)?;
+        self.end_group(alloc)?;
+        let payload = self.put_together(&table, scale, alloc)?;
         self.clear(alloc);
         Ok(payload)
     }

@@ -48,6 +48,7 @@ impl<D: Drain, S: BuildHasher> Packer<D, S> {
     ghost use Rattle.pbf_frame.specs.Devices.{IsFront};
     ghost use Rattle.pbf_frame.specs.Transfers.{Added};
     ghost use Rattle.osm_pack.specs.Cuts.{header_frame, then_pending, then_written, at_end};
+    ghost use Rattle.osm_pack.specs.declared.open_block.TheConstants.{MOST_HELD};
     ghost use Rattle.osm_pack.specs.Stops.{IsPackStop};
     ghost use Rattle.osm_pack.specs.Packing.{Pending, IsPacking, HasStopped, has_header, packer_held};
 
@@ -170,17 +171,17 @@ impl<D: Drain, S: BuildHasher> Packer<D, S> {
     }
 
     /// The bytes held for the entities that wait: the lengths of their columns, messages and texts, and four for each text. While
-    /// a block is written its table, its nodes and its bytes are put together beside that, as locals of the call.
+    /// a block is closed what is made of them is held besides, and all of it together is no more than [`MOST_HELD`] either.
     pub fn held(&self) -> u64
         ensures value { result ≡ packer_held self.now }
-        ensures bound { result ≤ 28000000 }
+        ensures bound { result ≤ MOST_HELD }
     {
         self.block.held()
     }
 
     /// What is held is bounded, whatever was called before. This does nothing: it is a law, called where a proof needs it.
     pub fn held_is_bounded(&self)
-        ensures { packer_held self.now ≤ 28000000 }
+        ensures { packer_held self.now ≤ MOST_HELD }
     {
         let _block = &self.block;
     }

@@ -60,11 +60,11 @@ roles_room (m ∷ ms) = let rest = roles_room ms in omega (arith, rest)
 
 -- ---- ways and relations
 
-info_room : (texts : List (List ℕ)) (meta : MetaSpec) → each_room (unless_empty (info_message texts meta)) ≤ 140
+pub info_room : (texts : List (List ℕ)) (meta : MetaSpec) → each_room (unless_empty (info_message texts meta)) ≤ 140
 unfolding info_message
 info_room texts meta = omega (arith, unless_room (message (info_slots texts meta)), message_short (info_slots texts meta))
 
-way_room : (texts : List (List ℕ)) (w : WaySpec) → length (way_message texts w) ≤ 260 + 20 * length w.tags + 10 * length w.refs + 20 * length w.locations
+pub way_room : (texts : List (List ℕ)) (w : WaySpec) → length (way_message texts w) ≤ 260 + 20 * length w.tags + 10 * length w.refs + 20 * length w.locations
 unfolding way_message
 way_room texts w =
     let keys = packed_short (map (key_index texts) w.tags) in
@@ -158,7 +158,7 @@ infos_room : (info : InfoSpec) → each_room (unless_empty (dense_info_message i
 unfolding dense_info_message
 infos_room info = omega (arith, unless_room (message (dense_info_slots info)), message_short (dense_info_slots info))
 
-abbrev tag_count : List NodeSpec → ℕ
+abbrev pub tag_count : List NodeSpec → ℕ
 tag_count [] = 0
 tag_count (n ∷ ns) = length n.tags + tag_count ns
 
@@ -180,7 +180,7 @@ column_room : (f : NodeSpec → ℤ) (ns : List NodeSpec) → length (packed (de
 column_room f ns = omega (arith, packed_short (deltas (map f ns)), deltas_length (map f ns), length-map ns f)
 
 -- all columns
-columns_room : (texts : List (List ℕ)) (ns : List NodeSpec) → dense_length (columns_of texts ns) ≤ 100 * length ns + 20 * tag_count ns
+pub columns_room : (texts : List (List ℕ)) (ns : List NodeSpec) → dense_length (columns_of texts ns) ≤ 100 * length ns + 20 * tag_count ns
 columns_room texts ns =
     let ids = column_room (λ n. n.id) ns in
     let lats = column_room (λ n. n.lat) ns in
@@ -189,7 +189,7 @@ columns_room texts ns =
     let runs = packed_short (flat_map (λ n. run_of texts n.tags) ns) in
     omega (arith, ids, lats, lons, infos, length-map ns (λ n. n.meta), runs, runs_long texts ns)
 
-dense_room : (texts : List (List ℕ)) (ns : List NodeSpec) → length (dense_message texts ns) ≤ 220 + 100 * length ns + 20 * tag_count ns
+pub dense_room : (texts : List (List ℕ)) (ns : List NodeSpec) → length (dense_message texts ns) ≤ 220 + 100 * length ns + 20 * tag_count ns
 unfolding dense_message
 dense_room texts ns =
     let columns = columns_of texts ns in
@@ -198,7 +198,7 @@ dense_room texts ns =
 -- ---- the block
 
 -- what the messages of all entities take, but for the fields that dense columns have once
-abbrev beside : List (List ℕ) → List EntitySpec → ℕ
+abbrev pub beside : List (List ℕ) → List EntitySpec → ℕ
 beside texts es =
     100 * length (nodes_among es) + 20 * tag_count (nodes_among es)
     + (each_room (map (way_message texts) (ways_among es)) + each_room (map (relation_message texts) (relations_among es)))
@@ -212,7 +212,7 @@ parts_room texts (node n ∷ es) = let rest = parts_room texts es in omega (arit
 parts_room texts (way w ∷ es) = let rest = parts_room texts es in omega (arith, rest, sum_by-cons entity_weight (way w) es, way_part texts w, each_append (way_texts w) (flat_map entity_texts es))
 parts_room texts (relation r ∷ es) = let rest = parts_room texts es in omega (arith, rest, sum_by-cons entity_weight (relation r) es, relation_part texts r, each_append (relation_texts r) (flat_map entity_texts es))
 
-group_room : (texts : List (List ℕ)) (es : List EntitySpec) → length (group_message texts es) ≤ 240 + beside texts es
+pub group_room : (texts : List (List ℕ)) (es : List EntitySpec) → length (group_message texts es) ≤ 240 + beside texts es
 unfolding group_message
 group_room texts es = omega (arith, message_short (group_slots texts es), unless_room (dense_message texts (nodes_among es)), dense_room texts (nodes_among es))
 
@@ -243,7 +243,7 @@ texts_room : (texts : List (List ℕ)) → sum_by text_held texts ≤ each_room 
 texts_room [] = omega arith
 texts_room (text ∷ texts) = let rest = texts_room texts in omega (arith, rest, sum_by-cons text_held text texts)
 
-messages_room : (texts : List (List ℕ)) (es : List EntitySpec) → length (messages_among texts es) ≤ each_room (map (way_message texts) (ways_among es)) + each_room (map (relation_message texts) (relations_among es))
+pub messages_room : (texts : List (List ℕ)) (es : List EntitySpec) → length (messages_among texts es) ≤ each_room (map (way_message texts) (ways_among es)) + each_room (map (relation_message texts) (relations_among es))
 unfolding slot_bytes
 messages_room texts es =
     let ways = map (way_message texts) (ways_among es) in
