@@ -125,13 +125,20 @@ pub record WireFaults : Type 0 where
 -- each field of each message has a wire type of its own, a column 0 or 2: with another it is
 -- refused
 
--- fields of these tags with eight bytes, which no known field has
-abbrev pub eight : List String → List (List ℕ)
-eight tags = map (λ tag. hex tag ++ replicate 8 0) tags
+-- fields of these tags, of a byte each, with eight bytes, which no known field has; and the same of
+-- tags that end in one more byte
+abbrev pub eight : String → List (List ℕ)
+eight tags = map (λ tag. tag ∷ replicate 8 0) (hex tags)
+
+abbrev pub long_eight : String → String → List (List ℕ)
+long_eight tags last = map (λ tag. tag ∷ hex last ++ replicate 8 0) (hex tags)
 
 -- fields of these tags with a 0, which is a number or an empty length
-abbrev pub short : List String → List (List ℕ)
-short tags = map (λ tag. hex tag ++ 0 ∷ []) tags
+abbrev pub short : String → List (List ℕ)
+short tags = map (λ tag. tag ∷ 0 ∷ []) (hex tags)
+
+abbrev pub long_short : String → String → List (List ℕ)
+long_short tags last = map (λ tag. tag ∷ hex last ++ 0 ∷ []) (hex tags)
 
 -- files that have these bytes as the message of the name
 abbrev pub blob_header : List ℕ → List ℕ
@@ -167,58 +174,39 @@ dense_info message = dense (field "2a" message)
 
 pub record KnownFields : Type 0 where
   pub blob_header :
-      blob_header of_each (eight ("09" ∷ "11" ∷ "19" ∷ []) ++ short ("08" ∷ "10" ∷ "1a" ∷ []))
-      refused_at 4 for WrongType
+      blob_header of_each (eight "09 11 19" ++ short "08 10 1a") refused_at 4 for WrongType
   pub blob :
-      blob of_each (eight ("09" ∷ "11" ∷ "19" ∷ "21" ∷ "29" ∷ "31" ∷ "39" ∷ [])
-      ++ short ("08" ∷ "12" ∷ "18" ∷ "20" ∷ "28" ∷ "30" ∷ "38" ∷ []))
+      blob of_each (eight "09 11 19 21 29 31 39" ++ short "08 12 18 20 28 30 38")
       refused_at 17 for WrongType
   pub header_block :
-      header_frame of_each (eight ("09" ∷ "21" ∷ "29" ∷ "81 01" ∷ "89 01" ∷ "81 02" ∷ "89 02"
-      ∷ "91 02" ∷ []) ++ short ("08" ∷ "20" ∷ "28" ∷ "80 01" ∷ "88 01" ∷ "82 02" ∷ "8a 02" ∷ "90 02"
-      ∷ []))
+      header_frame of_each (eight "09 21 29" ++ long_eight "81 89" "01" ++ long_eight "81 89 91" "02")
+      refused_at 19 for WrongType
+  pub header_block_short :
+      header_frame of_each (short "08 20 28" ++ long_short "80 88" "01" ++ long_short "82 8a 90" "02")
       refused_at 19 for WrongType
   pub header_bbox :
-      bbox of_each (eight ("09" ∷ "11" ∷ "19" ∷ "21" ∷ [])
-      ++ short ("0a" ∷ "12" ∷ "1a" ∷ "22" ∷ []))
-      refused_at 21 for WrongType
+      bbox of_each (eight "09 11 19 21" ++ short "0a 12 1a 22") refused_at 21 for WrongType
   pub primitive_block :
-      block of_each (eight ("09" ∷ "11" ∷ "89 01" ∷ "91 01" ∷ "99 01" ∷ "a1 01" ∷ [])
-      ++ short ("08" ∷ "10" ∷ "8a 01" ∷ "92 01" ∷ "9a 01" ∷ "a2 01" ∷ []))
-      refused_at 36 for WrongType
-  pub string_table :
-      table of_each (eight ("09" ∷ []) ++ short ("08" ∷ [])) refused_at 38 for WrongType
+      block of_each (eight "09 11" ++ long_eight "89 91 99 a1" "01") refused_at 36 for WrongType
+  pub primitive_block_short :
+      block of_each (short "08 10" ++ long_short "8a 92 9a a2" "01") refused_at 36 for WrongType
+  pub string_table : table of_each (eight "09" ++ short "08") refused_at 38 for WrongType
   pub primitive_group :
-      group of_each (eight ("09" ∷ "11" ∷ "19" ∷ "21" ∷ "29" ∷ [])
-      ++ short ("08" ∷ "10" ∷ "18" ∷ "20" ∷ "28" ∷ []))
-      refused_at 40 for WrongType
-  pub node :
-      with_node of_each (eight ("09" ∷ "11" ∷ "19" ∷ "21" ∷ "41" ∷ "49" ∷ [])
-      ++ short ("0a" ∷ "20" ∷ "42" ∷ "4a" ∷ []))
-      refused_at 44 for WrongType
-  pub dense_nodes :
-      dense of_each (eight ("09" ∷ "29" ∷ "41" ∷ "49" ∷ "51" ∷ []) ++ short ("28" ∷ []))
-      refused_at 42 for WrongType
-  pub dense_info :
-      dense_info of_each (eight ("09" ∷ "11" ∷ "19" ∷ "21" ∷ "29" ∷ "31" ∷ []))
-      refused_at 44 for WrongType
-  pub way :
-      with_way of_each (eight ("09" ∷ "11" ∷ "19" ∷ "21" ∷ "41" ∷ "49" ∷ "51" ∷ [])
-      ++ short ("0a" ∷ "20" ∷ []))
-      refused_at 44 for WrongType
-  pub relation :
-      relation of_each (eight ("09" ∷ "11" ∷ "19" ∷ "21" ∷ "41" ∷ "49" ∷ "51" ∷ [])
-      ++ short ("0a" ∷ "20" ∷ []))
-      refused_at 42 for WrongType
+      group of_each (eight "09 11 19 21 29" ++ short "08 10 18 20 28") refused_at 40 for WrongType
+  pub plain :
+      with_node of_each (eight "09 11 19 21 41 49" ++ short "0a 20 42 4a") refused_at 44 for WrongType
+  pub dense_nodes : dense of_each (eight "09 29 41 49 51" ++ short "28") refused_at 42 for WrongType
+  pub dense_infos : dense_info of_each (eight "09 11 19 21 29 31") refused_at 44 for WrongType
+  pub way_fields :
+      with_way of_each (eight "09 11 19 21 41 49 51" ++ short "0a 20") refused_at 44 for WrongType
+  pub relation_fields :
+      relation of_each (eight "09 11 19 21 41 49 51" ++ short "0a 20") refused_at 42 for WrongType
   pub info_of_node :
-      info "0a" of_each (eight ("09" ∷ "11" ∷ "19" ∷ "21" ∷ "29" ∷ "31" ∷ [])
-      ++ short ("0a" ∷ "12" ∷ "1a" ∷ "22" ∷ "2a" ∷ "32" ∷ []))
+      info "0a" of_each (eight "09 11 19 21 29 31" ++ short "0a 12 1a 22 2a 32")
       refused_at 44 for WrongType
   pub info_of_way :
-      info "1a" of_each (eight ("09" ∷ "11" ∷ "19" ∷ "21" ∷ "29" ∷ "31" ∷ [])
-      ++ short ("0a" ∷ "12" ∷ "1a" ∷ "22" ∷ "2a" ∷ "32" ∷ []))
+      info "1a" of_each (eight "09 11 19 21 29 31" ++ short "0a 12 1a 22 2a 32")
       refused_at 44 for WrongType
   pub info_of_relation :
-      info "22" of_each (eight ("09" ∷ "11" ∷ "19" ∷ "21" ∷ "29" ∷ "31" ∷ [])
-      ++ short ("0a" ∷ "12" ∷ "1a" ∷ "22" ∷ "2a" ∷ "32" ∷ []))
+      info "22" of_each (eight "09 11 19 21 29 31" ++ short "0a 12 1a 22 2a 32")
       refused_at 44 for WrongType
