@@ -181,6 +181,9 @@ pub record DenseInfo : Type 0 where
   pub empty_column :
       with_columns (hex "0a 00  32 02 01 00") means nodes_by (of_visible true) (of_visible false)
   pub version_alone : with_columns (hex "08 02  08 01") means nodes_by (of_version 2) (of_version 1)
+  -- a sint32 is the zigzag of the low 32 bits: 2^32 + 24, and -12
+  pub uid_high_bits :
+      with_columns (hex "22 06 98 80 80 80 10 17") means nodes_by (of_uid 12) (of_uid 0)
   -- the sum 2^30 - 1
   pub uid_most :
       with_columns (hex "22 06 00 fe ff ff ff 07") means nodes_by (of_uid 0) (of_uid 1_073_741_823)

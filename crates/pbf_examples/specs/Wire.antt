@@ -179,10 +179,12 @@ pub record KnownFields : Type 0 where
       blob of_each (eight "09 11 19 21 29 31 39" ++ short "08 12 18 20 28 30 38")
       refused_at 17 for WrongType
   pub header_block :
-      header_frame of_each (eight "09 21 29" ++ long_eight "81 89" "01" ++ long_eight "81 89 91" "02")
+      header_frame of_each (eight "09 21 29" ++ long_eight "81 89" "01"
+      ++ long_eight "81 89 91" "02")
       refused_at 19 for WrongType
   pub header_block_short :
-      header_frame of_each (short "08 20 28" ++ long_short "80 88" "01" ++ long_short "82 8a 90" "02")
+      header_frame of_each (short "08 20 28" ++ long_short "80 88" "01"
+      ++ long_short "82 8a 90" "02")
       refused_at 19 for WrongType
   pub header_bbox :
       bbox of_each (eight "09 11 19 21" ++ short "0a 12 1a 22") refused_at 21 for WrongType
@@ -194,7 +196,8 @@ pub record KnownFields : Type 0 where
   pub primitive_group :
       group of_each (eight "09 11 19 21 29" ++ short "08 10 18 20 28") refused_at 40 for WrongType
   pub plain :
-      with_node of_each (eight "09 11 19 21 41 49" ++ short "0a 20 42 4a") refused_at 44 for WrongType
+      with_node of_each (eight "09 11 19 21 41 49" ++ short "0a 20 42 4a")
+      refused_at 44 for WrongType
   pub dense_nodes : dense of_each (eight "09 29 41 49 51" ++ short "28") refused_at 42 for WrongType
   pub dense_infos : dense_info of_each (eight "09 11 19 21 29 31") refused_at 44 for WrongType
   pub way_fields :
