@@ -59,6 +59,9 @@ pub record GroupFaults : Type 0 where
       with_block (one_text ++ hex "12 08  1a 02 08 07  22 02 08 08") refused_at 46 for MixedGroup
   pub dense_and_way :
       with_block (one_text ++ hex "12 06  12 00  1a 02 08 07") refused_at 44 for MixedGroup
+  pub dense_and_node :
+      with_block (one_text ++ hex "12 0a  12 00  0a 06 08 02 40 02 48 02")
+      refused_at 44 for MixedGroup
   -- 5 changesets, at each one, also where it is empty
   pub changesets : with_block (one_text ++ hex "12 02  2a 00") refused_at 42 for Changesets
 

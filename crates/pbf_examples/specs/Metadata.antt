@@ -69,9 +69,17 @@ all_six = record {
   visible = Some true;
 }
 
+abbrev pub every_field : List ℕ
+every_field =
+    hex "08 03"  -- 1 version 3
+    ++ hex "10 e8 07"  -- 2 timestamp 1000
+    ++ hex "18 4d"  -- 3 changeset 77
+    ++ hex "20 0c"  -- 4 uid 12
+    ++ hex "28 01"  -- 5 user_sid: text 1
+    ++ hex "30 01"  -- 6 visible
+
 pub record Info : Type 0 where
-  -- 1 version, 2 timestamp, 3 changeset, 4 uid, 5 user_sid, 6 visible
-  pub all : with_info (hex "08 03  10 e8 07  18 4d  20 0c  28 01  30 01") means node_by all_six
+  pub all : with_info every_field means node_by all_six
   pub reversed : with_info (hex "30 01  28 01  20 0c  18 4d  10 e8 07  08 03") means node_by all_six
   pub none : with_info [] means node_by bare
   pub no_version :
@@ -103,11 +111,11 @@ pub record Info : Type 0 where
       means node_by (record bare { timestamp = Some (pos 7_000) })
   -- of a way and of a relation it is the same field 4
   pub of_a_way :
-      with_block (ann ++ field "12" (field "1a" (hex "08 07" ++ field "22" (hex "28 01"))))
-      means way_through (pos 7) (record bare { user = Some (codes "ann") }) [] [] [] ∷ []
+      with_block (ann ++ field "12" (field "1a" (hex "08 07" ++ field "22" every_field)))
+      means way_through (pos 7) all_six [] [] [] ∷ []
   pub of_a_relation :
-      with_block (ann ++ field "12" (field "22" (hex "08 08" ++ field "22" (hex "28 01"))))
-      means relation_among (pos 8) (record bare { user = Some (codes "ann") }) [] [] ∷ []
+      with_block (ann ++ field "12" (field "22" (hex "08 08" ++ field "22" every_field)))
+      means relation_among (pos 8) all_six [] [] ∷ []
 
 pub record InfoFaults : Type 0 where
   pub twice :
@@ -173,6 +181,9 @@ pub record DenseInfo : Type 0 where
   pub empty_column :
       with_columns (hex "0a 00  32 02 01 00") means nodes_by (of_visible true) (of_visible false)
   pub version_alone : with_columns (hex "08 02  08 01") means nodes_by (of_version 2) (of_version 1)
+  -- a sint32 is the zigzag of the low 32 bits: 2^32 + 24, and -12
+  pub uid_high_bits :
+      with_columns (hex "22 06 98 80 80 80 10 17") means nodes_by (of_uid 12) (of_uid 0)
   -- the sum 2^30 - 1
   pub uid_most :
       with_columns (hex "22 06 00 fe ff ff ff 07") means nodes_by (of_uid 0) (of_uid 1_073_741_823)
@@ -186,3 +197,8 @@ pub record DenseInfoFaults : Type 0 where
   pub user_past : with_columns (hex "2a 02 02 02") refused_at 59 for StringIndex
   pub user_below : with_columns (hex "2a 02 00 01") refused_at 59 for StringIndex
   pub uid_over : with_columns (hex "22 06 02 fe ff ff ff 07") refused_at 59 for OutOfRange
+  -- 2^62 - 1 and +1
+  pub time_over :
+      with_columns (hex "12 0a fe ff ff ff ff ff ff ff 7f 02") refused_at 59 for OutOfRange
+  pub changeset_over :
+      with_columns (hex "1a 0a fe ff ff ff ff ff ff ff 7f 02") refused_at 59 for OutOfRange

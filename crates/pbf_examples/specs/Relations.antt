@@ -75,3 +75,4 @@ pub record RelationFaults : Type 0 where
       refused_at 53 for OutOfRange
   pub no_id : with_relation [] refused_at 46 for Missing 1
   pub id_of_bytes : with_relation (hex "0a 01 08") refused_at 48 for WrongType
+  pub id_over : with_relation (hex "08 80 80 80 80 80 80 80 80 40") refused_at 48 for OutOfRange

@@ -3,7 +3,7 @@
 -- node key, value, key, value and so on, and 0 at its end.
 use Rattle.std.specs.Prelude.{ℕ, List, [], ◌∷◌, ◌++◌, pos}
 use Rattle.pbf_wire.specs.declared.fault.Reason.TheVariants.{StringIndex, KeysVals, TagColumns}
-use Rattle.osm_entity.specs.Entity.{TagSpec, Decoded, way_through}
+use Rattle.osm_entity.specs.Entity.{TagSpec, Decoded, way_through, relation_among}
 use Rattle.pbf_examples.specs.Hex.{hex}
 use Rattle.pbf_examples.specs.Reading.{◌means◌, ◌refused_at◌for◌, tag, bare, node}
 use Rattle.pbf_examples.specs.Frames.{header, data_head, field}
@@ -115,6 +115,25 @@ pub record KeysAndVals : Type 0 where
   pub value_past : way_with (hex "12 01 01  1a 01 03") refused_at 55 for StringIndex
   pub value_less : way_with (hex "12 02 01 02  1a 01 02") refused_at 48 for TagColumns
   pub no_values : way_with (hex "12 01 01") refused_at 48 for TagColumns
+
+-- of a node and of a relation they are the same fields 2 and 3
+abbrev pub node_with : List ℕ → List ℕ
+node_with fields = with_block (ab ++ field "12" (field "0a" (hex "08 02  40 02  48 02" ++ fields)))
+
+abbrev pub relation_with : List ℕ → List ℕ
+relation_with fields = with_block (ab ++ field "12" (field "22" (hex "08 08" ++ fields)))
+
+pub record KeysOfOthers : Type 0 where
+  pub node : node_with (hex "12 01 01  1a 01 02") means one_of (tag "a" "b" ∷ [])
+  pub node_key_past : node_with (hex "12 01 03  1a 01 02") refused_at 56 for StringIndex
+  pub node_value_past : node_with (hex "12 01 01  1a 01 03") refused_at 59 for StringIndex
+  pub node_value_less : node_with (hex "12 01 01") refused_at 48 for TagColumns
+  pub relation :
+      relation_with (hex "12 01 01  1a 01 02")
+      means relation_among (pos 8) bare (tag "a" "b" ∷ []) [] ∷ []
+  pub relation_key_past : relation_with (hex "12 01 03  1a 01 02") refused_at 52 for StringIndex
+  pub relation_value_past : relation_with (hex "12 01 01  1a 01 03") refused_at 55 for StringIndex
+  pub relation_key_less : relation_with (hex "1a 01 02") refused_at 48 for TagColumns
 
 -- ---- texts
 

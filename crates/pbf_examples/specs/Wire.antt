@@ -4,12 +4,13 @@
 --
 -- The file of this chapter is a header and one Node message, whose three fields stand from byte
 -- 44 on.
-use Rattle.std.specs.Prelude.{ℕ, List, [], ◌∷◌, ◌++◌, pos}
+use Prim.Native.String.{String}
+use Rattle.std.specs.Prelude.{ℕ, List, [], ◌∷◌, ◌++◌, length, map, replicate, pos}
 use Rattle.pbf_wire.specs.declared.fault.Reason.TheVariants.{VarintCut, VarintLong, NumberZero, TagLarge, Group, WireType, LengthPast, FixedCut, WrongType}
 use Rattle.osm_entity.specs.Entity.{Decoded}
 use Rattle.pbf_examples.specs.Hex.{hex}
-use Rattle.pbf_examples.specs.Reading.{◌means◌, ◌refused_at◌for◌, minus, node, way}
-use Rattle.pbf_examples.specs.Frames.{header, data_head, field, data_frame}
+use Rattle.pbf_examples.specs.Reading.{◌means◌, ◌refused_at◌for◌, ◌of_each◌refused_at◌for◌, minus, node, way}
+use Rattle.pbf_examples.specs.Frames.{header, data_head, field, data_frame, header_head, header_frame}
 
 -- ---- a message in full
 
@@ -118,3 +119,97 @@ pub record WireFaults : Type 0 where
   pub zero_and_group : with_node (hex "03  08 14  40 02  48 02") refused_at 44 for NumberZero
   pub above_and_group :
       with_node (hex "83 80 80 80 10  08 14  40 02  48 02") refused_at 44 for TagLarge
+
+-- ---- known fields
+
+-- each field of each message has a wire type of its own, a column 0 or 2: with another it is
+-- refused
+
+-- fields of these tags, of a byte each, with eight bytes, which no known field has; and the same of
+-- tags that end in one more byte
+abbrev pub eight : String → List (List ℕ)
+eight tags = map (λ tag. tag ∷ replicate 8 0) (hex tags)
+
+abbrev pub long_eight : String → String → List (List ℕ)
+long_eight tags last = map (λ tag. tag ∷ hex last ++ replicate 8 0) (hex tags)
+
+-- fields of these tags with a 0, which is a number or an empty length
+abbrev pub short : String → List (List ℕ)
+short tags = map (λ tag. tag ∷ 0 ∷ []) (hex tags)
+
+abbrev pub long_short : String → String → List (List ℕ)
+long_short tags last = map (λ tag. tag ∷ hex last ++ 0 ∷ []) (hex tags)
+
+-- files that have these bytes as the message of the name
+abbrev pub blob_header : List ℕ → List ℕ
+blob_header message = hex "00 00 00" ++ length message ∷ message
+
+abbrev pub blob : List ℕ → List ℕ
+blob message = header_head ++ length message ∷ message
+
+abbrev pub bbox : List ℕ → List ℕ
+bbox message = header_frame (field "0a" message)
+
+abbrev pub block : List ℕ → List ℕ
+block message = header ++ data_frame message
+
+abbrev pub table : List ℕ → List ℕ
+table message = block (field "0a" message)
+
+abbrev pub group : List ℕ → List ℕ
+group message = block (hex "0a 00" ++ field "12" message)
+
+abbrev pub dense : List ℕ → List ℕ
+dense message = group (field "12" message)
+
+abbrev pub relation : List ℕ → List ℕ
+relation message = group (field "22" message)
+
+-- Info and DenseInfo
+abbrev pub info : String → List ℕ → List ℕ
+info tag message = group (field tag (field "22" message))
+
+abbrev pub dense_info : List ℕ → List ℕ
+dense_info message = dense (field "2a" message)
+
+pub record KnownFields : Type 0 where
+  pub blob_header :
+      blob_header of_each (eight "09 11 19" ++ short "08 10 1a") refused_at 4 for WrongType
+  pub blob :
+      blob of_each (eight "09 11 19 21 29 31 39" ++ short "08 12 18 20 28 30 38")
+      refused_at 17 for WrongType
+  pub header_block :
+      header_frame of_each (eight "09 21 29" ++ long_eight "81 89" "01"
+      ++ long_eight "81 89 91" "02")
+      refused_at 19 for WrongType
+  pub header_block_short :
+      header_frame of_each (short "08 20 28" ++ long_short "80 88" "01"
+      ++ long_short "82 8a 90" "02")
+      refused_at 19 for WrongType
+  pub header_bbox :
+      bbox of_each (eight "09 11 19 21" ++ short "0a 12 1a 22") refused_at 21 for WrongType
+  pub primitive_block :
+      block of_each (eight "09 11" ++ long_eight "89 91 99 a1" "01") refused_at 36 for WrongType
+  pub primitive_block_short :
+      block of_each (short "08 10" ++ long_short "8a 92 9a a2" "01") refused_at 36 for WrongType
+  pub string_table : table of_each (eight "09" ++ short "08") refused_at 38 for WrongType
+  pub primitive_group :
+      group of_each (eight "09 11 19 21 29" ++ short "08 10 18 20 28") refused_at 40 for WrongType
+  pub plain :
+      with_node of_each (eight "09 11 19 21 41 49" ++ short "0a 20 42 4a")
+      refused_at 44 for WrongType
+  pub dense_nodes : dense of_each (eight "09 29 41 49 51" ++ short "28") refused_at 42 for WrongType
+  pub dense_infos : dense_info of_each (eight "09 11 19 21 29 31") refused_at 44 for WrongType
+  pub way_fields :
+      with_way of_each (eight "09 11 19 21 41 49 51" ++ short "0a 20") refused_at 44 for WrongType
+  pub relation_fields :
+      relation of_each (eight "09 11 19 21 41 49 51" ++ short "0a 20") refused_at 42 for WrongType
+  pub info_of_node :
+      info "0a" of_each (eight "09 11 19 21 29 31" ++ short "0a 12 1a 22 2a 32")
+      refused_at 44 for WrongType
+  pub info_of_way :
+      info "1a" of_each (eight "09 11 19 21 29 31" ++ short "0a 12 1a 22 2a 32")
+      refused_at 44 for WrongType
+  pub info_of_relation :
+      info "22" of_each (eight "09 11 19 21 29 31" ++ short "0a 12 1a 22 2a 32")
+      refused_at 44 for WrongType

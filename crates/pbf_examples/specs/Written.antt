@@ -4,7 +4,7 @@
 use Rattle.std.specs.Prelude.{ℕ, List, ◌++◌, codes}
 use Rattle.pbf_examples.specs.Hex.{hex}
 use Rattle.pbf_examples.specs.Reading.{◌cut_by◌gives◌, ◌converts_to◌, box}
-use Rattle.pbf_examples.specs.Frames.{header, three_nodes, data_head, data_frame}
+use Rattle.pbf_examples.specs.Frames.{header, three_nodes, data_head, data_frame, field}
 use Rattle.pbf_examples.specs.Headers.{written_header, converted_header}
 use Rattle.pbf_examples.specs.Wire.{plain_node, with_node}
 use Rattle.pbf_examples.specs.Blocks.{with_block, one_text, dense_1, scaled}
@@ -79,6 +79,75 @@ pub record WrittenTexts : Type 0 where
   pub no_info :
       with_block (one_text ++ hex "12 06  1a 04  08 07  22 00")
       converts_to converted_header ++ data_frame (one_text ++ hex "12 04  1a 02  08 07")
+
+-- ---- every field
+
+-- the texts in order of use: the tag, then the user, then the role
+abbrev pub used_texts : List ℕ
+used_texts =
+    hex "0a 11  0a 00  0a 01 61  0a 01 62" ++ hex "0a 03" ++ codes "ann" ++ hex "0a 02"
+    ++ codes "to"
+
+-- the same without the role
+abbrev pub tag_and_user : List ℕ
+tag_and_user = hex "0a 0d  0a 00  0a 01 61  0a 01 62" ++ hex "0a 03" ++ codes "ann"
+
+-- a way and a relation whose fields, and those of their Info, are read in descending order
+abbrev pub way_read : List ℕ
+way_read =
+    hex "52 03 02 00 00  4a 03 02 03 04  42 03 02 02 02"
+    ++ hex "22 0d  30 01 28 03 20 0c 18 4d 10 e8 07 08 03" ++ hex "1a 01 02  12 01 01  08 07"
+
+abbrev pub way_written : List ℕ
+way_written =
+    hex "08 07  12 01 01  1a 01 02" ++ hex "22 0d  08 03 10 e8 07 18 4d 20 0c 28 03 30 01"
+    ++ hex "42 03 02 02 02  4a 03 02 03 04  52 03 02 00 00"
+
+abbrev pub relation_read : List ℕ
+relation_read =
+    hex "52 01 00  4a 01 02  42 01 04" ++ hex "22 0d  30 01 28 03 20 0c 18 4d 10 e8 07 08 03"
+    ++ hex "1a 01 02  12 01 01  08 08"
+
+abbrev pub relation_written : List ℕ
+relation_written =
+    hex "08 08  12 01 01  1a 01 02" ++ hex "22 0d  08 03 10 e8 07 18 4d 20 0c 28 03 30 01"
+    ++ hex "42 01 04  4a 01 02  52 01 00"
+
+-- and two nodes
+abbrev pub nodes_read : List ℕ
+nodes_read =
+    hex "52 04 01 02 00 00  4a 02 02 00  42 02 02 00"
+    ++ field "2a" (hex "32 02 01 00  2a 02 06 05  22 02 18 17  1a 03 9a 01 02"
+    ++ hex "12 03 d0 0f 01  0a 02 03 03")
+    ++ hex "0a 02 02 02"
+
+abbrev pub nodes_written : List ℕ
+nodes_written =
+    hex "0a 02 02 02"
+    ++ field "2a" (hex "0a 02 03 03  12 03 d0 0f 01  1a 03 9a 01 02"
+    ++ hex "22 02 18 17  2a 02 06 02  32 02 01 00")
+    ++ hex "42 02 02 00  4a 02 02 00  52 04 01 02 00 00"
+
+pub record WrittenEntities : Type 0 where
+  pub way :
+      with_block (used_texts ++ field "12" (field "1a" way_read))
+      converts_to converted_header
+      ++ data_frame (tag_and_user ++ field "12" (field "1a" way_written))
+  pub relation :
+      with_block (used_texts ++ field "12" (field "22" relation_read))
+      converts_to converted_header
+      ++ data_frame (used_texts ++ field "12" (field "22" relation_written))
+  -- the second user is text 0, empty, which gets an entry of its own
+  pub nodes :
+      with_block (used_texts ++ field "12" (field "12" nodes_read))
+      converts_to converted_header
+      ++ data_frame (hex "0a 0f  0a 00  0a 01 61  0a 01 62" ++ hex "0a 03" ++ codes "ann"
+      ++ hex "0a 00" ++ field "12" (field "12" nodes_written))
+  -- the scale
+  pub scale :
+      with_block (hex "a0 01 05  98 01 07  90 01 01  88 01 e8 07" ++ one_text ++ dense_1)
+      converts_to converted_header
+      ++ data_frame (one_text ++ dense_1 ++ hex "88 01 e8 07  90 01 01  98 01 07  a0 01 05")
 
 -- ---- blocks
 
