@@ -1,6 +1,6 @@
 //! What no clause says of the reading of entities: values of known bytes.
 
-use osm_entity::{EntityRef, MemberKind, MemberRef, MetaRef, Scale, Tags};
+use osm_entity::{EntityRef, MemberKind, MemberRef, MetaRef, Scale, Tags, WayRef};
 use pbf_block::{Block, Counts, Kinds};
 use pbf_wire::{Fault, ReadFault, Reason, put_bytes};
 use std::alloc::{AllocError, Global};
@@ -221,6 +221,33 @@ fn a_node_of_nobody(rt: HostRuntime) -> Result<(), Fail> {
     Ok(())
 }
 
+/// Whether the refs are those of [`WAY`].
+fn has_three_refs(way: WayRef<'_>) -> bool {
+    let mut refs = way.refs();
+    refs.next() == Some(100)
+        && refs.next() == Some(101)
+        && refs.next() == Some(98)
+        && refs.next().is_none()
+}
+
+/// Whether the locations are those of [`WAY`].
+fn has_three_locations(way: WayRef<'_>) -> bool {
+    let mut locations = way.locations();
+    locations.next() == Some((5, 8))
+        && locations.next() == Some((-1, 7))
+        && locations.next() == Some((1, 6))
+        && locations.next().is_none()
+}
+
+/// Whether `highway=stop` is the way's one tag, and what is known of it its uid and that it is deleted.
+fn is_deleted_stop(way: WayRef<'_>) -> bool {
+    let (mut tags, meta) = (way.tags(), way.meta());
+    tags.next() == Some((b"highway".as_slice(), b"stop".as_slice()))
+        && tags.next().is_none()
+        && meta.uid == Some(7)
+        && meta.visible == Some(false)
+}
+
 #[test]
 fn a_way(rt: HostRuntime) -> Result<(), Fail> {
     let payload = payload(rt.alloc())?;
@@ -228,17 +255,7 @@ fn a_way(rt: HostRuntime) -> Result<(), Fail> {
     let EntityRef::Way(way) = entity_in(&rt, &block, -9) else {
         panic!(rt; "it is no way");
     };
-    let refs: Vec<i64> = way.refs().collect(rt.alloc())?;
-    let locations: Vec<(i64, i64)> = way.locations().collect(rt.alloc())?;
-    let tags = tags_in(rt.alloc(), way.tags())?;
-    let meta = way.meta();
-    assert_eq!(rt; refs.as_slice(), [100, 101, 98].as_slice());
-    assert_eq!(rt; locations.as_slice(), [(5, 8), (-1, 7), (1, 6)].as_slice());
-    assert_eq!(rt;
-        tags.as_slice(),
-        [(b"highway".as_slice(), b"stop".as_slice())].as_slice()
-    );
-    assert!(rt; meta.uid == Some(7) && meta.visible == Some(false));
+    assert!(rt; has_three_refs(way) && has_three_locations(way) && is_deleted_stop(way));
     Ok(())
 }
 

@@ -42,19 +42,50 @@ fn texts(alloc: Global, texts: &[&[u8]]) -> Result<Vec<Vec<u8>>, AllocError> {
     Ok(owned)
 }
 
+/// Puts the way into a group whose table is empty, if it can be written.
+fn put_way(
+    alloc: Global,
+    group: &mut Vec<u8>,
+    way: &Way,
+    table: &mut TableOut<BuildHasherDefault<FoldHasher>>,
+) -> Result<bool, AllocError>
+    requires { table.old ≡ [] }
+{
+    let view = way.view();
+    if !view.fits() {
+        return Ok(false);
+    }
+    EntityOut::new(alloc).put_way(group, &view, table)?;
+    Ok(true)
+}
+
 /// A group with this way alone, and the table of its texts.
 fn way_group(rt: &(impl Abort + AllocGlobal), way: &Way) -> Result<(Vec<u8>, Vec<u8>), AllocError> {
-    let view = way.view();
     let mut table = writer(rt.alloc());
     let mut group = Vec::new(rt.alloc());
-    let mut out = EntityOut::new(rt.alloc());
-    if !view.fits() {
+    if !put_way(rt.alloc(), &mut group, way, &mut table)? {
         panic!(rt; "the way can't be written");
     }
-    out.put_way(&mut group, &view, &mut table)?;
     let mut message = Vec::new(rt.alloc());
     table.write(&mut message)?;
     Ok((group, message))
+}
+
+/// Puts the relation into a group whose table is empty, if it can be written.
+fn put_relation(
+    alloc: Global,
+    group: &mut Vec<u8>,
+    relation: &Relation,
+    table: &mut TableOut<BuildHasherDefault<FoldHasher>>,
+) -> Result<bool, AllocError>
+    requires { table.old ≡ [] }
+{
+    let view = relation.view();
+    if !view.fits() {
+        return Ok(false);
+    }
+    EntityOut::new(alloc).put_relation(group, &view, table)?;
+    Ok(true)
 }
 
 /// A group with this relation alone, and the table of its texts.
@@ -62,41 +93,54 @@ fn relation_group(
     rt: &(impl Abort + AllocGlobal),
     relation: &Relation,
 ) -> Result<(Vec<u8>, Vec<u8>), AllocError> {
-    let view = relation.view();
     let mut table = writer(rt.alloc());
     let mut group = Vec::new(rt.alloc());
-    let mut out = EntityOut::new(rt.alloc());
-    if !view.fits() {
+    if !put_relation(rt.alloc(), &mut group, relation, &mut table)? {
         panic!(rt; "the relation can't be written");
     }
-    out.put_relation(&mut group, &view, &mut table)?;
     let mut message = Vec::new(rt.alloc());
     table.write(&mut message)?;
     Ok((group, message))
 }
 
-/// The header of a file whose own says nothing: with the box from 0 to 1 degree, and without one.
+/// The header that says nothing.
+fn empty_header(rt: &(impl Abort + AllocGlobal)) -> Header {
+    match Header::read(rt.alloc(), b"", 19) {
+        Ok(header) => header,
+        Err(_) => panic!(rt; "the header is refused"),
+    }
+}
+
+fn header_bytes(alloc: Global, header: &Header) -> Result<Vec<u8>, AllocError> {
+    let mut written = Vec::new(alloc);
+    header.write(&mut written)?;
+    Ok(written)
+}
+
+/// The header of an extract of the box from 0 to 1 degree, of a file whose own says nothing.
 #[test]
-fn headers_for_a_header_of_nothing(rt: HostRuntime) -> Result<(), Fail> {
-    let Ok(header) = Header::read(rt.alloc(), b"", 19) else {
-        panic!(rt; "the header is refused");
-    };
+fn a_header_with_a_box_alone(rt: HostRuntime) -> Result<(), Fail> {
     let Ok(area) = BoundingBox::new(0, 0, 1_000_000_000, 1_000_000_000) else {
         panic!(rt; "the box is refused");
     };
-    let features = b"\x22\x0eOsmSchema-V0.6\x22\x0aDenseNodes\x82\x01\x06pbfcut";
-    let mut wanted = Vec::from_slice(
-        rt.alloc(),
-        b"\x0a\x10\x08\x00\x10\x80\xa8\xd6\xb9\x07\x18\x80\xa8\xd6\xb9\x07\x20\x00",
-    )?;
-    wanted.extend_from_slice(features)?;
-    let mut written = Vec::new(rt.alloc());
-    header.for_box(rt.alloc(), area)?.write(&mut written)?;
-    assert_eq!(rt; written.as_slice(), wanted.as_slice());
+    let header = empty_header(&rt).for_box(rt.alloc(), area)?;
+    let written = header_bytes(rt.alloc(), &header)?;
+    assert_eq!(rt;
+        written.as_slice(),
+        b"\x0a\x10\x08\x00\x10\x80\xa8\xd6\xb9\x07\x18\x80\xa8\xd6\xb9\x07\x20\x00\x22\x0eOsmSchema-V0.6\x22\x0aDenseNodes\x82\x01\x06pbfcut".as_slice()
+    );
     assert_eq!(rt; written.len(), 0x37);
-    let mut converted = Vec::new(rt.alloc());
-    header.for_convert(rt.alloc())?.write(&mut converted)?;
-    assert_eq!(rt; converted.as_slice(), features.as_slice());
+    Ok(())
+}
+
+/// The header of a conversion of a file whose own says nothing.
+#[test]
+fn a_header_of_features_alone(rt: HostRuntime) -> Result<(), Fail> {
+    let header = empty_header(&rt).for_convert(rt.alloc())?;
+    assert_eq!(rt;
+        header_bytes(rt.alloc(), &header)?.as_slice(),
+        b"\x22\x0eOsmSchema-V0.6\x22\x0aDenseNodes\x82\x01\x06pbfcut".as_slice()
+    );
     Ok(())
 }
 

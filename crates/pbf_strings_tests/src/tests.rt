@@ -20,22 +20,35 @@ fn writer(alloc: Global) -> TableOut<BuildHasherDefault<FoldHasher>>
     TableOut::new(alloc, BuildHasherDefault::new())
 }
 
+/// Whether the table has four texts, of 16 bytes as it counts them, none longer than 7.
+fn is_of_four_texts(table: &Table<'_>) -> bool {
+    table.len() == 4 && table.held() == 16 && table.longest() == 7 && !table.is_empty()
+}
+
+/// Whether `get` gives the texts by their numbers, and none past the last.
+fn gets_each_text(table: &Table<'_>) -> bool {
+    table.get(0) == Some(b"".as_slice())
+        && table.get(1) == Some(b"highway".as_slice())
+        && table.get(3) == Some(b"ann".as_slice())
+        && table.get(4).is_none()
+}
+
+/// Whether `text` gives a text by its number, and the empty text past the last.
+fn has_each_text(table: &Table<'_>) -> bool {
+    table.text(2) == b"stop".as_slice() && table.text(4) == b"".as_slice()
+}
+
 #[test]
 fn four_texts(rt: HostRuntime) {
     let table = match Table::read(rt.alloc(), &FOUR_TEXTS, 42, 40) {
         Ok(table) => table,
         Err(_) => panic!(rt; "the table is refused"),
     };
-    assert_eq!(rt; table.len(), 4);
-    assert_eq!(rt; table.held(), 16);
-    assert_eq!(rt; table.longest(), 7);
-    assert!(rt; !table.is_empty());
-    assert_eq!(rt; table.get(0), Some(b"".as_slice()));
-    assert_eq!(rt; table.get(1), Some(b"highway".as_slice()));
-    assert_eq!(rt; table.get(3), Some(b"ann".as_slice()));
-    assert_eq!(rt; table.get(4), None);
-    assert_eq!(rt; table.text(2), b"stop".as_slice());
-    assert_eq!(rt; table.text(4), b"".as_slice());
+    assert!(rt; is_of_four_texts(&table) && gets_each_text(&table) && has_each_text(&table));
+}
+
+#[test]
+fn count_of_four_texts(rt: HostRuntime) {
     assert_eq!(rt; text_count(&FOUR_TEXTS), 4);
 }
 
@@ -82,26 +95,51 @@ fn as_many_texts_as_may_be(rt: HostRuntime) -> Result<(), Fail> {
     Ok(())
 }
 
+/// Whether the table, which is short, gives these texts these numbers, one after another.
+fn gives(
+    table: &mut TableOut<BuildHasherDefault<FoldHasher>>,
+    expected: &[(&[u8], u32)],
+) -> Result<bool, AllocError> {
+    for (text, index) in expected {
+        if table.len() > 8 || table.index_of(text)? != *index {
+            return Ok(false);
+        }
+    }
+    Ok(true)
+}
+
+/// The StringTable that the table writes.
+fn written(
+    alloc: Global,
+    table: &TableOut<BuildHasherDefault<FoldHasher>>,
+) -> Result<Vec<u8>, AllocError> {
+    let mut out = Vec::new(alloc);
+    table.write(&mut out)?;
+    Ok(out)
+}
+
+/// Whether the table has the four texts, once it gave them their numbers, and gives them anew once it is cleared.
+fn numbers_four_texts(alloc: Global) -> Result<bool, AllocError> {
+    const GIVEN: [(&'static [u8], u32); 4] = [
+        (b"highway", 1),
+        (b"stop", 2),
+        (b"highway", 1),
+        (b"ann", 3),
+    ];
+    let mut table = writer(alloc);
+    if !gives(&mut table, &GIVEN)? || table.len() != 3 || table.held() != 26 {
+        return Ok(false);
+    }
+    if written(alloc, &table)?.as_slice() != FOUR_TEXTS.as_slice() {
+        return Ok(false);
+    }
+    table.clear();
+    Ok(table.is_empty() && gives(&mut table, &[(b"stop", 1)])?)
+}
+
 #[test]
 fn texts_in_order_of_first_use(rt: HostRuntime) -> Result<(), Fail> {
-    let mut table = writer(rt.alloc());
-    for (text, index) in [
-        (b"highway".as_slice(), 1),
-        (b"stop".as_slice(), 2),
-        (b"highway".as_slice(), 1),
-        (b"ann".as_slice(), 3),
-    ] {
-        assert!(rt; table.len() < 4);
-        assert_eq!(rt; table.index_of(text)?, index);
-    }
-    assert_eq!(rt; table.len(), 3);
-    assert_eq!(rt; table.held(), 26);
-    let mut out = Vec::new(rt.alloc());
-    table.write(&mut out)?;
-    assert_eq!(rt; out.as_slice(), FOUR_TEXTS.as_slice());
-    table.clear();
-    assert!(rt; table.is_empty());
-    assert_eq!(rt; table.index_of(b"stop")?, 1);
+    assert!(rt; numbers_four_texts(rt.alloc())?);
     Ok(())
 }
 
