@@ -52,17 +52,19 @@ show_app = with_rule (with_rule (with_rule (new_app (codes "show")) dates_rule) 
 abbrev pub check_app : App
 check_app = with_rule (with_rule (with_rule (new_app (codes "check")) progress_rule) digests_rule) input_rule
 
-abbrev pub convert_app : App
-convert_app = with_rule (with_rule (with_rule (with_rule (new_app (codes "convert")) progress_rule)
-    digests_rule) input_rule) output_rule
+-- `convert` with its options
+abbrev pub conversion_app : App
+conversion_app = with_rule (with_rule (new_app (codes "convert")) progress_rule) digests_rule
 
--- `extract` with its options
+abbrev pub convert_app : App
+convert_app = with_rule (with_rule conversion_app input_rule) output_rule
+
+-- `extract` with its flags
 abbrev pub options_app : App
-options_app = with_rule (with_rule (with_rule (with_rule (new_app (codes "extract")) parents_rule)
-    progress_rule) digests_rule) box_rule
+options_app = with_rule (with_rule (with_rule (new_app (codes "extract")) parents_rule) progress_rule) digests_rule
 
 abbrev pub extract_app : App
-extract_app = with_rule (with_rule options_app input_rule) output_rule
+extract_app = with_rule (with_rule (with_rule options_app box_rule) input_rule) output_rule
 
 abbrev pub settled : Shape → Shape
 settled s = record s {

@@ -8,6 +8,7 @@ ghost use Rattle.pbfcut_cli.specs.Words.{
   blobs_app,
   box_rule,
   check_app,
+  conversion_app,
   convert_app,
   dates_rule,
   digests_rule,
@@ -128,20 +129,26 @@ fn check<'a>(alloc: Global) -> Result<Command<'a>, AllocError>
         .arg(input(alloc))
 }
 
-fn convert<'a>(alloc: Global) -> Result<Command<'a>, AllocError>
-    ensures app { IfOk result (λ c. app_of c ≡ convert_app) }
+/// `convert` with its options.
+fn conversion<'a>(alloc: Global) -> Result<Command<'a>, AllocError>
+    ensures app { IfOk result (λ c. app_of c ≡ conversion_app) }
     ensures local { IfOk result (λ c. (fields_of c).has_globals ≡ false) }
 {
     Command::new(alloc, "convert")
         .about(help::CONVERT)
         .after_help(help::AFTER_CONVERT)
         .arg(progress(alloc))?
-        .arg(digests(alloc))?
-        .arg(input(alloc))?
-        .arg(output(alloc))
+        .arg(digests(alloc))
 }
 
-/// `extract` with its options.
+fn convert<'a>(alloc: Global) -> Result<Command<'a>, AllocError>
+    ensures app { IfOk result (λ c. app_of c ≡ convert_app) }
+    ensures local { IfOk result (λ c. (fields_of c).has_globals ≡ false) }
+{
+    conversion(alloc)?.arg(input(alloc))?.arg(output(alloc))
+}
+
+/// `extract` with its flags.
 fn options<'a>(alloc: Global) -> Result<Command<'a>, AllocError>
     ensures app { IfOk result (λ c. app_of c ≡ options_app) }
     ensures local { IfOk result (λ c. (fields_of c).has_globals ≡ false) }
@@ -152,15 +159,17 @@ fn options<'a>(alloc: Global) -> Result<Command<'a>, AllocError>
         .override_usage(help::USAGE_OF_EXTRACT)
         .arg(parents(alloc))?
         .arg(progress(alloc))?
-        .arg(digests(alloc))?
-        .arg(area(alloc))
+        .arg(digests(alloc))
 }
 
 fn extract<'a>(alloc: Global) -> Result<Command<'a>, AllocError>
     ensures app { IfOk result (λ c. app_of c ≡ extract_app) }
     ensures local { IfOk result (λ c. (fields_of c).has_globals ≡ false) }
 {
-    options(alloc)?.arg(input(alloc))?.arg(output(alloc))
+    options(alloc)?
+        .arg(area(alloc))?
+        .arg(input(alloc))?
+        .arg(output(alloc))
 }
 
 /// The command line with no command yet.
