@@ -37,6 +37,7 @@ pub(crate) struct Files<'a> {
 }
 
 /// What a call reports: the counts, or a receipt, for which OUT is hashed as it is written.
+#[derive(Drop)]
 enum Report {
     Counted(Counts),
     Receipted(Receipt),
