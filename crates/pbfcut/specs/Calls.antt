@@ -36,7 +36,8 @@ pub record Converted (file : List ℕ) (counts : Counts) (written : List ℕ) : 
   pub is : written ≡ conversion_of file
   -- the counts are those of its entities
   pub counted : counts ≡ counts_of (entities_in_file file)
-  -- they are read as the file's entities, and a conversion of them is the same bytes
+  -- they are read as the file's entities, and a conversion of them is the same bytes. A file has at most 2^62 bytes: longer ones would
+  -- be refused for that alone
   pub kept : length written ≤ 2 ^ 62 → IsConversion file written
 
 -- these bytes are the extract of a file
@@ -47,7 +48,7 @@ pub record Extracted (choose : Choice) (select : List Decoded → List Decoded) 
   pub is : written ≡ extract_of choose area file
   -- the counts are those of the entities that are kept
   pub counted : counts ≡ counts_of (choose (entities_in_file file))
-  -- they are read as exactly what is kept of the file's entities, and an extract of them is the same bytes
+  -- they are read as exactly what is kept of the file's entities, and an extract of them is the same bytes; with the same limit
   pub kept : length written ≤ 2 ^ 62 → IsExtract choose select area file written
 
 -- ---- why a call stops
@@ -68,14 +69,17 @@ ChangedIn number first other pass = (pass ≡ number) × Differ first other
 abbrev pub ChangedBefore : ℕ → Option (List ℕ) → Option (List ℕ) → Option (List ℕ) → Option (List ℕ) → ℕ → Type 0
 ChangedBefore number first other old new pass = ChangedIn number first other pass × (new ≡ old)
 
--- ---- the stops of each call: what is refused is the first file, by its first fault, and then nothing went out
+-- ---- why each call stops: what is refused is the first file, by its first fault, and then nothing went out
 
+-- of `convert`
 abbrev pub ConvertStops : (first second old new : Option (List ℕ)) (read wrote : Type 0) → Stop → Type 0
 ConvertStops first second old new read wrote = Caused (RefusedFirst (judged_writable first) old new) read wrote (ChangedIn 2 first second)
 
+-- of `extract`
 abbrev pub ExtractStops : (first second third old new : Option (List ℕ)) (read wrote : Type 0) → Stop → Type 0
 ExtractStops first second third old new read wrote = Caused (RefusedFirst (judged_writable first) old new) read wrote (λ pass. ChangedBefore 2 first second old new pass ⊎ ChangedIn 3 first third pass)
 
+-- of `extract_parents`
 abbrev pub ParentsStops : (first second third fourth old new : Option (List ℕ)) (read wrote : Type 0) → Stop → Type 0
 ParentsStops first second third fourth old new read wrote =
     Caused (RefusedFirst (judged_writable first) old new) read wrote (λ pass. (ChangedBefore 2 first second old new pass ⊎ ChangedBefore 3 first third old new pass) ⊎ ChangedIn 4 first fourth pass)

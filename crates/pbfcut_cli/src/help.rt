@@ -43,7 +43,7 @@ pub(crate) const DATES: &str = "Prints the times from 1970 to 2099 as dates";
 
 pub(crate) const PROGRESS: &str = "Reports progress on standard error";
 
-pub(crate) const DIGESTS: &str = "Prints the SHA-256 of IN and OUT after the counts";
+pub(crate) const DIGESTS: &str = "Prints the SHA-256 digests of IN and OUT";
 
 pub(crate) const PARENTS: &str = "Keeps the relations above kept ones too";
 
