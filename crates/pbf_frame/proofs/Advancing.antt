@@ -9,11 +9,13 @@ use Rattle.pbf_frame.specs.declared.reader.State.TheVariants.{Reading, Ended, St
 use Rattle.pbf_frame.specs.declared.reading.Seen.{Seen}
 use Rattle.pbf_frame.specs.declared.stop.Stop.{Stop}
 use Rattle.pbf_frame.specs.declared.stop.Stop.TheVariants.{Refused, Read, Write, Memory, Changed}
-use Rattle.pbf_frame.specs.Frames.{FrameSpec, is_header, frame_kind, frame_end, blob_at}
+use Rattle.pbf_frame.specs.Frames.{FrameSpec, is_header, frame_kind, frame_end, blob_at, next_of}
 use Rattle.pbf_frame.specs.Verdict.{Verdict, judged_known, with_first_known}
-use Rattle.pbf_frame.specs.Reads.{IsSeen, IsReaderStop, GaveFrame, GaveEnd, RefusedFrame}
+use Rattle.pbf_frame.specs.Reads.{IsSeen, IsReaderStop, GaveFrame, GaveEnd}
+use Rattle.pbf_frame.specs.Refusals.{RefusedBy}
 use Rattle.pbf_frame.specs.Next.{Advances, Gave, IsNext, IsLendingNext, IsSeeingNext, Shows, ShowsAnswer, SeesAnswer, verdict}
 use Rattle.pbf_frame.proofs.Judging.{gave_some, gave_none, gave_fault}
+use Rattle.pbf_frame.proofs.Refusing.{refused_told}
 
 reading_ended : (s : State) → s ≡ Reading → s ≡ Ended → ⊥
 reading_ended s a b = cc
@@ -30,12 +32,12 @@ pub record Keeps {F : Type 0} (failures : F → ℕ) (lender : F → List GName)
   pub same_lender : lender new.feed ≡ lender old.feed
   pub counts : failures old.feed ≤ failures new.feed
 
-gave_stop : (h : Bool) (p : ℕ) (old : Option (List ℕ)) (new : Option Verdict) (stop : Stop) → RefusedFrame h p old stop → Gave (judged_known h p old) (Err stop) new
-gave_stop h p old new (Refused e) refused = gave_fault h p old e refused
-gave_stop h p old new Read refused = tt
-gave_stop h p old new Write refused = tt
-gave_stop h p old new Memory refused = tt
-gave_stop h p old new (Changed pass) refused = tt
+gave_stop : (h : Bool) (p : ℕ) (old left : Option (List ℕ)) (before now : ℕ → List ℕ → Type 0) (new : Option Verdict) (stop : Stop) → RefusedBy (next_of h p) before now old left stop → Gave (judged_known h p old) (Err stop) new
+gave_stop h p old left before now new (Refused e) refused = gave_fault h p old e (λ bytes is. refused_told (λ b. next_of h p b ≡ Err e) before now old left bytes refused is)
+gave_stop h p old left before now new Read refused = tt
+gave_stop h p old left before now new Write refused = tt
+gave_stop h p old left before now new Memory refused = tt
+gave_stop h p old left before now new (Changed pass) refused = tt
 
 module _ {F : Type 0} {remaining : F → Option (List ℕ)} {failures : F → ℕ} {lender : F → List GName} {has_passed : F → ℕ → List ℕ → Type 0} where
   was_reading : (old new : FrameReader F) (answer : Result (Option FrameSpec) Stop) → old.state ≡ Reading → Advances remaining failures lender has_passed old answer new → IsNext remaining failures lender has_passed old answer new
@@ -71,6 +73,7 @@ module _ {F : Type 0} {remaining : F → Option (List ℕ)} {failures : F → �
           is_frame = gave.is_frame;
           counts = keeps.counts;
           stops = tt;
+          refused = tt;
         };
       }
 
@@ -92,18 +95,19 @@ module _ {F : Type 0} {remaining : F → Option (List ℕ)} {failures : F → �
           is_frame = tt;
           counts = keeps.counts;
           stops = tt;
+          refused = tt;
         };
       }
 
   pub sees_stop : (old new : FrameReader F) (result : Result (Option Seen) Stop) (stop : Stop) → result ≡ Err stop → Keeps failures lender old new
-      → RefusedFrame old.had_header old.place (remaining old.feed) stop → IsReaderStop (failures old.feed) (failures new.feed) stop → new.state ≡ Stopped stop → new.place ≡ old.place
+      → RefusedBy (next_of old.had_header old.place) (has_passed old.feed) (has_passed new.feed) (remaining old.feed) (remaining new.feed) stop → IsReaderStop (failures old.feed) (failures new.feed) stop → new.state ≡ Stopped stop → new.place ≡ old.place
       → IsSeeingNext remaining failures lender has_passed old result new
   sees_stop old new result stop is keeps refused cause state place =
       subst (λ (r : Result (Option Seen) Stop). IsSeeingNext remaining failures lender has_passed old r new) (sym is) record {
         answer = Err stop;
         sees = refl;
         next = was_reading old new (Err stop) keeps.reading record {
-          gave = gave_stop old.had_header old.place (remaining old.feed) (verdict remaining new) stop refused;
+          gave = gave_stop old.had_header old.place (remaining old.feed) (remaining new.feed) (has_passed old.feed) (has_passed new.feed) (verdict remaining new) stop refused;
           went = tt;
           answers = (state, place);
           ended = tt;
@@ -112,6 +116,7 @@ module _ {F : Type 0} {remaining : F → Option (List ℕ)} {failures : F → �
           is_frame = tt;
           counts = keeps.counts;
           stops = cause;
+          refused = refused;
         };
       }
 

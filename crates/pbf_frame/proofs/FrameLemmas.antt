@@ -15,7 +15,7 @@ use Rattle.pbf_frame.specs.declared.header.TheConstants.{DATASIZE, HEADER_KINDS}
 use Rattle.pbf_frame.specs.Faults.{unless, ◌>>=◌}
 use Rattle.pbf_frame.specs.Header.{head_of, head_says, header_faults, name_of, kind_of, size_of, or_nothing}
 use Rattle.pbf_frame.specs.Frames.{FrameSpec, prefix_at, header_of, blob_of, frame_of, after_prefix, next_of}
-use Rattle.pbf_frame.specs.Reads.{Gives, GaveBlob, RefusedBlob, GaveFrame, GaveEnd, RefusedFrame, Holds}
+use Rattle.pbf_frame.specs.Reads.{Gives, GaveBlob, GaveFrame, GaveEnd, Holds}
 use Rattle.pbf_frame.specs.Sound.{IsFrame}
 use Rattle.pbf_frame.proofs.Passed.{passes_three}
 
@@ -52,7 +52,7 @@ after_none h p bytes = refl
 -- ---- the next frame from its parts
 
 module _ (h : Bool) (p : ℕ) (bytes : List ℕ) where
-  prefix_refused : (e : Fault) → prefix_at h p bytes ≡ Err e → next_of h p bytes ≡ Err e
+  pub prefix_refused : (e : Fault) → prefix_at h p bytes ≡ Err e → next_of h p bytes ≡ Err e
   prefix_refused e is = next_steps h p bytes ∙ ap (λ r. r >>= after_prefix h p) is
 
   prefix_none : (rest : List ℕ) → prefix_at h p bytes ≡ Ok (None, rest) → next_of h p bytes ≡ Ok (None, rest)
@@ -61,13 +61,13 @@ module _ (h : Bool) (p : ℕ) (bytes : List ℕ) where
   prefix_some : (prefix rest : List ℕ) → prefix_at h p bytes ≡ Ok (Some prefix, rest) → next_of h p bytes ≡ (header_of h p prefix rest >>= after_header p prefix >>= as_some)
   prefix_some prefix rest is = next_steps h p bytes ∙ ap (λ r. r >>= after_prefix h p) is ∙ after_some h p prefix rest ∙ ap (λ r. r >>= as_some) (frame_steps h p prefix rest)
 
-  header_refused : (prefix rest : List ℕ) (e : Fault) → prefix_at h p bytes ≡ Ok (Some prefix, rest) → header_of h p prefix rest ≡ Err e → next_of h p bytes ≡ Err e
+  pub header_refused : (prefix rest : List ℕ) (e : Fault) → prefix_at h p bytes ≡ Ok (Some prefix, rest) → header_of h p prefix rest ≡ Err e → next_of h p bytes ≡ Err e
   header_refused prefix rest e is then = prefix_some prefix rest is ∙ ap (λ r. r >>= after_header p prefix >>= as_some) then
 
   header_some : (prefix rest header left : List ℕ) (head : Head) → prefix_at h p bytes ≡ Ok (Some prefix, rest) → header_of h p prefix rest ≡ Ok ((header, head), left) → next_of h p bytes ≡ (blob_of head.kind head.size (p + 4 + length header) left >>= after_blob p prefix ((header, head), left) >>= as_some)
   header_some prefix rest header left head is then = prefix_some prefix rest is ∙ ap (λ r. r >>= after_header p prefix >>= as_some) then
 
-  blob_refused : (prefix rest header left : List ℕ) (head : Head) (e : Fault) → prefix_at h p bytes ≡ Ok (Some prefix, rest) → header_of h p prefix rest ≡ Ok ((header, head), left) → blob_of head.kind head.size (p + 4 + length header) left ≡ Err e → next_of h p bytes ≡ Err e
+  pub blob_refused : (prefix rest header left : List ℕ) (head : Head) (e : Fault) → prefix_at h p bytes ≡ Ok (Some prefix, rest) → header_of h p prefix rest ≡ Ok ((header, head), left) → blob_of head.kind head.size (p + 4 + length header) left ≡ Err e → next_of h p bytes ≡ Err e
   blob_refused prefix rest header left head e is then lastly = header_some prefix rest header left head is then ∙ ap (λ r. r >>= after_blob p prefix ((header, head), left) >>= as_some) lastly
 
   pub blob_some : (prefix rest header left blob last : List ℕ) (head : Head) → prefix_at h p bytes ≡ Ok (Some prefix, rest) → header_of h p prefix rest ≡ Ok ((header, head), left) → blob_of head.kind head.size (p + 4 + length header) left ≡ Ok (blob, last)
@@ -95,24 +95,17 @@ head_parts at header head e =
 
 -- ---- the same of a feed that may not tell its bytes
 
-abbrev GivesPrefix : Bool → ℕ → Option (List ℕ) → Option (List ℕ) → Result (Option (List ℕ)) Stop → Type 0
-GivesPrefix h p old new result = Gives (λ (o : Option (List ℕ)). o) old new result (prefix_at h p)
+abbrev GivesPrefix : Bool → ℕ → Option (List ℕ) → Option (List ℕ) → Option (List ℕ) → Type 0
+GivesPrefix h p old new o = Gives o old new (prefix_at h p)
 
-pub prefix_given : (h : Bool) (p : ℕ) (o to old new : Option (List ℕ)) → o ≡ to → GivesPrefix h p old new (Ok o) → GivesPrefix h p old new (Ok to)
-prefix_given h p o to old new is given = subst (λ (x : Option (List ℕ)). GivesPrefix h p old new (Ok x)) is given
+pub prefix_given : (h : Bool) (p : ℕ) (o to old new : Option (List ℕ)) → o ≡ to → GivesPrefix h p old new o → GivesPrefix h p old new to
+prefix_given h p o to old new is given = subst (λ (x : Option (List ℕ)). GivesPrefix h p old new x) is given
 
-abbrev GivesHeader : Bool → ℕ → List ℕ → List ℕ → Option (List ℕ) → Option (List ℕ) → Result Head Stop → Type 0
-GivesHeader h p prefix header old new result = Gives (λ (head : Head). (header, head)) old new result (header_of h p prefix)
+abbrev GivesHeader : Bool → ℕ → List ℕ → List ℕ → Option (List ℕ) → Option (List ℕ) → Head → Type 0
+GivesHeader h p prefix header old new head = Gives (header, head) old new (header_of h p prefix)
 
 module _ (h : Bool) (p : ℕ) where
-  pub refused_prefix : (old new : Option (List ℕ)) (stop : Stop) → GivesPrefix h p old new (Err stop) → RefusedFrame h p old stop
-  refused_prefix old new (Refused e) given = λ bytes is. prefix_refused h p bytes e (given bytes is)
-  refused_prefix old new Read given = tt
-  refused_prefix old new Write given = tt
-  refused_prefix old new Memory given = tt
-  refused_prefix old new (Changed pass) given = tt
-
-  pub gave_end : (before now : ℕ → List ℕ → Type 0) (old new : Option (List ℕ)) → GivesPrefix h p old new (Ok None) → (old ≡ None → new ≡ None) → IsAtEnd new → h ≡ true → ((log : ℕ) (b : List ℕ) → before log b → now log b) → GaveEnd h p before now old new
+  pub gave_end : (before now : ℕ → List ℕ → Type 0) (old new : Option (List ℕ)) → GivesPrefix h p old new None → (old ≡ None → new ≡ None) → IsAtEnd new → h ≡ true → ((log : ℕ) (b : List ℕ) → before log b → now log b) → GaveEnd h p before now old new
   gave_end before now old new given untold ended had passed = record {
     given = λ bytes is. let (rest, gives, left) = given bytes is in (rest, prefix_none h p bytes rest gives, left);
     untold = untold;
@@ -121,24 +114,7 @@ module _ (h : Bool) (p : ℕ) where
     passed = passed;
   }
 
-  pub refused_header : (prefix header : List ℕ) (old mid new : Option (List ℕ)) (stop : Stop) → GivesPrefix h p old mid (Ok (Some prefix)) → GivesHeader h p prefix header mid new (Err stop) → RefusedFrame h p old stop
-  refused_header prefix header old mid new (Refused e) given then = λ bytes is. let (rest, gives, left) = given bytes is in header_refused h p bytes prefix rest e gives (then rest left)
-  refused_header prefix header old mid new Read given then = tt
-  refused_header prefix header old mid new Write given then = tt
-  refused_header prefix header old mid new Memory given then = tt
-  refused_header prefix header old mid new (Changed pass) given then = tt
-
-  pub refused_blob : (prefix header : List ℕ) (head : Head) (old mid next : Option (List ℕ)) (stop : Stop) → GivesPrefix h p old mid (Ok (Some prefix)) → GivesHeader h p prefix header mid next (Ok head) → RefusedBlob head.kind head.size (p + 4 + length header) next stop → RefusedFrame h p old stop
-  refused_blob prefix header head old mid next (Refused e) given then lastly = λ bytes is.
-      let (rest, gives, left) = given bytes is in
-      let (more, gives_more, left_more) = then rest left in
-      blob_refused h p bytes prefix rest header more head e gives gives_more (lastly more left_more)
-  refused_blob prefix header head old mid next Read given then lastly = tt
-  refused_blob prefix header head old mid next Write given then lastly = tt
-  refused_blob prefix header head old mid next Memory given then lastly = tt
-  refused_blob prefix header head old mid next (Changed pass) given then lastly = tt
-
-  pub gave_frame : (prefix header held : List ℕ) (head : Head) (seen : Seen) (q0 q1 q2 q3 : ℕ → List ℕ → Type 0) (old mid next new : Option (List ℕ)) → GivesPrefix h p old mid (Ok (Some prefix)) → (old ≡ None → mid ≡ None) → GivesHeader h p prefix header mid next (Ok head) → (mid ≡ None → next ≡ None)
+  pub gave_frame : (prefix header held : List ℕ) (head : Head) (seen : Seen) (q0 q1 q2 q3 : ℕ → List ℕ → Type 0) (old mid next new : Option (List ℕ)) → GivesPrefix h p old mid (Some prefix) → (old ≡ None → mid ≡ None) → GivesHeader h p prefix header mid next head → (mid ≡ None → next ≡ None)
       → head_of (p + 4) header ≡ Ok head → (blob : GaveBlob head.kind head.size (p + 4 + length header) held q2 q3 next new)
       → IsFrame h p (record { offset = p; prefix = prefix; header = header; blob = blob.blob }) → Passes q0 prefix q1 → Passes q1 header q2
       → seen.offset ≡ p → seen.kind ≡ head.kind → seen.size ≡ head.size → seen.blob_at ≡ p + 4 + length header → GaveFrame h p header held seen q0 q3 old new

@@ -11,7 +11,7 @@ use Rattle.pbf_frame.specs.declared.stop.Stop.TheVariants.{Refused, Read, Write,
 use Rattle.pbf_frame.specs.Devices.{prepend, Passes}
 use Rattle.pbf_wire.specs.Faults.{fault}
 use Rattle.pbf_frame.specs.Frames.{bytes_at}
-use Rattle.pbf_frame.specs.Reads.{Skips, GaveBlob, RefusedBlob, IsSkipStop}
+use Rattle.pbf_frame.specs.Reads.{Skips, GaveBlob}
 use Rattle.pbf_frame.proofs.KnownBytes.{prepend_more}
 use Rattle.pbf_frame.proofs.Passed.{passes_more}
 
@@ -42,7 +42,7 @@ known_parts : (new : Option (List ℕ)) (b bytes : List ℕ) → Some bytes ≡ 
 known_parts None b bytes e = (let bad : ⊥ = cc in absurd bad)
 known_parts (Some rest) b bytes e = (rest, (let same : bytes ≡ b ++ rest = cc in same), refl)
 
-still_untold : (old new : Option (List ℕ)) (b : List ℕ) → old ≡ prepend b new → old ≡ None → new ≡ None
+pub still_untold : (old new : Option (List ℕ)) (b : List ℕ) → old ≡ prepend b new → old ≡ None → new ≡ None
 still_untold old None b e none = refl
 still_untold old (Some rest) b e none = (let bad : ⊥ = cc in absurd bad)
 
@@ -57,13 +57,3 @@ gave_skipped k size at held p q old new other skips empty = subst (λ (x : Frame
       (rest, ap (λ (l : List ℕ). bytes_at (fault at BlobCut) size l) parts ∙ bytes_at_front (fault at BlobCut) size skips.skipped rest skips.long, left);
   untold = still_untold old new skips.skipped skips.gone;
 }
-
-refused_other : (size at : ℕ) (old : Option (List ℕ)) (before now : ℕ) (stop : Stop) → IsSkipStop old size (fault at BlobCut) before now stop → RefusedBlob kind.Other size at old stop
-refused_other size at old before now (Refused e) is = λ bytes known. bytes_at_short (fault at BlobCut) size bytes (is.1 bytes known) ∙ ap Err (sym is.0)
-refused_other size at old before now Read is = tt
-refused_other size at old before now Write is = tt
-refused_other size at old before now Memory is = tt
-refused_other size at old before now (Changed pass) is = tt
-
-pub refused_skip : (k : FrameKind) (size at : ℕ) (old : Option (List ℕ)) (before now : ℕ) (stop : Stop) → k ≡ kind.Other → IsSkipStop old size (fault at BlobCut) before now stop → RefusedBlob k size at old stop
-refused_skip k size at old before now stop other is = subst (λ (x : FrameKind). RefusedBlob x size at old stop) (sym other) (refused_other size at old before now stop is)

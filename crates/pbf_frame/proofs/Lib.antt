@@ -11,5 +11,6 @@ pub mod VerdictLemmas
 pub mod Beginnings
 pub mod Longest
 pub mod Passing
+pub mod Refusing
 pub mod Putting
 pub mod ReadBack

@@ -58,7 +58,7 @@ next_is_frame h p bytes f rest e =
     let parts = next_parts h p bytes f rest e in
     subst (λ (n : ℕ). IsFrame h n f) parts.offset (frame_at h bytes f rest (subst (λ (n : ℕ). FrameParts h n bytes f rest) (sym parts.offset) parts))
 
-prefix_whole : (h : Bool) (p : ℕ) (prefix left : List ℕ) → length prefix ≡ 4 → big_number 4 prefix < HEADER_LIMIT → prefix_at h p (prefix ++ left) ≡ Ok (Some prefix, left)
+pub prefix_whole : (h : Bool) (p : ℕ) (prefix left : List ℕ) → length prefix ≡ 4 → big_number 4 prefix < HEADER_LIMIT → prefix_at h p (prefix ++ left) ≡ Ok (Some prefix, left)
 unfolding prefix_at
 prefix_whole h p prefix left long small =
     let some : (length (prefix ++ left) == 0) ≡ false = grind (arith, nat_tests, length-append prefix left, long) in

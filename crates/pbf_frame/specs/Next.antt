@@ -8,8 +8,9 @@ use Rattle.pbf_frame.specs.declared.reader.State.TheVariants.{Reading, Ended, St
 use Rattle.pbf_frame.specs.declared.stop.Stop.{Stop}
 use Rattle.pbf_frame.specs.declared.stop.Stop.TheVariants.{Refused, Read, Write, Memory, Changed}
 use Rattle.pbf_frame.specs.Devices.{IsAtEnd, Passes, prepend}
-use Rattle.pbf_frame.specs.Frames.{FrameSpec, is_header, frame_kind, frame_name, frame_bytes, frame_end, frame_payload, frame_payload_at}
+use Rattle.pbf_frame.specs.Frames.{FrameSpec, is_header, frame_kind, frame_name, frame_bytes, frame_end, frame_payload, frame_payload_at, next_of}
 use Rattle.pbf_frame.specs.Verdict.{Verdict, judged_known, with_first_known, Says}
+use Rattle.pbf_frame.specs.Refusals.{RefusedBy}
 use Rattle.pbf_frame.specs.Reads.{IsReaderStop, IsSeen}
 use Rattle.pbf_frame.specs.Sound.{IsFrame}
 
@@ -126,6 +127,7 @@ pub record Advances {F : Type 0} (remaining : F → Option (List ℕ)) (failures
   pub is_frame : IsFrameGiven old.had_header old.place answer
   pub counts : failures old.feed ≤ failures new.feed
   pub stops : IfErrOf answer (IsReaderStop (failures old.feed) (failures new.feed))
+  pub refused : IfErrOf answer (RefusedBy (next_of old.had_header old.place) (has_passed old.feed) (has_passed new.feed) (remaining old.feed) (remaining new.feed))
 
 -- a reader at its end stays there, and a spent one stays spent, and neither touches the feed
 abbrev pub IsNext : {F : Type 0} → (F → Option (List ℕ)) → (F → ℕ) → (F → List GName) → (F → ℕ → List ℕ → Type 0) → FrameReader F → Result (Option FrameSpec) Stop → FrameReader F → Type 0

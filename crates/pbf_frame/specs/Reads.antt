@@ -16,14 +16,9 @@ pub record Reads (old new : Option (List ℕ)) (n : ℕ) (read : List ℕ) : Typ
   pub front : (bytes : List ℕ) → old ≡ Some bytes → (read ≡ take n bytes) × (new ≡ Some (drop n bytes))
   pub untold : old ≡ None → new ≡ None
 
--- where the feed tells its bytes, the value seen by view is what f gives of them, and the feed is left at the bytes after it
-abbrev pub Gives : {X A : Type 0} → (X → A) → Option (List ℕ) → Option (List ℕ) → Result X Stop → (List ℕ → Result (A × List ℕ) Fault) → Type 0
-Gives view old new (Ok x) f = (bytes : List ℕ) → old ≡ Some bytes → (rest : List ℕ) × (f bytes ≡ Ok (view x, rest)) × (new ≡ Some rest)
-Gives view old new (Err (Refused e)) f = (bytes : List ℕ) → old ≡ Some bytes → f bytes ≡ Err e
-Gives view old new (Err Read) f = Unit {0}
-Gives view old new (Err Write) f = Unit {0}
-Gives view old new (Err Memory) f = Unit {0}
-Gives view old new (Err (Changed pass)) f = Unit {0}
+-- where the feed tells its bytes, this is what f gives of them, and the feed is left at the bytes after it
+abbrev pub Gives : {A : Type 0} → A → Option (List ℕ) → Option (List ℕ) → (List ℕ → Result (A × List ℕ) Fault) → Type 0
+Gives a old new f = (bytes : List ℕ) → old ≡ Some bytes → (rest : List ℕ) × (f bytes ≡ Ok (a, rest)) × (new ≡ Some rest)
 
 -- a call that only reads bytes stops for a failed read, or for want of memory
 abbrev pub IsFillStop : ℕ → ℕ → Stop → Type 0
@@ -71,26 +66,6 @@ pub record GaveBlob (kind : FrameKind) (size at : ℕ) (held : List ℕ) (before
   pub given : (bytes : List ℕ) → old ≡ Some bytes → (rest : List ℕ) × (blob_of kind size at bytes ≡ Ok (blob, rest)) × (new ≡ Some rest)
   pub untold : old ≡ None → new ≡ None
 
--- a blob of a known frame was refused
-abbrev pub RefusedBlob : FrameKind → ℕ → ℕ → Option (List ℕ) → Stop → Type 0
-RefusedBlob kind size at old (Refused e) = (bytes : List ℕ) → old ≡ Some bytes → blob_of kind size at bytes ≡ Err e
-RefusedBlob kind size at old Read = Unit {0}
-RefusedBlob kind size at old Write = Unit {0}
-RefusedBlob kind size at old Memory = Unit {0}
-RefusedBlob kind size at old (Changed pass) = Unit {0}
-
--- of the known bytes fewer than this many are left
-abbrev pub IsShort : Option (List ℕ) → ℕ → Type 0
-IsShort known count = (bytes : List ℕ) → known ≡ Some bytes → length bytes < count
-
--- a skipping call stops for a failed read, or, with this fault, where fewer bytes are left
-abbrev pub IsSkipStop : Option (List ℕ) → ℕ → Fault → ℕ → ℕ → Stop → Type 0
-IsSkipStop known count cut old new (Refused e) = (e ≡ cut) × IsShort known count
-IsSkipStop known count cut old new Read = HasRisen old new
-IsSkipStop known count cut old new Write = ⊥
-IsSkipStop known count cut old new Memory = ⊥
-IsSkipStop known count cut old new (Changed pass) = ⊥
-
 -- this frame of the file lies in the reader's buffers
 pub record IsSeen (header blob : List ℕ) (seen : Seen) (f : FrameSpec) : Type 0 where
   pub offset : seen.offset ≡ f.offset
@@ -121,10 +96,3 @@ pub record GaveEnd (had_header : Bool) (place : ℕ) (before now : ℕ → List 
   pub end : IsAtEnd new
   pub passed : (log : ℕ) (b : List ℕ) → before log b → now log b
   pub header_given : had_header ≡ true
-
-abbrev pub RefusedFrame : Bool → ℕ → Option (List ℕ) → Stop → Type 0
-RefusedFrame had_header place old (Refused e) = (bytes : List ℕ) → old ≡ Some bytes → next_of had_header place bytes ≡ Err e
-RefusedFrame had_header place old Read = Unit {0}
-RefusedFrame had_header place old Write = Unit {0}
-RefusedFrame had_header place old Memory = Unit {0}
-RefusedFrame had_header place old (Changed pass) = Unit {0}

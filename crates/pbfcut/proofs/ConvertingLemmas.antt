@@ -40,10 +40,6 @@ held_is (Some header) pass h = of pass.header h.0 ∙ ap (λ (n : ℕ). let p : 
 
 -- ---- the verdict, and the limit of the header
 
-pub limited_sound : (known : Option Verdict) (frames : List FrameSpec) → Says known (frames, None) → header_limit (file_header frames) ≡ None → Says (option_map limited known) (frames, None)
-limited_sound None frames says within = tt
-limited_sound (Some v) frames says within = ap limited says ∙ ap (λ (o : Option Fault). with_limit o frames) within
-
 pub limited_fault : (known : Option Verdict) (frames : List FrameSpec) (e : Fault) → Says known (frames, Some e) → Says (option_map limited known) (frames, Some e)
 limited_fault None frames e says = tt
 limited_fault (Some v) frames e says = ap limited says
@@ -55,9 +51,6 @@ limited_limit (Some v) frames e says limit = ap limited says ∙ ap (λ (o : Opt
 -- a header that can't be written is refused
 pub limit_refused : {S : Type 0} (gathered : S → EntitySpec → S) (before now : S) (known : Option Verdict) (pass : Pass) (e : Fault) → TakesFile gathered known before now pass → header_limit (held_header pass) ≡ Some e → FaultOf (option_map limited known) e
 limit_refused gathered before now known pass e p limit = ([], limited_limit known p.frames e p.says (ap header_limit (sym (held_is (file_header p.frames) pass p.header)) ∙ limit))
-
-pub can_be_converted : {S : Type 0} (gathered : S → EntitySpec → S) (before now : S) (known : Option Verdict) (pass : Pass) → TakesFile gathered known before now pass → header_limit (held_header pass) ≡ None → CanBeWritten (option_map limited known)
-can_be_converted gathered before now known pass p within = (p.frames, limited_sound known p.frames p.says (ap header_limit (sym (held_is (file_header p.frames) pass p.header)) ∙ within))
 
 -- nothing went out
 pub nothing_out : (old : Option (List ℕ)) (whole : List ℕ) → IsFront old old whole

@@ -28,7 +28,7 @@ use Rattle.pbf_frame.proofs.Parting.{none_some}
 use Rattle.pbf_block.specs.declared.counts.Counts.{Counts}
 use Rattle.pbfcut.specs.declared.pass.Pass.{Pass}
 use Rattle.pbfcut.specs.declared.pick.Selection.TheVariants as selection
-use Rattle.pbfcut.specs.Converting.{header_limit, limited, judged_writable, held_header, CanBeWritten}
+use Rattle.pbfcut.specs.Converting.{header_limit, judged_writable, held_header}
 use Rattle.pbfcut.specs.Counting.{counts_of, stored_entities}
 use Rattle.pbfcut.specs.Calls.{Extracted, Differ, ChangedIn, ChangedBefore, RefusedFirst, ConvertStops, ExtractStops, ParentsStops}
 use Rattle.pbfcut.specs.Extracting.{Choice, complete_ways, all_parents, extraction, extract_bytes, Chooses, ChoosesParents}
@@ -41,7 +41,7 @@ use Rattle.pbfcut.specs.Repeat.{GathersAgain, Unlike, StopsAgain, SameDigest}
 use Rattle.pbfcut.specs.Stops.{Caused}
 use Rattle.pbfcut.specs.Judged.{judged_file}
 use Rattle.pbfcut.specs.Pick.{Pick, picked_by, picked_with_parents, pick_of, Packed, PacksFront}
-use Rattle.pbfcut.proofs.ConvertingLemmas.{held_is, limited_sound, judged_sound, same_frames, known_says}
+use Rattle.pbfcut.proofs.ConvertingLemmas.{held_is, judged_sound, same_frames, known_says}
 
 -- ---- what was chosen
 

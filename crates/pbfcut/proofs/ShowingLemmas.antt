@@ -16,9 +16,7 @@ use Rattle.pbf_frame.specs.declared.reader.FrameReader.{FrameReader}
 use Rattle.pbf_frame.specs.declared.stop.Stop.{Stop}
 use Rattle.pbf_frame.specs.Next.{Gave, verdict}
 use Rattle.pbf_frame.specs.Reads.{IsReaderStop}
-use Rattle.pbf_block.specs.declared.counts.Counts.{Counts}
 use Rattle.pbfcut.specs.Judged.{payload_fault, fully_known, judged_file}
-use Rattle.pbfcut.specs.Pass.{CountsFile}
 use Rattle.pbfcut.specs.Showing.{frame_text, file_text, answer_text, Shown, ShowsFront, StopsShowing, StoppedInPayload}
 use Rattle.pbfcut.specs.Stops.{Caused, Only, unchanged}
 use Rattle.pbf_frame.proofs.Beginnings.{front_whole, front_longer, front_then}
@@ -61,9 +59,6 @@ pub shown_front : (dates : Bool) (known : Option Verdict) (old new : Option (Lis
 shown_front dates known old new written s taken all is =
     subst (λ (v : Verdict). IsFront old new (answer_text dates v)) (sym (subst (λ (k : Option Verdict). Says k (s.frames, None)) is s.says))
     (front_whole old new (file_text dates s.frames) (taken ∙ ap (append old) s.is))
-
-pub counts_told : (known : Option (List ℕ)) (file : List ℕ) (counts : Counts) → Tells known file → CountsFile (judged_file (Some file)) counts → CountsFile (judged_file known) counts
-counts_told known file counts tells c = (c.0, says_told known file (c.0, None) tells c.1, c.2)
 
 -- one entity more is done
 pub entities_more : (done left rest all : List EntitySpec) (e : EntitySpec) → left ≡ e ∷ rest → done ++ left ≡ all → (done ++ e ∷ []) ++ rest ≡ all

@@ -1,4 +1,4 @@
-use Rattle.std.proofs.Common.{◌≡◌, ◌≤◌, ◌-◌, ℕ, List, length, take}
+use Rattle.std.proofs.Common.{◌≡◌, ◌≤◌, ◌-◌, length, take}
 use Rattle.pbf_frame.specs.Devices.{prepend, Passes}
 use Rattle.pbf_frame.proofs.transfer.fill.Given as goal
 
