@@ -409,8 +409,7 @@ def digests(bench: Bench):
         bench.case(f"digests of {words}", words, given=THREE_DENSE, stdout=shown, out=out)
     bench.case("digest of a pipe", ["check", "--digests", "in"], fifo=(THREE_DENSE, 1),
                stdout=counted(3, 0, 0) + digest(THREE_DENSE, b"in"))
-    bench.case("no digest of a file that is refused", ["check", "--digests", "in"], given=THREE_DENSE + b"\x00", status=1,
-               stderr=told(f"refused at {len(THREE_DENSE)}: 10 PrefixCut"))
+    refused_with_digest(bench)
     for command in ["blobs", "show"]:
         bench.case(f"no digests of {command}", [command, "--digests", "in"], given=THREE_DENSE, status=2,
                    stderr=lambda text: b"'--digests'" in text)
@@ -418,6 +417,24 @@ def digests(bench: Bench):
         bench.case(f"digest of a file of the name {name}", ["check", "--digests", name], files={name.decode(): THREE_DENSE},
                    stdout=counted(3, 0, 0) + digest(THREE_DENSE, name))
     checked_by_sha256sum(bench)
+
+
+def refused_with_digest(bench: Bench):
+    """Before the refusal, how many bytes were read and their digest: up to the end of what is at fault, whatever stands after it."""
+    unknown_text = hexed("00 00 00 0b 0a 07 4f 53 4d 44 61 74 61 18 12 0a 10 0a 02 0a 00 12 0a 1a 08 08 01 12 01 05 1a 01 00")
+    first = len(EMPTY_HEADER)
+    for given, read, fault in [
+        (b"", 0, "0: 22 NoHeader"),
+        (THREE_DENSE + b"\x00", len(THREE_DENSE) + 1, f"{len(THREE_DENSE)}: 10 PrefixCut"),
+        (EMPTY_HEADER + b"\xff" * 9, first + 4, f"{first}: 11 HeaderLong"),
+        (EMPTY_HEADER * 3, first + 4 + 13, f"{first}: 23 SecondHeader"),
+        (EMPTY_HEADER + unknown_text + b"more", first + len(unknown_text), "46: 31 StringIndex"),
+    ]:
+        sum_line = digest(given[:read], f"first {read} bytes of in".encode())
+        for words in [["check"], ["convert"], ["extract", BOX], ["extract", "--parents", BOX]]:
+            out = [] if words == ["check"] else ["out"]
+            bench.case(f"{words} --digests, refused at {fault}", [*words, "--digests", "in", *out], given=given, status=1,
+                       stderr=sum_line + told(f"refused at {fault}"), out=b"" if out else None)
 
 
 def checked_by_sha256sum(bench: Bench):

@@ -42,16 +42,17 @@ refuses_more first then before mid now old between new read told passed step ref
   faulty (inr (ended, is)) = inr (ended, step refuses.read is)
 
 -- judged otherwise, they are at fault too
-pub refuses_as : (first then : List ℕ → Type 0) (before now : ℕ → List ℕ → Type 0) (old new : Option (List ℕ)) → ((bytes : List ℕ) → then bytes → first bytes) → Refuses then before now old new → Refuses first before now old new
+pub faulty_as : (first then : List ℕ → Type 0) (read : List ℕ) (left : Option (List ℕ)) → ((bytes : List ℕ) → then bytes → first bytes) → (((rest : List ℕ) → then (read ++ rest)) ⊎ (IsAtEnd left × then read)) → (((rest : List ℕ) → first (read ++ rest)) ⊎ (IsAtEnd left × first read))
+faulty_as first then read left step (inl always) = inl (λ rest. step (read ++ rest) (always rest))
+faulty_as first then read left step (inr (ended, is)) = inr (ended, step read is)
+
+refuses_as : (first then : List ℕ → Type 0) (before now : ℕ → List ℕ → Type 0) (old new : Option (List ℕ)) → ((bytes : List ℕ) → then bytes → first bytes) → Refuses then before now old new → Refuses first before now old new
 refuses_as first then before now old new step refuses = record {
   read = refuses.read;
   told = refuses.told;
   logged = refuses.logged;
-  faulty = faulty refuses.faulty;
-} where
-  faulty : (((rest : List ℕ) → then (refuses.read ++ rest)) ⊎ (IsAtEnd new × then refuses.read)) → (((rest : List ℕ) → first (refuses.read ++ rest)) ⊎ (IsAtEnd new × first refuses.read))
-  faulty (inl always) = inl (λ rest. step (refuses.read ++ rest) (always rest))
-  faulty (inr (ended, is)) = inr (ended, step refuses.read is)
+  faulty = faulty_as first then refuses.read new step refuses.faulty;
+}
 
 -- where the feed tells its bytes, these are at fault
 pub refused_told : (at_fault : List ℕ → Type 0) (before now : ℕ → List ℕ → Type 0) (old new : Option (List ℕ)) (bytes : List ℕ) → Refuses at_fault before now old new → old ≡ Some bytes → at_fault bytes
@@ -169,9 +170,9 @@ module _ (h : Bool) (p : ℕ) (before : ℕ → List ℕ → Type 0) (old : Opti
         → least (order_faults h p head.kind (p + 4 + length header + head.size)) ≡ None → RefusedBy (blob_of head.kind head.size (p + 4 + length header)) next now left new stop → RefusedBy (next_of h p) before now old new stop
     refused_blob next now left new header head told passed spelled says ordered refused =
         refused_more (next_of h p) (blob_of head.kind head.size (p + 4 + length header)) before next now old left new (prefix ++ header) stop (prepend_more old between left prefix header first.told told) (passes_more before mid next prefix header first.logged passed) step refused where
-      parts : (b : List ℕ) → HeaderParts h p prefix (header ++ b) header b head
-      parts b = record { split = refl; long = spelled; says = says; ordered = ordered }
+          parts : (b : List ℕ) → HeaderParts h p prefix (header ++ b) header b head
+          parts b = record { split = refl; long = spelled; says = says; ordered = ordered }
 
-      step : (b : List ℕ) (e : Fault) → blob_of head.kind head.size (p + 4 + length header) b ≡ Err e → next_of h p ((prefix ++ header) ++ b) ≡ Err e
-      step b e is = ap (λ (l : List ℕ). next_of h p l) (append_assoc prefix header b)
-          ∙ blob_refused h p (prefix ++ (header ++ b)) prefix (header ++ b) header b head e (prefix_whole h p prefix (header ++ b) first.long first.small) (header_whole h p prefix (header ++ b) header b head (parts b)) is
+          step : (b : List ℕ) (e : Fault) → blob_of head.kind head.size (p + 4 + length header) b ≡ Err e → next_of h p ((prefix ++ header) ++ b) ≡ Err e
+          step b e is = ap (λ (l : List ℕ). next_of h p l) (append_assoc prefix header b)
+              ∙ blob_refused h p (prefix ++ (header ++ b)) prefix (header ++ b) header b head e (prefix_whole h p prefix (header ++ b) first.long first.small) (header_whole h p prefix (header ++ b) header b head (parts b)) is

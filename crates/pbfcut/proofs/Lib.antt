@@ -11,3 +11,4 @@ pub mod ConvertingLemmas
 pub mod ExtractingLemmas
 pub mod KeptLaw
 pub mod NodeLemmas
+pub mod HaltingLemmas

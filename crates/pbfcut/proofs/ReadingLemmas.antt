@@ -1,24 +1,31 @@
 -- The frames that a loop read, and at its end the bytes that the feed gave.
-use Rattle.std.proofs.Common.{◌≡◌, ℕ, Bool, true, List, [], ◌∷◌, ◌++◌, ◌||◌, Option, Some, None, Ok, refl, sym, ap, ◌∙◌, subst, append_assoc}
+use Rattle.std.proofs.Common.{◌≡◌, ◌⊎◌, inl, inr, ℕ, Bool, true, List, [], ◌∷◌, ◌++◌, ◌||◌, Option, Some, None, Ok, Err, refl, sym, ap, ◌∙◌, subst, append_assoc}
 use Rattle.std.specs.Option.{option_map}
 use Rattle.std.proofs.lemmas.List.{append-nil}
 use Rattle.pbf_frame.specs.declared.device.Feed as feed
+use Rattle.pbf_wire.specs.declared.fault.Fault.{Fault}
 use Rattle.pbf_frame.specs.declared.reader.FrameReader.{FrameReader}
+use Rattle.pbf_frame.specs.declared.stop.Stop.{Stop}
+use Rattle.pbf_frame.specs.declared.stop.Stop.TheVariants as why
+use Rattle.pbf_frame.specs.Refusals.{Refuses}
 use Rattle.pbf_frame.specs.Devices.{prepend, Passes, IsAtEnd}
 use Rattle.pbf_frame.specs.Frames.{FrameSpec, is_header, frame_kind, frame_end, frame_bytes, prefix_at, after_prefix, next_of}
 use Rattle.pbf_frame.specs.Next.{place_of, had_header_of}
 use Rattle.pbf_frame.specs.Sound.{IsFrame}
 use Rattle.pbf_frame.specs.Transfers.{Supplied}
 use Rattle.pbf_frame.specs.Verdict.{Verdict, judged, judged_after, judged_known, with_first_known, with_all, joined, Gone, Says}
-use Rattle.pbf_frame.proofs.Judging.{judged_some, judged_step}
+use Rattle.pbf_frame.proofs.Judging.{judged_some, judged_step, gave_fault}
 use Rattle.pbf_frame.proofs.KnownBytes.{prepend_none, prepend_more}
 use Rattle.pbf_frame.proofs.Longest.{frame_is_next}
+use Rattle.pbf_frame.proofs.Refusing.{refuses_more}
 use Rattle.pbf_frame.proofs.Parting.{some_same}
 use Rattle.pbf_frame.proofs.Passed.{passes_none, passes_more, passes_same}
 use Rattle.pbf_frame.proofs.VerdictLemmas.{gone_more}
 use Rattle.pbfcut.specs.Given.{GaveRest, judged_from}
 use Rattle.pbfcut.specs.Judged.{payload_fault, fully}
-use Rattle.pbfcut.proofs.StepLemmas.{GaveOne, GaveNone, fully_first}
+use Rattle.pbfcut.specs.Refused.{RefusesRest}
+use Rattle.pbfcut.specs.Stops.{FaultOf}
+use Rattle.pbfcut.proofs.StepLemmas.{GaveOne, GaveNone, RefusedStep, fully_first, gone_fault, gone_payload}
 
 joined_one : (frames : List FrameSpec) (f : FrameSpec) → joined (frames ++ f ∷ []) ≡ joined frames ++ frame_bytes f
 joined_one [] f = append-nil (frame_bytes f)
@@ -89,3 +96,36 @@ module _ {F : Type 0} (g : feed.Ghosts F) where
         holding = holding (judged_from (had_header_of first) (place_of first) (joined frames))
             (ap (λ (l : List ℕ). fully (judged (had_header_of first) (place_of first) l)) (sym (append-nil (joined frames))) ∙ whole ∙ ap (λ (l : List FrameSpec). let v : Verdict = (l, None) in v) (append-nil frames));
       }
+
+  -- the bytes of these frames, and those of what is refused behind them
+  pub has_read_refused : (first mid now : FrameReader F) (frames : List FrameSpec) (stop : Stop) → HasRead g first frames mid → RefusedStep g mid now stop → RefusesRest g first now stop
+  has_read_refused first mid now frames (why.Refused e) so_far refused = of refused where
+    judge : List ℕ → Type 0
+    judge b = FaultOf (judged_from (had_header_of first) (place_of first) b) e
+
+    by_reader : (b : List ℕ) → next_of (had_header_of mid) (place_of mid) b ≡ Err e → judge (joined frames ++ b)
+    by_reader b is = (
+      frames,
+      gone_fault (judged_from (had_header_of first) (place_of first) (joined frames ++ b)) frames (judged_known (had_header_of mid) (place_of mid) (Some b)) e (so_far.gone b)
+          (gave_fault (had_header_of mid) (place_of mid) (Some b) e (λ bytes same. subst (λ (l : List ℕ). next_of (had_header_of mid) (place_of mid) l ≡ Err e) (some_same _ _ same) is)),
+    )
+
+    by_payload : (f : FrameSpec) → GaveOne g mid now f → payload_fault f ≡ Some e → (rest : List ℕ) → judge ((joined frames ++ frame_bytes f) ++ rest)
+    by_payload f gave fault rest = subst judge (sym (append_assoc (joined frames) (frame_bytes f) rest)) (
+      frames,
+      gone_payload (judged_from (had_header_of first) (place_of first) (joined frames ++ (frame_bytes f ++ rest))) frames (judged_known (had_header_of mid) (place_of mid) (Some (frame_bytes f ++ rest)))
+          (judged_known (had_header_of mid || is_header (frame_kind f)) (frame_end f) (Some rest)) f e (so_far.gone (frame_bytes f ++ rest)) (ap Some (judged_some (had_header_of mid) (place_of mid) (frame_bytes f ++ rest) f rest (frame_is_next (had_header_of mid) (place_of mid) f rest gave.is_frame))) fault,
+    )
+
+    of : RefusedStep g mid now (why.Refused e) → RefusesRest g first now (why.Refused e)
+    of (inl refuses) = refuses_more judge (λ b. next_of (had_header_of mid) (place_of mid) b ≡ Err e) (g.has_passed first.feed) (g.has_passed mid.feed) (g.has_passed now.feed) (g.remaining first.feed) (g.remaining mid.feed) (g.remaining now.feed) (joined frames) so_far.told so_far.logged by_reader refuses
+    of (inr (f, gave, fault)) = record {
+      read = joined frames ++ frame_bytes f;
+      told = prepend_more _ _ _ (joined frames) (frame_bytes f) so_far.told gave.told;
+      logged = passes_more (g.has_passed first.feed) (g.has_passed mid.feed) (g.has_passed now.feed) (joined frames) (frame_bytes f) so_far.logged gave.logged;
+      faulty = inl (by_payload f gave fault);
+    }
+  has_read_refused first mid now frames why.Read so_far refused = tt
+  has_read_refused first mid now frames why.Write so_far refused = tt
+  has_read_refused first mid now frames why.Memory so_far refused = tt
+  has_read_refused first mid now frames (why.Changed n) so_far refused = tt

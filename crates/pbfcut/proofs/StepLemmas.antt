@@ -16,7 +16,8 @@ use Rattle.pbf_frame.specs.declared.reader.FrameReader.{FrameReader}
 use Rattle.pbf_frame.specs.declared.stop.Stop.{Stop}
 use Rattle.pbf_frame.specs.declared.stop.Stop.TheVariants as why
 use Rattle.pbf_frame.specs.Devices.{IsAtEnd, HasRisen, Passes, prepend}
-use Rattle.pbf_frame.specs.Frames.{FrameSpec, is_header, frame_kind, frame_end, frame_bytes, frame_payload, frame_payload_at}
+use Rattle.pbf_frame.specs.Frames.{FrameSpec, is_header, frame_kind, frame_end, frame_bytes, frame_payload, frame_payload_at, next_of}
+use Rattle.pbf_frame.specs.Refusals.{Refuses, RefusedBy}
 use Rattle.pbf_frame.specs.Next.{Advances, Gave, IsReading, place_of, had_header_of, verdict}
 use Rattle.pbf_frame.specs.Sound.{IsFrame}
 use Rattle.pbf_frame.specs.Reads.{IsReaderStop}
@@ -96,6 +97,16 @@ pub record StoppedStep {F : Type 0} (g : feed.Ghosts F) (old new : FrameReader F
   pub where_it_stopped : (Gave (verdict g.remaining old) (Err stop) (verdict g.remaining new) × IsReaderStop (g.failures old.feed) (g.failures new.feed) stop × same)
       ⊎ ((f : FrameSpec) × (verdict g.remaining old ≡ with_first_known f (verdict g.remaining new)) × failed f stop)
 
+-- a refusal came from the reader, or the frame that it gave has a payload with this fault
+abbrev pub RefusedStep : {F : Type 0} → feed.Ghosts F → (old new : FrameReader F) → Stop → Type 0
+RefusedStep g old new (why.Refused e) =
+    Refuses (λ b. next_of (had_header_of old) (place_of old) b ≡ Err e) (g.has_passed old.feed) (g.has_passed new.feed) (g.remaining old.feed) (g.remaining new.feed)
+    ⊎ ((f : FrameSpec) × GaveOne g old new f × (payload_fault f ≡ Some e))
+RefusedStep g old new why.Read = Unit {0}
+RefusedStep g old new why.Write = Unit {0}
+RefusedStep g old new why.Memory = Unit {0}
+RefusedStep g old new (why.Changed n) = Unit {0}
+
 other : (r : Result Bool Stop) → r ≡ Ok true → r ≡ Ok false → ⊥
 other r e f = cc
 
@@ -106,19 +117,28 @@ same_stop : (s t : Stop) (r : Result Bool Stop) → r ≡ Err s → r ≡ Err t 
 same_stop s t r e f = cc
 
 -- the fault that comes behind the frames done
-gone_fault : (first : Option Verdict) (frames : List FrameSpec) (known : Option Verdict) (e : Fault) → Gone first frames (fully_known known) → Says known ([], Some e) → Says first (frames, Some e)
+pub gone_fault : (first : Option Verdict) (frames : List FrameSpec) (known : Option Verdict) (e : Fault) → Gone first frames (fully_known known) → Says known ([], Some e) → Says first (frames, Some e)
 gone_fault first frames None e gone says = subst (λ (k : Option Verdict). Says k (frames, Some e)) (sym gone) tt
 gone_fault first frames (Some v) e gone says =
     subst (λ (k : Option Verdict). Says k (frames, Some e)) (sym gone) (ap (λ (v : Verdict). with_all frames (fully v)) says ∙ ap (λ (l : List FrameSpec). (l, Some e)) (append-nil frames))
 
 -- the fault of the payload of the next frame
-gone_payload : (first : Option Verdict) (frames : List FrameSpec) (known rest : Option Verdict) (f : FrameSpec) (e : Fault) → Gone first frames (fully_known known) → known ≡ with_first_known f rest → payload_fault f ≡ Some e → Says first (frames, Some e)
+pub gone_payload : (first : Option Verdict) (frames : List FrameSpec) (known rest : Option Verdict) (f : FrameSpec) (e : Fault) → Gone first frames (fully_known known) → known ≡ with_first_known f rest → payload_fault f ≡ Some e → Says first (frames, Some e)
 gone_payload first frames known rest f e gone is fault = subst (λ (k : Option Verdict). Says k (frames, Some e)) (sym (gone ∙ ap (λ (k : Option Verdict). option_map (with_all frames) (fully_known k)) is)) (of rest) where
   of : (rest : Option Verdict) → Says (option_map (with_all frames) (fully_known (with_first_known f rest))) (frames, Some e)
   of None = tt
   of (Some v) = ap (λ (o : Option Fault). with_all frames (sound_first o f (fully v))) fault ∙ ap (λ (l : List FrameSpec). (l, Some e)) (append-nil frames)
 
 module _ {F : Type 0} (g : feed.Ghosts F) (old new : FrameReader F) (took : FrameSpec → Type 0) (failed : FrameSpec → Stop → Type 0) (same : Type 0) where
+  gave_one : (f : FrameSpec) → Advances g.remaining g.failures g.lender g.has_passed old (Ok (Some f)) new → GaveOne g old new f
+  gave_one f a = record {
+    told = a.went;
+    logged = a.passed;
+    is_frame = a.is_frame;
+    had_header = a.answers.4;
+    place = a.answers.2;
+  }
+
   went_on : (answer : Result (Option FrameSpec) Stop) → Advances g.remaining g.failures g.lender g.has_passed old answer new → Follows took failed same answer (Ok true) → TookOne g old new took
   went_on (Ok (Some f)) a t = record {
     frame = f;
@@ -126,13 +146,7 @@ module _ {F : Type 0} (g : feed.Ghosts F) (old new : FrameReader F) (took : Fram
     taken = t;
     reading = a.answers.0;
     rises = a.answers.3;
-    gave = record {
-      told = a.went;
-      logged = a.passed;
-      is_frame = a.is_frame;
-      had_header = a.answers.4;
-      place = a.answers.2;
-    };
+    gave = gave_one f a;
     keeps = record { counts = a.counts; lender = a.same_lender };
   }
   went_on (Ok None) a t = absurd (other _ refl t.0)
@@ -172,6 +186,27 @@ module _ {F : Type 0} (g : feed.Ghosts F) (old new : FrameReader F) (took : Fram
           t.1,
         );
       }
+
+  refused_at : (stop : Stop) (answer : Result (Option FrameSpec) Stop) → ((f : FrameSpec) (e : Fault) → failed f (why.Refused e) → payload_fault f ≡ Some e)
+      → Advances g.remaining g.failures g.lender g.has_passed old answer new → Follows took failed same answer (Err stop) → RefusedStep g old new stop
+  refused_at stop (Ok (Some f)) cause a t = at_frame stop t where
+    at_frame : (s : Stop) → failed f s → RefusedStep g old new s
+    at_frame (why.Refused e) h = inr (f, gave_one f a, cause f e h)
+    at_frame why.Read h = tt
+    at_frame why.Write h = tt
+    at_frame why.Memory h = tt
+    at_frame (why.Changed n) h = tt
+  refused_at stop (Ok None) cause a t = absurd (no_stop false stop _ t.0 refl)
+  refused_at stop (Err s) cause a t = subst (λ (x : Stop). RefusedStep g old new x) (same_stop s stop _ t.0 refl) (by_reader s a.refused) where
+    by_reader : (s : Stop) → RefusedBy (next_of (had_header_of old) (place_of old)) (g.has_passed old.feed) (g.has_passed new.feed) (g.remaining old.feed) (g.remaining new.feed) s → RefusedStep g old new s
+    by_reader (why.Refused e) r = inl r
+    by_reader why.Read r = tt
+    by_reader why.Write r = tt
+    by_reader why.Memory r = tt
+    by_reader (why.Changed n) r = tt
+
+  pub refused_step : (stop : Stop) → ((f : FrameSpec) (e : Fault) → failed f (why.Refused e) → payload_fault f ≡ Some e) → IsReading old → IsStep g old new took failed same (Err stop) → RefusedStep g old new stop
+  refused_step stop cause reading s = refused_at stop s.answer cause (s.next.0 reading) s.follows
 
   pub stopped_step : (stop : Stop) → IsReading old → IsStep g old new took failed same (Err stop) → StoppedStep g old new failed same stop
   stopped_step stop reading s = stopped_at stop s.answer (s.next.0 reading) s.follows

@@ -8,6 +8,7 @@ pub mod Pick
 pub mod Repeat
 pub mod Hashing
 pub mod Given
+pub mod Refused
 pub mod Showing
 pub mod Converting
 pub mod Extracting

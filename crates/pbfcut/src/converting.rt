@@ -6,6 +6,7 @@ ghost use Rattle.pbfcut.specs.Calls.{BothSupply, Converted, ConvertStops};
 ghost use Rattle.pbfcut.specs.Converting.{CanBeWritten, judged_writable};
 ghost use Rattle.pbfcut.specs.Given.{GaveFile, Took, TookFile};
 ghost use Rattle.pbfcut.specs.Kept.{IsWritable, conversion_of};
+ghost use Rattle.pbfcut.specs.Refused.{HaltsFile, stop_of};
 ghost use Rattle.pbfcut.specs.Repeat.{SameDigest};
 ghost use Rattle.pbfcut.specs.Stops.{KeepsDrain, ReadFailed, WriteFailed};
 
@@ -13,7 +14,7 @@ use crate::hashed::HashedDrain;
 use crate::header_limit::writable_header;
 use crate::pass::{Nothing, judge};
 use crate::pick::{Selection, Writing};
-use crate::receipt::{InputReceipt, Receipt};
+use crate::receipt::{Halt, InputReceipt, Receipt};
 use crate::repeat::Repeat;
 use pbf_block::Counts;
 use pbf_frame::{Drain, Feed, Stop};
@@ -60,14 +61,16 @@ pub fn convert_with_receipt<F: Feed, G: Feed, D: Drain, S: BuildHasher + Drop>(
     second: &mut G,
     drain: &mut D,
     hasher: S,
-) -> Result<Receipt, Stop>
+) -> Result<Receipt, Halt>
     // Each feed gave a file of the digest `input`, to its end; the first has no fault, and its header can be written. The drain took
     // bytes of the digest `output`. Where both files are one, these bytes are exactly its conversion, and the counts are its.
     ensures receipt { IfOk result (λ receipt. GaveFile F.Feed first.old first.new receipt.input (λ b. IsWritable b
         × GaveFile G.Feed second.old second.new receipt.input (λ c. TookFile D.Drain drain.old drain.new receipt.output
         (λ written. b ≡ c → Converted b receipt.counts written)))) }
-    ensures stops { IfErr result (ConvertStops (F.remaining first.old) (G.remaining second.old) (D.taken drain.old) (D.taken drain.new)
-        (ReadFailed F.Feed first.old first.new ⊎ ReadFailed G.Feed second.old second.new) (WriteFailed D.Drain drain.old drain.new)) }
+    // The first feed gave as many bytes of this digest, the fault is the first of whatever begins so, and the drain took nothing.
+    ensures refused { IfErr result (HaltsFile F.Feed first.old first.new D.Drain drain.old drain.new (λ b. judged_writable (Some b))) }
+    ensures stops { IfErr result (λ h. ConvertStops (F.remaining first.old) (G.remaining second.old) (D.taken drain.old) (D.taken drain.new)
+        (ReadFailed F.Feed first.old first.new ⊎ ReadFailed G.Feed second.old second.new) (WriteFailed D.Drain drain.old drain.new) (stop_of h)) }
     // Whatever stopped it, where both feeds supply these bytes a prefix of their conversion went out, and nothing where they have a fault.
     ensures beginning { OnErr result ((b : List ℕ) → BothSupply b (F.remaining first.old) (G.remaining second.old) → IsFront (D.taken drain.old) (D.taken drain.new) (conversion_of b)) }
 {
@@ -91,18 +94,19 @@ fn convert_file<F: Feed, G: Feed, D: Drain, S: BuildHasher + Drop>(
     second: &mut G,
     drain: &mut D,
     hasher: S,
-) -> Result<InputReceipt, Stop>
+) -> Result<InputReceipt, Halt>
     ensures given { IfOk result (λ receipt. GaveFile F.Feed first.old first.new receipt.input (λ b. IsWritable b
         × GaveFile G.Feed second.old second.new receipt.input (λ c. Took D.Drain drain.old drain.new
         (λ written. b ≡ c → Converted b receipt.counts written)))) }
-    ensures stops { IfErr result (ConvertStops (F.remaining first.old) (G.remaining second.old) (D.taken drain.old) (D.taken drain.new)
-        (ReadFailed F.Feed first.old first.new ⊎ ReadFailed G.Feed second.old second.new) (WriteFailed D.Drain drain.old drain.new)) }
+    ensures refused { IfErr result (HaltsFile F.Feed first.old first.new D.Drain drain.old drain.new (λ b. judged_writable (Some b))) }
+    ensures stops { IfErr result (λ h. ConvertStops (F.remaining first.old) (G.remaining second.old) (D.taken drain.old) (D.taken drain.new)
+        (ReadFailed F.Feed first.old first.new ⊎ ReadFailed G.Feed second.old second.new) (WriteFailed D.Drain drain.old drain.new) (stop_of h)) }
     ensures beginning { OnErr result ((b : List ℕ) → BothSupply b (F.remaining first.old) (G.remaining second.old) → IsFront (D.taken drain.old) (D.taken drain.new) (conversion_of b)) }
     ensures drain { KeepsDrain D.Drain drain.old drain.new }
 {
     let told = judge(alloc, first, &mut Nothing)?;
     let writing = Writing {
-        header: writable_header(&told.pass)?,
+        header: writable_header(&told)?,
         selection: Selection::Everything,
     };
     let digest = told.digest;

@@ -12,6 +12,7 @@ ghost use Rattle.pbfcut.specs.Converting.{CanBeWritten, judged_writable};
 ghost use Rattle.pbfcut.specs.Extracting.{complete_ways, all_parents, IsChoice, IsChoiceWithParents};
 ghost use Rattle.pbfcut.specs.Given.{GaveFile, Took, TookFile};
 ghost use Rattle.pbfcut.specs.Kept.{IsWritable, extract_of};
+ghost use Rattle.pbfcut.specs.Refused.{RefusesFile, Halts, HaltsFile, stop_of};
 ghost use Rattle.pbfcut.specs.Repeat.{SameDigest};
 ghost use Rattle.pbfcut.specs.Stops.{Caused, FaultOf, KeepsDrain, ReadFailed, WriteFailed};
 
@@ -19,7 +20,7 @@ use crate::hashed::HashedDrain;
 use crate::header_limit::writable_header;
 use crate::pass::judge;
 use crate::pick::{Selection, Writing};
-use crate::receipt::{InputReceipt, Receipt};
+use crate::receipt::{Halt, InputReceipt, Receipt};
 use crate::repeat::Repeat;
 use osm_entity::BoundingBox;
 use osm_ways::{Chosen, ChosenParents, NodePhase};
@@ -58,17 +59,18 @@ fn choose<F: Feed, G: Feed>(
     first: &mut F,
     second: &mut G,
     area: BoundingBox,
-) -> Result<Choice, Stop>
+) -> Result<Choice, Halt>
     ensures chosen { IfOk result (λ choice. GaveFile F.Feed first.old first.new choice.digest (λ b.
         GaveFile G.Feed second.old second.new choice.digest (λ c. IsChoice area b c choice.chosen (header_of choice.header)))) }
-    ensures stops { IfErr result (Caused (FaultOf (judged_writable (F.remaining first.old)))
+    ensures refused { IfErr result (Halts (RefusesFile F.Feed first.old first.new (λ b. judged_writable (Some b)))) }
+    ensures stops { IfErr result (λ h. Caused (FaultOf (judged_writable (F.remaining first.old)))
         (ReadFailed F.Feed first.old first.new ⊎ ReadFailed G.Feed second.old second.new) ⊥
-        (ChangedIn 2 (F.remaining first.old) (G.remaining second.old))) }
+        (ChangedIn 2 (F.remaining first.old) (G.remaining second.old)) (stop_of h)) }
 {
     edges_are_typed(area);
     let mut nodes = NodePhase::new(alloc, area);
     let told = judge(alloc, first, &mut nodes)?;
-    let header = writable_header(&told.pass)?.for_box(alloc, area)?;
+    let header = writable_header(&told)?.for_box(alloc, area)?;
     let digest = told.digest;
     let mut ways = nodes.end_nodes()?;
     Repeat { number: 2, digest }.gather(alloc, second, &mut ways)?;
@@ -129,7 +131,7 @@ pub fn extract_with_receipt<F: Feed, G: Feed, H: Feed, D: Drain, S: BuildHasher 
     area: BoundingBox,
     drain: &mut D,
     hasher: S,
-) -> Result<Receipt, Stop>
+) -> Result<Receipt, Halt>
     // Each feed gave a file of the digest `input`, to its end; the first has no fault, and its header can be written. The drain took
     // bytes of the digest `output`. Where the files are one, these bytes are exactly its complete-ways extract, and the counts are
     // those of the entities in it.
@@ -137,9 +139,11 @@ pub fn extract_with_receipt<F: Feed, G: Feed, H: Feed, D: Drain, S: BuildHasher 
         × GaveFile G.Feed second.old second.new receipt.input (λ c. GaveFile H.Feed third.old third.new receipt.input (λ d.
         TookFile D.Drain drain.old drain.new receipt.output
         (λ written. b ≡ c → b ≡ d → Extracted (complete_ways area) (extract (seen_decoded area)) area b receipt.counts written))))) }
-    ensures stops { IfErr result (ExtractStops (F.remaining first.old) (G.remaining second.old) (H.remaining third.old) (D.taken drain.old) (D.taken drain.new)
+    // The first feed gave as many bytes of this digest, the fault is the first of whatever begins so, and the drain took nothing.
+    ensures refused { IfErr result (HaltsFile F.Feed first.old first.new D.Drain drain.old drain.new (λ b. judged_writable (Some b))) }
+    ensures stops { IfErr result (λ h. ExtractStops (F.remaining first.old) (G.remaining second.old) (H.remaining third.old) (D.taken drain.old) (D.taken drain.new)
         (ReadFailed F.Feed first.old first.new ⊎ (ReadFailed G.Feed second.old second.new ⊎ ReadFailed H.Feed third.old third.new))
-        (WriteFailed D.Drain drain.old drain.new)) }
+        (WriteFailed D.Drain drain.old drain.new) (stop_of h)) }
     // Whatever stopped it, where all feeds supply these bytes a prefix of the answer went out, and nothing where they have a fault.
     ensures beginning { OnErr result ((b : List ℕ) → AllSupply b (F.remaining first.old) (G.remaining second.old) (H.remaining third.old) → IsFront (D.taken drain.old) (D.taken drain.new) (extract_of (complete_ways area) area b)) }
 {
@@ -165,14 +169,15 @@ fn extract_file<F: Feed, G: Feed, H: Feed, D: Drain, S: BuildHasher + Drop>(
     area: BoundingBox,
     drain: &mut D,
     hasher: S,
-) -> Result<InputReceipt, Stop>
+) -> Result<InputReceipt, Halt>
     ensures given { IfOk result (λ receipt. GaveFile F.Feed first.old first.new receipt.input (λ b. IsWritable b
         × GaveFile G.Feed second.old second.new receipt.input (λ c. GaveFile H.Feed third.old third.new receipt.input (λ d.
         Took D.Drain drain.old drain.new
         (λ written. b ≡ c → b ≡ d → Extracted (complete_ways area) (extract (seen_decoded area)) area b receipt.counts written))))) }
-    ensures stops { IfErr result (ExtractStops (F.remaining first.old) (G.remaining second.old) (H.remaining third.old) (D.taken drain.old) (D.taken drain.new)
+    ensures refused { IfErr result (HaltsFile F.Feed first.old first.new D.Drain drain.old drain.new (λ b. judged_writable (Some b))) }
+    ensures stops { IfErr result (λ h. ExtractStops (F.remaining first.old) (G.remaining second.old) (H.remaining third.old) (D.taken drain.old) (D.taken drain.new)
         (ReadFailed F.Feed first.old first.new ⊎ (ReadFailed G.Feed second.old second.new ⊎ ReadFailed H.Feed third.old third.new))
-        (WriteFailed D.Drain drain.old drain.new)) }
+        (WriteFailed D.Drain drain.old drain.new) (stop_of h)) }
     ensures beginning { OnErr result ((b : List ℕ) → AllSupply b (F.remaining first.old) (G.remaining second.old) (H.remaining third.old) → IsFront (D.taken drain.old) (D.taken drain.new) (extract_of (complete_ways area) area b)) }
     ensures drain { KeepsDrain D.Drain drain.old drain.new }
 {
@@ -196,13 +201,14 @@ fn choose_parents<F: Feed, G: Feed, H: Feed>(
     second: &mut G,
     third: &mut H,
     area: BoundingBox,
-) -> Result<ChoiceWithParents, Stop>
+) -> Result<ChoiceWithParents, Halt>
     ensures chosen { IfOk result (λ choice. GaveFile F.Feed first.old first.new choice.digest (λ b.
         GaveFile G.Feed second.old second.new choice.digest (λ c. GaveFile H.Feed third.old third.new choice.digest
         (λ d. IsChoiceWithParents area b c d choice.chosen (header_of choice.header))))) }
-    ensures stops { IfErr result (Caused (FaultOf (judged_writable (F.remaining first.old)))
+    ensures refused { IfErr result (Halts (RefusesFile F.Feed first.old first.new (λ b. judged_writable (Some b)))) }
+    ensures stops { IfErr result (λ h. Caused (FaultOf (judged_writable (F.remaining first.old)))
         (ReadFailed F.Feed first.old first.new ⊎ (ReadFailed G.Feed second.old second.new ⊎ ReadFailed H.Feed third.old third.new)) ⊥
-        (λ pass. ChangedIn 2 (F.remaining first.old) (G.remaining second.old) pass ⊎ ChangedIn 3 (F.remaining first.old) (H.remaining third.old) pass)) }
+        (λ pass. ChangedIn 2 (F.remaining first.old) (G.remaining second.old) pass ⊎ ChangedIn 3 (F.remaining first.old) (H.remaining third.old) pass) (stop_of h)) }
 {
     let choice = choose(alloc, first, second, area)?;
     let digest = choice.digest;
@@ -270,7 +276,7 @@ pub fn extract_parents_with_receipt<
     area: BoundingBox,
     drain: &mut D,
     hasher: S,
-) -> Result<Receipt, Stop>
+) -> Result<Receipt, Halt>
     // Each feed gave a file of the digest `input`, to its end; the first has no fault, and its header can be written. The drain took
     // bytes of the digest `output`. Where the files are one, these bytes are exactly its complete-ways extract with all parents, and
     // the counts are those of the entities in it.
@@ -278,9 +284,11 @@ pub fn extract_parents_with_receipt<
         × GaveFile G.Feed second.old second.new receipt.input (λ c. GaveFile H.Feed third.old third.new receipt.input (λ d.
         GaveFile I.Feed fourth.old fourth.new receipt.input (λ e. TookFile D.Drain drain.old drain.new receipt.output
         (λ written. b ≡ c → b ≡ d → b ≡ e → Extracted (all_parents area) (extract_with_parents (seen_decoded area)) area b receipt.counts written)))))) }
-    ensures stops { IfErr result (ParentsStops (F.remaining first.old) (G.remaining second.old) (H.remaining third.old) (I.remaining fourth.old) (D.taken drain.old) (D.taken drain.new)
+    // The first feed gave as many bytes of this digest, the fault is the first of whatever begins so, and the drain took nothing.
+    ensures refused { IfErr result (HaltsFile F.Feed first.old first.new D.Drain drain.old drain.new (λ b. judged_writable (Some b))) }
+    ensures stops { IfErr result (λ h. ParentsStops (F.remaining first.old) (G.remaining second.old) (H.remaining third.old) (I.remaining fourth.old) (D.taken drain.old) (D.taken drain.new)
         ((ReadFailed F.Feed first.old first.new ⊎ (ReadFailed G.Feed second.old second.new ⊎ ReadFailed H.Feed third.old third.new)) ⊎ ReadFailed I.Feed fourth.old fourth.new)
-        (WriteFailed D.Drain drain.old drain.new)) }
+        (WriteFailed D.Drain drain.old drain.new) (stop_of h)) }
     // Whatever stopped it, where all feeds supply these bytes a prefix of the answer went out, and nothing where they have a fault.
     ensures beginning { OnErr result ((b : List ℕ) → FourSupply b (F.remaining first.old) (G.remaining second.old) (H.remaining third.old) (I.remaining fourth.old) → IsFront (D.taken drain.old) (D.taken drain.new) (extract_of (all_parents area) area b)) }
 {
@@ -316,14 +324,15 @@ fn extract_file_with_parents<F: Feed, G: Feed, H: Feed, I: Feed, D: Drain, S: Bu
     area: BoundingBox,
     drain: &mut D,
     hasher: S,
-) -> Result<InputReceipt, Stop>
+) -> Result<InputReceipt, Halt>
     ensures given { IfOk result (λ receipt. GaveFile F.Feed first.old first.new receipt.input (λ b. IsWritable b
         × GaveFile G.Feed second.old second.new receipt.input (λ c. GaveFile H.Feed third.old third.new receipt.input (λ d.
         GaveFile I.Feed fourth.old fourth.new receipt.input (λ e. Took D.Drain drain.old drain.new
         (λ written. b ≡ c → b ≡ d → b ≡ e → Extracted (all_parents area) (extract_with_parents (seen_decoded area)) area b receipt.counts written)))))) }
-    ensures stops { IfErr result (ParentsStops (F.remaining first.old) (G.remaining second.old) (H.remaining third.old) (I.remaining fourth.old) (D.taken drain.old) (D.taken drain.new)
+    ensures refused { IfErr result (HaltsFile F.Feed first.old first.new D.Drain drain.old drain.new (λ b. judged_writable (Some b))) }
+    ensures stops { IfErr result (λ h. ParentsStops (F.remaining first.old) (G.remaining second.old) (H.remaining third.old) (I.remaining fourth.old) (D.taken drain.old) (D.taken drain.new)
         ((ReadFailed F.Feed first.old first.new ⊎ (ReadFailed G.Feed second.old second.new ⊎ ReadFailed H.Feed third.old third.new)) ⊎ ReadFailed I.Feed fourth.old fourth.new)
-        (WriteFailed D.Drain drain.old drain.new)) }
+        (WriteFailed D.Drain drain.old drain.new) (stop_of h)) }
     ensures beginning { OnErr result ((b : List ℕ) → FourSupply b (F.remaining first.old) (G.remaining second.old) (H.remaining third.old) (I.remaining fourth.old) → IsFront (D.taken drain.old) (D.taken drain.new) (extract_of (all_parents area) area b)) }
     ensures drain { KeepsDrain D.Drain drain.old drain.new }
 {

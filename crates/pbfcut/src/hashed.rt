@@ -2,16 +2,18 @@
 
 ghost use Rattle.std.specs.Prelude.{◌≡◌, ℕ, List, []};
 ghost use Rattle.sha2.specs.Sha256.{sha256};
-ghost use Rattle.pbfcut.specs.Hashing.{HasPassed};
+ghost use Rattle.pbfcut.specs.Hashing.{HasPassed, IsCounted};
 
 use pbf_frame::{Drain, DrainFault, Feed, FeedFault};
 use sha2::{Digest, Sha256};
 
-/// A feed whose bytes are hashed as they are read.
+/// A feed whose bytes are hashed and counted as they are read.
 #[derive(Drop)]
 pub(crate) struct HashedFeed<F> {
     feed: F,
     hasher: Sha256,
+    // How many bytes were read, up to the greatest number.
+    count: u64,
 }
 
 impl<F: Feed> Feed for HashedFeed<F> {
@@ -21,11 +23,12 @@ impl<F: Feed> Feed for HashedFeed<F> {
 
     ghost lender = { λ h. F.lender h.feed };
 
-    ghost has_passed = { λ h log b. HasPassed ⟦<Sha256 as Digest>⟧.holds F.has_passed h.feed h.hasher log b };
+    ghost has_passed = { λ h log b. HasPassed (IsCounted ⟦<Sha256 as Digest>⟧.holds) F.has_passed h.feed (h.hasher, h.count) log b };
 
     fn read(&mut self, buf: &mut [u8]) -> Result<usize, FeedFault> {
         let count = self.feed.read(buf)?;
         self.hasher.update(&buf[..count]);
+        self.count = self.count.saturating_add(count as u64);
         Ok(count)
     }
 }
@@ -35,11 +38,20 @@ impl<F: Feed> HashedFeed<F> {
     pub(crate) fn new(feed: F) -> HashedFeed<F>
         ensures feed { result.feed ≡ feed }
         ensures hasher { ⟦<Sha256 as Digest>⟧.holds result.hasher [] }
+        ensures count { result.count ≡ 0 }
     {
         HashedFeed {
             feed,
             hasher: Sha256::new(),
+            count: 0,
         }
+    }
+
+    /// How many bytes were read, up to the greatest number.
+    pub(crate) fn count(&self) -> u64
+        ensures { result ≡ self.now.count }
+    {
+        self.count
     }
 
     /// The digest of what was read. Another digest is begun.

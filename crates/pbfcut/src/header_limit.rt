@@ -5,35 +5,45 @@ ghost use Rattle.std.specs.Option.{option_map};
 ghost use Rattle.osm_entity.specs.Weight.{text_weight};
 ghost use Rattle.pbf_block.specs.Header.{header_of, text_of};
 ghost use Rattle.pbfcut.specs.Pick.{IsShort};
-ghost use Rattle.pbfcut.specs.Stops.{Caused, Only, unchanged};
+ghost use Rattle.pbf_frame.specs.declared.stop.Stop.TheVariants.{Refused};
+ghost use Rattle.pbf_wire.specs.Faults.{fault};
 ghost use Rattle.pbfcut.specs.Converting.{is_short, held_header, header_limit};
+ghost use Rattle.pbfcut.specs.Refused.{halted, IsLimitRefused};
 
-use crate::pass::Pass;
+use crate::pass::Judged;
+use crate::receipt::Halt;
 use pbf_block::{Header, MOST_HEADER_TEXT};
 use pbf_frame::Stop;
 use pbf_wire::{Fault, Reason};
 
-/// The header that a pass took, if it can be written.
-pub(crate) fn writable_header(pass: &Pass) -> Result<&Header, Stop>
-    ensures header { IfOk result (λ header. held_header pass.now ≡ Some (pass.now.header_at, header_of header.now)) }
-    ensures within { IfOk result (λ header. header_limit (held_header pass.now) ≡ None) }
+/// The header of the file that was judged, if it can be written.
+pub(crate) fn writable_header(told: &Judged) -> Result<&Header, Halt>
+    ensures header { IfOk result (λ header. held_header told.now.pass ≡ Some (told.now.pass.header_at, header_of header.now)) }
+    ensures within { IfOk result (λ header. header_limit (held_header told.now.pass) ≡ None) }
     ensures short { IfOk result (λ header. IsShort (header_of header.now)) }
-    ensures refused { IfErr result (Caused (Only (header_limit (held_header pass.now))) ⊥ ⊥ unchanged) }
+    ensures refused { IfErr result (IsLimitRefused told.now) }
 {
-    let Some(header) = &pass.header else {
+    let Some(header) = &told.pass.header else {
         // A file without a fault has a header.
-        return Err(Stop::Refused(Fault {
-            offset: 0,
-            reason: Reason::NoHeader,
-        }));
+        return Err(told.refuse(0, Reason::NoHeader));
     };
     if !is_short(header) {
-        return Err(Stop::Refused(Fault {
-            offset: pass.header_at,
-            reason: Reason::EntityLarge,
-        }));
+        return Err(told.refuse(told.pass.header_at, Reason::EntityLarge));
     }
     Ok(header)
+}
+
+impl Judged {
+    /// Refuses the file that was judged, after all of its bytes.
+    fn refuse(&self, offset: u64, reason: Reason) -> Halt
+        ensures { result ≡ halted (Refused (fault offset reason)) self.now.count self.now.digest }
+    {
+        Halt::new(
+            Stop::Refused(Fault { offset, reason }),
+            self.count,
+            self.digest,
+        )
+    }
 }
 
 /// Whether a header's source and base URL are not too long together to be written.

@@ -25,5 +25,5 @@ pub use pass::{
 };
 pub use pbf_block::Counts;
 pub use pick::{Selection, step_pack, step_write, step_write_parents};
-pub use receipt::{InputReceipt, Receipt};
+pub use receipt::{Halt, InputReceipt, Receipt, Refusal};
 pub use showing::{show, show_with_receipt};

@@ -15,9 +15,12 @@ ghost use Rattle.pbf_wire.specs.declared.fault.ReadFault.TheVariants.{Refused};
 ghost use Rattle.pbfcut.specs.Judged.{payload_fault_of, fully_known, judged_file};
 ghost use Rattle.pbfcut.specs.Pass.{IsFresh, TakesPayload, TakesAll, TakesFrame, CountsFrame, TakesFile, IsStep, FailsToJudge, as_it_was, with_node, with_way, with_relation};
 ghost use Rattle.pbfcut.specs.Given.{GaveRest, GaveFile};
+ghost use Rattle.pbfcut.specs.Hashing.{IsLength};
+ghost use Rattle.pbfcut.specs.Refused.{RefusesRest, RefusesFile, Halts, stop_of};
 ghost use Rattle.pbfcut.specs.Stops.{Caused, FaultOf, unchanged, ReadFailed, KeepsFeed};
 
 use crate::hashed::HashedFeed;
+use crate::receipt::Halt;
 use osm_entity::EntityRef;
 use osm_ways::{NodePhase, RelationPhase, WayPhase};
 use pbf_block::{Block, Counts, Header, Kinds, Run};
@@ -339,6 +342,7 @@ fn steps<F: Feed, G: Gather>(
     requires { IsReading reader.old }
     ensures taken { IfOk result (λ pass. GaveRest F.Feed reader.old reader.new (λ known. TakesFile G.gathered known gathering.old gathering.new pass)) }
     ensures stops { IfErr result (Caused (FaultOf (fully_known (verdict F.remaining reader.old))) (ReadFailed F.Feed reader.old.feed reader.new.feed) ⊥ unchanged) }
+    ensures refused { IfErr result (RefusesRest F.Feed reader.old reader.new) }
     ensures keeps { KeepsFeed F.Feed reader.old.feed reader.new.feed }
 {
     let mut pass = Pass::new();
@@ -351,6 +355,8 @@ fn steps<F: Feed, G: Gather>(
 pub(crate) struct Judged {
     /// The file's header, and the numbers of its entities.
     pub(crate) pass: Pass,
+    /// How many bytes it has.
+    pub(crate) count: u64,
     /// The digest of its bytes.
     pub(crate) digest: [u8; 32],
 }
@@ -360,16 +366,25 @@ pub(crate) fn judge<F: Feed, G: Gather>(
     alloc: Global,
     feed: &mut F,
     gathering: &mut G,
-) -> Result<Judged, Stop>
-    ensures judged { IfOk result (λ told. GaveFile F.Feed feed.old feed.new told.digest (λ file. TakesFile G.gathered (judged_file (Some file)) gathering.old gathering.new told.pass)) }
-    ensures stops { IfErr result (Caused (FaultOf (judged_file (F.remaining feed.old))) (ReadFailed F.Feed feed.old feed.new) ⊥ unchanged) }
+) -> Result<Judged, Halt>
+    ensures judged { IfOk result (λ told. GaveFile F.Feed feed.old feed.new told.digest (λ file. IsLength told.count file
+        × TakesFile G.gathered (judged_file (Some file)) gathering.old gathering.new told.pass)) }
+    ensures stops { IfErr result (λ h. Caused (FaultOf (judged_file (F.remaining feed.old))) (ReadFailed F.Feed feed.old feed.new) ⊥ unchanged (stop_of h)) }
+    ensures refused { IfErr result (Halts (RefusesFile F.Feed feed.old feed.new (λ b. judged_file (Some b)))) }
     ensures counts { F.failures feed.old ≤ F.failures feed.new }
 {
     let mut reader = FrameReader::new(alloc, HashedFeed::new(&mut *feed));
     let outcome = steps(alloc, &mut reader, gathering);
+    let count = reader.feed.count();
     let digest = reader.feed.digest();
     // What is known of the feed comes back with the reference itself.
     let _feed = reader.into_feed().into_inner();
-    let pass = outcome?;
-    Ok(Judged { pass, digest })
+    match outcome {
+        Ok(pass) => Ok(Judged {
+            pass,
+            count,
+            digest,
+        }),
+        Err(stop) => Err(Halt::new(stop, count, digest)),
+    }
 }

@@ -60,7 +60,7 @@ impl Repeat {
     {
         match judge(alloc, feed, gathering) {
             Ok(told) => self.compare(told.digest),
-            Err(stop) => Err(self.changed(stop)),
+            Err(halt) => Err(self.changed(Stop::from(halt))),
         }
     }
 

@@ -15,13 +15,14 @@ ghost use Rattle.pbfcut.specs.Calls.{RefusedFirst, ChangedIn};
 ghost use Rattle.pbfcut.specs.Given.{GaveRest, GaveFile, Took, TookFile};
 ghost use Rattle.pbfcut.specs.Judged.{payload_fault_of, fully_known, judged_file};
 ghost use Rattle.pbfcut.specs.Pass.{CountsFile, IsStep};
+ghost use Rattle.pbfcut.specs.Refused.{HaltsFile, stop_of};
 ghost use Rattle.pbfcut.specs.Repeat.{SameDigest};
 ghost use Rattle.pbfcut.specs.Showing.{payload_text, Shown, ShowsFront, WritesFront, ShowsFrame, StopsShowing, StoppedInPayload};
 ghost use Rattle.pbfcut.specs.Stops.{Caused, FaultOf, Only, unchanged, KeepsFeed, KeepsDrain, ReadFailed, WriteFailed};
 
 use crate::hashed::{HashedDrain, HashedFeed};
 use crate::pass::{Nothing, judge};
-use crate::receipt::{InputReceipt, Receipt};
+use crate::receipt::{Halt, InputReceipt, Receipt};
 use crate::repeat::Repeat;
 use osm_entity::EntityRef;
 use osm_text::{put_entity, put_header};
@@ -231,15 +232,17 @@ pub fn show_with_receipt<F: Feed, G: Feed, D: Drain>(
     second: &mut G,
     drain: &mut D,
     dates: bool,
-) -> Result<Receipt, Stop>
+) -> Result<Receipt, Halt>
     // Each feed gave a file of the digest `input`, to its end. The first has no fault, and the counts are those of its entities. The
     // drain took bytes of the digest `output`: exactly the text of the second, which has no fault.
     ensures receipt { IfOk result (λ receipt. GaveFile F.Feed first.old first.new receipt.input (λ b. CountsFile (judged_file (Some b)) receipt.counts
         × GaveFile G.Feed second.old second.new receipt.input (λ c. TookFile D.Drain drain.old drain.new receipt.output (Shown dates (judged_file (Some c)))))) }
-    ensures stops { IfErr result (Caused (RefusedFirst (judged_file (F.remaining first.old)) (D.taken drain.old) (D.taken drain.new))
+    // The first feed gave as many bytes of this digest, the fault is the first of whatever begins so, and the drain took nothing.
+    ensures refused { IfErr result (HaltsFile F.Feed first.old first.new D.Drain drain.old drain.new (λ b. judged_file (Some b))) }
+    ensures stops { IfErr result (λ h. Caused (RefusedFirst (judged_file (F.remaining first.old)) (D.taken drain.old) (D.taken drain.new))
         (ReadFailed F.Feed first.old first.new ⊎ ReadFailed G.Feed second.old second.new)
         (WriteFailed D.Drain drain.old drain.new)
-        (ChangedIn 2 (F.remaining first.old) (G.remaining second.old))) }
+        (ChangedIn 2 (F.remaining first.old) (G.remaining second.old)) (stop_of h)) }
     ensures beginning { OnErr result (F.remaining first.old ≡ G.remaining second.old → ShowsFront dates (judged_file (F.remaining first.old)) (D.taken drain.old) (D.taken drain.new)) }
 {
     let mut hashed = HashedDrain::new(&mut *drain);
@@ -262,13 +265,14 @@ fn show_file<F: Feed, G: Feed, D: Drain>(
     second: &mut G,
     drain: &mut D,
     dates: bool,
-) -> Result<InputReceipt, Stop>
+) -> Result<InputReceipt, Halt>
     ensures given { IfOk result (λ receipt. GaveFile F.Feed first.old first.new receipt.input (λ b. CountsFile (judged_file (Some b)) receipt.counts
         × GaveFile G.Feed second.old second.new receipt.input (λ c. Took D.Drain drain.old drain.new (Shown dates (judged_file (Some c)))))) }
-    ensures stops { IfErr result (Caused (RefusedFirst (judged_file (F.remaining first.old)) (D.taken drain.old) (D.taken drain.new))
+    ensures refused { IfErr result (HaltsFile F.Feed first.old first.new D.Drain drain.old drain.new (λ b. judged_file (Some b))) }
+    ensures stops { IfErr result (λ h. Caused (RefusedFirst (judged_file (F.remaining first.old)) (D.taken drain.old) (D.taken drain.new))
         (ReadFailed F.Feed first.old first.new ⊎ ReadFailed G.Feed second.old second.new)
         (WriteFailed D.Drain drain.old drain.new)
-        (ChangedIn 2 (F.remaining first.old) (G.remaining second.old))) }
+        (ChangedIn 2 (F.remaining first.old) (G.remaining second.old)) (stop_of h)) }
     ensures beginning { OnErr result (F.remaining first.old ≡ G.remaining second.old → ShowsFront dates (judged_file (F.remaining first.old)) (D.taken drain.old) (D.taken drain.new)) }
     ensures drain { KeepsDrain D.Drain drain.old drain.new }
 {
@@ -286,6 +290,6 @@ fn show_file<F: Feed, G: Feed, D: Drain>(
                 input,
             })
         }
-        Err(stop) => Err(last.changed(stop)),
+        Err(stop) => Err(Halt::from(last.changed(stop))),
     }
 }

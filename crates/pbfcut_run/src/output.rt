@@ -2,7 +2,7 @@
 
 use osm_text::put_digest_line;
 use pbf_frame::Stop;
-use pbfcut::Counts;
+use pbfcut::{Counts, Halt};
 use pbfcut_cli::Ending;
 use std::io::Write;
 
@@ -29,6 +29,25 @@ pub(crate) fn print_digest(rt: &HostRuntime, digest: [u8; 32], path: &str) -> Re
     if screen.write_all(&line).is_err() || screen.flush().is_err() {
         return Err(Ending::Stopped(Stop::Write));
     }
+    Ok(())
+}
+
+/// Reports to standard error, where IN is refused, how many of its bytes were read, and their digest. Whatever follows these bytes,
+/// the fault is the first.
+pub(crate) fn report_refusal(rt: &HostRuntime, halt: &Halt, input: &str) -> Result<(), Ending> {
+    let Halt::Refused(refusal) = halt else {
+        return Ok(());
+    };
+    let read = refusal.read;
+    let mut line = Vec::new(rt.alloc());
+    let Ok(name) = format!(in rt.alloc(); "first {read} bytes of {input}") else {
+        return Err(Ending::Stopped(Stop::Memory));
+    };
+    if put_digest_line(&mut line, &refusal.input, name.as_bytes()).is_err() {
+        return Err(Ending::Stopped(Stop::Memory));
+    }
+    // Where it can't be written, the refusal alone is reported.
+    let _ = rt.stderr().write_all(&line);
     Ok(())
 }
 

@@ -1,7 +1,7 @@
 //! The commands that write no file: `blobs`, `show` and `check`.
 
 use crate::files::{OUTPUT_BUFFER, open_input, open_pass};
-use crate::output::{print_counts, print_digest};
+use crate::output::{print_counts, print_digest, report_refusal};
 use crate::progress::end_line;
 use pbf_frame::{Stop, ToWrite};
 use pbfcut::{check_with_receipt, list_blobs, show};
@@ -62,7 +62,15 @@ pub(crate) fn run_check(
     let mut feed = open_pass(rt, input, progress, 1, 1)?;
     let outcome = check_with_receipt(rt.alloc(), &mut feed);
     end_line(rt, progress);
-    let receipt = outcome?;
+    let receipt = match outcome {
+        Ok(receipt) => receipt,
+        Err(halt) => {
+            if digests {
+                report_refusal(rt, &halt, input)?;
+            }
+            return Err(Ending::Stopped(Stop::from(halt)));
+        }
+    };
     print_counts(rt, receipt.counts)?;
     if digests {
         print_digest(rt, receipt.input, input)?;

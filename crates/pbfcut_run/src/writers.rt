@@ -2,12 +2,12 @@
 //! opened once for each pass, and there is a seed.
 
 use crate::files::{create_output, open_pass, refuse_existing};
-use crate::output::{print_counts, print_digest};
+use crate::output::{print_counts, print_digest, report_refusal};
 use crate::progress::end_line;
 use osm_entity::BoundingBox;
 use pbf_frame::{Stop, ToWrite};
 use pbfcut::{
-    Counts, Receipt, convert, convert_with_receipt, extract, extract_parents,
+    Counts, Halt, Receipt, convert, convert_with_receipt, extract, extract_parents,
     extract_parents_with_receipt, extract_with_receipt,
 };
 use pbfcut_cli::Ending;
@@ -43,16 +43,29 @@ enum Report {
     Receipted(Receipt),
 }
 
+/// What a call without a receipt reports.
+fn counted(outcome: Result<Counts, Stop>) -> Result<Report, Halt> {
+    Ok(Report::Counted(outcome?))
+}
+
 /// Writes to OUT what is left in its buffer, also after a stop, and prints after none what the call reports.
 fn end(
     rt: &HostRuntime,
     files: Files<'_>,
     file: &mut BufWriter<File>,
-    outcome: Result<Report, Stop>,
+    outcome: Result<Report, Halt>,
 ) -> Result<(), Ending> {
     end_line(rt, files.progress);
     let flushed = file.flush();
-    let report = outcome?;
+    let report = match outcome {
+        Ok(report) => report,
+        Err(halt) => {
+            if files.digests {
+                report_refusal(rt, &halt, files.input)?;
+            }
+            return Err(Ending::Stopped(Stop::from(halt)));
+        }
+    };
     if flushed.is_err() {
         return Err(Ending::Stopped(Stop::Write));
     }
@@ -80,7 +93,7 @@ pub(crate) fn run_convert(rt: &HostRuntime, files: Files<'_>) -> Result<(), Endi
             |receipt| Report::Receipted(receipt),
         )
     } else {
-        convert(alloc, &mut first, &mut second, drain, hasher).map(|counts| Report::Counted(counts))
+        counted(convert(alloc, &mut first, &mut second, drain, hasher))
     };
     end(rt, files, &mut file, outcome)
 }
@@ -104,7 +117,7 @@ pub(crate) fn run_extract(
             |receipt| Report::Receipted(receipt),
         )
     } else {
-        extract(alloc, one, two, three, area, drain, hasher).map(|counts| Report::Counted(counts))
+        counted(extract(alloc, one, two, three, area, drain, hasher))
     };
     end(rt, files, &mut file, outcome)
 }
@@ -129,9 +142,7 @@ pub(crate) fn run_extract_parents(
             |receipt| Report::Receipted(receipt),
         )
     } else {
-        extract_parents(alloc, one, two, three, four, area, drain, hasher).map(
-            |counts| Report::Counted(counts),
-        )
+        counted(extract_parents(alloc, one, two, three, four, area, drain, hasher))
     };
     end(rt, files, &mut file, outcome)
 }

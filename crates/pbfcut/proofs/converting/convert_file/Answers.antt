@@ -9,7 +9,23 @@ use Rattle.pbfcut.specs.Stops.{Only, unchanged, ReadFailed, WriteFailed}
 use Rattle.pbfcut.proofs.ConvertingLemmas.{limit_refused, nothing_out, passed, passed_sound, converted, converts_front}
 use Rattle.pbfcut.proofs.ExtractingLemmas.{convert_stops, stops_earlier}
 use Rattle.pbfcut.proofs.GivenLemmas.{tells_file, told_holds, told_digest, told_says, takes_told}
+use Rattle.pbfcut.proofs.HaltingLemmas.{halts_first, halts_writing, limit_caused, limit_halts, no_refusal}
 use Rattle.pbfcut.proofs.converting.convert_file.Goals as goal
+
+pub returns-in_err-told-clause-refused : goal.returns-in_err-told-clause-refused
+returns-in_err-told-clause-refused g c =
+    let p = err_from_is_err_and c.from_residual.result c.from_residual.ensures.1 in
+    rw (p.1, p.2) (halts_first g.F.Feed _ _ g.D.Drain _ _ _ (halts_writing g.F.Feed _ _ _ c.in_err-told.ensures.refused))
+
+pub returns-in_err-writable_header-clause-refused : goal.returns-in_err-writable_header-clause-refused
+returns-in_err-writable_header-clause-refused g c =
+    let p = err_from_is_err_and c.from_residual-in_err-writable_header.result c.from_residual-in_err-writable_header.ensures.1 in
+    rw (p.1, p.2) (halts_first g.F.Feed _ _ g.D.Drain _ _ _ (limit_halts g.F.Feed _ _ as_it_was _ _ c.in_ok-told.told _ c.in_ok-told.ensures.judged c.in_err-writable_header.ensures.refused))
+
+pub returns-in_err-counts-clause-refused : goal.returns-in_err-counts-clause-refused
+returns-in_err-counts-clause-refused g c =
+    let p = err_from_is_err_and c.from_residual-in_err-counts.result c.from_residual-in_err-counts.ensures.1 in
+    rw (p.1, p.2) (no_refusal _ _ _ _ _ c.in_err-counts.ensures.stops)
 
 pub returns-in_err-writable_header-clause-stops : goal.returns-in_err-writable_header-clause-stops
 returns-in_err-writable_header-clause-stops g c =
@@ -18,7 +34,7 @@ returns-in_err-writable_header-clause-stops g c =
     let first = g.F.Feed.remaining c.args.first.now in
     let old = g.D.Drain.taken c.args.drain.now in
     rw (p.1, p.2) (stops_earlier (Only (header_limit (held_header c.in_ok-told.told.pass))) (RefusedFirst (judged_writable first) old old) ⊥ _ _ unchanged (ChangedIn 2 first (g.G.Feed.remaining c.args.second.now)) _
-    (λ e limit. (limit_refused as_it_was _ _ _ _ e (takes_told as_it_was first one.file _ _ _ (tells_file g.F.Feed _ _ _ _ one) one.holding) limit, refl)) (λ r. absurd r) (λ pass h. absurd h) c.in_err-writable_header.ensures.refused)
+    (λ e limit. (limit_refused as_it_was _ _ _ _ e (takes_told as_it_was first one.file _ _ _ (tells_file g.F.Feed _ _ _ _ one) one.holding.1) limit, refl)) (λ r. absurd r) (λ pass h. absurd h) (limit_caused c.in_ok-told.told _ c.in_err-writable_header.ensures.refused))
 
 pub returns-in_err-writable_header-clause-beginning : goal.returns-in_err-writable_header-clause-beginning
 returns-in_err-writable_header-clause-beginning g c =
@@ -36,7 +52,7 @@ returns-in_err-counts-clause-stops g c =
     let read = ReadFailed g.F.Feed c.args.first.now c.judge.new.feed ⊎ ReadFailed g.G.Feed c.args.second.now c.write.new.feed in
     let later = ReadFailed g.G.Feed c.args.second.now c.write.new.feed in
     let wrote = WriteFailed g.D.Drain c.args.drain.now c.write.new.drain in
-    rw (p.1, p.2) (convert_stops c.in_ok-told.told.digest first second old new one.holding.frames read later wrote _ (told_digest g.F.Feed _ _ _ _ one) (told_says g.F.Feed _ _ _ _ _ one one.holding.says) (λ r. inr r) c.in_err-counts.ensures.stops)
+    rw (p.1, p.2) (convert_stops c.in_ok-told.told.digest first second old new one.holding.1.frames read later wrote _ (told_digest g.F.Feed _ _ _ _ one) (told_says g.F.Feed _ _ _ _ _ one one.holding.1.says) (λ r. inr r) c.in_err-counts.ensures.stops)
 
 pub returns-in_err-counts-clause-beginning : goal.returns-in_err-counts-clause-beginning
 returns-in_err-counts-clause-beginning g c =
@@ -45,7 +61,7 @@ returns-in_err-counts-clause-beginning g c =
     let header = c.in_ok-writable_header in
     let h = header_of header.field-0.now in
     rw p.1 (λ b supply.
-    converts_front b pass h _ _ _ (ap judged_file supply.1) (passed as_it_was _ _ b pass h _ refl (told_holds g.F.Feed _ _ _ _ b c.in_ok-told.ensures.judged supply.0) header.ensures.header header.ensures.within) c.in_err-counts.ensures.beginning)
+    converts_front b pass h _ _ _ (ap judged_file supply.1) (passed as_it_was _ _ b pass h _ refl ((told_holds g.F.Feed _ _ _ _ b c.in_ok-told.ensures.judged supply.0).1) header.ensures.header header.ensures.within) c.in_err-counts.ensures.beginning)
 
 pub returns-clause-given : goal.returns-clause-given
 returns-clause-given g c =
@@ -55,7 +71,7 @@ returns-clause-given g c =
     let one = c.in_ok-told.ensures.judged in
     let two = c.in_ok-counts.ensures.packed in
     let took = two.holding in
-    let p = passed as_it_was _ _ one.file pass h _ refl one.holding header.ensures.header header.ensures.within in
+    let p = passed as_it_was _ _ one.file pass h _ refl one.holding.1 header.ensures.header header.ensures.within in
     record {
       file = one.file;
       supplied = one.supplied;

@@ -7,20 +7,36 @@ use Rattle.pbfcut.specs.Stops.{FaultOf, Only, unchanged}
 use Rattle.pbfcut.proofs.ConvertingLemmas.{limit_refused}
 use Rattle.pbfcut.proofs.ExtractingLemmas.{chooses, stops_earlier, stops_later}
 use Rattle.pbfcut.proofs.GivenLemmas.{tells_file, told_digest, told_says, takes_told}
+use Rattle.pbfcut.proofs.HaltingLemmas.{halts_writing, limit_caused, limit_halts, memory_only, no_refusal}
 use Rattle.pbfcut.proofs.extracting.choose.Goals as goal
+
+pub returns-in_err-told-clause-refused : goal.returns-in_err-told-clause-refused
+returns-in_err-told-clause-refused g c =
+    let p = err_from_is_err_and c.from_residual.result c.from_residual.ensures.1 in
+    rw (p.1, p.2) (halts_writing g.F.Feed _ _ _ c.in_err-told.ensures.refused)
+
+pub returns-in_err-writable_header-clause-refused : goal.returns-in_err-writable_header-clause-refused
+returns-in_err-writable_header-clause-refused g c =
+    let p = err_from_is_err_and c.from_residual-in_err-writable_header.result c.from_residual-in_err-writable_header.ensures.1 in
+    rw (p.1, p.2) (limit_halts g.F.Feed _ _ with_node _ _ c.in_ok-told.told _ c.in_ok-told.ensures.judged c.in_err-writable_header.ensures.refused)
+
+pub returns-in_err-gather-clause-refused : goal.returns-in_err-gather-clause-refused
+returns-in_err-gather-clause-refused g c =
+    let p = err_from_is_err_and c.from_residual-in_err-gather.result c.from_residual-in_err-gather.ensures.1 in
+    rw (p.1, p.2) (no_refusal _ _ _ _ _ c.in_err-gather.ensures.stops)
 
 pub returns-in_err-writable_header-clause-stops : goal.returns-in_err-writable_header-clause-stops
 returns-in_err-writable_header-clause-stops g c =
     let p = err_from_is_err_and c.from_residual-in_err-writable_header.result c.from_residual-in_err-writable_header.ensures.1 in
     let one = c.in_ok-told.ensures.judged in
     rw (p.1, p.2) (stops_earlier (Only (header_limit (held_header c.in_ok-told.told.pass))) (FaultOf (judged_writable (g.F.Feed.remaining c.args.first.now))) ⊥ _ ⊥ unchanged (ChangedIn 2 (g.F.Feed.remaining c.args.first.now) (g.G.Feed.remaining c.args.second.now)) _
-    (λ e limit. limit_refused with_node _ _ _ _ e (takes_told with_node _ one.file _ _ _ (tells_file g.F.Feed _ _ _ _ one) one.holding) limit) (λ r. absurd r) (λ pass h. absurd h) c.in_err-writable_header.ensures.refused)
+    (λ e limit. limit_refused with_node _ _ _ _ e (takes_told with_node _ one.file _ _ _ (tells_file g.F.Feed _ _ _ _ one) one.holding.1) limit) (λ r. absurd r) (λ pass h. absurd h) (limit_caused c.in_ok-told.told _ c.in_err-writable_header.ensures.refused))
 
 pub returns-in_err-gather-clause-stops : goal.returns-in_err-gather-clause-stops
 returns-in_err-gather-clause-stops g c =
     let p = err_from_is_err_and c.from_residual-in_err-gather.result c.from_residual-in_err-gather.ensures.1 in
     let one = c.in_ok-told.ensures.judged in
-    rw (p.1, p.2) (stops_later (record { number = 2; digest = c.in_ok-told.told.digest }) (g.F.Feed.remaining c.args.first.now) (g.G.Feed.remaining c.args.second.now) _ one.holding.frames (FaultOf (judged_writable (g.F.Feed.remaining c.args.first.now))) _ _ ⊥ (ChangedIn 2 (g.F.Feed.remaining c.args.first.now) (g.G.Feed.remaining c.args.second.now)) _ (told_digest g.F.Feed _ _ _ _ one) (told_says g.F.Feed _ _ _ _ _ one one.holding.says) refl (λ r. inr r) (λ pass is. is) c.in_err-gather.ensures.stops)
+    rw (p.1, p.2) (stops_later (record { number = 2; digest = c.in_ok-told.told.digest }) (g.F.Feed.remaining c.args.first.now) (g.G.Feed.remaining c.args.second.now) _ one.holding.1.frames (FaultOf (judged_writable (g.F.Feed.remaining c.args.first.now))) _ _ ⊥ (ChangedIn 2 (g.F.Feed.remaining c.args.first.now) (g.G.Feed.remaining c.args.second.now)) _ (told_digest g.F.Feed _ _ _ _ one) (told_says g.F.Feed _ _ _ _ _ one one.holding.1.says) refl (λ r. inr r) (λ pass is. is) c.in_err-gather.ensures.stops)
 
 pub returns-clause-chosen : goal.returns-clause-chosen
 returns-clause-chosen g c =
@@ -35,7 +51,7 @@ returns-clause-chosen g c =
         supplied = two.supplied;
         digest_is = two.digest_is;
         holding = record {
-          chosen = chooses c.args.area _ _ c.in_ok-told.told.pass _ _ _ _ _ _ _ one.holding c.new-nodes.ensures c.in_ok-writable_header.ensures.header c.in_ok-writable_header.ensures.within c.in_ok-header.ensures c.in_ok-ways.ensures two.holding c.in_ok-chosen.ensures;
+          chosen = chooses c.args.area _ _ c.in_ok-told.told.pass _ _ _ _ _ _ _ one.holding.1 c.new-nodes.ensures c.in_ok-writable_header.ensures.header c.in_ok-writable_header.ensures.within c.in_ok-header.ensures c.in_ok-ways.ensures two.holding c.in_ok-chosen.ensures;
           edges = c.edges_are_typed.ensures;
           short = search rules;
         };

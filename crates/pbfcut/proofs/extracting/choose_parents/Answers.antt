@@ -5,7 +5,13 @@ use Rattle.pbfcut.specs.Converting.{judged_writable}
 use Rattle.pbfcut.specs.Stops.{FaultOf}
 use Rattle.pbfcut.proofs.ExtractingLemmas.{chooses_parents, stops_later}
 use Rattle.pbfcut.proofs.GivenLemmas.{told_digest, told_says}
+use Rattle.pbfcut.proofs.HaltingLemmas.{memory_only, no_refusal}
 use Rattle.pbfcut.proofs.extracting.choose_parents.Goals as goal
+
+pub returns-in_err-gather-clause-refused : goal.returns-in_err-gather-clause-refused
+returns-in_err-gather-clause-refused g c =
+    let p = err_from_is_err_and c.from_residual-in_err-gather.result c.from_residual-in_err-gather.ensures.1 in
+    rw (p.1, p.2) (no_refusal _ _ _ _ _ c.in_err-gather.ensures.stops)
 
 pub returns-in_err-gather-clause-stops : goal.returns-in_err-gather-clause-stops
 returns-in_err-gather-clause-stops g c =

@@ -9,7 +9,18 @@ use Rattle.pbfcut.specs.Stops.{ReadFailed, WriteFailed}
 use Rattle.pbfcut.proofs.ExtractingLemmas.{chosen_sound, selects_chosen, extracted, extracts_front, extract_stops}
 use Rattle.pbfcut.proofs.GivenLemmas.{tells_file, told_digest, told_says}
 use Rattle.pbfcut.proofs.KeptLaw.{complete_ways_select}
+use Rattle.pbfcut.proofs.HaltingLemmas.{halts_first, no_refusal}
 use Rattle.pbfcut.proofs.extracting.extract_file.Goals as goal
+
+pub returns-in_err-choice-clause-refused : goal.returns-in_err-choice-clause-refused
+returns-in_err-choice-clause-refused g c =
+    let p = err_from_is_err_and c.from_residual.result c.from_residual.ensures.1 in
+    rw (p.1, p.2) (halts_first g.F.Feed _ _ g.D.Drain _ _ _ c.in_err-choice.ensures.refused)
+
+pub returns-in_err-counts-clause-refused : goal.returns-in_err-counts-clause-refused
+returns-in_err-counts-clause-refused g c =
+    let p = err_from_is_err_and c.from_residual-in_err-counts.result c.from_residual-in_err-counts.ensures.1 in
+    rw (p.1, p.2) (no_refusal _ _ _ _ _ c.in_err-counts.ensures.stops)
 
 pub returns-in_err-counts-clause-stops : goal.returns-in_err-counts-clause-stops
 returns-in_err-counts-clause-stops g c =

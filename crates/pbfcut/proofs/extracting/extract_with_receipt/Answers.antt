@@ -1,6 +1,16 @@
 use Rattle.std.proofs.Common.{zero, suc, [], rules}
+use Rattle.std.proofs.lemmas.Result.{err_from_is_err_and}
 use Rattle.pbf_frame.proofs.Passed.{added_as}
+use Rattle.pbfcut.proofs.HaltingLemmas.{halts_below}
 use Rattle.pbfcut.proofs.extracting.extract_with_receipt.Goals as goal
+
+pub returns-in_err-counts-clause-refused : goal.returns-in_err-counts-clause-refused
+returns-in_err-counts-clause-refused g c =
+    let p = err_from_is_err_and c.from_residual.result c.from_residual.ensures.1 in
+    rw (p.1, p.2) (halts_below g.F.Feed _ _ _ g.D.Drain _ _ _ _ _ _ (λ added. added_as g.D.Drain c.new-hashed.result.drain.now c.args.drain.now c.extract_file-outcome.new.drain.drain.now _ [] (search rules) (search rules) record {
+      told = added.told;
+      logged = λ log. added.logged (suc log);
+    }) c.in_err-counts.ensures.refused)
 
 pub returns-clause-receipt : goal.returns-clause-receipt
 returns-clause-receipt g c =

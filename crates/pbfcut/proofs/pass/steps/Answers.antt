@@ -3,8 +3,8 @@ use Rattle.std.proofs.lemmas.Result.{err_from_is_err_and}
 use Rattle.pbf_frame.proofs.VerdictLemmas.{gone_more}
 use Rattle.pbfcut.specs.Pass.{HoldsHeader, file_header}
 use Rattle.pbfcut.proofs.GatherLemmas.{gathered_one}
-use Rattle.pbfcut.proofs.StepLemmas.{took_one, met_end, stopped_step, loop_stops, fully_first, taken_counts, taken_header}
-use Rattle.pbfcut.proofs.ReadingLemmas.{has_read_none, has_read_more, has_read_all}
+use Rattle.pbfcut.proofs.StepLemmas.{took_one, met_end, stopped_step, refused_step, loop_stops, fully_first, taken_counts, taken_header}
+use Rattle.pbfcut.proofs.ReadingLemmas.{has_read_none, has_read_more, has_read_all, has_read_refused}
 use Rattle.pbfcut.proofs.pass.steps.Goals as goal
 
 pub frames-init : goal.frames-init
@@ -52,3 +52,9 @@ returns-clause-taken g c =
       header = subst (λ p. HoldsHeader (file_header frames) p) (sym e.stays.0) so_far.done.3;
       gathered_all = e.stays.1 ∙ so_far.done.4;
     })
+
+pub returns-in_err-step_gather-clause-refused : goal.returns-in_err-step_gather-clause-refused
+returns-in_err-step_gather-clause-refused g c =
+    let p = err_from_is_err_and c.from_residual.result c.from_residual.ensures.1 in
+    let so_far = c.frames.invariant in
+    rw (p.1, p.2) (has_read_refused g.F.Feed _ _ _ so_far.done.0 _ so_far.done.5 (refused_step g.F.Feed _ _ _ _ _ _ (λ f e is. is) so_far.reading c.in_err-step_gather.ensures.step))

@@ -16,7 +16,7 @@ returns-clause-packed g c =
         end = given.supplied.end;
         logged = λ log. given.supplied.logged (suc log);
       };
-      digest_is = c.digest-digest.ensures.digest given.bytes (given.supplied.logged zero [] (rw c.new-reader.ensures.feed c.new.ensures.hasher));
+      digest_is = c.digest-digest.ensures.digest given.bytes (given.supplied.logged zero [] (rw c.new-reader.ensures.feed (c.new.ensures.hasher, c.new.ensures.count))).0;
       holding = record {
         written = took.written;
         added = added_as g.D.Drain c.new-packer.result.drain.now c.args.drain.now c.write_steps-outcome.new.packer.drain.now _ took.written (search rules) (search rules) record {

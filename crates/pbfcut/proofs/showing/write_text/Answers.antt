@@ -14,7 +14,7 @@ returns-clause-shown g c =
         end = given.supplied.end;
         logged = λ log. given.supplied.logged (suc log);
       };
-      digest_is = c.digest-digest.ensures.digest given.bytes (given.supplied.logged zero [] (rw c.new-reader.ensures.feed c.new.ensures.hasher));
+      digest_is = c.digest-digest.ensures.digest given.bytes (given.supplied.logged zero [] (rw c.new-reader.ensures.feed (c.new.ensures.hasher, c.new.ensures.count))).0;
       holding = record {
         written = took.written;
         added = took.added;
