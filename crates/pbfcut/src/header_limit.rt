@@ -15,10 +15,12 @@ use pbf_wire::{Fault, Reason};
 
 /// The header that a pass took, if it can be written.
 pub(crate) fn writable_header(pass: &Pass) -> Result<&Header, Stop>
-    ensures header { IfOk result (λ header. held_header pass.now ≡ Some (pass.now.header_at, header_of header.now)) }
+    ensures header { IfOk result (λ header. held_header pass.now
+        ≡ Some (pass.now.header_at, header_of header.now)) }
     ensures within { IfOk result (λ header. header_limit (held_header pass.now) ≡ None) }
     ensures short { IfOk result (λ header. IsShort (header_of header.now)) }
-    ensures refused { IfErr result (Caused (Only (header_limit (held_header pass.now))) ⊥ ⊥ unchanged) }
+    ensures refused { IfErr result
+        (Caused (Only (header_limit (held_header pass.now))) ⊥ ⊥ unchanged) }
 {
     let Some(header) = &pass.header else {
         // A file without a fault has a header.
