@@ -12,7 +12,7 @@ ghost use Rattle.pbf_frame.specs.declared.frame.FrameKind.TheVariants as kind;
 ghost use Rattle.pbf_frame.specs.Next.{IsReading, place_of, held_by, verdict};
 ghost use Rattle.pbf_wire.specs.declared.fault.Fault.{Fault};
 ghost use Rattle.pbf_wire.specs.declared.fault.ReadFault.TheVariants.{Refused};
-ghost use Rattle.pbfcut.specs.Judged.{payload_fault_of, fully_known, judged_file};
+ghost use Rattle.pbfcut.specs.Judged.{payload_fault_of, lent_fault, fully_known, judged_file};
 ghost use Rattle.pbfcut.specs.Pass.{IsFresh, TakesPayload, TakesAll, TakesFrame, CountsFrame, TakesFile, IsStep, FailsToJudge, as_it_was, with_node, with_way, with_relation};
 ghost use Rattle.pbfcut.specs.Given.{GaveRest, GaveFile};
 ghost use Rattle.pbfcut.specs.Stops.{Caused, FaultOf, unchanged, ReadFailed, KeepsFeed};
@@ -208,8 +208,7 @@ impl Pass {
         ensures taken { OnOk result (TakesAll G.gathered frame.now.kind frame.now.payload_at
             frame.now.payload.now self.old self.new gathering.old gathering.new) }
         ensures refused { (fault : Fault) → result ≡ Err (Refused fault)
-            → payload_fault_of frame.now.kind frame.now.payload_at frame.now.payload.now
-            ≡ Some fault }
+            → lent_fault frame.now ≡ Some fault }
     {
         match frame.kind {
             FrameKind::Header => self.take_header(alloc, frame.payload, frame.payload_at)?,

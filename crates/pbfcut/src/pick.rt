@@ -16,9 +16,9 @@ ghost use Rattle.pbf_frame.specs.declared.frame.FrameKind.TheVariants as kind;
 ghost use Rattle.pbf_frame.specs.declared.stop.Stop.{Stop};
 ghost use Rattle.pbf_frame.specs.Next.{IsReading, place_of, held_by, verdict};
 ghost use Rattle.pbfcut.specs.Counting.{counts_of, entities_of};
-ghost use Rattle.pbfcut.specs.Judged.{payload_fault_of, fully_known, judged_file};
+ghost use Rattle.pbfcut.specs.Judged.{payload_fault_of, lent_fault, fully_known, judged_file};
 ghost use Rattle.pbfcut.specs.Pass.{TakesSome, IsStep};
-ghost use Rattle.pbfcut.specs.Pick.{pick_of, picks_of, picks_id, is_node, picked_by_some, picked_with_parents, PacksAll, StopsPacking, KeepsPacker, IsFreshPacker, PacksFrame, FailsToPack, Packed, PacksFront, IsShort};
+ghost use Rattle.pbfcut.specs.Pick.{pick_of, picks_of, lent_picked, picks_id, is_node, picked_by_some, picked_with_parents, PacksAll, StopsPacking, KeepsPacker, IsFreshPacker, PacksFrame, FailsToPack, Packed, PacksFront, IsShort};
 ghost use Rattle.pbfcut.specs.Given.{GaveRest, GaveFile, Took};
 ghost use Rattle.pbfcut.specs.Stops.{Caused, FaultOf, unchanged, KeepsFeed, KeepsDrain, ReadFailed, WriteFailed};
 
@@ -231,20 +231,12 @@ fn pack_payload<D: Drain, S: BuildHasher>(
 ) -> Result<(), Stop>
     requires begun { has_header packer.old ≡ true }
     requires packing { IsPacking packer.old }
-    ensures packed { OnOk result (PacksAll D.Drain
-        (payload_fault_of frame.now.kind frame.now.payload_at frame.now.payload.now)
-        (filter (pick_of selection.entry)
-        (entities_of frame.now.kind frame.now.payload_at frame.now.payload.now)) packer.old
-        packer.new) }
+    ensures packed { OnOk result (PacksAll D.Drain (lent_fault frame.now)
+        (lent_picked (pick_of selection.entry) frame.now) packer.old packer.new) }
     ensures taken { OnOk result (TakesSome frame.now.kind frame.now.payload_at frame.now.payload.now
-        (filter (pick_of selection.entry)
-        (entities_of frame.now.kind frame.now.payload_at frame.now.payload.now)) pass.old
-        pass.new) }
-    ensures stopped { IfErr result (StopsPacking D.Drain
-        (payload_fault_of frame.now.kind frame.now.payload_at frame.now.payload.now)
-        (filter (pick_of selection.entry)
-        (entities_of frame.now.kind frame.now.payload_at frame.now.payload.now)) packer.old
-        packer.new) }
+        (lent_picked (pick_of selection.entry) frame.now) pass.old pass.new) }
+    ensures stopped { IfErr result (StopsPacking D.Drain (lent_fault frame.now)
+        (lent_picked (pick_of selection.entry) frame.now) packer.old packer.new) }
     ensures keeps { KeepsPacker D.Drain packer.old packer.new }
 {
     match frame.kind {

@@ -13,10 +13,10 @@ ghost use Rattle.pbf_frame.specs.Next.{IsReading, place_of, held_by, verdict};
 ghost use Rattle.pbf_frame.specs.Transfers.{Added};
 ghost use Rattle.pbfcut.specs.Calls.{RefusedFirst, ChangedIn};
 ghost use Rattle.pbfcut.specs.Given.{GaveRest, GaveFile, Took, TookFile};
-ghost use Rattle.pbfcut.specs.Judged.{payload_fault_of, fully_known, judged_file};
+ghost use Rattle.pbfcut.specs.Judged.{payload_fault_of, lent_fault, fully_known, judged_file};
 ghost use Rattle.pbfcut.specs.Pass.{CountsFile, IsStep};
 ghost use Rattle.pbfcut.specs.Repeat.{SameDigest};
-ghost use Rattle.pbfcut.specs.Showing.{payload_text, Shown, ShowsFront, WritesFront, ShowsFrame, StopsShowing, StoppedInPayload};
+ghost use Rattle.pbfcut.specs.Showing.{payload_text, lent_text, Shown, ShowsFront, WritesFront, ShowsFrame, StopsShowing, StoppedInPayload};
 ghost use Rattle.pbfcut.specs.Stops.{Caused, FaultOf, Only, unchanged, KeepsFeed, KeepsDrain, ReadFailed, WriteFailed};
 
 use crate::hashed::{HashedDrain, HashedFeed};
@@ -129,16 +129,11 @@ fn write_payload<D: Drain>(
     drain: &mut D,
     dates: bool,
 ) -> Result<(), Stop>
-    ensures shown { OnOk result (Added D.Drain drain.old
-        (payload_text dates frame.now.kind frame.now.payload_at frame.now.payload.now) drain.new) }
-    ensures sound { OnOk result (payload_fault_of frame.now.kind frame.now.payload_at
-        frame.now.payload.now ≡ None) }
-    ensures stopped { OnErr result (StoppedInPayload
-        (payload_fault_of frame.now.kind frame.now.payload_at frame.now.payload.now)
-        (payload_text dates frame.now.kind frame.now.payload_at frame.now.payload.now)
-        (D.taken drain.old) (D.taken drain.new)) }
-    ensures stops { IfErr result (Caused
-        (Only (payload_fault_of frame.now.kind frame.now.payload_at frame.now.payload.now)) ⊥
+    ensures shown { OnOk result (Added D.Drain drain.old (lent_text dates frame.now) drain.new) }
+    ensures sound { OnOk result (lent_fault frame.now ≡ None) }
+    ensures stopped { OnErr result (StoppedInPayload (lent_fault frame.now)
+        (lent_text dates frame.now) (D.taken drain.old) (D.taken drain.new)) }
+    ensures stops { IfErr result (Caused (Only (lent_fault frame.now)) ⊥
         (WriteFailed D.Drain drain.old drain.new) unchanged) }
     ensures keeps { KeepsDrain D.Drain drain.old drain.new }
 {
