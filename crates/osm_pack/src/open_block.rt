@@ -16,7 +16,7 @@ ghost use Rattle.pbf_block.specs.declared.block_write.TheConstants.{MOST_ENTITIE
 
 use crate::likeness::Likeness;
 use osm_entity::{EntityRef, HIGHEST_WEIGHT, Scale};
-use pbf_block::{EntityOut, MOST_ENTITIES, put_block, put_dense};
+use pbf_block::{DEFAULT_SCALE, EntityOut, MOST_ENTITIES, put_block, put_dense};
 use pbf_dense::DenseOut;
 use pbf_strings::TableOut;
 use std::alloc::{AllocError, Global};
@@ -26,14 +26,6 @@ use std::mem;
 /// The most bytes that a block holds: its columns, messages and texts, and four for each text. While it is put together the
 /// bytes that are made of them count too.
 pub const MOST_HELD: u64 = 28_000_000;
-
-/// The scale that a block has where it says nothing else.
-const DEFAULT_SCALE: Scale = Scale {
-    granularity: 100,
-    date_granularity: 1_000,
-    lat_offset: 0,
-    lon_offset: 0,
-};
 
 /// The entities of a block, encoded as they come: nodes as columns, ways and relations as messages.
 #[derive(Drop)]

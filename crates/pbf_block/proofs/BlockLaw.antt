@@ -37,6 +37,7 @@ use Rattle.pbf_block.specs.Members.{group_entities, entities_by, member_entities
 use Rattle.pbf_block.specs.Payload.{by_index, entities}
 use Rattle.pbf_block.specs.Judgement.{payload_values, payload_weights, block_fault}
 use Rattle.pbf_block.specs.WrittenBlock.{unless_default, block_slots}
+use Rattle.pbf_block.specs.declared.scale.TheConstants.{DEFAULT_SCALE}
 use Rattle.pbf_block.proofs.SlotLemmas.{none_of, scalar_given, last_given}
 use Rattle.pbf_block.proofs.InfoLaw.{int32_fits}
 use Rattle.pbf_block.proofs.GroupLaw.{GroupGood}
@@ -80,12 +81,12 @@ module _ (scale : Scale) (used : List (List ℕ)) (group : List ℕ) (es : List 
     (
       (omega arith, omega arith),
       (
-        default_fits GRANULARITY (pos 100) scale.granularity (omega arith) (omega arith) (int32_fits scale.granularity typed.granularity),
+        default_fits GRANULARITY DEFAULT_SCALE.granularity scale.granularity (omega arith) (omega arith) (int32_fits scale.granularity typed.granularity),
         (
-          default_fits DATE_GRANULARITY (pos 1000) scale.date_granularity (omega arith) (omega arith) (int32_fits scale.date_granularity typed.date_granularity),
+          default_fits DATE_GRANULARITY DEFAULT_SCALE.date_granularity scale.date_granularity (omega arith) (omega arith) (int32_fits scale.date_granularity typed.date_granularity),
           (
-            default_fits LAT_OFFSET (pos 0) scale.lat_offset (omega arith) (omega arith) (signs_fit scale.lat_offset typed.lat_offset.0 typed.lat_offset.1),
-            (default_fits LON_OFFSET (pos 0) scale.lon_offset (omega arith) (omega arith) (signs_fit scale.lon_offset typed.lon_offset.0 typed.lon_offset.1), tt),
+            default_fits LAT_OFFSET DEFAULT_SCALE.lat_offset scale.lat_offset (omega arith) (omega arith) (signs_fit scale.lat_offset typed.lat_offset.0 typed.lat_offset.1),
+            (default_fits LON_OFFSET DEFAULT_SCALE.lon_offset scale.lon_offset (omega arith) (omega arith) (signs_fit scale.lon_offset typed.lon_offset.0 typed.lon_offset.1), tt),
           ),
         ),
       ),
@@ -106,12 +107,12 @@ module _ (scale : Scale) (used : List (List ℕ)) (group : List ℕ) (es : List 
     (
       (groups, tt),
       (
-        scalar_quiet f GRANULARITY (unless_default (pos 100) scale.granularity) (numbers GRANULARITY),
+        scalar_quiet f GRANULARITY (unless_default DEFAULT_SCALE.granularity scale.granularity) (numbers GRANULARITY),
         (
-          scalar_quiet f DATE_GRANULARITY (unless_default (pos 1000) scale.date_granularity) (numbers DATE_GRANULARITY),
+          scalar_quiet f DATE_GRANULARITY (unless_default DEFAULT_SCALE.date_granularity scale.date_granularity) (numbers DATE_GRANULARITY),
           (
-            scalar_quiet f LAT_OFFSET (unless_default (pos 0) scale.lat_offset) (numbers LAT_OFFSET),
-            (scalar_quiet f LON_OFFSET (unless_default (pos 0) scale.lon_offset) (numbers LON_OFFSET), tt),
+            scalar_quiet f LAT_OFFSET (unless_default DEFAULT_SCALE.lat_offset scale.lat_offset) (numbers LAT_OFFSET),
+            (scalar_quiet f LON_OFFSET (unless_default DEFAULT_SCALE.lon_offset scale.lon_offset) (numbers LON_OFFSET), tt),
           ),
         ),
       ),
@@ -165,18 +166,18 @@ module _ (scale : Scale) (used : List (List ℕ)) (group : List ℕ) (es : List 
 
   scale_is : (at : ℕ) → scale_of (fields_in at (message (block_slots scale used group))) ≡ scale
   scale_is at =
-      let places : read_or (pos 100) low_i32 (last_number GRANULARITY (fields_in at (message (block_slots scale used group)))) ≡ scale.granularity =
-      ap (read_or (pos 100) low_i32) (last_written GRANULARITY at (block_slots scale used group) fits short ∙ last_given GRANULARITY _ (take 2 (block_slots scale used group)) (drop 3 (block_slots scale used group)) refl (tt, (tt, tt)) (refl, (refl, (refl, tt))))
-      ∙ default_read low_i32 (pos 100) scale.granularity (low_signs_read scale.granularity typed.granularity.0 typed.granularity.1) in
-      let dates : read_or (pos 1000) low_i32 (last_number DATE_GRANULARITY (fields_in at (message (block_slots scale used group)))) ≡ scale.date_granularity =
-      ap (read_or (pos 1000) low_i32) (last_written DATE_GRANULARITY at (block_slots scale used group) fits short ∙ last_given DATE_GRANULARITY _ (take 3 (block_slots scale used group)) (drop 4 (block_slots scale used group)) refl (tt, (tt, (refl, tt))) (refl, (refl, tt)))
-      ∙ default_read low_i32 (pos 1000) scale.date_granularity (low_signs_read scale.date_granularity typed.date_granularity.0 typed.date_granularity.1) in
-      let lats : read_or (pos 0) low_i64 (last_number LAT_OFFSET (fields_in at (message (block_slots scale used group)))) ≡ scale.lat_offset =
-      ap (read_or (pos 0) low_i64) (last_written LAT_OFFSET at (block_slots scale used group) fits short ∙ last_given LAT_OFFSET _ (take 4 (block_slots scale used group)) (drop 5 (block_slots scale used group)) refl (tt, (tt, (refl, (refl, tt)))) (refl, tt))
-      ∙ default_read low_i64 (pos 0) scale.lat_offset (signs_read scale.lat_offset typed.lat_offset.0 typed.lat_offset.1) in
-      let lons : read_or (pos 0) low_i64 (last_number LON_OFFSET (fields_in at (message (block_slots scale used group)))) ≡ scale.lon_offset =
-      ap (read_or (pos 0) low_i64) (last_written LON_OFFSET at (block_slots scale used group) fits short ∙ last_given LON_OFFSET _ (take 5 (block_slots scale used group)) (drop 6 (block_slots scale used group)) refl (tt, (tt, (refl, (refl, (refl, tt))))) tt)
-      ∙ default_read low_i64 (pos 0) scale.lon_offset (signs_read scale.lon_offset typed.lon_offset.0 typed.lon_offset.1) in
+      let places : read_or DEFAULT_SCALE.granularity low_i32 (last_number GRANULARITY (fields_in at (message (block_slots scale used group)))) ≡ scale.granularity =
+      ap (read_or DEFAULT_SCALE.granularity low_i32) (last_written GRANULARITY at (block_slots scale used group) fits short ∙ last_given GRANULARITY _ (take 2 (block_slots scale used group)) (drop 3 (block_slots scale used group)) refl (tt, (tt, tt)) (refl, (refl, (refl, tt))))
+      ∙ default_read low_i32 DEFAULT_SCALE.granularity scale.granularity (low_signs_read scale.granularity typed.granularity.0 typed.granularity.1) in
+      let dates : read_or DEFAULT_SCALE.date_granularity low_i32 (last_number DATE_GRANULARITY (fields_in at (message (block_slots scale used group)))) ≡ scale.date_granularity =
+      ap (read_or DEFAULT_SCALE.date_granularity low_i32) (last_written DATE_GRANULARITY at (block_slots scale used group) fits short ∙ last_given DATE_GRANULARITY _ (take 3 (block_slots scale used group)) (drop 4 (block_slots scale used group)) refl (tt, (tt, (refl, tt))) (refl, (refl, tt)))
+      ∙ default_read low_i32 DEFAULT_SCALE.date_granularity scale.date_granularity (low_signs_read scale.date_granularity typed.date_granularity.0 typed.date_granularity.1) in
+      let lats : read_or DEFAULT_SCALE.lat_offset low_i64 (last_number LAT_OFFSET (fields_in at (message (block_slots scale used group)))) ≡ scale.lat_offset =
+      ap (read_or DEFAULT_SCALE.lat_offset low_i64) (last_written LAT_OFFSET at (block_slots scale used group) fits short ∙ last_given LAT_OFFSET _ (take 4 (block_slots scale used group)) (drop 5 (block_slots scale used group)) refl (tt, (tt, (refl, (refl, tt)))) (refl, tt))
+      ∙ default_read low_i64 DEFAULT_SCALE.lat_offset scale.lat_offset (signs_read scale.lat_offset typed.lat_offset.0 typed.lat_offset.1) in
+      let lons : read_or DEFAULT_SCALE.lon_offset low_i64 (last_number LON_OFFSET (fields_in at (message (block_slots scale used group)))) ≡ scale.lon_offset =
+      ap (read_or DEFAULT_SCALE.lon_offset low_i64) (last_written LON_OFFSET at (block_slots scale used group) fits short ∙ last_given LON_OFFSET _ (take 5 (block_slots scale used group)) (drop 6 (block_slots scale used group)) refl (tt, (tt, (refl, (refl, (refl, tt))))) tt)
+      ∙ default_read low_i64 DEFAULT_SCALE.lon_offset scale.lon_offset (signs_read scale.lon_offset typed.lon_offset.0 typed.lon_offset.1) in
       rw (places, dates, lats, lons) refl
 
   -- ---- values
@@ -195,9 +196,9 @@ module _ (scale : Scale) (used : List (List ℕ)) (group : List ℕ) (es : List 
   values_good : (at : ℕ) → value_faults (length (written_table used)) at (message (block_slots scale used group)) ≡ []
   unfolding value_faults
   values_good at =
-      let places = scalar_good at GRANULARITY (positive Granularity) (pos 100) scale.granularity
+      let places = scalar_good at GRANULARITY (positive Granularity) DEFAULT_SCALE.granularity scale.granularity
       (scalar_given GRANULARITY _ (take 2 (block_slots scale used group)) (drop 3 (block_slots scale used group)) refl (tt, (tt, tt)) (refl, (refl, (refl, tt)))) (positive_quiet Granularity scale.granularity typed.granularity fit.places) in
-      let dates = scalar_good at DATE_GRANULARITY (positive DateGranularity) (pos 1000) scale.date_granularity
+      let dates = scalar_good at DATE_GRANULARITY (positive DateGranularity) DEFAULT_SCALE.date_granularity scale.date_granularity
       (scalar_given DATE_GRANULARITY _ (take 3 (block_slots scale used group)) (drop 4 (block_slots scale used group)) refl (tt, (tt, (refl, tt))) (refl, (refl, tt))) (positive_quiet DateGranularity scale.date_granularity typed.date_granularity fit.dates) in
       rw (places, dates, groups_good at) refl
 
@@ -228,18 +229,18 @@ module _ (scale : Scale) (used : List (List ℕ)) (group : List ℕ) (es : List 
       ap₂ (λ (ts : List (List ℕ)) (s : Scale). entities_by by_index ts s (fields_in at (message (block_slots scale used group)))) (table_is at) (scale_is at)
       ∙ fields_give f at
       ((Each STRINGTABLE (table_message used ∷ []), []) ∷ (Each PRIMITIVEGROUP (group ∷ []), es)
-      ∷ (Scalar GRANULARITY (unless_default (pos 100) scale.granularity), []) ∷ (Scalar DATE_GRANULARITY (unless_default (pos 1000) scale.date_granularity), [])
-      ∷ (Scalar LAT_OFFSET (unless_default (pos 0) scale.lat_offset), []) ∷ (Scalar LON_OFFSET (unless_default (pos 0) scale.lon_offset), []) ∷ []) (
+      ∷ (Scalar GRANULARITY (unless_default DEFAULT_SCALE.granularity scale.granularity), []) ∷ (Scalar DATE_GRANULARITY (unless_default DEFAULT_SCALE.date_granularity scale.date_granularity), [])
+      ∷ (Scalar LAT_OFFSET (unless_default DEFAULT_SCALE.lat_offset scale.lat_offset), []) ∷ (Scalar LON_OFFSET (unless_default DEFAULT_SCALE.lon_offset scale.lon_offset), []) ∷ []) (
         quiet_gives f (Each STRINGTABLE (table_message used ∷ [])) ((λ place begin. refl), tt),
         (
           one_group,
           (
-            quiet_gives f (Scalar GRANULARITY (unless_default (pos 100) scale.granularity)) (scalar_quiet f GRANULARITY (unless_default (pos 100) scale.granularity) (give GRANULARITY)),
+            quiet_gives f (Scalar GRANULARITY (unless_default DEFAULT_SCALE.granularity scale.granularity)) (scalar_quiet f GRANULARITY (unless_default DEFAULT_SCALE.granularity scale.granularity) (give GRANULARITY)),
             (
-              quiet_gives f (Scalar DATE_GRANULARITY (unless_default (pos 1000) scale.date_granularity)) (scalar_quiet f DATE_GRANULARITY (unless_default (pos 1000) scale.date_granularity) (give DATE_GRANULARITY)),
+              quiet_gives f (Scalar DATE_GRANULARITY (unless_default DEFAULT_SCALE.date_granularity scale.date_granularity)) (scalar_quiet f DATE_GRANULARITY (unless_default DEFAULT_SCALE.date_granularity scale.date_granularity) (give DATE_GRANULARITY)),
               (
-                quiet_gives f (Scalar LAT_OFFSET (unless_default (pos 0) scale.lat_offset)) (scalar_quiet f LAT_OFFSET (unless_default (pos 0) scale.lat_offset) (give LAT_OFFSET)),
-                (quiet_gives f (Scalar LON_OFFSET (unless_default (pos 0) scale.lon_offset)) (scalar_quiet f LON_OFFSET (unless_default (pos 0) scale.lon_offset) (give LON_OFFSET)), tt),
+                quiet_gives f (Scalar LAT_OFFSET (unless_default DEFAULT_SCALE.lat_offset scale.lat_offset)) (scalar_quiet f LAT_OFFSET (unless_default DEFAULT_SCALE.lat_offset scale.lat_offset) (give LAT_OFFSET)),
+                (quiet_gives f (Scalar LON_OFFSET (unless_default DEFAULT_SCALE.lon_offset scale.lon_offset)) (scalar_quiet f LON_OFFSET (unless_default DEFAULT_SCALE.lon_offset scale.lon_offset) (give LON_OFFSET)), tt),
               ),
             ),
           ),

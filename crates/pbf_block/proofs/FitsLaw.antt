@@ -30,6 +30,7 @@ use Rattle.pbf_block.specs.WireFaults.{node_wire, way_wire, relation_wire, membe
 use Rattle.pbf_block.specs.StructureFaults.{node_structure, way_structure, relation_structure, member_structure, group_structure, part_structure, structure_faults}
 use Rattle.pbf_block.specs.ValueFaults.{positive, node_values, way_values, relation_values, member_values, group_values, value_faults}
 use Rattle.pbf_block.specs.Weights.{weight_fault, member_weights, group_weights, weight_faults}
+use Rattle.pbf_block.specs.declared.scale.TheConstants.{DEFAULT_SCALE}
 use Rattle.pbf_block.proofs.EntityLaw.{all_such, map_of_all}
 use Rattle.pbf_block.proofs.ReadsLemmas.{entered_nil}
 use Rattle.pbf_block.proofs.TableLemmas.{table_few}
@@ -87,8 +88,8 @@ scale_fits limit at m w v =
     let sound = fields_sound BLOCK_KINDS part_wire (items at m) w in
     let both = both_nil (in_last GRANULARITY (positive Granularity) os) (in_last DATE_GRANULARITY (positive DateGranularity) os) (both_nil _ (flat_map (entered PRIMITIVEGROUP (group_values limit)) os) v).0 in
     record {
-      places = or_else (λ z. pos 1 ≤ℤ z) (pos 100) low_i32 (last_number GRANULARITY os) (omega (arith, ints)) (number_holds GRANULARITY (positive Granularity) (λ v. pos 1 ≤ℤ low_i32 v) (at_least_one Granularity) os (are_numbers BLOCK_KINDS part_wire GRANULARITY os refl sound) both.0);
-      dates = or_else (λ z. pos 1 ≤ℤ z) (pos 1000) low_i32 (last_number DATE_GRANULARITY os) (omega (arith, ints)) (number_holds DATE_GRANULARITY (positive DateGranularity) (λ v. pos 1 ≤ℤ low_i32 v) (at_least_one DateGranularity) os (are_numbers BLOCK_KINDS part_wire DATE_GRANULARITY os refl sound) both.1);
+      places = or_else (λ z. pos 1 ≤ℤ z) DEFAULT_SCALE.granularity low_i32 (last_number GRANULARITY os) (omega (arith, ints)) (number_holds GRANULARITY (positive Granularity) (λ v. pos 1 ≤ℤ low_i32 v) (at_least_one Granularity) os (are_numbers BLOCK_KINDS part_wire GRANULARITY os refl sound) both.0);
+      dates = or_else (λ z. pos 1 ≤ℤ z) DEFAULT_SCALE.date_granularity low_i32 (last_number DATE_GRANULARITY os) (omega (arith, ints)) (number_holds DATE_GRANULARITY (positive DateGranularity) (λ v. pos 1 ≤ℤ low_i32 v) (at_least_one DateGranularity) os (are_numbers BLOCK_KINDS part_wire DATE_GRANULARITY os refl sound) both.1);
     }
 
 -- ---- the entities of a group
@@ -248,10 +249,10 @@ int64_or otherwise (Some v) h = int64_typed v
 
 scale_typed : (os : List Occurrence) → ScaleTyped (scale_of os)
 scale_typed os = record {
-  granularity = int32_or (pos 100) (last_number GRANULARITY os) (omega (arith, ints), omega (arith, ints));
-  date_granularity = int32_or (pos 1000) (last_number DATE_GRANULARITY os) (omega (arith, ints), omega (arith, ints));
-  lat_offset = int64_or (pos 0) (last_number LAT_OFFSET os) (omega (arith, ints), omega (arith, ints));
-  lon_offset = int64_or (pos 0) (last_number LON_OFFSET os) (omega (arith, ints), omega (arith, ints));
+  granularity = int32_or DEFAULT_SCALE.granularity (last_number GRANULARITY os) (omega (arith, ints), omega (arith, ints));
+  date_granularity = int32_or DEFAULT_SCALE.date_granularity (last_number DATE_GRANULARITY os) (omega (arith, ints), omega (arith, ints));
+  lat_offset = int64_or DEFAULT_SCALE.lat_offset (last_number LAT_OFFSET os) (omega (arith, ints), omega (arith, ints));
+  lon_offset = int64_or DEFAULT_SCALE.lon_offset (last_number LON_OFFSET os) (omega (arith, ints), omega (arith, ints));
 }
 
 -- whatever is wrong with the payload

@@ -1,5 +1,5 @@
 -- A PrimitiveBlock as it is written, and the entities that may stand in one.
-use Rattle.std.specs.Prelude.{ℕ, ℤ, pos, Bool, true, false, ◌&&◌, not, nat_le, if◌then◌else◌, List, [], ◌∷◌, ◌++◌, length, map, Option, Some, None}
+use Rattle.std.specs.Prelude.{ℕ, ℤ, Bool, true, false, ◌&&◌, not, nat_le, if◌then◌else◌, List, [], ◌∷◌, ◌++◌, length, map, Option, Some, None}
 use Rattle.std.specs.List.{flat_map, list_all, sum_by}
 use Rattle.std.specs.Option.{is_some}
 use Rattle.std.specs.Ordering.{int_eq}
@@ -15,6 +15,7 @@ use Rattle.pbf_block.specs.declared.message.TheConstants.{STRINGTABLE, PRIMITIVE
 use Rattle.pbf_block.specs.WrittenEntity.{way_message, relation_message}
 use Rattle.osm_entity.specs.declared.weight.TheConstants.{HIGHEST_WEIGHT}
 use Rattle.pbf_block.specs.declared.block_write.TheConstants.{MOST_ENTITIES}
+use Rattle.pbf_block.specs.declared.scale.TheConstants.{DEFAULT_SCALE}
 
 -- ---- what may stand in one block
 
@@ -102,15 +103,15 @@ abbrev pub block_slots : Scale → List (List ℕ) → List ℕ → List Slot
 block_slots scale texts group =
     Each STRINGTABLE (table_message texts ∷ [])
     ∷ Each PRIMITIVEGROUP (group ∷ [])
-    ∷ Scalar GRANULARITY (unless_default (pos 100) scale.granularity)
-    ∷ Scalar DATE_GRANULARITY (unless_default (pos 1000) scale.date_granularity)
-    ∷ Scalar LAT_OFFSET (unless_default (pos 0) scale.lat_offset)
-    ∷ Scalar LON_OFFSET (unless_default (pos 0) scale.lon_offset)
+    ∷ Scalar GRANULARITY (unless_default DEFAULT_SCALE.granularity scale.granularity)
+    ∷ Scalar DATE_GRANULARITY (unless_default DEFAULT_SCALE.date_granularity scale.date_granularity)
+    ∷ Scalar LAT_OFFSET (unless_default DEFAULT_SCALE.lat_offset scale.lat_offset)
+    ∷ Scalar LON_OFFSET (unless_default DEFAULT_SCALE.lon_offset scale.lon_offset)
     ∷ []
 
 -- the scale of all entities, which is that of the first
 abbrev pub scale_among : List EntitySpec → Scale
-scale_among [] = record { granularity = pos 100; date_granularity = pos 1000; lat_offset = pos 0; lon_offset = pos 0 }
+scale_among [] = DEFAULT_SCALE
 scale_among (e ∷ es) = entity_scale e
 
 -- the texts of all entities in order of first use

@@ -8,6 +8,7 @@ ghost use Rattle.pbf_block.specs.WrittenBlock.{unless_default, block_slots};
 use crate::message::{
     DATE_GRANULARITY, DENSE, GRANULARITY, LAT_OFFSET, LON_OFFSET, PRIMITIVEGROUP, STRINGTABLE,
 };
+use crate::scale::DEFAULT_SCALE;
 use osm_entity::Scale;
 use pbf_wire::{put_bytes, put_number, put_unless_empty, sign_extended};
 use std::alloc::AllocError;
@@ -51,14 +52,19 @@ pub fn put_block(
 {
     put_bytes(out, STRINGTABLE, table)?;
     put_bytes(out, PRIMITIVEGROUP, group)?;
-    put_unless_default(out, GRANULARITY, 100, i64::from(scale.granularity))?;
+    put_unless_default(
+        out,
+        GRANULARITY,
+        i64::from(DEFAULT_SCALE.granularity),
+        i64::from(scale.granularity),
+    )?;
     put_unless_default(
         out,
         DATE_GRANULARITY,
-        1000,
+        i64::from(DEFAULT_SCALE.date_granularity),
         i64::from(scale.date_granularity),
     )?;
-    put_unless_default(out, LAT_OFFSET, 0, scale.lat_offset)?;
-    put_unless_default(out, LON_OFFSET, 0, scale.lon_offset)?;
+    put_unless_default(out, LAT_OFFSET, DEFAULT_SCALE.lat_offset, scale.lat_offset)?;
+    put_unless_default(out, LON_OFFSET, DEFAULT_SCALE.lon_offset, scale.lon_offset)?;
     Ok(())
 }

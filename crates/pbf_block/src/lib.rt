@@ -42,3 +42,4 @@ pub use header::{Header, HeaderBox};
 pub use header_write::MOST_HEADER_TEXT;
 pub use kinds::Kinds;
 pub use runs::{Run, Runs};
+pub use scale::DEFAULT_SCALE;

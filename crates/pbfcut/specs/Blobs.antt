@@ -1,6 +1,7 @@
 -- The text of `blobs`: a line for each frame.
 use Rattle.std.specs.Prelude.{ℕ, List, [], ◌∷◌, ◌++◌, length, codes, decimal}
 use Rattle.std.specs.List.{flat_map}
+use Rattle.pbf_frame.specs.declared.frame.Frame.{Frame}
 use Rattle.pbf_frame.specs.declared.frame.FrameKind.{FrameKind}
 use Rattle.pbf_frame.specs.declared.frame.FrameKind.TheVariants as kind
 use Rattle.pbf_frame.specs.Frames.{FrameSpec, frame_kind, frame_name, frame_payload}
@@ -24,6 +25,10 @@ line_of offset kind name size n = decimal offset ++ 32 ∷ [] ++ shown_name kind
 
 abbrev pub line : FrameSpec → List ℕ
 line f = line_of f.offset (frame_kind f) (frame_name f) (length f.blob) (length (frame_payload f))
+
+-- the same of a frame that is lent
+abbrev pub lent_line : Frame → List ℕ
+lent_line frame = line_of frame.offset frame.kind frame.name.now frame.size (length frame.payload.now)
 
 abbrev pub lines : List FrameSpec → List ℕ
 lines frames = flat_map line frames

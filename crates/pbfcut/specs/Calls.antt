@@ -36,8 +36,8 @@ pub record Converted (file : List ℕ) (counts : Counts) (written : List ℕ) : 
   pub is : written ≡ conversion_of file
   -- the counts are those of its entities
   pub counted : counts ≡ counts_of (entities_in_file file)
-  -- they are read as the file's entities, and a conversion of them is the same bytes. A file has at most 2^62 bytes: longer ones would
-  -- be refused for that alone
+  -- they are read as the file's entities, and a conversion of them is the same bytes. A file has at most 2^62 bytes, and a conversion
+  -- may be longer than its file, since each of its blocks says its texts anew: a longer one would be refused for that alone
   pub kept : length written ≤ 2 ^ 62 → IsConversion file written
 
 -- these bytes are the extract of a file

@@ -2,6 +2,7 @@
 use Rattle.std.specs.Prelude.{ℕ, List, [], ◌∷◌, false, Option, Some, None}
 use Rattle.std.specs.Option.{option_map}
 use Rattle.pbf_wire.specs.declared.fault.Fault.{Fault}
+use Rattle.pbf_frame.specs.declared.frame.Frame.{Frame}
 use Rattle.pbf_frame.specs.declared.frame.FrameKind.{FrameKind}
 use Rattle.pbf_frame.specs.declared.frame.FrameKind.TheVariants as kind
 use Rattle.pbf_frame.specs.Frames.{FrameSpec, frame_kind, frame_payload, frame_payload_at}
@@ -17,6 +18,10 @@ payload_fault_of kind.Other at payload = None
 
 abbrev pub payload_fault : FrameSpec → Option Fault
 payload_fault f = payload_fault_of (frame_kind f) (frame_payload_at f) (frame_payload f)
+
+-- the same of a frame that is lent
+abbrev pub lent_fault : Frame → Option Fault
+lent_fault frame = payload_fault_of frame.kind frame.payload_at frame.payload.now
 
 -- a frame before the others, where its payload has no fault
 abbrev pub sound_first : Option Fault → FrameSpec → Verdict → Verdict

@@ -12,6 +12,7 @@ use Rattle.osm_pack.specs.Packing.{Packing, Pending, IsPacking, has_header}
 use Rattle.pbf_block.specs.Header.{HeaderSpec}
 use Rattle.pbf_block.specs.declared.counts.Counts.{Counts}
 use Rattle.pbf_frame.specs.declared.device.Drain as drain
+use Rattle.pbf_frame.specs.declared.frame.Frame.{Frame}
 use Rattle.pbf_frame.specs.declared.stop.Stop.{Stop}
 use Rattle.pbf_frame.specs.Devices.{IsFront}
 use Rattle.pbf_frame.specs.Transfers.{Added}
@@ -23,7 +24,7 @@ use Rattle.pbfcut.specs.declared.pick.Selection.{Selection}
 use Rattle.pbfcut.specs.declared.pick.Selection.TheVariants as selection
 use Rattle.pbfcut.specs.declared.pick.Picker.{Picker}
 use Rattle.pbfcut.specs.declared.pick.Picker.TheVariants as picker
-use Rattle.pbfcut.specs.Counting.{counts_of, stored_entities, frame_entities}
+use Rattle.pbfcut.specs.Counting.{counts_of, stored_entities, frame_entities, lent_entities}
 use Rattle.pbfcut.specs.Judged.{payload_fault}
 use Rattle.pbfcut.specs.Pass.{TakesSome}
 use Rattle.pbfcut.specs.Stops.{Caused, Only, unchanged, KeepsDrain, WriteFailed}
@@ -124,6 +125,10 @@ pub record IsFreshPacker {D S H : Type 0} (packer : Packing D S H) : Type 0 wher
 -- what is picked of a frame
 abbrev pub picked_in : Pick → FrameSpec → List EntitySpec
 picked_in pick f = filter pick (frame_entities f)
+
+-- the same of a frame that is lent
+abbrev pub lent_picked : Pick → Frame → List EntitySpec
+lent_picked pick frame = filter pick (lent_entities frame)
 
 -- a pass took the header of a frame, or counted what is picked of it
 abbrev pub TakesPicked : Pick → FrameSpec → Pass → Pass → Type 0

@@ -1,9 +1,10 @@
 -- The text of `show`, what a call does to its drain, and why it stops.
-use Rattle.std.specs.Prelude.{◌≡◌, ◌⊎◌, ℕ, List, [], Bool, true, false, Option, Some, None}
+use Rattle.std.specs.Prelude.{◌≡◌, ◌⊎◌, ℕ, List, [], Bool, Option, Some, None}
 use Rattle.std.specs.List.{flat_map}
 use Rattle.pbf_wire.specs.declared.fault.Fault.{Fault}
 use Rattle.pbf_block.specs.Header.{header_in}
 use Rattle.pbf_block.specs.Payload.{entities}
+use Rattle.pbf_frame.specs.declared.frame.Frame.{Frame}
 use Rattle.pbf_frame.specs.declared.frame.FrameKind.{FrameKind}
 use Rattle.pbf_frame.specs.declared.frame.FrameKind.TheVariants as kind
 use Rattle.pbf_frame.specs.declared.device.Drain as drain
@@ -27,6 +28,10 @@ payload_text dates kind.Other at payload = []
 
 unfoldable pub frame_text : Bool → FrameSpec → List ℕ
 frame_text dates f = payload_text dates (frame_kind f) (frame_payload_at f) (frame_payload f)
+
+-- the same of a frame that is lent
+abbrev pub lent_text : Bool → Frame → List ℕ
+lent_text dates frame = payload_text dates frame.kind frame.payload_at frame.payload.now
 
 -- of all frames, in order
 abbrev pub file_text : Bool → List FrameSpec → List ℕ

@@ -1,12 +1,14 @@
 //! `blobs`: a line for each frame.
 
-ghost use Rattle.std.specs.Prelude.{false, ◌≡◌, ◌++◌, ◌<◌, ◌≤◌, ◌^◌, IsTrue, IfOk, IfErr, OnOk, OnErr};
-ghost use Rattle.pbf_frame.specs.Frames.{FrameSpec};
+ghost use Rattle.std.specs.Prelude.{false, None, ◌≡◌, ◌++◌, ◌≤◌, ◌^◌, IfOk, IfErr, OnOk, OnErr};
+ghost use Rattle.pbf_frame.specs.Devices.{IsFront};
+ghost use Rattle.pbf_frame.specs.Next.{IsReading, place_of, held_by, verdict};
+ghost use Rattle.pbf_frame.specs.Transfers.{Added};
 ghost use Rattle.pbf_frame.specs.Verdict.{judged_known};
-ghost use Rattle.pbf_frame.specs.Next.{Shows, IsReading, place_of, verdict};
-ghost use Rattle.pbfcut.specs.Blobs.{line, shown_name, shown_length};
-ghost use Rattle.pbfcut.specs.Listing.{Lists, ListsFront, ListsToFault, TookLine, StoppedIn, StopsAtFault};
-ghost use Rattle.pbfcut.specs.Stops.{Caused, unchanged, ReadFailed, WriteFailed};
+ghost use Rattle.pbfcut.specs.Blobs.{lent_line, shown_name, shown_length};
+ghost use Rattle.pbfcut.specs.Listing.{Lists, ListsFront, ListsToFault, ListsFrame, StopsListing};
+ghost use Rattle.pbfcut.specs.Pass.{IsStep};
+ghost use Rattle.pbfcut.specs.Stops.{Caused, Only, unchanged, KeepsFeed, KeepsDrain, ReadFailed, WriteFailed};
 
 use osm_text::{put_number, put_quoted};
 use pbf_frame::{Drain, Feed, Frame, FrameKind, FrameReader, Stop, write_all};
@@ -36,7 +38,7 @@ fn put_length(out: &mut Vec<u8>, kind: FrameKind, length: u64) -> Result<(), All
 
 /// Appends the line of a frame.
 fn put_line(out: &mut Vec<u8>, frame: &Frame<'_>) -> Result<(), AllocError>
-    ensures { (f : FrameSpec) → Shows frame.now f → OnOk result (out.new.items ≡ out.old.items ++ line f) }
+    ensures { OnOk result (out.new.items ≡ out.old.items ++ lent_line frame.now) }
 {
     put_number(out, frame.offset)?;
     out.push(b' ')?;
@@ -49,33 +51,41 @@ fn put_line(out: &mut Vec<u8>, frame: &Frame<'_>) -> Result<(), AllocError>
     Ok(())
 }
 
-/// Writes the line of the next frame; false at the end. The line is put together in `text`, so that each is one write.
+/// Writes the line of a frame, which is put together in `text`, so that it is one write.
+fn write_line<D: Drain>(frame: &Frame<'_>, text: &mut Vec<u8>, drain: &mut D) -> Result<(), Stop>
+    ensures listed { OnOk result (Added D.Drain drain.old (lent_line frame.now) drain.new) }
+    ensures front { IsFront (D.taken drain.old) (D.taken drain.new) (lent_line frame.now) }
+    ensures stops { IfErr result
+        (Caused (Only None) ⊥ (WriteFailed D.Drain drain.old drain.new) unchanged) }
+    ensures keeps { KeepsDrain D.Drain drain.old drain.new }
+{
+    text.clear();
+    put_line(text, frame)?;
+    write_all(drain, text)?;
+    Ok(())
+}
+
+/// Writes the line of the next frame; false at the end of an input that had its header.
 fn step_line<F: Feed, D: Drain>(
     reader: &mut FrameReader<F>,
     text: &mut Vec<u8>,
     drain: &mut D,
 ) -> Result<bool, Stop>
-    requires { IsReading reader.old }
-    ensures took { IfOk result (TookLine (verdict F.remaining reader.old) (verdict F.remaining reader.new) (D.taken drain.old) (D.taken drain.new)) }
-    ensures stopped { OnErr result (StoppedIn (verdict F.remaining reader.old) (D.taken drain.old) (D.taken drain.new)) }
-    ensures stops { IfErr result (Caused (StopsAtFault (verdict F.remaining reader.old) (D.taken drain.old) (D.taken drain.new)) (ReadFailed F.Feed reader.old.feed reader.new.feed) (WriteFailed D.Drain drain.old drain.new) unchanged) }
-    ensures rises { IfOk result (λ more. IsTrue more → place_of reader.old < place_of reader.new) }
-    ensures reading { IfOk result (λ more. IsTrue more → IsReading reader.new) }
+    ensures step { IsStep F.Feed reader.old reader.new (ListsFrame D.Drain drain.old drain.new)
+        (StopsListing D.Drain drain.old drain.new) (drain.new ≡ drain.old) result }
+    ensures keeps { KeepsDrain D.Drain drain.old drain.new }
     ensures limited { place_of reader.new ≤ 2 ^ 62 }
-    ensures counts { F.failures reader.old.feed ≤ F.failures reader.new.feed }
-    ensures drain_counts { D.failures drain.old ≤ D.failures drain.new }
-    ensures lender { F.lender reader.new.feed ≡ F.lender reader.old.feed }
+    ensures space { held_by reader.new ≤ 33620990 }
 {
     let Some(frame) = reader.next()? else {
         return Ok(false);
     };
-    text.clear();
-    put_line(text, &frame)?;
-    write_all(drain, text)?;
+    write_line(&frame, text, drain)?;
     Ok(true)
 }
 
-/// Writes the lines of the frames that are left, and answers how many there are.
+/// Writes the lines of the frames that are left, by steps, and answers how many there are: after each step its clause `space`
+/// bounds what the reader holds.
 fn list_all<F: Feed, D: Drain>(
     alloc: Global,
     reader: &mut FrameReader<F>,
@@ -83,11 +93,15 @@ fn list_all<F: Feed, D: Drain>(
 ) -> Result<u64, Stop>
     requires reading { IsReading reader.old }
     requires start { place_of reader.old ≡ 0 }
-    ensures listed { IfOk result (Lists (verdict F.remaining reader.old) (D.taken drain.old) (D.taken drain.new)) }
-    ensures beginning { OnErr result (ListsFront (verdict F.remaining reader.old) (D.taken drain.old) (D.taken drain.new)) }
-    ensures stops { IfErr result (Caused (ListsToFault (verdict F.remaining reader.old) (D.taken drain.old) (D.taken drain.new)) (ReadFailed F.Feed reader.old.feed reader.new.feed) (WriteFailed D.Drain drain.old drain.new) unchanged) }
-    ensures counts { F.failures reader.old.feed ≤ F.failures reader.new.feed }
-    ensures lender { F.lender reader.new.feed ≡ F.lender reader.old.feed }
+    ensures listed { IfOk result (Lists D.Drain drain.old drain.new
+        (verdict F.remaining reader.old)) }
+    ensures beginning { OnErr result (ListsFront D.Drain drain.old drain.new
+        (verdict F.remaining reader.old)) }
+    ensures stops { IfErr result (Caused
+        (ListsToFault D.Drain drain.old drain.new (verdict F.remaining reader.old))
+        (ReadFailed F.Feed reader.old.feed reader.new.feed)
+        (WriteFailed D.Drain drain.old drain.new) unchanged) }
+    ensures keeps { KeepsFeed F.Feed reader.old.feed reader.new.feed }
 {
     let mut text = Vec::new(alloc);
     let mut count = 0;
@@ -108,9 +122,16 @@ pub fn list_blobs<F: Feed, D: Drain>(
     feed: &mut F,
     drain: &mut D,
 ) -> Result<u64, Stop>
-    ensures listed { IfOk result (Lists (judged_known false 0 (F.remaining feed.old)) (D.taken drain.old) (D.taken drain.new)) }
-    ensures beginning { OnErr result (ListsFront (judged_known false 0 (F.remaining feed.old)) (D.taken drain.old) (D.taken drain.new)) }
-    ensures stops { IfErr result (Caused (ListsToFault (judged_known false 0 (F.remaining feed.old)) (D.taken drain.old) (D.taken drain.new)) (ReadFailed F.Feed feed.old feed.new) (WriteFailed D.Drain drain.old drain.new) unchanged) }
+    // The file has no frame fault, and the drain took exactly the lines of its frames, of which there are so many.
+    ensures listed { IfOk result (Lists D.Drain drain.old drain.new
+        (judged_known false 0 (F.remaining feed.old))) }
+    // Whatever stopped it, a prefix of the lines of the frames before the first fault went out.
+    ensures beginning { OnErr result (ListsFront D.Drain drain.old drain.new
+        (judged_known false 0 (F.remaining feed.old))) }
+    // Each stop has its cause; where the file is refused, all the lines of the frames before the fault went out.
+    ensures stops { IfErr result (Caused
+        (ListsToFault D.Drain drain.old drain.new (judged_known false 0 (F.remaining feed.old)))
+        (ReadFailed F.Feed feed.old feed.new) (WriteFailed D.Drain drain.old drain.new) unchanged) }
 {
     let mut reader = FrameReader::new(alloc, &mut *feed);
     let outcome = list_all(alloc, &mut reader, drain);

@@ -41,15 +41,20 @@ pub fn convert<F: Feed, G: Feed, D: Drain, S: BuildHasher + Drop>(
     ensures judged { OnOk result (CanBeWritten (judged_writable (F.remaining first.old))) }
     // Where both feeds supply these bytes, the drain took exactly their conversion: a file that is read as the same entities. The
     // counts are theirs.
-    ensures converted { IfOk result (λ counts. (b : List ℕ) → BothSupply b (F.remaining first.old) (G.remaining second.old)
+    ensures converted { IfOk result (λ counts. (b : List ℕ)
+        → BothSupply b (F.remaining first.old) (G.remaining second.old)
         → Took D.Drain drain.old drain.new (Converted b counts)) }
     // No files that differ, unless two unlike lists share a digest.
     ensures digests { OnOk result (SameDigest (F.remaining first.old) (G.remaining second.old)) }
     // Each stop has its cause; what is refused is the first file, by its first fault, and then the drain took nothing.
-    ensures stops { IfErr result (ConvertStops (F.remaining first.old) (G.remaining second.old) (D.taken drain.old) (D.taken drain.new)
-        (ReadFailed F.Feed first.old first.new ⊎ ReadFailed G.Feed second.old second.new) (WriteFailed D.Drain drain.old drain.new)) }
+    ensures stops { IfErr result (ConvertStops (F.remaining first.old) (G.remaining second.old)
+        (D.taken drain.old) (D.taken drain.new)
+        (ReadFailed F.Feed first.old first.new ⊎ ReadFailed G.Feed second.old second.new)
+        (WriteFailed D.Drain drain.old drain.new)) }
     // Whatever stopped it, where both feeds supply these bytes a prefix of their conversion went out, and nothing where they have a fault.
-    ensures beginning { OnErr result ((b : List ℕ) → BothSupply b (F.remaining first.old) (G.remaining second.old) → IsFront (D.taken drain.old) (D.taken drain.new) (conversion_of b)) }
+    ensures beginning { OnErr result ((b : List ℕ)
+        → BothSupply b (F.remaining first.old) (G.remaining second.old)
+        → IsFront (D.taken drain.old) (D.taken drain.new) (conversion_of b)) }
 {
     Ok(convert_file(alloc, first, second, drain, hasher)?.counts)
 }
@@ -95,13 +100,19 @@ fn convert_file<F: Feed, G: Feed, D: Drain, S: BuildHasher + Drop>(
     drain: &mut D,
     hasher: S,
 ) -> Result<InputReceipt, Halt>
-    ensures given { IfOk result (λ receipt. GaveFile F.Feed first.old first.new receipt.input (λ b. IsWritable b
+    ensures given { IfOk result (λ receipt. GaveFile F.Feed first.old first.new receipt.input
+        (λ b. IsWritable b
         × GaveFile G.Feed second.old second.new receipt.input (λ c. Took D.Drain drain.old drain.new
         (λ written. b ≡ c → Converted b receipt.counts written)))) }
-    ensures refused { IfErr result (HaltsFile F.Feed first.old first.new D.Drain drain.old drain.new (λ b. judged_writable (Some b))) }
-    ensures stops { IfErr result (λ h. ConvertStops (F.remaining first.old) (G.remaining second.old) (D.taken drain.old) (D.taken drain.new)
-        (ReadFailed F.Feed first.old first.new ⊎ ReadFailed G.Feed second.old second.new) (WriteFailed D.Drain drain.old drain.new) (stop_of h)) }
-    ensures beginning { OnErr result ((b : List ℕ) → BothSupply b (F.remaining first.old) (G.remaining second.old) → IsFront (D.taken drain.old) (D.taken drain.new) (conversion_of b)) }
+    ensures refused { IfErr result (HaltsFile F.Feed first.old first.new
+        D.Drain drain.old drain.new (λ b. judged_writable (Some b))) }
+    ensures stops { IfErr result (λ h. ConvertStops (F.remaining first.old) (G.remaining second.old)
+        (D.taken drain.old) (D.taken drain.new)
+        (ReadFailed F.Feed first.old first.new ⊎ ReadFailed G.Feed second.old second.new)
+        (WriteFailed D.Drain drain.old drain.new) (stop_of h)) }
+    ensures beginning { OnErr result ((b : List ℕ)
+        → BothSupply b (F.remaining first.old) (G.remaining second.old)
+        → IsFront (D.taken drain.old) (D.taken drain.new) (conversion_of b)) }
     ensures drain { KeepsDrain D.Drain drain.old drain.new }
 {
     let told = judge(alloc, first, &mut Nothing)?;

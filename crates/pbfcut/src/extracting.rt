@@ -5,7 +5,6 @@ ghost use Rattle.osm_ways.specs.Parents.{extract_with_parents};
 ghost use Rattle.osm_ways.specs.Seen.{seen_decoded};
 ghost use Rattle.osm_ways.specs.Selection.{extract};
 ghost use Rattle.pbf_block.specs.Header.{header_of};
-ghost use Rattle.pbf_block.specs.WrittenHeader.{edges_of, EdgesTyped};
 ghost use Rattle.pbf_frame.specs.Devices.{IsFront};
 ghost use Rattle.pbfcut.specs.Calls.{AllSupply, FourSupply, Extracted, ExtractStops, ParentsStops, ChangedIn};
 ghost use Rattle.pbfcut.specs.Converting.{CanBeWritten, judged_writable};
@@ -48,11 +47,6 @@ struct ChoiceWithParents {
     digest: [u8; 32],
 }
 
-/// The edges of a box are numbers of the format. This does nothing: it is a law, called where a proof needs it.
-fn edges_are_typed(area: BoundingBox)
-    ensures { EdgesTyped (edges_of area) }
-{}
-
 /// The passes before the one that writes: the first judges the file and takes the nodes of the box, the second takes the ways.
 fn choose<F: Feed, G: Feed>(
     alloc: Global,
@@ -61,13 +55,14 @@ fn choose<F: Feed, G: Feed>(
     area: BoundingBox,
 ) -> Result<Choice, Halt>
     ensures chosen { IfOk result (λ choice. GaveFile F.Feed first.old first.new choice.digest (λ b.
-        GaveFile G.Feed second.old second.new choice.digest (λ c. IsChoice area b c choice.chosen (header_of choice.header)))) }
-    ensures refused { IfErr result (Halts (RefusesFile F.Feed first.old first.new (λ b. judged_writable (Some b)))) }
+        GaveFile G.Feed second.old second.new choice.digest
+        (λ c. IsChoice area b c choice.chosen (header_of choice.header)))) }
+    ensures refused { IfErr result
+        (Halts (RefusesFile F.Feed first.old first.new (λ b. judged_writable (Some b)))) }
     ensures stops { IfErr result (λ h. Caused (FaultOf (judged_writable (F.remaining first.old)))
         (ReadFailed F.Feed first.old first.new ⊎ ReadFailed G.Feed second.old second.new) ⊥
         (ChangedIn 2 (F.remaining first.old) (G.remaining second.old)) (stop_of h)) }
 {
-    edges_are_typed(area);
     let mut nodes = NodePhase::new(alloc, area);
     let told = judge(alloc, first, &mut nodes)?;
     let header = writable_header(&told)?.for_box(alloc, area)?;
@@ -108,16 +103,24 @@ pub fn extract<F: Feed, G: Feed, H: Feed, D: Drain, S: BuildHasher + Drop>(
     ensures judged { OnOk result (CanBeWritten (judged_writable (F.remaining first.old))) }
     // Where all feeds supply these bytes, the drain took exactly the complete-ways extract of the decoded bytes, in input order and
     // in canonical form, after the header of the box; the counts are those of its entities.
-    ensures extracted { IfOk result (λ counts. (b : List ℕ) → AllSupply b (F.remaining first.old) (G.remaining second.old) (H.remaining third.old)
-        → Took D.Drain drain.old drain.new (Extracted (complete_ways area) (extract (seen_decoded area)) area b counts)) }
+    ensures extracted { IfOk result (λ counts. (b : List ℕ)
+        → AllSupply b (F.remaining first.old) (G.remaining second.old) (H.remaining third.old)
+        → Took D.Drain drain.old drain.new
+        (Extracted (complete_ways area) (extract (seen_decoded area)) area b counts)) }
     // No files that differ, unless two unlike lists share a digest.
-    ensures digests { OnOk result (SameDigest (F.remaining first.old) (G.remaining second.old) × SameDigest (F.remaining first.old) (H.remaining third.old)) }
+    ensures digests { OnOk result (SameDigest (F.remaining first.old) (G.remaining second.old)
+        × SameDigest (F.remaining first.old) (H.remaining third.old)) }
     // Each stop has its cause; what is refused is the first file, by its first fault, and then the drain took nothing.
-    ensures stops { IfErr result (ExtractStops (F.remaining first.old) (G.remaining second.old) (H.remaining third.old) (D.taken drain.old) (D.taken drain.new)
-        (ReadFailed F.Feed first.old first.new ⊎ (ReadFailed G.Feed second.old second.new ⊎ ReadFailed H.Feed third.old third.new))
+    ensures stops { IfErr result (ExtractStops (F.remaining first.old) (G.remaining second.old)
+        (H.remaining third.old) (D.taken drain.old) (D.taken drain.new)
+        (ReadFailed F.Feed first.old first.new
+        ⊎ (ReadFailed G.Feed second.old second.new ⊎ ReadFailed H.Feed third.old third.new))
         (WriteFailed D.Drain drain.old drain.new)) }
     // Whatever stopped it, where all feeds supply these bytes a prefix of the answer went out, and nothing where they have a fault.
-    ensures beginning { OnErr result ((b : List ℕ) → AllSupply b (F.remaining first.old) (G.remaining second.old) (H.remaining third.old) → IsFront (D.taken drain.old) (D.taken drain.new) (extract_of (complete_ways area) area b)) }
+    ensures beginning { OnErr result ((b : List ℕ)
+        → AllSupply b (F.remaining first.old) (G.remaining second.old) (H.remaining third.old)
+        → IsFront (D.taken drain.old) (D.taken drain.new)
+        (extract_of (complete_ways area) area b)) }
 {
     Ok(extract_file(alloc, first, second, third, area, drain, hasher)?.counts)
 }
@@ -170,15 +173,24 @@ fn extract_file<F: Feed, G: Feed, H: Feed, D: Drain, S: BuildHasher + Drop>(
     drain: &mut D,
     hasher: S,
 ) -> Result<InputReceipt, Halt>
-    ensures given { IfOk result (λ receipt. GaveFile F.Feed first.old first.new receipt.input (λ b. IsWritable b
-        × GaveFile G.Feed second.old second.new receipt.input (λ c. GaveFile H.Feed third.old third.new receipt.input (λ d.
+    ensures given { IfOk result (λ receipt. GaveFile F.Feed first.old first.new receipt.input
+        (λ b. IsWritable b
+        × GaveFile G.Feed second.old second.new receipt.input
+        (λ c. GaveFile H.Feed third.old third.new receipt.input (λ d.
         Took D.Drain drain.old drain.new
-        (λ written. b ≡ c → b ≡ d → Extracted (complete_ways area) (extract (seen_decoded area)) area b receipt.counts written))))) }
-    ensures refused { IfErr result (HaltsFile F.Feed first.old first.new D.Drain drain.old drain.new (λ b. judged_writable (Some b))) }
-    ensures stops { IfErr result (λ h. ExtractStops (F.remaining first.old) (G.remaining second.old) (H.remaining third.old) (D.taken drain.old) (D.taken drain.new)
-        (ReadFailed F.Feed first.old first.new ⊎ (ReadFailed G.Feed second.old second.new ⊎ ReadFailed H.Feed third.old third.new))
+        (λ written. b ≡ c → b ≡ d → Extracted (complete_ways area) (extract (seen_decoded area))
+        area b receipt.counts written))))) }
+    ensures refused { IfErr result (HaltsFile F.Feed first.old first.new
+        D.Drain drain.old drain.new (λ b. judged_writable (Some b))) }
+    ensures stops { IfErr result (λ h. ExtractStops (F.remaining first.old) (G.remaining second.old)
+        (H.remaining third.old) (D.taken drain.old) (D.taken drain.new)
+        (ReadFailed F.Feed first.old first.new
+        ⊎ (ReadFailed G.Feed second.old second.new ⊎ ReadFailed H.Feed third.old third.new))
         (WriteFailed D.Drain drain.old drain.new) (stop_of h)) }
-    ensures beginning { OnErr result ((b : List ℕ) → AllSupply b (F.remaining first.old) (G.remaining second.old) (H.remaining third.old) → IsFront (D.taken drain.old) (D.taken drain.new) (extract_of (complete_ways area) area b)) }
+    ensures beginning { OnErr result ((b : List ℕ)
+        → AllSupply b (F.remaining first.old) (G.remaining second.old) (H.remaining third.old)
+        → IsFront (D.taken drain.old) (D.taken drain.new)
+        (extract_of (complete_ways area) area b)) }
     ensures drain { KeepsDrain D.Drain drain.old drain.new }
 {
     let choice = choose(alloc, first, second, area)?;
@@ -203,12 +215,16 @@ fn choose_parents<F: Feed, G: Feed, H: Feed>(
     area: BoundingBox,
 ) -> Result<ChoiceWithParents, Halt>
     ensures chosen { IfOk result (λ choice. GaveFile F.Feed first.old first.new choice.digest (λ b.
-        GaveFile G.Feed second.old second.new choice.digest (λ c. GaveFile H.Feed third.old third.new choice.digest
+        GaveFile G.Feed second.old second.new choice.digest
+        (λ c. GaveFile H.Feed third.old third.new choice.digest
         (λ d. IsChoiceWithParents area b c d choice.chosen (header_of choice.header))))) }
-    ensures refused { IfErr result (Halts (RefusesFile F.Feed first.old first.new (λ b. judged_writable (Some b)))) }
+    ensures refused { IfErr result
+        (Halts (RefusesFile F.Feed first.old first.new (λ b. judged_writable (Some b)))) }
     ensures stops { IfErr result (λ h. Caused (FaultOf (judged_writable (F.remaining first.old)))
-        (ReadFailed F.Feed first.old first.new ⊎ (ReadFailed G.Feed second.old second.new ⊎ ReadFailed H.Feed third.old third.new)) ⊥
-        (λ pass. ChangedIn 2 (F.remaining first.old) (G.remaining second.old) pass ⊎ ChangedIn 3 (F.remaining first.old) (H.remaining third.old) pass) (stop_of h)) }
+        (ReadFailed F.Feed first.old first.new
+        ⊎ (ReadFailed G.Feed second.old second.new ⊎ ReadFailed H.Feed third.old third.new)) ⊥
+        (λ pass. ChangedIn 2 (F.remaining first.old) (G.remaining second.old) pass
+        ⊎ ChangedIn 3 (F.remaining first.old) (H.remaining third.old) pass) (stop_of h)) }
 {
     let choice = choose(alloc, first, second, area)?;
     let digest = choice.digest;
@@ -244,16 +260,27 @@ pub fn extract_parents<F: Feed, G: Feed, H: Feed, I: Feed, D: Drain, S: BuildHas
     ensures judged { OnOk result (CanBeWritten (judged_writable (F.remaining first.old))) }
     // Where all feeds supply these bytes, the drain took exactly the complete-ways extract with all parents of the decoded bytes, in
     // input order and in canonical form, after the header of the box; the counts are those of its entities.
-    ensures extracted { IfOk result (λ counts. (b : List ℕ) → FourSupply b (F.remaining first.old) (G.remaining second.old) (H.remaining third.old) (I.remaining fourth.old)
-        → Took D.Drain drain.old drain.new (Extracted (all_parents area) (extract_with_parents (seen_decoded area)) area b counts)) }
+    ensures extracted { IfOk result (λ counts. (b : List ℕ)
+        → FourSupply b (F.remaining first.old) (G.remaining second.old) (H.remaining third.old)
+        (I.remaining fourth.old)
+        → Took D.Drain drain.old drain.new
+        (Extracted (all_parents area) (extract_with_parents (seen_decoded area)) area b counts)) }
     // No files that differ, unless two unlike lists share a digest.
-    ensures digests { OnOk result (SameDigest (F.remaining first.old) (G.remaining second.old) × SameDigest (F.remaining first.old) (H.remaining third.old) × SameDigest (F.remaining first.old) (I.remaining fourth.old)) }
+    ensures digests { OnOk result (SameDigest (F.remaining first.old) (G.remaining second.old)
+        × SameDigest (F.remaining first.old) (H.remaining third.old)
+        × SameDigest (F.remaining first.old) (I.remaining fourth.old)) }
     // Each stop has its cause; what is refused is the first file, by its first fault, and then the drain took nothing.
-    ensures stops { IfErr result (ParentsStops (F.remaining first.old) (G.remaining second.old) (H.remaining third.old) (I.remaining fourth.old) (D.taken drain.old) (D.taken drain.new)
-        ((ReadFailed F.Feed first.old first.new ⊎ (ReadFailed G.Feed second.old second.new ⊎ ReadFailed H.Feed third.old third.new)) ⊎ ReadFailed I.Feed fourth.old fourth.new)
+    ensures stops { IfErr result (ParentsStops (F.remaining first.old) (G.remaining second.old)
+        (H.remaining third.old) (I.remaining fourth.old) (D.taken drain.old) (D.taken drain.new)
+        ((ReadFailed F.Feed first.old first.new
+        ⊎ (ReadFailed G.Feed second.old second.new ⊎ ReadFailed H.Feed third.old third.new))
+        ⊎ ReadFailed I.Feed fourth.old fourth.new)
         (WriteFailed D.Drain drain.old drain.new)) }
     // Whatever stopped it, where all feeds supply these bytes a prefix of the answer went out, and nothing where they have a fault.
-    ensures beginning { OnErr result ((b : List ℕ) → FourSupply b (F.remaining first.old) (G.remaining second.old) (H.remaining third.old) (I.remaining fourth.old) → IsFront (D.taken drain.old) (D.taken drain.new) (extract_of (all_parents area) area b)) }
+    ensures beginning { OnErr result ((b : List ℕ)
+        → FourSupply b (F.remaining first.old) (G.remaining second.old) (H.remaining third.old)
+        (I.remaining fourth.old)
+        → IsFront (D.taken drain.old) (D.taken drain.new) (extract_of (all_parents area) area b)) }
 {
     Ok(extract_file_with_parents(alloc, first, second, third, fourth, area, drain, hasher)?.counts)
 }
@@ -325,15 +352,25 @@ fn extract_file_with_parents<F: Feed, G: Feed, H: Feed, I: Feed, D: Drain, S: Bu
     drain: &mut D,
     hasher: S,
 ) -> Result<InputReceipt, Halt>
-    ensures given { IfOk result (λ receipt. GaveFile F.Feed first.old first.new receipt.input (λ b. IsWritable b
-        × GaveFile G.Feed second.old second.new receipt.input (λ c. GaveFile H.Feed third.old third.new receipt.input (λ d.
+    ensures given { IfOk result (λ receipt. GaveFile F.Feed first.old first.new receipt.input
+        (λ b. IsWritable b
+        × GaveFile G.Feed second.old second.new receipt.input
+        (λ c. GaveFile H.Feed third.old third.new receipt.input (λ d.
         GaveFile I.Feed fourth.old fourth.new receipt.input (λ e. Took D.Drain drain.old drain.new
-        (λ written. b ≡ c → b ≡ d → b ≡ e → Extracted (all_parents area) (extract_with_parents (seen_decoded area)) area b receipt.counts written)))))) }
-    ensures refused { IfErr result (HaltsFile F.Feed first.old first.new D.Drain drain.old drain.new (λ b. judged_writable (Some b))) }
-    ensures stops { IfErr result (λ h. ParentsStops (F.remaining first.old) (G.remaining second.old) (H.remaining third.old) (I.remaining fourth.old) (D.taken drain.old) (D.taken drain.new)
-        ((ReadFailed F.Feed first.old first.new ⊎ (ReadFailed G.Feed second.old second.new ⊎ ReadFailed H.Feed third.old third.new)) ⊎ ReadFailed I.Feed fourth.old fourth.new)
+        (λ written. b ≡ c → b ≡ d → b ≡ e → Extracted (all_parents area)
+        (extract_with_parents (seen_decoded area)) area b receipt.counts written)))))) }
+    ensures refused { IfErr result (HaltsFile F.Feed first.old first.new
+        D.Drain drain.old drain.new (λ b. judged_writable (Some b))) }
+    ensures stops { IfErr result (λ h. ParentsStops (F.remaining first.old) (G.remaining second.old)
+        (H.remaining third.old) (I.remaining fourth.old) (D.taken drain.old) (D.taken drain.new)
+        ((ReadFailed F.Feed first.old first.new
+        ⊎ (ReadFailed G.Feed second.old second.new ⊎ ReadFailed H.Feed third.old third.new))
+        ⊎ ReadFailed I.Feed fourth.old fourth.new)
         (WriteFailed D.Drain drain.old drain.new) (stop_of h)) }
-    ensures beginning { OnErr result ((b : List ℕ) → FourSupply b (F.remaining first.old) (G.remaining second.old) (H.remaining third.old) (I.remaining fourth.old) → IsFront (D.taken drain.old) (D.taken drain.new) (extract_of (all_parents area) area b)) }
+    ensures beginning { OnErr result ((b : List ℕ)
+        → FourSupply b (F.remaining first.old) (G.remaining second.old) (H.remaining third.old)
+        (I.remaining fourth.old)
+        → IsFront (D.taken drain.old) (D.taken drain.new) (extract_of (all_parents area) area b)) }
     ensures drain { KeepsDrain D.Drain drain.old drain.new }
 {
     let choice = choose_parents(alloc, first, second, third, area)?;

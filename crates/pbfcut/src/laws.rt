@@ -25,24 +25,35 @@ ghost use Rattle.pbfcut.specs.Pass.{file_header};
 /// A file that is written is read back: where it is at most 2^62 bytes long, it has no fault of any phase, its header is the
 /// header that was written, and its entities are those that were written.
 pub fn written_file_is_read()
-    ensures { (h : HeaderSpec) (es : List EntitySpec) → HeaderFits (header_out_for_convert h) → text_weight h.source + text_weight h.url ≤ MOST_HEADER_TEXT → AllByRecursion EntityFits es → AllByRecursion EntityTyped es → length (written_file h es) ≤ 2 ^ 62
-        → (frames : List FrameSpec) × (judged_file (Some (written_file h es)) ≡ Some (frames, None)) × (stored_entities frames ≡ es) × (option_map (λ p. p.1) (file_header frames) ≡ Some (header_out_for_convert h)) }
+    ensures { (h : HeaderSpec) (es : List EntitySpec) → HeaderFits (header_out_for_convert h)
+        → text_weight h.source + text_weight h.url ≤ MOST_HEADER_TEXT → AllByRecursion EntityFits es
+        → AllByRecursion EntityTyped es → length (written_file h es) ≤ 2 ^ 62
+        → (frames : List FrameSpec) × (judged_file (Some (written_file h es)) ≡ Some (frames, None))
+        × (stored_entities frames ≡ es)
+        × (option_map (λ p. p.1) (file_header frames) ≡ Some (header_out_for_convert h)) }
 {}
 
 /// A conversion of a file that can be converted, at most 2^62 bytes long, is a file without a fault that has the file's header in
 /// written form and the file's entities, in order, with all that is stored of them; and a conversion of it is the same bytes.
 pub fn converted_file_is_kept()
-    ensures { (file : List ℕ) → IsWritable file → length (conversion_of file) ≤ 2 ^ 62 → IsConversion file (conversion_of file) }
+    ensures { (file : List ℕ) → IsWritable file → length (conversion_of file) ≤ 2 ^ 62
+        → IsConversion file (conversion_of file) }
 {}
 
 /// The complete-ways extract of such a file, at most 2^62 bytes long, is a file without a fault that has the file's header in
 /// written form with the box, and of the file's entities those that the selection keeps, in order, with all that is stored of
 /// them; it means the complete-ways extract of what the file means; and an extract of it by the same box is the same bytes.
 pub fn extracted_file_is_kept()
-    ensures { (area : BoundingBox) → EdgesTyped (edges_of area) → (file : List ℕ) → IsWritable file → length (extract_of (complete_ways area) area file) ≤ 2 ^ 62 → IsExtract (complete_ways area) (extract (seen_decoded area)) area file (extract_of (complete_ways area) area file) }
+    ensures { (area : BoundingBox) → EdgesTyped (edges_of area) → (file : List ℕ) → IsWritable file
+        → length (extract_of (complete_ways area) area file) ≤ 2 ^ 62
+        → IsExtract (complete_ways area) (extract (seen_decoded area)) area file
+        (extract_of (complete_ways area) area file) }
 {}
 
 /// The same of the extract with all parents.
 pub fn file_extracted_with_parents_is_kept()
-    ensures { (area : BoundingBox) → EdgesTyped (edges_of area) → (file : List ℕ) → IsWritable file → length (extract_of (all_parents area) area file) ≤ 2 ^ 62 → IsExtract (all_parents area) (extract_with_parents (seen_decoded area)) area file (extract_of (all_parents area) area file) }
+    ensures { (area : BoundingBox) → EdgesTyped (edges_of area) → (file : List ℕ) → IsWritable file
+        → length (extract_of (all_parents area) area file) ≤ 2 ^ 62
+        → IsExtract (all_parents area) (extract_with_parents (seen_decoded area)) area file
+        (extract_of (all_parents area) area file) }
 {}

@@ -12,7 +12,7 @@ ghost use Rattle.pbf_frame.specs.declared.frame.FrameKind.TheVariants as kind;
 ghost use Rattle.pbf_frame.specs.Next.{IsReading, place_of, held_by, verdict};
 ghost use Rattle.pbf_wire.specs.declared.fault.Fault.{Fault};
 ghost use Rattle.pbf_wire.specs.declared.fault.ReadFault.TheVariants.{Refused};
-ghost use Rattle.pbfcut.specs.Judged.{payload_fault_of, fully_known, judged_file};
+ghost use Rattle.pbfcut.specs.Judged.{payload_fault_of, lent_fault, fully_known, judged_file};
 ghost use Rattle.pbfcut.specs.Pass.{IsFresh, TakesPayload, TakesAll, TakesFrame, CountsFrame, TakesFile, IsStep, FailsToJudge, as_it_was, with_node, with_way, with_relation};
 ghost use Rattle.pbfcut.specs.Given.{GaveRest, GaveFile};
 ghost use Rattle.pbfcut.specs.Hashing.{IsLength};
@@ -36,7 +36,8 @@ pub trait Gather {
 
     /// Which kinds of entities matter: those of another kind leave it as it is.
     fn kinds() -> Kinds
-        ensures { (so_far : Self) (e : EntitySpec) → is_among result e ≡ false → gathered so_far e ≡ so_far };
+        ensures { (so_far : Self) (e : EntitySpec) → is_among result e ≡ false
+            → gathered so_far e ≡ so_far };
 
     /// Gathers an entity. Where memory is refused it may only be dropped.
     fn gather(&mut self, entity: &EntityRef<'_>) -> Result<(), AllocError>
@@ -44,7 +45,8 @@ pub trait Gather {
 
     /// Gathers the nodes of a dense message. Where memory is refused it may only be dropped.
     fn gather_dense(&mut self, dense: &Dense<'_>) -> Result<(), AllocError>
-        ensures { OnOk result (self.new ≡ fold gathered self.old (map node (dense_left dense.now))) };
+        ensures { OnOk result
+            (self.new ≡ fold gathered self.old (map node (dense_left dense.now))) };
 }
 
 /// Gathers nothing.
@@ -167,7 +169,8 @@ fn gather_run<G: Gather>(run: &Run<'_>, gathering: &mut G) -> Result<(), AllocEr
 
 /// Gathers those entities of a block that matter.
 fn gather_entities<G: Gather>(block: &Block<'_>, gathering: &mut G) -> Result<(), AllocError>
-    ensures { OnOk result (gathering.new ≡ fold G.gathered gathering.old (entities block.now.at block.now.payload.now)) }
+    ensures { OnOk result (gathering.new
+        ≡ fold G.gathered gathering.old (entities block.now.at block.now.payload.now)) }
 {
     for run in block.runs_among(G::kinds()) {
         gather_run(&run, gathering)?;
@@ -205,8 +208,10 @@ impl Pass {
         frame: &Frame<'_>,
         gathering: &mut G,
     ) -> Result<(), ReadFault>
-        ensures taken { OnOk result (TakesAll G.gathered frame.now.kind frame.now.payload_at frame.now.payload.now self.old self.new gathering.old gathering.new) }
-        ensures refused { (fault : Fault) → result ≡ Err (Refused fault) → payload_fault_of frame.now.kind frame.now.payload_at frame.now.payload.now ≡ Some fault }
+        ensures taken { OnOk result (TakesAll G.gathered frame.now.kind frame.now.payload_at
+            frame.now.payload.now self.old self.new gathering.old gathering.new) }
+        ensures refused { (fault : Fault) → result ≡ Err (Refused fault)
+            → lent_fault frame.now ≡ Some fault }
     {
         match frame.kind {
             FrameKind::Header => self.take_header(alloc, frame.payload, frame.payload_at)?,
@@ -228,7 +233,8 @@ impl Pass {
         requires { at + length payload.now ≤ 2 ^ 63 }
         ensures taken { OnOk result (TakesPayload kind.Header at payload.now self.old self.new) }
         ensures sound { OnOk result (payload_fault_of kind.Header at payload.now ≡ None) }
-        ensures refused { (fault : Fault) → result ≡ Err (Refused fault) → payload_fault_of kind.Header at payload.now ≡ Some fault }
+        ensures refused { (fault : Fault) → result ≡ Err (Refused fault)
+            → payload_fault_of kind.Header at payload.now ≡ Some fault }
     {
         self.header = Some(Header::read(alloc, payload, at)?);
         self.header_at = at;
@@ -245,8 +251,10 @@ impl Pass {
     ) -> Result<(), ReadFault>
         requires placed { at + length payload.now ≤ 2 ^ 63 }
         requires short { length payload.now < 33554432 }
-        ensures taken { OnOk result (TakesAll G.gathered kind.Data at payload.now self.old self.new gathering.old gathering.new) }
-        ensures refused { (fault : Fault) → result ≡ Err (Refused fault) → payload_fault_of kind.Data at payload.now ≡ Some fault }
+        ensures taken { OnOk result (TakesAll G.gathered kind.Data at payload.now self.old self.new
+            gathering.old gathering.new) }
+        ensures refused { (fault : Fault) → result ≡ Err (Refused fault)
+            → payload_fault_of kind.Data at payload.now ≡ Some fault }
     {
         let block = Block::read(alloc, payload, at)?;
         gather_entities(&block, gathering)?;
@@ -266,7 +274,9 @@ pub fn step_gather<F: Feed, G: Gather>(
     pass: &mut Pass,
     gathering: &mut G,
 ) -> Result<bool, Stop>
-    ensures step { IsStep F.Feed reader.old reader.new (TakesFrame G.gathered pass.old pass.new gathering.old gathering.new) FailsToJudge ((pass.new ≡ pass.old) × (gathering.new ≡ gathering.old)) result }
+    ensures step { IsStep F.Feed reader.old reader.new
+        (TakesFrame G.gathered pass.old pass.new gathering.old gathering.new)
+        FailsToJudge ((pass.new ≡ pass.old) × (gathering.new ≡ gathering.old)) result }
     ensures limited { place_of reader.new ≤ 2 ^ 62 }
     ensures space { held_by reader.new ≤ 33620990 }
 {
@@ -284,7 +294,8 @@ pub fn step_count<F: Feed>(
     reader: &mut FrameReader<F>,
     pass: &mut Pass,
 ) -> Result<bool, Stop>
-    ensures step { IsStep F.Feed reader.old reader.new (CountsFrame pass.old pass.new) FailsToJudge (pass.new ≡ pass.old) result }
+    ensures step { IsStep F.Feed reader.old reader.new (CountsFrame pass.old pass.new)
+        FailsToJudge (pass.new ≡ pass.old) result }
     ensures limited { place_of reader.new ≤ 2 ^ 62 }
     ensures space { held_by reader.new ≤ 33620990 }
 {
@@ -298,7 +309,9 @@ pub fn step_nodes<F: Feed>(
     pass: &mut Pass,
     phase: &mut NodePhase,
 ) -> Result<bool, Stop>
-    ensures step { IsStep F.Feed reader.old reader.new (TakesFrame with_node pass.old pass.new phase.old phase.new) FailsToJudge ((pass.new ≡ pass.old) × (phase.new ≡ phase.old)) result }
+    ensures step { IsStep F.Feed reader.old reader.new
+        (TakesFrame with_node pass.old pass.new phase.old phase.new)
+        FailsToJudge ((pass.new ≡ pass.old) × (phase.new ≡ phase.old)) result }
     ensures limited { place_of reader.new ≤ 2 ^ 62 }
     ensures space { held_by reader.new ≤ 33620990 }
 {
@@ -312,7 +325,9 @@ pub fn step_ways<F: Feed>(
     pass: &mut Pass,
     phase: &mut WayPhase,
 ) -> Result<bool, Stop>
-    ensures step { IsStep F.Feed reader.old reader.new (TakesFrame with_way pass.old pass.new phase.old phase.new) FailsToJudge ((pass.new ≡ pass.old) × (phase.new ≡ phase.old)) result }
+    ensures step { IsStep F.Feed reader.old reader.new
+        (TakesFrame with_way pass.old pass.new phase.old phase.new)
+        FailsToJudge ((pass.new ≡ pass.old) × (phase.new ≡ phase.old)) result }
     ensures limited { place_of reader.new ≤ 2 ^ 62 }
     ensures space { held_by reader.new ≤ 33620990 }
 {
@@ -326,7 +341,9 @@ pub fn step_relations<F: Feed>(
     pass: &mut Pass,
     phase: &mut RelationPhase,
 ) -> Result<bool, Stop>
-    ensures step { IsStep F.Feed reader.old reader.new (TakesFrame with_relation pass.old pass.new phase.old phase.new) FailsToJudge ((pass.new ≡ pass.old) × (phase.new ≡ phase.old)) result }
+    ensures step { IsStep F.Feed reader.old reader.new
+        (TakesFrame with_relation pass.old pass.new phase.old phase.new)
+        FailsToJudge ((pass.new ≡ pass.old) × (phase.new ≡ phase.old)) result }
     ensures limited { place_of reader.new ≤ 2 ^ 62 }
     ensures space { held_by reader.new ≤ 33620990 }
 {

@@ -16,9 +16,9 @@ ghost use Rattle.pbf_frame.specs.declared.frame.FrameKind.TheVariants as kind;
 ghost use Rattle.pbf_frame.specs.declared.stop.Stop.{Stop};
 ghost use Rattle.pbf_frame.specs.Next.{IsReading, place_of, held_by, verdict};
 ghost use Rattle.pbfcut.specs.Counting.{counts_of, entities_of};
-ghost use Rattle.pbfcut.specs.Judged.{payload_fault_of, fully_known, judged_file};
+ghost use Rattle.pbfcut.specs.Judged.{payload_fault_of, lent_fault, fully_known, judged_file};
 ghost use Rattle.pbfcut.specs.Pass.{TakesSome, IsStep};
-ghost use Rattle.pbfcut.specs.Pick.{pick_of, picks_of, picks_id, is_node, picked_by_some, picked_with_parents, PacksAll, StopsPacking, KeepsPacker, IsFreshPacker, PacksFrame, FailsToPack, Packed, PacksFront, IsShort};
+ghost use Rattle.pbfcut.specs.Pick.{pick_of, picks_of, lent_picked, picks_id, is_node, picked_by_some, picked_with_parents, PacksAll, StopsPacking, KeepsPacker, IsFreshPacker, PacksFrame, FailsToPack, Packed, PacksFront, IsShort};
 ghost use Rattle.pbfcut.specs.Given.{GaveRest, GaveFile, Took};
 ghost use Rattle.pbfcut.specs.Stops.{Caused, FaultOf, unchanged, KeepsFeed, KeepsDrain, ReadFailed, WriteFailed};
 
@@ -140,7 +140,8 @@ impl Picker<'_> {
 
 /// Whether a node of a block may be written; where this answers no, none is. Of dense nodes the ids are read, and nothing else.
 fn picks_node(block: &Block<'_>, selection: Selection<'_>) -> bool
-    ensures { result ≡ false → filter (pick_of selection.entry) (filter is_node (entities block.now.at block.now.payload.now)) ≡ [] }
+    ensures { result ≡ false → filter (pick_of selection.entry)
+        (filter is_node (entities block.now.at block.now.payload.now)) ≡ [] }
 {
     let mut picker = selection.picker();
     for run in block.runs_among(NODES) {
@@ -153,7 +154,8 @@ fn picks_node(block: &Block<'_>, selection: Selection<'_>) -> bool
 
 /// The entities of a block, without its nodes where none of them is written.
 fn candidates<'a>(block: &'a Block<'_>, selection: Selection<'_>) -> Entities<'a>
-    ensures picked { filter (pick_of selection.entry) (entities_left result) ≡ filter (pick_of selection.entry) (entities block.now.at block.now.payload.now) }
+    ensures picked { filter (pick_of selection.entry) (entities_left result)
+        ≡ filter (pick_of selection.entry) (entities block.now.at block.now.payload.now) }
     ensures fits { AllByRecursion EntityFits (entities_left result) }
 {
     let kinds = Kinds {
@@ -173,9 +175,12 @@ fn pack_entities<D: Drain, S: BuildHasher>(
     requires begun { has_header packer.old ≡ true }
     requires packing { IsPacking packer.old }
     requires fits { AllByRecursion EntityFits (entities_left entities) }
-    ensures packed { OnOk result (PacksAll D.Drain None (filter (pick_of selection.entry) (entities_left entities.entry)) packer.old packer.new) }
-    ensures counted { IfOk result (λ counts. counts ≡ counts_of (filter (pick_of selection.entry) (entities_left entities.entry))) }
-    ensures stopped { IfErr result (StopsPacking D.Drain None (filter (pick_of selection.entry) (entities_left entities.entry)) packer.old packer.new) }
+    ensures packed { OnOk result (PacksAll D.Drain None
+        (filter (pick_of selection.entry) (entities_left entities.entry)) packer.old packer.new) }
+    ensures counted { IfOk result (λ counts. counts
+        ≡ counts_of (filter (pick_of selection.entry) (entities_left entities.entry))) }
+    ensures stopped { IfErr result (StopsPacking D.Drain None
+        (filter (pick_of selection.entry) (entities_left entities.entry)) packer.old packer.new) }
     ensures keeps { KeepsPacker D.Drain packer.old packer.new }
 {
     let mut counts = Counts::none();
@@ -202,9 +207,14 @@ fn pack_block<D: Drain, S: BuildHasher>(
     requires short { length payload.now < 33554432 }
     requires begun { has_header packer.old ≡ true }
     requires packing { IsPacking packer.old }
-    ensures packed { OnOk result (PacksAll D.Drain (payload_fault_of kind.Data at payload.now) (filter (pick_of selection.entry) (entities_of kind.Data at payload.now)) packer.old packer.new) }
-    ensures counted { IfOk result (λ counts. counts ≡ counts_of (filter (pick_of selection.entry) (entities_of kind.Data at payload.now))) }
-    ensures stopped { IfErr result (StopsPacking D.Drain (payload_fault_of kind.Data at payload.now) (filter (pick_of selection.entry) (entities_of kind.Data at payload.now)) packer.old packer.new) }
+    ensures packed { OnOk result (PacksAll D.Drain (payload_fault_of kind.Data at payload.now)
+        (filter (pick_of selection.entry) (entities_of kind.Data at payload.now))
+        packer.old packer.new) }
+    ensures counted { IfOk result (λ counts. counts
+        ≡ counts_of (filter (pick_of selection.entry) (entities_of kind.Data at payload.now))) }
+    ensures stopped { IfErr result (StopsPacking D.Drain (payload_fault_of kind.Data at payload.now)
+        (filter (pick_of selection.entry) (entities_of kind.Data at payload.now))
+        packer.old packer.new) }
     ensures keeps { KeepsPacker D.Drain packer.old packer.new }
 {
     let block = Block::read(alloc, payload, at)?;
@@ -221,9 +231,12 @@ fn pack_payload<D: Drain, S: BuildHasher>(
 ) -> Result<(), Stop>
     requires begun { has_header packer.old ≡ true }
     requires packing { IsPacking packer.old }
-    ensures packed { OnOk result (PacksAll D.Drain (payload_fault_of frame.now.kind frame.now.payload_at frame.now.payload.now) (filter (pick_of selection.entry) (entities_of frame.now.kind frame.now.payload_at frame.now.payload.now)) packer.old packer.new) }
-    ensures taken { OnOk result (TakesSome frame.now.kind frame.now.payload_at frame.now.payload.now (filter (pick_of selection.entry) (entities_of frame.now.kind frame.now.payload_at frame.now.payload.now)) pass.old pass.new) }
-    ensures stopped { IfErr result (StopsPacking D.Drain (payload_fault_of frame.now.kind frame.now.payload_at frame.now.payload.now) (filter (pick_of selection.entry) (entities_of frame.now.kind frame.now.payload_at frame.now.payload.now)) packer.old packer.new) }
+    ensures packed { OnOk result (PacksAll D.Drain (lent_fault frame.now)
+        (lent_picked (pick_of selection.entry) frame.now) packer.old packer.new) }
+    ensures taken { OnOk result (TakesSome frame.now.kind frame.now.payload_at frame.now.payload.now
+        (lent_picked (pick_of selection.entry) frame.now) pass.old pass.new) }
+    ensures stopped { IfErr result (StopsPacking D.Drain (lent_fault frame.now)
+        (lent_picked (pick_of selection.entry) frame.now) packer.old packer.new) }
     ensures keeps { KeepsPacker D.Drain packer.old packer.new }
 {
     match frame.kind {
@@ -251,8 +264,12 @@ pub fn step_pack<F: Feed, D: Drain, S: BuildHasher>(
     packer: &mut Packer<D, S>,
 ) -> Result<bool, Stop>
     requires { has_header packer.old ≡ true }
-    ensures step { IsPacking packer.old → IsStep F.Feed reader.old reader.new (PacksFrame D.Drain (pick_of selection.entry) packer.old packer.new pass.old pass.new) (FailsToPack D.Drain (pick_of selection.entry) packer.old packer.new) ((pass.new ≡ pass.old) × (packer.new ≡ packer.old)) result }
-    ensures spent { (stop : Stop) → packing.HasStopped packer.old stop → (result ≡ Err stop) × (reader.new ≡ reader.old) }
+    ensures step { IsPacking packer.old → IsStep F.Feed reader.old reader.new
+        (PacksFrame D.Drain (pick_of selection.entry) packer.old packer.new pass.old pass.new)
+        (FailsToPack D.Drain (pick_of selection.entry) packer.old packer.new)
+        ((pass.new ≡ pass.old) × (packer.new ≡ packer.old)) result }
+    ensures spent { (stop : Stop) → packing.HasStopped packer.old stop
+        → (result ≡ Err stop) × (reader.new ≡ reader.old) }
     ensures keeps { KeepsPacker D.Drain packer.old packer.new }
     ensures limited { place_of reader.new ≤ 2 ^ 62 }
     ensures space { held_by reader.new + packer_held packer.new ≤ 61620990 }
@@ -298,8 +315,14 @@ pub fn step_write<F: Feed, D: Drain, S: BuildHasher>(
     packer: &mut Packer<D, S>,
 ) -> Result<bool, Stop>
     requires { has_header packer.old ≡ true }
-    ensures step { IsPacking packer.old → IsStep F.Feed reader.old reader.new (PacksFrame D.Drain (picked_by_some (option_map (λ c. c.now) chosen.entry)) packer.old packer.new pass.old pass.new) (FailsToPack D.Drain (picked_by_some (option_map (λ c. c.now) chosen.entry)) packer.old packer.new) ((pass.new ≡ pass.old) × (packer.new ≡ packer.old)) result }
-    ensures spent { (stop : Stop) → packing.HasStopped packer.old stop → (result ≡ Err stop) × (reader.new ≡ reader.old) }
+    ensures step { IsPacking packer.old → IsStep F.Feed reader.old reader.new
+        (PacksFrame D.Drain (picked_by_some (option_map (λ c. c.now) chosen.entry))
+        packer.old packer.new pass.old pass.new)
+        (FailsToPack D.Drain (picked_by_some (option_map (λ c. c.now) chosen.entry))
+        packer.old packer.new)
+        ((pass.new ≡ pass.old) × (packer.new ≡ packer.old)) result }
+    ensures spent { (stop : Stop) → packing.HasStopped packer.old stop
+        → (result ≡ Err stop) × (reader.new ≡ reader.old) }
     ensures keeps { KeepsPacker D.Drain packer.old packer.new }
     ensures limited { place_of reader.new ≤ 2 ^ 62 }
     ensures space { held_by reader.new + packer_held packer.new ≤ 61620990 }
@@ -316,8 +339,13 @@ pub fn step_write_parents<F: Feed, D: Drain, S: BuildHasher>(
     packer: &mut Packer<D, S>,
 ) -> Result<bool, Stop>
     requires { has_header packer.old ≡ true }
-    ensures step { IsPacking packer.old → IsStep F.Feed reader.old reader.new (PacksFrame D.Drain (picked_with_parents chosen.now) packer.old packer.new pass.old pass.new) (FailsToPack D.Drain (picked_with_parents chosen.now) packer.old packer.new) ((pass.new ≡ pass.old) × (packer.new ≡ packer.old)) result }
-    ensures spent { (stop : Stop) → packing.HasStopped packer.old stop → (result ≡ Err stop) × (reader.new ≡ reader.old) }
+    ensures step { IsPacking packer.old → IsStep F.Feed reader.old reader.new
+        (PacksFrame D.Drain (picked_with_parents chosen.now)
+        packer.old packer.new pass.old pass.new)
+        (FailsToPack D.Drain (picked_with_parents chosen.now) packer.old packer.new)
+        ((pass.new ≡ pass.old) × (packer.new ≡ packer.old)) result }
+    ensures spent { (stop : Stop) → packing.HasStopped packer.old stop
+        → (result ≡ Err stop) × (reader.new ≡ reader.old) }
     ensures keeps { KeepsPacker D.Drain packer.old packer.new }
     ensures limited { place_of reader.new ≤ 2 ^ 62 }
     ensures space { held_by reader.new + packer_held packer.new ≤ 61620990 }
@@ -334,7 +362,8 @@ pub(crate) struct Writing<'a> {
     pub(crate) selection: Selection<'a>,
 }
 
-/// Writes a header and what is picked of the frames that are left, by steps, and answers the numbers of these entities.
+/// Writes a header and what is picked of the frames that are left, by steps, and answers the numbers of these entities: after each
+/// step its clause `space` bounds what the reader and the packer hold together.
 fn write_steps<F: Feed, D: Drain, S: BuildHasher>(
     alloc: Global,
     reader: &mut FrameReader<F>,
@@ -344,9 +373,16 @@ fn write_steps<F: Feed, D: Drain, S: BuildHasher>(
     requires reading { IsReading reader.old }
     requires fresh { IsFreshPacker packer.old }
     requires short { IsShort (header_of writing.header.now) }
-    ensures packed { IfOk result (λ counts. GaveRest F.Feed reader.old reader.new (λ known. Took D.Drain packer.old.drain packer.new.drain (Packed (pick_of writing.entry.selection) (header_of writing.entry.header.now) counts known))) }
-    ensures beginning { OnErr result (PacksFront (pick_of writing.entry.selection) (header_of writing.entry.header.now) (fully_known (verdict F.remaining reader.old)) (D.taken packer.old.drain) (D.taken packer.new.drain)) }
-    ensures stops { IfErr result (Caused (FaultOf (fully_known (verdict F.remaining reader.old))) (ReadFailed F.Feed reader.old.feed reader.new.feed) (WriteFailed D.Drain packer.old.drain packer.new.drain) unchanged) }
+    ensures packed { IfOk result (λ counts. GaveRest F.Feed reader.old reader.new
+        (λ known. Took D.Drain packer.old.drain packer.new.drain
+        (Packed (pick_of writing.entry.selection) (header_of writing.entry.header.now)
+        counts known))) }
+    ensures beginning { OnErr result (PacksFront (pick_of writing.entry.selection)
+        (header_of writing.entry.header.now) (fully_known (verdict F.remaining reader.old))
+        (D.taken packer.old.drain) (D.taken packer.new.drain)) }
+    ensures stops { IfErr result (Caused (FaultOf (fully_known (verdict F.remaining reader.old)))
+        (ReadFailed F.Feed reader.old.feed reader.new.feed)
+        (WriteFailed D.Drain packer.old.drain packer.new.drain) unchanged) }
     ensures feed { KeepsFeed F.Feed reader.old.feed reader.new.feed }
     ensures drain { KeepsDrain D.Drain packer.old.drain packer.new.drain }
 {
@@ -366,9 +402,15 @@ pub(crate) fn write<F: Feed, D: Drain, S: BuildHasher + Drop>(
     writing: Writing<'_>,
 ) -> Result<InputReceipt, Stop>
     requires { IsShort (header_of writing.header.now) }
-    ensures packed { IfOk result (λ wrote. GaveFile F.Feed feed.old feed.new wrote.input (λ file. Took D.Drain drain.old drain.new (Packed (pick_of writing.entry.selection) (header_of writing.entry.header.now) wrote.counts (judged_file (Some file))))) }
-    ensures beginning { OnErr result (PacksFront (pick_of writing.entry.selection) (header_of writing.entry.header.now) (judged_file (F.remaining feed.old)) (D.taken drain.old) (D.taken drain.new)) }
-    ensures stops { IfErr result (Caused (FaultOf (judged_file (F.remaining feed.old))) (ReadFailed F.Feed feed.old feed.new) (WriteFailed D.Drain drain.old drain.new) unchanged) }
+    ensures packed { IfOk result (λ wrote. GaveFile F.Feed feed.old feed.new wrote.input
+        (λ file. Took D.Drain drain.old drain.new
+        (Packed (pick_of writing.entry.selection) (header_of writing.entry.header.now)
+        wrote.counts (judged_file (Some file))))) }
+    ensures beginning { OnErr result (PacksFront (pick_of writing.entry.selection)
+        (header_of writing.entry.header.now) (judged_file (F.remaining feed.old))
+        (D.taken drain.old) (D.taken drain.new)) }
+    ensures stops { IfErr result (Caused (FaultOf (judged_file (F.remaining feed.old)))
+        (ReadFailed F.Feed feed.old feed.new) (WriteFailed D.Drain drain.old drain.new) unchanged) }
     ensures drain { KeepsDrain D.Drain drain.old drain.new }
 {
     let mut packer = Packer::new(alloc, &mut *drain, hasher);

@@ -39,7 +39,8 @@ impl Repeat {
     /// Another digest is a change.
     pub(crate) fn compare(self, digest: [u8; 32]) -> Result<(), Stop>
         ensures same { OnOk result (digest ≡ self.digest) }
-        ensures other { IfErr result (λ stop. (stop ≡ Changed self.number) × (digest ≡ self.digest → ⊥)) }
+        ensures other { IfErr result (λ stop. (stop ≡ Changed self.number)
+            × (digest ≡ self.digest → ⊥)) }
     {
         if digest == self.digest {
             Ok(())
@@ -55,8 +56,11 @@ impl Repeat {
         feed: &mut F,
         gathering: &mut G,
     ) -> Result<(), Stop>
-        ensures gathered { OnOk result (GaveFile F.Feed feed.old feed.new self.digest (λ file. GathersAgain G.gathered (judged_file (Some file)) gathering.old gathering.new)) }
-        ensures stops { IfErr result (StopsAgain self (F.remaining feed.old) (ReadFailed F.Feed feed.old feed.new) ⊥) }
+        ensures gathered { OnOk result (GaveFile F.Feed feed.old feed.new self.digest
+            (λ file. GathersAgain G.gathered (judged_file (Some file))
+            gathering.old gathering.new)) }
+        ensures stops { IfErr result (StopsAgain self (F.remaining feed.old)
+            (ReadFailed F.Feed feed.old feed.new) ⊥) }
     {
         match judge(alloc, feed, gathering) {
             Ok(told) => self.compare(told.digest),
@@ -74,9 +78,15 @@ impl Repeat {
         writing: Writing<'_>,
     ) -> Result<Counts, Stop>
         requires { IsShort (header_of writing.header.now) }
-        ensures packed { IfOk result (λ counts. GaveFile F.Feed feed.old feed.new self.digest (λ file. Took D.Drain drain.old drain.new (Packed (pick_of writing.entry.selection) (header_of writing.entry.header.now) counts (judged_file (Some file))))) }
-        ensures beginning { OnErr result (PacksFront (pick_of writing.entry.selection) (header_of writing.entry.header.now) (judged_file (F.remaining feed.old)) (D.taken drain.old) (D.taken drain.new)) }
-        ensures stops { IfErr result (StopsAgain self (F.remaining feed.old) (ReadFailed F.Feed feed.old feed.new) (WriteFailed D.Drain drain.old drain.new)) }
+        ensures packed { IfOk result (λ counts. GaveFile F.Feed feed.old feed.new self.digest
+            (λ file. Took D.Drain drain.old drain.new
+            (Packed (pick_of writing.entry.selection) (header_of writing.entry.header.now)
+            counts (judged_file (Some file))))) }
+        ensures beginning { OnErr result (PacksFront (pick_of writing.entry.selection)
+            (header_of writing.entry.header.now) (judged_file (F.remaining feed.old))
+            (D.taken drain.old) (D.taken drain.new)) }
+        ensures stops { IfErr result (StopsAgain self (F.remaining feed.old)
+            (ReadFailed F.Feed feed.old feed.new) (WriteFailed D.Drain drain.old drain.new)) }
         ensures drain { KeepsDrain D.Drain drain.old drain.new }
     {
         match write(alloc, feed, drain, hasher, writing) {

@@ -9,15 +9,15 @@ ghost use Rattle.osm_text.specs.EntityText.{entity_line};
 ghost use Rattle.osm_text.specs.HeaderText.{header_text};
 ghost use Rattle.pbf_frame.specs.declared.frame.FrameKind.TheVariants as kind;
 ghost use Rattle.pbf_frame.specs.Devices.{IsFront};
-ghost use Rattle.pbf_frame.specs.Next.{IsReading, place_of, verdict};
+ghost use Rattle.pbf_frame.specs.Next.{IsReading, place_of, held_by, verdict};
 ghost use Rattle.pbf_frame.specs.Transfers.{Added};
 ghost use Rattle.pbfcut.specs.Calls.{RefusedFirst, ChangedIn};
 ghost use Rattle.pbfcut.specs.Given.{GaveRest, GaveFile, Took, TookFile};
-ghost use Rattle.pbfcut.specs.Judged.{payload_fault_of, fully_known, judged_file};
+ghost use Rattle.pbfcut.specs.Judged.{payload_fault_of, lent_fault, fully_known, judged_file};
 ghost use Rattle.pbfcut.specs.Pass.{CountsFile, IsStep};
 ghost use Rattle.pbfcut.specs.Refused.{HaltsFile, stop_of};
 ghost use Rattle.pbfcut.specs.Repeat.{SameDigest};
-ghost use Rattle.pbfcut.specs.Showing.{payload_text, Shown, ShowsFront, WritesFront, ShowsFrame, StopsShowing, StoppedInPayload};
+ghost use Rattle.pbfcut.specs.Showing.{payload_text, lent_text, Shown, ShowsFront, WritesFront, ShowsFrame, StopsShowing, StoppedInPayload};
 ghost use Rattle.pbfcut.specs.Stops.{Caused, FaultOf, Only, unchanged, KeepsFeed, KeepsDrain, ReadFailed, WriteFailed};
 
 use crate::hashed::{HashedDrain, HashedFeed};
@@ -37,9 +37,12 @@ fn write_entity<D: Drain>(
     drain: &mut D,
     dates: bool,
 ) -> Result<(), Stop>
-    ensures shown { OnOk result (Added D.Drain drain.old (entity_line dates (entity_of entity.now)) drain.new) }
-    ensures front { IsFront (D.taken drain.old) (D.taken drain.new) (entity_line dates (entity_of entity.now)) }
-    ensures stops { IfErr result (Caused (Only None) ⊥ (WriteFailed D.Drain drain.old drain.new) unchanged) }
+    ensures shown { OnOk result
+        (Added D.Drain drain.old (entity_line dates (entity_of entity.now)) drain.new) }
+    ensures front { IsFront (D.taken drain.old) (D.taken drain.new)
+        (entity_line dates (entity_of entity.now)) }
+    ensures stops { IfErr result
+        (Caused (Only None) ⊥ (WriteFailed D.Drain drain.old drain.new) unchanged) }
     ensures keeps { KeepsDrain D.Drain drain.old drain.new }
 {
     text.clear();
@@ -55,9 +58,12 @@ fn write_entities<D: Drain>(
     drain: &mut D,
     dates: bool,
 ) -> Result<(), Stop>
-    ensures shown { OnOk result (Added D.Drain drain.old (flat_map (entity_line dates) (entities_left entities.entry)) drain.new) }
-    ensures front { OnErr result (IsFront (D.taken drain.old) (D.taken drain.new) (flat_map (entity_line dates) (entities_left entities.entry))) }
-    ensures stops { IfErr result (Caused (Only None) ⊥ (WriteFailed D.Drain drain.old drain.new) unchanged) }
+    ensures shown { OnOk result (Added D.Drain drain.old
+        (flat_map (entity_line dates) (entities_left entities.entry)) drain.new) }
+    ensures front { OnErr result (IsFront (D.taken drain.old) (D.taken drain.new)
+        (flat_map (entity_line dates) (entities_left entities.entry))) }
+    ensures stops { IfErr result
+        (Caused (Only None) ⊥ (WriteFailed D.Drain drain.old drain.new) unchanged) }
     ensures keeps { KeepsDrain D.Drain drain.old drain.new }
 {
     for entity in entities {
@@ -75,10 +81,13 @@ fn write_header<D: Drain>(
     drain: &mut D,
 ) -> Result<(), Stop>
     requires { at + length payload.now ≤ 2 ^ 63 }
-    ensures shown { OnOk result (Added D.Drain drain.old (header_text (header_in at payload.now)) drain.new) }
+    ensures shown { OnOk result
+        (Added D.Drain drain.old (header_text (header_in at payload.now)) drain.new) }
     ensures sound { OnOk result (payload_fault_of kind.Header at payload.now ≡ None) }
-    ensures stopped { OnErr result (StoppedInPayload (payload_fault_of kind.Header at payload.now) (header_text (header_in at payload.now)) (D.taken drain.old) (D.taken drain.new)) }
-    ensures stops { IfErr result (Caused (Only (payload_fault_of kind.Header at payload.now)) ⊥ (WriteFailed D.Drain drain.old drain.new) unchanged) }
+    ensures stopped { OnErr result (StoppedInPayload (payload_fault_of kind.Header at payload.now)
+        (header_text (header_in at payload.now)) (D.taken drain.old) (D.taken drain.new)) }
+    ensures stops { IfErr result (Caused (Only (payload_fault_of kind.Header at payload.now)) ⊥
+        (WriteFailed D.Drain drain.old drain.new) unchanged) }
     ensures keeps { KeepsDrain D.Drain drain.old drain.new }
 {
     let header = Header::read(alloc, payload, at)?;
@@ -99,10 +108,13 @@ fn write_block<D: Drain>(
 ) -> Result<(), Stop>
     requires placed { at + length payload.now ≤ 2 ^ 63 }
     requires short { length payload.now < 33554432 }
-    ensures shown { OnOk result (Added D.Drain drain.old (payload_text dates kind.Data at payload.now) drain.new) }
+    ensures shown { OnOk result (Added D.Drain drain.old
+        (payload_text dates kind.Data at payload.now) drain.new) }
     ensures sound { OnOk result (payload_fault_of kind.Data at payload.now ≡ None) }
-    ensures stopped { OnErr result (StoppedInPayload (payload_fault_of kind.Data at payload.now) (payload_text dates kind.Data at payload.now) (D.taken drain.old) (D.taken drain.new)) }
-    ensures stops { IfErr result (Caused (Only (payload_fault_of kind.Data at payload.now)) ⊥ (WriteFailed D.Drain drain.old drain.new) unchanged) }
+    ensures stopped { OnErr result (StoppedInPayload (payload_fault_of kind.Data at payload.now)
+        (payload_text dates kind.Data at payload.now) (D.taken drain.old) (D.taken drain.new)) }
+    ensures stops { IfErr result (Caused (Only (payload_fault_of kind.Data at payload.now)) ⊥
+        (WriteFailed D.Drain drain.old drain.new) unchanged) }
     ensures keeps { KeepsDrain D.Drain drain.old drain.new }
 {
     let block = Block::read(alloc, payload, at)?;
@@ -118,10 +130,12 @@ fn write_payload<D: Drain>(
     drain: &mut D,
     dates: bool,
 ) -> Result<(), Stop>
-    ensures shown { OnOk result (Added D.Drain drain.old (payload_text dates frame.now.kind frame.now.payload_at frame.now.payload.now) drain.new) }
-    ensures sound { OnOk result (payload_fault_of frame.now.kind frame.now.payload_at frame.now.payload.now ≡ None) }
-    ensures stopped { OnErr result (StoppedInPayload (payload_fault_of frame.now.kind frame.now.payload_at frame.now.payload.now) (payload_text dates frame.now.kind frame.now.payload_at frame.now.payload.now) (D.taken drain.old) (D.taken drain.new)) }
-    ensures stops { IfErr result (Caused (Only (payload_fault_of frame.now.kind frame.now.payload_at frame.now.payload.now)) ⊥ (WriteFailed D.Drain drain.old drain.new) unchanged) }
+    ensures shown { OnOk result (Added D.Drain drain.old (lent_text dates frame.now) drain.new) }
+    ensures sound { OnOk result (lent_fault frame.now ≡ None) }
+    ensures stopped { OnErr result (StoppedInPayload (lent_fault frame.now)
+        (lent_text dates frame.now) (D.taken drain.old) (D.taken drain.new)) }
+    ensures stops { IfErr result (Caused (Only (lent_fault frame.now)) ⊥
+        (WriteFailed D.Drain drain.old drain.new) unchanged) }
     ensures keeps { KeepsDrain D.Drain drain.old drain.new }
 {
     match frame.kind {
@@ -143,8 +157,11 @@ fn step_show<F: Feed, D: Drain>(
     drain: &mut D,
     dates: bool,
 ) -> Result<bool, Stop>
-    ensures step { IsStep F.Feed reader.old reader.new (ShowsFrame D.Drain dates drain.old drain.new) (StopsShowing D.Drain dates drain.old drain.new) (drain.new ≡ drain.old) result }
+    ensures step { IsStep F.Feed reader.old reader.new
+        (ShowsFrame D.Drain dates drain.old drain.new)
+        (StopsShowing D.Drain dates drain.old drain.new) (drain.new ≡ drain.old) result }
     ensures limited { place_of reader.new ≤ 2 ^ 62 }
+    ensures space { held_by reader.new ≤ 33620990 }
     ensures keeps { KeepsDrain D.Drain drain.old drain.new }
 {
     let Some(frame) = reader.next()? else {
@@ -154,7 +171,7 @@ fn step_show<F: Feed, D: Drain>(
     Ok(true)
 }
 
-/// Writes the text of the frames that are left.
+/// Writes the text of the frames that are left, by steps: after each of them its clause `space` bounds what the reader holds.
 fn show_all<F: Feed, D: Drain>(
     alloc: Global,
     reader: &mut FrameReader<F>,
@@ -162,9 +179,13 @@ fn show_all<F: Feed, D: Drain>(
     dates: bool,
 ) -> Result<(), Stop>
     requires { IsReading reader.old }
-    ensures shown { OnOk result (GaveRest F.Feed reader.old reader.new (λ known. Took D.Drain drain.old drain.new (Shown dates known))) }
-    ensures beginning { OnErr result (WritesFront dates (fully_known (verdict F.remaining reader.old)) (D.taken drain.old) (D.taken drain.new)) }
-    ensures stops { IfErr result (Caused (FaultOf (fully_known (verdict F.remaining reader.old))) (ReadFailed F.Feed reader.old.feed reader.new.feed) (WriteFailed D.Drain drain.old drain.new) unchanged) }
+    ensures shown { OnOk result (GaveRest F.Feed reader.old reader.new
+        (λ known. Took D.Drain drain.old drain.new (Shown dates known))) }
+    ensures beginning { OnErr result (WritesFront dates
+        (fully_known (verdict F.remaining reader.old)) (D.taken drain.old) (D.taken drain.new)) }
+    ensures stops { IfErr result (Caused (FaultOf (fully_known (verdict F.remaining reader.old)))
+        (ReadFailed F.Feed reader.old.feed reader.new.feed)
+        (WriteFailed D.Drain drain.old drain.new) unchanged) }
     ensures feed { KeepsFeed F.Feed reader.old.feed reader.new.feed }
     ensures drain { KeepsDrain D.Drain drain.old drain.new }
 {
@@ -180,9 +201,12 @@ fn write_text<F: Feed, D: Drain>(
     drain: &mut D,
     dates: bool,
 ) -> Result<[u8; 32], Stop>
-    ensures shown { IfOk result (λ digest. GaveFile F.Feed feed.old feed.new digest (λ file. Took D.Drain drain.old drain.new (Shown dates (judged_file (Some file))))) }
-    ensures beginning { OnErr result (WritesFront dates (judged_file (F.remaining feed.old)) (D.taken drain.old) (D.taken drain.new)) }
-    ensures stops { IfErr result (Caused (FaultOf (judged_file (F.remaining feed.old))) (ReadFailed F.Feed feed.old feed.new) (WriteFailed D.Drain drain.old drain.new) unchanged) }
+    ensures shown { IfOk result (λ digest. GaveFile F.Feed feed.old feed.new digest
+        (λ file. Took D.Drain drain.old drain.new (Shown dates (judged_file (Some file))))) }
+    ensures beginning { OnErr result (WritesFront dates (judged_file (F.remaining feed.old))
+        (D.taken drain.old) (D.taken drain.new)) }
+    ensures stops { IfErr result (Caused (FaultOf (judged_file (F.remaining feed.old)))
+        (ReadFailed F.Feed feed.old feed.new) (WriteFailed D.Drain drain.old drain.new) unchanged) }
     ensures drain { KeepsDrain D.Drain drain.old drain.new }
 {
     let mut reader = FrameReader::new(alloc, HashedFeed::new(&mut *feed));
@@ -211,16 +235,20 @@ pub fn show<F: Feed, G: Feed, D: Drain>(
     // The first file has no fault, and the counts are those of its entities.
     ensures counted { IfOk result (CountsFile (judged_file (F.remaining first.old))) }
     // The drain took exactly the text of the second file, which has no fault.
-    ensures shown { OnOk result (Took D.Drain drain.old drain.new (Shown dates (judged_file (G.remaining second.old)))) }
+    ensures shown { OnOk result (Took D.Drain drain.old drain.new
+        (Shown dates (judged_file (G.remaining second.old)))) }
     // No files that differ, unless two unlike lists share a digest.
     ensures digests { OnOk result (SameDigest (F.remaining first.old) (G.remaining second.old)) }
     // Each stop has its cause; what is refused is the first file, by its first fault, and then the drain took nothing.
-    ensures stops { IfErr result (Caused (RefusedFirst (judged_file (F.remaining first.old)) (D.taken drain.old) (D.taken drain.new))
+    ensures stops { IfErr result (Caused
+        (RefusedFirst (judged_file (F.remaining first.old)) (D.taken drain.old) (D.taken drain.new))
         (ReadFailed F.Feed first.old first.new ⊎ ReadFailed G.Feed second.old second.new)
         (WriteFailed D.Drain drain.old drain.new)
         (ChangedIn 2 (F.remaining first.old) (G.remaining second.old))) }
     // Whatever stopped it, where the feeds are alike a prefix of that file's text went out, and nothing where it has a fault.
-    ensures beginning { OnErr result (F.remaining first.old ≡ G.remaining second.old → ShowsFront dates (judged_file (F.remaining first.old)) (D.taken drain.old) (D.taken drain.new)) }
+    ensures beginning { OnErr result (F.remaining first.old ≡ G.remaining second.old
+        → ShowsFront dates (judged_file (F.remaining first.old))
+        (D.taken drain.old) (D.taken drain.new)) }
 {
     Ok(show_file(alloc, first, second, drain, dates)?.counts)
 }
@@ -266,14 +294,20 @@ fn show_file<F: Feed, G: Feed, D: Drain>(
     drain: &mut D,
     dates: bool,
 ) -> Result<InputReceipt, Halt>
-    ensures given { IfOk result (λ receipt. GaveFile F.Feed first.old first.new receipt.input (λ b. CountsFile (judged_file (Some b)) receipt.counts
-        × GaveFile G.Feed second.old second.new receipt.input (λ c. Took D.Drain drain.old drain.new (Shown dates (judged_file (Some c)))))) }
-    ensures refused { IfErr result (HaltsFile F.Feed first.old first.new D.Drain drain.old drain.new (λ b. judged_file (Some b))) }
-    ensures stops { IfErr result (λ h. Caused (RefusedFirst (judged_file (F.remaining first.old)) (D.taken drain.old) (D.taken drain.new))
+    ensures given { IfOk result (λ receipt. GaveFile F.Feed first.old first.new receipt.input
+        (λ b. CountsFile (judged_file (Some b)) receipt.counts
+        × GaveFile G.Feed second.old second.new receipt.input
+        (λ c. Took D.Drain drain.old drain.new (Shown dates (judged_file (Some c)))))) }
+    ensures refused { IfErr result (HaltsFile F.Feed first.old first.new
+        D.Drain drain.old drain.new (λ b. judged_file (Some b))) }
+    ensures stops { IfErr result (λ h. Caused
+        (RefusedFirst (judged_file (F.remaining first.old)) (D.taken drain.old) (D.taken drain.new))
         (ReadFailed F.Feed first.old first.new ⊎ ReadFailed G.Feed second.old second.new)
         (WriteFailed D.Drain drain.old drain.new)
         (ChangedIn 2 (F.remaining first.old) (G.remaining second.old)) (stop_of h)) }
-    ensures beginning { OnErr result (F.remaining first.old ≡ G.remaining second.old → ShowsFront dates (judged_file (F.remaining first.old)) (D.taken drain.old) (D.taken drain.new)) }
+    ensures beginning { OnErr result (F.remaining first.old ≡ G.remaining second.old
+        → ShowsFront dates (judged_file (F.remaining first.old))
+        (D.taken drain.old) (D.taken drain.new)) }
     ensures drain { KeepsDrain D.Drain drain.old drain.new }
 {
     let told = judge(alloc, first, &mut Nothing)?;

@@ -1,8 +1,8 @@
 use Rattle.std.proofs.Common.{◌≡◌, ◌≤◌, ◌-◌, ◌^◌, List, length}
-use Rattle.pbf_frame.specs.Devices.{append}
 use Rattle.pbf_frame.specs.Frames.{FrameSpec}
-use Rattle.pbf_frame.specs.Verdict.{Gone}
 use Rattle.pbf_frame.specs.Next.{verdict, place_of, IsReading}
+use Rattle.pbf_frame.specs.Transfers.{Added}
+use Rattle.pbf_frame.specs.Verdict.{Gone}
 use Rattle.pbfcut.specs.Blobs.{lines}
 use Rattle.pbfcut.proofs.blobs.list_all.Given as goal
 
@@ -12,7 +12,7 @@ invariant-frames g l =
     let remaining = g.F.Feed.remaining in
     let first = l.initial.reader in
     record {
-      done : (frames : List FrameSpec) × Gone (verdict remaining first) frames (verdict remaining l.reader) × (g.D.Drain.taken l.drain ≡ append (g.D.Drain.taken l.initial.drain) (lines frames)) × (l.count ≡ length frames);
+      done : (frames : List FrameSpec) × Gone (verdict remaining first) frames (verdict remaining l.reader) × Added g.D.Drain l.initial.drain (lines frames) l.drain × (l.count ≡ length frames);
       few : l.count ≤ place_of l.reader;
       reading : IsReading l.reader;
       limited : place_of l.reader ≤ 2 ^ 62;
