@@ -10,6 +10,7 @@ use crate::field::{Field, Payload};
 use crate::varint::first_varint;
 
 /// What stands after a tag of this wire type, and its length.
+#[inline(always)]
 #[tactic(auto, unfolding(crate::specs::Occurrence::body_at))]
 fn payload_at(bytes: &[u8], kind: u64, at: u64) -> Result<(Payload<'_>, usize), Reason>
     requires { at + length bytes.now ≤ 2 ^ 63 }
@@ -51,6 +52,7 @@ fn payload_at(bytes: &[u8], kind: u64, at: u64) -> Result<(Payload<'_>, usize), 
 }
 
 /// The field at the start of the bytes, and its length.
+#[inline(always)]
 #[tactic(auto, unfolding(crate::specs::Occurrence::occurrence_at))]
 fn field_at(bytes: &[u8], at: u64) -> Result<(Field<'_>, usize), Reason>
     requires { at + length bytes.now ≤ 2 ^ 63 }

@@ -24,27 +24,20 @@ fn any_varint(bytes: &[u8]) -> Result<(u64, usize), Reason>
     Err(Reason::VarintCut)
 }
 
-/// The number that the bytes begin with, and how many bytes it takes.
-pub(crate) fn first_varint(bytes: &[u8]) -> Result<(u64, usize), Reason>
+/// As [`any_varint`], where the number is likely to take three or four bytes.
+#[inline(never)]
+fn longer_varint(bytes: &[u8]) -> Result<(u64, usize), Reason>
     ensures exact { result ≡ varint_at bytes.now }
     ensures taken { IfOk result (λ found. (0 < found.1) × (found.1 ≤ length bytes.now)) }
 {
-    // Most numbers of a file take one byte, and most others two to four.
-    let [first, ..] = bytes else {
-        return Err(Reason::VarintCut);
-    };
-    let one = u64::from(*first);
-    if one < 128 {
-        return Ok((one, 1));
-    }
-    let [_, second, third, fourth, ..] = bytes else {
+    let [first, second, third, fourth, ..] = bytes else {
         return any_varint(bytes);
     };
-    // Each step takes the bit away that says of the byte before that the number goes on.
-    let two = one - 128 + u64::from(*second) * 128;
-    if *second < 128 {
-        return Ok((two, 2));
+    if *first < 128 || *second < 128 {
+        return any_varint(bytes);
     }
+    // Each step takes the bits away that say of the bytes before that the number goes on.
+    let two = u64::from(*first) - 128 + u64::from(*second) * 128;
     let three = two - 128 * 128 + u64::from(*third) * (128 * 128);
     if *third < 128 {
         return Ok((three, 3));
@@ -54,6 +47,28 @@ pub(crate) fn first_varint(bytes: &[u8]) -> Result<(u64, usize), Reason>
         return Ok((four, 4));
     }
     any_varint(bytes)
+}
+
+/// The number that the bytes begin with, and how many bytes it takes.
+#[inline(always)]
+pub(crate) fn first_varint(bytes: &[u8]) -> Result<(u64, usize), Reason>
+    ensures exact { result ≡ varint_at bytes.now }
+    ensures taken { IfOk result (λ found. (0 < found.1) × (found.1 ≤ length bytes.now)) }
+{
+    // Nearly all tags and lengths, and most numbers, take one or two bytes: they are read where they are asked for.
+    let [first, ..] = bytes else {
+        return Err(Reason::VarintCut);
+    };
+    let one = u64::from(*first);
+    if one < 128 {
+        return Ok((one, 1));
+    }
+    if let [_, second, ..] = bytes {
+        if *second < 128 {
+            return Ok((one - 128 + u64::from(*second) * 128, 2));
+        }
+    }
+    longer_varint(bytes)
 }
 
 /// The number that is spelled from the index `at` on, and the index after it.
