@@ -106,13 +106,13 @@ fn short_payload(bytes: &[u8], kind: u64, at: u64) -> Option<(Payload<'_>, usize
     if kind == 0 {
         return Some((Payload::Number(value), length));
     }
-    let rest = &bytes[length..];
-    if kind != 2 || (rest.len() as u64) < value {
+    let after = &bytes[length..];
+    if kind != 2 || (after.len() as u64) < value {
         return None;
     }
     let size = value as usize;
     Some((
-        Payload::Bytes(&rest[..size], at + length as u64),
+        Payload::Bytes(&after[..size], at + length as u64),
         length + size,
     ))
 }
@@ -209,9 +209,9 @@ impl<'a> Iterator for Fields<'a> {
         if self.rest.is_empty() {
             return None;
         }
-        if let Some((field, length)) = short_field(self.rest, self.at) {
-            self.rest = &self.rest[length..];
-            self.at += length as u64;
+        if let Some((field, taken)) = short_field(self.rest, self.at) {
+            self.rest = &self.rest[taken..];
+            self.at += taken as u64;
             return Some(Ok(field));
         }
         self.advance()

@@ -17,7 +17,7 @@ pub returns-in-Some-clause-steps : goal.returns-in-Some-clause-steps
 unfolding fields_left
 returns-in-Some-clause-steps c =
     let s = c.args.self.now in
-    let step = items_ok s.at s.rest.now (occurrence c.in-Some.field) c.in-Some.length c.in-Some.ensures.taken.0 c.in-Some.ensures.taken.1 c.in-Some.ensures.exact in
+    let step = items_ok s.at s.rest.now (occurrence c.in-Some.field) c.in-Some.taken c.in-Some.ensures.taken.0 c.in-Some.ensures.taken.1 c.in-Some.ensures.exact in
     rw take_rest step
 
 pub returns-in-Some-clause-goes : goal.returns-in-Some-clause-goes
