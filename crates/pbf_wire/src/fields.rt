@@ -8,7 +8,7 @@ ghost use Rattle.pbf_wire.specs.Varint.{varint_at};
 
 use crate::fault::{Fault, Reason};
 use crate::field::{Field, Payload};
-use crate::varint::{first_varint, short_varint};
+use crate::varint::first_varint;
 
 /// What stands after a tag of this wire type, and its length.
 #[inline(always)]
@@ -94,7 +94,7 @@ fn short_tag(bytes: &[u8]) -> Option<u64>
     Some(tag)
 }
 
-/// As [`payload_at`], if it is a number, or bytes, and the number or their length takes at most three bytes.
+/// As [`payload_at`], if it is a number or bytes.
 #[inline(always)]
 #[tactic(auto, unfolding(crate::specs::Occurrence::body_at))]
 fn short_payload(bytes: &[u8], kind: u64, at: u64) -> Option<(Payload<'_>, usize)>
@@ -102,7 +102,9 @@ fn short_payload(bytes: &[u8], kind: u64, at: u64) -> Option<(Payload<'_>, usize
     ensures exact { MatchOption result ⊤ (λ found. body_at kind at bytes.now ≡ Ok (content found.0, found.1)) }
     ensures taken { MatchOption result ⊤ (λ found. (found.1 ≤ length bytes.now) × (end_of found.0 ≤ 2 ^ 63)) }
 {
-    let (value, length) = short_varint(bytes)?;
+    let Ok((value, length)) = first_varint(bytes) else {
+        return None;
+    };
     if kind == 0 {
         return Some((Payload::Number(value), length));
     }
@@ -117,8 +119,8 @@ fn short_payload(bytes: &[u8], kind: u64, at: u64) -> Option<(Payload<'_>, usize
     ))
 }
 
-/// As [`field_at`], if the tag is one byte, and the number or the length of the bytes takes at most three: nearly all fields are
-/// so. They are read where they are asked for, without a call.
+/// As [`field_at`], if the tag is one byte, and a number or bytes follow: nearly all fields are so. They are read where they are
+/// asked for, without a call.
 #[inline(always)]
 #[tactic(auto, unfolding(crate::specs::Occurrence::occurrence_at))]
 fn short_field(bytes: &[u8], at: u64) -> Option<(Field<'_>, usize)>

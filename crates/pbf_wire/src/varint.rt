@@ -24,7 +24,7 @@ fn any_varint(bytes: &[u8]) -> Result<(u64, usize), Reason>
     Err(Reason::VarintCut)
 }
 
-/// As [`any_varint`], for numbers that take four bytes or more.
+/// As [`any_varint`], for numbers that take four bytes or more: most of them take four or five.
 #[inline(never)]
 fn longer_varint(bytes: &[u8]) -> Result<(u64, usize), Reason>
     ensures exact { result ≡ varint_at bytes.now }
@@ -33,14 +33,24 @@ fn longer_varint(bytes: &[u8]) -> Result<(u64, usize), Reason>
     let [first, second, third, fourth, ..] = bytes else {
         return any_varint(bytes);
     };
-    if *first < 128 || *second < 128 || *third < 128 || *fourth >= 128 {
+    if *first < 128 || *second < 128 || *third < 128 {
         return any_varint(bytes);
     }
     // Each step takes the bit away that says of the byte before that the number goes on.
     let two = u64::from(*first) - 128 + u64::from(*second) * 128;
     let three = two - 128 * 128 + u64::from(*third) * (128 * 128);
     let four = three - 128 * 128 * 128 + u64::from(*fourth) * (128 * 128 * 128);
-    Ok((four, 4))
+    if *fourth < 128 {
+        return Ok((four, 4));
+    }
+    let [_, _, _, _, fifth, ..] = bytes else {
+        return any_varint(bytes);
+    };
+    if *fifth < 128 {
+        let five = four - 128 * 128 * 128 * 128 + u64::from(*fifth) * (128 * 128 * 128 * 128);
+        return Ok((five, 5));
+    }
+    any_varint(bytes)
 }
 
 /// The number that the bytes begin with, and how many bytes it takes, if they are at most three: nearly all numbers of a file
