@@ -136,15 +136,19 @@ impl<'a> Iterator for Column<'a> {
 
     /// The next number. After a wire fault of the message, or of a packed occurrence, no more of it is read.
     #[inline(always)]
+    #[tactic(auto, unfolding(crate::specs::Cursors::column_left))]
     fn next(&mut self) -> Option<u64>
         ensures steps { YieldsFirst numbers_left self.old result self.new }
         ensures goes { MakesProgress (λ _. ⊤) (item_count numbers_left) self.old result self.new }
         ensures placed { MatchOption result ((column_left self.old ≡ []) × (column_left self.new ≡ []) × (place_of self.new ≡ place_of self.old))
             (λ value. column_left self.old ≡ (value, place_of self.new) ∷ column_left self.new) }
     {
-        // Most numbers stand in the packed occurrence that was begun.
+        // Most numbers stand in the packed occurrence that was begun, and after it there is mostly nothing.
         if let Some(value) = self.advance_packed() {
             return Some(value);
+        }
+        if self.fields.is_done() {
+            return None;
         }
         self.advance()
     }

@@ -38,6 +38,7 @@ pub fn fault_where(wrong: bool, offset: u64, reason: Reason) -> Option<Fault>
 // ---- wire form
 
 /// The first wire fault of a message without embedded messages, as [`judge_wire`] finds it.
+#[inline(always)]
 pub fn judge_leaf(message: &[u8], at: u64, kinds: &[(u64, Kind)]) -> Option<Fault>
     requires { at + length message.now ≤ 2 ^ 63 }
     ensures { result ≡ least (leaf_faults kinds.now 0 at message.now) }
@@ -46,6 +47,7 @@ pub fn judge_leaf(message: &[u8], at: u64, kinds: &[(u64, Kind)]) -> Option<Faul
 }
 
 /// The wire fault of an embedded message at the field `number`.
+#[inline(always)]
 fn judge_inner(field: Field<'_>, number: u64, kinds: &[(u64, Kind)]) -> Option<Fault>
     ensures { result ≡ least (entered number (leaf_faults kinds.now) (occurrence field.entry)) }
 {
@@ -59,6 +61,7 @@ fn judge_inner(field: Field<'_>, number: u64, kinds: &[(u64, Kind)]) -> Option<F
 }
 
 /// The least wire fault of a message with embedded messages at the field `number`, whose own fields `inner` lists.
+#[inline(always)]
 #[tactic(auto, using(crate::proofs::LeastLemmas::least_more, crate::proofs::LeastLemmas::lesser_nothing))]
 pub fn judge_nested(
     message: &[u8],

@@ -75,6 +75,7 @@ impl<'a> Iterator for Sums<'a> {
 
     ghost remaining = { item_count sums_left };
 
+    #[inline(always)]
     #[tactic(auto, unfolding(crate::specs::Occurrence::items_past))]
     fn next(&mut self) -> Option<i64> {
         let number = self.entries.next()?;

@@ -1,6 +1,6 @@
 //! Varints: numbers of 64 bits, seven bits a byte, the lowest first. The top bit is set on every byte but the last.
 
-ghost use Rattle.std.specs.Prelude.{◌≡◌, ◌≤◌, ◌<◌, ◌^◌, ℕ, IfOk, OnOk, OnErr, Result, Ok, Err, ◌↔◌, ◌++◌, List, length, take, drop, slice_range};
+ghost use Rattle.std.specs.Prelude.{◌≡◌, ◌≤◌, ◌<◌, ◌^◌, ℕ, IfOk, MatchOption, OnOk, OnErr, ⊤, Result, Ok, Err, ◌↔◌, ◌++◌, List, length, take, drop, slice_range};
 ghost use Rattle.pbf_wire.specs.Varint.{IsVarint, IsCut, IsLong, varint_at, moved_by, shortest};
 
 use crate::fault::Reason;
@@ -24,36 +24,79 @@ fn any_varint(bytes: &[u8]) -> Result<(u64, usize), Reason>
     Err(Reason::VarintCut)
 }
 
+/// As [`any_varint`], for numbers that take four bytes or more: most of them take four or five.
+#[inline(never)]
+fn longer_varint(bytes: &[u8]) -> Result<(u64, usize), Reason>
+    ensures exact { result ≡ varint_at bytes.now }
+    ensures taken { IfOk result (λ found. (0 < found.1) × (found.1 ≤ length bytes.now)) }
+{
+    let [first, second, third, fourth, ..] = bytes else {
+        return any_varint(bytes);
+    };
+    if *first < 128 || *second < 128 || *third < 128 {
+        return any_varint(bytes);
+    }
+    // Each step takes the bit away that says of the byte before that the number goes on.
+    let two = u64::from(*first) - 128 + u64::from(*second) * 128;
+    let three = two - 128 * 128 + u64::from(*third) * (128 * 128);
+    let four = three - 128 * 128 * 128 + u64::from(*fourth) * (128 * 128 * 128);
+    if *fourth < 128 {
+        return Ok((four, 4));
+    }
+    let [_, _, _, _, fifth, ..] = bytes else {
+        return any_varint(bytes);
+    };
+    if *fifth < 128 {
+        let five = four - 128 * 128 * 128 * 128 + u64::from(*fifth) * (128 * 128 * 128 * 128);
+        return Ok((five, 5));
+    }
+    any_varint(bytes)
+}
+
+/// The number that the bytes begin with, and how many bytes it takes, if they are at most three: nearly all numbers of a file
+/// are so short. It is read where it is asked for, without a call.
+#[inline(always)]
+pub(crate) fn short_varint(bytes: &[u8]) -> Option<(u64, usize)>
+    ensures { MatchOption result ⊤ (λ found. (varint_at bytes.now ≡ Ok found) × (0 < found.1) × (found.1 ≤ length bytes.now)) }
+{
+    let [first, ..] = bytes else {
+        return None;
+    };
+    let one = u64::from(*first);
+    if one < 128 {
+        return Some((one, 1));
+    }
+    // Each step takes the bit away that says of the byte before that the number goes on.
+    let [_, second, ..] = bytes else {
+        return None;
+    };
+    let two = one - 128 + u64::from(*second) * 128;
+    if *second < 128 {
+        return Some((two, 2));
+    }
+    let [_, _, third, ..] = bytes else {
+        return None;
+    };
+    if *third < 128 {
+        let three = two - 128 * 128 + u64::from(*third) * (128 * 128);
+        return Some((three, 3));
+    }
+    None
+}
+
 /// The number that the bytes begin with, and how many bytes it takes.
+#[inline(always)]
 pub(crate) fn first_varint(bytes: &[u8]) -> Result<(u64, usize), Reason>
     ensures exact { result ≡ varint_at bytes.now }
     ensures taken { IfOk result (λ found. (0 < found.1) × (found.1 ≤ length bytes.now)) }
 {
-    // Most numbers of a file take one byte, and most others two to four.
-    let [first, ..] = bytes else {
+    if bytes.is_empty() {
         return Err(Reason::VarintCut);
-    };
-    let one = u64::from(*first);
-    if one < 128 {
-        return Ok((one, 1));
     }
-    let [_, second, third, fourth, ..] = bytes else {
-        return any_varint(bytes);
-    };
-    // Each step takes the bit away that says of the byte before that the number goes on.
-    let two = one - 128 + u64::from(*second) * 128;
-    if *second < 128 {
-        return Ok((two, 2));
+    match short_varint(bytes) {
+        Some(found) => Ok(found),
+        None => longer_varint(bytes),
     }
-    let three = two - 128 * 128 + u64::from(*third) * (128 * 128);
-    if *third < 128 {
-        return Ok((three, 3));
-    }
-    if *fourth < 128 {
-        let four = three - 128 * 128 * 128 + u64::from(*fourth) * (128 * 128 * 128);
-        return Ok((four, 4));
-    }
-    any_varint(bytes)
 }
 
 /// The number that is spelled from the index `at` on, and the index after it.
