@@ -40,6 +40,15 @@ fn four_texts<'a>(rt: &impl Abort, alloc: Global) -> Table<'a> {
     }
 }
 
+/// Whether the text gives this box, or this fault.
+fn gives(text: &str, outcome: Result<BoundingBox, BoxFault>) -> bool {
+    BoundingBox::parse(text) == outcome
+}
+
+fn is_box(text: &str) -> bool {
+    BoundingBox::parse(text).is_ok()
+}
+
 #[test]
 fn boxes_as_texts(rt: HostRuntime) {
     let area = BoundingBox {
@@ -48,9 +57,12 @@ fn boxes_as_texts(rt: HostRuntime) {
         right: 300_000_000,
         top: 51_700_000_000,
     };
-    assert_eq!(rt; BoundingBox::parse("-0.5,51.25,0.3,51.7"), Ok(area));
-    assert!(rt; BoundingBox::parse("-180,-90,180,90").is_ok());
-    assert!(rt; BoundingBox::parse("0.000000999,0.000000999,001,1.000000000").is_ok());
+    assert!(rt; gives("-0.5,51.25,0.3,51.7", Ok(area)));
+    assert!(rt; is_box("-180,-90,180,90") && is_box("0.000000999,0.000000999,001,1.000000000"));
+}
+
+#[test]
+fn faulty_boxes(rt: HostRuntime) {
     for (text, fault) in [
         ("0,0,1", BoxFault::Shape),
         ("0,0,1,1,1", BoxFault::Shape),
@@ -72,7 +84,7 @@ fn boxes_as_texts(rt: HostRuntime) {
         ("2,2,1,1", BoxFault::LeftOverRight),
         ("0,2,1,1", BoxFault::BottomOverTop),
     ] {
-        assert_eq!(rt; BoundingBox::parse(text), Err(fault), "at {text}");
+        assert!(rt; gives(text, Err(fault)), "at {text}");
     }
 }
 
@@ -152,10 +164,51 @@ fn the_greatest_stored_numbers(rt: HostRuntime) {
     assert!(rt; !bare_node(0, -most - 1, scale).fits());
 }
 
-/// A node of version 2, of `ann`, at a time, with one tag, as a row of a dense message.
-#[test]
-fn a_dense_node(rt: HostRuntime) -> Result<(), Fail> {
-    let table = four_texts(&rt, rt.alloc());
+/// Whether `highway=stop` is the one tag.
+fn is_stop(tags: Tags<'_>) -> bool {
+    let mut tags = tags;
+    tags.next() == Some((b"highway".as_slice(), b"stop".as_slice())) && tags.next().is_none()
+}
+
+/// Whether an entity weighs this, and can be written.
+fn is_light(entity: EntityRef<'_>, weight: u64) -> bool {
+    entity.weight() == weight && entity.fits()
+}
+
+/// Whether the metadata are those of [`a_dense_node`].
+fn is_second_of_ann(meta: MetaRef<'_>) -> bool {
+    meta.version == Some(2) && meta.user == Some(b"ann".as_slice()) && meta.visible.is_none()
+}
+
+/// Whether the node stands where that of [`a_dense_node`] does.
+fn is_placed(node: NodeRef<'_>) -> bool {
+    node.id() == 1
+        && node.lat() == 1
+        && node.lon() == 1
+        && node.nano_lat() == 100
+        && node.nano_lon() == 100
+        && node.scale() == SCALE
+}
+
+/// Whether the node is that of [`a_dense_node`].
+fn is_dense_node(node: NodeRef<'_>) -> bool {
+    is_placed(node)
+        && is_second_of_ann(node.meta())
+        && node.millis() == Some(1_234_567_890_000)
+        && is_stop(EntityRef::Node(node).tags())
+        && node.weight() == 206
+        && node.fits()
+        && is_light(EntityRef::Node(node), 206)
+}
+
+/// Whether a copy of the node with texts of its own is that of [`a_dense_node`].
+fn copies_dense_node(alloc: Global, node: NodeRef<'_>) -> Result<bool, AllocError> {
+    let owned = node.to_owned(alloc)?;
+    Ok(is_dense_node(owned.view()))
+}
+
+/// The node of [`a_dense_node`].
+fn dense_node<'a>(table: &'a Table<'a>) -> NodeRef<'a> {
     let run = Column::new(&[0x52, 0x03, 0x01, 0x02, 0x00], 0, 10);
     let meta = MetaRef {
         version: Some(2),
@@ -163,104 +216,157 @@ fn a_dense_node(rt: HostRuntime) -> Result<(), Fail> {
         user: table.get(3),
         ..NO_META
     };
-    let node = NodeRef::new(1, 1, 1, meta, Tags::Run(RunTags::new(run, &table)), SCALE);
-    let owned = node.to_owned(rt.alloc())?;
-    for view in [node, owned.view()] {
-        let entity = EntityRef::Node(view);
-        assert_eq!(rt; (view.id(), view.lat(), view.lon()), (1, 1, 1));
-        assert_eq!(rt; (view.nano_lat(), view.nano_lon()), (100, 100));
-        assert_eq!(rt; view.millis(), Some(1_234_567_890_000));
-        assert_eq!(rt; view.meta().version, Some(2));
-        assert_eq!(rt; view.meta().user, Some(b"ann".as_slice()));
-        assert_eq!(rt; view.meta().visible, None);
-        assert_eq!(rt; view.scale(), SCALE);
-        let mut tags = entity.tags();
-        assert_eq!(rt;
-            tags.next(),
-            Some((b"highway".as_slice(), b"stop".as_slice()))
-        );
-        assert_eq!(rt; tags.next(), None);
-        assert_eq!(rt; (view.weight(), entity.weight()), (206, 206));
-        assert!(rt; view.fits() && entity.fits());
-    }
+    NodeRef::new(1, 1, 1, meta, Tags::Run(RunTags::new(run, table)), SCALE)
+}
+
+/// A node of version 2, of `ann`, at a time, with one tag, as a row of a dense message.
+#[test]
+fn a_dense_node(rt: HostRuntime) -> Result<(), Fail> {
+    let table = four_texts(&rt, rt.alloc());
+    let node = dense_node(&table);
+    assert!(rt; is_dense_node(node) && copies_dense_node(rt.alloc(), node)?);
     Ok(())
+}
+
+/// The refs, latitudes and longitudes of a way, by their fields 8, 9 and 10.
+const WAY: [u8; 15] = [
+    0x42, 0x03, 0x02, 0x02, 0x02, 0x4a, 0x03, 0x02, 0x03, 0x04, 0x52, 0x03, 0x02, 0x00, 0x00,
+];
+
+fn way_column<'a>(number: u64) -> Column<'a> {
+    Column::new(&WAY, 0, number)
+}
+
+fn way_sums<'a>(number: u64) -> Sums<'a> {
+    Sums::new(way_column(number), 1 << 62)
+}
+
+/// A way whose refs, latitudes and longitudes stand in these fields of [`WAY`].
+fn way_in<'a>(table: &'a Table<'a>, refs: u64, lats: u64, lons: u64) -> WayRef<'a> {
+    let tags = Tags::Paired(PairedTags::new(way_column(2), way_column(3), table));
+    let places = Locations::Summed(SummedLocations::new(way_sums(lats), way_sums(lons)));
+    WayRef::new(
+        7,
+        NO_META,
+        tags,
+        Refs::Summed(way_sums(refs)),
+        places,
+        SCALE,
+    )
+}
+
+/// Whether the way's nodes stand where those of [`WAY`] do, in nanodegrees.
+fn is_located(way: WayRef<'_>) -> bool {
+    let mut nanos = way.nano_locations();
+    nanos.next() == Some((100, 100))
+        && nanos.next() == Some((-100, 100))
+        && nanos.next() == Some((100, 100))
+        && nanos.next().is_none()
+}
+
+/// Whether the way is that of [`a_way_with_locations`].
+fn is_way(way: WayRef<'_>) -> bool {
+    let entity = EntityRef::Way(way);
+    is_located(way)
+        && way.id() == 7
+        && entity.id() == 7
+        && way.millis().is_none()
+        && way.tags().next().is_none()
+        && way.scale() == SCALE
+        && entity.scale() == SCALE
+        && way.weight() == 352
+        && way.fits()
+        && is_light(entity, 352)
+}
+
+/// Whether a copy of the way with lists of its own is that of [`a_way_with_locations`].
+fn copies_way(alloc: Global, way: WayRef<'_>) -> Result<bool, AllocError> {
+    let owned = way.to_owned(alloc)?;
+    Ok(
+        owned.refs.as_slice() == [1, 2, 3].as_slice()
+            && owned.locations.as_slice() == [(1, 1), (-1, 1), (1, 1)].as_slice()
+            && is_way(owned.view()),
+    )
 }
 
 /// The nodes of a way at stored places 1 and 1, -1 and 1, 1 and 1.
 #[test]
 fn a_way_with_locations(rt: HostRuntime) -> Result<(), Fail> {
     let table = four_texts(&rt, rt.alloc());
-    let message = [
-        0x42, 0x03, 0x02, 0x02, 0x02, 0x4a, 0x03, 0x02, 0x03, 0x04, 0x52, 0x03, 0x02, 0x00, 0x00,
-    ];
-    let column = |number: u64| Column::new(&message, 0, number);
-    let sums = |number: u64| Sums::new(column(number), 1 << 62);
-    let tags = Tags::Paired(PairedTags::new(column(2), column(3), &table));
-    let places = Locations::Summed(SummedLocations::new(sums(9), sums(10)));
-    let way = WayRef::new(7, NO_META, tags, Refs::Summed(sums(8)), places, SCALE);
-    let owned = way.to_owned(rt.alloc())?;
-    assert_eq!(rt; owned.refs.as_slice(), [1, 2, 3].as_slice());
-    assert_eq!(rt;
-        owned.locations.as_slice(),
-        [(1, 1), (-1, 1), (1, 1)].as_slice()
-    );
-    for view in [way, owned.view()] {
-        let entity = EntityRef::Way(view);
-        let nanos: Vec<(i128, i128)> = view.nano_locations().collect(rt.alloc())?;
-        assert_eq!(rt;
-            nanos.as_slice(),
-            [(100, 100), (-100, 100), (100, 100)].as_slice()
-        );
-        assert_eq!(rt; (view.id(), entity.id()), (7, 7));
-        assert_eq!(rt; (view.weight(), entity.weight()), (352, 352));
-        assert_eq!(rt; (view.millis(), view.tags().next()), (None, None));
-        assert_eq!(rt; (view.scale(), entity.scale()), (SCALE, SCALE));
-        assert!(rt; view.fits() && entity.fits());
-    }
-    let none = Locations::Summed(SummedLocations::new(sums(11), sums(11)));
-    assert!(rt; WayRef::new(7, NO_META, tags, Refs::Summed(sums(8)), none, SCALE).fits());
-    assert!(rt; !WayRef::new(7, NO_META, tags, Refs::Summed(sums(11)), places, SCALE).fits());
+    let way = way_in(&table, 8, 9, 10);
+    assert!(rt; is_way(way) && copies_way(rt.alloc(), way)?);
     Ok(())
+}
+
+/// A way fits without locations, and not with locations alone.
+#[test]
+fn a_way_without_locations(rt: HostRuntime) {
+    let table = four_texts(&rt, rt.alloc());
+    assert!(rt; way_in(&table, 8, 11, 11).fits() && !way_in(&table, 11, 9, 10).fits());
+}
+
+/// The tags, roles, ids and kinds of a relation, by their fields 2 and 3, 8, 9 and 10.
+const RELATION: [u8; 18] = [
+    0x12, 0x01, 0x01, 0x1a, 0x01, 0x02, 0x42, 0x02, 0x03, 0x00, 0x4a, 0x02, 0x0a, 0x04, 0x52, 0x02,
+    0x01, 0x02,
+];
+
+fn relation_column<'a>(number: u64) -> Column<'a> {
+    Column::new(&RELATION, 0, number)
+}
+
+fn relation_in<'a>(table: &'a Table<'a>) -> RelationRef<'a> {
+    let ids = Sums::new(relation_column(9), 1 << 62);
+    let (kinds, roles) = (relation_column(10), relation_column(8));
+    let tags = PairedTags::new(relation_column(2), relation_column(3), table);
+    let members = ColumnMembers::new(kinds, ids, roles, table);
+    let (tags, members) = (Tags::Paired(tags), Members::Columns(members));
+    RelationRef::new(8, NO_META, tags, members, SCALE)
+}
+
+/// Whether the next member is this one.
+fn is_next(members: &mut Members<'_>, kind: MemberKind, id: i64, role: &[u8]) -> bool {
+    match members.next() {
+        Some(member) => member.kind == kind && member.id == id && member.role == role,
+        None => false,
+    }
+}
+
+/// Whether the members are those of [`RELATION`].
+fn has_two_members(relation: RelationRef<'_>) -> bool {
+    let mut members = relation.members();
+    is_next(&mut members, MemberKind::Way, 5, b"ann")
+        && is_next(&mut members, MemberKind::Relation, 7, b"")
+        && members.next().is_none()
+}
+
+/// Whether the relation is that of [`RELATION`].
+fn is_relation(relation: RelationRef<'_>) -> bool {
+    let entity = EntityRef::Relation(relation);
+    is_stop(entity.tags())
+        && has_two_members(relation)
+        && relation.id() == 8
+        && entity.id() == 8
+        && relation.millis().is_none()
+        && relation.scale() == SCALE
+        && entity.meta().version.is_none()
+        && relation.weight() == 270
+        && relation.fits()
+        && is_light(entity, 270)
+}
+
+/// Whether a copy of the relation with lists of its own is that of [`RELATION`].
+fn copies_relation(alloc: Global, relation: RelationRef<'_>) -> Result<bool, AllocError> {
+    let owned = relation.to_owned(alloc)?;
+    Ok(is_relation(owned.view()))
 }
 
 /// A way and a relation as members, the one with the role `ann`, and one tag.
 #[test]
 fn a_relation_of_two_members(rt: HostRuntime) -> Result<(), Fail> {
     let table = four_texts(&rt, rt.alloc());
-    let message = [
-        0x12, 0x01, 0x01, 0x1a, 0x01, 0x02, 0x42, 0x02, 0x03, 0x00, 0x4a, 0x02, 0x0a, 0x04, 0x52,
-        0x02, 0x01, 0x02,
-    ];
-    let column = |number: u64| Column::new(&message, 0, number);
-    let ids = Sums::new(column(9), 1 << 62);
-    let tags = Tags::Paired(PairedTags::new(column(2), column(3), &table));
-    let members = Members::Columns(ColumnMembers::new(column(10), ids, column(8), &table));
-    let relation = RelationRef::new(8, NO_META, tags, members, SCALE);
-    let owned = relation.to_owned(rt.alloc())?;
-    for view in [relation, owned.view()] {
-        let entity = EntityRef::Relation(view);
-        let mut tags = entity.tags();
-        assert_eq!(rt;
-            tags.next(),
-            Some((b"highway".as_slice(), b"stop".as_slice()))
-        );
-        let mut members = view.members();
-        let Some(first) = members.next() else {
-            panic!(rt; "the first member is lost");
-        };
-        assert_eq!(rt; (first.kind, first.id), (MemberKind::Way, 5));
-        assert_eq!(rt; first.role, b"ann".as_slice());
-        let Some(second) = members.next() else {
-            panic!(rt; "the second member is lost");
-        };
-        assert_eq!(rt; (second.kind, second.id), (MemberKind::Relation, 7));
-        assert!(rt; second.role.is_empty() && members.next().is_none());
-        assert_eq!(rt; (view.id(), entity.id()), (8, 8));
-        assert_eq!(rt; (view.weight(), entity.weight()), (270, 270));
-        assert_eq!(rt; (view.millis(), view.scale()), (None, SCALE));
-        assert_eq!(rt; entity.meta().version, None);
-        assert!(rt; view.fits() && entity.fits());
-    }
+    let relation = relation_in(&table);
+    assert!(rt; is_relation(relation) && copies_relation(rt.alloc(), relation)?);
     Ok(())
 }
 
@@ -292,24 +398,30 @@ fn heavy_relation(alloc: Global, length: usize) -> Result<Relation, AllocError> 
     })
 }
 
+/// Whether a relation with a value of this length weighs this, and whether it can be written.
+fn weighs(alloc: Global, length: usize, weight: u64, fits: bool) -> Result<bool, AllocError> {
+    let relation = heavy_relation(alloc, length)?;
+    let view = relation.view();
+    Ok(view.weight() == weight && view.fits() == fits)
+}
+
 #[test]
 fn the_greatest_weight(rt: HostRuntime) -> Result<(), Fail> {
-    let heaviest = heavy_relation(rt.alloc(), 11_999_775)?;
-    assert_eq!(rt; heaviest.view().weight(), HIGHEST_WEIGHT);
-    assert!(rt; heaviest.view().fits());
-    let heavier = heavy_relation(rt.alloc(), 11_999_776)?;
-    assert_eq!(rt; heavier.view().weight(), 12_000_001);
-    assert!(rt; !heavier.view().fits());
+    assert!(rt; weighs(rt.alloc(), 11_999_775, HIGHEST_WEIGHT, true)?);
+    assert!(rt; weighs(rt.alloc(), 11_999_776, 12_000_001, false)?);
     Ok(())
+}
+
+/// Whether a relation weighs as much as its copy.
+fn weighs_as_its_copy(alloc: Global) -> Result<bool, AllocError> {
+    let relation = heavy_relation(alloc, 5)?;
+    let view = relation.view();
+    let copy = view.to_owned(alloc)?;
+    Ok(copy.view().weight() == view.weight())
 }
 
 /// Passes whichever of its requests for memory is refused.
 #[test]
 fn memory_that_is_refused(rt: HostRuntime) {
-    if let Ok(relation) = heavy_relation(rt.alloc(), 5) {
-        let view = relation.view();
-        if let Ok(copy) = view.to_owned(rt.alloc()) {
-            assert_eq!(rt; copy.view().weight(), view.weight());
-        }
-    }
+    assert!(rt; weighs_as_its_copy(rt.alloc()).unwrap_or(true));
 }

@@ -1,6 +1,6 @@
 //! What no clause says: values from the format's examples, places in a file, and that each call can succeed.
 
-use osm_entity::{MetaRef, Scale};
+use osm_entity::{MetaRef, NodeRef, Scale};
 use pbf_dense::{Dense, Phase};
 use pbf_strings::Table;
 use pbf_wire::{Fault, Reason};
@@ -20,6 +20,8 @@ const FOUR_TEXTS: [u8; 22] = *b"\x0a\x00\x0a\x07highway\x0a\x04stop\x0a\x03ann";
 
 /// Three nodes, in three columns.
 const THREE_NODES: [u8; 15] = *b"\x0a\x03\x14\x02\x08\x42\x03\x02\x03\x04\x4a\x03\x02\x00\x00";
+
+const THREE_PLACES: [(i64, i64, i64); 3] = [(10, 1, 1), (11, -1, 1), (15, 1, 1)];
 
 /// Where the field of a dense message stands in the file of these tests, and the first byte of the message.
 const TAG: u64 = 62;
@@ -58,13 +60,23 @@ const fn at(offset: u64, reason: Reason) -> Option<Fault> {
     Some(Fault { offset, reason })
 }
 
-/// The ids and the stored coordinates.
-fn places(alloc: Global, nodes: Dense<'_>) -> Result<Vec<(i64, i64, i64)>, AllocError> {
-    let mut places = Vec::new(alloc);
-    for node in nodes {
-        places.push((node.id(), node.lat(), node.lon()))?;
+/// Whether the node has this id and these stored coordinates.
+fn stands_at(node: NodeRef<'_>, place: (i64, i64, i64)) -> bool {
+    node.id() == place.0 && node.lat() == place.1 && node.lon() == place.2
+}
+
+/// Whether the nodes have these ids and stored coordinates, and there are no others.
+fn stand_at(nodes: Dense<'_>, places: &[(i64, i64, i64)]) -> bool {
+    let mut nodes = nodes;
+    for place in places {
+        let Some(node) = nodes.next() else {
+            return false;
+        };
+        if !stands_at(node, *place) {
+            return false;
+        }
     }
-    Ok(places)
+    nodes.next().is_none()
 }
 
 /// The keys and values of all nodes, and after each node's a line.
@@ -82,6 +94,11 @@ fn tags(alloc: Global, nodes: Dense<'_>) -> Result<Vec<u8>, AllocError> {
     Ok(text)
 }
 
+/// Whether these are the tags of all nodes, as [`tags`] puts them.
+fn are_tagged(alloc: Global, nodes: Dense<'_>, text: &[u8]) -> Result<bool, AllocError> {
+    Ok(tags(alloc, nodes)?.as_slice() == text)
+}
+
 fn meta<'a>(rt: &impl Abort, nodes: Dense<'a>) -> MetaRef<'a> {
     let mut nodes = nodes;
     match nodes.next() {
@@ -94,33 +111,41 @@ fn meta<'a>(rt: &impl Abort, nodes: Dense<'a>) -> MetaRef<'a> {
 fn three_nodes(rt: HostRuntime) -> Result<(), Fail> {
     let table = table_of(&rt, rt.alloc(), &FOUR_TEXTS);
     let nodes = read(&rt, &THREE_NODES, &table);
-    let wanted = [(10, 1, 1), (11, -1, 1), (15, 1, 1)];
-    assert_eq!(rt; places(rt.alloc(), nodes)?.as_slice(), wanted.as_slice());
-    assert_eq!(rt; tags(rt.alloc(), nodes)?.as_slice(), b"///".as_slice());
-    assert_eq!(rt; meta(&rt, nodes).version, None);
+    assert!(rt; stand_at(nodes, &THREE_PLACES) && are_tagged(rt.alloc(), nodes, b"///")?);
     Ok(())
 }
 
 #[test]
-fn an_id_column_in_three_occurrences(rt: HostRuntime) -> Result<(), Fail> {
+fn three_nodes_without_metadata(rt: HostRuntime) {
+    let table = table_of(&rt, rt.alloc(), &FOUR_TEXTS);
+    assert_eq!(rt; meta(&rt, read(&rt, &THREE_NODES, &table)).version, None);
+}
+
+#[test]
+fn an_id_column_in_three_occurrences(rt: HostRuntime) {
     let table = table_of(&rt, rt.alloc(), &FOUR_TEXTS);
     let message = b"\x0a\x01\x14\x0a\x01\x02\x08\x08\x42\x03\x02\x03\x04\x4a\x03\x02\x00\x00";
-    let nodes = read(&rt, message, &table);
-    let wanted = [(10, 1, 1), (11, -1, 1), (15, 1, 1)];
-    assert_eq!(rt; places(rt.alloc(), nodes)?.as_slice(), wanted.as_slice());
-    Ok(())
+    assert!(rt; stand_at(read(&rt, message, &table), &THREE_PLACES));
 }
 
 #[test]
-fn ids_at_both_limits(rt: HostRuntime) -> Result<(), Fail> {
+fn ids_at_both_limits(rt: HostRuntime) {
     let table = table_of(&rt, rt.alloc(), &FOUR_TEXTS);
     let message =
         b"\x0a\x1b\xfd\xff\xff\xff\xff\xff\xff\xff\x7f\xfe\xff\xff\xff\xff\xff\xff\xff\x7f\xfe\xff\xff\xff\xff\xff\xff\xff\x7f\x42\x03\x02\x03\x04\x4a\x03\x02\x00\x00";
-    let nodes = read(&rt, message, &table);
     let most = (1 << 62) - 1;
     let wanted = [(-most, 1, 1), (0, -1, 1), (most, 1, 1)];
-    assert_eq!(rt; places(rt.alloc(), nodes)?.as_slice(), wanted.as_slice());
-    Ok(())
+    assert!(rt; stand_at(read(&rt, message, &table), &wanted));
+}
+
+/// Whether the metadata are a version 2, a time and the user `ann`.
+fn is_second_of_ann(meta: MetaRef<'_>) -> bool {
+    meta.version == Some(2)
+        && meta.timestamp == Some(1_234_567_890)
+        && meta.changeset.is_none()
+        && meta.uid.is_none()
+        && meta.user == Some(b"ann".as_slice())
+        && meta.visible.is_none()
 }
 
 #[test]
@@ -129,21 +154,11 @@ fn a_node_with_metadata(rt: HostRuntime) -> Result<(), Fail> {
     let message =
         b"\x0a\x01\x02\x2a\x0d\x0a\x01\x02\x12\x05\xa4\x8b\xb0\x99\x09\x2a\x01\x06\x42\x01\x02\x4a\x01\x02\x52\x03\x01\x02\x00";
     let nodes = read(&rt, message, &table);
-    assert_eq!(rt;
-        places(rt.alloc(), nodes)?.as_slice(),
-        [(1, 1, 1)].as_slice()
+    assert!(rt;
+        stand_at(nodes, &[(1, 1, 1)])
+            && are_tagged(rt.alloc(), nodes, b"highway=stop /")?
+            && is_second_of_ann(meta(&rt, nodes))
     );
-    assert_eq!(rt;
-        tags(rt.alloc(), nodes)?.as_slice(),
-        b"highway=stop /".as_slice()
-    );
-    let meta = meta(&rt, nodes);
-    assert_eq!(rt; meta.version, Some(2));
-    assert_eq!(rt; meta.timestamp, Some(1_234_567_890));
-    assert_eq!(rt; meta.changeset, None);
-    assert_eq!(rt; meta.uid, None);
-    assert_eq!(rt; meta.user, Some(b"ann".as_slice()));
-    assert_eq!(rt; meta.visible, None);
     Ok(())
 }
 
@@ -157,7 +172,7 @@ fn a_key_that_is_empty(rt: HostRuntime) -> Result<(), Fail> {
     );
     let message = b"\x0a\x01\x02\x42\x01\x02\x4a\x01\x02\x52\x03\x05\x01\x00";
     let nodes = read(&rt, message, &table);
-    assert_eq!(rt; tags(rt.alloc(), nodes)?.as_slice(), b"=a /".as_slice());
+    assert!(rt; are_tagged(rt.alloc(), nodes, b"=a /")?);
     Ok(())
 }
 
@@ -166,8 +181,15 @@ fn a_time_before_1970(rt: HostRuntime) {
     let table = table_of(&rt, rt.alloc(), &FOUR_TEXTS);
     let message = b"\x0a\x01\x02\x42\x01\x02\x4a\x01\x02\x2a\x03\x12\x01\x01";
     let meta = meta(&rt, read(&rt, message, &table));
-    assert_eq!(rt; meta.timestamp, Some(-1));
-    assert_eq!(rt; meta.version, None);
+    assert!(rt; meta.timestamp == Some(-1) && meta.version.is_none());
+}
+
+/// Whether the metadata are those of [`metadata_at_its_limits`].
+fn is_at_its_limits(meta: MetaRef<'_>) -> bool {
+    meta.version == Some(-1)
+        && meta.changeset == Some((1 << 62) - 1)
+        && meta.uid == Some(-1_073_741_823)
+        && meta.visible == Some(false)
 }
 
 /// A version of which the low 32 bits are -1, the greatest changeset, the least uid, and an entity that isn't visible.
@@ -176,11 +198,7 @@ fn metadata_at_its_limits(rt: HostRuntime) {
     let table = table_of(&rt, rt.alloc(), &FOUR_TEXTS);
     let message =
         b"\x0a\x01\x02\x2a\x1b\x0a\x05\xff\xff\xff\xff\x0f\x1a\x09\xfe\xff\xff\xff\xff\xff\xff\xff\x7f\x22\x05\xfd\xff\xff\xff\x07\x30\x00\x42\x01\x04\x4a\x01\x06";
-    let meta = meta(&rt, read(&rt, message, &table));
-    assert_eq!(rt; meta.version, Some(-1));
-    assert_eq!(rt; meta.changeset, Some((1 << 62) - 1));
-    assert_eq!(rt; meta.uid, Some(-1_073_741_823));
-    assert_eq!(rt; meta.visible, Some(false));
+    assert!(rt; is_at_its_limits(meta(&rt, read(&rt, message, &table))));
 }
 
 #[test]
@@ -225,7 +243,7 @@ fn tags_in_runs(rt: HostRuntime) -> Result<(), Fail> {
         ),
     ] {
         let nodes = read(&rt, message, &table);
-        assert_eq!(rt; tags(rt.alloc(), nodes)?.as_slice(), wanted);
+        assert!(rt; are_tagged(rt.alloc(), nodes, wanted)?);
     }
     Ok(())
 }
@@ -399,35 +417,34 @@ fn faults_of_values(rt: HostRuntime) {
     }
 }
 
+/// Whether this is the first fault of this phase alone.
+fn finds(message: &[u8], phase: Phase, table: &Table<'_>, fault: Option<Fault>) -> bool {
+    message.len() < 1 << 20 && Dense::judge(message, AT, TAG, phase, table).err() == fault
+}
+
+/// Whether no node is read, where nothing is judged.
+fn gives_nothing(message: &[u8], table: &Table<'_>) -> bool {
+    if message.len() >= 1 << 20 {
+        return false;
+    }
+    let mut nodes = Dense::over(message, AT, table, SCALE);
+    nodes.next().is_none()
+}
+
 /// A latitude too many, a key that names no text and an id out of range.
 #[test]
 fn each_phase_by_itself(rt: HostRuntime) {
     let table = table_of(&rt, rt.alloc(), &FOUR_TEXTS);
     let message =
         b"\x0a\x0a\x80\x80\x80\x80\x80\x80\x80\x80\x80\x01\x42\x02\x04\x00\x4a\x01\x06\x52\x03\x04\x01\x00";
-    assert_eq!(rt; Dense::judge(message, AT, TAG, Phase::Wire, &table), Ok(()));
-    let counts = Fault {
-        offset: TAG,
-        reason: Reason::ColumnLengths,
-    };
-    assert_eq!(rt;
-        Dense::judge(message, AT, TAG, Phase::Structure, &table),
-        Err(counts)
+    let (counts, range) = (at(TAG, Reason::ColumnLengths), at(AT, Reason::OutOfRange));
+    assert!(rt;
+        finds(message, Phase::Wire, &table, None)
+            && finds(message, Phase::Structure, &table, counts)
+            && finds(message, Phase::Values, &table, range)
+            && finds(message, Phase::Weights, &table, None)
+            && gives_nothing(message, &table)
     );
-    let range = Fault {
-        offset: AT,
-        reason: Reason::OutOfRange,
-    };
-    assert_eq!(rt;
-        Dense::judge(message, AT, TAG, Phase::Values, &table),
-        Err(range)
-    );
-    assert_eq!(rt;
-        Dense::judge(message, AT, TAG, Phase::Weights, &table),
-        Ok(())
-    );
-    let mut none = Dense::over(message, AT, &table, SCALE);
-    assert!(rt; none.next().is_none());
 }
 
 /// A table of the empty text, one of 59,983 bytes, one of 40 and one of 41.
@@ -453,12 +470,24 @@ fn heavy_node(alloc: Global, user: u8) -> Result<Vec<u8>, AllocError> {
     Ok(message)
 }
 
+/// The fault that a heavy node by this user is refused with.
+fn refusal_of_heavy(
+    rt: &(impl Abort + AllocGlobal),
+    user: u8,
+    table: &Table<'_>,
+) -> Result<Option<Fault>, AllocError> {
+    let message = heavy_node(rt.alloc(), user)?;
+    Ok(refusal(rt, &message, table))
+}
+
 #[test]
 fn the_greatest_weight(rt: HostRuntime) -> Result<(), Fail> {
     let texts = long_texts(rt.alloc())?;
     let table = table_of(&rt, rt.alloc(), &texts);
-    assert_eq!(rt; refusal(&rt, &heavy_node(rt.alloc(), 4)?, &table), None);
-    let heavy = heavy_node(rt.alloc(), 6)?;
-    assert_eq!(rt; refusal(&rt, &heavy, &table), at(TAG, Reason::EntityLarge));
+    let too_heavy = at(TAG, Reason::EntityLarge);
+    assert!(rt;
+        refusal_of_heavy(&rt, 4, &table)?.is_none()
+            && refusal_of_heavy(&rt, 6, &table)? == too_heavy
+    );
     Ok(())
 }

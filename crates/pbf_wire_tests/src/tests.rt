@@ -7,6 +7,7 @@ use pbf_wire::{
     low_sint32, low_u32, put_bytes, put_column, put_number, put_varint, sign_extended, unzigzag,
     varint_len, zigzag,
 };
+use std::alloc::{AllocError, Global};
 use std::test::Fail;
 
 /// The dense nodes 10, 11 and 15, with the id column in a packed, a packed and a single occurrence.
@@ -15,278 +16,419 @@ const TWO_OCCURRENCES: [u8; 18] = [
     0x00, 0x00,
 ];
 
+/// Whether the varint that begins at `from` is read so.
+fn reads(bytes: &[u8], from: usize, outcome: Result<(u64, usize), Reason>) -> bool {
+    from <= bytes.len() && get_varint(bytes, from) == outcome
+}
+
 #[test]
 fn spellings_of_two(rt: HostRuntime) {
-    assert_eq!(rt; get_varint(&[0x02], 0), Ok((2, 1)));
-    assert_eq!(rt; get_varint(&[0x82, 0x00], 0), Ok((2, 2)));
-    assert_eq!(rt; get_varint(&[0x18, 0x82, 0x80, 0x00], 1), Ok((2, 4)));
+    assert!(rt;
+        reads(&[0x02], 0, Ok((2, 1)))
+            && reads(&[0x82, 0x00], 0, Ok((2, 2)))
+            && reads(&[0x18, 0x82, 0x80, 0x00], 1, Ok((2, 4)))
+    );
 }
 
 #[test]
 fn long_spellings(rt: HostRuntime) {
-    assert_eq!(rt;
-        get_varint(&[0xff, 0xff, 0xff, 0x0f], 0),
-        Ok((33_554_431, 4))
-    );
     let greatest = [0xff, 0xff, 0xff, 0xff, 0xff, 0xff, 0xff, 0xff, 0xff, 0x01];
-    assert_eq!(rt; get_varint(&greatest, 0), Ok((u64::MAX, 10)));
     let tenth_above_one = [0x80, 0x80, 0x80, 0x80, 0x80, 0x80, 0x80, 0x80, 0x80, 0x02];
-    assert_eq!(rt; get_varint(&tenth_above_one, 0), Err(Reason::VarintLong));
-    assert_eq!(rt; get_varint(&[0x80; 10], 0), Err(Reason::VarintLong));
-    assert_eq!(rt; get_varint(&[0x80; 9], 0), Err(Reason::VarintCut));
-    assert_eq!(rt; get_varint(&[], 0), Err(Reason::VarintCut));
+    assert!(rt;
+        reads(&[0xff, 0xff, 0xff, 0x0f], 0, Ok((33_554_431, 4)))
+            && reads(&greatest, 0, Ok((u64::MAX, 10)))
+            && reads(&tenth_above_one, 0, Err(Reason::VarintLong))
+            && reads(&[0x80; 10], 0, Err(Reason::VarintLong))
+            && reads(&[0x80; 9], 0, Err(Reason::VarintCut))
+            && reads(&[], 0, Err(Reason::VarintCut))
+    );
+}
+
+/// Whether these numbers are written so, one after another.
+fn spell(alloc: Global, numbers: &[u64], wanted: &[u8]) -> Result<bool, AllocError> {
+    let mut out = Vec::new(alloc);
+    for number in numbers {
+        put_varint(&mut out, *number)?;
+    }
+    Ok(out.as_slice() == wanted)
 }
 
 #[test]
 fn shortest_spellings(rt: HostRuntime) -> Result<(), Fail> {
-    let mut out = Vec::new(rt.alloc());
-    put_varint(&mut out, 33_554_431)?;
-    put_varint(&mut out, 0)?;
-    put_varint(&mut out, sign_extended(-1))?;
+    let numbers = [33_554_431, 0, sign_extended(-1)];
     let wanted = [
         0xff, 0xff, 0xff, 0x0f, 0x00, 0xff, 0xff, 0xff, 0xff, 0xff, 0xff, 0xff, 0xff, 0xff, 0x01,
     ];
-    assert_eq!(rt; out.as_slice(), wanted.as_slice());
-    assert_eq!(rt; varint_len(33_554_431), 4);
-    assert_eq!(rt; varint_len(sign_extended(-1)), 10);
+    assert!(rt; spell(rt.alloc(), &numbers, &wanted)?);
+    assert!(rt; varint_len(33_554_431) == 4 && varint_len(sign_extended(-1)) == 10);
     Ok(())
+}
+
+/// Whether each of the two is the other in zigzag form.
+fn are_in_zigzag(number: i64, value: u64) -> bool {
+    zigzag(number) == value && unzigzag(value) == number
 }
 
 #[test]
 fn signed_numbers(rt: HostRuntime) {
     for (number, value) in [(0, 0), (-1, 1), (1, 2), (-2, 3), (i64::MAX, u64::MAX - 1)] {
-        assert_eq!(rt; zigzag(number), value);
-        assert_eq!(rt; unzigzag(value), number);
+        assert!(rt; are_in_zigzag(number, value));
     }
-    assert_eq!(rt; low_u32(0x1_0000_0005), 5);
-    assert_eq!(rt; low_i32(0xffff_ffff), -1);
-    assert_eq!(rt; low_sint32(0x1_0000_0003), -2);
-    assert_eq!(rt; low_i64(u64::MAX), -1);
-    assert_eq!(rt; low_i64(sign_extended(-1000)), -1000);
+}
+
+#[test]
+fn low_bits(rt: HostRuntime) {
+    assert!(rt;
+        low_u32(0x1_0000_0005) == 5
+            && low_i32(0xffff_ffff) == -1
+            && low_sint32(0x1_0000_0003) == -2
+            && low_i64(u64::MAX) == -1
+            && low_i64(sign_extended(-1000)) == -1000
+    );
+}
+
+/// Whether the column gives these numbers, and is at these places after them.
+fn goes_over(column: &mut Column<'_>, numbers: &[(u64, u64)]) -> bool {
+    for (number, place) in numbers {
+        if column.next() != Some(*number) || column.place() != *place {
+            return false;
+        }
+    }
+    true
 }
 
 #[test]
 fn two_occurrences_of_a_column(rt: HostRuntime) {
     let mut column = Column::new(&TWO_OCCURRENCES, 44, 1);
-    assert_eq!(rt; column.place(), 44);
-    for (value, place) in [(20, 44), (2, 47), (8, 50)] {
-        assert_eq!(rt; column.next(), Some(value));
-        assert_eq!(rt; column.place(), place);
-    }
-    assert_eq!(rt; column.next(), None);
-    assert_eq!(rt; column.place(), 50);
+    assert!(rt;
+        column.place() == 44
+            && goes_over(&mut column, &[(20, 44), (2, 47), (8, 50)])
+            && column.next().is_none()
+            && column.place() == 50
+    );
 }
 
-#[test]
-fn fields_and_a_fault(rt: HostRuntime) -> Result<(), Fail> {
-    // A number, eight bytes, an embedded text, four bytes, and a group.
-    let message = [
-        0x08, 0x05, 0x11, 1, 2, 3, 4, 5, 6, 7, 8, 0x1a, 0x01, b'x', 0x25, 1, 2, 3, 4, 0x2b,
-    ];
-    let mut fields = Fields::new(&message, 100);
-    let first = fields.next().ok_or("a number")?.map_err(|_| "a number")?;
-    assert_eq!(rt; (first.offset, first.number), (100, 1));
-    assert!(rt; matches!(first.payload, Payload::Number(5)));
-    let second = fields.next().ok_or("eight")?.map_err(|_| "eight")?;
-    assert!(rt; matches!(second.payload, Payload::Eight([1, .., 8])));
-    let third = fields.next().ok_or("bytes")?.map_err(|_| "bytes")?;
-    assert!(rt; matches!(third.payload, Payload::Bytes([b'x'], 113)));
-    let fourth = fields.next().ok_or("four")?.map_err(|_| "four")?;
-    assert!(rt; matches!(fourth.payload, Payload::Four([1, 2, 3, 4])));
-    let fault = fields.next().ok_or("a fault")?;
+/// The payload of the next field, if it is this one.
+fn payload_at<'a>(fields: &mut Fields<'a>, offset: u64, number: u64) -> Option<Payload<'a>> {
+    match fields.next() {
+        Some(Ok(field)) if field.offset == offset && field.number == number => Some(field.payload),
+        _ => None,
+    }
+}
+
+/// Whether a number and eight bytes come next.
+fn has_numbers(fields: &mut Fields<'_>) -> bool {
+    matches!(payload_at(fields, 100, 1), Some(Payload::Number(5)))
+        && matches!(payload_at(fields, 102, 2), Some(Payload::Eight([1, .., 8])))
+}
+
+/// Whether a text and four bytes come next.
+fn has_bytes(fields: &mut Fields<'_>) -> bool {
+    matches!(
+        payload_at(fields, 111, 3),
+        Some(Payload::Bytes([b'x'], 113))
+    ) && matches!(
+        payload_at(fields, 114, 4),
+        Some(Payload::Four([1, 2, 3, 4]))
+    )
+}
+
+/// Whether a group comes next, which ends the fields.
+fn ends_at_group(fields: &mut Fields<'_>) -> bool {
     let group = Fault {
         offset: 119,
         reason: Reason::Group,
     };
-    assert!(rt; matches!(fault, Err(found) if found == group));
-    assert!(rt; fields.next().is_none());
-    Ok(())
+    matches!(fields.next(), Some(Err(found)) if found == group) && fields.next().is_none()
+}
+
+/// A number, eight bytes, an embedded text, four bytes, and a group.
+#[test]
+fn fields_and_a_fault(rt: HostRuntime) {
+    let message = [
+        0x08, 0x05, 0x11, 1, 2, 3, 4, 5, 6, 7, 8, 0x1a, 0x01, b'x', 0x25, 1, 2, 3, 4, 0x2b,
+    ];
+    let mut fields = Fields::new(&message, 100);
+    assert!(rt; has_numbers(&mut fields) && has_bytes(&mut fields) && ends_at_group(&mut fields));
+}
+
+const KINDS: [(u64, Kind); 3] = [(1, Kind::Number), (2, Kind::Column), (3, Kind::Bytes)];
+
+/// The first wire fault of a message that begins at 7.
+fn wire_fault(message: &[u8]) -> Option<Fault> {
+    if message.len() < 1 << 20 {
+        judge_wire(message, 7, &KINDS).err()
+    } else {
+        None
+    }
 }
 
 #[test]
 fn each_wire_fault(rt: HostRuntime) {
-    let kinds = [(1, Kind::Number), (2, Kind::Column), (3, Kind::Bytes)];
-    let at = |offset, reason| Err(Fault { offset, reason });
-    assert_eq!(rt;
-        judge_wire(&[0x08, 0x80], 7, &kinds),
-        at(7, Reason::VarintCut)
-    );
-    assert_eq!(rt;
-        judge_wire(&[0x80; 12], 7, &kinds),
-        at(7, Reason::VarintLong)
-    );
-    assert_eq!(rt;
-        judge_wire(&[0x00, 0x00], 7, &kinds),
-        at(7, Reason::NumberZero)
-    );
-    let large_tag = [0x80, 0x80, 0x80, 0x80, 0x10];
-    assert_eq!(rt; judge_wire(&large_tag, 7, &kinds), at(7, Reason::TagLarge));
-    assert_eq!(rt;
-        judge_wire(&[0x08, 0x01, 0x0c], 7, &kinds),
-        at(9, Reason::Group)
-    );
-    assert_eq!(rt; judge_wire(&[0x0e], 7, &kinds), at(7, Reason::WireType));
-    assert_eq!(rt;
-        judge_wire(&[0x1a, 0x02, 0x00], 7, &kinds),
-        at(7, Reason::LengthPast)
-    );
-    assert_eq!(rt;
-        judge_wire(&[0x25, 0x00], 7, &kinds),
-        at(7, Reason::FixedCut)
-    );
-    assert_eq!(rt;
-        judge_wire(&[0x0a, 0x00], 7, &kinds),
-        at(7, Reason::WrongType)
-    );
-    assert_eq!(rt;
-        judge_wire(&[0x12, 0x01, 0x80], 7, &kinds),
-        at(7, Reason::VarintCut)
-    );
-    assert_eq!(rt;
-        judge_wire(&[0x10, 0x80, 0x00, 0x7a, 0x00], 7, &kinds),
-        Ok(())
-    );
-    assert_eq!(rt; kind_of(&kinds, 3), Some(Kind::Bytes));
-    assert_eq!(rt; kind_of(&kinds, 4), None);
-    assert_eq!(rt;
-        judge_payload(Payload::Number(1), Some(Kind::Bytes)),
-        Err(Reason::WrongType)
-    );
+    for (message, offset, reason) in [
+        ([0x08, 0x80].as_slice(), 7, Reason::VarintCut),
+        (&[0x80; 12], 7, Reason::VarintLong),
+        (&[0x00, 0x00], 7, Reason::NumberZero),
+        (&[0x80, 0x80, 0x80, 0x80, 0x10], 7, Reason::TagLarge),
+        (&[0x08, 0x01, 0x0c], 9, Reason::Group),
+        (&[0x0e], 7, Reason::WireType),
+        (&[0x1a, 0x02, 0x00], 7, Reason::LengthPast),
+        (&[0x25, 0x00], 7, Reason::FixedCut),
+        (&[0x0a, 0x00], 7, Reason::WrongType),
+        (&[0x12, 0x01, 0x80], 7, Reason::VarintCut),
+    ] {
+        assert_eq!(rt; wire_fault(message), Some(Fault { offset, reason }));
+    }
 }
 
 #[test]
-fn the_last_field_counts(rt: HostRuntime) -> Result<(), Fail> {
-    let message = [0x08, 0x01, 0x0a, 0x00, 0x08, 0x02, 0x10, 0x03];
-    assert_eq!(rt; last_number(&message, 0, 1), Some(2));
-    assert_eq!(rt; last_number(&message, 0, 3), None);
-    let field = last_field(&message, 10, 1).ok_or("a field")?;
-    assert_eq!(rt; field.offset, 14);
-    assert!(rt; last_field(&message, 10, 3).is_none());
-    Ok(())
+fn no_wire_fault(rt: HostRuntime) {
+    assert_eq!(rt; wire_fault(&[0x10, 0x80, 0x00, 0x7a, 0x00]), None);
+}
+
+#[test]
+fn kinds_of_fields(rt: HostRuntime) {
+    let number = judge_payload(Payload::Number(1), Some(Kind::Bytes));
+    assert!(rt;
+        kind_of(&KINDS, 3) == Some(Kind::Bytes)
+            && kind_of(&KINDS, 4).is_none()
+            && number == Err(Reason::WrongType)
+    );
+}
+
+const TWICE: [u8; 8] = [0x08, 0x01, 0x0a, 0x00, 0x08, 0x02, 0x10, 0x03];
+
+/// Where the last field of this number stands, in a message that begins at 10.
+fn place_of_last(number: u64) -> Option<u64> {
+    match last_field(&TWICE, 10, number) {
+        Some(field) => Some(field.offset),
+        None => None,
+    }
+}
+
+#[test]
+fn the_last_field_counts(rt: HostRuntime) {
+    assert!(rt;
+        last_number(&TWICE, 0, 1) == Some(2)
+            && last_number(&TWICE, 0, 3).is_none()
+            && place_of_last(1) == Some(14)
+            && place_of_last(3).is_none()
+    );
+}
+
+/// How many of so many zeros are below 128.
+fn count_of_zeros(alloc: Global, length: usize) -> Result<usize, AllocError> {
+    let zeros = vec![in alloc; 0u8; length]?;
+    Ok(count_ends(&zeros))
+}
+
+/// How many bytes are below 128, where 64 are not and one more is.
+fn count_of_last(alloc: Global) -> Result<usize, AllocError> {
+    let mut last = vec![in alloc; 0x80u8; 64]?;
+    last.push(0)?;
+    Ok(count_ends(&last))
 }
 
 #[test]
 fn bytes_below_128(rt: HostRuntime) -> Result<(), Fail> {
     let mut block = [0x80; 32];
     block[0] = 0x7f;
-    assert_eq!(rt; end_mask(&block), 1);
-    assert_eq!(rt; end_mask(&[0; 32]), u32::MAX);
-    assert_eq!(rt; count_ends(&[]), 0);
-    assert_eq!(rt; count_ends(&[0x7f; 33]), 33);
-    let zeros = vec![in rt.alloc(); 0u8; 10_000]?;
-    assert_eq!(rt; count_ends(&zeros), 10_000);
-    let mut last = vec![in rt.alloc(); 0x80u8; 64]?;
-    last.push(0)?;
-    assert_eq!(rt; count_ends(&last), 1);
+    assert!(rt; end_mask(&block) == 1 && end_mask(&[0; 32]) == u32::MAX);
+    assert!(rt; count_ends(&[]) == 0 && count_ends(&[0x7f; 33]) == 33);
+    assert!(rt; count_of_zeros(rt.alloc(), 10_000)? == 10_000 && count_of_last(rt.alloc())? == 1);
     Ok(())
 }
 
-#[test]
-fn all_lengths_to_200(rt: HostRuntime) -> Result<(), Fail> {
-    let mut bytes = Vec::new(rt.alloc());
+/// The first length up to 200 for which the count is wrong. Every third byte goes on, and neither the lanes nor the rest are alike.
+fn miscounted(alloc: Global) -> Result<Option<u8>, AllocError> {
+    let mut bytes = Vec::new(alloc);
     let mut ends = 0;
-    for length in 0..200u8 {
-        assert_eq!(rt; count_ends(&bytes), ends, "at {length}");
-        // Every third byte goes on, and neither the lanes nor the rest are alike.
+    for length in 0..=200u8 {
+        if count_ends(&bytes) != ends {
+            return Ok(Some(length));
+        }
         let goes_on = length % 3 == 1;
         bytes.push(if goes_on { 0x80 | length } else { length % 128 })?;
         if !goes_on {
             ends += 1;
         }
     }
-    assert_eq!(rt; count_ends(&bytes), ends);
+    Ok(None)
+}
+
+#[test]
+fn all_lengths_to_200(rt: HostRuntime) -> Result<(), Fail> {
+    assert_eq!(rt; miscounted(rt.alloc())?, None);
     Ok(())
+}
+
+/// Numbers of one, two and five bytes, 800 bytes in all.
+fn short_numbers(alloc: Global) -> Result<Vec<u8>, AllocError> {
+    let mut column = Vec::new(alloc);
+    for _ in 0..100 {
+        column.extend_from_slice(&[0x7f, 0xff, 0x7f, 0xff, 0xff, 0xff, 0xff, 0x7f])?;
+    }
+    Ok(column)
+}
+
+/// What a packed column is refused with.
+fn column_fault(column: &[u8]) -> Option<Reason> {
+    judge_payload(Payload::Bytes(column, 0), Some(Kind::Column)).err()
+}
+
+/// Whether the quick test of sums says yes to these bytes as field 8, and the judge too.
+fn has_small_sums(alloc: Global, column: &[u8]) -> Result<bool, AllocError> {
+    let mut message = Vec::from_slice(alloc, &[0x42, 0xa0, 0x06])?;
+    message.extend_from_slice(column)?;
+    if message.len() > 1 << 20 {
+        return Ok(false);
+    }
+    Ok(has_small_numbers(&message, 0, 8) && judge_sums(&message, 0, 8, 1 << 62, false).is_none())
+}
+
+/// Whether the quick tests say yes to short numbers.
+fn are_short(alloc: Global) -> Result<bool, AllocError> {
+    let column = short_numbers(alloc)?;
+    Ok(is_short(&column) && column_fault(&column).is_none() && has_small_sums(alloc, &column)?)
+}
+
+/// Whether they say no where the last number is cut.
+fn cut_is_found(alloc: Global) -> Result<bool, AllocError> {
+    let mut column = short_numbers(alloc)?;
+    column.push(0x80)?;
+    Ok(!is_short(&column) && column_fault(&column) == Some(Reason::VarintCut))
 }
 
 /// Field 8 of 800 bytes, numbers of one, two and five bytes: the quick tests say yes. With a cut number they say no.
 #[test]
 fn long_columns_of_short_numbers(rt: HostRuntime) -> Result<(), Fail> {
-    let mut column = Vec::new(rt.alloc());
-    for _ in 0..100 {
-        column.extend_from_slice(&[0x7f, 0xff, 0x7f, 0xff, 0xff, 0xff, 0xff, 0x7f])?;
-    }
-    let judged = |bytes| judge_payload(Payload::Bytes(bytes, 0), Some(Kind::Column));
-    assert!(rt; is_short(&column));
-    assert_eq!(rt; judged(&column), Ok(()));
-    let mut message = Vec::new(rt.alloc());
-    message.extend_from_slice(&[0x42, 0xa0, 0x06])?;
-    message.extend_from_slice(&column)?;
-    assert!(rt; has_small_numbers(&message, 0, 8));
-    assert_eq!(rt; judge_sums(&message, 0, 8, 1 << 62, false), None);
-    column.push(0x80)?;
-    assert!(rt; !is_short(&column));
-    assert_eq!(rt; judged(&column), Err(Reason::VarintCut));
+    assert!(rt; are_short(rt.alloc())? && cut_is_found(rt.alloc())?);
     Ok(())
 }
 
 #[test]
 fn a_sum_within_eight(rt: HostRuntime) {
     let mut sum = Sum::new(8);
-    assert_eq!(rt; sum.add(5), Some(5));
-    assert_eq!(rt; sum.add(3), None);
+    let (first, past) = (sum.add(5), sum.add(3));
     let mut copy = sum;
-    assert_eq!(rt; sum.add(-12), Some(-7));
-    assert_eq!(rt; copy.add(2), Some(7));
+    let (back, on) = (sum.add(-12), copy.add(2));
+    assert!(rt; first == Some(5) && past.is_none() && back == Some(-7) && on == Some(7));
 }
 
-#[test]
-fn columns_written_and_read(rt: HostRuntime) -> Result<(), Fail> {
-    let mut ids = DeltaOut::new(rt.alloc());
-    ids.push(1 - (1 << 62))?;
-    ids.push((1 << 62) - 1)?;
-    let wanted = [
+/// Whether the ids at both limits are written so, and nothing is left of them.
+fn writes_ids_at_limits(ids: &mut DeltaOut) -> Result<bool, AllocError> {
+    const WANTED: [u8; 19] = [
         0xfd, 0xff, 0xff, 0xff, 0xff, 0xff, 0xff, 0xff, 0x7f, 0xfc, 0xff, 0xff, 0xff, 0xff, 0xff,
         0xff, 0xff, 0xff, 0x01,
     ];
-    assert_eq!(rt; ids.bytes(), wanted.as_slice());
-    assert_eq!(rt; ids.held(), 19);
+    ids.push(1 - (1 << 62))?;
+    ids.push((1 << 62) - 1)?;
+    if ids.bytes() != WANTED.as_slice() || ids.held() != 19 {
+        return Ok(false);
+    }
     ids.clear();
-    assert_eq!(rt; ids.bytes(), [].as_slice());
-    ids.push(10)?;
-    ids.push(15)?;
-    let mut kinds = ColumnOut::new(rt.alloc());
+    Ok(ids.bytes().is_empty())
+}
+
+/// Whether a number of two bytes takes two.
+fn holds_two_bytes(kinds: &mut ColumnOut) -> Result<bool, AllocError> {
     kinds.push(300)?;
-    assert_eq!(rt; kinds.held(), 2);
+    let held = kinds.held();
     kinds.clear();
-    kinds.push(2)?;
-    let mut out = Vec::new(rt.alloc());
+    Ok(held == 2)
+}
+
+/// A number, a text, and three columns, one of them empty.
+fn fields_of(alloc: Global, ids: &DeltaOut, kinds: &ColumnOut) -> Result<Vec<u8>, AllocError> {
+    let mut out = Vec::new(alloc);
     put_number(&mut out, 1, 7)?;
     put_bytes(&mut out, 2, b"x")?;
     put_column(&mut out, 3, &[])?;
     put_column(&mut out, 8, ids.bytes())?;
     put_column(&mut out, 10, kinds.bytes())?;
-    let wanted = [
+    Ok(out)
+}
+
+/// Whether the columns are written so, before and after they are cleared.
+fn writes_columns(alloc: Global) -> Result<bool, AllocError> {
+    const WANTED: [u8; 12] = [
         0x08, 0x07, 0x12, 0x01, b'x', 0x42, 0x02, 0x14, 0x0a, 0x52, 0x01, 0x02,
     ];
-    assert_eq!(rt; out.as_slice(), wanted.as_slice());
+    let mut ids = DeltaOut::new(alloc);
+    let mut kinds = ColumnOut::new(alloc);
+    if !writes_ids_at_limits(&mut ids)? || !holds_two_bytes(&mut kinds)? {
+        return Ok(false);
+    }
+    ids.push(10)?;
+    ids.push(15)?;
+    kinds.push(2)?;
+    Ok(fields_of(alloc, &ids, &kinds)?.as_slice() == WANTED.as_slice())
+}
+
+#[test]
+fn columns_written_and_read(rt: HostRuntime) -> Result<(), Fail> {
+    assert!(rt; writes_columns(rt.alloc())?);
     Ok(())
+}
+
+/// Whether exactly a refused push leaves the column as it was.
+fn pushes(column: &mut ColumnOut, number: u8) -> bool {
+    let before = column.held();
+    let added = column.push(u64::from(number));
+    (column.held() == before) == added.is_err()
+}
+
+fn pushes_delta(deltas: &mut DeltaOut, number: u8) -> bool {
+    let before = deltas.held();
+    let added = deltas.push(i64::from(number));
+    (deltas.held() == before) == added.is_err()
+}
+
+/// Whether it is so for forty numbers.
+fn pushes_forty(alloc: Global) -> bool {
+    let mut column = ColumnOut::new(alloc);
+    let mut deltas = DeltaOut::new(alloc);
+    for number in 0..40 {
+        if !pushes(&mut column, number) || !pushes_delta(&mut deltas, number) {
+            return false;
+        }
+    }
+    true
 }
 
 /// Whichever request for memory is refused, the columns are as they were, and the next push may succeed.
 #[test]
 fn a_refused_push_changes_nothing(rt: HostRuntime) {
-    let mut column = ColumnOut::new(rt.alloc());
-    let mut deltas = DeltaOut::new(rt.alloc());
-    for number in 0..40 {
-        let (before, before_deltas) = (column.held(), deltas.held());
-        let (added, added_delta) = (column.push(number), deltas.push(number as i64));
-        assert_eq!(rt; column.held() == before, added.is_err());
-        assert_eq!(rt; deltas.held() == before_deltas, added_delta.is_err());
+    assert!(rt; pushes_forty(rt.alloc()));
+}
+
+/// Whether these are all sums.
+fn are_sums(sums: Sums<'_>, values: &[i64]) -> bool {
+    let mut sums = sums;
+    for value in values {
+        if sums.next() != Some(*value) {
+            return false;
+        }
     }
+    sums.next().is_none()
 }
 
 #[test]
-fn values_of_delta_columns(rt: HostRuntime) -> Result<(), Fail> {
+fn values_of_delta_columns(rt: HostRuntime) {
     let ids = Column::new(&TWO_OCCURRENCES, 44, 1);
-    let all: Vec<i64> = Sums::new(ids, 1 << 62).collect(rt.alloc())?;
-    assert_eq!(rt; all.as_slice(), [10, 11, 15].as_slice());
-    let below_11: Vec<i64> = Sums::new(ids, 11).collect(rt.alloc())?;
-    assert_eq!(rt; below_11.as_slice(), [10].as_slice());
-    // 2^32 + 2, of which a `sint32` takes the 2
+    assert!(rt;
+        are_sums(Sums::new(ids, 1 << 62), &[10, 11, 15]) && are_sums(Sums::new(ids, 11), &[10])
+    );
+}
+
+/// 2^32 + 2, of which a `sint32` takes the 2.
+#[test]
+fn values_of_32_bits(rt: HostRuntime) {
     let wide = Column::new(&[0x08, 0x82, 0x80, 0x80, 0x80, 0x10], 0, 1);
-    assert_eq!(rt; Sums::new(wide, 1 << 62).next(), Some(2_147_483_649));
-    assert_eq!(rt; Sums::narrow(wide, 1 << 62).next(), Some(1));
-    Ok(())
+    assert!(rt;
+        are_sums(Sums::new(wide, 1 << 62), &[2_147_483_649])
+            && are_sums(Sums::narrow(wide, 1 << 62), &[1])
+    );
 }
 
 #[test]
@@ -294,12 +436,22 @@ fn the_lesser_fault(rt: HostRuntime) {
     let fault = |offset, reason| Fault { offset, reason };
     let early = fault(42, Reason::StringIndex);
     let late = fault(54, Reason::VarintCut);
-    assert!(rt; comes_before(early, late));
-    assert!(rt; comes_before(fault(42, Reason::Missing(1)), fault(42, Reason::Missing(3))));
-    assert!(rt; !comes_before(early, early));
-    assert_eq!(rt; lesser(Some(late), Some(early)), Some(early));
-    assert_eq!(rt; lesser(None, Some(late)), Some(late));
-    assert_eq!(rt; lesser(Some(late), None), Some(late));
+    assert!(rt;
+        comes_before(early, late)
+            && comes_before(fault(42, Reason::Missing(1)), fault(42, Reason::Missing(3)))
+            && !comes_before(early, early)
+            && lesser(Some(late), Some(early)) == Some(early)
+            && lesser(None, Some(late)) == Some(late)
+            && lesser(Some(late), None) == Some(late)
+    );
+}
+
+fn is_told(alloc: Global, fault: Fault, text: &str) -> Result<bool, AllocError> {
+    Ok(fault.to_string(alloc)?.as_str() == text)
+}
+
+fn is_answered(alloc: Global, fault: ReadFault, text: &str) -> Result<bool, AllocError> {
+    Ok(fault.to_string(alloc)?.as_str() == text)
 }
 
 #[test]
@@ -312,23 +464,24 @@ fn texts_of_refusals(rt: HostRuntime) -> Result<(), Fail> {
         offset: 19,
         reason: Reason::Feature,
     };
-    assert_eq!(rt;
-        missing.to_string(rt.alloc())?.as_str(),
-        "refused at 36: 25 Missing(1)"
+    let refused = "refused at 19: 55 Feature";
+    assert!(rt;
+        is_told(rt.alloc(), missing, "refused at 36: 25 Missing(1)")?
+            && is_told(rt.alloc(), feature, refused)?
+            && is_answered(rt.alloc(), ReadFault::Refused(feature), refused)?
+            && is_answered(rt.alloc(), ReadFault::Memory, "out of memory")?
+            && ReadFault::from(feature) == ReadFault::Refused(feature)
     );
-    assert_eq!(rt;
-        feature.to_string(rt.alloc())?.as_str(),
-        "refused at 19: 55 Feature"
-    );
-    assert_eq!(rt; Reason::LocationColumns.number(), 60);
-    assert_eq!(rt; Reason::LocationColumns.name(), "LocationColumns");
-    assert_eq!(rt; Reason::Missing(3).missing_field(), 3);
-    assert_eq!(rt; ReadFault::from(feature), ReadFault::Refused(feature));
-    let refused = ReadFault::Refused(feature).to_string(rt.alloc())?;
-    assert_eq!(rt; refused.as_str(), "refused at 19: 55 Feature");
-    let memory = ReadFault::Memory.to_string(rt.alloc())?;
-    assert_eq!(rt; memory.as_str(), "out of memory");
     Ok(())
+}
+
+#[test]
+fn names_of_reasons(rt: HostRuntime) {
+    assert!(rt;
+        Reason::LocationColumns.number() == 60
+            && Reason::LocationColumns.name() == "LocationColumns"
+            && Reason::Missing(3).missing_field() == 3
+    );
 }
 
 /// The laws are functions that do nothing.
