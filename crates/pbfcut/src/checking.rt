@@ -19,7 +19,8 @@ use std::alloc::Global;
 /// its texts.
 pub fn check<F: Feed>(alloc: Global, feed: &mut F) -> Result<Counts, Stop>
     ensures counted { IfOk result (CountsFile (judged_file (F.remaining feed.old))) }
-    ensures stops { IfErr result (Caused (FaultOf (judged_file (F.remaining feed.old))) (ReadFailed F.Feed feed.old feed.new) ⊥ unchanged) }
+    ensures stops { IfErr result (Caused (FaultOf (judged_file (F.remaining feed.old)))
+        (ReadFailed F.Feed feed.old feed.new) ⊥ unchanged) }
     ensures counts { F.failures feed.old ≤ F.failures feed.new }
 {
     Ok(check_with_receipt(alloc, feed)?.counts)
@@ -33,8 +34,10 @@ pub fn check_with_receipt<F: Feed>(alloc: Global, feed: &mut F) -> Result<InputR
     ensures receipt { IfOk result (λ receipt. GaveFile F.Feed feed.old feed.new receipt.input
         (λ file. CountsFile (judged_file (Some file)) receipt.counts)) }
     // The feed gave as many bytes of this digest, and the fault is the first of whatever begins so.
-    ensures refused { IfErr result (Halts (RefusesFile F.Feed feed.old feed.new (λ b. judged_file (Some b)))) }
-    ensures stops { IfErr result (λ h. Caused (FaultOf (judged_file (F.remaining feed.old))) (ReadFailed F.Feed feed.old feed.new) ⊥ unchanged (stop_of h)) }
+    ensures refused { IfErr result
+        (Halts (RefusesFile F.Feed feed.old feed.new (λ b. judged_file (Some b)))) }
+    ensures stops { IfErr result (λ h. Caused (FaultOf (judged_file (F.remaining feed.old)))
+        (ReadFailed F.Feed feed.old feed.new) ⊥ unchanged (stop_of h)) }
     ensures counts { F.failures feed.old ≤ F.failures feed.new }
 {
     let told = judge(alloc, feed, &mut Nothing)?;

@@ -69,15 +69,22 @@ pub fn convert_with_receipt<F: Feed, G: Feed, D: Drain, S: BuildHasher + Drop>(
 ) -> Result<Receipt, Halt>
     // Each feed gave a file of the digest `input`, to its end; the first has no fault, and its header can be written. The drain took
     // bytes of the digest `output`. Where both files are one, these bytes are exactly its conversion, and the counts are its.
-    ensures receipt { IfOk result (λ receipt. GaveFile F.Feed first.old first.new receipt.input (λ b. IsWritable b
-        × GaveFile G.Feed second.old second.new receipt.input (λ c. TookFile D.Drain drain.old drain.new receipt.output
+    ensures receipt { IfOk result (λ receipt. GaveFile F.Feed first.old first.new receipt.input
+        (λ b. IsWritable b
+        × GaveFile G.Feed second.old second.new receipt.input
+        (λ c. TookFile D.Drain drain.old drain.new receipt.output
         (λ written. b ≡ c → Converted b receipt.counts written)))) }
     // The first feed gave as many bytes of this digest, the fault is the first of whatever begins so, and the drain took nothing.
-    ensures refused { IfErr result (HaltsFile F.Feed first.old first.new D.Drain drain.old drain.new (λ b. judged_writable (Some b))) }
-    ensures stops { IfErr result (λ h. ConvertStops (F.remaining first.old) (G.remaining second.old) (D.taken drain.old) (D.taken drain.new)
-        (ReadFailed F.Feed first.old first.new ⊎ ReadFailed G.Feed second.old second.new) (WriteFailed D.Drain drain.old drain.new) (stop_of h)) }
+    ensures refused { IfErr result (HaltsFile F.Feed first.old first.new
+        D.Drain drain.old drain.new (λ b. judged_writable (Some b))) }
+    ensures stops { IfErr result (λ h. ConvertStops (F.remaining first.old) (G.remaining second.old)
+        (D.taken drain.old) (D.taken drain.new)
+        (ReadFailed F.Feed first.old first.new ⊎ ReadFailed G.Feed second.old second.new)
+        (WriteFailed D.Drain drain.old drain.new) (stop_of h)) }
     // Whatever stopped it, where both feeds supply these bytes a prefix of their conversion went out, and nothing where they have a fault.
-    ensures beginning { OnErr result ((b : List ℕ) → BothSupply b (F.remaining first.old) (G.remaining second.old) → IsFront (D.taken drain.old) (D.taken drain.new) (conversion_of b)) }
+    ensures beginning { OnErr result ((b : List ℕ)
+        → BothSupply b (F.remaining first.old) (G.remaining second.old)
+        → IsFront (D.taken drain.old) (D.taken drain.new) (conversion_of b)) }
 {
     let mut hashed = HashedDrain::new(&mut *drain);
     let outcome = convert_file(alloc, first, second, &mut hashed, hasher);

@@ -138,17 +138,26 @@ pub fn extract_with_receipt<F: Feed, G: Feed, H: Feed, D: Drain, S: BuildHasher 
     // Each feed gave a file of the digest `input`, to its end; the first has no fault, and its header can be written. The drain took
     // bytes of the digest `output`. Where the files are one, these bytes are exactly its complete-ways extract, and the counts are
     // those of the entities in it.
-    ensures receipt { IfOk result (λ receipt. GaveFile F.Feed first.old first.new receipt.input (λ b. IsWritable b
-        × GaveFile G.Feed second.old second.new receipt.input (λ c. GaveFile H.Feed third.old third.new receipt.input (λ d.
+    ensures receipt { IfOk result (λ receipt. GaveFile F.Feed first.old first.new receipt.input
+        (λ b. IsWritable b
+        × GaveFile G.Feed second.old second.new receipt.input
+        (λ c. GaveFile H.Feed third.old third.new receipt.input (λ d.
         TookFile D.Drain drain.old drain.new receipt.output
-        (λ written. b ≡ c → b ≡ d → Extracted (complete_ways area) (extract (seen_decoded area)) area b receipt.counts written))))) }
+        (λ written. b ≡ c → b ≡ d → Extracted (complete_ways area) (extract (seen_decoded area))
+        area b receipt.counts written))))) }
     // The first feed gave as many bytes of this digest, the fault is the first of whatever begins so, and the drain took nothing.
-    ensures refused { IfErr result (HaltsFile F.Feed first.old first.new D.Drain drain.old drain.new (λ b. judged_writable (Some b))) }
-    ensures stops { IfErr result (λ h. ExtractStops (F.remaining first.old) (G.remaining second.old) (H.remaining third.old) (D.taken drain.old) (D.taken drain.new)
-        (ReadFailed F.Feed first.old first.new ⊎ (ReadFailed G.Feed second.old second.new ⊎ ReadFailed H.Feed third.old third.new))
+    ensures refused { IfErr result (HaltsFile F.Feed first.old first.new
+        D.Drain drain.old drain.new (λ b. judged_writable (Some b))) }
+    ensures stops { IfErr result (λ h. ExtractStops (F.remaining first.old) (G.remaining second.old)
+        (H.remaining third.old) (D.taken drain.old) (D.taken drain.new)
+        (ReadFailed F.Feed first.old first.new
+        ⊎ (ReadFailed G.Feed second.old second.new ⊎ ReadFailed H.Feed third.old third.new))
         (WriteFailed D.Drain drain.old drain.new) (stop_of h)) }
     // Whatever stopped it, where all feeds supply these bytes a prefix of the answer went out, and nothing where they have a fault.
-    ensures beginning { OnErr result ((b : List ℕ) → AllSupply b (F.remaining first.old) (G.remaining second.old) (H.remaining third.old) → IsFront (D.taken drain.old) (D.taken drain.new) (extract_of (complete_ways area) area b)) }
+    ensures beginning { OnErr result ((b : List ℕ)
+        → AllSupply b (F.remaining first.old) (G.remaining second.old) (H.remaining third.old)
+        → IsFront (D.taken drain.old) (D.taken drain.new)
+        (extract_of (complete_ways area) area b)) }
 {
     let mut hashed = HashedDrain::new(&mut *drain);
     let outcome = extract_file(alloc, first, second, third, area, &mut hashed, hasher);
@@ -307,17 +316,28 @@ pub fn extract_parents_with_receipt<
     // Each feed gave a file of the digest `input`, to its end; the first has no fault, and its header can be written. The drain took
     // bytes of the digest `output`. Where the files are one, these bytes are exactly its complete-ways extract with all parents, and
     // the counts are those of the entities in it.
-    ensures receipt { IfOk result (λ receipt. GaveFile F.Feed first.old first.new receipt.input (λ b. IsWritable b
-        × GaveFile G.Feed second.old second.new receipt.input (λ c. GaveFile H.Feed third.old third.new receipt.input (λ d.
-        GaveFile I.Feed fourth.old fourth.new receipt.input (λ e. TookFile D.Drain drain.old drain.new receipt.output
-        (λ written. b ≡ c → b ≡ d → b ≡ e → Extracted (all_parents area) (extract_with_parents (seen_decoded area)) area b receipt.counts written)))))) }
+    ensures receipt { IfOk result (λ receipt. GaveFile F.Feed first.old first.new receipt.input
+        (λ b. IsWritable b
+        × GaveFile G.Feed second.old second.new receipt.input
+        (λ c. GaveFile H.Feed third.old third.new receipt.input (λ d.
+        GaveFile I.Feed fourth.old fourth.new receipt.input
+        (λ e. TookFile D.Drain drain.old drain.new receipt.output
+        (λ written. b ≡ c → b ≡ d → b ≡ e → Extracted (all_parents area)
+        (extract_with_parents (seen_decoded area)) area b receipt.counts written)))))) }
     // The first feed gave as many bytes of this digest, the fault is the first of whatever begins so, and the drain took nothing.
-    ensures refused { IfErr result (HaltsFile F.Feed first.old first.new D.Drain drain.old drain.new (λ b. judged_writable (Some b))) }
-    ensures stops { IfErr result (λ h. ParentsStops (F.remaining first.old) (G.remaining second.old) (H.remaining third.old) (I.remaining fourth.old) (D.taken drain.old) (D.taken drain.new)
-        ((ReadFailed F.Feed first.old first.new ⊎ (ReadFailed G.Feed second.old second.new ⊎ ReadFailed H.Feed third.old third.new)) ⊎ ReadFailed I.Feed fourth.old fourth.new)
+    ensures refused { IfErr result (HaltsFile F.Feed first.old first.new
+        D.Drain drain.old drain.new (λ b. judged_writable (Some b))) }
+    ensures stops { IfErr result (λ h. ParentsStops (F.remaining first.old) (G.remaining second.old)
+        (H.remaining third.old) (I.remaining fourth.old) (D.taken drain.old) (D.taken drain.new)
+        ((ReadFailed F.Feed first.old first.new
+        ⊎ (ReadFailed G.Feed second.old second.new ⊎ ReadFailed H.Feed third.old third.new))
+        ⊎ ReadFailed I.Feed fourth.old fourth.new)
         (WriteFailed D.Drain drain.old drain.new) (stop_of h)) }
     // Whatever stopped it, where all feeds supply these bytes a prefix of the answer went out, and nothing where they have a fault.
-    ensures beginning { OnErr result ((b : List ℕ) → FourSupply b (F.remaining first.old) (G.remaining second.old) (H.remaining third.old) (I.remaining fourth.old) → IsFront (D.taken drain.old) (D.taken drain.new) (extract_of (all_parents area) area b)) }
+    ensures beginning { OnErr result ((b : List ℕ)
+        → FourSupply b (F.remaining first.old) (G.remaining second.old) (H.remaining third.old)
+        (I.remaining fourth.old)
+        → IsFront (D.taken drain.old) (D.taken drain.new) (extract_of (all_parents area) area b)) }
 {
     let mut hashed = HashedDrain::new(&mut *drain);
     let outcome = extract_file_with_parents(

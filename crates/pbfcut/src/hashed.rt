@@ -23,7 +23,8 @@ impl<F: Feed> Feed for HashedFeed<F> {
 
     ghost lender = { λ h. F.lender h.feed };
 
-    ghost has_passed = { λ h log b. HasPassed (IsCounted ⟦<Sha256 as Digest>⟧.holds) F.has_passed h.feed (h.hasher, h.count) log b };
+    ghost has_passed = { λ h log b. HasPassed
+        (IsCounted ⟦<Sha256 as Digest>⟧.holds) F.has_passed h.feed (h.hasher, h.count) log b };
 
     fn read(&mut self, buf: &mut [u8]) -> Result<usize, FeedFault> {
         let count = self.feed.read(buf)?;
@@ -58,7 +59,8 @@ impl<F: Feed> HashedFeed<F> {
     pub(crate) fn digest(&mut self) -> [u8; 32]
         ensures feed { self.new.feed ≡ self.old.feed }
         ensures lender { F.lender self.new.feed ≡ F.lender self.old.feed }
-        ensures digest { (b : List ℕ) → ⟦<Sha256 as Digest>⟧.holds self.old.hasher b → result ≡ sha256 b }
+        ensures digest { (b : List ℕ) → ⟦<Sha256 as Digest>⟧.holds self.old.hasher b
+            → result ≡ sha256 b }
     {
         self.hasher.finalize_reset()
     }
@@ -111,7 +113,8 @@ impl<D: Drain> HashedDrain<D> {
     pub(crate) fn digest(&mut self) -> [u8; 32]
         ensures drain { self.new.drain ≡ self.old.drain }
         ensures lender { D.lender self.new.drain ≡ D.lender self.old.drain }
-        ensures digest { (b : List ℕ) → ⟦<Sha256 as Digest>⟧.holds self.old.hasher b → result ≡ sha256 b }
+        ensures digest { (b : List ℕ) → ⟦<Sha256 as Digest>⟧.holds self.old.hasher b
+            → result ≡ sha256 b }
     {
         self.hasher.finalize_reset()
     }

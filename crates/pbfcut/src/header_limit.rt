@@ -18,7 +18,8 @@ use pbf_wire::{Fault, Reason};
 
 /// The header of the file that was judged, if it can be written.
 pub(crate) fn writable_header(told: &Judged) -> Result<&Header, Halt>
-    ensures header { IfOk result (λ header. held_header told.now.pass ≡ Some (told.now.pass.header_at, header_of header.now)) }
+    ensures header { IfOk result (λ header. held_header told.now.pass
+        ≡ Some (told.now.pass.header_at, header_of header.now)) }
     ensures within { IfOk result (λ header. header_limit (held_header told.now.pass) ≡ None) }
     ensures short { IfOk result (λ header. IsShort (header_of header.now)) }
     ensures refused { IfErr result (IsLimitRefused told.now) }

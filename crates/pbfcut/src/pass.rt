@@ -357,8 +357,10 @@ fn steps<F: Feed, G: Gather>(
     gathering: &mut G,
 ) -> Result<Pass, Stop>
     requires { IsReading reader.old }
-    ensures taken { IfOk result (λ pass. GaveRest F.Feed reader.old reader.new (λ known. TakesFile G.gathered known gathering.old gathering.new pass)) }
-    ensures stops { IfErr result (Caused (FaultOf (fully_known (verdict F.remaining reader.old))) (ReadFailed F.Feed reader.old.feed reader.new.feed) ⊥ unchanged) }
+    ensures taken { IfOk result (λ pass. GaveRest F.Feed reader.old reader.new
+        (λ known. TakesFile G.gathered known gathering.old gathering.new pass)) }
+    ensures stops { IfErr result (Caused (FaultOf (fully_known (verdict F.remaining reader.old)))
+        (ReadFailed F.Feed reader.old.feed reader.new.feed) ⊥ unchanged) }
     ensures refused { IfErr result (RefusesRest F.Feed reader.old reader.new) }
     ensures keeps { KeepsFeed F.Feed reader.old.feed reader.new.feed }
 {
@@ -384,10 +386,13 @@ pub(crate) fn judge<F: Feed, G: Gather>(
     feed: &mut F,
     gathering: &mut G,
 ) -> Result<Judged, Halt>
-    ensures judged { IfOk result (λ told. GaveFile F.Feed feed.old feed.new told.digest (λ file. IsLength told.count file
+    ensures judged { IfOk result (λ told. GaveFile F.Feed feed.old feed.new told.digest
+        (λ file. IsLength told.count file
         × TakesFile G.gathered (judged_file (Some file)) gathering.old gathering.new told.pass)) }
-    ensures stops { IfErr result (λ h. Caused (FaultOf (judged_file (F.remaining feed.old))) (ReadFailed F.Feed feed.old feed.new) ⊥ unchanged (stop_of h)) }
-    ensures refused { IfErr result (Halts (RefusesFile F.Feed feed.old feed.new (λ b. judged_file (Some b)))) }
+    ensures stops { IfErr result (λ h. Caused (FaultOf (judged_file (F.remaining feed.old)))
+        (ReadFailed F.Feed feed.old feed.new) ⊥ unchanged (stop_of h)) }
+    ensures refused { IfErr result
+        (Halts (RefusesFile F.Feed feed.old feed.new (λ b. judged_file (Some b)))) }
     ensures counts { F.failures feed.old ≤ F.failures feed.new }
 {
     let mut reader = FrameReader::new(alloc, HashedFeed::new(&mut *feed));

@@ -263,15 +263,22 @@ pub fn show_with_receipt<F: Feed, G: Feed, D: Drain>(
 ) -> Result<Receipt, Halt>
     // Each feed gave a file of the digest `input`, to its end. The first has no fault, and the counts are those of its entities. The
     // drain took bytes of the digest `output`: exactly the text of the second, which has no fault.
-    ensures receipt { IfOk result (λ receipt. GaveFile F.Feed first.old first.new receipt.input (λ b. CountsFile (judged_file (Some b)) receipt.counts
-        × GaveFile G.Feed second.old second.new receipt.input (λ c. TookFile D.Drain drain.old drain.new receipt.output (Shown dates (judged_file (Some c)))))) }
+    ensures receipt { IfOk result (λ receipt. GaveFile F.Feed first.old first.new receipt.input
+        (λ b. CountsFile (judged_file (Some b)) receipt.counts
+        × GaveFile G.Feed second.old second.new receipt.input
+        (λ c. TookFile D.Drain drain.old drain.new receipt.output
+        (Shown dates (judged_file (Some c)))))) }
     // The first feed gave as many bytes of this digest, the fault is the first of whatever begins so, and the drain took nothing.
-    ensures refused { IfErr result (HaltsFile F.Feed first.old first.new D.Drain drain.old drain.new (λ b. judged_file (Some b))) }
-    ensures stops { IfErr result (λ h. Caused (RefusedFirst (judged_file (F.remaining first.old)) (D.taken drain.old) (D.taken drain.new))
+    ensures refused { IfErr result (HaltsFile F.Feed first.old first.new
+        D.Drain drain.old drain.new (λ b. judged_file (Some b))) }
+    ensures stops { IfErr result (λ h. Caused (RefusedFirst (judged_file (F.remaining first.old))
+        (D.taken drain.old) (D.taken drain.new))
         (ReadFailed F.Feed first.old first.new ⊎ ReadFailed G.Feed second.old second.new)
         (WriteFailed D.Drain drain.old drain.new)
         (ChangedIn 2 (F.remaining first.old) (G.remaining second.old)) (stop_of h)) }
-    ensures beginning { OnErr result (F.remaining first.old ≡ G.remaining second.old → ShowsFront dates (judged_file (F.remaining first.old)) (D.taken drain.old) (D.taken drain.new)) }
+    ensures beginning { OnErr result (F.remaining first.old ≡ G.remaining second.old
+        → ShowsFront dates (judged_file (F.remaining first.old))
+        (D.taken drain.old) (D.taken drain.new)) }
 {
     let mut hashed = HashedDrain::new(&mut *drain);
     let outcome = show_file(alloc, first, second, &mut hashed, dates);
