@@ -15,11 +15,11 @@ use Rattle.pbf_frame.proofs.Parting.{none_some}
 use Rattle.pbf_block.specs.declared.counts.Counts.{Counts}
 use Rattle.pbfcut.specs.declared.pass.Pass.{Pass}
 use Rattle.pbfcut.specs.declared.pick.Selection.TheVariants as selection
-use Rattle.pbfcut.specs.Calls.{Converted}
+use Rattle.pbfcut.specs.Theorem.{Converted, IsConversion}
 use Rattle.pbfcut.specs.Converting.{header_limit, with_limit, limited, judged_writable, held_header, answer_bytes, conversion, CanBeWritten}
 use Rattle.pbfcut.specs.Counting.{counts_of, stored_entities}
 use Rattle.pbfcut.specs.Judged.{judged_file}
-use Rattle.pbfcut.specs.Kept.{verdict_on, conversion_of, IsWritable, IsConversion}
+use Rattle.pbfcut.specs.Kept.{verdict_on, conversion_of, IsWritable}
 use Rattle.pbfcut.proofs.GivenLemmas.{Tells}
 use Rattle.pbfcut.proofs.KeptLaw.{same_verdict, conversion_kept}
 use Rattle.pbfcut.specs.Pick.{everything, pick_of, Packed, PacksFront}

@@ -30,9 +30,10 @@ use Rattle.pbfcut.specs.declared.pass.Pass.{Pass}
 use Rattle.pbfcut.specs.declared.pick.Selection.TheVariants as selection
 use Rattle.pbfcut.specs.Converting.{header_limit, judged_writable, held_header}
 use Rattle.pbfcut.specs.Counting.{counts_of, stored_entities}
-use Rattle.pbfcut.specs.Calls.{Extracted, Differ, ChangedIn, ChangedBefore, RefusedFirst, ConvertStops, ExtractStops, ParentsStops}
+use Rattle.pbfcut.specs.Calls.{Differ, ChangedIn, ChangedBefore, RefusedFirst, ConvertStops, ExtractStops, ParentsStops}
+use Rattle.pbfcut.specs.Theorem.{Extracted, IsExtract}
 use Rattle.pbfcut.specs.Extracting.{Choice, complete_ways, all_parents, extraction, extract_bytes, Chooses, ChoosesParents}
-use Rattle.pbfcut.specs.Kept.{verdict_on, extract_of, IsWritable, IsExtract}
+use Rattle.pbfcut.specs.Kept.{verdict_on, extract_of, IsWritable}
 use Rattle.pbfcut.proofs.GivenLemmas.{IsDigest}
 use Rattle.pbfcut.proofs.KeptLaw.{IsSelection, same_verdict, extract_kept}
 use Rattle.pbfcut.specs.Pass.{with_node, with_way, with_relation, TakesFile, file_header}

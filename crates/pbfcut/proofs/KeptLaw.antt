@@ -35,7 +35,8 @@ use Rattle.pbfcut.specs.Converting.{header_limit, is_short, with_limit, limited,
 use Rattle.pbfcut.specs.Counting.{entities_of, frame_entities, stored_entities}
 use Rattle.pbfcut.specs.Extracting.{Choice, complete_ways, all_parents, extraction, extract_bytes}
 use Rattle.pbfcut.specs.Judged.{payload_fault_of, payload_fault, sound_first, sound_front, fully}
-use Rattle.pbfcut.specs.Kept.{verdict_on, IsWritable, header_in_file, entities_in_file, conversion_of, extract_of, IsConversion, IsExtract}
+use Rattle.pbfcut.specs.Kept.{verdict_on, IsWritable, header_in_file, entities_in_file, conversion_of, extract_of}
+use Rattle.pbfcut.specs.Theorem.{IsConversion, IsExtract}
 use Rattle.pbfcut.specs.Pass.{headers_of, frame_headers, file_header}
 use Rattle.pbfcut.proofs.FileLaw.{IsFileOf, written_is_file}
 use Rattle.pbf_block.specs.declared.header_write.TheConstants.{MOST_HEADER_TEXT}

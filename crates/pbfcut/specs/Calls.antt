@@ -1,15 +1,9 @@
--- What `convert` and `extract` answer: what went out, how many entities that were, and why a call stops.
-use Rattle.std.specs.Prelude.{◌≡◌, ◌⊎◌, ℕ, ◌^◌, ◌≤◌, List, length, Option, Some}
+-- What the feeds of `convert` and `extract` supply, and why a call stops.
+use Rattle.std.specs.Prelude.{◌≡◌, ◌⊎◌, ℕ, List, Option, Some}
 use Rattle.pbf_wire.specs.declared.fault.Fault.{Fault}
-use Rattle.osm_entity.specs.declared.bounding_box.BoundingBox.{BoundingBox}
-use Rattle.osm_entity.specs.Entity.{Decoded}
 use Rattle.pbf_frame.specs.declared.stop.Stop.{Stop}
 use Rattle.pbf_frame.specs.Verdict.{Verdict}
-use Rattle.pbf_block.specs.declared.counts.Counts.{Counts}
-use Rattle.pbfcut.specs.Counting.{counts_of}
 use Rattle.pbfcut.specs.Converting.{judged_writable}
-use Rattle.pbfcut.specs.Extracting.{Choice}
-use Rattle.pbfcut.specs.Kept.{IsWritable, entities_in_file, conversion_of, extract_of, IsConversion, IsExtract}
 use Rattle.pbfcut.specs.Stops.{Caused, FaultOf}
 
 -- ---- what is supplied
@@ -25,31 +19,6 @@ AllSupply b first second third = (first ≡ Some b) × (second ≡ Some b) × (t
 -- each of four feeds does
 abbrev pub FourSupply : List ℕ → Option (List ℕ) → Option (List ℕ) → Option (List ℕ) → Option (List ℕ) → Type 0
 FourSupply b first second third fourth = (first ≡ Some b) × (second ≡ Some b) × (third ≡ Some b) × (fourth ≡ Some b)
-
--- ---- what went out
-
--- these bytes are the conversion of a file
-pub record Converted (file : List ℕ) (counts : Counts) (written : List ℕ) : Type 0 where
-  -- it has no fault, and its header can be written
-  pub sound : IsWritable file
-  -- they are exactly its conversion
-  pub is : written ≡ conversion_of file
-  -- the counts are those of its entities
-  pub counted : counts ≡ counts_of (entities_in_file file)
-  -- they are read as the file's entities, and a conversion of them is the same bytes. A file has at most 2^62 bytes, and a conversion
-  -- may be longer than its file, since each of its blocks says its texts anew: a longer one would be refused for that alone
-  pub kept : length written ≤ 2 ^ 62 → IsConversion file written
-
--- these bytes are the extract of a file
-pub record Extracted (choose : Choice) (select : List Decoded → List Decoded) (area : BoundingBox) (file : List ℕ) (counts : Counts) (written : List ℕ) : Type 0 where
-  -- it has no fault, and its header can be written
-  pub sound : IsWritable file
-  -- they are exactly the answer
-  pub is : written ≡ extract_of choose area file
-  -- the counts are those of the entities that are kept
-  pub counted : counts ≡ counts_of (choose (entities_in_file file))
-  -- they are read as exactly what is kept of the file's entities, and an extract of them is the same bytes; with the same limit
-  pub kept : length written ≤ 2 ^ 62 → IsExtract choose select area file written
 
 -- ---- why a call stops
 

@@ -1,11 +1,10 @@
--- What is written for a file is kept: it says what it was to say, and for it the same bytes are written again.
-use Rattle.std.specs.Prelude.{◌≡◌, ℕ, false, List, map, Option, None}
+-- What a file says, and what is written for it.
+use Rattle.std.specs.Prelude.{◌≡◌, false, List, map, Option, None}
 use Rattle.std.specs.Option.{option_map}
 use Rattle.osm_entity.specs.declared.bounding_box.BoundingBox.{BoundingBox}
 use Rattle.osm_entity.specs.Entity as entity
 use Rattle.osm_entity.specs.Entity.{EntitySpec, Decoded}
 use Rattle.pbf_block.specs.Header.{HeaderSpec}
-use Rattle.pbf_block.specs.WrittenHeader.{header_out_for_box, header_out_for_convert}
 use Rattle.pbf_frame.specs.Verdict.{Verdict, judged}
 use Rattle.pbfcut.specs.Converting.{limited, answer_bytes}
 use Rattle.pbfcut.specs.Counting.{stored_entities}
@@ -41,29 +40,3 @@ conversion_of file = answer_bytes (verdict_on file)
 
 abbrev pub extract_of : Choice → BoundingBox → List ℕ → List ℕ
 extract_of choose area file = extract_bytes choose area (verdict_on file)
-
--- ---- what that says
-
--- these bytes are a conversion of the file
-pub record IsConversion (file written : List ℕ) : Type 0 where
-  -- they are a file without a fault, which can be converted
-  pub sound : IsWritable written
-  -- its header is the file's in written form
-  pub header : header_in_file written ≡ option_map header_out_for_convert (header_in_file file)
-  -- it has the file's entities, in order, with all that is stored of them
-  pub entities : entities_in_file written ≡ entities_in_file file
-  -- a conversion of it is the same bytes
-  pub same : conversion_of written ≡ written
-
--- these bytes are an extract of the file: by this choice of stored entities, which is this choice of what entities mean
-pub record IsExtract (choose : Choice) (select : List Decoded → List Decoded) (area : BoundingBox) (file written : List ℕ) : Type 0 where
-  -- they are a file without a fault, of which an extract can be written
-  pub sound : IsWritable written
-  -- its header is the file's in written form, with the box
-  pub header : header_in_file written ≡ option_map (header_out_for_box area) (header_in_file file)
-  -- it has the entities that are chosen of the file's, in order, with all that is stored of them
-  pub entities : entities_in_file written ≡ choose (entities_in_file file)
-  -- it means what is selected of what the file means
-  pub meaning : meant_in_file written ≡ select (meant_in_file file)
-  -- an extract of it by the same choice is the same bytes
-  pub same : extract_of choose area written ≡ written

@@ -13,4 +13,5 @@ pub mod Showing
 pub mod Converting
 pub mod Extracting
 pub mod Kept
+pub mod Theorem
 pub mod Calls

@@ -2,7 +2,8 @@
 
 ghost use Rattle.std.specs.Prelude.{◌≡◌, ◌⊎◌, ℕ, List, IfOk, IfErr, OnOk, OnErr};
 ghost use Rattle.pbf_frame.specs.Devices.{IsFront};
-ghost use Rattle.pbfcut.specs.Calls.{BothSupply, Converted, ConvertStops};
+ghost use Rattle.pbfcut.specs.Calls.{BothSupply, ConvertStops};
+ghost use Rattle.pbfcut.specs.Theorem.{Converted};
 ghost use Rattle.pbfcut.specs.Converting.{CanBeWritten, judged_writable};
 ghost use Rattle.pbfcut.specs.Given.{GaveFile, Took, TookFile};
 ghost use Rattle.pbfcut.specs.Kept.{IsWritable, conversion_of};

@@ -19,7 +19,8 @@ ghost use Rattle.pbf_frame.specs.Frames.{FrameSpec};
 ghost use Rattle.pbfcut.specs.Counting.{stored_entities};
 ghost use Rattle.pbfcut.specs.Extracting.{complete_ways, all_parents};
 ghost use Rattle.pbfcut.specs.Judged.{judged_file};
-ghost use Rattle.pbfcut.specs.Kept.{IsWritable, conversion_of, extract_of, IsConversion, IsExtract};
+ghost use Rattle.pbfcut.specs.Kept.{IsWritable, conversion_of, extract_of};
+ghost use Rattle.pbfcut.specs.Theorem.{IsConversion, IsExtract};
 ghost use Rattle.pbfcut.specs.Pass.{file_header};
 
 /// A file that is written is read back: where it is at most 2^62 bytes long, it has no fault of any phase, its header is the

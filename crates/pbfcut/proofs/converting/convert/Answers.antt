@@ -1,5 +1,5 @@
 use Rattle.std.proofs.Common.{List, ℕ, subst}
-use Rattle.pbfcut.specs.Calls.{Converted}
+use Rattle.pbfcut.specs.Theorem.{Converted}
 use Rattle.pbfcut.proofs.ConvertingLemmas.{can_told}
 use Rattle.pbfcut.proofs.ExtractingLemmas.{same_digest}
 use Rattle.pbfcut.proofs.GivenLemmas.{tells_file, told_digest, one_file}

@@ -1,7 +1,7 @@
 use Rattle.std.proofs.Common.{List, ℕ, subst}
 use Rattle.osm_ways.specs.Seen.{seen_decoded}
 use Rattle.osm_ways.specs.Selection.{extract}
-use Rattle.pbfcut.specs.Calls.{Extracted}
+use Rattle.pbfcut.specs.Theorem.{Extracted}
 use Rattle.pbfcut.specs.Extracting.{complete_ways}
 use Rattle.pbfcut.proofs.ConvertingLemmas.{can_told}
 use Rattle.pbfcut.proofs.ExtractingLemmas.{same_digest}
