@@ -71,7 +71,8 @@ impl<'a> EntityRef<'a> {
 
     /// The time in milliseconds, from 1970 on.
     pub fn millis(&self) -> Option<i128>
-        ensures { result ≡ option_map (millis (entity_scale (entity_of self.now))) (entity_meta (entity_of self.now)).timestamp }
+        ensures { result ≡ option_map (millis (entity_scale (entity_of self.now)))
+            (entity_meta (entity_of self.now)).timestamp }
     {
         match self {
             EntityRef::Node(node) => node.millis(),

@@ -118,7 +118,8 @@ impl<'a> NanoLocations<'a> {
 
     /// What these stored locations mean.
     pub fn new(stored: Locations<'a>, scale: Scale) -> NanoLocations<'a>
-        ensures { nano_locations_left result ≡ map (nano_location scale) (locations_left stored.entry) }
+        ensures { nano_locations_left result
+            ≡ map (nano_location scale) (locations_left stored.entry) }
     {
         NanoLocations { stored, scale }
     }

@@ -114,7 +114,9 @@ impl<'a> ColumnMembers<'a> {
         roles: Column<'a>,
         table: &'a Table<'a>,
     ) -> ColumnMembers<'a>
-        ensures { column_members_left result ≡ column_members table.now (numbers_left kinds.entry) (sums_left ids.entry) (numbers_left roles.entry) }
+        ensures { column_members_left result
+            ≡ column_members table.now (numbers_left kinds.entry) (sums_left ids.entry)
+            (numbers_left roles.entry) }
     {
         ColumnMembers {
             kinds,

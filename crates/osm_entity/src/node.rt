@@ -63,7 +63,14 @@ impl<'a> NodeRef<'a> {
         tags: Tags<'a>,
         scale: Scale,
     ) -> NodeRef<'a>
-        ensures { node_of result ≡ record { id = id; lat = lat; lon = lon; meta = meta_of meta.entry; tags = tags_left tags.entry; scale = scale } }
+        ensures { node_of result ≡ record {
+          id = id;
+          lat = lat;
+          lon = lon;
+          meta = meta_of meta.entry;
+          tags = tags_left tags.entry;
+          scale = scale;
+        } }
     {
         NodeRef {
             id,
@@ -133,7 +140,8 @@ impl<'a> NodeRef<'a> {
 
     /// The time in milliseconds, from 1970 on.
     pub fn millis(&self) -> Option<i128>
-        ensures { result ≡ option_map (millis (node_of self.now).scale) (node_of self.now).meta.timestamp }
+        ensures { result
+            ≡ option_map (millis (node_of self.now).scale) (node_of self.now).meta.timestamp }
     {
         self.meta.millis(self.scale)
     }

@@ -113,7 +113,8 @@ impl<'a> RelationRef<'a> {
 
     /// The time in milliseconds, from 1970 on.
     pub fn millis(&self) -> Option<i128>
-        ensures { result ≡ option_map (millis (relation_of self.now).scale) (relation_of self.now).meta.timestamp }
+        ensures { result ≡ option_map (millis (relation_of self.now).scale)
+            (relation_of self.now).meta.timestamp }
     {
         self.meta.millis(self.scale)
     }

@@ -107,7 +107,8 @@ impl<'a> PairedTags<'a> {
 
     /// As many tags as both columns have numbers for. A number that the table has no text for gives the empty text.
     pub fn new(keys: Column<'a>, values: Column<'a>, table: &'a Table<'a>) -> PairedTags<'a>
-        ensures { paired_tags_left result ≡ paired_tags table.now (numbers_left keys.entry) (numbers_left values.entry) }
+        ensures { paired_tags_left result
+            ≡ paired_tags table.now (numbers_left keys.entry) (numbers_left values.entry) }
     {
         PairedTags {
             keys,

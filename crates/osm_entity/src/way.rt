@@ -132,14 +132,16 @@ impl<'a> WayRef<'a> {
 
     /// The locations of the way's nodes in nanodegrees.
     pub fn nano_locations(&self) -> NanoLocations<'a>
-        ensures { nano_locations_left result ≡ map (nano_location (way_of self.now).scale) (way_of self.now).locations }
+        ensures { nano_locations_left result
+            ≡ map (nano_location (way_of self.now).scale) (way_of self.now).locations }
     {
         NanoLocations::new(self.locations, self.scale)
     }
 
     /// The time in milliseconds, from 1970 on.
     pub fn millis(&self) -> Option<i128>
-        ensures { result ≡ option_map (millis (way_of self.now).scale) (way_of self.now).meta.timestamp }
+        ensures { result
+            ≡ option_map (millis (way_of self.now).scale) (way_of self.now).meta.timestamp }
     {
         self.meta.millis(self.scale)
     }
@@ -186,7 +188,8 @@ impl<'a> WayRef<'a> {
 
 /// Whether there are as many locations as refs.
 fn as_many(refs: Refs<'_>, locations: Locations<'_>) -> bool
-    ensures { IsTrue result ↔ (length (locations_left locations.entry) ≡ length (refs_left refs.entry)) }
+    ensures { IsTrue result
+        ↔ (length (locations_left locations.entry) ≡ length (refs_left refs.entry)) }
 {
     let mut rest = locations;
     for _reference in refs {

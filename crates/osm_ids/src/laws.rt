@@ -14,19 +14,25 @@ pub fn pages_are_read()
     ensures whole { (ids : List ℤ) → ids_of_pages (pages_of ids) ≡ ids }
     ensures filled { (ids : List ℤ) → IsFilled (pages_of ids) }
     ensures only { (pages : List Page) → IsFilled pages → pages_of (ids_of_pages pages) ≡ pages }
-    ensures read { (ids : List ℤ) → IsRising ids → AllFit ids → ids_in (starts_from 0 (pages_of ids)) (bytes_of_pages (pages_of ids)) ≡ ids }
+    ensures read { (ids : List ℤ) → IsRising ids → AllFit ids
+        → ids_in (starts_from 0 (pages_of ids)) (bytes_of_pages (pages_of ids)) ≡ ids }
 {}
 
 /// A set of ids is the set of one rising list, and of no other.
 pub fn one_rising_list()
-    ensures some { (s : set.FinSet int_cmp) → (ids : List ℤ) × IsRising ids × (set.from_list ids ≡ s) }
-    ensures only { (xs ys : List ℤ) → IsRising xs → IsRising ys → set.from_list {R = int_cmp} xs ≡ set.from_list ys → xs ≡ ys }
+    ensures some { (s : set.FinSet int_cmp)
+        → (ids : List ℤ) × IsRising ids × (set.from_list ids ≡ s) }
+    ensures only { (xs ys : List ℤ) → IsRising xs → IsRising ys
+        → set.from_list {R = int_cmp} xs ≡ set.from_list ys → xs ≡ ys }
 {}
 
 /// Links and a start have one least set. Closed again it stays as it is, as does each start that already holds the parents of
 /// its members.
 pub fn one_least_set()
-    ensures only { (is_link : Link → Bool) (start ids others : set.FinSet int_cmp) → IsLeast is_link start ids → IsLeast is_link start others → ids ≡ others }
-    ensures again { (is_link : Link → Bool) (start ids : set.FinSet int_cmp) → IsLeast is_link start ids → IsLeast is_link ids ids }
-    ensures closed { (is_link : Link → Bool) (start : set.FinSet int_cmp) → IsClosed is_link (set.contains start) → IsLeast is_link start start }
+    ensures only { (is_link : Link → Bool) (start ids others : set.FinSet int_cmp)
+        → IsLeast is_link start ids → IsLeast is_link start others → ids ≡ others }
+    ensures again { (is_link : Link → Bool) (start ids : set.FinSet int_cmp)
+        → IsLeast is_link start ids → IsLeast is_link ids ids }
+    ensures closed { (is_link : Link → Bool) (start : set.FinSet int_cmp)
+        → IsClosed is_link (set.contains start) → IsLeast is_link start start }
 {}

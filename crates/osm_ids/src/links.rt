@@ -49,8 +49,10 @@ impl Links {
 
     /// Adds a link, and says whether it is new. An `Err` leaves the links as they were.
     pub fn add(&mut self, member: i64, parent: i64) -> Result<bool, AllocError>
-        ensures new { IfOk result (λ new. new ≡ not (set.contains self.old (record { member = member; parent = parent }))) }
-        ensures ok { OnOk result (self.new ≡ set.insert self.old (record { member = member; parent = parent })) }
+        ensures new { IfOk result (λ new. new
+            ≡ not (set.contains self.old (record { member = member; parent = parent }))) }
+        ensures ok { OnOk result
+            (self.new ≡ set.insert self.old (record { member = member; parent = parent })) }
         ensures err { OnErr result (self.new ≡ self.old) }
     {
         Ok(self.links.insert(Link { member, parent })?)
@@ -94,7 +96,8 @@ fn add_parents(
     work: &mut Vec<i64>,
 ) -> Result<(), AllocError>
     requires { ParentsFit links.now.keys }
-    ensures { OnOk result (IsAdded links.now.keys id ids.old work.old.items ids.new work.new.items) }
+    ensures { OnOk result
+        (IsAdded links.now.keys id ids.old work.old.items ids.new work.new.items) }
 {
     for link in links_of(links, id) {
         let is_new = ids.add(link.parent)?;

@@ -106,7 +106,9 @@ fn page_before<'a>(index: &[PageStart], bytes: &'a [u8], begun: usize) -> &'a [u
     requires sealed { (pages : List Page) × IsSealed index.now bytes.now pages }
     requires some { 0 < begun }
     requires within { begun ≤ length index.now }
-    ensures { (start : PageStart) → start ≡ get_or index.now (begun - 1) start → Stands index.now bytes.now begun result.now (record { passed = start.first; last = start.first; at = 0 }) }
+    ensures { (start : PageStart) → start ≡ get_or index.now (begun - 1) start
+        → Stands index.now bytes.now begun result.now
+        (record { passed = start.first; last = start.first; at = 0 }) }
 {
     let end = if begun < index.len() {
         index[begun].place
@@ -128,7 +130,8 @@ fn part(bytes: &[u8], from: usize, to: usize) -> &[u8]
 /// How many pages begin at or below the id. It is tried first whether they are as many as `near`, or one more.
 fn starts_near(starts: &[PageStart], near: usize, id: i64) -> usize
     ensures within { result ≤ length starts.now }
-    ensures point { IsPartitionedBy (λ (s : PageStart). int_le s.first id) starts.now → IsPassedAt starts.now id result }
+    ensures point { IsPartitionedBy (λ (s : PageStart). int_le s.first id) starts.now
+        → IsPassedAt starts.now id result }
 {
     if are_begun(starts, near, id) {
         return near;
@@ -142,7 +145,8 @@ fn starts_near(starts: &[PageStart], near: usize, id: i64) -> usize
 /// Whether the pages that begin at or below the id are so many, and at least one.
 fn are_begun(starts: &[PageStart], count: usize, id: i64) -> bool
     ensures within { IsTrue result → count ≤ length starts.now }
-    ensures point { IsTrue result → IsPartitionedBy (λ (s : PageStart). int_le s.first id) starts.now → IsPassedAt starts.now id count }
+    ensures point { IsTrue result → IsPartitionedBy (λ (s : PageStart). int_le s.first id)
+        starts.now → IsPassedAt starts.now id count }
 {
     if count == 0 || starts.len() < count || !begins_up_to(&starts[count - 1], id) {
         return false;
@@ -160,7 +164,8 @@ fn begins_up_to(start: &PageStart, id: i64) -> bool
 /// How many pages begin at or below the id.
 fn starts_up_to(starts: &[PageStart], id: i64) -> usize
     ensures within { result ≤ length starts.now }
-    ensures point { IsPartitionedBy (λ (s : PageStart). int_le s.first id) starts.now → IsPassedAt starts.now id result }
+    ensures point { IsPartitionedBy (λ (s : PageStart). int_le s.first id) starts.now
+        → IsPassedAt starts.now id result }
 {
     starts.partition_point(|start| begins_up_to(start, id))
 }

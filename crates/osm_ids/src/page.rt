@@ -37,7 +37,10 @@ fn sixteen_on(page: &[u8], last: i64, at: usize, id: i64) -> Option<i64>
     requires below { last <ℤ id }
     ensures within { IfSome result (λ _. at + 16 ≤ length page.now) }
     ensures low { IfSome result (λ far. far ≤ℤ id) }
-    ensures on { (ids : List ℤ) (passed : ℤ) → IsAt ids page.now (record { passed = passed; last = last; at = at }) → IfSome result (λ far. IsAt ids page.now (record { passed = far; last = far; at = at + 16 })) }
+    ensures on { (ids : List ℤ) (passed : ℤ)
+        → IsAt ids page.now (record { passed = passed; last = last; at = at })
+        → IfSome result (λ far. IsAt ids page.now
+        (record { passed = far; last = far; at = at + 16 })) }
 {
     // Ids rise, so sixteen differences are sixteen or more: an id close by is found one by one.
     let room = id.abs_diff(last);
@@ -56,7 +59,9 @@ pub(crate) fn read_up_to(page: &[u8], from: Cursor, id: i64) -> Cursor
     requires { from.at ≤ length page.now }
     ensures within { result.at ≤ length page.now }
     ensures on { (ids : List ℤ) → IsAt ids page.now from → IsAt ids page.now result }
-    ensures found { (ids : List ℤ) → IsAt ids page.now from → (from.passed <ℤ id) ⊎ (from.last ≤ℤ id) → int_eq id result.last ≡ list_any (int_eq id) ids }
+    ensures found { (ids : List ℤ) → IsAt ids page.now from
+        → (from.passed <ℤ id) ⊎ (from.last ≤ℤ id)
+        → int_eq id result.last ≡ list_any (int_eq id) ids }
 {
     let mut passed = from.passed;
     let mut last = from.last;

@@ -99,7 +99,8 @@ impl SealedIds {
 
     /// How many bytes spell the ids of all pages, the first of each page apart. A set has one rising list, so this is one number.
     pub fn bytes(&self) -> u64
-        ensures { (ids : List ℤ) → IsRising ids → set.from_list ids ≡ self.now → result ≡ length (bytes_of_pages (pages_of ids)) }
+        ensures { (ids : List ℤ) → IsRising ids → set.from_list ids ≡ self.now
+            → result ≡ length (bytes_of_pages (pages_of ids)) }
     {
         self.bytes.len() as u64
     }

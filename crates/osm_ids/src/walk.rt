@@ -91,7 +91,8 @@ impl<'a> Walk<'a> {
 fn id_after(last: i64, bytes: &[u8], place: usize) -> Option<(i64, usize)>
     requires { place ≤ length bytes.now }
     ensures none { drop place bytes.now ≡ [] → result ≡ None }
-    ensures some { (id : ℤ) (rest : List ℕ) → last <ℤ id → FitsSigned w64 id → drop place bytes.now ≡ shortest (gap last id) ++ rest
+    ensures some { (id : ℤ) (rest : List ℕ) → last <ℤ id → FitsSigned w64 id
+        → drop place bytes.now ≡ shortest (gap last id) ++ rest
         → result ≡ Some (id, place + length (shortest (gap last id))) }
 {
     let Ok((difference, after)) = get_varint(bytes, place) else {

@@ -27,9 +27,11 @@ pub(crate) fn close_into<D: Drain, S: BuildHasher>(
     block: &mut OpenBlock<S>,
 ) -> Result<(), Stop>
     requires { IsOpen block.old }
-    ensures written { (es : List EntitySpec) → Holds block.old es → OnOk result (Added D.Drain drain.old (block_frame es) drain.new) }
+    ensures written { (es : List EntitySpec) → Holds block.old es
+        → OnOk result (Added D.Drain drain.old (block_frame es) drain.new) }
     ensures empty { OnOk result (Holds block.new []) }
-    ensures front { (es : List EntitySpec) → Holds block.old es → IsFront (D.taken drain.old) (D.taken drain.new) (block_frame es) }
+    ensures front { (es : List EntitySpec) → Holds block.old es
+        → IsFront (D.taken drain.old) (D.taken drain.new) (block_frame es) }
     ensures stops { IfErr result (IsPackStop (D.failures drain.old) (D.failures drain.new)) }
     ensures counts { D.failures drain.old ≤ D.failures drain.new }
     ensures lender { D.lender drain.new ≡ D.lender drain.old }
@@ -49,9 +51,12 @@ pub(crate) fn push_into<D: Drain, S: BuildHasher>(
     requires open { IsOpen block.old }
     requires fits { EntityFits (entity_of entity.now) }
     ensures open { OnOk result (IsOpen block.new) }
-    ensures pending { (es : List EntitySpec) → Holds block.old es → OnOk result (Holds block.new (then_pending es (entity_of entity.now))) }
-    ensures written { (es : List EntitySpec) → Holds block.old es → OnOk result (Added D.Drain drain.old (then_written es (entity_of entity.now)) drain.new) }
-    ensures front { (es : List EntitySpec) → Holds block.old es → IsFront (D.taken drain.old) (D.taken drain.new) (then_written es (entity_of entity.now)) }
+    ensures pending { (es : List EntitySpec) → Holds block.old es
+        → OnOk result (Holds block.new (then_pending es (entity_of entity.now))) }
+    ensures written { (es : List EntitySpec) → Holds block.old es
+        → OnOk result (Added D.Drain drain.old (then_written es (entity_of entity.now)) drain.new) }
+    ensures front { (es : List EntitySpec) → Holds block.old es
+        → IsFront (D.taken drain.old) (D.taken drain.new) (then_written es (entity_of entity.now)) }
     ensures stops { IfErr result (IsPackStop (D.failures drain.old) (D.failures drain.new)) }
     ensures counts { D.failures drain.old ≤ D.failures drain.new }
     ensures lender { D.lender drain.new ≡ D.lender drain.old }
@@ -70,9 +75,12 @@ pub(crate) fn put_header_into<D: Drain>(
     drain: &mut D,
     header: &Header,
 ) -> Result<(), Stop>
-    requires { text_weight (header_of header.now).source + text_weight (header_of header.now).url ≤ MOST_HEADER_TEXT }
-    ensures written { OnOk result (Added D.Drain drain.old (header_frame (header_of header.now)) drain.new) }
-    ensures front { IsFront (D.taken drain.old) (D.taken drain.new) (header_frame (header_of header.now)) }
+    requires { text_weight (header_of header.now).source + text_weight (header_of header.now).url
+        ≤ MOST_HEADER_TEXT }
+    ensures written { OnOk result
+        (Added D.Drain drain.old (header_frame (header_of header.now)) drain.new) }
+    ensures front { IsFront (D.taken drain.old) (D.taken drain.new)
+        (header_frame (header_of header.now)) }
     ensures stops { IfErr result (IsPackStop (D.failures drain.old) (D.failures drain.new)) }
     ensures counts { D.failures drain.old ≤ D.failures drain.new }
     ensures lender { D.lender drain.new ≡ D.lender drain.old }
@@ -90,10 +98,12 @@ pub(crate) fn finish_into<D: Drain, S: BuildHasher>(
     block: &mut OpenBlock<S>,
 ) -> Result<(), Stop>
     requires { IsOpen block.old }
-    ensures written { (es : List EntitySpec) → Holds block.old es → OnOk result (Added D.Drain drain.old (at_end es) drain.new) }
+    ensures written { (es : List EntitySpec) → Holds block.old es
+        → OnOk result (Added D.Drain drain.old (at_end es) drain.new) }
     ensures open { OnOk result (IsOpen block.new) }
     ensures empty { OnOk result (Holds block.new []) }
-    ensures front { (es : List EntitySpec) → Holds block.old es → IsFront (D.taken drain.old) (D.taken drain.new) (at_end es) }
+    ensures front { (es : List EntitySpec) → Holds block.old es
+        → IsFront (D.taken drain.old) (D.taken drain.new) (at_end es) }
     ensures stops { IfErr result (IsPackStop (D.failures drain.old) (D.failures drain.new)) }
     ensures counts { D.failures drain.old ≤ D.failures drain.new }
     ensures lender { D.lender drain.new ≡ D.lender drain.old }

@@ -13,7 +13,9 @@ ghost use Rattle.osm_entity.specs.declared.weight.TheConstants.{HIGHEST_WEIGHT};
 /// The blocks of a list, joined, are the list; and where no entity is too heavy by itself, each may stand as a block.
 pub fn cuts_are_blocks()
     ensures joined { (es : List EntitySpec) → flat_map (λ block. block) (cuts es) ≡ es }
-    ensures blocks { (es : List EntitySpec) → AllByRecursion (λ e. entity_weight e ≤ HIGHEST_WEIGHT) es → AllByRecursion (λ block. is_block block ≡ true) (cuts es) }
+    ensures blocks { (es : List EntitySpec)
+        → AllByRecursion (λ e. entity_weight e ≤ HIGHEST_WEIGHT) es
+        → AllByRecursion (λ block. is_block block ≡ true) (cuts es) }
 {}
 
 /// Each block is as long as may be: it ends only where the next entity may not join it. Since a front of what may stand in a
@@ -21,12 +23,16 @@ pub fn cuts_are_blocks()
 pub fn cuts_are_longest()
     ensures longest { (es : List EntitySpec) → AreLongest (cuts es) }
     ensures fronts { (xs ys : List EntitySpec) → is_block (xs ++ ys) ≡ true → is_block xs ≡ true }
-    ensures only { (blocks : List (List EntitySpec)) → AllByRecursion MayStand blocks → AreLongest blocks → cuts (flat_map (λ block. block) blocks) ≡ blocks }
+    ensures only { (blocks : List (List EntitySpec)) → AllByRecursion MayStand blocks
+        → AreLongest blocks → cuts (flat_map (λ block. block) blocks) ≡ blocks }
 {}
 
 /// Entities that come one by one are written as they are all together: what went out by then, and in the end what is pending.
 /// What went out by then begins what is written for them and all that come later.
 pub fn run_writes_all()
-    ensures ends { (es : List EntitySpec) → AllByRecursion EntityFits es → written_after [] es ++ at_end (pending_after [] es) ≡ written_entities es }
-    ensures begins { (es rest : List EntitySpec) → AllByRecursion EntityFits es → written_after [] es ++ written_entities (pending_after [] es ++ rest) ≡ written_entities (es ++ rest) }
+    ensures ends { (es : List EntitySpec) → AllByRecursion EntityFits es
+        → written_after [] es ++ at_end (pending_after [] es) ≡ written_entities es }
+    ensures begins { (es rest : List EntitySpec) → AllByRecursion EntityFits es
+        → written_after [] es ++ written_entities (pending_after [] es ++ rest)
+        ≡ written_entities (es ++ rest) }
 {}

@@ -42,7 +42,8 @@ pub(crate) struct OpenBlock<S: BuildHasher> {
 /// Whether an entity may join a block: by whether it is like those that are there, how many these are, what they weigh, and
 /// what it weighs.
 fn may_join(is_alike: bool, count: usize, weight: u64, more: u64) -> bool
-    ensures { result ≡ (is_alike && (nat_le (count + 1) MOST_ENTITIES && nat_le (weight + more) HIGHEST_WEIGHT)) }
+    ensures { result ≡ (is_alike && (nat_le (count + 1) MOST_ENTITIES
+        && nat_le (weight + more) HIGHEST_WEIGHT)) }
 {
     is_alike && count < MOST_ENTITIES && weight.saturating_add(more) <= HIGHEST_WEIGHT
 }
@@ -98,7 +99,8 @@ impl<S: BuildHasher> OpenBlock<S> {
     pub(crate) fn takes(&self, entity: &EntityRef<'_>, weight: u64) -> bool
         requires fits { EntityFits (entity_of entity.now) }
         requires weighs { weight ≡ min (entity_weight (entity_of entity.now)) (2 ^ 64 - 1) }
-        ensures { (es : List EntitySpec) → Holds self.now es → result ≡ is_block (es ++ entity_of entity.now ∷ []) }
+        ensures { (es : List EntitySpec) → Holds self.now es
+            → result ≡ is_block (es ++ entity_of entity.now ∷ []) }
     {
         may_join(self.is_alike(entity), self.count, self.weight, weight)
     }
@@ -107,8 +109,10 @@ impl<S: BuildHasher> OpenBlock<S> {
     fn put(&mut self, entity: &EntityRef<'_>) -> Result<(), AllocError>
         requires open { IsOpen self.old }
         requires fits { EntityFits (entity_of entity.now) }
-        requires joins { (es : List EntitySpec) → Holds self.old es → is_block (es ++ entity_of entity.now ∷ []) ≡ true }
-        ensures { (es : List EntitySpec) → Holds self.old es → OnOk result (Encodes self.old self.new es (entity_of entity.now)) }
+        requires joins { (es : List EntitySpec) → Holds self.old es
+            → is_block (es ++ entity_of entity.now ∷ []) ≡ true }
+        ensures { (es : List EntitySpec) → Holds self.old es
+            → OnOk result (Encodes self.old self.new es (entity_of entity.now)) }
     {
         match entity {
             EntityRef::Node(node) => self.nodes.push(node, &mut self.texts)?,
@@ -128,8 +132,10 @@ impl<S: BuildHasher> OpenBlock<S> {
         requires open { IsOpen self.old }
         requires fits { EntityFits (entity_of entity.now) }
         requires weighs { weight ≡ min (entity_weight (entity_of entity.now)) (2 ^ 64 - 1) }
-        requires joins { (es : List EntitySpec) → Holds self.old es → is_block (es ++ entity_of entity.now ∷ []) ≡ true }
-        ensures { (es : List EntitySpec) → Holds self.old es → OnOk result (Holds self.new (es ++ entity_of entity.now ∷ [])) }
+        requires joins { (es : List EntitySpec) → Holds self.old es
+            → is_block (es ++ entity_of entity.now ∷ []) ≡ true }
+        ensures { (es : List EntitySpec) → Holds self.old es
+            → OnOk result (Holds self.new (es ++ entity_of entity.now ∷ [])) }
     {
         self.put(entity)?;
         self.likeness = Some(self.likeness.unwrap_or(Likeness::of(entity)));
@@ -175,9 +181,16 @@ impl<S: BuildHasher> OpenBlock<S> {
     /// copies of them are held at a time. The table, the columns and the message are held beside each other (`made`), and then
     /// the table, the message and the group (`room`). After an `Err` the block has no stated content.
     fn end_group(&mut self, alloc: Global) -> Result<(), AllocError>
-        ensures closing { (es : List EntitySpec) → Holds self.old es → OnOk result (IsClosing self.new (table_message self.old.texts) es) }
-        ensures made { (es : List EntitySpec) → Holds self.old es → length (table_message self.old.texts) + (dense_length (columns_held self.old.nodes) + length self.old.group.items) + length (dense_message (texts_of_all es) (nodes_among es)) ≤ MOST_HELD }
-        ensures room { (es : List EntitySpec) → Holds self.old es → OnOk result (length (table_message self.old.texts) + length (dense_message (texts_of_all es) (nodes_among es)) + length self.new.group.items ≤ MOST_HELD) }
+        ensures closing { (es : List EntitySpec) → Holds self.old es
+            → OnOk result (IsClosing self.new (table_message self.old.texts) es) }
+        ensures made { (es : List EntitySpec) → Holds self.old es
+            → length (table_message self.old.texts)
+            + (dense_length (columns_held self.old.nodes) + length self.old.group.items)
+            + length (dense_message (texts_of_all es) (nodes_among es)) ≤ MOST_HELD }
+        ensures room { (es : List EntitySpec) → Holds self.old es
+            → OnOk result (length (table_message self.old.texts)
+            + length (dense_message (texts_of_all es) (nodes_among es))
+            + length self.new.group.items ≤ MOST_HELD) }
     {
         let texts = &mut self.texts;
         texts.clear();
@@ -188,8 +201,12 @@ impl<S: BuildHasher> OpenBlock<S> {
 
     /// The PrimitiveBlock of the table and the group, beside which it is held.
     fn put_together(&self, table: &[u8], scale: Scale, alloc: Global) -> Result<Vec<u8>, AllocError>
-        ensures payload { (es : List EntitySpec) → IsClosing self.now table.now es → scale ≡ scale_among es → IfOk result (λ payload. payload.items ≡ block_message es) }
-        ensures room { (es : List EntitySpec) → IsClosing self.now table.now es → scale ≡ scale_among es → IfOk result (λ payload. block_held self.now + length table.now + length payload.items ≤ MOST_HELD) }
+        ensures payload { (es : List EntitySpec) → IsClosing self.now table.now es
+            → scale ≡ scale_among es → IfOk result (λ payload. payload.items ≡ block_message es) }
+        ensures room { (es : List EntitySpec) → IsClosing self.now table.now es
+            → scale ≡ scale_among es
+            → IfOk result (λ payload. block_held self.now + length table.now
+            + length payload.items ≤ MOST_HELD) }
     {
         let mut payload = Vec::new(alloc);
         put_block(&mut payload, table, &self.group, scale)?;
@@ -199,7 +216,8 @@ impl<S: BuildHasher> OpenBlock<S> {
     /// The PrimitiveBlock of the entities, which are taken out. After an `Err` the block has no stated content.
     pub(crate) fn close(&mut self, alloc: Global) -> Result<Vec<u8>, AllocError>
         requires { IsOpen self.old }
-        ensures payload { (es : List EntitySpec) → Holds self.old es → IfOk result (λ payload. payload.items ≡ block_message es) }
+        ensures payload { (es : List EntitySpec) → Holds self.old es
+            → IfOk result (λ payload. payload.items ≡ block_message es) }
         ensures empty { OnOk result (Holds self.new []) }
     {
         let scale = self.scale();

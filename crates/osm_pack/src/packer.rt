@@ -90,17 +90,25 @@ impl<D: Drain, S: BuildHasher> Packer<D, S> {
     /// device.
     pub fn put_header(&mut self, header: &Header) -> Result<(), Stop>
         requires once { has_header self.old ≡ false }
-        requires kept { text_weight (header_of header.now).source + text_weight (header_of header.now).url ≤ MOST_HEADER_TEXT }
+        requires kept { text_weight (header_of header.now).source + text_weight
+            (header_of header.now).url ≤ MOST_HEADER_TEXT }
         ensures begun { has_header self.new ≡ true }
-        ensures written { IsPacking self.old → OnOk result (Added D.Drain self.old.drain (header_frame (header_of header.now)) self.new.drain) }
-        ensures pending { (es : List EntitySpec) → Pending self.old es → OnOk result (Pending self.new es) }
+        ensures written { IsPacking self.old
+            → OnOk result
+            (Added D.Drain self.old.drain (header_frame (header_of header.now)) self.new.drain) }
+        ensures pending { (es : List EntitySpec) → Pending self.old es
+            → OnOk result (Pending self.new es) }
         ensures packing { OnOk result (IsPacking self.new) }
-        ensures front { IsPacking self.old → IsFront (D.taken self.old.drain) (D.taken self.new.drain) (header_frame (header_of header.now)) }
+        ensures front { IsPacking self.old
+            → IsFront (D.taken self.old.drain) (D.taken self.new.drain)
+            (header_frame (header_of header.now)) }
         ensures stopped { IfErr result (HasStopped self.new) }
-        ensures stops { IsPacking self.old → IfErr result (IsPackStop (D.failures self.old.drain) (D.failures self.new.drain)) }
+        ensures stops { IsPacking self.old
+            → IfErr result (IsPackStop (D.failures self.old.drain) (D.failures self.new.drain)) }
         ensures counts { D.failures self.old.drain ≤ D.failures self.new.drain }
         ensures lender { D.lender self.new.drain ≡ D.lender self.old.drain }
-        ensures spent { (stop : Stop) → HasStopped self.old stop → (result ≡ Err stop) × (self.new.drain ≡ self.old.drain) }
+        ensures spent { (stop : Stop) → HasStopped self.old stop
+            → (result ≡ Err stop) × (self.new.drain ≡ self.old.drain) }
     {
         self.begun = true;
         if let Some(stop) = self.stop {
@@ -122,15 +130,22 @@ impl<D: Drain, S: BuildHasher> Packer<D, S> {
         requires begun { has_header self.old ≡ true }
         requires fits { EntityFits (entity_of entity.now) }
         ensures header { has_header self.new ≡ true }
-        ensures pending { (es : List EntitySpec) → Pending self.old es → OnOk result (Pending self.new (then_pending es (entity_of entity.now))) }
-        ensures written { (es : List EntitySpec) → Pending self.old es → OnOk result (Added D.Drain self.old.drain (then_written es (entity_of entity.now)) self.new.drain) }
+        ensures pending { (es : List EntitySpec) → Pending self.old es
+            → OnOk result (Pending self.new (then_pending es (entity_of entity.now))) }
+        ensures written { (es : List EntitySpec) → Pending self.old es
+            → OnOk result (Added D.Drain self.old.drain
+            (then_written es (entity_of entity.now)) self.new.drain) }
         ensures packing { OnOk result (IsPacking self.old × IsPacking self.new) }
-        ensures front { IsPacking self.old → (es : List EntitySpec) → Pending self.old es → IsFront (D.taken self.old.drain) (D.taken self.new.drain) (then_written es (entity_of entity.now)) }
+        ensures front { IsPacking self.old → (es : List EntitySpec) → Pending self.old es
+            → IsFront (D.taken self.old.drain) (D.taken self.new.drain)
+            (then_written es (entity_of entity.now)) }
         ensures stopped { IfErr result (HasStopped self.new) }
-        ensures stops { IsPacking self.old → IfErr result (IsPackStop (D.failures self.old.drain) (D.failures self.new.drain)) }
+        ensures stops { IsPacking self.old
+            → IfErr result (IsPackStop (D.failures self.old.drain) (D.failures self.new.drain)) }
         ensures counts { D.failures self.old.drain ≤ D.failures self.new.drain }
         ensures lender { D.lender self.new.drain ≡ D.lender self.old.drain }
-        ensures spent { (stop : Stop) → HasStopped self.old stop → (result ≡ Err stop) × (self.new.drain ≡ self.old.drain) }
+        ensures spent { (stop : Stop) → HasStopped self.old stop
+            → (result ≡ Err stop) × (self.new.drain ≡ self.old.drain) }
     {
         if let Some(stop) = self.stop {
             return Err(stop);
@@ -150,14 +165,18 @@ impl<D: Drain, S: BuildHasher> Packer<D, S> {
         requires { has_header self.old ≡ true }
         ensures header { has_header self.new ≡ true }
         ensures pending { OnOk result (Pending self.new []) }
-        ensures written { (es : List EntitySpec) → Pending self.old es → OnOk result (Added D.Drain self.old.drain (at_end es) self.new.drain) }
+        ensures written { (es : List EntitySpec) → Pending self.old es
+            → OnOk result (Added D.Drain self.old.drain (at_end es) self.new.drain) }
         ensures packing { OnOk result (IsPacking self.old × IsPacking self.new) }
-        ensures front { IsPacking self.old → (es : List EntitySpec) → Pending self.old es → IsFront (D.taken self.old.drain) (D.taken self.new.drain) (at_end es) }
+        ensures front { IsPacking self.old → (es : List EntitySpec) → Pending self.old es
+            → IsFront (D.taken self.old.drain) (D.taken self.new.drain) (at_end es) }
         ensures stopped { IfErr result (HasStopped self.new) }
-        ensures stops { IsPacking self.old → IfErr result (IsPackStop (D.failures self.old.drain) (D.failures self.new.drain)) }
+        ensures stops { IsPacking self.old
+            → IfErr result (IsPackStop (D.failures self.old.drain) (D.failures self.new.drain)) }
         ensures counts { D.failures self.old.drain ≤ D.failures self.new.drain }
         ensures lender { D.lender self.new.drain ≡ D.lender self.old.drain }
-        ensures spent { (stop : Stop) → HasStopped self.old stop → (result ≡ Err stop) × (self.new.drain ≡ self.old.drain) }
+        ensures spent { (stop : Stop) → HasStopped self.old stop
+            → (result ≡ Err stop) × (self.new.drain ≡ self.old.drain) }
     {
         if let Some(stop) = self.stop {
             return Err(stop);

@@ -41,7 +41,8 @@ fn put_time_part(out: &mut Vec<u8>, millis: Option<i128>, dates: bool) -> Result
 
 /// Appends a space, `s` and a user, where there is one.
 fn put_user_part(out: &mut Vec<u8>, user: Option<&[u8]>) -> Result<(), AllocError>
-    ensures { OnOk result (out.new.items ≡ out.old.items ++ user_part (option_map (λ text. text.now) user.entry)) }
+    ensures { OnOk result
+        (out.new.items ≡ out.old.items ++ user_part (option_map (λ text. text.now) user.entry)) }
 {
     if let Some(user) = user {
         out.extend_from_slice(b" s")?;
@@ -80,7 +81,8 @@ fn put_meta(
     scale: Scale,
     dates: bool,
 ) -> Result<(), AllocError>
-    ensures { OnOk result (out.new.items ≡ out.old.items ++ meta_text dates (meta_in_millis scale (meta_of meta.now))) }
+    ensures { OnOk result (out.new.items
+        ≡ out.old.items ++ meta_text dates (meta_in_millis scale (meta_of meta.now))) }
 {
     put_number_part(out, b'v', widened(meta.version))?;
     put_time_part(out, meta.millis(scale), dates)?;
@@ -104,7 +106,8 @@ fn put_tag(out: &mut Vec<u8>, key: &[u8], value: &[u8]) -> Result<(), AllocError
 
 /// Appends the tags in order.
 fn put_tags(out: &mut Vec<u8>, tags: Tags<'_>) -> Result<(), AllocError>
-    ensures { OnOk result (out.new.items ≡ out.old.items ++ flat_map tag_text (tags_left tags.entry)) }
+    ensures { OnOk result
+        (out.new.items ≡ out.old.items ++ flat_map tag_text (tags_left tags.entry)) }
 {
     for (key, value) in tags {
         put_tag(out, key, value)?;
@@ -138,7 +141,8 @@ fn put_refs(
     refs: Refs<'_>,
     locations: NanoLocations<'_>,
 ) -> Result<(), AllocError>
-    ensures { OnOk result (out.new.items ≡ out.old.items ++ refs_text (refs_left refs.entry) (nano_locations_left locations.entry)) }
+    ensures { OnOk result (out.new.items
+        ≡ out.old.items ++ refs_text (refs_left refs.entry) (nano_locations_left locations.entry)) }
 {
     let mut rest = locations;
     for id in refs {
@@ -174,7 +178,8 @@ fn put_member(out: &mut Vec<u8>, member: &MemberRef<'_>) -> Result<(), AllocErro
 
 /// Appends the members in order.
 fn put_members(out: &mut Vec<u8>, members: Members<'_>) -> Result<(), AllocError>
-    ensures { OnOk result (out.new.items ≡ out.old.items ++ flat_map member_text (members_left members.entry)) }
+    ensures { OnOk result
+        (out.new.items ≡ out.old.items ++ flat_map member_text (members_left members.entry)) }
 {
     for member in members {
         put_member(out, &member)?;
@@ -199,7 +204,9 @@ fn put_common(
     tags: Tags<'_>,
     dates: bool,
 ) -> Result<(), AllocError>
-    ensures { OnOk result (out.new.items ≡ out.old.items ++ common_text dates (meta_in_millis scale (meta_of meta.now)) (tags_left tags.entry)) }
+    ensures { OnOk result (out.new.items
+        ≡ out.old.items ++ common_text dates (meta_in_millis scale (meta_of meta.now))
+        (tags_left tags.entry)) }
 {
     put_meta(out, meta, scale, dates)?;
     put_tags(out, tags)
@@ -207,7 +214,8 @@ fn put_common(
 
 /// Appends the line of a node.
 fn put_node(out: &mut Vec<u8>, view: &NodeRef<'_>, dates: bool) -> Result<(), AllocError>
-    ensures { OnOk result (out.new.items ≡ out.old.items ++ entity_line dates (node (node_of view.now))) }
+    ensures { OnOk result
+        (out.new.items ≡ out.old.items ++ entity_line dates (node (node_of view.now))) }
 {
     put_start(out, b'N', view.id())?;
     put_spaced_pair(out, view.nano_lat(), view.nano_lon())?;
@@ -218,7 +226,8 @@ fn put_node(out: &mut Vec<u8>, view: &NodeRef<'_>, dates: bool) -> Result<(), Al
 
 /// Appends the line of a way.
 fn put_way(out: &mut Vec<u8>, view: &WayRef<'_>, dates: bool) -> Result<(), AllocError>
-    ensures { OnOk result (out.new.items ≡ out.old.items ++ entity_line dates (way (way_of view.now))) }
+    ensures { OnOk result
+        (out.new.items ≡ out.old.items ++ entity_line dates (way (way_of view.now))) }
 {
     put_start(out, b'W', view.id())?;
     put_common(out, &view.meta(), view.scale(), view.tags(), dates)?;
@@ -229,7 +238,8 @@ fn put_way(out: &mut Vec<u8>, view: &WayRef<'_>, dates: bool) -> Result<(), Allo
 
 /// Appends the line of a relation.
 fn put_relation(out: &mut Vec<u8>, view: &RelationRef<'_>, dates: bool) -> Result<(), AllocError>
-    ensures { OnOk result (out.new.items ≡ out.old.items ++ entity_line dates (relation (relation_of view.now))) }
+    ensures { OnOk result
+        (out.new.items ≡ out.old.items ++ entity_line dates (relation (relation_of view.now))) }
 {
     put_start(out, b'R', view.id())?;
     put_common(out, &view.meta(), view.scale(), view.tags(), dates)?;
@@ -249,7 +259,8 @@ fn put_relation(out: &mut Vec<u8>, view: &RelationRef<'_>, dates: bool) -> Resul
 ///
 /// An `Err` says that memory is refused; the output then has no stated content.
 pub fn put_entity(out: &mut Vec<u8>, entity: &EntityRef<'_>, dates: bool) -> Result<(), AllocError>
-    ensures { OnOk result (out.new.items ≡ out.old.items ++ entity_line dates (entity_of entity.now)) }
+    ensures { OnOk result
+        (out.new.items ≡ out.old.items ++ entity_line dates (entity_of entity.now)) }
 {
     match entity {
         EntityRef::Node(view) => put_node(out, view, dates)?,

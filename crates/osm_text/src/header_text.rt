@@ -24,7 +24,8 @@ fn put_text_line(out: &mut Vec<u8>, word: &[u8], text: &[u8]) -> Result<(), Allo
 
 /// Appends a line for each text.
 fn put_text_lines(out: &mut Vec<u8>, word: &[u8], texts: &[Vec<u8>]) -> Result<(), AllocError>
-    ensures { OnOk result (out.new.items ≡ out.old.items ++ text_lines word.now (map text_of texts.now)) }
+    ensures { OnOk result
+        (out.new.items ≡ out.old.items ++ text_lines word.now (map text_of texts.now)) }
 {
     for text in texts {
         put_text_line(out, word, text)?;
@@ -34,7 +35,8 @@ fn put_text_lines(out: &mut Vec<u8>, word: &[u8], texts: &[Vec<u8>]) -> Result<(
 
 /// Appends the line of a text, where there is one.
 fn put_maybe_text(out: &mut Vec<u8>, word: &[u8], text: &Option<Vec<u8>>) -> Result<(), AllocError>
-    ensures { OnOk result (out.new.items ≡ out.old.items ++ maybe_text_line word.now (option_map text_of text.now)) }
+    ensures { OnOk result
+        (out.new.items ≡ out.old.items ++ maybe_text_line word.now (option_map text_of text.now)) }
 {
     if let Some(text) = text {
         put_text_line(out, word, text)?;

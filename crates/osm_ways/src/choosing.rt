@@ -66,7 +66,8 @@ impl<'a> Chooser<'a> {
 
     /// Whether the member selects its relation.
     fn selects(&mut self, member: &MemberRef<'_>) -> bool
-        ensures selected { result ≡ is_selecting (set.contains self.old.node_ids) (set.contains self.old.way_ids) no_ids (seen_member (lent_member member.now)) }
+        ensures selected { result ≡ is_selecting (set.contains self.old.node_ids)
+            (set.contains self.old.way_ids) no_ids (seen_member (lent_member member.now)) }
         ensures same { self.new ≡ self.old }
     {
         match member.kind {
@@ -148,7 +149,8 @@ impl<'a> ChooserParents<'a> {
     /// Whether the relation is kept: a node, a way or a relation among its members is. Of two relations of one id each is
     /// judged by itself.
     pub fn keeps_relation(&mut self, relation: &RelationRef<'_>) -> bool
-        ensures kept { result ≡ is_chosen_with_parents self.old (seen_relation (relation_of relation.now)) }
+        ensures kept { result
+            ≡ is_chosen_with_parents self.old (seen_relation (relation_of relation.now)) }
         ensures same { self.new ≡ self.old }
     {
         for member in relation.members() {
@@ -161,7 +163,9 @@ impl<'a> ChooserParents<'a> {
 
     /// Whether the member selects its relation.
     fn selects(&mut self, member: &MemberRef<'_>) -> bool
-        ensures selected { result ≡ is_selecting (set.contains self.old.ways.node_ids) (set.contains self.old.ways.way_ids) (set.contains self.old.relation_ids) (seen_member (lent_member member.now)) }
+        ensures selected { result ≡ is_selecting (set.contains self.old.ways.node_ids)
+            (set.contains self.old.ways.way_ids) (set.contains self.old.relation_ids)
+            (seen_member (lent_member member.now)) }
         ensures same { self.new ≡ self.old }
     {
         match member.kind {
@@ -199,7 +203,8 @@ impl ChosenParents {
     /// Whether the relation is kept: a node, a way or a relation among its members is. Of two relations of one id each is
     /// judged by itself.
     pub fn keeps_relation(&self, relation: &RelationRef<'_>) -> bool
-        ensures { result ≡ is_chosen_with_parents self.now (seen_relation (relation_of relation.now)) }
+        ensures { result
+            ≡ is_chosen_with_parents self.now (seen_relation (relation_of relation.now)) }
     {
         self.chooser().keeps_relation(relation)
     }

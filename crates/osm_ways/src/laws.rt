@@ -14,22 +14,31 @@ ghost use Rattle.osm_ways.specs.Phases.{way_pass, relation_pass, is_chosen, is_c
 
 /// An extract of an extract is the extract, with and without parents.
 pub fn extract_twice_is_once<X>()
-    ensures ways { (look : X → Seen) (xs : List X) → extract look (extract look xs) ≡ extract look xs }
-    ensures parents { (look : X → Seen) (xs : List X) → extract_with_parents look (extract_with_parents look xs) ≡ extract_with_parents look xs }
+    ensures ways { (look : X → Seen) (xs : List X)
+        → extract look (extract look xs) ≡ extract look xs }
+    ensures parents { (look : X → Seen) (xs : List X)
+        → extract_with_parents look (extract_with_parents look xs) ≡ extract_with_parents look xs }
 {}
 
 /// Where two views of an entity look alike to the selection, the extract of the one is the one view of the extract.
 pub fn extract_follows_view<X, Y>()
-    ensures ways { (view : X → Y) (look : X → Seen) (other : Y → Seen) → ((x : X) → other (view x) ≡ look x) → (xs : List X) → map view (extract look xs) ≡ extract other (map view xs) }
-    ensures parents { (view : X → Y) (look : X → Seen) (other : Y → Seen) → ((x : X) → other (view x) ≡ look x) → (xs : List X) → map view (extract_with_parents look xs) ≡ extract_with_parents other (map view xs) }
+    ensures ways { (view : X → Y) (look : X → Seen) (other : Y → Seen)
+        → ((x : X) → other (view x) ≡ look x) → (xs : List X)
+        → map view (extract look xs) ≡ extract other (map view xs) }
+    ensures parents { (view : X → Y) (look : X → Seen) (other : Y → Seen)
+        → ((x : X) → other (view x) ≡ look x) → (xs : List X)
+        → map view (extract_with_parents look xs) ≡ extract_with_parents other (map view xs) }
 {}
 
 /// The relations that are kept with all parents are the least set that has the id of each relation with a node member, a way
 /// member or a relation member that is kept; and it is the least set over the links from each relation member to its relation
 /// that holds the relations which nodes and ways select.
 pub fn parents_are_least()
-    ensures least { (seen : List Seen) → IsLeastSelected (node_ids seen) (way_ids seen) seen (relation_ids seen) }
-    ensures links { (seen : List Seen) (start ids : set.FinSet int_cmp) → set.contains start ≡ start_in seen → IsLeast (links_in seen) start ids → set.contains ids ≡ relation_ids seen }
+    ensures least { (seen : List Seen)
+        → IsLeastSelected (node_ids seen) (way_ids seen) seen (relation_ids seen) }
+    ensures links { (seen : List Seen) (start ids : set.FinSet int_cmp)
+        → set.contains start ≡ start_in seen → IsLeast (links_in seen) start ids
+        → set.contains ids ≡ relation_ids seen }
 {}
 
 /// Over a whole list the passes keep what the extract keeps: of two passes, of nodes and of ways, the extract; of a third one,
@@ -37,11 +46,18 @@ pub fn parents_are_least()
 pub fn passes_are_extract()
     ensures ways { (seen : List Seen) → is_chosen (way_pass seen) ≡ keeps seen }
     ensures kept { (seen : List Seen) → (relation_pass seen).ways ≡ way_pass seen }
-    ensures parents { (seen : List Seen) (ids : set.FinSet int_cmp) → IsLeast (set.contains (relation_pass seen).links) (relation_pass seen).start ids → is_chosen_with_parents (record { ways = (relation_pass seen).ways; relation_ids = ids }) ≡ keeps_with_parents seen }
+    ensures parents { (seen : List Seen) (ids : set.FinSet int_cmp)
+        → IsLeast (set.contains (relation_pass seen).links) (relation_pass seen).start ids
+        → is_chosen_with_parents (record { ways = (relation_pass seen).ways; relation_ids = ids })
+        ≡ keeps_with_parents seen }
 {}
 
 /// The extract of stored entities is that of decoded ones: the selection sees both alike.
 pub fn extract_is_decoded()
-    ensures ways { (area : BoundingBox) (entities : List EntitySpec) → map decoded (extract (seen_entity area) entities) ≡ extract (seen_decoded area) (map decoded entities) }
-    ensures parents { (area : BoundingBox) (entities : List EntitySpec) → map decoded (extract_with_parents (seen_entity area) entities) ≡ extract_with_parents (seen_decoded area) (map decoded entities) }
+    ensures ways { (area : BoundingBox) (entities : List EntitySpec)
+        → map decoded (extract (seen_entity area) entities)
+        ≡ extract (seen_decoded area) (map decoded entities) }
+    ensures parents { (area : BoundingBox) (entities : List EntitySpec)
+        → map decoded (extract_with_parents (seen_entity area) entities)
+        ≡ extract_with_parents (seen_decoded area) (map decoded entities) }
 {}

@@ -56,7 +56,8 @@ impl RelationPhase {
     ///
     /// Where memory is refused the phase may have the id and some of the links. It may only be dropped.
     pub fn take_relation(&mut self, relation: &RelationRef<'_>) -> Result<(), AllocError>
-        ensures { OnOk result (self.new ≡ relation_step self.old (seen_relation (relation_of relation.now))) }
+        ensures { OnOk result
+            (self.new ≡ relation_step self.old (seen_relation (relation_of relation.now))) }
     {
         if self.chosen.keeps_relation(relation) {
             self.start.add(relation.id())?;
@@ -73,7 +74,8 @@ impl RelationPhase {
     /// Where memory is refused the phase is gone.
     pub fn end_relations(self) -> Result<ChosenParents, AllocError>
         ensures ways { IfOk result (λ chosen. chosen.ways ≡ self.ways) }
-        ensures least { IfOk result (λ chosen. IsLeast (set.contains self.links) self.start chosen.relation_ids) }
+        ensures least { IfOk result
+            (λ chosen. IsLeast (set.contains self.links) self.start chosen.relation_ids) }
     {
         let RelationPhase {
             chosen,
@@ -91,7 +93,8 @@ impl RelationPhase {
 
 /// Adds a link from each of the members that is a relation to their relation.
 fn add_links(links: &mut Links, id: i64, members: Members<'_>) -> Result<(), AllocError>
-    ensures { OnOk result (links.new ≡ fold (with_link id) links.old (map seen_member (members_left members.entry))) }
+    ensures { OnOk result
+        (links.new ≡ fold (with_link id) links.old (map seen_member (members_left members.entry))) }
 {
     for member in members {
         if member.kind != MemberKind::Relation {

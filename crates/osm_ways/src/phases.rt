@@ -50,7 +50,12 @@ impl NodePhase {
     ///
     /// Where memory is refused the phase is as it was.
     pub fn take_node(&mut self, node: &NodeRef<'_>) -> Result<(), AllocError>
-        ensures ok { OnOk result (self.new ≡ record { area = self.old.area; box_ids = node_step self.old.box_ids (seen_node self.old.area (node_of node.now)) }) }
+        ensures ok { OnOk result (self.new
+            ≡ record {
+              area = self.old.area;
+              box_ids = node_step self.old.box_ids
+                  (seen_node self.old.area (node_of node.now));
+            }) }
         ensures err { OnErr result (self.new ≡ self.old) }
     {
         self.take_place(node.id(), node.nano_lat(), node.nano_lon())
@@ -62,7 +67,12 @@ impl NodePhase {
     ///
     /// Where memory is refused the phase is as it was.
     pub fn take_place(&mut self, id: i64, lat: i128, lon: i128) -> Result<(), AllocError>
-        ensures ok { OnOk result (self.new ≡ record { area = self.old.area; box_ids = node_step self.old.box_ids (a_node id (is_inside self.old.area lat lon)) }) }
+        ensures ok { OnOk result (self.new
+            ≡ record {
+              area = self.old.area;
+              box_ids = node_step self.old.box_ids
+                  (a_node id (is_inside self.old.area lat lon));
+            }) }
         ensures err { OnErr result (self.new ≡ self.old) }
     {
         if self.area.contains(lat, lon) {
@@ -178,7 +188,8 @@ pub(crate) fn is_kept_by(ids: &mut Lookup<'_>, way: &WayRef<'_>) -> bool
 
 /// Adds all refs of the way that aren't known to the ids.
 fn add_refs(known: &mut Lookup<'_>, ids: &mut IdSet, way: &WayRef<'_>) -> Result<(), AllocError>
-    ensures { OnOk result (set.union known.old ids.new ≡ fold set.insert (set.union known.old ids.old) (way_of way.now).refs) }
+    ensures { OnOk result (set.union known.old ids.new
+        ≡ fold set.insert (set.union known.old ids.old) (way_of way.now).refs) }
 {
     for id in way.refs() {
         if known.has(id) {

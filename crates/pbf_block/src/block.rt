@@ -37,7 +37,8 @@ use std::alloc::{AllocError, Global};
 /// The first fault of the phases that need no table: of the wire form, or else of structure.
 fn early_fault(payload: &[u8], at: u64) -> Option<Fault>
     requires { at + length payload.now ≤ 2 ^ 63 }
-    ensures { result ≡ option_or (least (wire_faults at payload.now)) (least (structure_faults at payload.now)) }
+    ensures { result
+        ≡ option_or (least (wire_faults at payload.now)) (least (structure_faults at payload.now)) }
 {
     if let Some(fault) = judge_wire_form(payload, at) {
         return Some(fault);
@@ -72,7 +73,8 @@ fn late_fault<'a>(payload: &'a [u8], at: u64, table: &'a Table<'a>, scale: Scale
     requires scale { scale ≡ scale_of (fields_in at payload.now) }
     requires wire { wire_faults at payload.now ≡ [] }
     requires structure { structure_faults at payload.now ≡ [] }
-    ensures { result ≡ option_or (least (payload_values at payload.now)) (least (payload_weights at payload.now)) }
+    ensures { result ≡ option_or (least (payload_values at payload.now))
+        (least (payload_weights at payload.now)) }
 {
     if let Some(fault) = judge_values(payload, at, table.len() as u64) {
         return Some(fault);
@@ -102,9 +104,11 @@ impl<'a> Block<'a> {
     pub fn read(alloc: Global, payload: &'a [u8], at: u64) -> Result<Block<'a>, ReadFault>
         requires placed { at + length payload.now ≤ 2 ^ 63 }
         requires short { length payload.now < 33554432 }
-        ensures payload { IfOk result (λ block. (block.payload.now ≡ payload.now) × (block.at ≡ at)) }
+        ensures payload { IfOk result
+            (λ block. (block.payload.now ≡ payload.now) × (block.at ≡ at)) }
         ensures sound { OnOk result (block_fault at payload.now ≡ None) }
-        ensures refused { (fault : Fault) → result ≡ Err (Refused fault) → block_fault at payload.now ≡ Some fault }
+        ensures refused { (fault : Fault) → result ≡ Err (Refused fault)
+            → block_fault at payload.now ≡ Some fault }
     {
         if let Some(fault) = early_fault(payload, at) {
             return Err(ReadFault::Refused(fault));
@@ -132,7 +136,8 @@ impl<'a> Block<'a> {
 
     /// The entities of these kinds, in order. Messages of other kinds aren't looked into. Takes no memory.
     pub fn entities_among(&self, kinds: Kinds) -> Entities<'_>
-        ensures exact { entities_left result ≡ filter (is_among kinds) (entities self.now.at self.now.payload.now) }
+        ensures exact { entities_left result
+            ≡ filter (is_among kinds) (entities self.now.at self.now.payload.now) }
         ensures fits { AllByRecursion EntityFits (entities_left result) }
     {
         Entities::over(self.payload, self.at, &self.table, self.scale, kinds)
@@ -141,7 +146,8 @@ impl<'a> Block<'a> {
     /// The entities of these kinds, in order, those of a dense message together. Messages of other kinds aren't looked into. Takes no
     /// memory.
     pub fn runs_among(&self, kinds: Kinds) -> Runs<'_>
-        ensures { joined_runs (runs_left result) ≡ filter (is_among kinds) (entities self.now.at self.now.payload.now) }
+        ensures { joined_runs (runs_left result)
+            ≡ filter (is_among kinds) (entities self.now.at self.now.payload.now) }
     {
         Runs::over(self.payload, self.at, &self.table, self.scale, kinds)
     }
@@ -156,7 +162,8 @@ impl<'a> Block<'a> {
 
     /// How many bytes the block holds beside the payload: four for each text of its table.
     pub fn held(&self) -> u64
-        ensures value { result ≡ 4 * length (table_of (fields_in self.now.at self.now.payload.now)) }
+        ensures value { result
+            ≡ 4 * length (table_of (fields_in self.now.at self.now.payload.now)) }
         ensures bound { result ≤ 4194304 }
     {
         self.table.held()

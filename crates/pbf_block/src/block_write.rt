@@ -24,7 +24,8 @@ fn put_unless_default(
     value: i64,
 ) -> Result<(), AllocError>
     requires { number < 2 ^ 29 }
-    ensures { OnOk result (out.new.items ≡ out.old.items ++ slot_bytes (Scalar number (unless_default default value))) }
+    ensures { OnOk result (out.new.items
+        ≡ out.old.items ++ slot_bytes (Scalar number (unless_default default value))) }
 {
     if value != default {
         put_number(out, number, sign_extended(value))?;
@@ -34,7 +35,8 @@ fn put_unless_default(
 
 /// Appends the message of dense nodes to a group, if there are nodes in it.
 pub fn put_dense(group: &mut Vec<u8>, dense: &[u8]) -> Result<(), AllocError>
-    ensures { OnOk result (group.new.items ≡ group.old.items ++ slot_bytes (Each DENSE (unless_empty dense.now))) }
+    ensures { OnOk result
+        (group.new.items ≡ group.old.items ++ slot_bytes (Each DENSE (unless_empty dense.now))) }
 {
     put_unless_empty(group, DENSE, dense)?;
     Ok(())
@@ -48,7 +50,9 @@ pub fn put_block(
     group: &[u8],
     scale: Scale,
 ) -> Result<(), AllocError>
-    ensures { (texts : List (List ℕ)) → table.now ≡ table_message texts → OnOk result (out.new.items ≡ out.old.items ++ message (block_slots scale texts group.now)) }
+    ensures { (texts : List (List ℕ)) → table.now ≡ table_message texts
+        → OnOk result (out.new.items
+        ≡ out.old.items ++ message (block_slots scale texts group.now)) }
 {
     put_bytes(out, STRINGTABLE, table)?;
     put_bytes(out, PRIMITIVEGROUP, group)?;

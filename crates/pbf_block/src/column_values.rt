@@ -17,7 +17,8 @@ use pbf_wire::{Fault, Field, Fields, Payload, first_number, judge_index, judge_s
 /// The least fault of the numbers of a packed column that a table of `limit` texts has no text for. Its field stands at `place`,
 /// and so does each fault: it is reported at the first.
 fn judge_packed(packed: &[u8], place: u64, limit: u64) -> Option<Fault>
-    ensures { result ≡ least (index_faults limit (placed place (read_entries (entries packed.now)))) }
+    ensures { result
+        ≡ least (index_faults limit (placed place (read_entries (entries packed.now)))) }
 {
     let mut rest = packed;
     while let Some((number, after)) = first_number(rest) {
@@ -31,7 +32,8 @@ fn judge_packed(packed: &[u8], place: u64, limit: u64) -> Option<Fault>
 
 /// The least fault of the numbers of a field that a table of `limit` texts has no text for.
 pub(crate) fn judge_texts(field: Field<'_>, limit: u64) -> Option<Fault>
-    ensures { result ≡ least (index_faults limit (placed field.entry.offset (numbers_in (content field.entry.payload)))) }
+    ensures { result ≡ least (index_faults limit
+        (placed field.entry.offset (numbers_in (content field.entry.payload)))) }
 {
     match field.payload {
         Payload::Number(number) => judge_index(field.offset, number, limit),
@@ -43,7 +45,8 @@ pub(crate) fn judge_texts(field: Field<'_>, limit: u64) -> Option<Fault>
 /// The least fault of the sums of the column that these fields hold under this number.
 #[tactic(auto, using(crate::proofs::PassLemmas::joined_left_is))]
 pub(crate) fn judge_sums(fields: Fields<'_>, number: u64) -> Option<Fault>
-    ensures { (os : List Occurrence) → only_left number fields.entry ≡ only number os → result ≡ least (sum_faults stored_limit false (joined number os)) }
+    ensures { (os : List Occurrence) → only_left number fields.entry ≡ only number os
+        → result ≡ least (sum_faults stored_limit false (joined number os)) }
 {
     judge_sums_left(fields, number, STORED_LIMIT.unsigned_abs(), false)
 }
@@ -68,7 +71,8 @@ pub(crate) fn last_value_left(fields: Fields<'_>, number: u64) -> Option<(u64, u
 /// The number that these fields hold last under this number, and its place.
 #[tactic(auto, using(crate::proofs::PassLemmas::last_value_left_is))]
 pub(crate) fn last_value(fields: Fields<'_>, number: u64) -> Option<(u64, u64)>
-    ensures { (os : List Occurrence) → only_left number fields.entry ≡ only number os → result ≡ last_value number os }
+    ensures { (os : List Occurrence) → only_left number fields.entry ≡ only number os
+        → result ≡ last_value number os }
 {
     last_value_left(fields, number)
 }

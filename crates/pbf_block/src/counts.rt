@@ -57,7 +57,8 @@ impl Counts {
 
 /// Counts the entities of a field of a group. Of a dense message the ids are counted, and none is decoded.
 fn count_member(field: Field<'_>) -> Counts
-    ensures { (table : List (List ℕ)) (scale : Scale) → result ≡ counts_of (member_entities by_ends table scale (occurrence field.entry)) }
+    ensures { (table : List (List ℕ)) (scale : Scale)
+        → result ≡ counts_of (member_entities by_ends table scale (occurrence field.entry)) }
 {
     let mut counts = Counts::none();
     if let Payload::Bytes(message, at) = field.payload {
@@ -76,7 +77,9 @@ fn count_member(field: Field<'_>) -> Counts
 #[tactic(auto, using(crate::proofs::NumberLemmas::counts_more, crate::proofs::NumberLemmas::counts_nothing))]
 fn count_group(message: &[u8], at: u64) -> Counts
     requires { at + length message.now ≤ 2 ^ 63 }
-    ensures { (table : List (List ℕ)) (scale : Scale) → result ≡ counts_of (flat_map (member_entities by_ends table scale) (fields_in at message.now)) }
+    ensures { (table : List (List ℕ)) (scale : Scale)
+        → result ≡ counts_of
+        (flat_map (member_entities by_ends table scale) (fields_in at message.now)) }
 {
     let mut counts = Counts::none();
     for item in Fields::new(message, at) {
@@ -90,7 +93,8 @@ fn count_group(message: &[u8], at: u64) -> Counts
 
 /// Counts the entities of a field of the payload, which may be a group.
 fn count_part(field: Field<'_>) -> Counts
-    ensures { (table : List (List ℕ)) (scale : Scale) → result ≡ counts_of (group_entities by_ends table scale (occurrence field.entry)) }
+    ensures { (table : List (List ℕ)) (scale : Scale)
+        → result ≡ counts_of (group_entities by_ends table scale (occurrence field.entry)) }
 {
     if field.number != PRIMITIVEGROUP {
         return Counts::none();
@@ -106,7 +110,8 @@ fn count_part(field: Field<'_>) -> Counts
 #[tactic(auto, using(crate::proofs::NumberLemmas::counts_more, crate::proofs::NumberLemmas::counts_nothing))]
 pub(crate) fn count_entities(payload: &[u8], at: u64) -> Counts
     requires { at + length payload.now ≤ 2 ^ 63 }
-    ensures { (table : List (List ℕ)) (scale : Scale) → result ≡ counts_of (entities_by by_ends table scale (fields_in at payload.now)) }
+    ensures { (table : List (List ℕ)) (scale : Scale)
+        → result ≡ counts_of (entities_by by_ends table scale (fields_in at payload.now)) }
 {
     let mut counts = Counts::none();
     for item in Fields::new(payload, at) {

@@ -36,7 +36,8 @@ impl<'a> Entities<'a> {
         kinds: Kinds,
     ) -> Entities<'a>
         requires { at + length payload.now ≤ 2 ^ 63 }
-        ensures { entities_left result ≡ entities_among kinds along table.now scale (fields_in at payload.now) }
+        ensures { entities_left result
+            ≡ entities_among kinds along table.now scale (fields_in at payload.now) }
     {
         Entities {
             group: None,

@@ -96,14 +96,16 @@ impl<'a> EntityFields<'a> {
 
     /// The metadata.
     pub(crate) fn meta(&self, table: &'a Table<'a>) -> MetaRef<'a>
-        ensures { (os : List Occurrence) → AreFields self.now os → meta_of result ≡ info_in table.now (embedded INFO os) }
+        ensures { (os : List Occurrence) → AreFields self.now os
+            → meta_of result ≡ info_in table.now (embedded INFO os) }
     {
         meta_in(self.info, table)
     }
 
     /// The tags.
     pub(crate) fn tags(&self, table: &'a Table<'a>) -> Tags<'a>
-        ensures { (os : List Occurrence) → AreFields self.now os → tags_left result ≡ tags_in table.now os }
+        ensures { (os : List Occurrence) → AreFields self.now os
+            → tags_left result ≡ tags_in table.now os }
     {
         let keys = column(self.keys, KEYS);
         let vals = column(self.vals, VALS);
@@ -114,14 +116,16 @@ impl<'a> EntityFields<'a> {
 /// The column that these fields hold under this number.
 #[tactic(auto, using(crate::proofs::PassLemmas::column_left_is))]
 pub(crate) fn column(fields: Fields<'_>, number: u64) -> Column<'_>
-    ensures { (os : List Occurrence) → only_left number fields.entry ≡ only number os → numbers_left result ≡ column number os }
+    ensures { (os : List Occurrence) → only_left number fields.entry ≡ only number os
+        → numbers_left result ≡ column number os }
 {
     Column::over(fields, number)
 }
 
 /// The values of a column of differences that these fields hold under this number.
 pub(crate) fn values(fields: Fields<'_>, number: u64) -> Sums<'_>
-    ensures { (os : List Occurrence) → only_left number fields.entry ≡ only number os → sums_left result ≡ values_in along number os }
+    ensures { (os : List Occurrence) → only_left number fields.entry ≡ only number os
+        → sums_left result ≡ values_in along number os }
 {
     Sums::new(column(fields, number), STORED_LIMIT)
 }
@@ -147,7 +151,8 @@ fn last_left(fields: Fields<'_>, number: u64) -> Option<u64>
 /// The signed number that these fields hold last under this number, and 0 where they hold none.
 #[tactic(auto, using(crate::proofs::PassLemmas::last_left_is))]
 pub(crate) fn last_signed(fields: Fields<'_>, number: u64) -> i64
-    ensures { (os : List Occurrence) → only_left number fields.entry ≡ only number os → result ≡ signed_in number os }
+    ensures { (os : List Occurrence) → only_left number fields.entry ≡ only number os
+        → result ≡ signed_in number os }
 {
     match last_left(fields, number) {
         Some(value) => unzigzag(value),

@@ -96,9 +96,15 @@ impl EntityOut {
         tags: Tags<'_>,
         table: &mut TableOut<S>,
     ) -> Result<(), AllocError>
-        requires { length table.old + (length (tag_texts (tags_left tags)) + length (option_to_list (meta_of meta.now).user)) ≤ 1048575 }
-        ensures texts { OnOk result (table.new ≡ texts_after table.old (tag_texts (tags_left tags.entry) ++ option_to_list (meta_of meta.now).user)) }
-        ensures begun { (used : List (List ℕ)) → OnOk result (self.new.message.items ≡ message (entity_slots (texts_after table.new used) id (meta_of meta.now) (tags_left tags.entry) [])) }
+        requires { length table.old + (length (tag_texts (tags_left tags)) + length
+            (option_to_list (meta_of meta.now).user)) ≤ 1048575 }
+        ensures texts { OnOk result (table.new
+            ≡ texts_after table.old
+            (tag_texts (tags_left tags.entry) ++ option_to_list (meta_of meta.now).user)) }
+        ensures begun { (used : List (List ℕ))
+            → OnOk result (self.new.message.items
+            ≡ message (entity_slots (texts_after table.new used) id (meta_of meta.now)
+            (tags_left tags.entry) [])) }
     {
         put_tags(&mut self.keys, &mut self.values, tags, table)?;
         let user = table.index_if_some(meta.user)?;
@@ -117,8 +123,11 @@ impl EntityOut {
     ) -> Result<(), AllocError>
         requires fits { WayFits (way_of way.now) }
         requires room { length table.old + length (way_texts (way_of way.now)) ≤ 1048575 }
-        ensures texts { OnOk result (table.new ≡ texts_after table.old (way_texts (way_of way.now))) }
-        ensures made { (used : List (List ℕ)) → OnOk result (self.new.message.items ≡ way_message (texts_after table.new used) (way_of way.now)) }
+        ensures texts { OnOk result
+            (table.new ≡ texts_after table.old (way_texts (way_of way.now))) }
+        ensures made { (used : List (List ℕ))
+            → OnOk result (self.new.message.items
+            ≡ way_message (texts_after table.new used) (way_of way.now)) }
     {
         self.begin(way.id(), &way.meta(), way.tags(), table)?;
         put_refs(&mut self.refs, way.refs())?;
@@ -136,9 +145,13 @@ impl EntityOut {
         table: &mut TableOut<S>,
     ) -> Result<(), AllocError>
         requires fits { RelationFits (relation_of relation.now) }
-        requires room { length table.old + length (relation_texts (relation_of relation.now)) ≤ 1048575 }
-        ensures texts { OnOk result (table.new ≡ texts_after table.old (relation_texts (relation_of relation.now))) }
-        ensures made { (used : List (List ℕ)) → OnOk result (self.new.message.items ≡ relation_message (texts_after table.new used) (relation_of relation.now)) }
+        requires room { length table.old + length (relation_texts (relation_of relation.now))
+            ≤ 1048575 }
+        ensures texts { OnOk result
+            (table.new ≡ texts_after table.old (relation_texts (relation_of relation.now))) }
+        ensures made { (used : List (List ℕ))
+            → OnOk result (self.new.message.items
+            ≡ relation_message (texts_after table.new used) (relation_of relation.now)) }
     {
         self.begin(relation.id(), &relation.meta(), relation.tags(), table)?;
         put_roles(&mut self.roles, relation.members(), table)?;
@@ -152,7 +165,8 @@ impl EntityOut {
     /// Appends the message as a field of a group, and takes all of the entity out.
     fn put_message(&mut self, group: &mut Vec<u8>, number: u64) -> Result<(), AllocError>
         requires { number < 2 ^ 29 }
-        ensures written { OnOk result (group.new.items ≡ group.old.items ++ slot_bytes (Each number (self.old.message.items ∷ []))) }
+        ensures written { OnOk result (group.new.items
+            ≡ group.old.items ++ slot_bytes (Each number (self.old.message.items ∷ []))) }
         ensures empty { OnOk result (writer_length self.new ≡ 0) }
     {
         put_bytes(group, number, &self.message)?;
@@ -172,8 +186,12 @@ impl EntityOut {
     ) -> Result<(), AllocError>
         requires fits { WayFits (way_of way.now) }
         requires room { length table.old + length (way_texts (way_of way.now)) ≤ 1048575 }
-        ensures texts { OnOk result (table.new ≡ texts_after table.old (way_texts (way_of way.now))) }
-        ensures written { (used : List (List ℕ)) → OnOk result (group.new.items ≡ group.old.items ++ slot_bytes (Each WAYS (way_message (texts_after table.new used) (way_of way.now) ∷ []))) }
+        ensures texts { OnOk result
+            (table.new ≡ texts_after table.old (way_texts (way_of way.now))) }
+        ensures written { (used : List (List ℕ))
+            → OnOk result (group.new.items ≡ group.old.items
+            ++ slot_bytes (Each WAYS
+            (way_message (texts_after table.new used) (way_of way.now) ∷ []))) }
         ensures empty { OnOk result (writer_length self.new ≡ 0) }
     {
         self.make_way(way, table)?;
@@ -190,9 +208,14 @@ impl EntityOut {
         table: &mut TableOut<S>,
     ) -> Result<(), AllocError>
         requires fits { RelationFits (relation_of relation.now) }
-        requires room { length table.old + length (relation_texts (relation_of relation.now)) ≤ 1048575 }
-        ensures texts { OnOk result (table.new ≡ texts_after table.old (relation_texts (relation_of relation.now))) }
-        ensures written { (used : List (List ℕ)) → OnOk result (group.new.items ≡ group.old.items ++ slot_bytes (Each RELATIONS (relation_message (texts_after table.new used) (relation_of relation.now) ∷ []))) }
+        requires room { length table.old + length (relation_texts (relation_of relation.now))
+            ≤ 1048575 }
+        ensures texts { OnOk result
+            (table.new ≡ texts_after table.old (relation_texts (relation_of relation.now))) }
+        ensures written { (used : List (List ℕ))
+            → OnOk result (group.new.items ≡ group.old.items
+            ++ slot_bytes (Each RELATIONS
+            (relation_message (texts_after table.new used) (relation_of relation.now) ∷ []))) }
         ensures empty { OnOk result (writer_length self.new ≡ 0) }
     {
         self.make_relation(relation, table)?;

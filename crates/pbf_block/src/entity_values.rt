@@ -68,7 +68,8 @@ impl<'a> EntityValues<'a> {
     /// The least fault of what all entities have alike: tags and an info.
     #[tactic(auto, using(crate::proofs::Parts::lesser_parts))]
     pub(crate) fn judge(&self) -> Option<Fault>
-        ensures { (limit : ℕ) (os : List Occurrence) → AreValues limit self.now os → result ≡ least (entity_values limit os) }
+        ensures { (limit : ℕ) (os : List Occurrence) → AreValues limit self.now os
+            → result ≡ least (entity_values limit os) }
     {
         lesser(lesser(self.keys, self.vals), self.infos)
     }

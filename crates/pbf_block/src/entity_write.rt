@@ -29,9 +29,14 @@ pub(crate) fn put_tags<S: BuildHasher>(
     table: &mut TableOut<S>,
 ) -> Result<(), AllocError>
     requires { length table.old + length (tag_texts (tags_left tags)) ≤ 1048575 }
-    ensures texts { OnOk result (table.new ≡ texts_after table.old (tag_texts (tags_left tags.entry))) }
-    ensures keys { (used : List (List ℕ)) → OnOk result (keys.new ≡ map (key_index (texts_after table.new used)) (tags_left tags.entry)) }
-    ensures values { (used : List (List ℕ)) → OnOk result (values.new ≡ map (value_index (texts_after table.new used)) (tags_left tags.entry)) }
+    ensures texts { OnOk result
+        (table.new ≡ texts_after table.old (tag_texts (tags_left tags.entry))) }
+    ensures keys { (used : List (List ℕ))
+        → OnOk result (keys.new
+        ≡ map (key_index (texts_after table.new used)) (tags_left tags.entry)) }
+    ensures values { (used : List (List ℕ))
+        → OnOk result (values.new
+        ≡ map (value_index (texts_after table.new used)) (tags_left tags.entry)) }
 {
     keys.clear();
     values.clear();
@@ -92,7 +97,8 @@ pub(crate) fn put_members(
 ) -> Result<(), AllocError>
     requires { AllByRecursion MemberFits (members_left members) }
     ensures ids { OnOk result (ids.new ≡ map (λ m. m.id) (members_left members.entry)) }
-    ensures kinds { OnOk result (kinds.new ≡ map (λ m. kind_number m.kind) (members_left members.entry)) }
+    ensures kinds { OnOk result
+        (kinds.new ≡ map (λ m. kind_number m.kind) (members_left members.entry)) }
 {
     ids.clear();
     kinds.clear();
@@ -110,8 +116,11 @@ pub(crate) fn put_roles<S: BuildHasher>(
     table: &mut TableOut<S>,
 ) -> Result<(), AllocError>
     requires { length table.old + length (members_left members) ≤ 1048575 }
-    ensures texts { OnOk result (table.new ≡ texts_after table.old (map (λ m. m.role) (members_left members.entry))) }
-    ensures roles { (used : List (List ℕ)) → OnOk result (roles.new ≡ map (role_index (texts_after table.new used)) (members_left members.entry)) }
+    ensures texts { OnOk result
+        (table.new ≡ texts_after table.old (map (λ m. m.role) (members_left members.entry))) }
+    ensures roles { (used : List (List ℕ))
+        → OnOk result (roles.new
+        ≡ map (role_index (texts_after table.new used)) (members_left members.entry)) }
 {
     roles.clear();
     for member in members {
@@ -133,7 +142,8 @@ fn wide(number: Option<i32>) -> Option<i64>
 /// Appends a number of 32 bits in two's complement, if there is one.
 fn put_int32(out: &mut Vec<u8>, number: u64, value: Option<i32>) -> Result<(), AllocError>
     requires { number < 2 ^ 29 }
-    ensures { OnOk result (out.new.items ≡ out.old.items ++ slot_bytes (Scalar number (option_map sign_extended value))) }
+    ensures { OnOk result (out.new.items
+        ≡ out.old.items ++ slot_bytes (Scalar number (option_map sign_extended value))) }
 {
     put_int64(out, number, wide(value))?;
     Ok(())
@@ -154,7 +164,8 @@ fn put_index(out: &mut Vec<u8>, number: u64, index: Option<u32>) -> Result<(), A
 /// Appends 0 or 1, if there is a value.
 fn put_flag(out: &mut Vec<u8>, number: u64, flag: Option<bool>) -> Result<(), AllocError>
     requires { number < 2 ^ 29 }
-    ensures { OnOk result (out.new.items ≡ out.old.items ++ slot_bytes (Scalar number (option_map bit_of flag))) }
+    ensures { OnOk result
+        (out.new.items ≡ out.old.items ++ slot_bytes (Scalar number (option_map bit_of flag))) }
 {
     match flag {
         Some(true) => put_number(out, number, 1)?,
@@ -170,7 +181,8 @@ pub(crate) fn put_info(
     meta: &MetaRef<'_>,
     user: Option<u32>,
 ) -> Result<(), AllocError>
-    ensures { (texts : List (List ℕ)) → user ≡ option_map (index_in texts) (meta_of meta.now).user → OnOk result (out.new.items ≡ out.old.items ++ info_message texts (meta_of meta.now)) }
+    ensures { (texts : List (List ℕ)) → user ≡ option_map (index_in texts) (meta_of meta.now).user
+        → OnOk result (out.new.items ≡ out.old.items ++ info_message texts (meta_of meta.now)) }
 {
     put_int32(out, VERSION, meta.version)?;
     put_int64(out, TIMESTAMP, meta.timestamp)?;
@@ -189,7 +201,9 @@ pub(crate) fn put_head(
     values: &ColumnOut,
     info: &[u8],
 ) -> Result<(), AllocError>
-    ensures { OnOk result (out.new.items ≡ out.old.items ++ message (Scalar ID (Some (sign_extended id)) ∷ Column KEYS keys.now ∷ Column VALS values.now ∷ Each INFO (unless_empty info.now) ∷ [])) }
+    ensures { OnOk result (out.new.items
+        ≡ out.old.items ++ message (Scalar ID (Some (sign_extended id)) ∷ Column KEYS keys.now
+        ∷ Column VALS values.now ∷ Each INFO (unless_empty info.now) ∷ [])) }
 {
     put_number(out, ID, sign_extended(id))?;
     put_column(out, KEYS, keys.bytes())?;

@@ -18,8 +18,10 @@ use pbf_wire::{Field, Fields, Payload};
 /// The next field. After a fault there are no more.
 #[tactic(auto, unfolding(crate::proofs::Parts::items_past))]
 pub(crate) fn next_field<'a>(fields: &mut Fields<'a>) -> Option<Field<'a>>
-    ensures { MatchOption result ((found (fields_left fields.old) ≡ []) × (found (fields_left fields.new) ≡ []))
-        (λ field. found (fields_left fields.old) ≡ occurrence field ∷ found (fields_left fields.new)) }
+    ensures { MatchOption result
+        ((found (fields_left fields.old) ≡ []) × (found (fields_left fields.new) ≡ []))
+        (λ field. found (fields_left fields.old)
+        ≡ occurrence field ∷ found (fields_left fields.new)) }
 {
     match fields.next() {
         Some(Ok(field)) => Some(field),
@@ -60,7 +62,8 @@ impl<'a> Group<'a> {
         kinds: Kinds,
     ) -> Group<'a>
         requires { at + length message.now ≤ 2 ^ 63 }
-        ensures { group_left result ≡ flat_map (member_entities_among kinds along table.now scale) (fields_in at message.now) }
+        ensures { group_left result ≡ flat_map (member_entities_among kinds along table.now scale)
+            (fields_in at message.now) }
     {
         Group {
             dense: None,

@@ -128,7 +128,8 @@ fn known_features(alloc: Global) -> Result<Vec<Vec<u8>>, AllocError>
 
 /// Those of the optional features that what is written has too, each once.
 fn kept_features(alloc: Global, optional: &[Vec<u8>]) -> Result<Vec<Vec<u8>>, AllocError>
-    ensures { IfOk result (λ features. map text_of features.items ≡ kept_features (map text_of optional.now)) }
+    ensures { IfOk result
+        (λ features. map text_of features.items ≡ kept_features (map text_of optional.now)) }
 {
     let mut features = Vec::new(alloc);
     if has(optional, HAS_METADATA) {
@@ -182,7 +183,8 @@ impl Header {
     /// The header of a file with the same entities in canonical form: as for [`Header::for_box`], with the box of this header,
     /// if it has one.
     pub fn for_convert(&self, alloc: Global) -> Result<Header, AllocError>
-        ensures { IfOk result (λ header. header_of header ≡ header_out_for_convert (header_of self.now)) }
+        ensures { IfOk result
+            (λ header. header_of header ≡ header_out_for_convert (header_of self.now)) }
     {
         self.written(alloc, self.bbox)
     }

@@ -58,7 +58,8 @@ fn last_bytes(payload: &[u8], at: u64, number: u64) -> Option<&[u8]>
 /// The texts of a repeated field.
 fn texts(alloc: Global, payload: &[u8], at: u64, number: u64) -> Result<Vec<Vec<u8>>, AllocError>
     requires { at + length payload.now ≤ 2 ^ 63 }
-    ensures { IfOk result (λ texts. map text_of texts.items ≡ each number (fields_in at payload.now)) }
+    ensures { IfOk result
+        (λ texts. map text_of texts.items ≡ each number (fields_in at payload.now)) }
 {
     let mut texts = Vec::new(alloc);
     for item in Fields::new(payload, at) {
@@ -82,7 +83,8 @@ fn last_text(
     number: u64,
 ) -> Result<Option<Vec<u8>>, AllocError>
     requires { at + length payload.now ≤ 2 ^ 63 }
-    ensures { IfOk result (λ text. option_map text_of text ≡ last_text number (fields_in at payload.now)) }
+    ensures { IfOk result
+        (λ text. option_map text_of text ≡ last_text number (fields_in at payload.now)) }
 {
     match last_bytes(payload, at, number) {
         Some(text) => Ok(Some(Vec::from_slice(alloc, text)?)),
@@ -127,7 +129,8 @@ impl Header {
         requires { at + length payload.now ≤ 2 ^ 63 }
         ensures header { IfOk result (λ header. header_of header ≡ header_in at payload.now) }
         ensures sound { OnOk result (header_fault at payload.now ≡ None) }
-        ensures refused { (fault : Fault) → result ≡ Err (Refused fault) ↔ header_fault at payload.now ≡ Some fault }
+        ensures refused { (fault : Fault)
+            → result ≡ Err (Refused fault) ↔ header_fault at payload.now ≡ Some fault }
     {
         judge_header(payload, at)?;
         Ok(header_in(alloc, payload, at)?)

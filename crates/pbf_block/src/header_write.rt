@@ -38,7 +38,8 @@ fn box_len(bbox: HeaderBox) -> usize
 /// Appends an edge of a HeaderBBox.
 fn put_edge(out: &mut Vec<u8>, number: u64, edge: i64) -> Result<(), AllocError>
     requires { number < 2 ^ 29 }
-    ensures { OnOk result (out.new.items ≡ out.old.items ++ slot_bytes (Scalar number (Some (zigzag edge)))) }
+    ensures { OnOk result
+        (out.new.items ≡ out.old.items ++ slot_bytes (Scalar number (Some (zigzag edge)))) }
 {
     put_number(out, number, zigzag(edge))?;
     Ok(())
@@ -57,7 +58,8 @@ fn put_edges(out: &mut Vec<u8>, bbox: HeaderBox) -> Result<(), AllocError>
 
 /// Appends the field of a box, its length first.
 fn put_whole_box(out: &mut Vec<u8>, bbox: HeaderBox) -> Result<(), AllocError>
-    ensures { OnOk result (out.new.items ≡ out.old.items ++ slot_bytes (Each BBOX (box_message bbox ∷ []))) }
+    ensures { OnOk result
+        (out.new.items ≡ out.old.items ++ slot_bytes (Each BBOX (box_message bbox ∷ []))) }
 {
     put_varint(out, BBOX * 8 + 2)?;
     put_varint(out, box_len(bbox) as u64)?;
@@ -67,7 +69,8 @@ fn put_whole_box(out: &mut Vec<u8>, bbox: HeaderBox) -> Result<(), AllocError>
 
 /// Appends the box of a header, if it has one.
 fn put_box(out: &mut Vec<u8>, bbox: Option<HeaderBox>) -> Result<(), AllocError>
-    ensures { OnOk result (out.new.items ≡ out.old.items ++ slot_bytes (Each BBOX (option_to_list (option_map box_message bbox)))) }
+    ensures { OnOk result (out.new.items
+        ≡ out.old.items ++ slot_bytes (Each BBOX (option_to_list (option_map box_message bbox)))) }
 {
     match bbox {
         Some(bbox) => put_whole_box(out, bbox)?,
@@ -78,7 +81,8 @@ fn put_box(out: &mut Vec<u8>, bbox: Option<HeaderBox>) -> Result<(), AllocError>
 
 /// Appends the required features of what is written.
 fn put_required(out: &mut Vec<u8>) -> Result<(), AllocError>
-    ensures { OnOk result (out.new.items ≡ out.old.items ++ slot_bytes (Each REQUIRED_FEATURES known_features)) }
+    ensures { OnOk result
+        (out.new.items ≡ out.old.items ++ slot_bytes (Each REQUIRED_FEATURES known_features)) }
 {
     put_bytes(out, REQUIRED_FEATURES, OSM_SCHEMA)?;
     put_bytes(out, REQUIRED_FEATURES, DENSE_NODES)?;
@@ -87,7 +91,9 @@ fn put_required(out: &mut Vec<u8>) -> Result<(), AllocError>
 
 /// Appends those of the optional features that what is written has too, each once.
 fn put_optional(out: &mut Vec<u8>, optional: &[Vec<u8>]) -> Result<(), AllocError>
-    ensures { OnOk result (out.new.items ≡ out.old.items ++ slot_bytes (Each OPTIONAL_FEATURES (kept_features (map text_of optional.now)))) }
+    ensures { OnOk result (out.new.items
+        ≡ out.old.items ++ slot_bytes
+        (Each OPTIONAL_FEATURES (kept_features (map text_of optional.now)))) }
 {
     put_feature(out, optional, HAS_METADATA)?;
     put_feature(out, optional, SORTED)?;
@@ -97,7 +103,9 @@ fn put_optional(out: &mut Vec<u8>, optional: &[Vec<u8>]) -> Result<(), AllocErro
 
 /// Appends an optional feature, if it is among these.
 fn put_feature(out: &mut Vec<u8>, optional: &[Vec<u8>], feature: &[u8]) -> Result<(), AllocError>
-    ensures { OnOk result (out.new.items ≡ out.old.items ++ slot_bytes (Each OPTIONAL_FEATURES (filter (has (map text_of optional.now)) (feature.now ∷ [])))) }
+    ensures { OnOk result (out.new.items
+        ≡ out.old.items ++ slot_bytes
+        (Each OPTIONAL_FEATURES (filter (has (map text_of optional.now)) (feature.now ∷ [])))) }
 {
     if has(optional, feature) {
         put_bytes(out, OPTIONAL_FEATURES, feature)?;
@@ -110,7 +118,8 @@ impl Header {
     /// features and the program of what is written, whatever others the header names. After an `Err` the output has no stated
     /// content.
     pub fn write(&self, out: &mut Vec<u8>) -> Result<(), AllocError>
-        ensures { OnOk result (out.new.items ≡ out.old.items ++ header_message (header_out_for_convert (header_of self.now))) }
+        ensures { OnOk result (out.new.items
+            ≡ out.old.items ++ header_message (header_out_for_convert (header_of self.now))) }
     {
         put_box(out, self.bbox)?;
         put_required(out)?;

@@ -31,7 +31,8 @@ pub enum Run<'a> {
 /// What a field of a group holds, if it is of these kinds.
 #[inline(always)]
 fn run_in<'a>(field: Field<'a>, table: &'a Table<'a>, scale: Scale, kinds: Kinds) -> Run<'a>
-    ensures { run_entities result ≡ member_entities_among kinds along table.now scale (occurrence field.entry) }
+    ensures { run_entities result
+        ≡ member_entities_among kinds along table.now scale (occurrence field.entry) }
 {
     if !kinds.are_in(field.number) {
         return Run::Nothing;
@@ -75,7 +76,8 @@ impl<'a> Runs<'a> {
         kinds: Kinds,
     ) -> Runs<'a>
         requires { at + length payload.now ≤ 2 ^ 63 }
-        ensures { joined_runs (runs_left result) ≡ entities_among kinds along table.now scale (fields_in at payload.now) }
+        ensures { joined_runs (runs_left result)
+            ≡ entities_among kinds along table.now scale (fields_in at payload.now) }
     {
         Runs {
             fields: Fields::new(&[], 0),

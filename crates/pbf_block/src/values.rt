@@ -98,7 +98,8 @@ fn judge_group(message: &[u8], at: u64, limit: u64) -> Option<Fault>
 /// The least fault of values of a group.
 fn judge_part(field: Field<'_>, limit: u64) -> Option<Fault>
     requires { limit ≤ 2 ^ 62 }
-    ensures { result ≡ least (entered PRIMITIVEGROUP (group_values limit) (occurrence field.entry)) }
+    ensures { result
+        ≡ least (entered PRIMITIVEGROUP (group_values limit) (occurrence field.entry)) }
 {
     if field.number != PRIMITIVEGROUP {
         return None;
@@ -113,7 +114,8 @@ fn judge_part(field: Field<'_>, limit: u64) -> Option<Fault>
 fn judge_parts(payload: &[u8], at: u64, limit: u64) -> Option<Fault>
     requires placed { at + length payload.now ≤ 2 ^ 63 }
     requires limited { limit ≤ 2 ^ 62 }
-    ensures { result ≡ least (flat_map (entered PRIMITIVEGROUP (group_values limit)) (fields_in at payload.now)) }
+    ensures { result ≡ least (flat_map (entered PRIMITIVEGROUP (group_values limit))
+        (fields_in at payload.now)) }
 {
     let mut least = None;
     for item in Fields::new(payload, at) {

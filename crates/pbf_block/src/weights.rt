@@ -38,7 +38,8 @@ fn judge_dense_weight<'a>(
     scale: Scale,
 ) -> Option<Fault>
     requires { at + length message.now ≤ 2 ^ 63 }
-    ensures { result ≡ least (flat_map (weight_fault place) (map node (nodes_along table.now scale (fields_in at message.now)))) }
+    ensures { result ≡ least (flat_map (weight_fault place)
+        (map node (nodes_along table.now scale (fields_in at message.now)))) }
 {
     let mut least = None;
     for node in Dense::over(message, at, table, scale) {
@@ -61,7 +62,8 @@ fn are_light(parts: u64, longest: u64) -> bool
 /// looked at.
 #[tactic(auto, using(crate::proofs::LightLemmas::dense_member, crate::proofs::LightLemmas::other_member))]
 fn is_light(field: Field<'_>, longest: u64) -> bool
-    ensures { (table : List (List ℕ)) (scale : Scale) → longest_of table ≤ longest → IsTrue result → member_weights along table scale (occurrence field.entry) ≡ [] }
+    ensures { (table : List (List ℕ)) (scale : Scale) → longest_of table ≤ longest → IsTrue result
+        → member_weights along table scale (occurrence field.entry) ≡ [] }
 {
     let Payload::Bytes(message, at) = field.payload else {
         return false;
@@ -121,7 +123,8 @@ fn judge_group_weights<'a>(
 ) -> Option<Fault>
     requires placed { at + length message.now ≤ 2 ^ 63 }
     requires short { longest_of table.now ≤ longest }
-    ensures { result ≡ least (flat_map (member_weights along table.now scale) (fields_in at message.now)) }
+    ensures { result
+        ≡ least (flat_map (member_weights along table.now scale) (fields_in at message.now)) }
 {
     let mut least = None;
     for item in Fields::new(message, at) {

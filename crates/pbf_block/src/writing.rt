@@ -16,7 +16,8 @@ pub(crate) fn put_int64(
     value: Option<i64>,
 ) -> Result<(), AllocError>
     requires { number < 2 ^ 29 }
-    ensures { OnOk result (out.new.items ≡ out.old.items ++ slot_bytes (Scalar number (option_map sign_extended value))) }
+    ensures { OnOk result (out.new.items
+        ≡ out.old.items ++ slot_bytes (Scalar number (option_map sign_extended value))) }
 {
     match value {
         Some(value) => put_number(out, number, sign_extended(value))?,
@@ -32,7 +33,9 @@ pub(crate) fn put_text(
     text: &Option<Vec<u8>>,
 ) -> Result<(), AllocError>
     requires { number < 2 ^ 29 }
-    ensures { OnOk result (out.new.items ≡ out.old.items ++ slot_bytes (Each number (option_to_list (option_map text_of text.now)))) }
+    ensures { OnOk result (out.new.items
+        ≡ out.old.items ++ slot_bytes
+        (Each number (option_to_list (option_map text_of text.now)))) }
 {
     match text {
         Some(text) => put_bytes(out, number, text)?,

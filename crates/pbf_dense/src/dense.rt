@@ -16,7 +16,8 @@ use pbf_wire::{Column, Sums, column_count, low_u32};
 /// Reads on to after the next 0 in key place.
 #[tactic(auto, using(crate::proofs::MovingLemmas::run_steps))]
 fn skip_run(numbers: &mut Column<'_>)
-    ensures { map low_32 (numbers_left numbers.new) ≡ after_run (map low_32 (numbers_left numbers.old)) }
+    ensures { map low_32 (numbers_left numbers.new)
+        ≡ after_run (map low_32 (numbers_left numbers.old)) }
 {
     'tags: while let Some(key) = next_number(numbers) {
         if low_u32(key) == 0 {
@@ -92,7 +93,9 @@ impl<'a> Dense<'a> {
     pub fn count(message: &[u8], at: u64) -> usize
         requires { at + length message.now ≤ 2 ^ 63 }
         ensures exact { result ≡ id_count (fields_in at message.now) }
-        ensures nodes { (place : ℕ) (table : List (List ℕ)) (scale : Scale) → dense_wire place at message.now ≡ [] → result ≡ length (nodes table scale (fields_in at message.now)) }
+        ensures nodes { (place : ℕ) (table : List (List ℕ)) (scale : Scale)
+            → dense_wire place at message.now ≡ []
+            → result ≡ length (nodes table scale (fields_in at message.now)) }
     {
         column_count(message, at, ID)
     }

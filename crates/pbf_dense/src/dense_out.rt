@@ -45,8 +45,11 @@ fn push_run<S: BuildHasher>(
     table: &mut TableOut<S>,
 ) -> Result<(), AllocError>
     requires { length table.old + length (tag_texts (tags_left tags)) ≤ 1048575 }
-    ensures texts { OnOk result (table.new ≡ texts_after table.old (tag_texts (tags_left tags.entry))) }
-    ensures runs { (used : List (List ℕ)) → OnOk result (runs.new ≡ runs.old ++ run_of (texts_after table.new used) (tags_left tags.entry)) }
+    ensures texts { OnOk result
+        (table.new ≡ texts_after table.old (tag_texts (tags_left tags.entry))) }
+    ensures runs { (used : List (List ℕ))
+        → OnOk result (runs.new
+        ≡ runs.old ++ run_of (texts_after table.new used) (tags_left tags.entry)) }
 {
     for (key, value) in tags {
         runs.push(u64::from(table.index_of(key)?))?;
@@ -81,8 +84,10 @@ impl DenseOut {
     ) -> Result<(), AllocError>
         requires fits { NodeFits (node_of node.now) }
         requires room { length table.old + length (node_texts (node_of node.now)) ≤ 1048575 }
-        ensures texts { OnOk result (table.new ≡ texts_after table.old (node_texts (node_of node.now))) }
-        ensures pushed { (ns : List NodeSpec) → HoldsNodes self.old table.old ns → OnOk result (HoldsNodes self.new table.new (ns ++ node_of node.now ∷ [])) }
+        ensures texts { OnOk result
+            (table.new ≡ texts_after table.old (node_texts (node_of node.now))) }
+        ensures pushed { (ns : List NodeSpec) → HoldsNodes self.old table.old ns
+            → OnOk result (HoldsNodes self.new table.new (ns ++ node_of node.now ∷ [])) }
     {
         push_run(&mut self.runs, node.tags(), table)?;
         let meta = node.meta();
@@ -97,7 +102,9 @@ impl DenseOut {
 
     /// Appends the runs of tags, if a node has one.
     fn put_runs(&self, out: &mut Vec<u8>) -> Result<(), AllocError>
-        ensures { OnOk result (out.new.items ≡ out.old.items ++ slot_bytes (Column KEYS_VALS (if self.now.tagged then self.now.runs else []))) }
+        ensures { OnOk result (out.new.items
+            ≡ out.old.items ++ slot_bytes
+            (Column KEYS_VALS (if self.now.tagged then self.now.runs else []))) }
     {
         if self.tagged {
             put_column(out, KEYS_VALS, self.runs.bytes())?;
@@ -107,7 +114,11 @@ impl DenseOut {
 
     /// Appends the fields of the message, with these as those of its DenseInfo.
     fn put_fields(&self, out: &mut Vec<u8>, info: &[u8]) -> Result<(), AllocError>
-        ensures { OnOk result (out.new.items ≡ out.old.items ++ message (Column ID (deltas self.now.ids) ∷ Each DENSEINFO (unless_empty info.now) ∷ Column LAT (deltas self.now.lats) ∷ Column LON (deltas self.now.lons) ∷ Column KEYS_VALS (if self.now.tagged then self.now.runs else []) ∷ [])) }
+        ensures { OnOk result (out.new.items
+            ≡ out.old.items ++ message (Column ID (deltas self.now.ids)
+            ∷ Each DENSEINFO (unless_empty info.now) ∷ Column LAT (deltas self.now.lats)
+            ∷ Column LON (deltas self.now.lons)
+            ∷ Column KEYS_VALS (if self.now.tagged then self.now.runs else []) ∷ [])) }
     {
         put_column(out, ID, self.ids.bytes())?;
         put_unless_empty(out, DENSEINFO, info)?;
@@ -119,7 +130,8 @@ impl DenseOut {
 
     /// The bytes of the message. Its indexes name the same texts in each later state of the table.
     pub fn finish(self, alloc: Global) -> Result<Vec<u8>, AllocError>
-        ensures { (texts used : List (List ℕ)) (ns : List NodeSpec) → HoldsNodes self texts ns → IfOk result (λ bytes. bytes.items ≡ dense_message (texts_after texts used) ns) }
+        ensures { (texts used : List (List ℕ)) (ns : List NodeSpec) → HoldsNodes self texts ns
+            → IfOk result (λ bytes. bytes.items ≡ dense_message (texts_after texts used) ns) }
     {
         let mut info = Vec::new(alloc);
         self.info.write(&mut info)?;

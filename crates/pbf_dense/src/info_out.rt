@@ -27,7 +27,8 @@ pub(crate) struct InfoOut {
 
 /// Adds a version, if there is one.
 fn push_version(column: &mut ColumnOut, version: Option<i32>) -> Result<(), AllocError>
-    ensures { OnOk result (column.new ≡ column.old ++ option_to_list (option_map sign_extended version)) }
+    ensures { OnOk result
+        (column.new ≡ column.old ++ option_to_list (option_map sign_extended version)) }
 {
     match version {
         Some(version) => column.push(sign_extended(i64::from(version)))?,
@@ -101,12 +102,17 @@ impl InfoOut {
     /// Adds the fields that a node has, of which `user` is the index of the user's text.
     pub(crate) fn push(&mut self, meta: &MetaRef<'_>, user: Option<u32>) -> Result<(), AllocError>
         requires { MetaFits (meta_of meta.now) }
-        ensures versions { OnOk result (self.new.versions ≡ self.old.versions ++ option_to_list (option_map sign_extended meta.now.version)) }
-        ensures timestamps { OnOk result (self.new.timestamps ≡ self.old.timestamps ++ option_to_list meta.now.timestamp) }
-        ensures changesets { OnOk result (self.new.changesets ≡ self.old.changesets ++ option_to_list meta.now.changeset) }
+        ensures versions { OnOk result (self.new.versions
+            ≡ self.old.versions ++ option_to_list (option_map sign_extended meta.now.version)) }
+        ensures timestamps { OnOk result (self.new.timestamps
+            ≡ self.old.timestamps ++ option_to_list meta.now.timestamp) }
+        ensures changesets { OnOk result (self.new.changesets
+            ≡ self.old.changesets ++ option_to_list meta.now.changeset) }
         ensures uids { OnOk result (self.new.uids ≡ self.old.uids ++ option_to_list meta.now.uid) }
-        ensures users { OnOk result (self.new.users ≡ self.old.users ++ option_to_list (option_map pos user)) }
-        ensures visible { OnOk result (self.new.visible ≡ self.old.visible ++ option_to_list (option_map bit_of meta.now.visible)) }
+        ensures users { OnOk result
+            (self.new.users ≡ self.old.users ++ option_to_list (option_map pos user)) }
+        ensures visible { OnOk result (self.new.visible
+            ≡ self.old.visible ++ option_to_list (option_map bit_of meta.now.visible)) }
     {
         push_version(&mut self.versions, meta.version)?;
         push_stored(&mut self.timestamps, meta.timestamp)?;

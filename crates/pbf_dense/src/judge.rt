@@ -117,7 +117,8 @@ impl<'a> Dense<'a> {
     /// `EntityLarge` at `tag`, where a node is too heavy of those that [`Dense::over`] gives.
     pub fn judge_weights(message: &[u8], at: u64, tag: u64, table: &Table<'_>) -> Option<Fault>
         requires { at + length message.now ≤ 2 ^ 63 }
-        ensures { result ≡ least (dense_weights tag (nodes_along table.now as_stored (fields_in at message.now))) }
+        ensures { result ≡ least (dense_weights tag
+            (nodes_along table.now as_stored (fields_in at message.now))) }
     {
         judge_nodes(Dense::over(message, at, table, AS_STORED), tag)
     }
@@ -165,9 +166,11 @@ impl<'a> Dense<'a> {
     ) -> Result<Dense<'a>, Fault>
         requires placed { at + length message.now ≤ 2 ^ 63 }
         requires tagged { tag ≤ at }
-        ensures nodes { IfOk result (λ dense. dense_left dense ≡ nodes table.now scale (fields_in at message.now)) }
+        ensures nodes { IfOk result
+            (λ dense. dense_left dense ≡ nodes table.now scale (fields_in at message.now)) }
         ensures sound { OnOk result (dense_fault tag at table.now message.now ≡ None) }
-        ensures refused { (fault : Fault) → result ≡ Err fault ↔ dense_fault tag at table.now message.now ≡ Some fault }
+        ensures refused { (fault : Fault)
+            → result ≡ Err fault ↔ dense_fault tag at table.now message.now ≡ Some fault }
     {
         match dense_fault(message, at, tag, table) {
             Some(fault) => Err(fault),

@@ -12,9 +12,17 @@ ghost use Rattle.pbf_dense.specs.WrittenDense.{dense_message, NodesHeld};
 /// Nodes that are written as one dense message are read back, wherever in the file it stands, and it has no fault: none of
 /// wire form, of structure, of values, and no node is too heavy.
 pub fn written_nodes_are_read()
-    ensures wire { (place at : ℕ) (texts : List (List ℕ)) (scale : Scale) (ns : List NodeSpec) → NodesHeld texts scale ns → dense_wire place at (dense_message texts ns) ≡ [] }
-    ensures structure { (place at : ℕ) (texts : List (List ℕ)) (scale : Scale) (ns : List NodeSpec) → NodesHeld texts scale ns → dense_structure place at (dense_message texts ns) ≡ [] }
-    ensures values { (place at : ℕ) (texts : List (List ℕ)) (scale : Scale) (ns : List NodeSpec) → NodesHeld texts scale ns → dense_values (length (table_of texts)) place at (dense_message texts ns) ≡ [] }
-    ensures read { (at : ℕ) (texts : List (List ℕ)) (scale : Scale) (ns : List NodeSpec) → NodesHeld texts scale ns → nodes (table_of texts) scale (fields_in at (dense_message texts ns)) ≡ ns }
-    ensures sound { (place at : ℕ) (texts : List (List ℕ)) (scale : Scale) (ns : List NodeSpec) → NodesHeld texts scale ns → dense_fault place at (table_of texts) (dense_message texts ns) ≡ None }
+    ensures wire { (place at : ℕ) (texts : List (List ℕ)) (scale : Scale) (ns : List NodeSpec)
+        → NodesHeld texts scale ns → dense_wire place at (dense_message texts ns) ≡ [] }
+    ensures structure { (place at : ℕ) (texts : List (List ℕ)) (scale : Scale) (ns : List NodeSpec)
+        → NodesHeld texts scale ns → dense_structure place at (dense_message texts ns) ≡ [] }
+    ensures values { (place at : ℕ) (texts : List (List ℕ)) (scale : Scale) (ns : List NodeSpec)
+        → NodesHeld texts scale ns
+        → dense_values (length (table_of texts)) place at (dense_message texts ns) ≡ [] }
+    ensures read { (at : ℕ) (texts : List (List ℕ)) (scale : Scale) (ns : List NodeSpec)
+        → NodesHeld texts scale ns
+        → nodes (table_of texts) scale (fields_in at (dense_message texts ns)) ≡ ns }
+    ensures sound { (place at : ℕ) (texts : List (List ℕ)) (scale : Scale) (ns : List NodeSpec)
+        → NodesHeld texts scale ns
+        → dense_fault place at (table_of texts) (dense_message texts ns) ≡ None }
 {}

@@ -114,7 +114,8 @@ fn judge_info_field(field: Field<'_>, nodes: usize) -> Option<Fault>
 #[tactic(auto, using(crate::proofs::Parts::least_more, crate::proofs::Parts::lesser_nothing))]
 fn judge_infos(message: &[u8], at: u64, nodes: usize) -> Option<Fault>
     requires { at + length message.now ≤ 2 ^ 63 }
-    ensures { result ≡ least (flat_map (entered DENSEINFO (info_counts nodes)) (fields_in at message.now)) }
+    ensures { result
+        ≡ least (flat_map (entered DENSEINFO (info_counts nodes)) (fields_in at message.now)) }
 {
     let mut least = None;
     for item in Fields::new(message, at) {

@@ -28,7 +28,8 @@ fn judge_range(message: &[u8], at: u64, number: u64) -> Option<Fault>
 #[tactic(auto, using(crate::proofs::Parts::least_more, crate::proofs::Parts::lesser_nothing))]
 fn judge_texts(message: &[u8], at: u64, limit: u64) -> Option<Fault>
     requires { at + length message.now ≤ 2 ^ 63 }
-    ensures { result ≡ least (index_faults limit (texts_named false (joined KEYS_VALS (fields_in at message.now)))) }
+    ensures { result ≡ least (index_faults limit
+        (texts_named false (joined KEYS_VALS (fields_in at message.now)))) }
 {
     let mut keys_vals = Column::new(message, at, KEYS_VALS);
     let mut least = None;
@@ -75,7 +76,8 @@ fn judge_info_field(field: Field<'_>, limit: u64) -> Option<Fault>
 fn judge_infos(message: &[u8], at: u64, limit: u64) -> Option<Fault>
     requires placed { at + length message.now ≤ 2 ^ 63 }
     requires limited { limit ≤ 2 ^ 62 }
-    ensures { result ≡ least (flat_map (entered DENSEINFO (info_values limit)) (fields_in at message.now)) }
+    ensures { result
+        ≡ least (flat_map (entered DENSEINFO (info_values limit)) (fields_in at message.now)) }
 {
     let mut least = None;
     for item in Fields::new(message, at) {

@@ -120,23 +120,42 @@ fn header_alone(rt: HostRuntime) -> Result<(), Fail> {
     Ok(())
 }
 
+/// Whether the next frame has this name and this payload.
+fn is_next<F: Feed>(
+    reader: &mut FrameReader<F>,
+    name: &[u8],
+    payload: &[u8],
+) -> Result<bool, Stop> {
+    match reader.next()? {
+        Some(frame) => Ok(frame.name == name && frame.payload == payload),
+        None => Ok(false),
+    }
+}
+
+/// Whether there is no other frame, whenever one asks.
+fn is_at_end<F: Feed>(reader: &mut FrameReader<F>) -> Result<bool, Stop> {
+    Ok(reader.next()?.is_none() && reader.next()?.is_none())
+}
+
+/// Whether both frames are lent, and the feed is given back at its end.
+fn reads_both_frames(alloc: Global) -> Result<bool, Stop> {
+    let mut feed = Pieces::new(&THREE_DENSE_NODES, &[], None);
+    let mut reader = FrameReader::new(alloc, &mut feed);
+    let payload = &THREE_DENSE_NODES[36..];
+    let whole = reader.held() == 0
+        && is_next(&mut reader, b"OSMHeader", b"")?
+        && is_next(&mut reader, b"OSMData", payload)?
+        && reader.held() == 36
+        && reader.place() == 59
+        && is_at_end(&mut reader)?;
+    Ok(whole && reader.into_feed().read(&mut [0; 3]) == Ok(0))
+}
+
 #[test]
 fn three_dense_nodes(rt: HostRuntime) -> Result<(), Fail> {
-    let bytes = &THREE_DENSE_NODES;
-    assert!(rt; gives(rt.alloc(), bytes, &[header(2, 19, 0), DATA], None)?);
-    let mut feed = Pieces::new(bytes, &[], None);
-    let mut reader = FrameReader::new(rt.alloc(), &mut feed);
-    assert_eq!(rt; reader.held(), 0);
-    let first = reader.next()?;
-    assert!(rt; matches!(first, Some(frame) if frame.name == b"OSMHeader".as_slice()));
-    let second = reader.next()?;
-    assert!(rt; matches!(second, Some(frame) if frame.payload == &bytes[36..]));
-    assert_eq!(rt; reader.held(), 36);
-    assert_eq!(rt; reader.place(), 59);
-    assert!(rt; reader.next()?.is_none());
-    assert!(rt; reader.next()?.is_none());
-    let feed = reader.into_feed();
-    assert_eq!(rt; feed.read(&mut [0; 3]), Ok(0));
+    let frames = [header(2, 19, 0), DATA];
+    assert!(rt; gives(rt.alloc(), &THREE_DENSE_NODES, &frames, None)?);
+    assert!(rt; reads_both_frames(rt.alloc())?);
     Ok(())
 }
 

@@ -9,16 +9,21 @@ ghost use Rattle.pbf_strings.specs.TableOut.{has_text, texts_after, index_in, ta
 
 /// A table that is written is read back: it has the empty text and then the texts that were written, and no fault.
 pub fn written_table_is_read()
-    ensures texts { (written : List (List ℕ)) → length (table_message written) < 2 ^ 64 → texts (table_message written) ≡ table_of written }
-    ensures sound { (at tag : ℕ) (written : List (List ℕ)) → length (table_message written) < 2 ^ 64 → length written ≤ 1048575 → table_fault at tag (table_message written) ≡ None }
+    ensures texts { (written : List (List ℕ)) → length (table_message written) < 2 ^ 64
+        → texts (table_message written) ≡ table_of written }
+    ensures sound { (at tag : ℕ) (written : List (List ℕ)) → length (table_message written) < 2 ^ 64
+        → length written ≤ 1048575 → table_fault at tag (table_message written) ≡ None }
 {}
 
 /// The texts that are written have all texts that are used. A text that is among them has an index in the table, and the
 /// table has the text there.
 pub fn used_texts_are_named()
-    ensures used { (used texts : List (List ℕ)) → AllByRecursion (λ text. has_text (texts_after texts used) text ≡ true) used }
-    ensures below { (texts : List (List ℕ)) (text : List ℕ) → has_text texts text ≡ true → index_in texts text < length (table_of texts) }
-    ensures named { (texts : List (List ℕ)) (text : List ℕ) → has_text texts text ≡ true → slice_get (table_of texts) (index_in texts text) ≡ Some text }
+    ensures used { (used texts : List (List ℕ))
+        → AllByRecursion (λ text. has_text (texts_after texts used) text ≡ true) used }
+    ensures below { (texts : List (List ℕ)) (text : List ℕ) → has_text texts text ≡ true
+        → index_in texts text < length (table_of texts) }
+    ensures named { (texts : List (List ℕ)) (text : List ℕ) → has_text texts text ≡ true
+        → slice_get (table_of texts) (index_in texts text) ≡ Some text }
 {}
 
 /// A table has the same texts wherever in the file it stands.

@@ -127,7 +127,8 @@ impl<'a> Table<'a> {
         requires short { length message.now < 33554432 }
         ensures texts { IfOk result (λ table. table ≡ texts message.now) }
         ensures sound { OnOk result (table_fault at tag message.now ≡ None) }
-        ensures refused { (fault : Fault) → result ≡ Err (Refused fault) ↔ table_fault at tag message.now ≡ Some fault }
+        ensures refused { (fault : Fault)
+            → result ≡ Err (Refused fault) ↔ table_fault at tag message.now ≡ Some fault }
     {
         judge_wire(message, at, &TABLE_KINDS)?;
         Table::judge_count(message, tag)?;

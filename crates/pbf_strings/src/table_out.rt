@@ -81,7 +81,8 @@ impl<S: BuildHasher> TableOut<S> {
     fn recent_index(&self, slot: usize, text: &[u8]) -> Option<u32>
         requires room { length self.now < 1048575 }
         requires slot { slot < SLOTS }
-        ensures { IfSome result (λ index. (has_text self.now text.now ≡ true) × (index ≡ index_in self.now text.now)) }
+        ensures { IfSome result
+            (λ index. (has_text self.now text.now ≡ true) × (index ≡ index_in self.now text.now)) }
     {
         let place = self.recent[slot];
         let known = self.texts.as_slice().get(place as usize)?;
@@ -132,9 +133,13 @@ impl<S: BuildHasher> TableOut<S> {
 
     /// The index of a text, if there is one, as [`TableOut::index_of`] gives it. It stays, whatever texts are used later.
     pub fn index_if_some(&mut self, text: Option<&[u8]>) -> Result<Option<u32>, AllocError>
-        requires { length self.old + length (option_to_list (option_map (λ text. text.now) text)) ≤ 1048575 }
-        ensures texts { OnOk result (self.new ≡ texts_after self.old (option_to_list (option_map (λ text. text.now) text.entry))) }
-        ensures index { (used : List (List ℕ)) → IfOk result (λ index. index ≡ option_map (index_in (texts_after self.new used)) (option_map (λ text. text.now) text.entry)) }
+        requires { length self.old + length (option_to_list (option_map (λ text. text.now) text))
+            ≤ 1048575 }
+        ensures texts { OnOk result (self.new
+            ≡ texts_after self.old (option_to_list (option_map (λ text. text.now) text.entry))) }
+        ensures index { (used : List (List ℕ))
+            → IfOk result (λ index. index ≡ option_map (index_in (texts_after self.new used))
+            (option_map (λ text. text.now) text.entry)) }
         ensures err { OnErr result (self.new ≡ self.old) }
     {
         match text {
@@ -163,7 +168,8 @@ impl<S: BuildHasher> TableOut<S> {
 
 /// Appends each text as a field of a StringTable.
 fn put_texts(out: &mut Vec<u8>, texts: &[Vec<u8>]) -> Result<(), AllocError>
-    ensures { OnOk result (out.new.items ≡ out.old.items ++ slot_bytes (Each 1 (map (λ text. text.items) texts.now))) }
+    ensures { OnOk result (out.new.items
+        ≡ out.old.items ++ slot_bytes (Each 1 (map (λ text. text.items) texts.now))) }
 {
     for text in texts {
         put_bytes(out, TEXT, text)?;
