@@ -1,5 +1,5 @@
 -- What holds of the bytes that went through a device holds of those that it reports.
-use Rattle.std.proofs.Common.{◌≡◌, ℕ, Bool, false, List, [], ◌++◌, Option, Some, None, refl, sym, ap, ◌∙◌, subst}
+use Rattle.std.proofs.Common.{◌≡◌, ℕ, Bool, false, List, ◌++◌, Option, Some, None, refl, sym, ap, ◌∙◌, subst}
 use Rattle.std.proofs.lemmas.List.{append-nil}
 use Rattle.sha2.specs.Sha256.{sha256}
 use Rattle.osm_entity.specs.Entity.{EntitySpec}

@@ -1,7 +1,5 @@
 -- What a halt says of the bytes that were read.
-use Rattle.std.proofs.Common.{◌≡◌, ◌⊎◌, inr, ℕ, List, [], ◌++◌, Option, Some, None, refl, sym, ap, ◌∙◌, subst}
-use Rattle.std.proofs.lemmas.List.{append-nil}
-use Rattle.sha2.specs.Sha256.{sha256}
+use Rattle.std.proofs.Common.{◌≡◌, inr, ℕ, List, [], Option, Some, sym, ◌∙◌, subst}
 use Rattle.osm_entity.specs.Entity.{EntitySpec}
 use Rattle.pbf_wire.specs.declared.fault.Fault.{Fault}
 use Rattle.pbf_frame.specs.declared.device.Feed as feed
@@ -23,7 +21,7 @@ use Rattle.pbfcut.specs.Given.{GaveFile}
 use Rattle.pbfcut.specs.Hashing.{IsLength}
 use Rattle.pbfcut.specs.Judged.{judged_file}
 use Rattle.pbfcut.specs.Pass.{TakesFile}
-use Rattle.pbfcut.specs.Refused.{RefusesAs, RefusesRest, RefusesFile, Halts, HaltsFile, IsLimitRefused, halted, stop_of}
+use Rattle.pbfcut.specs.Refused.{RefusesRest, RefusesFile, Halts, HaltsFile, IsLimitRefused, halted, stop_of}
 use Rattle.pbfcut.specs.Repeat.{StopsAgain}
 use Rattle.pbfcut.specs.Stops.{FaultOf, Caused, Only, unchanged, KeepsFeed}
 use Rattle.pbfcut.proofs.ConvertingLemmas.{limited_fault, limit_refused}

@@ -1,8 +1,7 @@
 -- What one frame does to a pass, and what a pass is after all frames.
-use Rattle.std.specs.Prelude.{◌≡◌, ℕ, List, [], ◌∷◌, Bool, true, false, Option, Some, None, Result, Ok, Err, IfSome, OnOk}
+use Rattle.std.specs.Prelude.{◌≡◌, ℕ, List, [], ◌∷◌, Bool, true, false, Option, Some, None, Result, Ok, Err}
 use Rattle.std.specs.List.{flat_map, fold, last_or}
 use Rattle.std.specs.Option.{option_map}
-use Rattle.sha2.specs.Sha256.{sha256}
 use Rattle.osm_entity.specs.Entity.{EntitySpec, node, way, relation}
 use Rattle.osm_entity.specs.BoundingBox.{is_inside}
 use Rattle.pbf_dense.specs.declared.places.Place.{Place}
@@ -16,14 +15,13 @@ use Rattle.pbf_frame.specs.declared.frame.FrameKind.{FrameKind}
 use Rattle.pbf_frame.specs.declared.frame.FrameKind.TheVariants as kind
 use Rattle.pbf_frame.specs.declared.reader.FrameReader.{FrameReader}
 use Rattle.pbf_frame.specs.declared.stop.Stop.{Stop}
-use Rattle.pbf_frame.specs.Devices.{IsAtEnd}
 use Rattle.pbf_frame.specs.Frames.{FrameSpec, frame_kind, frame_payload, frame_payload_at}
 use Rattle.pbf_frame.specs.Next.{IsNext}
 use Rattle.pbf_frame.specs.Verdict.{Verdict, Says}
 use Rattle.pbfcut.specs.declared.pass.Pass.{Pass}
 use Rattle.pbfcut.specs.Counting.{counted_with, counts_of, entities_of, stored_entities}
-use Rattle.pbfcut.specs.Judged.{payload_fault_of, payload_fault, judged_file}
-use Rattle.pbfcut.specs.Stops.{Caused, Only, unchanged, KeepsFeed}
+use Rattle.pbfcut.specs.Judged.{payload_fault_of, payload_fault}
+use Rattle.pbfcut.specs.Stops.{Caused, Only, unchanged}
 
 -- ---- one step of a loop over frames
 

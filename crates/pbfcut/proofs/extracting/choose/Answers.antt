@@ -7,7 +7,7 @@ use Rattle.pbfcut.specs.Stops.{FaultOf, Only, unchanged}
 use Rattle.pbfcut.proofs.ConvertingLemmas.{limit_refused}
 use Rattle.pbfcut.proofs.ExtractingLemmas.{chooses, stops_earlier, stops_later}
 use Rattle.pbfcut.proofs.GivenLemmas.{tells_file, told_digest, told_says, takes_told}
-use Rattle.pbfcut.proofs.HaltingLemmas.{halts_writing, limit_caused, limit_halts, memory_only, no_refusal}
+use Rattle.pbfcut.proofs.HaltingLemmas.{halts_writing, limit_caused, limit_halts, no_refusal}
 use Rattle.pbfcut.proofs.extracting.choose.Goals as goal
 
 pub returns-in_err-told-clause-refused : goal.returns-in_err-told-clause-refused

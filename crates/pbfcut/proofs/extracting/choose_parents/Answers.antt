@@ -5,7 +5,7 @@ use Rattle.pbfcut.specs.Converting.{judged_writable}
 use Rattle.pbfcut.specs.Stops.{FaultOf}
 use Rattle.pbfcut.proofs.ExtractingLemmas.{chooses_parents, stops_later}
 use Rattle.pbfcut.proofs.GivenLemmas.{told_digest, told_says}
-use Rattle.pbfcut.proofs.HaltingLemmas.{memory_only, no_refusal}
+use Rattle.pbfcut.proofs.HaltingLemmas.{no_refusal}
 use Rattle.pbfcut.proofs.extracting.choose_parents.Goals as goal
 
 pub returns-in_err-gather-clause-refused : goal.returns-in_err-gather-clause-refused

@@ -1,7 +1,6 @@
-use Rattle.std.proofs.Common.{◌≡◌, zero, suc, [], Some, ap, rules, arith, ◌∙◌}
+use Rattle.std.proofs.Common.{zero, suc, [], Some, rules, ◌∙◌}
 use Rattle.pbfcut.specs.Judged.{judged_file}
 use Rattle.pbfcut.specs.Pass.{TakesFile}
-use Rattle.pbfcut.specs.Refused.{RefusesFile}
 use Rattle.pbfcut.specs.Stops.{FaultOf}
 use Rattle.pbf_frame.proofs.Refusing.{faulty_as}
 use Rattle.pbfcut.proofs.GivenLemmas.{supplied_as, holds_of_file}
