@@ -28,7 +28,8 @@ ROWS = ["three_dense_nodes", "relation_and_its_parent", "node_with_metadata_and_
 MORE = ["chain_of_relations_and_two_rings", "way_with_locations", "header_with_every_field", "two_plain_nodes_with_every_metadata_field",
         "members_of_three_kinds", "block_of_four_groups", "nodes_with_and_without_a_version", "three_dense_nodes_cut_after_45_bytes",
         "sound_block_before_a_faulty_one", "node_way_and_relation_with_an_unknown_blob_between", "empty_file"]
-COMMANDS = [["blobs"], ["check"], ["show"], ["show", "--dates"], ["convert"], ["extract", "--box={box}"], ["extract", "--parents", "--box={box}"]]
+COMMANDS = [["blobs"], ["check"], ["show"], ["show", "--dates"], ["convert"], ["extract", "--box={box}"], ["extract", "--parents", "--box={box}"],
+            ["check", "--digests"], ["extract", "--digests", "--box={box}"]]
 
 MEMORY = (4, b"pbfcut: out of memory\n")
 READ = (3, b"pbfcut: read failed\n")
@@ -85,11 +86,19 @@ class Bench:
         """Runs with one fault; answers whether it was met."""
         status, text, error, out, met = self.run(words, fault)
         as_usual = (status, text, error, out) == usual[:4]
-        fits = (status, error) == ends and usual[1].startswith(text) and usual[3].startswith(out)
+        fits = ended_so(status, error, usual[2], ends) and usual[1].startswith(text) and usual[3].startswith(out)
         if not (as_usual and (may_be_usual or not met)) and not (fits and met):
             said = error.decode("utf-8", "replace").strip()
             raise OutOfPlace(f"{' '.join(words)} with {fault}: status {status}, {said!r}, {len(text)} and {len(out)} bytes went out")
         return met
+
+
+def ended_so(status: int, error: bytes, usual: bytes, ends: tuple) -> bool:
+    """Whether a run ended with this status and this last line; before it may stand a beginning of what is usually told: the digest of
+    what was read of a file that is refused."""
+    if not ends or status != ends[0] or not error.endswith(ends[1]):
+        return False
+    return usual.startswith(error[: len(error) - len(ends[1])])
 
 
 def series(bench: Bench, words: list, sorts: list):
