@@ -36,7 +36,9 @@ impl<'a> Model for Lookup<'a> {
 
     ghost view = { λ a. set.from_list (ids_in a.index.now a.bytes.now) };
 
-    ghost invariant = { λ a. ((pages : List Page) × IsSealed a.index.now a.bytes.now pages) × (a.cursor.at ≤ length a.page.now) × (0 < a.begun → Stands a.index.now a.bytes.now a.begun a.page.now a.cursor) };
+    ghost invariant = { λ a. ((pages : List Page) × IsSealed a.index.now a.bytes.now pages)
+        × (a.cursor.at ≤ length a.page.now)
+        × (0 < a.begun → Stands a.index.now a.bytes.now a.begun a.page.now a.cursor) };
 }
 
 impl SealedIds {

@@ -27,7 +27,8 @@ impl<'a> Model for Merged<'a> {
 
     ghost view = { λ a. merged (cons_option a.next_late a.late) a.laid };
 
-    ghost invariant = { λ a. IsMerging (cons_option a.next_late a.late) a.laid × IfNone a.next_late (a.late ≡ []) };
+    ghost invariant = { λ a. IsMerging (cons_option a.next_late a.late) a.laid
+        × IfNone a.next_late (a.late ≡ []) };
 }
 
 impl<'a> Merged<'a> {

@@ -40,7 +40,8 @@ impl Model for SealedIds {
 
     ghost view = { λ a. set.from_list (ids_in a.index.items a.bytes.items) };
 
-    ghost invariant = { λ a. (pages : List Page) × IsSealed a.index.items a.bytes.items pages × (a.count ≡ length (ids_of_pages pages)) };
+    ghost invariant = { λ a. (pages : List Page) × IsSealed a.index.items a.bytes.items pages
+        × (a.count ≡ length (ids_of_pages pages)) };
 }
 
 /// How many ids a page has, all but the last.

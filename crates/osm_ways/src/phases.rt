@@ -117,7 +117,8 @@ impl Model for WayPhase {
 
     ghost coded = { way_sets_code };
 
-    ghost view = { λ a. record { box_ids = a.box_ids; node_ids = set.union a.box_ids a.refs; way_ids = a.way_ids } };
+    ghost view = { λ a. record { box_ids = a.box_ids; node_ids = set.union a.box_ids a.refs;
+        way_ids = a.way_ids } };
 }
 
 impl WayPhase {
@@ -218,5 +219,6 @@ impl Model for Chosen {
 
     ghost coded = { way_sets_code };
 
-    ghost view = { λ a. record { box_ids = a.box_ids; node_ids = set.union a.box_ids a.refs; way_ids = a.way_ids } };
+    ghost view = { λ a. record { box_ids = a.box_ids; node_ids = set.union a.box_ids a.refs;
+        way_ids = a.way_ids } };
 }

@@ -38,14 +38,9 @@ same_fields m n =
 -- two entities are of one kind and one scale; and nodes, which stand in columns, have the same fields of metadata
 abbrev pub are_alike : EntitySpec → EntitySpec → Bool
 are_alike (node m) (node n) = same_scale m.scale n.scale && same_fields m.meta n.meta
-are_alike (node m) (way w) = false
-are_alike (node m) (relation r) = false
-are_alike (way v) (node n) = false
 are_alike (way v) (way w) = same_scale v.scale w.scale
-are_alike (way v) (relation r) = false
-are_alike (relation q) (node n) = false
-are_alike (relation q) (way w) = false
 are_alike (relation q) (relation r) = same_scale q.scale r.scale
+are_alike _ _ = false
 
 -- all are like the first
 abbrev pub all_alike : List EntitySpec → Bool

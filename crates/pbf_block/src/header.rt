@@ -3,7 +3,7 @@
 ghost use Rattle.std.specs.Prelude.{◌≡◌, IfOk, OnOk, Some, codes, map};
 ghost use Rattle.std.specs.Option.{option_map};
 ghost use Rattle.pbf_block.specs.Header.{header_of, text_of};
-ghost use Rattle.pbf_block.specs.WrittenHeader.{EdgesTyped, has, kept_features, known_features, edges_of, header_out, header_out_for_box, header_out_for_convert};
+ghost use Rattle.pbf_block.specs.WrittenHeader.{has, kept_features, known_features, header_out, header_out_for_box, header_out_for_convert};
 
 use osm_entity::BoundingBox;
 use pbf_wire::Kind;
@@ -164,10 +164,8 @@ impl Header {
     /// The header of an extract by this box from a file with this header. It names the box, the features that an extract has,
     /// the program `pbfcut`, and the source and the three replication fields of this header.
     pub fn for_box(&self, alloc: Global, area: BoundingBox) -> Result<Header, AllocError>
-        ensures header { IfOk result (λ header. header_of header
+        ensures { IfOk result (λ header. header_of header
             ≡ header_out_for_box area (header_of self.now)) }
-        // The edges of a box are numbers of 64 bits.
-        ensures edges { OnOk result (EdgesTyped (edges_of area)) }
     {
         self.written(
             alloc,

@@ -11,7 +11,6 @@ ghost use Rattle.osm_entity.specs.Entity.{WaySpec, RelationSpec, EntitySpec, way
 ghost use Rattle.osm_entity.specs.EntityTexts.{way_texts, relation_texts};
 ghost use Rattle.osm_entity.specs.Ranges.{IsInt64, IfPresent, WayFits, RelationFits, EntityFits, EntityTyped};
 ghost use Rattle.osm_entity.specs.Weight.{text_weight, entity_weight};
-ghost use Rattle.osm_entity.specs.declared.bounding_box.BoundingBox.{BoundingBox};
 ghost use Rattle.pbf_block.specs.declared.header.HeaderBox.{HeaderBox};
 ghost use Rattle.pbf_block.specs.Header.{HeaderSpec, header_in};
 ghost use Rattle.pbf_block.specs.HeaderFaults.{header_fault, all_header_faults};
@@ -23,8 +22,10 @@ ghost use Rattle.pbf_block.specs.ValueFaults.{way_values, relation_values};
 ghost use Rattle.pbf_block.specs.WireFaults.{way_wire, relation_wire};
 ghost use Rattle.pbf_block.specs.WrittenBlock.{is_block, block_message};
 ghost use Rattle.pbf_block.specs.WrittenEntity.{way_message, relation_message};
-ghost use Rattle.pbf_block.specs.WrittenHeader.{BoxTyped, EdgesTyped, HeaderFits, edges_of, header_message, header_out, header_out_for_box, header_out_for_convert};
+ghost use Rattle.pbf_block.specs.WrittenHeader.{BoxTyped, HeaderFits, header_message, header_out, header_out_for_box, header_out_for_convert};
 ghost use Rattle.pbf_block.specs.declared.header_write.TheConstants.{MOST_HEADER_TEXT};
+
+use osm_entity::BoundingBox;
 
 /// The first fault of a payload, phase by phase, is the least of all its faults by phase, then offset, then the reason's
 /// number, then the field that is missing.
@@ -73,10 +74,9 @@ pub fn written_header_is_read()
 
 /// The header of every payload can be written, whatever is wrong with the payload: its numbers fit the types of the format. So it
 /// can with the box of an extract, whose edges are numbers of 64 bits.
-pub fn read_header_fits()
+pub fn read_header_fits(area: BoundingBox)
     ensures convert { (at : ℕ) (m : List ℕ) → HeaderFits (header_out_for_convert (header_in at m)) }
-    ensures area { (area : BoundingBox) (at : ℕ) (m : List ℕ) → EdgesTyped (edges_of area)
-        → HeaderFits (header_out_for_box area (header_in at m)) }
+    ensures area { (at : ℕ) (m : List ℕ) → HeaderFits (header_out_for_box area (header_in at m)) }
 {}
 
 /// A written way has no fault of any phase and is read, at every place, as the way that it was written for: with every table that

@@ -60,7 +60,8 @@ fn compression_of(number: u64) -> Option<Reason>
 
 /// Whether a field holds compressed data.
 fn judge_compression(field: Field<'_>) -> Option<Fault>
-    ensures { result ≡ least (reason_faults field.entry.offset (compression_of field.entry.number)) }
+    ensures { result
+        ≡ least (reason_faults field.entry.offset (compression_of field.entry.number)) }
 {
     let reason = compression_of(field.number)?;
     Some(Fault {
@@ -87,7 +88,8 @@ fn judge_compressions(blob: &[u8], at: u64) -> Option<Fault>
 
 /// The least fault of the raw data, which is the last of its number, and of others.
 fn judge_raw(at: u64, raw: Option<Field<'_>>, others: Option<Fault>) -> Option<Fault>
-    ensures { (faults : List Fault) → others ≡ least faults → result ≡ least (raw_faults at (option_map occurrence raw.entry) faults) }
+    ensures { (faults : List Fault) → others ≡ least faults
+        → result ≡ least (raw_faults at (option_map occurrence raw.entry) faults) }
 {
     let Some(field) = raw else {
         return Some(others.unwrap_or(Fault {

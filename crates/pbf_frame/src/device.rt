@@ -24,9 +24,11 @@ pub trait Feed {
     /// still to supply.
     fn read(&mut self, buf: &mut [u8]) -> Result<usize, FeedFault>
         ensures bound { IfOk result (λ n. n ≤ length buf.old) }
-        ensures bytes { IfOk result (λ n. remaining self.old ≡ prepend (take n buf.new) (remaining self.new)) }
+        ensures bytes { IfOk result (λ n. remaining self.old
+            ≡ prepend (take n buf.new) (remaining self.new)) }
         ensures end { IfOk result (λ n. n ≡ 0 → 0 < length buf.old → IsAtEnd (remaining self.old)) }
-        ensures passed { IfOk result (λ n. Passes (has_passed self.old) (take n buf.new) (has_passed self.new)) }
+        ensures passed { IfOk result (λ n.
+            Passes (has_passed self.old) (take n buf.new) (has_passed self.new)) }
         ensures counts { failures self.old ≤ failures self.new }
         ensures failed { OnErr result (HasRisen (failures self.old) (failures self.new)) }
         ensures lender { lender self.new ≡ lender self.old };
@@ -64,8 +66,10 @@ pub trait Drain {
     fn write(&mut self, bytes: &[u8]) -> Result<usize, DrainFault>
         ensures bound { IfOk result (λ n. n ≤ length bytes.now) }
         ensures some { IfOk result (λ n. 0 < length bytes.now → 0 < n) }
-        ensures bytes { IfOk result (λ n. taken self.new ≡ append (taken self.old) (take n bytes.now)) }
-        ensures logged { IfOk result (λ n. Passes (has_taken self.old) (take n bytes.now) (has_taken self.new)) }
+        ensures bytes { IfOk result (λ n. taken self.new
+            ≡ append (taken self.old) (take n bytes.now)) }
+        ensures logged { IfOk result (λ n.
+            Passes (has_taken self.old) (take n bytes.now) (has_taken self.new)) }
         ensures none { OnErr result (taken self.new ≡ taken self.old) }
         ensures counts { failures self.old ≤ failures self.new }
         ensures failed { OnErr result (HasRisen (failures self.old) (failures self.new)) }

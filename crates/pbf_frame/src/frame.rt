@@ -35,7 +35,8 @@ pub struct Frame<'a> {
 /// Where a frame ends that begins at `offset` and whose BlobHeader and Blob have these lengths; `None` after byte 2^62.
 pub fn frame_end(offset: u64, header: u32, size: u32) -> Option<u64>
     requires { offset ≤ 2 ^ 62 }
-    ensures { result ≡ (if nat_le (offset + 4 + header + size) (2 ^ 62) then Some (offset + 4 + header + size) else None) }
+    ensures { result ≡ (if nat_le (offset + 4 + header + size) (2 ^ 62)
+        then Some (offset + 4 + header + size) else None) }
 {
     let end = offset + 4 + u64::from(header) + u64::from(size);
     if end <= 1 << 62 { Some(end) } else { None }

@@ -19,7 +19,8 @@ pub fn append_none()
 
 /// What is added in two parts is added at once.
 pub fn append_append()
-    ensures { (known : Option (List ℕ)) (xs ys : List ℕ) → append (append known xs) ys ≡ append known (xs ++ ys) }
+    ensures { (known : Option (List ℕ)) (xs ys : List ℕ)
+        → append (append known xs) ys ≡ append known (xs ++ ys) }
 {}
 
 /// Nothing before the known bytes changes them.
@@ -29,15 +30,21 @@ pub fn prepend_none()
 
 /// What stands before in two parts stands before at once.
 pub fn prepend_prepend()
-    ensures { (known : Option (List ℕ)) (xs ys : List ℕ) → prepend xs (prepend ys known) ≡ prepend (xs ++ ys) known }
+    ensures { (known : Option (List ℕ)) (xs ys : List ℕ)
+        → prepend xs (prepend ys known) ≡ prepend (xs ++ ys) known }
 {}
 
 /// A frame without a fault is read whatever follows it; and what is read as the next frame is one, and spells the bytes that
 /// are gone.
 pub fn one_frame()
-    ensures reads { (had_header : Bool) (place : ℕ) (f : FrameSpec) (rest : List ℕ) → IsFrame had_header place f → next_of had_header place (frame_bytes f ++ rest) ≡ Ok (Some f, rest) }
-    ensures sound { (had_header : Bool) (place : ℕ) (bytes : List ℕ) (f : FrameSpec) (rest : List ℕ) → next_of had_header place bytes ≡ Ok (Some f, rest) → IsFrame had_header place f }
-    ensures spells { (had_header : Bool) (place : ℕ) (bytes : List ℕ) (f : FrameSpec) (rest : List ℕ) → next_of had_header place bytes ≡ Ok (Some f, rest) → bytes ≡ frame_bytes f ++ rest }
+    ensures reads { (had_header : Bool) (place : ℕ) (f : FrameSpec) (rest : List ℕ)
+        → IsFrame had_header place f
+        → next_of had_header place (frame_bytes f ++ rest) ≡ Ok (Some f, rest) }
+    ensures sound { (had_header : Bool) (place : ℕ) (bytes : List ℕ) (f : FrameSpec) (rest : List ℕ)
+        → next_of had_header place bytes ≡ Ok (Some f, rest) → IsFrame had_header place f }
+    ensures spells { (had_header : Bool) (place : ℕ) (bytes : List ℕ) (f : FrameSpec)
+        (rest : List ℕ) → next_of had_header place bytes ≡ Ok (Some f, rest)
+        → bytes ≡ frame_bytes f ++ rest }
 {}
 
 /// The verdict on bytes that begin with frames is these frames, and then those of the verdict on what follows.
@@ -49,7 +56,8 @@ pub fn frames_then_rest()
 /// The frames of the verdict are the longest list of frames without faults whose spellings, joined, begin the bytes; and its
 /// fault is that of what follows them.
 pub fn longest_front()
-    ensures { (had_header : Bool) (place : ℕ) (bytes : List ℕ) → IsLongestFront had_header place bytes (judged had_header place bytes) }
+    ensures { (had_header : Bool) (place : ℕ) (bytes : List ℕ)
+        → IsLongestFront had_header place bytes (judged had_header place bytes) }
 {}
 
 /// A frame in written form has no fault where its order and its end have none; its kind and its payload are those that were
@@ -57,7 +65,10 @@ pub fn longest_front()
 pub fn written_frame_is_read()
     ensures sound { (had_header : Bool) (place : ℕ) (kind : FrameKind) (payload : List ℕ) → (kind ≡ kinds.Other → ⊥) → length payload < RAW_LIMIT
         → least (order_faults had_header place kind (frame_end (written_at place kind payload))) ≡ None → IsFrame had_header place (written_at place kind payload) }
-    ensures kind { (place : ℕ) (kind : FrameKind) (payload : List ℕ) → (kind ≡ kinds.Other → ⊥) → length payload < RAW_LIMIT → frame_kind (written_at place kind payload) ≡ kind }
-    ensures payload { (place : ℕ) (kind : FrameKind) (payload : List ℕ) → (kind ≡ kinds.Other → ⊥) → length payload < RAW_LIMIT → frame_payload (written_at place kind payload) ≡ payload }
-    ensures bytes { (place : ℕ) (kind : FrameKind) (payload : List ℕ) → frame_bytes (written_at place kind payload) ≡ written_frame kind payload }
+    ensures kind { (place : ℕ) (kind : FrameKind) (payload : List ℕ) → (kind ≡ kinds.Other → ⊥)
+        → length payload < RAW_LIMIT → frame_kind (written_at place kind payload) ≡ kind }
+    ensures payload { (place : ℕ) (kind : FrameKind) (payload : List ℕ) → (kind ≡ kinds.Other → ⊥)
+        → length payload < RAW_LIMIT → frame_payload (written_at place kind payload) ≡ payload }
+    ensures bytes { (place : ℕ) (kind : FrameKind) (payload : List ℕ)
+        → frame_bytes (written_at place kind payload) ≡ written_frame kind payload }
 {}

@@ -79,7 +79,8 @@ fn put_blob_head(room: &mut [u8], payload: usize) -> usize
 fn put_head(room: &mut [u8], kind: FrameKind, payload: usize) -> usize
     requires room { length room.old ≡ 128 }
     requires short { payload < RAW_LIMIT }
-    ensures head { (p : List ℕ) → length p ≡ payload → take result room.new ++ p ≡ written_frame kind p }
+    ensures head { (p : List ℕ) → length p ≡ payload
+        → take result room.new ++ p ≡ written_frame kind p }
     ensures end { result ≤ 128 }
 {
     let mut blob = [0; 32];
@@ -97,7 +98,8 @@ pub fn put_frame<D: Drain>(drain: &mut D, kind: FrameKind, payload: &[u8]) -> Re
     requires known { kind ≡ kinds.Other → ⊥ }
     requires short { length payload.now < RAW_LIMIT }
     ensures ok { OnOk result (Added D.Drain drain.old (written_frame kind payload.now) drain.new) }
-    ensures front { IsFront (D.taken drain.old) (D.taken drain.new) (written_frame kind payload.now) }
+    ensures front { IsFront (D.taken drain.old) (D.taken drain.new)
+        (written_frame kind payload.now) }
     ensures counts { D.failures drain.old ≤ D.failures drain.new }
     ensures stops { IfErr result (IsWriteStop (D.failures drain.old) (D.failures drain.new)) }
     ensures lender { D.lender drain.new ≡ D.lender drain.old }

@@ -70,9 +70,11 @@ impl<F: Feed> FrameReader<F> {
 
     // The next frame, whose bytes are left in the buffers.
     fn advance(&mut self) -> Result<Option<Seen>, Stop>
-        ensures next { IsSeeingNext F.remaining F.failures F.lender F.has_passed self.old result self.new }
+        ensures next { IsSeeingNext F.remaining F.failures F.lender F.has_passed self.old result
+            self.new }
         ensures placed { IfOk result (λ o. IfSome o IsPlaced) }
-        ensures sound { IfOk result (λ o. IfSome o (λ seen. IsSound seen.kind seen.blob_at self.new.blob.items)) }
+        ensures sound { IfOk result (λ o.
+            IfSome o (λ seen. IsSound seen.kind seen.blob_at self.new.blob.items)) }
     {
         match self.state {
             State::Ended => return Ok(None),
@@ -115,7 +117,8 @@ impl<F: Feed> FrameReader<F> {
     fn lend(&self, seen: Seen) -> Frame<'_>
         requires placed { IsPlaced seen }
         requires sound { IsSound seen.kind seen.blob_at self.now.blob.items }
-        ensures { (f : FrameSpec) → IsSeen self.now.header.items self.now.blob.items seen f → Shows result f }
+        ensures { (f : FrameSpec) → IsSeen self.now.header.items self.now.blob.items seen f
+            → Shows result f }
     {
         let name = text_of(last_field(&self.header, seen.offset + 4, TYPE));
         let (payload, payload_at) = match seen.kind {

@@ -33,13 +33,16 @@ fn refused(offset: u64, reason: Reason) -> Stop
 
 // Makes the vector the next bytes of the feed, this many, or fewer only at the end of the feed.
 fn fill_vec<F: Feed>(feed: &mut F, buf: &mut Vec<u8>, count: usize) -> Result<(), Stop>
-    ensures reads { OnOk result (Reads (F.remaining feed.old) (F.remaining feed.new) count buf.new.items) }
-    ensures bytes { OnOk result (F.remaining feed.old ≡ prepend buf.new.items (F.remaining feed.new)) }
+    ensures reads { OnOk result
+        (Reads (F.remaining feed.old) (F.remaining feed.new) count buf.new.items) }
+    ensures bytes { OnOk result (F.remaining feed.old
+        ≡ prepend buf.new.items (F.remaining feed.new)) }
     ensures bound { OnOk result (vec_len buf.new ≤ count) }
     ensures end { OnOk result (vec_len buf.new < count → IsAtEnd (F.remaining feed.new)) }
     ensures held { vec_len buf.new ≤ max count (vec_len buf.old) }
     ensures lender { F.lender feed.new ≡ F.lender feed.old }
-    ensures passed { OnOk result (Passes (F.has_passed feed.old) buf.new.items (F.has_passed feed.new)) }
+    ensures passed { OnOk result
+        (Passes (F.has_passed feed.old) buf.new.items (F.has_passed feed.new)) }
     ensures counts { F.failures feed.old ≤ F.failures feed.new }
     ensures stops { IfErr result (IsFillStop (F.failures feed.old) (F.failures feed.new)) }
 {
@@ -52,15 +55,20 @@ fn fill_vec<F: Feed>(feed: &mut F, buf: &mut Vec<u8>, count: usize) -> Result<()
 // The four bytes before the next frame's header, or nothing at the end.
 #[tactic(auto, unfolding(crate::specs::Frames::prefix_at))]
 fn read_prefix<F: Feed>(feed: &mut F, had_header: bool, place: u64) -> Result<Option<[u8; 4]>, Stop>
-    ensures given { IfOk result (λ o. Gives o (F.remaining feed.old) (F.remaining feed.new) (prefix_at had_header place)) }
-    ensures refused { IfErr result (RefusedBy (prefix_at had_header place) (F.has_passed feed.old) (F.has_passed feed.new) (F.remaining feed.old) (F.remaining feed.new)) }
+    ensures given { IfOk result (λ o.
+        Gives o (F.remaining feed.old) (F.remaining feed.new) (prefix_at had_header place)) }
+    ensures refused { IfErr result
+        (RefusedBy (prefix_at had_header place) (F.has_passed feed.old) (F.has_passed feed.new)
+        (F.remaining feed.old) (F.remaining feed.new)) }
     ensures long { IfOk result (λ o. IfSome o (λ prefix. length prefix ≡ 4)) }
     ensures small { IfOk result (λ o. IfSome o (λ prefix. big_number 4 prefix < HEADER_LIMIT)) }
     ensures ended { IfOk result (λ o. IfNone o (IsAtEnd (F.remaining feed.new))) }
     ensures header_given { IfOk result (λ o. IfNone o (had_header ≡ true)) }
-    ensures bytes { IfOk result (λ o. F.remaining feed.old ≡ prepend (given_prefix o) (F.remaining feed.new)) }
+    ensures bytes { IfOk result (λ o. F.remaining feed.old
+        ≡ prepend (given_prefix o) (F.remaining feed.new)) }
     ensures lender { F.lender feed.new ≡ F.lender feed.old }
-    ensures passed { IfOk result (λ o. Passes (F.has_passed feed.old) (given_prefix o) (F.has_passed feed.new)) }
+    ensures passed { IfOk result (λ o.
+        Passes (F.has_passed feed.old) (given_prefix o) (F.has_passed feed.new)) }
     ensures counts { F.failures feed.old ≤ F.failures feed.new }
     ensures stops { IfErr result (IsReaderStop (F.failures feed.old) (F.failures feed.new)) }
 {
@@ -85,13 +93,18 @@ fn read_prefix<F: Feed>(feed: &mut F, had_header: bool, place: u64) -> Result<Op
 // This many bytes.
 #[tactic(auto, unfolding(crate::specs::Frames::bytes_at))]
 fn read_bytes<F: Feed>(feed: &mut F, buf: &mut Vec<u8>, count: u32, cut: Fault) -> Result<(), Stop>
-    ensures given { OnOk result (Gives buf.new.items (F.remaining feed.old) (F.remaining feed.new) (bytes_at cut count)) }
-    ensures refused { IfErr result (RefusedBy (bytes_at cut count) (F.has_passed feed.old) (F.has_passed feed.new) (F.remaining feed.old) (F.remaining feed.new)) }
+    ensures given { OnOk result
+        (Gives buf.new.items (F.remaining feed.old) (F.remaining feed.new) (bytes_at cut count)) }
+    ensures refused { IfErr result
+        (RefusedBy (bytes_at cut count) (F.has_passed feed.old) (F.has_passed feed.new)
+        (F.remaining feed.old) (F.remaining feed.new)) }
     ensures held { vec_len buf.new ≤ max count (vec_len buf.old) }
     ensures len { OnOk result (vec_len buf.new ≡ count) }
-    ensures bytes { OnOk result (F.remaining feed.old ≡ prepend buf.new.items (F.remaining feed.new)) }
+    ensures bytes { OnOk result (F.remaining feed.old
+        ≡ prepend buf.new.items (F.remaining feed.new)) }
     ensures lender { F.lender feed.new ≡ F.lender feed.old }
-    ensures passed { OnOk result (Passes (F.has_passed feed.old) buf.new.items (F.has_passed feed.new)) }
+    ensures passed { OnOk result
+        (Passes (F.has_passed feed.old) buf.new.items (F.has_passed feed.new)) }
     ensures counts { F.failures feed.old ≤ F.failures feed.new }
     ensures stops { IfErr result (IsReaderStop (F.failures feed.old) (F.failures feed.new)) }
 {
@@ -128,17 +141,25 @@ fn read_header<F: Feed>(
     requires in_range { place ≤ 2 ^ 62 }
     requires whole { 4 ≤ length prefix.now }
     requires small { big_number 4 prefix.now < HEADER_LIMIT }
-    ensures given { IfOk result (λ head. Gives (header.new.items, head) (F.remaining feed.old) (F.remaining feed.new) (header_of had_header place prefix.now)) }
-    ensures refused { IfErr result (RefusedBy (header_of had_header place prefix.now) (F.has_passed feed.old) (F.has_passed feed.new) (F.remaining feed.old) (F.remaining feed.new)) }
+    ensures given { IfOk result (λ head.
+        Gives (header.new.items, head) (F.remaining feed.old) (F.remaining feed.new)
+        (header_of had_header place prefix.now)) }
+    ensures refused { IfErr result
+        (RefusedBy (header_of had_header place prefix.now) (F.has_passed feed.old)
+        (F.has_passed feed.new) (F.remaining feed.old) (F.remaining feed.new)) }
     ensures head { IfOk result (λ head. head_of (place + 4) header.new.items ≡ Ok head) }
     ensures small { IfOk result (λ head. head.size ≤ LARGEST_SIZE) }
     ensures end { IfOk result (λ head. place + 4 + vec_len header.new + head.size ≤ 2 ^ 62) }
     ensures held { vec_len header.new ≤ max 65535 (vec_len header.old) }
-    ensures bytes { OnOk result (F.remaining feed.old ≡ prepend header.new.items (F.remaining feed.new)) }
+    ensures bytes { OnOk result (F.remaining feed.old
+        ≡ prepend header.new.items (F.remaining feed.new)) }
     ensures lender { F.lender feed.new ≡ F.lender feed.old }
-    ensures passed { OnOk result (Passes (F.has_passed feed.old) header.new.items (F.has_passed feed.new)) }
+    ensures passed { OnOk result
+        (Passes (F.has_passed feed.old) header.new.items (F.has_passed feed.new)) }
     ensures spelled { OnOk result (length header.new.items ≡ big_number 4 prefix.now) }
-    ensures ordered { IfOk result (λ head. least (order_faults had_header place head.kind (place + 4 + length header.new.items + head.size)) ≡ None) }
+    ensures ordered { IfOk result (λ head.
+        least (order_faults had_header place head.kind (place + 4 + length header.new.items
+        + head.size)) ≡ None) }
     ensures counts { F.failures feed.old ≤ F.failures feed.new }
     ensures stops { IfErr result (IsReaderStop (F.failures feed.old) (F.failures feed.new)) }
 {
@@ -158,10 +179,14 @@ fn read_header<F: Feed>(
 // Reads past this many bytes, in pieces of the room's length.
 fn skip<F: Feed>(feed: &mut F, count: u32, room: &mut [u8], cut: Fault) -> Result<(), Stop>
     requires { 0 < length room.old }
-    ensures skips { OnOk result (Skips (F.has_passed feed.old) (F.has_passed feed.new) (F.remaining feed.old) (F.remaining feed.new) count) }
+    ensures skips { OnOk result
+        (Skips (F.has_passed feed.old) (F.has_passed feed.new) (F.remaining feed.old)
+        (F.remaining feed.new) count) }
     ensures lender { F.lender feed.new ≡ F.lender feed.old }
     ensures counts { F.failures feed.old ≤ F.failures feed.new }
-    ensures refused { IfErr result (RefusedBy (bytes_at cut count) (F.has_passed feed.old) (F.has_passed feed.new) (F.remaining feed.old) (F.remaining feed.new)) }
+    ensures refused { IfErr result
+        (RefusedBy (bytes_at cut count) (F.has_passed feed.old) (F.has_passed feed.new)
+        (F.remaining feed.old) (F.remaining feed.new)) }
     ensures stops { IfErr result (IsReaderStop (F.failures feed.old) (F.failures feed.new)) }
 {
     let mut left = count as usize;
@@ -185,14 +210,20 @@ fn read_known_blob<F: Feed>(
     at: u64,
 ) -> Result<(), Stop>
     requires in_range { at + size ≤ 2 ^ 63 }
-    ensures given { OnOk result (Gives blob.new.items (F.remaining feed.old) (F.remaining feed.new) (known_blob_of size at)) }
-    ensures refused { IfErr result (RefusedBy (known_blob_of size at) (F.has_passed feed.old) (F.has_passed feed.new) (F.remaining feed.old) (F.remaining feed.new)) }
+    ensures given { OnOk result
+        (Gives blob.new.items (F.remaining feed.old) (F.remaining feed.new)
+        (known_blob_of size at)) }
+    ensures refused { IfErr result
+        (RefusedBy (known_blob_of size at) (F.has_passed feed.old) (F.has_passed feed.new)
+        (F.remaining feed.old) (F.remaining feed.new)) }
     ensures sound { OnOk result (blob_fault at blob.new.items ≡ None) }
     ensures long { OnOk result (vec_len blob.new ≡ size) }
     ensures held { vec_len blob.new ≤ max size (vec_len blob.old) }
-    ensures bytes { OnOk result (F.remaining feed.old ≡ prepend blob.new.items (F.remaining feed.new)) }
+    ensures bytes { OnOk result (F.remaining feed.old
+        ≡ prepend blob.new.items (F.remaining feed.new)) }
     ensures lender { F.lender feed.new ≡ F.lender feed.old }
-    ensures passed { OnOk result (Passes (F.has_passed feed.old) blob.new.items (F.has_passed feed.new)) }
+    ensures passed { OnOk result
+        (Passes (F.has_passed feed.old) blob.new.items (F.has_passed feed.new)) }
     ensures counts { F.failures feed.old ≤ F.failures feed.new }
     ensures stops { IfErr result (IsReaderStop (F.failures feed.old) (F.failures feed.new)) }
 {
@@ -210,9 +241,13 @@ fn read_known_blob<F: Feed>(
 // The blob after a header; one of another type is read past.
 fn read_blob<F: Feed>(feed: &mut F, blob: &mut Vec<u8>, head: Head, at: u64) -> Result<(), Stop>
     requires in_range { at + head.size ≤ 2 ^ 63 }
-    ensures gave { OnOk result (GaveBlob head.kind head.size at blob.new.items (F.has_passed feed.old) (F.has_passed feed.new) (F.remaining feed.old) (F.remaining feed.new)) }
+    ensures gave { OnOk result
+        (GaveBlob head.kind head.size at blob.new.items (F.has_passed feed.old)
+        (F.has_passed feed.new) (F.remaining feed.old) (F.remaining feed.new)) }
     ensures sound { OnOk result (IsSound head.kind at blob.new.items) }
-    ensures refused { IfErr result (RefusedBy (blob_of head.kind head.size at) (F.has_passed feed.old) (F.has_passed feed.new) (F.remaining feed.old) (F.remaining feed.new)) }
+    ensures refused { IfErr result
+        (RefusedBy (blob_of head.kind head.size at) (F.has_passed feed.old) (F.has_passed feed.new)
+        (F.remaining feed.old) (F.remaining feed.new)) }
     ensures held { vec_len blob.new ≤ max head.size (vec_len blob.old) }
     ensures lender { F.lender feed.new ≡ F.lender feed.old }
     ensures counts { F.failures feed.old ≤ F.failures feed.new }
@@ -250,11 +285,19 @@ pub(crate) fn read_frame<F: Feed>(
     place: u64,
 ) -> Result<Option<Seen>, Stop>
     requires in_range { place ≤ 2 ^ 62 }
-    ensures gave { IfOk result (λ o. IfSome o (λ seen. GaveFrame had_header place header.new.items blob.new.items seen (F.has_passed feed.old) (F.has_passed feed.new) (F.remaining feed.old) (F.remaining feed.new))) }
-    ensures ended { IfOk result (λ o. IfNone o (GaveEnd had_header place (F.has_passed feed.old) (F.has_passed feed.new) (F.remaining feed.old) (F.remaining feed.new))) }
-    ensures refused { IfErr result (RefusedBy (next_of had_header place) (F.has_passed feed.old) (F.has_passed feed.new) (F.remaining feed.old) (F.remaining feed.new)) }
+    ensures gave { IfOk result (λ o.
+        IfSome o (λ seen. GaveFrame had_header place header.new.items blob.new.items seen
+        (F.has_passed feed.old) (F.has_passed feed.new) (F.remaining feed.old)
+        (F.remaining feed.new))) }
+    ensures ended { IfOk result (λ o.
+        IfNone o (GaveEnd had_header place (F.has_passed feed.old) (F.has_passed feed.new)
+        (F.remaining feed.old) (F.remaining feed.new))) }
+    ensures refused { IfErr result
+        (RefusedBy (next_of had_header place) (F.has_passed feed.old) (F.has_passed feed.new)
+        (F.remaining feed.old) (F.remaining feed.new)) }
     ensures later { IfOk result (λ o. IfSome o (λ seen. (place < seen.blob_at) × IsPlaced seen)) }
-    ensures sound { IfOk result (λ o. IfSome o (λ seen. IsSound seen.kind seen.blob_at blob.new.items)) }
+    ensures sound { IfOk result (λ o.
+        IfSome o (λ seen. IsSound seen.kind seen.blob_at blob.new.items)) }
     ensures header_held { vec_len header.new ≤ max 65535 (vec_len header.old) }
     ensures blob_held { vec_len blob.new ≤ max LARGEST_SIZE (vec_len blob.old) }
     ensures lender { F.lender feed.new ≡ F.lender feed.old }

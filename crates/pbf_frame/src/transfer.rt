@@ -10,9 +10,11 @@ use crate::stop::{DrainFault, FeedFault};
 /// Fills the buffer, or less of it only at the end of the feed: each read is asked for all that is still wanted.
 pub(crate) fn fill<F: Feed>(feed: &mut F, buf: &mut [u8]) -> Result<usize, FeedFault>
     ensures bound { IfOk result (λ n. n ≤ length buf.old) }
-    ensures bytes { IfOk result (λ n. F.remaining feed.old ≡ prepend (take n buf.new) (F.remaining feed.new)) }
+    ensures bytes { IfOk result (λ n. F.remaining feed.old
+        ≡ prepend (take n buf.new) (F.remaining feed.new)) }
     ensures end { IfOk result (λ n. n < length buf.old → IsAtEnd (F.remaining feed.new)) }
-    ensures passed { IfOk result (λ n. Passes (F.has_passed feed.old) (take n buf.new) (F.has_passed feed.new)) }
+    ensures passed { IfOk result (λ n.
+        Passes (F.has_passed feed.old) (take n buf.new) (F.has_passed feed.new)) }
     ensures counts { F.failures feed.old ≤ F.failures feed.new }
     ensures failed { OnErr result (HasRisen (F.failures feed.old) (F.failures feed.new)) }
     ensures lender { F.lender feed.new ≡ F.lender feed.old }

@@ -16,7 +16,8 @@ use crate::varint::first_varint;
 fn payload_at(bytes: &[u8], kind: u64, at: u64) -> Result<(Payload<'_>, usize), Reason>
     requires { at + length bytes.now ≤ 2 ^ 63 }
     ensures exact { seen content result ≡ body_at kind at bytes.now }
-    ensures taken { IfOk result (λ found. (found.1 ≤ length bytes.now) × (end_of found.0 ≤ 2 ^ 63)) }
+    ensures taken { IfOk result (λ found. (found.1 ≤ length bytes.now)
+        × (end_of found.0 ≤ 2 ^ 63)) }
 {
     match kind {
         0 => {
@@ -82,7 +83,8 @@ fn field_at(bytes: &[u8], at: u64) -> Result<(Field<'_>, usize), Reason>
 /// The tag at the start of the bytes, if it is one byte and its number isn't 0.
 #[inline(always)]
 fn short_tag(bytes: &[u8]) -> Option<u64>
-    ensures { MatchOption result ⊤ (λ tag. (varint_at bytes.now ≡ Ok (tag, 1)) × (8 ≤ tag) × (tag < 128) × (0 < length bytes.now)) }
+    ensures { MatchOption result ⊤ (λ tag. (varint_at bytes.now ≡ Ok (tag, 1)) × (8 ≤ tag)
+        × (tag < 128) × (0 < length bytes.now)) }
 {
     let [first, ..] = bytes else {
         return None;
@@ -99,8 +101,10 @@ fn short_tag(bytes: &[u8]) -> Option<u64>
 #[tactic(auto, unfolding(crate::specs::Occurrence::body_at))]
 fn short_payload(bytes: &[u8], kind: u64, at: u64) -> Option<(Payload<'_>, usize)>
     requires { at + length bytes.now ≤ 2 ^ 63 }
-    ensures exact { MatchOption result ⊤ (λ found. body_at kind at bytes.now ≡ Ok (content found.0, found.1)) }
-    ensures taken { MatchOption result ⊤ (λ found. (found.1 ≤ length bytes.now) × (end_of found.0 ≤ 2 ^ 63)) }
+    ensures exact { MatchOption result ⊤ (λ found. body_at kind at bytes.now
+        ≡ Ok (content found.0, found.1)) }
+    ensures taken { MatchOption result ⊤ (λ found. (found.1 ≤ length bytes.now)
+        × (end_of found.0 ≤ 2 ^ 63)) }
 {
     let Ok((value, length)) = first_varint(bytes) else {
         return None;
@@ -125,7 +129,8 @@ fn short_payload(bytes: &[u8], kind: u64, at: u64) -> Option<(Payload<'_>, usize
 #[tactic(auto, unfolding(crate::specs::Occurrence::occurrence_at))]
 fn short_field(bytes: &[u8], at: u64) -> Option<(Field<'_>, usize)>
     requires { at + length bytes.now ≤ 2 ^ 63 }
-    ensures exact { MatchOption result ⊤ (λ found. occurrence_at at bytes.now ≡ Ok (occurrence found.0, found.1)) }
+    ensures exact { MatchOption result ⊤ (λ found. occurrence_at at bytes.now
+        ≡ Ok (occurrence found.0, found.1)) }
     ensures taken { MatchOption result ⊤ (λ found. (0 < found.1) × (found.1 ≤ length bytes.now)) }
 {
     let tag = short_tag(bytes)?;

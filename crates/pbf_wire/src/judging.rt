@@ -184,7 +184,8 @@ pub fn judge_low_numbers(
     reason: Reason,
 ) -> Option<Fault>
     requires { at + length message.now ≤ 2 ^ 63 }
-    ensures { result ≡ least (below_faults reason limit (joined number (fields_in at message.now))) }
+    ensures { result
+        ≡ least (below_faults reason limit (joined number (fields_in at message.now))) }
 {
     let mut column = Column::new(message, at, number);
     let mut least = None;
@@ -245,7 +246,8 @@ const MOST_BYTES: usize = 1 << 26;
 #[tactic(auto, using(crate::proofs::ShortLemmas::small_sums))]
 fn has_small_sums(message: &[u8], at: u64, number: u64) -> bool
     requires { at + length message.now ≤ 2 ^ 63 }
-    ensures { IsTrue result → sum_faults (pos (2 ^ 62)) false (joined number (fields_in at message.now)) ≡ [] }
+    ensures { IsTrue result
+        → sum_faults (pos (2 ^ 62)) false (joined number (fields_in at message.now)) ≡ [] }
 {
     message.len() >= LONG_MESSAGE
         && message.len() <= MOST_BYTES
@@ -257,7 +259,8 @@ fn has_small_sums(message: &[u8], at: u64, number: u64) -> bool
 /// value.
 pub fn judge_sums_left(fields: Fields<'_>, number: u64, limit: u64, narrow: bool) -> Option<Fault>
     requires { (1 ≤ limit) × (limit ≤ 2 ^ 62) }
-    ensures { result ≡ least (sum_faults (pos limit) narrow (joined number (found (fields_left fields.entry)))) }
+    ensures { result
+        ≡ least (sum_faults (pos limit) narrow (joined number (found (fields_left fields.entry)))) }
 {
     let mut column = Column::over(fields, number);
     let mut sum = sum_within(limit);
@@ -276,7 +279,8 @@ pub fn judge_sums_left(fields: Fields<'_>, number: u64, limit: u64, narrow: bool
 pub fn judge_sums(message: &[u8], at: u64, number: u64, limit: u64, narrow: bool) -> Option<Fault>
     requires placed { at + length message.now ≤ 2 ^ 63 }
     requires limited { (1 ≤ limit) × (limit ≤ 2 ^ 62) }
-    ensures { result ≡ least (sum_faults (pos limit) narrow (joined number (fields_in at message.now))) }
+    ensures { result
+        ≡ least (sum_faults (pos limit) narrow (joined number (fields_in at message.now))) }
 {
     if limit == 1 << 62 && !narrow && has_small_sums(message, at, number) {
         return None;

@@ -20,42 +20,54 @@ ghost use Rattle.pbf_wire.specs.Message.{Slot, parts_of, message, SlotFits, Slot
 
 /// No spelling of a varint begins another.
 pub fn varints_are_prefix_free()
-    ensures { (s t x y : List ℕ) (a b : ℕ) → IsVarint a s → IsVarint b t → s ++ x ≡ t ++ y → (s ≡ t) × (a ≡ b) × (x ≡ y) }
+    ensures { (s t x y : List ℕ) (a b : ℕ) → IsVarint a s → IsVarint b t → s ++ x ≡ t ++ y
+        → (s ≡ t) × (a ≡ b) × (x ≡ y) }
 {}
 
 /// The shortest spelling is a spelling, no other is shorter, and it is read back whatever follows it.
 pub fn shortest_is_shortest()
     ensures spelling { (v : ℕ) → v < 2 ^ 64 → IsVarint v (shortest v) }
     ensures least { (v : ℕ) (s : List ℕ) → IsVarint v s → length (shortest v) ≤ length s }
-    ensures reads_back { (v : ℕ) (rest : List ℕ) → v < 2 ^ 64 → varint_at (shortest v ++ rest) ≡ Ok (v, length (shortest v)) }
+    ensures reads_back { (v : ℕ) (rest : List ℕ) → v < 2 ^ 64
+        → varint_at (shortest v ++ rest) ≡ Ok (v, length (shortest v)) }
 {}
 
 /// Spellings that are joined, shortest or not, are read back one by one, and are no other spellings joined.
 pub fn joined_spellings_are_read()
-    ensures numbers { (pairs : List (ℕ × List ℕ)) → AllByRecursion (λ p. IsVarint p.0 p.1) pairs → entries (flat_map (λ p. p.1) pairs) ≡ map (λ p. Ok p.0) pairs }
-    ensures only { (pairs others : List (ℕ × List ℕ)) → AllByRecursion (λ p. IsVarint p.0 p.1) pairs → AllByRecursion (λ p. IsVarint p.0 p.1) others → flat_map (λ p. p.1) pairs ≡ flat_map (λ p. p.1) others → pairs ≡ others }
-    ensures packed { (numbers : List ℕ) → AllByRecursion (λ n. n < 2 ^ 64) numbers → entries (packed numbers) ≡ map Ok numbers }
+    ensures numbers { (pairs : List (ℕ × List ℕ)) → AllByRecursion (λ p. IsVarint p.0 p.1) pairs
+        → entries (flat_map (λ p. p.1) pairs) ≡ map (λ p. Ok p.0) pairs }
+    ensures only { (pairs others : List (ℕ × List ℕ)) → AllByRecursion (λ p. IsVarint p.0 p.1) pairs
+        → AllByRecursion (λ p. IsVarint p.0 p.1) others
+        → flat_map (λ p. p.1) pairs ≡ flat_map (λ p. p.1) others → pairs ≡ others }
+    ensures packed { (numbers : List ℕ) → AllByRecursion (λ n. n < 2 ^ 64) numbers
+        → entries (packed numbers) ≡ map Ok numbers }
 {}
 
 /// The items of a message are the occurrences of its longest prefix that has a cutting into spellings, and then the fault
 /// of what is left. Where the whole message has a cutting, it is this one.
 pub fn one_cutting()
-    ensures longest { (at : ℕ) (m : List ℕ) → IsCutting at m (found (items at m)) (fault_of (items at m)) }
-    ensures only { (at : ℕ) (m : List ℕ) (os : List Occurrence) → Joins at m os → (found (items at m) ≡ os) × (fault_of (items at m) ≡ None) }
+    ensures longest { (at : ℕ) (m : List ℕ)
+        → IsCutting at m (found (items at m)) (fault_of (items at m)) }
+    ensures only { (at : ℕ) (m : List ℕ) (os : List Occurrence) → Joins at m os
+        → (found (items at m) ≡ os) × (fault_of (items at m) ≡ None) }
 {}
 
 /// A message has the same occurrences wherever in the file it stands, but for their places.
 pub fn places_move_alike()
-    ensures { (at to : ℕ) (m : List ℕ) → map without_places (found (items at m)) ≡ map without_places (found (items to m)) }
+    ensures { (at to : ℕ) (m : List ℕ)
+        → map without_places (found (items at m)) ≡ map without_places (found (items to m)) }
 {}
 
 /// Signed numbers are read back: by zigzag all of them, by two's complement those of 64 and of 32 bits. A negative number in
 /// two's complement takes ten bytes.
 pub fn signed_numbers_are_read()
     ensures zigzag { (z : ℤ) → unzigzag (zigzag z) ≡ z }
-    ensures wide { (z : ℤ) → neg_ℤ (pos (2 ^ 63)) ≤ℤ z → z <ℤ pos (2 ^ 63) → low_i64 (sign_extended z) ≡ z }
-    ensures narrow { (z : ℤ) → neg_ℤ (pos (2 ^ 31)) ≤ℤ z → z <ℤ pos (2 ^ 31) → low_i32 (sign_extended z) ≡ z }
-    ensures fit { (z : ℤ) → neg_ℤ (pos (2 ^ 63)) ≤ℤ z → z <ℤ pos (2 ^ 63) → sign_extended z < 2 ^ 64 }
+    ensures wide { (z : ℤ) → neg_ℤ (pos (2 ^ 63)) ≤ℤ z → z <ℤ pos (2 ^ 63)
+        → low_i64 (sign_extended z) ≡ z }
+    ensures narrow { (z : ℤ) → neg_ℤ (pos (2 ^ 31)) ≤ℤ z → z <ℤ pos (2 ^ 31)
+        → low_i32 (sign_extended z) ≡ z }
+    ensures fit { (z : ℤ) → neg_ℤ (pos (2 ^ 63)) ≤ℤ z → z <ℤ pos (2 ^ 63)
+        → sign_extended z < 2 ^ 64 }
     ensures ten_bytes { (n : ℕ) → n < 2 ^ 63 → length (shortest (sign_extended (negsuc n))) ≡ 10 }
 {}
 
@@ -64,31 +76,48 @@ pub fn signed_numbers_are_read()
 pub fn sums_undo_differences()
     ensures running { (entries : List ℤ) → sums_from (pos 0) entries ≡ sums entries }
     ensures values { (values : List ℤ) → sums (map unzigzag (deltas values)) ≡ values }
-    ensures within { (limit : ℤ) (entries : List ℤ) → AllByRecursion (IsWithin limit) (sums entries) → sums_within limit (pos 0) entries ≡ sums entries }
-    ensures fit { (values : List ℤ) → AllByRecursion (IsWithin (pos (2 ^ 62))) values → AllByRecursion (λ n. n < 2 ^ 64) (deltas values) }
+    ensures within { (limit : ℤ) (entries : List ℤ) → AllByRecursion (IsWithin limit) (sums entries)
+        → sums_within limit (pos 0) entries ≡ sums entries }
+    ensures fit { (values : List ℤ) → AllByRecursion (IsWithin (pos (2 ^ 62))) values
+        → AllByRecursion (λ n. n < 2 ^ 64) (deltas values) }
 {}
 
 /// A message in written form is read back, at any place: its occurrences are the written fields in order, each field number
 /// reads as what was written there, its embedded messages are shorter than it is, and where its slots have the types of the
 /// known fields it has no wire fault.
 pub fn written_message_is_read()
-    ensures items { (at : ℕ) (slots : List Slot) → AllByRecursion SlotFits slots → length (message slots) < 2 ^ 64 → items at (message slots) ≡ map Ok (occurrences_of at (flat_map parts_of slots)) }
-    ensures columns { (k at : ℕ) (slots : List Slot) → AllByRecursion SlotFits slots → length (message slots) < 2 ^ 64 → column k (found (items at (message slots))) ≡ flat_map (numbers_at k) slots }
-    ensures numbers { (k at : ℕ) (slots : List Slot) → AllByRecursion SlotFits slots → length (message slots) < 2 ^ 64 → last_number k (found (items at (message slots))) ≡ last_or None (flat_map (scalars_at k) slots) }
-    ensures messages { (k at : ℕ) (slots : List Slot) → AllByRecursion SlotFits slots → length (message slots) < 2 ^ 64 → each k (found (items at (message slots))) ≡ flat_map (messages_at k) slots }
-    ensures sound { (kinds : List (ℕ × Kind)) (at : ℕ) (slots : List Slot) → AllByRecursion (SlotIs kinds) slots → AllByRecursion SlotFits slots → length (message slots) < 2 ^ 64 → wire kinds (items at (message slots)) ≡ None }
-    ensures shorter { (n : ℕ) (slots : List Slot) → length (message slots) < n → AllByRecursion (SlotBelow n) slots }
+    ensures items { (at : ℕ) (slots : List Slot) → AllByRecursion SlotFits slots
+        → length (message slots) < 2 ^ 64
+        → items at (message slots) ≡ map Ok (occurrences_of at (flat_map parts_of slots)) }
+    ensures columns { (k at : ℕ) (slots : List Slot) → AllByRecursion SlotFits slots
+        → length (message slots) < 2 ^ 64
+        → column k (found (items at (message slots))) ≡ flat_map (numbers_at k) slots }
+    ensures numbers { (k at : ℕ) (slots : List Slot) → AllByRecursion SlotFits slots
+        → length (message slots) < 2 ^ 64
+        → last_number k (found (items at (message slots)))
+        ≡ last_or None (flat_map (scalars_at k) slots) }
+    ensures messages { (k at : ℕ) (slots : List Slot) → AllByRecursion SlotFits slots
+        → length (message slots) < 2 ^ 64
+        → each k (found (items at (message slots))) ≡ flat_map (messages_at k) slots }
+    ensures sound { (kinds : List (ℕ × Kind)) (at : ℕ) (slots : List Slot)
+        → AllByRecursion (SlotIs kinds) slots → AllByRecursion SlotFits slots
+        → length (message slots) < 2 ^ 64 → wire kinds (items at (message slots)) ≡ None }
+    ensures shorter { (n : ℕ) (slots : List Slot) → length (message slots) < n
+        → AllByRecursion (SlotBelow n) slots }
 {}
 
 /// The least of a list of faults is one of them, and none of them is less; only an empty list has none. The least of a
 /// joined list is the lesser of the least of its parts.
 pub fn least_is_least()
     ensures least { (faults : List Fault) → IsLeast rank (least faults) faults }
-    ensures parts { (faults others : List Fault) → least (faults ++ others) ≡ lesser (least faults) (least others) }
+    ensures parts { (faults others : List Fault)
+        → least (faults ++ others) ≡ lesser (least faults) (least others) }
 {}
 
 /// In a message without a wire fault, a column has as many numbers as bytes of it end a varint, with one for each single number:
 /// so its numbers are counted without being decoded.
 pub fn counts_are_lengths()
-    ensures { (kinds : List (ℕ × Kind)) (k at : ℕ) (m : List ℕ) → kind_of kinds k ≡ Some kind.Column → wire kinds (items at m) ≡ None → column_count k (fields_in at m) ≡ length (joined k (fields_in at m)) }
+    ensures { (kinds : List (ℕ × Kind)) (k at : ℕ) (m : List ℕ) → kind_of kinds k ≡ Some kind.Column
+        → wire kinds (items at m) ≡ None
+        → column_count k (fields_in at m) ≡ length (joined k (fields_in at m)) }
 {}

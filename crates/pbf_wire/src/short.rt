@@ -59,7 +59,8 @@ pub fn is_short(bytes: &[u8]) -> bool
 
 /// Whether the numbers of an occurrence of a column are below 2^35, where that is soon seen.
 fn is_small(payload: Payload<'_>) -> bool
-    ensures { IsTrue result → AllByRecursion (λ v. v < 2 ^ 35) (numbers_in (content payload.entry)) }
+    ensures { IsTrue result
+        → AllByRecursion (λ v. v < 2 ^ 35) (numbers_in (content payload.entry)) }
 {
     match payload {
         Payload::Number(value) => value < 1 << 35,
@@ -71,7 +72,8 @@ fn is_small(payload: Payload<'_>) -> bool
 /// Whether the numbers of a column are below 2^35, where that is soon seen. No number of a packed occurrence is decoded.
 pub fn has_small_numbers(message: &[u8], at: u64, number: u64) -> bool
     requires { at + length message.now ≤ 2 ^ 63 }
-    ensures { IsTrue result → AllByRecursion (λ x. x.0 < 2 ^ 35) (joined number (fields_in at message.now)) }
+    ensures { IsTrue result
+        → AllByRecursion (λ x. x.0 < 2 ^ 35) (joined number (fields_in at message.now)) }
 {
     for item in Fields::new(message, at) {
         let Ok(field) = item else {

@@ -28,7 +28,8 @@ impl Model for Sum {
 #[tactic(auto, unfolding(crate::specs::Sums::added))]
 pub(crate) fn added(total: i64, number: i64, limit: i64) -> Option<i64>
     requires { pos 1 ≤ℤ limit }
-    ensures sum { MatchOption result (¬ IsWithin limit (total +ℤ number)) (λ sum. (sum ≡ total +ℤ number) × IsWithin limit sum) }
+    ensures sum { MatchOption result (¬ IsWithin limit (total +ℤ number)) (λ sum. (sum
+        ≡ total +ℤ number) × IsWithin limit sum) }
     ensures exact { result ≡ added limit total number }
 {
     let sum = total.checked_add(number)?;
@@ -50,7 +51,9 @@ impl Sum {
 
     /// Adds a number and answers the sum; `None`, and the sum as it was, where it would reach `limit` or `-limit`.
     pub fn add(&mut self, number: i64) -> Option<i64>
-        ensures sum { MatchOption result (¬ IsWithin self.old.limit (self.old.total +ℤ number)) (λ sum. (sum ≡ self.old.total +ℤ number) × IsWithin self.old.limit sum × (self.new.total ≡ sum)) }
+        ensures sum { MatchOption result (¬ IsWithin self.old.limit (self.old.total +ℤ number))
+            (λ sum. (sum ≡ self.old.total +ℤ number) × IsWithin self.old.limit sum
+            × (self.new.total ≡ sum)) }
         ensures limit { self.new.limit ≡ self.old.limit }
         ensures unchanged { IfNone result (self.new ≡ self.old) }
     {

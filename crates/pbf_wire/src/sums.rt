@@ -41,7 +41,8 @@ impl<'a> Sums<'a> {
     /// The values of a column of `sint64`.
     pub fn new(entries: Column<'a>, limit: i64) -> Self
         requires { pos 1 ≤ℤ limit }
-        ensures { sums_left result ≡ sums_within limit (pos 0) (map unzigzag (numbers_left entries.entry)) }
+        ensures { sums_left result
+            ≡ sums_within limit (pos 0) (map unzigzag (numbers_left entries.entry)) }
     {
         Sums {
             entries,
@@ -54,7 +55,8 @@ impl<'a> Sums<'a> {
     /// The values of a column of `sint32`.
     pub fn narrow(entries: Column<'a>, limit: i64) -> Self
         requires { pos 1 ≤ℤ limit }
-        ensures { sums_left result ≡ sums_within limit (pos 0) (map low_sint32 (numbers_left entries.entry)) }
+        ensures { sums_left result
+            ≡ sums_within limit (pos 0) (map low_sint32 (numbers_left entries.entry)) }
     {
         Sums {
             entries,

@@ -57,7 +57,8 @@ fn longer_varint(bytes: &[u8]) -> Result<(u64, usize), Reason>
 /// are so short. It is read where it is asked for, without a call.
 #[inline(always)]
 pub(crate) fn short_varint(bytes: &[u8]) -> Option<(u64, usize)>
-    ensures { MatchOption result ⊤ (λ found. (varint_at bytes.now ≡ Ok found) × (0 < found.1) × (found.1 ≤ length bytes.now)) }
+    ensures { MatchOption result ⊤ (λ found. (varint_at bytes.now ≡ Ok found) × (0 < found.1)
+        × (found.1 ≤ length bytes.now)) }
 {
     let [first, ..] = bytes else {
         return None;
@@ -107,8 +108,10 @@ pub fn get_varint(bytes: &[u8], at: usize) -> Result<(u64, usize), Reason>
     requires { at ≤ length bytes.now }
 
     // A number is answered exactly where the bytes are a spelling of it.
-    ensures found { IfOk result (λ found. (at < found.1) × (found.1 ≤ length bytes.now) × IsVarint found.0 (slice_range bytes.now at found.1)) }
-    ensures only { (v k : ℕ) → at ≤ k → k ≤ length bytes.now → IsVarint v (slice_range bytes.now at k) → result ≡ Ok (v, k) }
+    ensures found { IfOk result (λ found. (at < found.1) × (found.1 ≤ length bytes.now)
+        × IsVarint found.0 (slice_range bytes.now at found.1)) }
+    ensures only { (v k : ℕ) → at ≤ k → k ≤ length bytes.now
+        → IsVarint v (slice_range bytes.now at k) → result ≡ Ok (v, k) }
 
     // Each error comes exactly where its definition holds.
     ensures cut { result ≡ Err Reason.VarintCut ↔ IsCut (drop at bytes.now) }

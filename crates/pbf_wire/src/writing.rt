@@ -13,7 +13,8 @@ use std::alloc::AllocError;
 /// Appends a field that holds a number (wire type 0).
 pub fn put_number(out: &mut Vec<u8>, number: u64, value: u64) -> Result<(), AllocError>
     requires { number < 2 ^ 29 }
-    ensures { OnOk result (out.new.items ≡ out.old.items ++ slot_bytes (Scalar number (Some value))) }
+    ensures { OnOk result (out.new.items
+        ≡ out.old.items ++ slot_bytes (Scalar number (Some value))) }
 {
     put_varint(out, number * 8)?;
     put_varint(out, value)?;
@@ -23,7 +24,8 @@ pub fn put_number(out: &mut Vec<u8>, number: u64, value: u64) -> Result<(), Allo
 /// Appends a field that holds a text or an embedded message (wire type 2).
 pub fn put_bytes(out: &mut Vec<u8>, number: u64, bytes: &[u8]) -> Result<(), AllocError>
     requires { number < 2 ^ 29 }
-    ensures { OnOk result (out.new.items ≡ out.old.items ++ slot_bytes (Each number (bytes.now ∷ []))) }
+    ensures { OnOk result (out.new.items
+        ≡ out.old.items ++ slot_bytes (Each number (bytes.now ∷ []))) }
 {
     put_varint(out, number * 8 + 2)?;
     put_varint(out, bytes.len() as u64)?;
@@ -34,7 +36,8 @@ pub fn put_bytes(out: &mut Vec<u8>, number: u64, bytes: &[u8]) -> Result<(), All
 /// Appends a packed column, as `ColumnOut::bytes` and `DeltaOut::bytes` give it; nothing where it is empty.
 pub fn put_column(out: &mut Vec<u8>, number: u64, column: &[u8]) -> Result<(), AllocError>
     requires { number < 2 ^ 29 }
-    ensures { (values : List ℕ) → column.now ≡ packed values → OnOk result (out.new.items ≡ out.old.items ++ slot_bytes (Column number values)) }
+    ensures { (values : List ℕ) → column.now ≡ packed values
+        → OnOk result (out.new.items ≡ out.old.items ++ slot_bytes (Column number values)) }
 {
     if !column.is_empty() {
         put_bytes(out, number, column)?;
@@ -45,7 +48,8 @@ pub fn put_column(out: &mut Vec<u8>, number: u64, column: &[u8]) -> Result<(), A
 /// Appends a field that holds an embedded message, unless that has no field.
 pub fn put_unless_empty(out: &mut Vec<u8>, number: u64, message: &[u8]) -> Result<(), AllocError>
     requires { number < 2 ^ 29 }
-    ensures { OnOk result (out.new.items ≡ out.old.items ++ slot_bytes (Each number (unless_empty message.now))) }
+    ensures { OnOk result (out.new.items
+        ≡ out.old.items ++ slot_bytes (Each number (unless_empty message.now))) }
 {
     if !message.is_empty() {
         put_bytes(out, number, message)?;

@@ -42,7 +42,8 @@ fn reason_with_field(
     name: &str,
     field: u64,
 ) -> Result<String, AllocError>
-    ensures { IfOk result (λ text. string_bytes text ≡ plain_text number name.now ++ field_text field) }
+    ensures { IfOk result (λ text. string_bytes text
+        ≡ plain_text number name.now ++ field_text field) }
 {
     format!(in alloc; "{number} {name}({field})")
 }

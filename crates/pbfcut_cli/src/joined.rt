@@ -42,7 +42,8 @@ fn join_first<'a>(
     first: &str,
     after: &'a [String],
 ) -> Result<(String, &'a [String]), AllocError>
-    ensures joined { IfOk result (λ p. string_bytes p.0 ∷ box_joined (map string_bytes p.1.now) ≡ box_joined (first.now ∷ map string_bytes after.now)) }
+    ensures joined { IfOk result (λ p. string_bytes p.0 ∷ box_joined (map string_bytes p.1.now)
+        ≡ box_joined (first.now ∷ map string_bytes after.now)) }
     ensures less { IfOk result (λ p. length p.1.now ≤ length after.now) }
 {
     if begins_with_box(first, after) {
@@ -61,7 +62,8 @@ fn join_first<'a>(
 ///
 /// Where a request for memory was refused.
 pub fn join_box(alloc: Global, words: &[String]) -> Result<Vec<String>, AllocError>
-    ensures { IfOk result (λ joined. map string_bytes joined.items ≡ box_joined (map string_bytes words.now)) }
+    ensures { IfOk result (λ joined. map string_bytes joined.items
+        ≡ box_joined (map string_bytes words.now)) }
 {
     let mut joined = Vec::new(alloc);
     let mut rest = words;

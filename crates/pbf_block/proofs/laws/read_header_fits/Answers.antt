@@ -5,4 +5,4 @@ pub returns-clause-convert : goal.returns-clause-convert
 returns-clause-convert c = header_fits
 
 pub returns-clause-area : goal.returns-clause-area
-returns-clause-area c = header_fits_box
+returns-clause-area c at m = header_fits_box c.area at m (search rules)
