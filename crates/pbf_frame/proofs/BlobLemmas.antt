@@ -10,7 +10,7 @@ use Rattle.pbf_wire.specs.Reading.{bytes_held, last_of}
 use Rattle.pbf_wire.specs.Wire.{wire}
 use Rattle.pbf_frame.specs.declared.blob.TheConstants.{RAW, BLOB_KINDS, RAW_LIMIT}
 use Rattle.pbf_wire.specs.Faults.{fault_where}
-use Rattle.pbf_frame.specs.Header.{text_of}
+use Rattle.pbf_frame.specs.Header.{occurrence_text}
 use Rattle.pbf_frame.specs.Blob.{compressed, raw_faults, blob_faults, blob_fault, raw_of}
 
 -- only an empty list has no least
@@ -31,7 +31,7 @@ earlier_none (Some f) other e = absurd (never f e) where
   never : (f : Fault) → Some f ≡ None → ⊥
   never f e = cc
 
-raw_short : (at : ℕ) (last : Option Occurrence) (others : List Fault) → raw_faults at last others ≡ [] → length (text_of last) < RAW_LIMIT
+raw_short : (at : ℕ) (last : Option Occurrence) (others : List Fault) → raw_faults at last others ≡ [] → length (occurrence_text last) < RAW_LIMIT
 raw_short at None others e = omega arith
 raw_short at (Some o) others e = cases (nat_le RAW_LIMIT (length (bytes_held o.content))) refl e where
   cases : (b : Bool) → nat_le RAW_LIMIT (length (bytes_held o.content)) ≡ b → fault_where b o.place RawLong ++ others ≡ [] → length (bytes_held o.content) < RAW_LIMIT

@@ -10,9 +10,9 @@ use Rattle.pbf_wire.specs.Reading.{last_of}
 use Rattle.pbf_wire.specs.Wire.{wire}
 use Rattle.pbf_frame.specs.declared.frame.FrameKind.{FrameKind}
 use Rattle.pbf_frame.specs.declared.header.TheConstants.{TYPE, DATASIZE, HEADER_LIMIT, HEADER_KINDS}
-use Rattle.pbf_frame.specs.Header.{head_of, head_says, header_faults, number_in, size_within, size_of, or_nothing, missing, size_faults}
+use Rattle.pbf_frame.specs.Header.{head_of, head_says, header_faults, int32_held, size_within, size_of, or_nothing, absent_faults, size_faults}
 use Rattle.pbf_frame.specs.Frames.{FrameSpec, is_header, header_at, blob_at, frame_kind, frame_bytes, frame_end, prefix_at, order_faults, next_of}
-use Rattle.pbf_frame.specs.Verdict.{Verdict, with_first, with_all, judged_after, judged, joined}
+use Rattle.pbf_frame.specs.Verdict.{Verdict, with_first, with_all, judged_after, judged, joined_frames}
 use Rattle.pbf_frame.specs.Sound.{IsSound, IsFrame, AreFrames, had_after, place_after, EndsAs, IsLongestFront}
 use Rattle.pbf_frame.proofs.BlobLemmas.{least_none}
 use Rattle.pbf_frame.proofs.FrameLemmas.{head_parts, blob_some}
@@ -22,17 +22,17 @@ use Rattle.pbf_frame.proofs.Judging.{judged_step, judged_some}
 -- ---- one frame
 
 -- a header without faults names a size
-sized : (at : ℕ) (front : List Fault) (last : Option Occurrence) → front ++ missing at DATASIZE last ++ size_faults last ≡ [] → size_of last ≡ Some (or_nothing (size_of last))
+sized : (at : ℕ) (front : List Fault) (last : Option Occurrence) → front ++ absent_faults at DATASIZE last ++ size_faults last ≡ [] → size_of last ≡ Some (or_nothing (size_of last))
 sized at front None e = absurd (never front _ e) where
   never : (front : List Fault) (x : Fault) → (front ++ x ∷ []) ++ [] ≡ [] → ⊥
   never [] x e = cc
   never (y ∷ ys) x e = cc
-sized at front (Some o) e = cases (size_within (number_in o.content)) refl where
+sized at front (Some o) e = cases (size_within (int32_held o.content)) refl where
   never : (front : List Fault) (x : Fault) → (front ++ []) ++ x ∷ [] ≡ [] → ⊥
   never [] x e = cc
   never (y ∷ ys) x e = cc
 
-  cases : (s : Option ℕ) → size_within (number_in o.content) ≡ s → size_within (number_in o.content) ≡ Some (or_nothing (size_within (number_in o.content)))
+  cases : (s : Option ℕ) → size_within (int32_held o.content) ≡ s → size_within (int32_held o.content) ≡ Some (or_nothing (size_within (int32_held o.content)))
   cases (Some n) is = is ∙ ap (λ (m : Option ℕ). Some (or_nothing m)) (sym is)
   cases None is = absurd (never front _ (rw (is) at e))
 
@@ -48,7 +48,7 @@ frame_at h bytes f rest parts =
       short = subst (λ (n : ℕ). n < HEADER_LIMIT) (sym parts.header_is.long) parts.small;
       wired = says.0;
       whole = says.1;
-      sized = sized (header_at f) (missing (header_at f) TYPE (last_of TYPE (found (items (header_at f) f.header)))) last (least_none (header_faults (header_at f) f.header) says.1) ∙ ap Some (sym size);
+      sized = sized (header_at f) (absent_faults (header_at f) TYPE (last_of TYPE (found (items (header_at f) f.header)))) last (least_none (header_faults (header_at f) f.header) says.1) ∙ ap Some (sym size);
       ordered = ap (λ (k : FrameKind). least (order_faults h f.offset k (frame_end f))) (sym says.2) ∙ ap (λ (n : ℕ). least (order_faults h f.offset parts.head.kind (blob_at f + n))) parts.blob_is.long ∙ parts.header_is.ordered;
       sound = subst (λ (k : FrameKind). IsSound k (blob_at f) f.blob) says.2 parts.blob_is.sound;
     }
@@ -96,17 +96,17 @@ frame_is_next h p f rest is = subst (λ (n : ℕ). next_of h n (frame_bytes f ++
 
 -- ---- all frames
 
-pub frames_then_rest : (h : Bool) (p : ℕ) (fs : List FrameSpec) (rest : List ℕ) → AreFrames h p fs → judged h p (joined fs ++ rest) ≡ with_all fs (judged (had_after h fs) (place_after p fs) rest)
+pub frames_then_rest : (h : Bool) (p : ℕ) (fs : List FrameSpec) (rest : List ℕ) → AreFrames h p fs → judged h p (joined_frames fs ++ rest) ≡ with_all fs (judged (had_after h fs) (place_after p fs) rest)
 frames_then_rest h p [] rest are = refl
 frames_then_rest h p (f ∷ fs) rest are =
-    ap (judged h p) (append_assoc (frame_bytes f) (joined fs) rest)
-    ∙ judged_some h p (frame_bytes f ++ (joined fs ++ rest)) f (joined fs ++ rest) (frame_is_next h p f (joined fs ++ rest) are.0)
+    ap (judged h p) (append_assoc (frame_bytes f) (joined_frames fs) rest)
+    ∙ judged_some h p (frame_bytes f ++ (joined_frames fs ++ rest)) f (joined_frames fs ++ rest) (frame_is_next h p f (joined_frames fs ++ rest) are.0)
     ∙ ap (with_first f) (frames_then_rest (h || is_header (frame_kind f)) (frame_end f) fs rest are.1)
 
 -- all but that no list is longer
 pub record IsFrontOf (h : Bool) (p : ℕ) (bytes : List ℕ) (verdict : Verdict) : Type 0 where
   pub rest : List ℕ
-  pub split : bytes ≡ joined verdict.0 ++ rest
+  pub split : bytes ≡ joined_frames verdict.0 ++ rest
   pub frames : AreFrames h p verdict.0
   pub ends : EndsAs (next_of (had_after h verdict.0) (place_after p verdict.0) rest) verdict.1
 
@@ -126,7 +126,7 @@ front_step h p bytes later = cases (next_of h p bytes) refl where
       let front = later h2 (frame_end f) rest shorter in
       subst (IsFrontOf h p bytes) (sym (judged_some h p bytes f rest is)) record {
         rest = front.rest;
-        split = split.0 ∙ ap (λ l. frame_bytes f ++ l) front.split ∙ sym (append_assoc (frame_bytes f) (joined (judged h2 (frame_end f) rest).0) front.rest);
+        split = split.0 ∙ ap (λ l. frame_bytes f ++ l) front.split ∙ sym (append_assoc (frame_bytes f) (joined_frames (judged h2 (frame_end f) rest).0) front.rest);
         frames = (next_is_frame h p bytes f rest is, front.frames);
         ends = front.ends;
       }

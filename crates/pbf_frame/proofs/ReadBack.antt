@@ -24,7 +24,7 @@ use Rattle.pbf_frame.specs.declared.frame.FrameKind.{FrameKind}
 use Rattle.pbf_frame.specs.declared.frame.FrameKind.TheVariants as kind
 use Rattle.pbf_frame.specs.declared.header.TheConstants.{TYPE, DATASIZE, HEADER_KINDS, LARGEST_SIZE}
 use Rattle.pbf_wire.specs.Faults.{fault_where}
-use Rattle.pbf_frame.specs.Header.{text_of, name_of, kind_of, size_within, size_of, missing, size_faults, header_faults}
+use Rattle.pbf_frame.specs.Header.{occurrence_text, name_of, kind_named, size_within, size_of, absent_faults, size_faults, header_faults}
 use Rattle.pbf_frame.specs.Blob.{compressed, raw_faults, blob_faults, blob_fault, raw_of}
 use Rattle.pbf_frame.specs.Frames.{order_faults, frame_kind, frame_end, frame_bytes, frame_payload, payload_in, blob_at}
 use Rattle.pbf_frame.specs.Sound.{IsSound, IsFrame}
@@ -58,7 +58,7 @@ blob_fields at payload small =
     ∙ fields_written at (blob_slots payload) (blob_fits payload) (subst (λ l. length l < 2 ^ 64) (blob_is payload) (omega (arith, blob_short payload small, small)))
 
 blob_payload : (at : ℕ) (payload : List ℕ) → length payload < RAW_LIMIT → raw_of at (written_blob payload) ≡ payload
-blob_payload at payload small = ap (λ os. text_of (last_of RAW os)) (blob_fields at payload small)
+blob_payload at payload small = ap (λ os. occurrence_text (last_of RAW os)) (blob_fields at payload small)
 
 blob_wired : (at : ℕ) (payload : List ℕ) → length payload < RAW_LIMIT → wire BLOB_KINDS (items at (written_blob payload)) ≡ None
 blob_wired at payload small =
@@ -123,9 +123,9 @@ header_fields at k size small =
     ∙ fields_written at (header_slots k size) (header_fits k size small) (subst (λ l. length l < 2 ^ 64) (header_is k size) (omega (arith, header_short k size small)))
 
 header_name : (at : ℕ) (k : FrameKind) (size : ℕ) → size < 2 ^ 64 → name_of at (written_header k size) ≡ written_name k
-header_name at k size small = ap (λ os. text_of (last_of TYPE os)) (header_fields at k size small)
+header_name at k size small = ap (λ os. occurrence_text (last_of TYPE os)) (header_fields at k size small)
 
-name_kind : (k : FrameKind) → (k ≡ kind.Other → ⊥) → kind_of (written_name k) ≡ k
+name_kind : (k : FrameKind) → (k ≡ kind.Other → ⊥) → kind_named (written_name k) ≡ k
 name_kind kind.Header known = refl
 name_kind kind.Data known = refl
 name_kind kind.Other known = absurd (known refl)
@@ -147,7 +147,7 @@ header_sized at k size small = ap (λ os. size_of (last_of DATASIZE os)) (header
 
 header_whole : (at : ℕ) (k : FrameKind) (size : ℕ) → size ≤ LARGEST_SIZE → least (header_faults at (written_header k size)) ≡ None
 header_whole at k size small =
-    ap (λ os. least (missing at TYPE (last_of TYPE os) ++ missing at DATASIZE (last_of DATASIZE os) ++ size_faults (last_of DATASIZE os))) (header_fields at k size (omega (arith, small)))
+    ap (λ os. least (absent_faults at TYPE (last_of TYPE os) ++ absent_faults at DATASIZE (last_of DATASIZE os) ++ size_faults (last_of DATASIZE os))) (header_fields at k size (omega (arith, small)))
     ∙ ap (λ (o : Option ℕ). least (fault_where (is_none o) (at + length (shortest (TYPE * 8 + 2) ++ (shortest (length (written_name k)) ++ written_name k))) DataSize)) (size_read size small)
 
 -- ---- the frame
@@ -167,7 +167,7 @@ module _ (place : ℕ) (k : FrameKind) (payload : List ℕ) (known : k ≡ kind.
   size_small = omega (arith, blob_short payload small, small)
 
   pub written_kind : frame_kind (written_at place k payload) ≡ k
-  written_kind = ap kind_of (header_name (place + 4) k (length (written_blob payload)) (omega (arith, size_small))) ∙ name_kind k known
+  written_kind = ap kind_named (header_name (place + 4) k (length (written_blob payload)) (omega (arith, size_small))) ∙ name_kind k known
 
   pub written_payload : frame_payload (written_at place k payload) ≡ payload
   written_payload =

@@ -11,7 +11,7 @@ use Rattle.pbf_wire.specs.Reading.{bytes_held, last_of}
 use Rattle.pbf_wire.specs.Wire.{wire}
 use Rattle.pbf_frame.specs.declared.blob.TheConstants.{RAW, ZLIB_DATA, LZMA_DATA, BZIP2_DATA, LZ4_DATA, ZSTD_DATA, BLOB_KINDS, RAW_LIMIT}
 use Rattle.pbf_wire.specs.Faults.{fault, fault_where}
-use Rattle.pbf_frame.specs.Header.{text_of}
+use Rattle.pbf_frame.specs.Header.{occurrence_text}
 
 -- why data under this field number isn't read
 abbrev pub compression_of : ℕ → Option Reason
@@ -46,15 +46,14 @@ blob_fault at blob = option_or (wire BLOB_KINDS (items at blob)) (least (blob_fa
 
 -- the payload
 abbrev pub raw_of : ℕ → List ℕ → List ℕ
-raw_of at blob = text_of (last_of RAW (found (items at blob)))
+raw_of at blob = occurrence_text (last_of RAW (found (items at blob)))
 
-abbrev pub place_in : ℕ → Content → ℕ
-place_in at (Number v) = at
-place_in at (Eight bytes) = at
-place_in at (Four bytes) = at
-place_in at (Bytes bytes begin) = begin
+-- where the bytes that an occurrence holds begin; for one without bytes, this place
+abbrev pub bytes_place : ℕ → Content → ℕ
+bytes_place at (Bytes bytes begin) = begin
+bytes_place at _ = at
 
 -- where its first byte stands
 abbrev pub raw_at : ℕ → Option Occurrence → ℕ
 raw_at at None = at
-raw_at at (Some o) = place_in at o.content
+raw_at at (Some o) = bytes_place at o.content

@@ -13,7 +13,7 @@ use Rattle.pbf_frame.specs.declared.header.Head.{Head}
 use Rattle.pbf_frame.specs.declared.header.TheConstants.{HEADER_LIMIT}
 use Rattle.pbf_wire.specs.Faults.{fault, fault_where}
 use Rattle.pbf_frame.specs.Faults.{unless, ◌>>=◌}
-use Rattle.pbf_frame.specs.Header.{name_of, kind_of, head_of}
+use Rattle.pbf_frame.specs.Header.{name_of, kind_named, head_of}
 use Rattle.pbf_frame.specs.Blob.{blob_fault, raw_of, raw_at}
 
 -- a frame of a file: where it begins, and its bytes in three parts
@@ -25,13 +25,11 @@ pub record FrameSpec : Type 0 where
 
 abbrev pub is_header : FrameKind → Bool
 is_header kind.Header = true
-is_header kind.Data = false
-is_header kind.Other = false
+is_header _ = false
 
 abbrev pub is_data : FrameKind → Bool
-is_data kind.Header = false
 is_data kind.Data = true
-is_data kind.Other = false
+is_data _ = false
 
 -- ---- what a frame says
 
@@ -52,7 +50,7 @@ abbrev pub frame_name : FrameSpec → List ℕ
 frame_name f = name_of (header_at f) f.header
 
 abbrev pub frame_kind : FrameSpec → FrameKind
-frame_kind f = kind_of (frame_name f)
+frame_kind f = kind_named (frame_name f)
 
 -- the payload of a blob that stands at this place, and where it begins; a blob of another type isn't looked into
 abbrev pub payload_in : FrameKind → ℕ → List ℕ → List ℕ

@@ -16,16 +16,14 @@ use Rattle.pbf_wire.specs.Faults.{fault_where}
 use Rattle.pbf_frame.specs.Faults.{unless}
 
 -- the text of a field, and none where it is absent
-abbrev pub text_of : Option Occurrence → List ℕ
-text_of None = []
-text_of (Some o) = bytes_held o.content
+abbrev pub occurrence_text : Option Occurrence → List ℕ
+occurrence_text None = []
+occurrence_text (Some o) = bytes_held o.content
 
 -- the number that an occurrence holds, as an int32
-abbrev pub number_in : Content → ℤ
-number_in (Number v) = low_i32 v
-number_in (Eight bytes) = pos 0
-number_in (Four bytes) = pos 0
-number_in (Bytes bytes at) = pos 0
+abbrev pub int32_held : Content → ℤ
+int32_held (Number v) = low_i32 v
+int32_held _ = pos 0
 
 -- a size of a blob, where it may be one
 abbrev pub size_within : ℤ → Option ℕ
@@ -34,7 +32,7 @@ size_within (negsuc n) = None
 
 abbrev pub size_of : Option Occurrence → Option ℕ
 size_of None = None
-size_of (Some o) = size_within (number_in o.content)
+size_of (Some o) = size_within (int32_held o.content)
 
 abbrev pub or_nothing : Option ℕ → ℕ
 or_nothing None = 0
@@ -42,30 +40,31 @@ or_nothing (Some n) = n
 
 -- the type of the frame whose header stands at this place
 abbrev pub name_of : ℕ → List ℕ → List ℕ
-name_of at header = text_of (last_of TYPE (found (items at header)))
+name_of at header = occurrence_text (last_of TYPE (found (items at header)))
 
-abbrev pub kind_of : List ℕ → FrameKind
-kind_of name =
+-- the kind of frame that a type names
+abbrev pub kind_named : List ℕ → FrameKind
+kind_named name =
     if pointwise nat_eq name (codes "OSMHeader") then kind.Header
     else (if pointwise nat_eq name (codes "OSMData") then kind.Data else kind.Other)
 
 -- a required field that is absent
-abbrev pub missing : ℕ → ℕ → Option Occurrence → List Fault
-missing at field last = fault_where (is_none last) at (Missing field)
+abbrev pub absent_faults : ℕ → ℕ → Option Occurrence → List Fault
+absent_faults at field last = fault_where (is_none last) at (Missing field)
 
 abbrev pub size_faults : Option Occurrence → List Fault
 size_faults None = []
-size_faults (Some o) = fault_where (is_none (size_within (number_in o.content))) o.place DataSize
+size_faults (Some o) = fault_where (is_none (size_within (int32_held o.content))) o.place DataSize
 
 -- what is wrong with the fields of a header
 abbrev pub header_faults : ℕ → List ℕ → List Fault
 header_faults at header =
     let type = last_of TYPE (found (items at header)) in
     let datasize = last_of DATASIZE (found (items at header)) in
-    missing at TYPE type ++ missing at DATASIZE datasize ++ size_faults datasize
+    absent_faults at TYPE type ++ absent_faults at DATASIZE datasize ++ size_faults datasize
 
 abbrev pub head_says : ℕ → List ℕ → Head
-head_says at header = record { kind = kind_of (name_of at header); size = or_nothing (size_of (last_of DATASIZE (found (items at header)))) }
+head_says at header = record { kind = kind_named (name_of at header); size = or_nothing (size_of (last_of DATASIZE (found (items at header)))) }
 
 -- what a header says of its frame, or its first fault: of its wire form, then of its fields
 unfoldable pub head_of : ℕ → List ℕ → Result Head Fault

@@ -22,27 +22,21 @@ Gives a old new f = (bytes : List ℕ) → old ≡ Some bytes → (rest : List �
 
 -- a call that only reads bytes stops for a failed read, or for want of memory
 abbrev pub IsFillStop : ℕ → ℕ → Stop → Type 0
-IsFillStop old new (Refused f) = ⊥
 IsFillStop old new Read = HasRisen old new
-IsFillStop old new Write = ⊥
 IsFillStop old new Memory = Unit {0}
-IsFillStop old new (Changed pass) = ⊥
+IsFillStop _ _ _ = ⊥
 
 -- a call that only writes stops for a failed write
 abbrev pub IsWriteStop : ℕ → ℕ → Stop → Type 0
-IsWriteStop old new (Refused f) = ⊥
-IsWriteStop old new Read = ⊥
 IsWriteStop old new Write = HasRisen old new
-IsWriteStop old new Memory = ⊥
-IsWriteStop old new (Changed pass) = ⊥
+IsWriteStop _ _ _ = ⊥
 
 -- a reader's stop names the feed only where its count of failures rose, and never a drain
 abbrev pub IsReaderStop : ℕ → ℕ → Stop → Type 0
 IsReaderStop old new (Refused f) = Unit {0}
 IsReaderStop old new Read = HasRisen old new
-IsReaderStop old new Write = ⊥
 IsReaderStop old new Memory = Unit {0}
-IsReaderStop old new (Changed pass) = ⊥
+IsReaderStop _ _ _ = ⊥
 
 -- this many bytes are gone
 pub record Skips (before now : ℕ → List ℕ → Type 0) (old new : Option (List ℕ)) (count : ℕ) : Type 0 where

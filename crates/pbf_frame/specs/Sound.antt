@@ -12,7 +12,7 @@ use Rattle.pbf_frame.specs.declared.header.TheConstants.{DATASIZE, HEADER_KINDS,
 use Rattle.pbf_frame.specs.Header.{header_faults, size_of}
 use Rattle.pbf_frame.specs.Blob.{blob_fault}
 use Rattle.pbf_frame.specs.Frames.{FrameSpec, is_header, header_at, blob_at, frame_kind, frame_end, order_faults, next_of}
-use Rattle.pbf_frame.specs.Verdict.{Verdict, joined}
+use Rattle.pbf_frame.specs.Verdict.{Verdict, joined_frames}
 
 -- a blob that is looked into has no fault
 abbrev pub IsSound : FrameKind → ℕ → List ℕ → Type 0
@@ -55,7 +55,7 @@ EndsAs next (Some e) = next ≡ Err e
 -- the frames of the verdict are the longest list of frames without faults whose spellings, joined, begin the bytes
 pub record IsLongestFront (had_header : Bool) (place : ℕ) (bytes : List ℕ) (verdict : Verdict) : Type 0 where
   pub rest : List ℕ
-  pub split : bytes ≡ joined verdict.0 ++ rest
+  pub split : bytes ≡ joined_frames verdict.0 ++ rest
   pub frames : AreFrames had_header place verdict.0
   pub ends : EndsAs (next_of (had_after had_header verdict.0) (place_after place verdict.0) rest) verdict.1
-  pub longest : (fs : List FrameSpec) (more : List ℕ) → AreFrames had_header place fs → bytes ≡ joined fs ++ more → (later : List FrameSpec) × (verdict.0 ≡ fs ++ later)
+  pub longest : (fs : List FrameSpec) (more : List ℕ) → AreFrames had_header place fs → bytes ≡ joined_frames fs ++ more → (later : List FrameSpec) × (verdict.0 ≡ fs ++ later)

@@ -46,6 +46,6 @@ abbrev pub Gone : Option Verdict → List FrameSpec → Option Verdict → Type 
 Gone first done rest = first ≡ option_map (with_all done) rest
 
 -- the spellings of frames, joined
-abbrev pub joined : List FrameSpec → List ℕ
-joined [] = []
-joined (f ∷ fs) = frame_bytes f ++ joined fs
+abbrev pub joined_frames : List FrameSpec → List ℕ
+joined_frames [] = []
+joined_frames (f ∷ fs) = frame_bytes f ++ joined_frames fs

@@ -7,10 +7,10 @@ ghost use Rattle.pbf_wire.specs.Fields.{occurrence};
 ghost use Rattle.pbf_wire.specs.Least.{least};
 ghost use Rattle.pbf_wire.specs.Occurrence.{items, found};
 ghost use Rattle.pbf_wire.specs.Reading.{last_of};
-ghost use Rattle.pbf_frame.specs.Header.{text_of};
+ghost use Rattle.pbf_frame.specs.Header.{occurrence_text};
 ghost use Rattle.pbf_frame.specs.Blob.{compression_of, reason_faults, compressed, raw_faults, blob_faults, blob_fault, raw_of, raw_at};
 
-use crate::header::text_of;
+use crate::header::occurrence_text;
 use pbf_wire::{
     Fault, Field, Fields, Kind, Payload, Reason, fault_where, judge_wire, last_field, lesser,
 };
@@ -97,7 +97,7 @@ fn judge_raw(at: u64, raw: Option<Field<'_>>, others: Option<Fault>) -> Option<F
             reason: Reason::NoRaw,
         }));
     };
-    let long = text_of(raw).len() >= RAW_LIMIT;
+    let long = occurrence_text(raw).len() >= RAW_LIMIT;
     lesser(fault_where(long, field.offset, Reason::RawLong), others)
 }
 
@@ -117,7 +117,7 @@ pub(crate) fn judge_blob(blob: &[u8], at: u64) -> Option<Fault>
 fn text_place(field: Option<Field<'_>>, at: u64) -> u64
     requires { at ≤ 2 ^ 63 }
     ensures place { result ≡ raw_at at (option_map occurrence field.entry) }
-    ensures fits { result + length (text_of (option_map occurrence field.entry)) ≤ 2 ^ 63 }
+    ensures fits { result + length (occurrence_text (option_map occurrence field.entry)) ≤ 2 ^ 63 }
 {
     match field {
         Some(
@@ -140,5 +140,5 @@ pub(crate) fn payload_in(blob: &[u8], at: u64) -> (&[u8], u64)
     ensures short { blob_fault at blob.now ≡ None → length result.0.now < RAW_LIMIT }
 {
     let raw = last_field(blob, at, RAW);
-    (text_of(raw), text_place(raw, at))
+    (occurrence_text(raw), text_place(raw, at))
 }

@@ -7,7 +7,7 @@ ghost use Rattle.pbf_wire.specs.Least.{least};
 ghost use Rattle.pbf_wire.specs.Occurrence.{items, found};
 ghost use Rattle.pbf_wire.specs.Payload.{content};
 ghost use Rattle.pbf_wire.specs.Reading.{last_of};
-ghost use Rattle.pbf_frame.specs.Header.{text_of, number_in, size_within, size_of, or_nothing, kind_of, missing, size_faults, header_faults, head_of};
+ghost use Rattle.pbf_frame.specs.Header.{occurrence_text, int32_held, size_within, size_of, or_nothing, kind_named, absent_faults, size_faults, header_faults, head_of};
 
 use crate::frame::FrameKind;
 use pbf_wire::{
@@ -42,8 +42,8 @@ pub(crate) struct Head {
 }
 
 /// The text of a field, and no bytes where it is absent.
-pub(crate) fn text_of(field: Option<Field<'_>>) -> &[u8]
-    ensures { result.now ≡ text_of (option_map occurrence field.entry) }
+pub(crate) fn occurrence_text(field: Option<Field<'_>>) -> &[u8]
+    ensures { result.now ≡ occurrence_text (option_map occurrence field.entry) }
 {
     match field {
         Some(field) => field.payload.bytes(),
@@ -53,7 +53,7 @@ pub(crate) fn text_of(field: Option<Field<'_>>) -> &[u8]
 
 /// The size that `datasize` names, where a blob may have it.
 fn size_in(payload: Payload<'_>) -> Option<u32>
-    ensures { result ≡ size_within (number_in (content payload.entry)) }
+    ensures { result ≡ size_within (int32_held (content payload.entry)) }
 {
     let Payload::Number(value) = payload else {
         return Some(0);
@@ -82,8 +82,8 @@ fn size_in_header(header: &[u8], at: u64) -> u32
     size_in(datasize.payload).unwrap_or(0)
 }
 
-fn kind_of(name: &[u8]) -> FrameKind
-    ensures { result ≡ kind_of name.now }
+fn kind_named(name: &[u8]) -> FrameKind
+    ensures { result ≡ kind_named name.now }
 {
     if name == b"OSMHeader".as_slice() {
         FrameKind::Header
@@ -107,7 +107,7 @@ fn judge_size(datasize: Option<Field<'_>>) -> Option<Fault>
 
 /// Whether a required field, of which this is the last, is absent.
 fn judge_missing(at: u64, number: u64, last: Option<Field<'_>>) -> Option<Fault>
-    ensures { result ≡ least (missing at number (option_map occurrence last.entry)) }
+    ensures { result ≡ least (absent_faults at number (option_map occurrence last.entry)) }
 {
     fault_where(last.is_none(), at, Reason::Missing(number))
 }
@@ -138,7 +138,7 @@ pub(crate) fn read_head(header: &[u8], at: u64) -> Result<Head, Fault>
     if let Some(fault) = judge_fields(header, at) {
         return Err(fault);
     }
-    let kind = kind_of(text_of(last_field(header, at, TYPE)));
+    let kind = kind_named(occurrence_text(last_field(header, at, TYPE)));
     let size = size_in_header(header, at);
     Ok(Head { kind, size })
 }

@@ -10,7 +10,7 @@ ghost use Rattle.pbf_frame.specs.declared.frame.FrameKind.TheVariants as kinds;
 ghost use Rattle.pbf_frame.specs.Frames.{FrameSpec, frame_bytes, frame_end, frame_kind, frame_payload, order_faults, next_of};
 ghost use Rattle.pbf_frame.specs.Sound.{IsFrame, AreFrames, had_after, place_after, IsLongestFront};
 ghost use Rattle.pbf_frame.specs.Writing.{written_at, written_frame};
-ghost use Rattle.pbf_frame.specs.Verdict.{joined, judged, with_all};
+ghost use Rattle.pbf_frame.specs.Verdict.{joined_frames, judged, with_all};
 
 /// Nothing after the known bytes changes them.
 pub fn append_none()
@@ -49,8 +49,10 @@ pub fn one_frame()
 
 /// The verdict on bytes that begin with frames is these frames, and then those of the verdict on what follows.
 pub fn frames_then_rest()
-    ensures { (had_header : Bool) (place : ℕ) (frames : List FrameSpec) (rest : List ℕ) → AreFrames had_header place frames
-        → judged had_header place (joined frames ++ rest) ≡ with_all frames (judged (had_after had_header frames) (place_after place frames) rest) }
+    ensures { (had_header : Bool) (place : ℕ) (frames : List FrameSpec) (rest : List ℕ)
+        → AreFrames had_header place frames
+        → judged had_header place (joined_frames frames ++ rest)
+        ≡ with_all frames (judged (had_after had_header frames) (place_after place frames) rest) }
 {}
 
 /// The frames of the verdict are the longest list of frames without faults whose spellings, joined, begin the bytes; and its
@@ -63,8 +65,10 @@ pub fn longest_front()
 /// A frame in written form has no fault where its order and its end have none; its kind and its payload are those that were
 /// written, and its bytes are the same wherever it stands.
 pub fn written_frame_is_read()
-    ensures sound { (had_header : Bool) (place : ℕ) (kind : FrameKind) (payload : List ℕ) → (kind ≡ kinds.Other → ⊥) → length payload < RAW_LIMIT
-        → least (order_faults had_header place kind (frame_end (written_at place kind payload))) ≡ None → IsFrame had_header place (written_at place kind payload) }
+    ensures sound { (had_header : Bool) (place : ℕ) (kind : FrameKind) (payload : List ℕ)
+        → (kind ≡ kinds.Other → ⊥) → length payload < RAW_LIMIT
+        → least (order_faults had_header place kind (frame_end (written_at place kind payload)))
+        ≡ None → IsFrame had_header place (written_at place kind payload) }
     ensures kind { (place : ℕ) (kind : FrameKind) (payload : List ℕ) → (kind ≡ kinds.Other → ⊥)
         → length payload < RAW_LIMIT → frame_kind (written_at place kind payload) ≡ kind }
     ensures payload { (place : ℕ) (kind : FrameKind) (payload : List ℕ) → (kind ≡ kinds.Other → ⊥)

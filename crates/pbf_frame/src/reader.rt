@@ -6,7 +6,7 @@ ghost use Rattle.pbf_frame.specs.declared.header.TheConstants.{HEADER_LIMIT, LAR
 use crate::blob::payload_in;
 use crate::device::Feed;
 use crate::frame::{Frame, FrameKind};
-use crate::header::{TYPE, text_of};
+use crate::header::{TYPE, occurrence_text};
 use crate::reading::{Seen, read_frame};
 use crate::stop::Stop;
 use pbf_wire::last_field;
@@ -104,8 +104,10 @@ impl<F: Feed> FrameReader<F> {
     /// `Refused` names the least fault of the frame. After a stop the reader is spent: it answers the same stop again and
     /// touches no device. `None` stays `None`.
     pub fn next(&mut self) -> Result<Option<Frame<'_>>, Stop>
-        ensures* after { sem 𝓛 (follows_so (the_row F.row) (the_row F.row) self.entry.ghost_name none (λ _ _. ⊤)
-            (λ new. IsLendingNext F.remaining F.failures F.lender F.has_passed self.old result new)) }
+        ensures* after { sem 𝓛 (follows_so (the_row F.row) (the_row F.row)
+            self.entry.ghost_name none (λ _ _. ⊤)
+            (λ new. IsLendingNext F.remaining F.failures F.lender F.has_passed
+            self.old result new)) }
     {
         let Some(seen) = self.advance()? else {
             return Ok(None);
@@ -120,7 +122,7 @@ impl<F: Feed> FrameReader<F> {
         ensures { (f : FrameSpec) → IsSeen self.now.header.items self.now.blob.items seen f
             → Shows result f }
     {
-        let name = text_of(last_field(&self.header, seen.offset + 4, TYPE));
+        let name = occurrence_text(last_field(&self.header, seen.offset + 4, TYPE));
         let (payload, payload_at) = match seen.kind {
             FrameKind::Header | FrameKind::Data => payload_in(&self.blob, seen.blob_at),
             FrameKind::Other => (b"".as_slice(), seen.blob_at),

@@ -10,7 +10,7 @@ use Rattle.pbf_frame.specs.Devices.{prepend, Passes}
 use Rattle.pbf_frame.specs.Frames.{FrameSpec, is_header, frame_kind, frame_end, frame_bytes, prefix_at, after_prefix, next_of}
 use Rattle.pbf_frame.specs.Next.{place_of, had_header_of}
 use Rattle.pbf_frame.specs.Sound.{IsFrame}
-use Rattle.pbf_frame.specs.Verdict.{Verdict, judged, judged_after, judged_known, with_first_known, with_all, joined, Gone, Says}
+use Rattle.pbf_frame.specs.Verdict.{Verdict, judged, judged_after, judged_known, with_first_known, with_all, joined_frames, Gone, Says}
 use Rattle.pbf_frame.proofs.Judging.{judged_some, judged_step, gave_fault}
 use Rattle.pbf_frame.proofs.KnownBytes.{prepend_none, prepend_more}
 use Rattle.pbf_frame.proofs.Longest.{frame_is_next}
@@ -24,9 +24,9 @@ use Rattle.pbfcut.specs.Refused.{RefusesRest}
 use Rattle.pbfcut.specs.Stops.{FaultOf}
 use Rattle.pbfcut.proofs.StepLemmas.{GaveOne, GaveNone, RefusedStep, fully_first, gone_fault, gone_payload}
 
-joined_one : (frames : List FrameSpec) (f : FrameSpec) → joined (frames ++ f ∷ []) ≡ joined frames ++ frame_bytes f
+joined_one : (frames : List FrameSpec) (f : FrameSpec) → joined_frames (frames ++ f ∷ []) ≡ joined_frames frames ++ frame_bytes f
 joined_one [] f = append-nil (frame_bytes f)
-joined_one (g ∷ frames) f = ap (λ (l : List ℕ). frame_bytes g ++ l) (joined_one frames f) ∙ sym (append_assoc (frame_bytes g) (joined frames) (frame_bytes f))
+joined_one (g ∷ frames) f = ap (λ (l : List ℕ). frame_bytes g ++ l) (joined_one frames f) ∙ sym (append_assoc (frame_bytes g) (joined_frames frames) (frame_bytes f))
 
 next_nothing : (p : ℕ) → next_of true p [] ≡ Ok (None, [])
 unfolding next_of prefix_at after_prefix
@@ -40,10 +40,10 @@ nothing_left h p had = ap (λ (b : Bool). judged_from b p []) had ∙ ap (λ (v 
 
 -- since the first reader these frames were read
 pub record HasRead {F : Type 0} (g : feed.Ghosts F) (first : FrameReader F) (frames : List FrameSpec) (now : FrameReader F) : Type 0 where
-  pub told : g.remaining first.feed ≡ prepend (joined frames) (g.remaining now.feed)
-  pub logged : Passes (g.has_passed first.feed) (joined frames) (g.has_passed now.feed)
+  pub told : g.remaining first.feed ≡ prepend (joined_frames frames) (g.remaining now.feed)
+  pub logged : Passes (g.has_passed first.feed) (joined_frames frames) (g.has_passed now.feed)
   -- whatever follows them
-  pub gone : (rest : List ℕ) → Gone (judged_from (had_header_of first) (place_of first) (joined frames ++ rest)) frames (judged_from (had_header_of now) (place_of now) rest)
+  pub gone : (rest : List ℕ) → Gone (judged_from (had_header_of first) (place_of first) (joined_frames frames ++ rest)) frames (judged_from (had_header_of now) (place_of now) rest)
 
 gone_none : (h : Bool) (p : ℕ) (rest : List ℕ) → Gone (judged_from h p rest) [] (judged_from h p rest)
 gone_none h p rest = refl
@@ -69,10 +69,10 @@ module _ {F : Type 0} (g : feed.Ghosts F) where
   has_read_more first mid now frames f so_far sound gave =
       let one = joined_one frames f in
       record {
-        told = prepend_more _ _ _ (joined frames) (frame_bytes f) so_far.told gave.told ∙ ap (λ (l : List ℕ). prepend l (g.remaining now.feed)) (sym one);
-        logged = passes_same (g.has_passed first.feed) (g.has_passed now.feed) _ _ (sym one) (passes_more (g.has_passed first.feed) (g.has_passed mid.feed) (g.has_passed now.feed) (joined frames) (frame_bytes f) so_far.logged gave.logged);
+        told = prepend_more _ _ _ (joined_frames frames) (frame_bytes f) so_far.told gave.told ∙ ap (λ (l : List ℕ). prepend l (g.remaining now.feed)) (sym one);
+        logged = passes_same (g.has_passed first.feed) (g.has_passed now.feed) _ _ (sym one) (passes_more (g.has_passed first.feed) (g.has_passed mid.feed) (g.has_passed now.feed) (joined_frames frames) (frame_bytes f) so_far.logged gave.logged);
         gone = λ rest.
-            let split : joined (frames ++ f ∷ []) ++ rest ≡ joined frames ++ (frame_bytes f ++ rest) = ap (λ (l : List ℕ). l ++ rest) one ∙ append_assoc (joined frames) (frame_bytes f) rest in
+            let split : joined_frames (frames ++ f ∷ []) ++ rest ≡ joined_frames frames ++ (frame_bytes f ++ rest) = ap (λ (l : List ℕ). l ++ rest) one ∙ append_assoc (joined_frames frames) (frame_bytes f) rest in
             subst (λ (l : List ℕ). Gone (judged_from (had_header_of first) (place_of first) l) (frames ++ f ∷ []) (judged_from (had_header_of now) (place_of now) rest)) (sym split)
             (gone_one (had_header_of mid) (place_of mid) (had_header_of now) (place_of now) _ frames f rest (so_far.gone (frame_bytes f ++ rest)) gave.is_frame sound gave.had_header gave.place);
       }
@@ -82,16 +82,16 @@ module _ {F : Type 0} (g : feed.Ghosts F) where
       → ((known : Option Verdict) → Says known (frames, None) → holds known) → GaveRest g first now holds
   has_read_all first mid now frames holds so_far none holding =
       let all = so_far.gone [] ∙ ap (λ (v : Option Verdict). option_map (with_all frames) v) (nothing_left (had_header_of mid) (place_of mid) none.had_header) in
-      let whole : fully (judged (had_header_of first) (place_of first) (joined frames ++ [])) ≡ (frames ++ [], None) = some_same _ _ all in
+      let whole : fully (judged (had_header_of first) (place_of first) (joined_frames frames ++ [])) ≡ (frames ++ [], None) = some_same _ _ all in
       record {
-        bytes = joined frames;
+        bytes = joined_frames frames;
         supplied = record {
-          told = so_far.told ∙ ap (prepend (joined frames)) none.told;
+          told = so_far.told ∙ ap (prepend (joined_frames frames)) none.told;
           end = none.end;
-          logged = λ log b h. none.logged log (b ++ joined frames) (so_far.logged log b h);
+          logged = λ log b h. none.logged log (b ++ joined_frames frames) (so_far.logged log b h);
         };
-        holding = holding (judged_from (had_header_of first) (place_of first) (joined frames))
-            (ap (λ (l : List ℕ). fully (judged (had_header_of first) (place_of first) l)) (sym (append-nil (joined frames))) ∙ whole ∙ ap (λ (l : List FrameSpec). let v : Verdict = (l, None) in v) (append-nil frames));
+        holding = holding (judged_from (had_header_of first) (place_of first) (joined_frames frames))
+            (ap (λ (l : List ℕ). fully (judged (had_header_of first) (place_of first) l)) (sym (append-nil (joined_frames frames))) ∙ whole ∙ ap (λ (l : List FrameSpec). let v : Verdict = (l, None) in v) (append-nil frames));
       }
 
   -- the bytes of these frames, and those of what is refused behind them
@@ -100,26 +100,26 @@ module _ {F : Type 0} (g : feed.Ghosts F) where
     judge : List ℕ → Type 0
     judge b = FaultOf (judged_from (had_header_of first) (place_of first) b) e
 
-    by_reader : (b : List ℕ) → next_of (had_header_of mid) (place_of mid) b ≡ Err e → judge (joined frames ++ b)
+    by_reader : (b : List ℕ) → next_of (had_header_of mid) (place_of mid) b ≡ Err e → judge (joined_frames frames ++ b)
     by_reader b is = (
       frames,
-      gone_fault (judged_from (had_header_of first) (place_of first) (joined frames ++ b)) frames (judged_known (had_header_of mid) (place_of mid) (Some b)) e (so_far.gone b)
+      gone_fault (judged_from (had_header_of first) (place_of first) (joined_frames frames ++ b)) frames (judged_known (had_header_of mid) (place_of mid) (Some b)) e (so_far.gone b)
           (gave_fault (had_header_of mid) (place_of mid) (Some b) e (λ bytes same. subst (λ (l : List ℕ). next_of (had_header_of mid) (place_of mid) l ≡ Err e) (some_same _ _ same) is)),
     )
 
-    by_payload : (f : FrameSpec) → GaveOne g mid now f → payload_fault f ≡ Some e → (rest : List ℕ) → judge ((joined frames ++ frame_bytes f) ++ rest)
-    by_payload f gave fault rest = subst judge (sym (append_assoc (joined frames) (frame_bytes f) rest)) (
+    by_payload : (f : FrameSpec) → GaveOne g mid now f → payload_fault f ≡ Some e → (rest : List ℕ) → judge ((joined_frames frames ++ frame_bytes f) ++ rest)
+    by_payload f gave fault rest = subst judge (sym (append_assoc (joined_frames frames) (frame_bytes f) rest)) (
       frames,
-      gone_payload (judged_from (had_header_of first) (place_of first) (joined frames ++ (frame_bytes f ++ rest))) frames (judged_known (had_header_of mid) (place_of mid) (Some (frame_bytes f ++ rest)))
+      gone_payload (judged_from (had_header_of first) (place_of first) (joined_frames frames ++ (frame_bytes f ++ rest))) frames (judged_known (had_header_of mid) (place_of mid) (Some (frame_bytes f ++ rest)))
           (judged_known (had_header_of mid || is_header (frame_kind f)) (frame_end f) (Some rest)) f e (so_far.gone (frame_bytes f ++ rest)) (ap Some (judged_some (had_header_of mid) (place_of mid) (frame_bytes f ++ rest) f rest (frame_is_next (had_header_of mid) (place_of mid) f rest gave.is_frame))) fault,
     )
 
     of : RefusedStep g mid now (why.Refused e) → RefusesRest g first now (why.Refused e)
-    of (inl refuses) = refuses_more judge (λ b. next_of (had_header_of mid) (place_of mid) b ≡ Err e) (g.has_passed first.feed) (g.has_passed mid.feed) (g.has_passed now.feed) (g.remaining first.feed) (g.remaining mid.feed) (g.remaining now.feed) (joined frames) so_far.told so_far.logged by_reader refuses
+    of (inl refuses) = refuses_more judge (λ b. next_of (had_header_of mid) (place_of mid) b ≡ Err e) (g.has_passed first.feed) (g.has_passed mid.feed) (g.has_passed now.feed) (g.remaining first.feed) (g.remaining mid.feed) (g.remaining now.feed) (joined_frames frames) so_far.told so_far.logged by_reader refuses
     of (inr (f, gave, fault)) = record {
-      read = joined frames ++ frame_bytes f;
-      told = prepend_more _ _ _ (joined frames) (frame_bytes f) so_far.told gave.told;
-      logged = passes_more (g.has_passed first.feed) (g.has_passed mid.feed) (g.has_passed now.feed) (joined frames) (frame_bytes f) so_far.logged gave.logged;
+      read = joined_frames frames ++ frame_bytes f;
+      told = prepend_more _ _ _ (joined_frames frames) (frame_bytes f) so_far.told gave.told;
+      logged = passes_more (g.has_passed first.feed) (g.has_passed mid.feed) (g.has_passed now.feed) (joined_frames frames) (frame_bytes f) so_far.logged gave.logged;
       faulty = inl (by_payload f gave fault);
     }
   has_read_refused first mid now frames why.Read so_far refused = tt
