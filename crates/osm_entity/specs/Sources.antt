@@ -50,10 +50,8 @@ tag_of table pair = (text table pair.0, text table pair.1)
 
 -- a key, its value, and so on, up to a 0 in key place
 abbrev pub run : List ℕ → List (ℕ × ℕ)
-run [] = []
-run (zero ∷ rest) = []
-run (suc key ∷ []) = []
 run (suc key ∷ value ∷ rest) = (suc key, value) ∷ run rest
+run _ = []
 
 -- the tags of one run
 abbrev pub run_tags : List (List ℕ) → List ℕ → List TagSpec

@@ -30,14 +30,9 @@ likeness_of (relation r) = record { kind = kind.Relation; scale = r.scale; field
 
 abbrev pub same_kind : MemberKind → MemberKind → Bool
 same_kind kind.Node kind.Node = true
-same_kind kind.Node kind.Way = false
-same_kind kind.Node kind.Relation = false
-same_kind kind.Way kind.Node = false
 same_kind kind.Way kind.Way = true
-same_kind kind.Way kind.Relation = false
-same_kind kind.Relation kind.Node = false
-same_kind kind.Relation kind.Way = false
 same_kind kind.Relation kind.Relation = true
+same_kind _ _ = false
 
 abbrev pub same_present : PresentFields → PresentFields → Bool
 same_present f g =

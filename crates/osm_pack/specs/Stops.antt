@@ -6,8 +6,6 @@ use Rattle.pbf_frame.specs.Devices.{HasRisen}
 
 -- a stop names the drain only where its count of failures rose, and never a feed
 abbrev pub IsPackStop : ℕ → ℕ → Stop → Type 0
-IsPackStop old new (Refused f) = ⊥
-IsPackStop old new Read = ⊥
 IsPackStop old new Write = HasRisen old new
 IsPackStop old new Memory = Unit {0}
-IsPackStop old new (Changed pass) = ⊥
+IsPackStop _ _ _ = ⊥

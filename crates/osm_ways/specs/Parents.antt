@@ -7,9 +7,8 @@ use Rattle.osm_ways.specs.Selection.{MemberSeen, node_member, way_member, relati
 
 -- a relation of this id that has a selecting member
 abbrev pub is_selected : IdTest → IdTest → IdTest → ℤ → Seen → Bool
-is_selected nodes ways relations id (a_node own inside) = false
-is_selected nodes ways relations id (a_way own refs) = false
 is_selected nodes ways relations id (a_relation own members) = is_kept_relation nodes ways relations members && int_eq id own
+is_selected _ _ _ _ _ = false
 
 -- the ids of the relations that have a selecting member
 abbrev pub selected : IdTest → IdTest → List Seen → IdTest → IdTest
@@ -41,15 +40,13 @@ extract_with_parents look xs = filter (λ x. keeps_with_parents (map look xs) (l
 -- ---- the same by links
 
 abbrev pub is_relation_member : ℤ → MemberSeen → Bool
-is_relation_member id (node_member own) = false
-is_relation_member id (way_member own) = false
 is_relation_member id (relation_member own) = int_eq id own
+is_relation_member _ _ = false
 
 -- a relation that links its member to itself
 abbrev pub has_link : Link → Seen → Bool
-has_link link (a_node own inside) = false
-has_link link (a_way own refs) = false
 has_link link (a_relation own members) = int_eq link.parent own && list_any (is_relation_member link.member) members
+has_link _ _ = false
 
 -- a link from each relation member to its relation
 abbrev pub links_in : List Seen → Link → Bool

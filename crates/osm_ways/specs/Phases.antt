@@ -67,9 +67,8 @@ with_way sets id refs =
 
 -- the link of a member to its relation
 abbrev pub with_link : ℤ → LinkSet → MemberSeen → LinkSet
-with_link id links (node_member own) = links
-with_link id links (way_member own) = links
 with_link id links (relation_member own) = set.insert links (record { member = own; parent = id })
+with_link _ links _ = links
 
 -- whether a node or a way selects a relation
 abbrev pub is_start : WaySets → List MemberSeen → Bool
@@ -83,18 +82,15 @@ with_relation sets id members =
 
 abbrev pub node_step : Ids → Seen → Ids
 node_step ids (a_node id inside) = with_node ids id inside
-node_step ids (a_way id refs) = ids
-node_step ids (a_relation id members) = ids
+node_step ids _ = ids
 
 abbrev pub way_step : WaySets → Seen → WaySets
-way_step sets (a_node id inside) = sets
 way_step sets (a_way id refs) = with_way sets id refs
-way_step sets (a_relation id members) = sets
+way_step sets _ = sets
 
 abbrev pub relation_step : RelationSets → Seen → RelationSets
-relation_step sets (a_node id inside) = sets
-relation_step sets (a_way id refs) = sets
 relation_step sets (a_relation id members) = with_relation sets id members
+relation_step sets _ = sets
 
 abbrev pub start_nodes : BoundingBox → NodeSets
 start_nodes area = record { area = area; box_ids = set.empty }

@@ -25,8 +25,7 @@ no_ids id = false
 
 abbrev pub is_box_node : ℤ → Seen → Bool
 is_box_node id (a_node own inside) = inside && int_eq id own
-is_box_node id (a_way own refs) = false
-is_box_node id (a_relation own members) = false
+is_box_node _ _ = false
 
 -- the ids of the nodes in the box
 abbrev pub box_ids : List Seen → IdTest
@@ -40,9 +39,8 @@ is_kept_way in_box refs = list_any in_box refs
 
 -- a kept way that refers to this id
 abbrev pub is_kept_ref : IdTest → ℤ → Seen → Bool
-is_kept_ref in_box id (a_node own inside) = false
 is_kept_ref in_box id (a_way own refs) = is_kept_way in_box refs && list_any (int_eq id) refs
-is_kept_ref in_box id (a_relation own members) = false
+is_kept_ref _ _ _ = false
 
 -- the box's nodes and all refs of kept ways, also to nodes that the list doesn't have
 abbrev pub node_ids : List Seen → IdTest
@@ -50,9 +48,8 @@ node_ids seen id = box_ids seen id || list_any (is_kept_ref (box_ids seen) id) s
 
 -- a kept way of this id
 abbrev pub is_kept_id : IdTest → ℤ → Seen → Bool
-is_kept_id in_box id (a_node own inside) = false
 is_kept_id in_box id (a_way own refs) = is_kept_way in_box refs && int_eq id own
-is_kept_id in_box id (a_relation own members) = false
+is_kept_id _ _ _ = false
 
 -- the ids of kept ways
 abbrev pub way_ids : List Seen → IdTest

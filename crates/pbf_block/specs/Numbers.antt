@@ -10,18 +10,15 @@ use Rattle.pbf_block.specs.Members.{How}
 
 abbrev pub nodes_of : EntitySpec → ℕ
 nodes_of (node n) = 1
-nodes_of (way w) = 0
-nodes_of (relation r) = 0
+nodes_of _ = 0
 
 abbrev pub ways_of : EntitySpec → ℕ
-ways_of (node n) = 0
 ways_of (way w) = 1
-ways_of (relation r) = 0
+ways_of _ = 0
 
 abbrev pub relations_of : EntitySpec → ℕ
-relations_of (node n) = 0
-relations_of (way w) = 0
 relations_of (relation r) = 1
+relations_of _ = 0
 
 -- a number as a u64, the greatest one where there are more
 abbrev pub capped : ℕ → ℕ

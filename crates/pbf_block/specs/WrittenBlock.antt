@@ -56,20 +56,17 @@ is_block es = all_alike es && (nat_le (length es) MOST_ENTITIES && nat_le (sum_b
 abbrev pub nodes_among : List EntitySpec → List NodeSpec
 nodes_among [] = []
 nodes_among (node n ∷ es) = n ∷ nodes_among es
-nodes_among (way w ∷ es) = nodes_among es
-nodes_among (relation r ∷ es) = nodes_among es
+nodes_among (_ ∷ es) = nodes_among es
 
 abbrev pub ways_among : List EntitySpec → List WaySpec
 ways_among [] = []
-ways_among (node n ∷ es) = ways_among es
 ways_among (way w ∷ es) = w ∷ ways_among es
-ways_among (relation r ∷ es) = ways_among es
+ways_among (_ ∷ es) = ways_among es
 
 abbrev pub relations_among : List EntitySpec → List RelationSpec
 relations_among [] = []
-relations_among (node n ∷ es) = relations_among es
-relations_among (way w ∷ es) = relations_among es
 relations_among (relation r ∷ es) = r ∷ relations_among es
+relations_among (_ ∷ es) = relations_among es
 
 -- ---- the message
 

@@ -41,11 +41,9 @@ coordinate_counts place os = fault_where (not (has_count (column_count ID os) LA
 -- keys with their values, and a 0 in key place, so many times, and nothing after
 abbrev pub are_runs : ℕ → List ℕ → Bool
 are_runs zero [] = true
-are_runs zero (x ∷ xs) = false
-are_runs (suc n) [] = false
 are_runs (suc n) (zero ∷ rest) = are_runs n rest
-are_runs (suc n) (suc key ∷ []) = false
 are_runs (suc n) (suc key ∷ value ∷ rest) = are_runs (suc n) rest
+are_runs _ _ = false
 
 -- there are no tags at all, or a run of them for each node
 abbrev pub are_tags : ℕ → List ℕ → Bool

@@ -38,12 +38,10 @@ nodes table scale os = map (node_at table scale os) (range_with_len 0 (length (c
 
 -- the nodes, as long as there are an id, a latitude and a longitude
 abbrev pub moving : List (List ℕ) → Scale → List ℤ → List ℤ → List ℤ → InfoSpec → List ℕ → List NodeSpec
-moving table scale [] lats lons info keys_vals = []
-moving table scale (id ∷ ids) [] lons info keys_vals = []
-moving table scale (id ∷ ids) (lat ∷ lats) [] info keys_vals = []
 moving table scale (id ∷ ids) (lat ∷ lats) (lon ∷ lons) info keys_vals =
     record { id = id; lat = lat; lon = lon; meta = meta_at table info 0; tags = map (tag_of table) (run keys_vals); scale = scale }
     ∷ moving table scale ids lats lons (later info) (after_run keys_vals)
+moving _ _ _ _ _ _ _ = []
 
 -- the values of the column k of differences, up to the first that is out of range
 abbrev pub values_along : ℕ → List Occurrence → List ℤ

@@ -20,10 +20,8 @@ BeginWithIds ids ns = (more : List ℤ) × (ids ≡ map id_of ns ++ more)
 
 -- the places, as long as there are an id, a latitude and a longitude
 abbrev pub places_along : Scale → List ℤ → List ℤ → List ℤ → List Place
-places_along scale [] lats lons = []
-places_along scale (id ∷ ids) [] lons = []
-places_along scale (id ∷ ids) (lat ∷ lats) [] = []
 places_along scale (id ∷ ids) (lat ∷ lats) (lon ∷ lons) = record { id = id; lat = nano_lat scale lat; lon = nano_lon scale lon } ∷ places_along scale ids lats lons
+places_along _ _ _ _ = []
 
 -- the places that are still to come
 unfoldable pub places_left : Places → List Place

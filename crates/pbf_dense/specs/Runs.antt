@@ -20,9 +20,8 @@ tags_start column (suc i) = tags_end column i + 1
 
 -- two by two
 abbrev pub pairs : List ℕ → List (ℕ × ℕ)
-pairs [] = []
-pairs (key ∷ []) = []
 pairs (key ∷ value ∷ rest) = (key, value) ∷ pairs rest
+pairs _ = []
 
 -- the tags of node i
 unfoldable pub tags_at : List (List ℕ) → List ℕ → ℕ → List TagSpec

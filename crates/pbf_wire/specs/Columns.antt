@@ -42,9 +42,8 @@ placed place numbers = map (λ v. (v, place)) numbers
 
 abbrev pub numbers_in : Content → List ℕ
 numbers_in (Number v) = v ∷ []
-numbers_in (Eight bytes) = []
-numbers_in (Four bytes) = []
 numbers_in (Bytes bytes at) = read_entries (entries bytes)
+numbers_in _ = []
 
 abbrev pub column_of : ℕ → Occurrence → List (ℕ × ℕ)
 column_of k o = if o.number == k then placed o.place (numbers_in o.content) else []

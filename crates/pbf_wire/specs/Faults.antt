@@ -23,10 +23,8 @@ fault_where false offset reason = []
 
 -- what an embedded message gives, by where its bytes begin and its bytes; nothing for another content
 abbrev pub inside : {X : Type 0} → (ℕ → List ℕ → List X) → Content → List X
-inside f (Number v) = []
-inside f (Eight bytes) = []
-inside f (Four bytes) = []
 inside f (Bytes bytes at) = f at bytes
+inside _ _ = []
 
 -- what a message that the field k holds gives, by its place, where its bytes begin, and its bytes
 abbrev pub entered : {X : Type 0} → ℕ → (ℕ → ℕ → List ℕ → List X) → Occurrence → List X
@@ -81,9 +79,8 @@ ends bytes = filter (λ b. nat_lt b 128) bytes
 
 abbrev pub ends_in : Content → List ℕ
 ends_in (Number v) = 0 ∷ []
-ends_in (Eight bytes) = []
-ends_in (Four bytes) = []
 ends_in (Bytes bytes at) = ends bytes
+ends_in _ = []
 
 abbrev pub ends_of : ℕ → Occurrence → List ℕ
 ends_of k o = if o.number == k then ends_in o.content else []
@@ -133,9 +130,7 @@ index_sum_faults limit entries = faults_of_sums (is_index limit) StringIndex tru
 
 abbrev pub value_in : ℕ → Content → Option (ℕ × ℕ)
 value_in place (Number v) = Some (place, v)
-value_in place (Eight bytes) = None
-value_in place (Four bytes) = None
-value_in place (Bytes bytes at) = None
+value_in _ _ = None
 
 abbrev pub value_of_last : Option Occurrence → Option (ℕ × ℕ)
 value_of_last None = None

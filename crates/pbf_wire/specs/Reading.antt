@@ -9,9 +9,7 @@ last_of k os = last_or None (filter (λ o. o.number == k) os)
 
 abbrev pub number_in : Content → Option ℕ
 number_in (Number v) = Some v
-number_in (Eight bytes) = None
-number_in (Four bytes) = None
-number_in (Bytes bytes at) = None
+number_in _ = None
 
 -- the number that an occurrence gives the field k
 abbrev pub number_of : ℕ → Occurrence → Option ℕ
@@ -26,10 +24,8 @@ abbrev pub last_number : ℕ → List Occurrence → Option ℕ
 last_number k os = last_or None (numbers k os)
 
 abbrev pub bytes_in : Content → Option (List ℕ)
-bytes_in (Number v) = None
-bytes_in (Eight bytes) = None
-bytes_in (Four bytes) = None
 bytes_in (Bytes bytes at) = Some bytes
+bytes_in _ = None
 
 -- the bytes, and none where it is no bytes
 abbrev pub bytes_held : Content → List ℕ

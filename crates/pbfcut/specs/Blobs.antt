@@ -9,9 +9,8 @@ use Rattle.osm_text.specs.Quoted.{quoted}
 
 -- the type as it stands, where it is known
 abbrev pub shown_name : FrameKind → List ℕ → List ℕ
-shown_name kind.Header name = name
-shown_name kind.Data name = name
 shown_name kind.Other name = quoted name
+shown_name _ name = name
 
 -- the payload's length, or that the blob isn't looked into
 abbrev pub shown_length : FrameKind → ℕ → List ℕ
