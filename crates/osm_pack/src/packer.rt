@@ -30,8 +30,12 @@ impl<D: Drain, S: BuildHasher> Model for Packer<D, S> {
 
     ghost use Rattle.osm_pack.specs.Open.{IsOpen};
 
-    ghost view = { λ p. record { drain = p.drain; block = p.block; begun = p.begun;
-        stop = p.stop } };
+    ghost view = { λ p. record {
+      drain = p.drain;
+      block = p.block;
+      begun = p.begun;
+      stop = p.stop;
+    } };
 
     ghost invariant = { λ p. IsOpen p.block };
 }

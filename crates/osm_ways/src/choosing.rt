@@ -31,8 +31,11 @@ impl<'a> Model for Chooser<'a> {
 
     ghost coded = { way_sets_code };
 
-    ghost view = { λ a. record { box_ids = a.box_ids; node_ids = set.union a.box_ids a.refs;
-        way_ids = a.way_ids } };
+    ghost view = { λ a. record {
+      box_ids = a.box_ids;
+      node_ids = set.union a.box_ids a.refs;
+      way_ids = a.way_ids;
+    } };
 }
 
 impl<'a> Chooser<'a> {

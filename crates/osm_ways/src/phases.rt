@@ -117,8 +117,11 @@ impl Model for WayPhase {
 
     ghost coded = { way_sets_code };
 
-    ghost view = { λ a. record { box_ids = a.box_ids; node_ids = set.union a.box_ids a.refs;
-        way_ids = a.way_ids } };
+    ghost view = { λ a. record {
+      box_ids = a.box_ids;
+      node_ids = set.union a.box_ids a.refs;
+      way_ids = a.way_ids;
+    } };
 }
 
 impl WayPhase {
@@ -219,6 +222,9 @@ impl Model for Chosen {
 
     ghost coded = { way_sets_code };
 
-    ghost view = { λ a. record { box_ids = a.box_ids; node_ids = set.union a.box_ids a.refs;
-        way_ids = a.way_ids } };
+    ghost view = { λ a. record {
+      box_ids = a.box_ids;
+      node_ids = set.union a.box_ids a.refs;
+      way_ids = a.way_ids;
+    } };
 }

@@ -10,7 +10,8 @@ use crate::varint::first_varint;
 /// The first number of a packed column, and the bytes after it; `None` where the bytes don't begin with a varint.
 pub fn first_number(packed: &[u8]) -> Option<(u64, &[u8])>
     ensures { MatchOption result (read_entries (entries packed.now) ≡ [])
-        (λ found. read_entries (entries packed.now) ≡ found.0 ∷ read_entries (entries found.1.now)) }
+        (λ found. read_entries (entries packed.now)
+        ≡ found.0 ∷ read_entries (entries found.1.now)) }
 {
     match first_varint(packed) {
         Ok((value, length)) => Some((value, &packed[length..])),
@@ -80,7 +81,8 @@ impl<'a> Column<'a> {
     #[inline(always)]
     #[tactic(auto, unfolding(crate::specs::Cursors::column_left))]
     fn advance_packed(&mut self) -> Option<u64>
-        ensures { MatchOption result ((read_entries (entries self.old.packed.now) ≡ []) × (self.new ≡ self.old))
+        ensures { MatchOption result
+            ((read_entries (entries self.old.packed.now) ≡ []) × (self.new ≡ self.old))
             (λ value. column_left self.old ≡ (value, place_of self.new) ∷ column_left self.new) }
     {
         let (value, rest) = first_number(self.packed)?;
@@ -92,7 +94,8 @@ impl<'a> Column<'a> {
     /// The next number, by what is left of the packed occurrence that was begun, and then by the fields after it.
     #[tactic(auto, unfolding(crate::specs::Cursors::column_left, crate::specs::Occurrence::items_past))]
     fn advance(&mut self) -> Option<u64>
-        ensures { MatchOption result ((column_left self.old ≡ []) × (column_left self.new ≡ []) × (place_of self.new ≡ place_of self.old))
+        ensures { MatchOption result ((column_left self.old ≡ []) × (column_left self.new ≡ [])
+            × (place_of self.new ≡ place_of self.old))
             (λ value. column_left self.old ≡ (value, place_of self.new) ∷ column_left self.new) }
     {
         loop {
@@ -140,7 +143,9 @@ impl<'a> Iterator for Column<'a> {
     fn next(&mut self) -> Option<u64>
         ensures steps { YieldsFirst numbers_left self.old result self.new }
         ensures goes { MakesProgress (λ _. ⊤) (item_count numbers_left) self.old result self.new }
-        ensures placed { MatchOption result ((column_left self.old ≡ []) × (column_left self.new ≡ []) × (place_of self.new ≡ place_of self.old))
+        ensures placed { MatchOption result
+            ((column_left self.old ≡ []) × (column_left self.new ≡ [])
+            × (place_of self.new ≡ place_of self.old))
             (λ value. column_left self.old ≡ (value, place_of self.new) ∷ column_left self.new) }
     {
         // Most numbers stand in the packed occurrence that was begun, and after it there is mostly nothing.

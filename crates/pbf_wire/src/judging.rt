@@ -227,8 +227,10 @@ fn sum_within(limit: u64) -> Sum
 
 /// The entry that a number of a column means, added to a sum.
 fn add_entry(sum: &mut Sum, narrow: bool, number: u64) -> Option<i64>
-    ensures sum { MatchOption result (¬ IsWithin sum.old.limit (sum.old.total +ℤ delta_in narrow number))
-        (λ _. (sum.new.total ≡ sum.old.total +ℤ delta_in narrow number) × IsWithin sum.old.limit sum.new.total) }
+    ensures sum { MatchOption result
+        (¬ IsWithin sum.old.limit (sum.old.total +ℤ delta_in narrow number))
+        (λ _. (sum.new.total ≡ sum.old.total +ℤ delta_in narrow number)
+        × IsWithin sum.old.limit sum.new.total) }
     ensures limit { sum.new.limit ≡ sum.old.limit }
 {
     sum.add(delta_in(narrow, number))
@@ -292,7 +294,8 @@ pub fn judge_sums(message: &[u8], at: u64, number: u64, limit: u64, narrow: bool
 fn next_index(index: u64, number: u64, limit: u64) -> Option<u64>
     requires { limit ≤ 2 ^ 62 }
     ensures { MatchOption result (is_index limit (pos index +ℤ low_sint32 number) ≡ false)
-        (λ sum. (is_index limit (pos index +ℤ low_sint32 number) ≡ true) × (pos sum ≡ pos index +ℤ low_sint32 number)) }
+        (λ sum. (is_index limit (pos index +ℤ low_sint32 number) ≡ true)
+        × (pos sum ≡ pos index +ℤ low_sint32 number)) }
 {
     let sum = index.checked_add_signed(i64::from(low_sint32(number)))?;
     if sum < limit { Some(sum) } else { None }

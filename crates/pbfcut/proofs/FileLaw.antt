@@ -17,7 +17,7 @@ use Rattle.pbf_frame.specs.declared.frame.FrameKind.{FrameKind}
 use Rattle.pbf_frame.specs.declared.frame.FrameKind.TheVariants as kind
 use Rattle.pbf_frame.specs.Frames.{FrameSpec, frame_end, frame_kind, frame_payload, frame_payload_at, order_faults, is_header, prefix_at, after_prefix, next_of}
 use Rattle.pbf_frame.specs.Sound.{IsFrame, AreFrames, had_after, place_after}
-use Rattle.pbf_frame.specs.Verdict.{Verdict, judged_within, judged, with_first, with_all, joined}
+use Rattle.pbf_frame.specs.Verdict.{Verdict, judged_within, judged, with_first, with_all, joined_frames}
 use Rattle.pbf_frame.specs.Writing.{written_at, written_frame}
 use Rattle.pbf_frame.proofs.Longest.{frames_then_rest}
 use Rattle.pbf_frame.proofs.ReadBack.{written_is_frame, written_kind, written_payload, written_bytes}
@@ -35,10 +35,11 @@ use Rattle.osm_pack.proofs.CutLaws.{cuts_joined, cuts_kept}
 use Rattle.osm_pack.proofs.CutLemmas.{kept_bounds}
 use Rattle.osm_pack.proofs.OpenLemmas.{alone}
 use Rattle.pbfcut.specs.Converting.{header_limit, with_limit, limited}
-use Rattle.pbfcut.specs.Counting.{entities_of, frame_entities, stored_entities}
+use Rattle.pbfcut.specs.Counting.{entities_in, frame_entities, stored_entities}
 use Rattle.pbfcut.specs.Kept.{verdict_on}
-use Rattle.pbfcut.specs.Judged.{payload_fault_of, payload_fault, sound_first, sound_front, fully, judged_file}
-use Rattle.pbfcut.specs.Pass.{headers_of, frame_headers, file_header}
+use Rattle.pbfcut.specs.Judged.{fault_in, payload_fault, sound_first, sound_front, fully, judged_file}
+use Rattle.pbfcut.specs.Pass.{headers_in, frame_headers, file_header}
+use Rattle.pbfcut.specs.Payload.{header_block, payload_as}
 use Rattle.pbf_block.specs.declared.header_write.TheConstants.{MOST_HEADER_TEXT}
 use Rattle.osm_entity.specs.declared.weight.TheConstants.{HIGHEST_WEIGHT}
 
@@ -104,17 +105,17 @@ module _ (place : ℕ) (block : List EntitySpec) (is : IsWritten block) where
   block_sound : payload_fault (block_at place block) ≡ None
   block_sound =
       let at = frame_payload_at (block_at place block) in
-      ap (λ (k : FrameKind). payload_fault_of k at (frame_payload (block_at place block))) block_kind
+      ap (λ (k : FrameKind). fault_in (payload_as k at (frame_payload (block_at place block)))) block_kind
       ∙ (ap (λ (m : List ℕ). block_fault at m) block_payload ∙ written_sound block is.together is.fit is.typed at)
 
   block_entities : frame_entities (block_at place block) ≡ block
   block_entities =
       let at = frame_payload_at (block_at place block) in
-      ap (λ (k : FrameKind). entities_of k at (frame_payload (block_at place block))) block_kind
+      ap (λ (k : FrameKind). entities_in (payload_as k at (frame_payload (block_at place block)))) block_kind
       ∙ (ap (λ (m : List ℕ). entities at m) block_payload ∙ written_read block is.together is.fit is.typed at)
 
   block_headers : frame_headers (block_at place block) ≡ []
-  block_headers = ap (λ (k : FrameKind). headers_of k (frame_payload_at (block_at place block)) (frame_payload (block_at place block))) block_kind
+  block_headers = ap (λ (k : FrameKind). headers_in (payload_as k (frame_payload_at (block_at place block)) (frame_payload (block_at place block)))) block_kind
 
 -- ---- the frames of blocks
 
@@ -123,10 +124,10 @@ abbrev blocks_at : ℕ → List (List EntitySpec) → List FrameSpec
 blocks_at place [] = []
 blocks_at place (block ∷ blocks) = block_at place block ∷ blocks_at (frame_end (block_at place block)) blocks
 
-blocks_joined : (place : ℕ) (blocks : List (List EntitySpec)) → joined (blocks_at place blocks) ≡ flat_map block_frame blocks
+blocks_joined : (place : ℕ) (blocks : List (List EntitySpec)) → joined_frames (blocks_at place blocks) ≡ flat_map block_frame blocks
 blocks_joined place [] = refl
 blocks_joined place (block ∷ blocks) =
-    ap (λ (l : List ℕ). l ++ joined (blocks_at (frame_end (block_at place block)) blocks)) (written_bytes place kind.Data (block_message block))
+    ap (λ (l : List ℕ). l ++ joined_frames (blocks_at (frame_end (block_at place block)) blocks)) (written_bytes place kind.Data (block_message block))
     ∙ ap (λ (l : List ℕ). block_frame block ++ l) (blocks_joined (frame_end (block_at place block)) blocks)
 
 blocks_are_frames : (place : ℕ) (blocks : List (List EntitySpec)) → AllByRecursion IsWritten blocks → place + length (flat_map block_frame blocks) ≤ 2 ^ 62 → AreFrames true place (blocks_at place blocks)
@@ -211,10 +212,10 @@ module _ (h : HeaderSpec) (es : List EntitySpec) (fits : HeaderFits (header_out_
   first_sound : payload_fault first ≡ None
   first_sound =
       let at = frame_payload_at first in
-      ap (λ (k : FrameKind). payload_fault_of k at (frame_payload first)) first_kind ∙ (ap (λ (m : List ℕ). header_fault at m) first_payload ∙ light_sound at (header_out_for_convert h) fits short)
+      ap (λ (k : FrameKind). fault_in (payload_as k at (frame_payload first))) first_kind ∙ (ap (λ (m : List ℕ). header_fault at m) first_payload ∙ light_sound at (header_out_for_convert h) fits short)
 
   first_entities : frame_entities first ≡ []
-  first_entities = ap (λ (k : FrameKind). entities_of k (frame_payload_at first) (frame_payload first)) first_kind
+  first_entities = ap (λ (k : FrameKind). entities_in (payload_as k (frame_payload_at first) (frame_payload first))) first_kind
 
   abbrev placed : ℕ × HeaderSpec
   placed = (frame_payload_at first, header_out_for_convert h)
@@ -222,14 +223,14 @@ module _ (h : HeaderSpec) (es : List EntitySpec) (fits : HeaderFits (header_out_
   first_headers : frame_headers first ≡ placed ∷ []
   first_headers =
       let at = frame_payload_at first in
-      ap (λ (k : FrameKind). headers_of k at (frame_payload first)) first_kind
-      ∙ (ap (λ (m : List ℕ). headers_of kind.Header at m) first_payload ∙ ap (λ (g : HeaderSpec). let p : ℕ × HeaderSpec = (at, g) in p ∷ []) (light_read at (header_out_for_convert h) fits short))
+      ap (λ (k : FrameKind). headers_in (payload_as k at (frame_payload first))) first_kind
+      ∙ (ap (λ (m : List ℕ). headers_in (header_block at m)) first_payload ∙ ap (λ (g : HeaderSpec). let p : ℕ × HeaderSpec = (at, g) in p ∷ []) (light_read at (header_out_for_convert h) fits short))
 
   written : AllByRecursion IsWritten (cuts es)
   written = cuts_written es fit typed
 
-  joined_all : joined file_frames ≡ written_file h es
-  joined_all = ap (λ (l : List ℕ). l ++ joined later) (written_bytes 0 kind.Header message) ∙ ap (λ (l : List ℕ). header_frame h ++ l) (blocks_joined (frame_end first) (cuts es))
+  joined_all : joined_frames file_frames ≡ written_file h es
+  joined_all = ap (λ (l : List ℕ). l ++ joined_frames later) (written_bytes 0 kind.Header message) ∙ ap (λ (l : List ℕ). header_frame h ++ l) (blocks_joined (frame_end first) (cuts es))
 
   are_frames : AreFrames false 0 file_frames
   are_frames =
@@ -245,7 +246,7 @@ module _ (h : HeaderSpec) (es : List EntitySpec) (fits : HeaderFits (header_out_
   file_judged : judged false 0 (written_file h es) ≡ (file_frames, None)
   file_judged =
       let last = place_after 0 file_frames in
-      ap (λ (l : List ℕ). judged false 0 l) (sym (append-nil (joined file_frames) ∙ joined_all))
+      ap (λ (l : List ℕ). judged false 0 l) (sym (append-nil (joined_frames file_frames) ∙ joined_all))
       ∙ (frames_then_rest false 0 file_frames [] are_frames
       ∙ (ap (λ (b : Bool). with_all file_frames (judged b last [])) had_header
       ∙ (ap (λ (v : Verdict). with_all file_frames v) (nothing_left last) ∙ ap (λ (l : List FrameSpec). let v : Verdict = (l, None) in v) (append-nil file_frames))))

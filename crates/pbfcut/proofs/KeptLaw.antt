@@ -32,12 +32,13 @@ use Rattle.pbf_block.proofs.HeaderLemmas.{header_again}
 use Rattle.pbf_block.proofs.ReadHeaderLaw.{header_fits}
 use Rattle.osm_pack.specs.Cuts.{written_entities, written_file}
 use Rattle.pbfcut.specs.Converting.{header_limit, is_short, with_limit, limited, conversion, judged_writable, answer_bytes}
-use Rattle.pbfcut.specs.Counting.{entities_of, frame_entities, stored_entities}
+use Rattle.pbfcut.specs.Counting.{entities_in, frame_entities, stored_entities}
 use Rattle.pbfcut.specs.Extracting.{Choice, complete_ways, all_parents, extraction, extract_bytes}
-use Rattle.pbfcut.specs.Judged.{payload_fault_of, payload_fault, sound_first, sound_front, fully}
+use Rattle.pbfcut.specs.Judged.{fault_in, payload_fault, sound_first, sound_front, fully}
 use Rattle.pbfcut.specs.Kept.{verdict_on, IsWritable, header_in_file, entities_in_file, conversion_of, extract_of}
 use Rattle.pbfcut.specs.Theorem.{IsConversion, IsExtract}
-use Rattle.pbfcut.specs.Pass.{headers_of, frame_headers, file_header}
+use Rattle.pbfcut.specs.Pass.{headers_in, frame_headers, file_header}
+use Rattle.pbfcut.specs.Payload.{Payload, header_block, primitive_block, unknown, payload_of}
 use Rattle.pbfcut.proofs.FileLaw.{IsFileOf, written_is_file}
 use Rattle.pbf_block.specs.declared.header_write.TheConstants.{MOST_HEADER_TEXT}
 
@@ -54,23 +55,23 @@ front_sound : (frames : List FrameSpec) (ending : Option Fault) → (sound_front
 front_sound [] ending e = tt
 front_sound (f ∷ frames) ending e = first_sound (payload_fault f) f (sound_front frames ending) refl e (front_sound frames ending)
 
-kind_fits : (k : FrameKind) (at : ℕ) (m : List ℕ) → payload_fault_of k at m ≡ None → AllByRecursion EntityFits (entities_of k at m)
-kind_fits kind.Header at m e = tt
-kind_fits kind.Data at m e = entities_fit at m e
-kind_fits kind.Other at m e = tt
+payload_fits : (p : Payload) → fault_in p ≡ None → AllByRecursion EntityFits (entities_in p)
+payload_fits (header_block at m) e = tt
+payload_fits (primitive_block at m) e = entities_fit at m e
+payload_fits unknown e = tt
 
-kind_typed : (k : FrameKind) (at : ℕ) (m : List ℕ) → AllByRecursion EntityTyped (entities_of k at m)
-kind_typed kind.Header at m = tt
-kind_typed kind.Data at m = entities_typed at m
-kind_typed kind.Other at m = tt
+payload_typed : (p : Payload) → AllByRecursion EntityTyped (entities_in p)
+payload_typed (header_block at m) = tt
+payload_typed (primitive_block at m) = entities_typed at m
+payload_typed unknown = tt
 
 all_fit : (frames : List FrameSpec) → AllByRecursion IsSound frames → AllByRecursion EntityFits (stored_entities frames)
 all_fit [] sound = tt
-all_fit (f ∷ frames) sound = all_append EntityFits (frame_entities f) (stored_entities frames) (kind_fits (frame_kind f) (frame_payload_at f) (frame_payload f) sound.0) (all_fit frames sound.1)
+all_fit (f ∷ frames) sound = all_append EntityFits (frame_entities f) (stored_entities frames) (payload_fits (payload_of f) sound.0) (all_fit frames sound.1)
 
 all_typed : (frames : List FrameSpec) → AllByRecursion EntityTyped (stored_entities frames)
 all_typed [] = tt
-all_typed (f ∷ frames) = all_append EntityTyped (frame_entities f) (stored_entities frames) (kind_typed (frame_kind f) (frame_payload_at f) (frame_payload f)) (all_typed frames)
+all_typed (f ∷ frames) = all_append EntityTyped (frame_entities f) (stored_entities frames) (payload_typed (payload_of f)) (all_typed frames)
 
 -- ---- its header
 
@@ -80,14 +81,14 @@ Placed = ℕ × HeaderSpec
 abbrev HeadFits : Placed → Type 0
 HeadFits p = HeaderFits (header_out_for_convert p.1)
 
-kind_header : (k : FrameKind) (at : ℕ) (m : List ℕ) → AllByRecursion HeadFits (headers_of k at m)
-kind_header kind.Header at m = (header_fits at m, tt)
-kind_header kind.Data at m = tt
-kind_header kind.Other at m = tt
+payload_headers : (p : Payload) → AllByRecursion HeadFits (headers_in p)
+payload_headers (header_block at m) = (header_fits at m, tt)
+payload_headers (primitive_block at m) = tt
+payload_headers unknown = tt
 
 all_headers : (frames : List FrameSpec) → AllByRecursion HeadFits (flat_map frame_headers frames)
 all_headers [] = tt
-all_headers (f ∷ frames) = all_append HeadFits (frame_headers f) (flat_map frame_headers frames) (kind_header (frame_kind f) (frame_payload_at f) (frame_payload f)) (all_headers frames)
+all_headers (f ∷ frames) = all_append HeadFits (frame_headers f) (flat_map frame_headers frames) (payload_headers (payload_of f)) (all_headers frames)
 
 last_fits : (ps : List Placed) (before : Option Placed) → AllByRecursion HeadFits ps → IfSome before HeadFits → IfSome (last_or before ps) HeadFits
 last_fits [] before all h = h

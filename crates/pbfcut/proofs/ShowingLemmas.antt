@@ -17,7 +17,7 @@ use Rattle.pbf_frame.specs.declared.stop.Stop.{Stop}
 use Rattle.pbf_frame.specs.Next.{Gave, verdict}
 use Rattle.pbf_frame.specs.Reads.{IsReaderStop}
 use Rattle.pbfcut.specs.Judged.{payload_fault, fully_known, judged_file}
-use Rattle.pbfcut.specs.Showing.{frame_text, file_text, answer_text, Shown, ShowsFront, StopsShowing, StoppedInPayload}
+use Rattle.pbfcut.specs.Showing.{frame_text, file_text, answer_text, Shown, ShowsFront, FailsToShow}
 use Rattle.pbfcut.specs.Stops.{Caused, Only, unchanged}
 use Rattle.pbf_frame.proofs.Beginnings.{front_whole, front_longer, front_then}
 use Rattle.osm_text.specs.EntityText.{entity_line}
@@ -31,17 +31,17 @@ read_stops fault (read.Refused x) before now refused = refused x refl
 read_stops fault read.Memory before now refused = tt
 
 -- whatever a step that stopped wrote, it went out of the next frame's text
-pub stopped_fully : {F D : Type 0} (g : feed.Ghosts F) (d : drain.Ghosts D) (dates : Bool) (reader read : FrameReader F) (old new : D) (s : Stop) → StoppedStep g reader read (StopsShowing d dates old new) (new ≡ old) s
+pub stopped_fully : {F D : Type 0} (g : feed.Ghosts F) (d : drain.Ghosts D) (dates : Bool) (reader read : FrameReader F) (old new : D) (s : Stop) → StoppedStep g reader read (FailsToShow d dates old new) (new ≡ old) s
     → StoppedWithin (frame_text dates) (fully_known (verdict g.remaining reader)) (d.taken old) (d.taken new)
 stopped_fully g d dates reader read old new s stopped = of stopped.where_it_stopped where
   mid : Option Verdict
   mid = verdict g.remaining reader
 
-  at_frame : (f : FrameSpec) → mid ≡ with_first_known f (verdict g.remaining read) → StoppedInPayload (payload_fault f) (frame_text dates f) (d.taken old) (d.taken new) → StoppedWithin (frame_text dates) (fully_known mid) (d.taken old) (d.taken new)
+  at_frame : (f : FrameSpec) → mid ≡ with_first_known f (verdict g.remaining read) → ((d.taken new ≡ d.taken old) ⊎ ((payload_fault f ≡ None) × IsFront (d.taken old) (d.taken new) (frame_text dates f))) → StoppedWithin (frame_text dates) (fully_known mid) (d.taken old) (d.taken new)
   at_frame f is (inl same) = inl same
   at_frame f is (inr (sound, front)) = inr (f, fully_known (verdict g.remaining read), fully_first mid (verdict g.remaining read) f is sound, front)
 
-  of : ((Gave mid (Err s) (verdict g.remaining read) × IsReaderStop (g.failures reader.feed) (g.failures read.feed) s × (new ≡ old)) ⊎ ((f : FrameSpec) × (mid ≡ with_first_known f (verdict g.remaining read)) × StopsShowing d dates old new f s))
+  of : ((Gave mid (Err s) (verdict g.remaining read) × IsReaderStop (g.failures reader.feed) (g.failures read.feed) s × (new ≡ old)) ⊎ ((f : FrameSpec) × (mid ≡ with_first_known f (verdict g.remaining read)) × FailsToShow d dates old new f s))
       → StoppedWithin (frame_text dates) (fully_known mid) (d.taken old) (d.taken new)
   of (inl (gave, why, same)) = inl (ap d.taken same)
   of (inr (f, is, why)) = at_frame f is why.front

@@ -9,14 +9,12 @@ use Rattle.std.proofs.lemmas.List.{append-nil}
 use Rattle.std.proofs.lemmas.List.Elements.{filter-append}
 use Rattle.pbf_wire.specs.declared.fault.Fault.{Fault}
 use Rattle.osm_entity.specs.Entity.{EntitySpec}
-use Rattle.pbf_frame.specs.declared.frame.FrameKind.{FrameKind}
-use Rattle.pbf_frame.specs.declared.frame.FrameKind.TheVariants as kind
 use Rattle.pbf_frame.specs.declared.device.Feed as feed
 use Rattle.pbf_frame.specs.declared.reader.FrameReader.{FrameReader}
 use Rattle.pbf_frame.specs.declared.stop.Stop.{Stop}
 use Rattle.pbf_frame.specs.declared.stop.Stop.TheVariants as why
 use Rattle.pbf_frame.specs.Devices.{IsAtEnd, HasRisen, Passes, prepend}
-use Rattle.pbf_frame.specs.Frames.{FrameSpec, is_header, frame_kind, frame_end, frame_bytes, frame_payload, frame_payload_at, next_of}
+use Rattle.pbf_frame.specs.Frames.{FrameSpec, is_header, frame_kind, frame_end, frame_bytes, next_of}
 use Rattle.pbf_frame.specs.Refusals.{Refuses, RefusedBy}
 use Rattle.pbf_frame.specs.Next.{Advances, Gave, IsReading, place_of, had_header_of, verdict}
 use Rattle.pbf_frame.specs.Sound.{IsFrame}
@@ -25,9 +23,10 @@ use Rattle.pbf_frame.specs.Verdict.{Verdict, with_first_known, with_all, Gone, S
 use Rattle.pbf_block.specs.declared.counts.Counts.{Counts}
 use Rattle.pbfcut.specs.declared.pass.Pass.{Pass}
 use Rattle.pbfcut.specs.Judged.{payload_fault, sound_first, fully, fully_known}
-use Rattle.pbfcut.specs.Counting.{counted_with, counts_of, entities_of, frame_entities, stored_entities}
+use Rattle.pbfcut.specs.Counting.{counted_with, counts_of, entities_in, frame_entities, stored_entities}
 use Rattle.pbfcut.specs.Pick.{Pick, TakesPicked}
-use Rattle.pbfcut.specs.Pass.{TakesSome, TakesPayload, Takes, Follows, IsStep, HoldsHeader, headers_of, frame_headers, file_header}
+use Rattle.pbfcut.specs.Pass.{TakesSome, TakesPayload, Follows, IsStep, HoldsHeader, headers_in, frame_headers, file_header}
+use Rattle.pbfcut.specs.Payload.{Payload, header_block, primitive_block, unknown, payload_of}
 use Rattle.pbfcut.specs.Stops.{Caused, FaultOf, Only, unchanged, KeepsFeed}
 use Rattle.pbfcut.proofs.CountLemmas.{counts_together, stored_one}
 
@@ -237,26 +236,27 @@ module _ {F : Type 0} (g : feed.Ghosts F) (old new : FrameReader F) (failed : Fr
 
 -- ---- frames done
 
-taken_counts_of : (some : List EntitySpec → List EntitySpec) → some [] ≡ [] → (k : FrameKind) (at : ℕ) (payload : List ℕ) (old new : Pass) (es : List EntitySpec) → TakesSome k at payload (some (entities_of k at payload)) old new
-    → old.counts ≡ counts_of es → new.counts ≡ counts_of (es ++ some (entities_of k at payload))
-taken_counts_of some none kind.Header at payload old new es h so_far = h.2 ∙ (so_far ∙ ap (λ (l : List EntitySpec). counts_of l) (sym (append-nil es) ∙ ap (λ (l : List EntitySpec). es ++ l) (sym none)))
-taken_counts_of some none kind.Data at payload old new es h so_far =
-    h.2 ∙ (ap (λ (c : Counts). counted_with c (counts_of (some (entities_of kind.Data at payload)))) so_far ∙ counts_together es (some (entities_of kind.Data at payload)))
-taken_counts_of some none kind.Other at payload old new es h so_far =
-    ap (λ (p : Pass). p.counts) h ∙ (so_far ∙ ap (λ (l : List EntitySpec). counts_of l) (sym (append-nil es) ∙ ap (λ (l : List EntitySpec). es ++ l) (sym none)))
+taken_counts_of : (some : List EntitySpec → List EntitySpec) → some [] ≡ [] → (p : Payload) (old new : Pass) (es : List EntitySpec) → TakesSome p (some (entities_in p)) old new
+    → old.counts ≡ counts_of es → new.counts ≡ counts_of (es ++ some (entities_in p))
+taken_counts_of some none (header_block at message) old new es h so_far = h.2 ∙ (so_far ∙ ap (λ (l : List EntitySpec). counts_of l) (sym (append-nil es) ∙ ap (λ (l : List EntitySpec). es ++ l) (sym none)))
+taken_counts_of some none (primitive_block at message) old new es h so_far =
+    let found = entities_in (primitive_block at message) in
+    h.2 ∙ (ap (λ (c : Counts). counted_with c (counts_of (some found))) so_far ∙ counts_together es (some found))
+taken_counts_of some none unknown old new es h so_far = ap (λ (p : Pass). p.counts) h ∙ (so_far ∙ ap (λ (l : List EntitySpec). counts_of l) (sym (append-nil es) ∙ ap (λ (l : List EntitySpec). es ++ l) (sym none)))
 
 -- one more frame is counted
-pub taken_counts : (f : FrameSpec) (old new : Pass) (fs : List FrameSpec) → Takes f old new → old.counts ≡ counts_of (stored_entities fs) → new.counts ≡ counts_of (stored_entities (fs ++ f ∷ []))
+pub taken_counts : (f : FrameSpec) (old new : Pass) (fs : List FrameSpec) → TakesPayload (payload_of f) old new → old.counts ≡ counts_of (stored_entities fs) → new.counts ≡ counts_of (stored_entities (fs ++ f ∷ []))
 taken_counts f old new fs h so_far =
-    taken_counts_of (λ es. es) refl (frame_kind f) (frame_payload_at f) (frame_payload f) old new (stored_entities fs) h so_far ∙ ap (λ (l : List EntitySpec). counts_of l) (sym (stored_one fs f))
+    taken_counts_of (λ es. es) refl (payload_of f) old new (stored_entities fs) h so_far ∙ ap (λ (l : List EntitySpec). counts_of l) (sym (stored_one fs f))
 
 -- what is picked of the frames
 pub picked_one : (pick : Pick) (fs : List FrameSpec) (f : FrameSpec) → filter pick (stored_entities (fs ++ f ∷ [])) ≡ filter pick (stored_entities fs) ++ filter pick (frame_entities f)
 picked_one pick fs f = ap (λ (l : List EntitySpec). filter pick l) (stored_one fs f) ∙ filter-append pick (stored_entities fs) (frame_entities f)
 
-pub picked_counts : (pick : Pick) (f : FrameSpec) (old new : Pass) (fs : List FrameSpec) → TakesPicked pick f old new → old.counts ≡ counts_of (filter pick (stored_entities fs)) → new.counts ≡ counts_of (filter pick (stored_entities (fs ++ f ∷ [])))
+pub picked_counts : (pick : Pick) (f : FrameSpec) (old new : Pass) (fs : List FrameSpec) → TakesPicked pick (payload_of f) old new → old.counts ≡ counts_of (filter pick (stored_entities fs))
+    → new.counts ≡ counts_of (filter pick (stored_entities (fs ++ f ∷ [])))
 picked_counts pick f old new fs h so_far =
-    taken_counts_of (λ es. filter pick es) refl (frame_kind f) (frame_payload_at f) (frame_payload f) old new (filter pick (stored_entities fs)) h so_far ∙ ap (λ (l : List EntitySpec). counts_of l) (sym (picked_one pick fs f))
+    taken_counts_of (λ es. filter pick es) refl (payload_of f) old new (filter pick (stored_entities fs)) h so_far ∙ ap (λ (l : List EntitySpec). counts_of l) (sym (picked_one pick fs f))
 
 -- what comes last of what was put behind
 last_behind : {A : Type 0} (o : Option A) (xs : List A) (y : A) → last_or o (xs ++ y ∷ []) ≡ Some y
@@ -270,13 +270,13 @@ same_header : (o : Option (ℕ × HeaderSpec)) (old new : Pass) → new.header �
 same_header None old new e at holds = e ∙ holds
 same_header (Some header) old new e at holds = (ap (λ (h : Option Header). option_map header_of h) e ∙ holds.0, at ∙ holds.1)
 
-taken_header_of : (k : FrameKind) (at : ℕ) (payload : List ℕ) (old new : Pass) (hs : List (ℕ × HeaderSpec)) → TakesPayload k at payload old new → HoldsHeader (last_or None hs) old → HoldsHeader (last_or None (hs ++ headers_of k at payload)) new
-taken_header_of kind.Header at payload old new hs h holds = subst (λ (o : Option (ℕ × HeaderSpec)). HoldsHeader o new) (sym (last_behind None hs (at, header_in at payload))) (h.0, h.1)
-taken_header_of kind.Data at payload old new hs h holds = subst (λ (l : List (ℕ × HeaderSpec)). HoldsHeader (last_or None l) new) (sym (append-nil hs)) (same_header (last_or None hs) old new h.0 h.1 holds)
-taken_header_of kind.Other at payload old new hs h holds =
+taken_header_of : (p : Payload) (old new : Pass) (hs : List (ℕ × HeaderSpec)) → TakesPayload p old new → HoldsHeader (last_or None hs) old → HoldsHeader (last_or None (hs ++ headers_in p)) new
+taken_header_of (header_block at message) old new hs h holds = subst (λ (o : Option (ℕ × HeaderSpec)). HoldsHeader o new) (sym (last_behind None hs (at, header_in at message))) (h.0, h.1)
+taken_header_of (primitive_block at message) old new hs h holds = subst (λ (l : List (ℕ × HeaderSpec)). HoldsHeader (last_or None l) new) (sym (append-nil hs)) (same_header (last_or None hs) old new h.0 h.1 holds)
+taken_header_of unknown old new hs h holds =
     subst (λ (l : List (ℕ × HeaderSpec)). HoldsHeader (last_or None l) new) (sym (append-nil hs)) (same_header (last_or None hs) old new (ap (λ (p : Pass). p.header) h) (ap (λ (p : Pass). p.header_at) h) holds)
 
 -- the pass holds the header of one more frame
-pub taken_header : (f : FrameSpec) (old new : Pass) (fs : List FrameSpec) → Takes f old new → HoldsHeader (file_header fs) old → HoldsHeader (file_header (fs ++ f ∷ [])) new
+pub taken_header : (f : FrameSpec) (old new : Pass) (fs : List FrameSpec) → TakesPayload (payload_of f) old new → HoldsHeader (file_header fs) old → HoldsHeader (file_header (fs ++ f ∷ [])) new
 taken_header f old new fs h holds =
-    subst (λ (l : List (ℕ × HeaderSpec)). HoldsHeader (last_or None l) new) (sym (headers_one fs f)) (taken_header_of (frame_kind f) (frame_payload_at f) (frame_payload f) old new (flat_map frame_headers fs) h holds)
+    subst (λ (l : List (ℕ × HeaderSpec)). HoldsHeader (last_or None l) new) (sym (headers_one fs f)) (taken_header_of (payload_of f) old new (flat_map frame_headers fs) h holds)

@@ -12,7 +12,7 @@ use Rattle.osm_ways.specs.Phases.{WaySets, RelationSets, ParentSets, start_nodes
 use Rattle.osm_ways.specs.Seen.{seen_entity}
 use Rattle.osm_pack.specs.Cuts.{written_file}
 use Rattle.pbf_block.specs.Header.{HeaderSpec}
-use Rattle.pbf_block.specs.WrittenHeader.{header_out_for_box, edges_of, EdgesTyped}
+use Rattle.pbf_block.specs.WrittenHeader.{header_out_for_box}
 use Rattle.pbf_frame.specs.Frames.{FrameSpec}
 use Rattle.pbf_frame.specs.Verdict.{Verdict, Says}
 use Rattle.pbfcut.specs.Converting.{header_limit}
@@ -68,10 +68,8 @@ pub record ChoosesParents (area : BoundingBox) (first second third : Option Verd
 -- what the passes before the one that writes report of files: what was chosen, and the header that is written
 pub record IsChoice (area : BoundingBox) (first second : List ℕ) (sets : WaySets) (h : HeaderSpec) : Type 0 where
   pub chosen : Chooses area (judged_file (Some first)) (judged_file (Some second)) sets h
-  pub edges : EdgesTyped (edges_of area)
   pub short : IsShort h
 
 pub record IsChoiceWithParents (area : BoundingBox) (first second third : List ℕ) (sets : ParentSets) (h : HeaderSpec) : Type 0 where
   pub chosen : ChoosesParents area (judged_file (Some first)) (judged_file (Some second)) (judged_file (Some third)) sets h
-  pub edges : EdgesTyped (edges_of area)
   pub short : IsShort h

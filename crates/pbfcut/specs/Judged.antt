@@ -2,26 +2,20 @@
 use Rattle.std.specs.Prelude.{ℕ, List, [], ◌∷◌, false, Option, Some, None}
 use Rattle.std.specs.Option.{option_map}
 use Rattle.pbf_wire.specs.declared.fault.Fault.{Fault}
-use Rattle.pbf_frame.specs.declared.frame.Frame.{Frame}
-use Rattle.pbf_frame.specs.declared.frame.FrameKind.{FrameKind}
-use Rattle.pbf_frame.specs.declared.frame.FrameKind.TheVariants as kind
-use Rattle.pbf_frame.specs.Frames.{FrameSpec, frame_kind, frame_payload, frame_payload_at}
+use Rattle.pbf_frame.specs.Frames.{FrameSpec}
 use Rattle.pbf_frame.specs.Verdict.{Verdict, with_first, judged_known}
 use Rattle.pbf_block.specs.HeaderFaults.{header_fault}
 use Rattle.pbf_block.specs.Judgement.{block_fault}
+use Rattle.pbfcut.specs.Payload.{Payload, header_block, primitive_block, unknown, payload_of}
 
--- the first fault of a payload that begins at this place; a blob of another type isn't looked into
-abbrev pub payload_fault_of : FrameKind → ℕ → List ℕ → Option Fault
-payload_fault_of kind.Header at payload = header_fault at payload
-payload_fault_of kind.Data at payload = block_fault at payload
-payload_fault_of kind.Other at payload = None
+-- the first fault of a payload
+abbrev pub fault_in : Payload → Option Fault
+fault_in (header_block at message) = header_fault at message
+fault_in (primitive_block at message) = block_fault at message
+fault_in unknown = None
 
 abbrev pub payload_fault : FrameSpec → Option Fault
-payload_fault f = payload_fault_of (frame_kind f) (frame_payload_at f) (frame_payload f)
-
--- the same of a frame that is lent
-abbrev pub lent_fault : Frame → Option Fault
-lent_fault frame = payload_fault_of frame.kind frame.payload_at frame.payload.now
+payload_fault f = fault_in (payload_of f)
 
 -- a frame before the others, where its payload has no fault
 abbrev pub sound_first : Option Fault → FrameSpec → Verdict → Verdict

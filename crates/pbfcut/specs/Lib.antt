@@ -1,5 +1,6 @@
 pub mod Blobs
 pub mod Listing
+pub mod Payload
 pub mod Judged
 pub mod Counting
 pub mod Stops

@@ -11,16 +11,15 @@ use Rattle.osm_ways.specs.Seen.{seen_node, seen_way, seen_relation}
 use Rattle.pbf_block.specs.Header.{HeaderSpec, header_of, header_in}
 use Rattle.pbf_block.specs.declared.counts.Counts.{Counts}
 use Rattle.pbf_frame.specs.declared.device.Feed as feed
-use Rattle.pbf_frame.specs.declared.frame.FrameKind.{FrameKind}
-use Rattle.pbf_frame.specs.declared.frame.FrameKind.TheVariants as kind
 use Rattle.pbf_frame.specs.declared.reader.FrameReader.{FrameReader}
 use Rattle.pbf_frame.specs.declared.stop.Stop.{Stop}
-use Rattle.pbf_frame.specs.Frames.{FrameSpec, frame_kind, frame_payload, frame_payload_at}
+use Rattle.pbf_frame.specs.Frames.{FrameSpec}
 use Rattle.pbf_frame.specs.Next.{IsNext}
 use Rattle.pbf_frame.specs.Verdict.{Verdict, Says}
 use Rattle.pbfcut.specs.declared.pass.Pass.{Pass}
-use Rattle.pbfcut.specs.Counting.{counted_with, counts_of, entities_of, stored_entities}
-use Rattle.pbfcut.specs.Judged.{payload_fault_of, payload_fault}
+use Rattle.pbfcut.specs.Counting.{counted_with, counts_of, entities_in, stored_entities}
+use Rattle.pbfcut.specs.Judged.{fault_in, payload_fault}
+use Rattle.pbfcut.specs.Payload.{Payload, header_block, primitive_block, unknown, payload_of}
 use Rattle.pbfcut.specs.Stops.{Caused, Only, unchanged}
 
 -- ---- one step of a loop over frames
@@ -50,18 +49,15 @@ FailsToJudge f stop = Caused (Only (payload_fault f)) ⊥ ⊥ unchanged stop
 abbrev pub IsFresh : Pass → Type 0
 IsFresh pass = (pass.header ≡ None) × (pass.header_at ≡ 0) × (pass.counts ≡ counts_of [])
 
--- a pass took the header of a payload that begins at this place, or counts these entities of it; or left it
-abbrev pub TakesSome : FrameKind → ℕ → List ℕ → List EntitySpec → Pass → Pass → Type 0
-TakesSome kind.Header at payload es old new = (option_map header_of new.header ≡ Some (header_in at payload)) × (new.header_at ≡ at) × (new.counts ≡ old.counts)
-TakesSome kind.Data at payload es old new = (new.header ≡ old.header) × (new.header_at ≡ old.header_at) × (new.counts ≡ counted_with old.counts (counts_of es))
-TakesSome kind.Other at payload es old new = new ≡ old
+-- a pass took the header of a payload, or counts these entities of it; or left it
+abbrev pub TakesSome : Payload → List EntitySpec → Pass → Pass → Type 0
+TakesSome (header_block at message) es old new = (option_map header_of new.header ≡ Some (header_in at message)) × (new.header_at ≡ at) × (new.counts ≡ old.counts)
+TakesSome (primitive_block at message) es old new = (new.header ≡ old.header) × (new.header_at ≡ old.header_at) × (new.counts ≡ counted_with old.counts (counts_of es))
+TakesSome unknown es old new = new ≡ old
 
 -- it counts all of them
-abbrev pub TakesPayload : FrameKind → ℕ → List ℕ → Pass → Pass → Type 0
-TakesPayload k at payload old new = TakesSome k at payload (entities_of k at payload) old new
-
-abbrev pub Takes : FrameSpec → Pass → Pass → Type 0
-Takes f old new = TakesPayload (frame_kind f) (frame_payload_at f) (frame_payload f) old new
+abbrev pub TakesPayload : Payload → Pass → Pass → Type 0
+TakesPayload p old new = TakesSome p (entities_in p) old new
 
 -- ---- what a pass gathers of an entity
 
@@ -72,8 +68,7 @@ as_it_was sets e = sets
 -- the nodes in the box
 abbrev pub with_node : NodeSets → EntitySpec → NodeSets
 with_node sets (node n) = record { area = sets.area; box_ids = node_step sets.box_ids (seen_node sets.area n) }
-with_node sets (way w) = sets
-with_node sets (relation r) = sets
+with_node sets _ = sets
 
 -- the same of a node's id and place alone
 abbrev pub with_place : NodeSets → Place → NodeSets
@@ -81,39 +76,36 @@ with_place sets p = record { area = sets.area; box_ids = node_step sets.box_ids 
 
 -- the ways that are kept, and their refs
 abbrev pub with_way : WaySets → EntitySpec → WaySets
-with_way sets (node n) = sets
 with_way sets (way w) = way_step sets (seen_way w)
-with_way sets (relation r) = sets
+with_way sets _ = sets
 
 -- the relations that nodes and ways select, and the links between relations
 abbrev pub with_relation : RelationSets → EntitySpec → RelationSets
-with_relation sets (node n) = sets
-with_relation sets (way w) = sets
 with_relation sets (relation r) = relation_step sets (seen_relation r)
+with_relation sets _ = sets
 
 -- ---- of a payload, and of a frame
 
 -- a payload without a fault was taken, and its entities were gathered
-pub record TakesAll {S : Type 0} (gathered : S → EntitySpec → S) (k : FrameKind) (at : ℕ) (payload : List ℕ) (old new : Pass) (before now : S) : Type 0 where
-  pub sound : payload_fault_of k at payload ≡ None
-  pub taken : TakesPayload k at payload old new
-  pub gathered_all : now ≡ fold gathered before (entities_of k at payload)
+pub record TakesAll {S : Type 0} (gathered : S → EntitySpec → S) (p : Payload) (old new : Pass) (before now : S) : Type 0 where
+  pub sound : fault_in p ≡ None
+  pub taken : TakesPayload p old new
+  pub gathered_all : now ≡ fold gathered before (entities_in p)
 
 abbrev pub TakesFrame : {S : Type 0} → (S → EntitySpec → S) → Pass → Pass → S → S → FrameSpec → Type 0
-TakesFrame gathered old new before now f = TakesAll gathered (frame_kind f) (frame_payload_at f) (frame_payload f) old new before now
+TakesFrame gathered old new before now f = TakesAll gathered (payload_of f) old new before now
 
 -- the same where nothing is gathered
 abbrev pub CountsFrame : Pass → Pass → FrameSpec → Type 0
-CountsFrame old new f = (payload_fault f ≡ None) × Takes f old new
+CountsFrame old new f = (payload_fault f ≡ None) × TakesPayload (payload_of f) old new
 
--- the header of a payload that begins at this place, with the place
-abbrev pub headers_of : FrameKind → ℕ → List ℕ → List (ℕ × HeaderSpec)
-headers_of kind.Header at payload = (at, header_in at payload) ∷ []
-headers_of kind.Data at payload = []
-headers_of kind.Other at payload = []
+-- the header of a payload, with its place
+abbrev pub headers_in : Payload → List (ℕ × HeaderSpec)
+headers_in (header_block at message) = (at, header_in at message) ∷ []
+headers_in _ = []
 
 abbrev pub frame_headers : FrameSpec → List (ℕ × HeaderSpec)
-frame_headers f = headers_of (frame_kind f) (frame_payload_at f) (frame_payload f)
+frame_headers f = headers_in (payload_of f)
 
 -- the file's header; a file without a fault has one
 abbrev pub file_header : List FrameSpec → Option (ℕ × HeaderSpec)

@@ -12,11 +12,10 @@ use Rattle.osm_pack.specs.Packing.{Packing, Pending, IsPacking, has_header}
 use Rattle.pbf_block.specs.Header.{HeaderSpec}
 use Rattle.pbf_block.specs.declared.counts.Counts.{Counts}
 use Rattle.pbf_frame.specs.declared.device.Drain as drain
-use Rattle.pbf_frame.specs.declared.frame.Frame.{Frame}
 use Rattle.pbf_frame.specs.declared.stop.Stop.{Stop}
 use Rattle.pbf_frame.specs.Devices.{IsFront}
 use Rattle.pbf_frame.specs.Transfers.{Added}
-use Rattle.pbf_frame.specs.Frames.{FrameSpec, frame_kind, frame_payload, frame_payload_at}
+use Rattle.pbf_frame.specs.Frames.{FrameSpec}
 use Rattle.pbf_frame.specs.Verdict.{Verdict, Says}
 use Rattle.pbf_wire.specs.declared.fault.Fault.{Fault}
 use Rattle.pbfcut.specs.declared.pass.Pass.{Pass}
@@ -24,9 +23,10 @@ use Rattle.pbfcut.specs.declared.pick.Selection.{Selection}
 use Rattle.pbfcut.specs.declared.pick.Selection.TheVariants as selection
 use Rattle.pbfcut.specs.declared.pick.Picker.{Picker}
 use Rattle.pbfcut.specs.declared.pick.Picker.TheVariants as picker
-use Rattle.pbfcut.specs.Counting.{counts_of, stored_entities, frame_entities, lent_entities}
-use Rattle.pbfcut.specs.Judged.{payload_fault}
+use Rattle.pbfcut.specs.Counting.{counts_of, stored_entities, entities_in}
+use Rattle.pbfcut.specs.Judged.{fault_in}
 use Rattle.pbfcut.specs.Pass.{TakesSome}
+use Rattle.pbfcut.specs.Payload.{Payload, payload_of}
 use Rattle.pbfcut.specs.Stops.{Caused, Only, unchanged, KeepsDrain, WriteFailed}
 use Rattle.pbf_block.specs.declared.header_write.TheConstants.{MOST_HEADER_TEXT}
 
@@ -73,8 +73,7 @@ picks_id (picker.Parents sets) id = set.contains sets.ways.node_ids id
 
 abbrev pub is_node : EntitySpec → Bool
 is_node (node n) = true
-is_node (way w) = false
-is_node (relation r) = false
+is_node _ = false
 
 -- ---- entities on their way
 
@@ -122,26 +121,29 @@ pub record IsFreshPacker {D S H : Type 0} (packer : Packing D S H) : Type 0 wher
 
 -- ---- one frame
 
--- what is picked of a frame
-abbrev pub picked_in : Pick → FrameSpec → List EntitySpec
-picked_in pick f = filter pick (frame_entities f)
+-- what is picked of a payload
+abbrev pub picked_in : Pick → Payload → List EntitySpec
+picked_in pick p = filter pick (entities_in p)
 
--- the same of a frame that is lent
-abbrev pub lent_picked : Pick → Frame → List EntitySpec
-lent_picked pick frame = filter pick (lent_entities frame)
+-- a pass took the header of a payload, or counted what is picked of it
+abbrev pub TakesPicked : Pick → Payload → Pass → Pass → Type 0
+TakesPicked pick p old new = TakesSome p (picked_in pick p) old new
 
--- a pass took the header of a frame, or counted what is picked of it
-abbrev pub TakesPicked : Pick → FrameSpec → Pass → Pass → Type 0
-TakesPicked pick f old new = TakesSome (frame_kind f) (frame_payload_at f) (frame_payload f) (picked_in pick f) old new
+-- what is picked of a payload was packed, and counted
+pub record PacksPayload {D S H : Type 0} (d : drain.Ghosts D) (pick : Pick) (p : Payload) (old new : Packing D S H) (before now : Pass) : Type 0 where
+  pub packed : PacksAll d (fault_in p) (picked_in pick p) old new
+  pub taken : TakesPicked pick p before now
 
--- what is picked of a frame was packed, and counted
-pub record PacksFrame {D S H : Type 0} (d : drain.Ghosts D) (pick : Pick) (old new : Packing D S H) (before now : Pass) (f : FrameSpec) : Type 0 where
-  pub packed : PacksAll d (payload_fault f) (picked_in pick f) old new
-  pub taken : TakesPicked pick f before now
+-- a call stopped at a payload
+abbrev pub FailsToPackPayload : {D S H : Type 0} → drain.Ghosts D → Pick → Payload → Packing D S H → Packing D S H → Stop → Type 0
+FailsToPackPayload d pick p old new stop = StopsPacking d (fault_in p) (picked_in pick p) old new stop
 
--- a step stopped at a frame
+-- the same of a frame
+abbrev pub PacksFrame : {D S H : Type 0} → drain.Ghosts D → Pick → Packing D S H → Packing D S H → Pass → Pass → FrameSpec → Type 0
+PacksFrame d pick old new before now f = PacksPayload d pick (payload_of f) old new before now
+
 abbrev pub FailsToPack : {D S H : Type 0} → drain.Ghosts D → Pick → Packing D S H → Packing D S H → FrameSpec → Stop → Type 0
-FailsToPack d pick old new f stop = StopsPacking d (payload_fault f) (picked_in pick f) old new stop
+FailsToPack d pick old new f stop = FailsToPackPayload d pick (payload_of f) old new stop
 
 -- ---- the pass that writes
 

@@ -4,34 +4,28 @@ use Rattle.std.specs.List.{flat_map}
 use Rattle.pbf_wire.specs.declared.fault.Fault.{Fault}
 use Rattle.pbf_block.specs.Header.{header_in}
 use Rattle.pbf_block.specs.Payload.{entities}
-use Rattle.pbf_frame.specs.declared.frame.Frame.{Frame}
-use Rattle.pbf_frame.specs.declared.frame.FrameKind.{FrameKind}
-use Rattle.pbf_frame.specs.declared.frame.FrameKind.TheVariants as kind
 use Rattle.pbf_frame.specs.declared.device.Drain as drain
 use Rattle.pbf_frame.specs.declared.stop.Stop.{Stop}
 use Rattle.pbf_frame.specs.Devices.{IsFront}
 use Rattle.pbf_frame.specs.Transfers.{Added}
-use Rattle.pbf_frame.specs.Frames.{FrameSpec, frame_kind, frame_payload, frame_payload_at}
+use Rattle.pbf_frame.specs.Frames.{FrameSpec}
 use Rattle.pbf_frame.specs.Verdict.{Verdict, Says}
 use Rattle.osm_text.specs.EntityText.{entity_line}
 use Rattle.osm_text.specs.HeaderText.{header_text}
-use Rattle.pbfcut.specs.Judged.{payload_fault}
+use Rattle.pbfcut.specs.Judged.{fault_in, payload_fault}
+use Rattle.pbfcut.specs.Payload.{Payload, header_block, primitive_block, unknown, payload_of}
 use Rattle.pbfcut.specs.Stops.{Caused, Only, unchanged, WriteFailed}
 
 -- ---- the text
 
--- of a payload that begins at this place: the lines of its header, or of its entities
-abbrev pub payload_text : Bool → FrameKind → ℕ → List ℕ → List ℕ
-payload_text dates kind.Header at payload = header_text (header_in at payload)
-payload_text dates kind.Data at payload = flat_map (entity_line dates) (entities at payload)
-payload_text dates kind.Other at payload = []
+-- of a payload: the lines of its header, or of its entities
+abbrev pub text_in : Bool → Payload → List ℕ
+text_in dates (header_block at message) = header_text (header_in at message)
+text_in dates (primitive_block at message) = flat_map (entity_line dates) (entities at message)
+text_in dates unknown = []
 
 unfoldable pub frame_text : Bool → FrameSpec → List ℕ
-frame_text dates f = payload_text dates (frame_kind f) (frame_payload_at f) (frame_payload f)
-
--- the same of a frame that is lent
-abbrev pub lent_text : Bool → Frame → List ℕ
-lent_text dates frame = payload_text dates frame.kind frame.payload_at frame.payload.now
+frame_text dates f = text_in dates (payload_of f)
 
 -- of all frames, in order
 abbrev pub file_text : Bool → List FrameSpec → List ℕ
@@ -62,16 +56,26 @@ WritesFront dates known old new = (all : Verdict) → known ≡ Some all → IsF
 
 -- ---- one frame of it
 
--- a frame without a fault was shown
-pub record ShowsFrame {D : Type 0} (d : drain.Ghosts D) (dates : Bool) (old new : D) (f : FrameSpec) : Type 0 where
-  pub sound : payload_fault f ≡ None
-  pub added : Added d old (frame_text dates f) new
+-- what has no fault was shown
+pub record ShowsText {D : Type 0} (d : drain.Ghosts D) (fault : Option Fault) (text : List ℕ) (old new : D) : Type 0 where
+  pub sound : fault ≡ None
+  pub added : Added d old text new
 
--- of a payload with a fault nothing went out, else a beginning of its text
-abbrev pub StoppedInPayload : Option Fault → List ℕ → Option (List ℕ) → Option (List ℕ) → Type 0
-StoppedInPayload fault text old new = (new ≡ old) ⊎ ((fault ≡ None) × IsFront old new text)
+-- a call stopped: for the fault, then nothing went out; else a beginning of the text did
+pub record StopsShowing {D : Type 0} (d : drain.Ghosts D) (fault : Option Fault) (text : List ℕ) (old new : D) (stop : Stop) : Type 0 where
+  pub cause : Caused (Only fault) ⊥ (WriteFailed d old new) unchanged stop
+  pub front : (d.taken new ≡ d.taken old) ⊎ ((fault ≡ None) × IsFront (d.taken old) (d.taken new) text)
 
--- a step stopped at a frame
-pub record StopsShowing {D : Type 0} (d : drain.Ghosts D) (dates : Bool) (old new : D) (f : FrameSpec) (stop : Stop) : Type 0 where
-  pub cause : Caused (Only (payload_fault f)) ⊥ (WriteFailed d old new) unchanged stop
-  pub front : StoppedInPayload (payload_fault f) (frame_text dates f) (d.taken old) (d.taken new)
+-- a payload was shown, or a call stopped at it
+abbrev pub ShowsPayload : {D : Type 0} → drain.Ghosts D → Bool → Payload → D → D → Type 0
+ShowsPayload d dates p old new = ShowsText d (fault_in p) (text_in dates p) old new
+
+abbrev pub FailsToShowPayload : {D : Type 0} → drain.Ghosts D → Bool → Payload → D → D → Stop → Type 0
+FailsToShowPayload d dates p old new stop = StopsShowing d (fault_in p) (text_in dates p) old new stop
+
+-- the same of a frame
+abbrev pub ShowsFrame : {D : Type 0} → drain.Ghosts D → Bool → D → D → FrameSpec → Type 0
+ShowsFrame d dates old new f = ShowsText d (payload_fault f) (frame_text dates f) old new
+
+abbrev pub FailsToShow : {D : Type 0} → drain.Ghosts D → Bool → D → D → FrameSpec → Stop → Type 0
+FailsToShow d dates old new f stop = StopsShowing d (payload_fault f) (frame_text dates f) old new stop

@@ -4,7 +4,6 @@
 ghost use Rattle.std.specs.Prelude.{◌≡◌, ℕ, ◌+◌, ◌^◌, ◌≤◌, List, length, Some, None};
 ghost use Rattle.std.specs.List.{AllByRecursion};
 ghost use Rattle.std.specs.Option.{option_map};
-ghost use Rattle.osm_entity.specs.declared.bounding_box.BoundingBox.{BoundingBox};
 ghost use Rattle.osm_entity.specs.Entity.{EntitySpec};
 ghost use Rattle.osm_entity.specs.Ranges.{EntityFits, EntityTyped};
 ghost use Rattle.osm_entity.specs.Weight.{text_weight};
@@ -14,7 +13,7 @@ ghost use Rattle.osm_ways.specs.Selection.{extract};
 ghost use Rattle.osm_pack.specs.Cuts.{written_file};
 ghost use Rattle.pbf_block.specs.Header.{HeaderSpec};
 ghost use Rattle.pbf_block.specs.declared.header_write.TheConstants.{MOST_HEADER_TEXT};
-ghost use Rattle.pbf_block.specs.WrittenHeader.{edges_of, EdgesTyped, HeaderFits, header_out_for_convert};
+ghost use Rattle.pbf_block.specs.WrittenHeader.{HeaderFits, header_out_for_convert};
 ghost use Rattle.pbf_frame.specs.Frames.{FrameSpec};
 ghost use Rattle.pbfcut.specs.Counting.{stored_entities};
 ghost use Rattle.pbfcut.specs.Extracting.{complete_ways, all_parents};
@@ -22,6 +21,8 @@ ghost use Rattle.pbfcut.specs.Judged.{judged_file};
 ghost use Rattle.pbfcut.specs.Kept.{IsWritable, conversion_of, extract_of};
 ghost use Rattle.pbfcut.specs.Theorem.{IsConversion, IsExtract};
 ghost use Rattle.pbfcut.specs.Pass.{file_header};
+
+use osm_entity::BoundingBox;
 
 /// A file that is written is read back: where it is at most 2^62 bytes long, it has no fault of any phase, its header is the
 /// header that was written, and its entities are those that were written.
@@ -44,16 +45,16 @@ pub fn converted_file_is_kept()
 /// The complete-ways extract of such a file, at most 2^62 bytes long, is a file without a fault that has the file's header in
 /// written form with the box, and of the file's entities those that the selection keeps, in order, with all that is stored of
 /// them; it means the complete-ways extract of what the file means; and an extract of it by the same box is the same bytes.
-pub fn extracted_file_is_kept()
-    ensures { (area : BoundingBox) → EdgesTyped (edges_of area) → (file : List ℕ) → IsWritable file
+pub fn extracted_file_is_kept(area: BoundingBox)
+    ensures { (file : List ℕ) → IsWritable file
         → length (extract_of (complete_ways area) area file) ≤ 2 ^ 62
         → IsExtract (complete_ways area) (extract (seen_decoded area)) area file
         (extract_of (complete_ways area) area file) }
 {}
 
 /// The same of the extract with all parents.
-pub fn file_extracted_with_parents_is_kept()
-    ensures { (area : BoundingBox) → EdgesTyped (edges_of area) → (file : List ℕ) → IsWritable file
+pub fn file_extracted_with_parents_is_kept(area: BoundingBox)
+    ensures { (file : List ℕ) → IsWritable file
         → length (extract_of (all_parents area) area file) ≤ 2 ^ 62
         → IsExtract (all_parents area) (extract_with_parents (seen_decoded area)) area file
         (extract_of (all_parents area) area file) }

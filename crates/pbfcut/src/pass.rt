@@ -8,11 +8,11 @@ ghost use Rattle.pbf_block.specs.Kinds.{is_among};
 ghost use Rattle.pbf_block.specs.Payload.{entities};
 ghost use Rattle.pbf_block.specs.Runs.{run_entities};
 ghost use Rattle.pbf_dense.specs.Cursors.{dense_left};
-ghost use Rattle.pbf_frame.specs.declared.frame.FrameKind.TheVariants as kind;
 ghost use Rattle.pbf_frame.specs.Next.{IsReading, place_of, held_by, verdict};
 ghost use Rattle.pbf_wire.specs.declared.fault.Fault.{Fault};
 ghost use Rattle.pbf_wire.specs.declared.fault.ReadFault.TheVariants.{Refused};
-ghost use Rattle.pbfcut.specs.Judged.{payload_fault_of, lent_fault, fully_known, judged_file};
+ghost use Rattle.pbfcut.specs.Judged.{fault_in, fully_known, judged_file};
+ghost use Rattle.pbfcut.specs.Payload.{header_block, primitive_block, lent_by};
 ghost use Rattle.pbfcut.specs.Pass.{IsFresh, TakesPayload, TakesAll, TakesFrame, CountsFrame, TakesFile, IsStep, FailsToJudge, as_it_was, with_node, with_way, with_relation};
 ghost use Rattle.pbfcut.specs.Given.{GaveRest, GaveFile};
 ghost use Rattle.pbfcut.specs.Hashing.{IsLength};
@@ -208,10 +208,10 @@ impl Pass {
         frame: &Frame<'_>,
         gathering: &mut G,
     ) -> Result<(), ReadFault>
-        ensures taken { OnOk result (TakesAll G.gathered frame.now.kind frame.now.payload_at
-            frame.now.payload.now self.old self.new gathering.old gathering.new) }
+        ensures taken { OnOk result (TakesAll G.gathered (lent_by frame.now)
+            self.old self.new gathering.old gathering.new) }
         ensures refused { (fault : Fault) → result ≡ Err (Refused fault)
-            → lent_fault frame.now ≡ Some fault }
+            → fault_in (lent_by frame.now) ≡ Some fault }
     {
         match frame.kind {
             FrameKind::Header => self.take_header(alloc, frame.payload, frame.payload_at)?,
@@ -231,10 +231,11 @@ impl Pass {
         at: u64,
     ) -> Result<(), ReadFault>
         requires { at + length payload.now ≤ 2 ^ 63 }
-        ensures taken { OnOk result (TakesPayload kind.Header at payload.now self.old self.new) }
-        ensures sound { OnOk result (payload_fault_of kind.Header at payload.now ≡ None) }
+        ensures taken { OnOk result
+            (TakesPayload (header_block at payload.now) self.old self.new) }
+        ensures sound { OnOk result (fault_in (header_block at payload.now) ≡ None) }
         ensures refused { (fault : Fault) → result ≡ Err (Refused fault)
-            → payload_fault_of kind.Header at payload.now ≡ Some fault }
+            → fault_in (header_block at payload.now) ≡ Some fault }
     {
         self.header = Some(Header::read(alloc, payload, at)?);
         self.header_at = at;
@@ -251,10 +252,10 @@ impl Pass {
     ) -> Result<(), ReadFault>
         requires placed { at + length payload.now ≤ 2 ^ 63 }
         requires short { length payload.now < 33554432 }
-        ensures taken { OnOk result (TakesAll G.gathered kind.Data at payload.now self.old self.new
-            gathering.old gathering.new) }
+        ensures taken { OnOk result (TakesAll G.gathered (primitive_block at payload.now)
+            self.old self.new gathering.old gathering.new) }
         ensures refused { (fault : Fault) → result ≡ Err (Refused fault)
-            → payload_fault_of kind.Data at payload.now ≡ Some fault }
+            → fault_in (primitive_block at payload.now) ≡ Some fault }
     {
         let block = Block::read(alloc, payload, at)?;
         gather_entities(&block, gathering)?;

@@ -12,13 +12,13 @@ ghost use Rattle.pbf_block.specs.Cursors.{entities_left};
 ghost use Rattle.pbf_block.specs.Header.{header_of};
 ghost use Rattle.pbf_block.specs.Payload.{entities};
 ghost use Rattle.pbf_block.specs.Runs.{run_entities};
-ghost use Rattle.pbf_frame.specs.declared.frame.FrameKind.TheVariants as kind;
 ghost use Rattle.pbf_frame.specs.declared.stop.Stop.{Stop};
 ghost use Rattle.pbf_frame.specs.Next.{IsReading, place_of, held_by, verdict};
-ghost use Rattle.pbfcut.specs.Counting.{counts_of, entities_of};
-ghost use Rattle.pbfcut.specs.Judged.{payload_fault_of, lent_fault, fully_known, judged_file};
-ghost use Rattle.pbfcut.specs.Pass.{TakesSome, IsStep};
-ghost use Rattle.pbfcut.specs.Pick.{pick_of, picks_of, lent_picked, picks_id, is_node, picked_by_some, picked_with_parents, PacksAll, StopsPacking, KeepsPacker, IsFreshPacker, PacksFrame, FailsToPack, Packed, PacksFront, IsShort};
+ghost use Rattle.pbfcut.specs.Counting.{counts_of};
+ghost use Rattle.pbfcut.specs.Judged.{fault_in, fully_known, judged_file};
+ghost use Rattle.pbfcut.specs.Pass.{IsStep};
+ghost use Rattle.pbfcut.specs.Payload.{primitive_block, lent_by};
+ghost use Rattle.pbfcut.specs.Pick.{pick_of, picks_of, picked_in, picks_id, is_node, picked_by_some, picked_with_parents, PacksAll, StopsPacking, KeepsPacker, IsFreshPacker, PacksPayload, FailsToPackPayload, PacksFrame, FailsToPack, Packed, PacksFront, IsShort};
 ghost use Rattle.pbfcut.specs.Given.{GaveRest, GaveFile, Took};
 ghost use Rattle.pbfcut.specs.Stops.{Caused, FaultOf, unchanged, KeepsFeed, KeepsDrain, ReadFailed, WriteFailed};
 
@@ -207,14 +207,13 @@ fn pack_block<D: Drain, S: BuildHasher>(
     requires short { length payload.now < 33554432 }
     requires begun { has_header packer.old ≡ true }
     requires packing { IsPacking packer.old }
-    ensures packed { OnOk result (PacksAll D.Drain (payload_fault_of kind.Data at payload.now)
-        (filter (pick_of selection.entry) (entities_of kind.Data at payload.now))
+    ensures packed { OnOk result (PacksAll D.Drain (fault_in (primitive_block at payload.now))
+        (picked_in (pick_of selection.entry) (primitive_block at payload.now))
         packer.old packer.new) }
-    ensures counted { IfOk result (λ counts. counts
-        ≡ counts_of (filter (pick_of selection.entry) (entities_of kind.Data at payload.now))) }
-    ensures stopped { IfErr result (StopsPacking D.Drain (payload_fault_of kind.Data at payload.now)
-        (filter (pick_of selection.entry) (entities_of kind.Data at payload.now))
-        packer.old packer.new) }
+    ensures counted { IfOk result (λ counts. counts ≡ counts_of
+        (picked_in (pick_of selection.entry) (primitive_block at payload.now))) }
+    ensures stopped { IfErr result (FailsToPackPayload D.Drain (pick_of selection.entry)
+        (primitive_block at payload.now) packer.old packer.new) }
     ensures keeps { KeepsPacker D.Drain packer.old packer.new }
 {
     let block = Block::read(alloc, payload, at)?;
@@ -231,12 +230,10 @@ fn pack_payload<D: Drain, S: BuildHasher>(
 ) -> Result<(), Stop>
     requires begun { has_header packer.old ≡ true }
     requires packing { IsPacking packer.old }
-    ensures packed { OnOk result (PacksAll D.Drain (lent_fault frame.now)
-        (lent_picked (pick_of selection.entry) frame.now) packer.old packer.new) }
-    ensures taken { OnOk result (TakesSome frame.now.kind frame.now.payload_at frame.now.payload.now
-        (lent_picked (pick_of selection.entry) frame.now) pass.old pass.new) }
-    ensures stopped { IfErr result (StopsPacking D.Drain (lent_fault frame.now)
-        (lent_picked (pick_of selection.entry) frame.now) packer.old packer.new) }
+    ensures packed { OnOk result (PacksPayload D.Drain (pick_of selection.entry) (lent_by frame.now)
+        packer.old packer.new pass.old pass.new) }
+    ensures stopped { IfErr result (FailsToPackPayload D.Drain (pick_of selection.entry)
+        (lent_by frame.now) packer.old packer.new) }
     ensures keeps { KeepsPacker D.Drain packer.old packer.new }
 {
     match frame.kind {

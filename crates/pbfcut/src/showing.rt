@@ -5,19 +5,20 @@ ghost use Rattle.std.specs.List.{flat_map};
 ghost use Rattle.osm_entity.specs.Views.{entity_of};
 ghost use Rattle.pbf_block.specs.Cursors.{entities_left};
 ghost use Rattle.pbf_block.specs.Header.{header_in};
+ghost use Rattle.pbf_block.specs.HeaderFaults.{header_fault};
 ghost use Rattle.osm_text.specs.EntityText.{entity_line};
 ghost use Rattle.osm_text.specs.HeaderText.{header_text};
-ghost use Rattle.pbf_frame.specs.declared.frame.FrameKind.TheVariants as kind;
 ghost use Rattle.pbf_frame.specs.Devices.{IsFront};
 ghost use Rattle.pbf_frame.specs.Next.{IsReading, place_of, held_by, verdict};
 ghost use Rattle.pbf_frame.specs.Transfers.{Added};
 ghost use Rattle.pbfcut.specs.Calls.{RefusedFirst, ChangedIn};
 ghost use Rattle.pbfcut.specs.Given.{GaveRest, GaveFile, Took, TookFile};
-ghost use Rattle.pbfcut.specs.Judged.{payload_fault_of, lent_fault, fully_known, judged_file};
+ghost use Rattle.pbfcut.specs.Judged.{fully_known, judged_file};
 ghost use Rattle.pbfcut.specs.Pass.{CountsFile, IsStep};
+ghost use Rattle.pbfcut.specs.Payload.{primitive_block, lent_by};
 ghost use Rattle.pbfcut.specs.Refused.{HaltsFile, stop_of};
 ghost use Rattle.pbfcut.specs.Repeat.{SameDigest};
-ghost use Rattle.pbfcut.specs.Showing.{payload_text, lent_text, Shown, ShowsFront, WritesFront, ShowsFrame, StopsShowing, StoppedInPayload};
+ghost use Rattle.pbfcut.specs.Showing.{Shown, ShowsFront, WritesFront, ShowsText, StopsShowing, ShowsPayload, FailsToShowPayload, ShowsFrame, FailsToShow};
 ghost use Rattle.pbfcut.specs.Stops.{Caused, FaultOf, Only, unchanged, KeepsFeed, KeepsDrain, ReadFailed, WriteFailed};
 
 use crate::hashed::{HashedDrain, HashedFeed};
@@ -81,13 +82,10 @@ fn write_header<D: Drain>(
     drain: &mut D,
 ) -> Result<(), Stop>
     requires { at + length payload.now ≤ 2 ^ 63 }
-    ensures shown { OnOk result
-        (Added D.Drain drain.old (header_text (header_in at payload.now)) drain.new) }
-    ensures sound { OnOk result (payload_fault_of kind.Header at payload.now ≡ None) }
-    ensures stopped { OnErr result (StoppedInPayload (payload_fault_of kind.Header at payload.now)
-        (header_text (header_in at payload.now)) (D.taken drain.old) (D.taken drain.new)) }
-    ensures stops { IfErr result (Caused (Only (payload_fault_of kind.Header at payload.now)) ⊥
-        (WriteFailed D.Drain drain.old drain.new) unchanged) }
+    ensures shown { OnOk result (ShowsText D.Drain (header_fault at payload.now)
+        (header_text (header_in at payload.now)) drain.old drain.new) }
+    ensures stopped { IfErr result (StopsShowing D.Drain (header_fault at payload.now)
+        (header_text (header_in at payload.now)) drain.old drain.new) }
     ensures keeps { KeepsDrain D.Drain drain.old drain.new }
 {
     let header = Header::read(alloc, payload, at)?;
@@ -108,13 +106,10 @@ fn write_block<D: Drain>(
 ) -> Result<(), Stop>
     requires placed { at + length payload.now ≤ 2 ^ 63 }
     requires short { length payload.now < 33554432 }
-    ensures shown { OnOk result (Added D.Drain drain.old
-        (payload_text dates kind.Data at payload.now) drain.new) }
-    ensures sound { OnOk result (payload_fault_of kind.Data at payload.now ≡ None) }
-    ensures stopped { OnErr result (StoppedInPayload (payload_fault_of kind.Data at payload.now)
-        (payload_text dates kind.Data at payload.now) (D.taken drain.old) (D.taken drain.new)) }
-    ensures stops { IfErr result (Caused (Only (payload_fault_of kind.Data at payload.now)) ⊥
-        (WriteFailed D.Drain drain.old drain.new) unchanged) }
+    ensures shown { OnOk result (ShowsPayload D.Drain dates (primitive_block at payload.now)
+        drain.old drain.new) }
+    ensures stopped { IfErr result (FailsToShowPayload D.Drain dates
+        (primitive_block at payload.now) drain.old drain.new) }
     ensures keeps { KeepsDrain D.Drain drain.old drain.new }
 {
     let block = Block::read(alloc, payload, at)?;
@@ -130,12 +125,10 @@ fn write_payload<D: Drain>(
     drain: &mut D,
     dates: bool,
 ) -> Result<(), Stop>
-    ensures shown { OnOk result (Added D.Drain drain.old (lent_text dates frame.now) drain.new) }
-    ensures sound { OnOk result (lent_fault frame.now ≡ None) }
-    ensures stopped { OnErr result (StoppedInPayload (lent_fault frame.now)
-        (lent_text dates frame.now) (D.taken drain.old) (D.taken drain.new)) }
-    ensures stops { IfErr result (Caused (Only (lent_fault frame.now)) ⊥
-        (WriteFailed D.Drain drain.old drain.new) unchanged) }
+    ensures shown { OnOk result
+        (ShowsPayload D.Drain dates (lent_by frame.now) drain.old drain.new) }
+    ensures stopped { IfErr result
+        (FailsToShowPayload D.Drain dates (lent_by frame.now) drain.old drain.new) }
     ensures keeps { KeepsDrain D.Drain drain.old drain.new }
 {
     match frame.kind {
@@ -159,7 +152,7 @@ fn step_show<F: Feed, D: Drain>(
 ) -> Result<bool, Stop>
     ensures step { IsStep F.Feed reader.old reader.new
         (ShowsFrame D.Drain dates drain.old drain.new)
-        (StopsShowing D.Drain dates drain.old drain.new) (drain.new ≡ drain.old) result }
+        (FailsToShow D.Drain dates drain.old drain.new) (drain.new ≡ drain.old) result }
     ensures limited { place_of reader.new ≤ 2 ^ 62 }
     ensures space { held_by reader.new ≤ 33620990 }
     ensures keeps { KeepsDrain D.Drain drain.old drain.new }

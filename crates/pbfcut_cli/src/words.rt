@@ -159,7 +159,8 @@ fn command_in<'a>(matches: &ArgMatches<'a>) -> Result<Command<'a>, BoxFault>
 /// What an error of `clap` comes to.
 fn refused<'a>(alloc: Global, error: &Error) -> Result<Command<'a>, CliFault>
     ensures help { IfOk result (λ c. IsHelp c
-        × ((kind_of error.now ≡ ErrorKind.DisplayHelp) ⊎ (kind_of error.now ≡ ErrorKind.DisplayVersion))) }
+        × ((kind_of error.now ≡ ErrorKind.DisplayHelp)
+        ⊎ (kind_of error.now ≡ ErrorKind.DisplayVersion))) }
     ensures memory { kind_of error.now ≡ ErrorKind.OutOfMemory → result ≡ Err fault.Memory }
     ensures line { IfErr result (λ e. IsBox e → ⊥) }
 {

@@ -43,7 +43,6 @@ returns-clause-chosen g c =
           digest_is = three.digest_is;
           holding = record {
             chosen = chooses_parents c.args.area _ _ _ c.in_ok-choice.choice.chosen _ _ _ _ choice.chosen c.with_parents-relations.ensures three.holding c.in_ok-chosen.ensures.ways c.in_ok-chosen.ensures.least;
-            edges = choice.edges;
             short = choice.short;
           };
         };

@@ -1,4 +1,4 @@
-use Rattle.std.proofs.Common.{◌⊎◌, List, ℕ, Some, ap, sym, inr, refl}
+use Rattle.std.proofs.Common.{◌⊎◌, List, ℕ, Some, ap, sym, inr, refl, rules}
 use Rattle.std.proofs.lemmas.Result.{err_from_is_err_and}
 use Rattle.pbf_block.specs.Header.{header_of}
 use Rattle.osm_ways.specs.Seen.{seen_decoded}
@@ -51,7 +51,7 @@ returns-in_err-counts-clause-beginning g c =
     let three = two.holding in
     let choice = three.holding in
     rw p.1 (λ b supply.
-    extracts_front (all_parents area) (λ meant. extract_with_parents (seen_decoded area) meant) (all_parents_select area) area choice.edges b _ h (selects_parents _ area b _ _ _ h (ap (λ (l : List ℕ). judged_file (Some l)) (tells_file g.F.Feed _ _ _ _ one b supply.0)) (ap (λ (l : List ℕ). judged_file (Some l)) (tells_file g.G.Feed _ _ _ _ two b supply.1)) (ap (λ (l : List ℕ). judged_file (Some l)) (tells_file g.H.Feed _ _ _ _ three b supply.2)) choice.chosen) _ _ _ (ap judged_file supply.3) c.in_err-counts.ensures.beginning)
+    extracts_front (all_parents area) (λ meant. extract_with_parents (seen_decoded area) meant) (all_parents_select area) area (search rules) b _ h (selects_parents _ area b _ _ _ h (ap (λ (l : List ℕ). judged_file (Some l)) (tells_file g.F.Feed _ _ _ _ one b supply.0)) (ap (λ (l : List ℕ). judged_file (Some l)) (tells_file g.G.Feed _ _ _ _ two b supply.1)) (ap (λ (l : List ℕ). judged_file (Some l)) (tells_file g.H.Feed _ _ _ _ three b supply.2)) choice.chosen) _ _ _ (ap judged_file supply.3) c.in_err-counts.ensures.beginning)
 
 pub returns-clause-given : goal.returns-clause-given
 returns-clause-given g c =
@@ -63,4 +63,4 @@ returns-clause-given g c =
     let choice = three.holding in
     let four = c.in_ok-counts.ensures.packed in
     let took = four.holding in
-    record { file = one.file; supplied = one.supplied; digest_is = one.digest_is; holding = (chosen_sound area one.file _ _ h choice.chosen.chosen, record { file = two.file; supplied = two.supplied; digest_is = two.digest_is; holding = record { file = three.file; supplied = three.supplied; digest_is = three.digest_is; holding = record { file = four.file; supplied = four.supplied; digest_is = four.digest_is; holding = record { written = took.written; added = took.added; holding = λ second third fourth. extracted (all_parents area) (λ meant. extract_with_parents (seen_decoded area) meant) (all_parents_select area) area choice.edges one.file _ h (selects_parents _ area one.file _ _ _ h refl (ap (λ (l : List ℕ). judged_file (Some l)) (sym second)) (ap (λ (l : List ℕ). judged_file (Some l)) (sym third)) choice.chosen) c.in_ok-counts.counts _ took.written (ap (λ (l : List ℕ). judged_file (Some l)) (sym fourth)) took.holding } } } }) }
+    record { file = one.file; supplied = one.supplied; digest_is = one.digest_is; holding = (chosen_sound area one.file _ _ h choice.chosen.chosen, record { file = two.file; supplied = two.supplied; digest_is = two.digest_is; holding = record { file = three.file; supplied = three.supplied; digest_is = three.digest_is; holding = record { file = four.file; supplied = four.supplied; digest_is = four.digest_is; holding = record { written = took.written; added = took.added; holding = λ second third fourth. extracted (all_parents area) (λ meant. extract_with_parents (seen_decoded area) meant) (all_parents_select area) area (search rules) one.file _ h (selects_parents _ area one.file _ _ _ h refl (ap (λ (l : List ℕ). judged_file (Some l)) (sym second)) (ap (λ (l : List ℕ). judged_file (Some l)) (sym third)) choice.chosen) c.in_ok-counts.counts _ took.written (ap (λ (l : List ℕ). judged_file (Some l)) (sym fourth)) took.holding } } } }) }

@@ -1,3 +1,4 @@
+use Rattle.std.proofs.Common.{rules}
 use Rattle.osm_ways.specs.Selection.{extract}
 use Rattle.osm_ways.specs.Seen.{seen_decoded}
 use Rattle.pbfcut.specs.Extracting.{complete_ways}
@@ -5,4 +6,4 @@ use Rattle.pbfcut.proofs.KeptLaw.{extract_kept, complete_ways_select}
 use Rattle.pbfcut.proofs.laws.extracted_file_is_kept.Goals as goal
 
 pub returns : goal.returns
-returns c area edges = extract_kept (complete_ways area) (extract (seen_decoded area)) (complete_ways_select area) area edges
+returns c = extract_kept (complete_ways c.args.area) (extract (seen_decoded c.args.area)) (complete_ways_select c.args.area) c.args.area (search rules)

@@ -1,9 +1,12 @@
-use Rattle.std.proofs.Common.{Err, ap}
+use Rattle.std.proofs.Common.{Err, ap, inl, refl}
 use Rattle.std.proofs.lemmas.Result.{err_from_is_err_and}
 use Rattle.pbfcut.proofs.ShowingLemmas.{read_stops}
 use Rattle.pbfcut.proofs.showing.write_header.Goals as goal
 
-pub returns-in_err-header-clause-stops : goal.returns-in_err-header-clause-stops
-returns-in_err-header-clause-stops g c =
+pub returns-in_err-header-clause-stopped : goal.returns-in_err-header-clause-stopped
+returns-in_err-header-clause-stopped g c =
     let p = err_from_is_err_and c.from_residual.result c.from_residual.ensures.1 in
-    rw (p.1, p.2) (read_stops _ _ _ _ (λ fault e. (c.in_err-header.ensures.refused fault).0 (ap Err e)))
+    rw (p.1, p.2) (record {
+      cause = read_stops _ _ _ _ (λ fault e. (c.in_err-header.ensures.refused fault).0 (ap Err e));
+      front = inl refl;
+    })
