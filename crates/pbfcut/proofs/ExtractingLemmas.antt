@@ -1,5 +1,5 @@
 -- A file's extract, from what its passes say.
-use Rattle.std.proofs.Common.{◌≡◌, ◌⊎◌, inr, ℕ, ◌≤◌, ◌^◌, length, List, [], ◌∷◌, map, Bor, Bool, Option, Some, None, subst, refl, sym, ap, ◌∙◌}
+use Rattle.std.proofs.Common.{◌≡◌, ◌⊎◌, inr, ℕ, ℤ, ◌≤◌, ◌<◌, ◌^◌, rules, length, List, [], ◌∷◌, map, Bor, Bool, Option, Some, None, subst, refl, sym, ap, ◌∙◌}
 use Rattle.std.specs.FinSet as set
 use Rattle.std.specs.List.{fold, filter}
 use Rattle.std.specs.Option.{option_map}
@@ -7,6 +7,8 @@ use Rattle.sha2.specs.Sha256.{sha256}
 use Rattle.std.proofs.lemmas.List.Elements.{filter_agree}
 use Rattle.pbf_wire.specs.declared.fault.Fault.{Fault}
 use Rattle.osm_entity.specs.declared.bounding_box.BoundingBox.{BoundingBox}
+use Rattle.osm_entity.specs.Ranges.{IsInt64}
+use Rattle.std.specs.Int.Signed.{mag}
 use Rattle.osm_entity.specs.Entity.{EntitySpec, Decoded, node, way, relation}
 use Rattle.osm_ways.specs.declared.phases.Chosen.{Chosen}
 use Rattle.osm_ways.specs.declared.parents.ChosenParents.{ChosenParents}
@@ -103,6 +105,15 @@ selects_ways area b first second sets h is too c =
       bytes = header_from area (file_header c.frames) h c.header (complete_ways area) (stored_entities c.frames);
       picked = ap (λ (s : WaySets). filter (picked_by s) (stored_entities c.frames)) gathered ∙ picked_are area (stored_entities c.frames);
     }
+
+-- ---- the box
+
+int64 : (z : ℤ) → mag z < 2 ^ 63 → IsInt64 z
+int64 z small = search rules
+
+-- the edges of a box of the code
+pub edges_typed : (area : BoundingBox) → mag area.left < 2 ^ 63 → mag area.bottom < 2 ^ 63 → mag area.right < 2 ^ 63 → mag area.top < 2 ^ 63 → EdgesTyped (edges_of area)
+edges_typed area left bottom right top = record { left = int64 area.left left; right = int64 area.right right; top = int64 area.top top; bottom = int64 area.bottom bottom }
 
 -- ---- a whole call
 

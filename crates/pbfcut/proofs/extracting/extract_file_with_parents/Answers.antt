@@ -1,4 +1,4 @@
-use Rattle.std.proofs.Common.{◌⊎◌, List, ℕ, Some, ap, sym, inr, refl, rules}
+use Rattle.std.proofs.Common.{◌⊎◌, List, ℕ, Some, ap, sym, inr, refl}
 use Rattle.std.proofs.lemmas.Result.{err_from_is_err_and}
 use Rattle.pbf_block.specs.Header.{header_of}
 use Rattle.osm_ways.specs.Seen.{seen_decoded}
@@ -6,7 +6,7 @@ use Rattle.osm_ways.specs.Parents.{extract_with_parents}
 use Rattle.pbfcut.specs.Extracting.{all_parents}
 use Rattle.pbfcut.specs.Judged.{judged_file}
 use Rattle.pbfcut.specs.Stops.{ReadFailed, WriteFailed}
-use Rattle.pbfcut.proofs.ExtractingLemmas.{chosen_sound, selects_parents, extracted, extracts_front, parents_stops}
+use Rattle.pbfcut.proofs.ExtractingLemmas.{chosen_sound, edges_typed, selects_parents, extracted, extracts_front, parents_stops}
 use Rattle.pbfcut.proofs.GivenLemmas.{tells_file, told_digest, told_says}
 use Rattle.pbfcut.proofs.KeptLaw.{all_parents_select}
 use Rattle.pbfcut.proofs.HaltingLemmas.{halts_first, no_refusal}
@@ -45,17 +45,21 @@ pub returns-in_err-counts-clause-beginning : goal.returns-in_err-counts-clause-b
 returns-in_err-counts-clause-beginning g c =
     let p = err_from_is_err_and c.from_residual-in_err-counts.result c.from_residual-in_err-counts.ensures.1 in
     let area = c.args.area in
+    let w = c.well_formed.1.1.1.1.1.0.1.1 in
+    let edges = edges_typed area w.0.1 w.1.0.1 w.1.1.0.1 w.1.1.1.0.1 in
     let h = header_of c.in_ok-choice.choice.header in
     let one = c.in_ok-choice.ensures.chosen in
     let two = one.holding in
     let three = two.holding in
     let choice = three.holding in
     rw p.1 (λ b supply.
-    extracts_front (all_parents area) (λ meant. extract_with_parents (seen_decoded area) meant) (all_parents_select area) area (search rules) b _ h (selects_parents _ area b _ _ _ h (ap (λ (l : List ℕ). judged_file (Some l)) (tells_file g.F.Feed _ _ _ _ one b supply.0)) (ap (λ (l : List ℕ). judged_file (Some l)) (tells_file g.G.Feed _ _ _ _ two b supply.1)) (ap (λ (l : List ℕ). judged_file (Some l)) (tells_file g.H.Feed _ _ _ _ three b supply.2)) choice.chosen) _ _ _ (ap judged_file supply.3) c.in_err-counts.ensures.beginning)
+    extracts_front (all_parents area) (λ meant. extract_with_parents (seen_decoded area) meant) (all_parents_select area) area edges b _ h (selects_parents _ area b _ _ _ h (ap (λ (l : List ℕ). judged_file (Some l)) (tells_file g.F.Feed _ _ _ _ one b supply.0)) (ap (λ (l : List ℕ). judged_file (Some l)) (tells_file g.G.Feed _ _ _ _ two b supply.1)) (ap (λ (l : List ℕ). judged_file (Some l)) (tells_file g.H.Feed _ _ _ _ three b supply.2)) choice.chosen) _ _ _ (ap judged_file supply.3) c.in_err-counts.ensures.beginning)
 
 pub returns-clause-given : goal.returns-clause-given
 returns-clause-given g c =
     let area = c.args.area in
+    let w = c.well_formed.1.1.1.1.1.0.1.1 in
+    let edges = edges_typed area w.0.1 w.1.0.1 w.1.1.0.1 w.1.1.1.0.1 in
     let h = header_of c.in_ok-choice.choice.header in
     let one = c.in_ok-choice.ensures.chosen in
     let two = one.holding in
@@ -63,4 +67,4 @@ returns-clause-given g c =
     let choice = three.holding in
     let four = c.in_ok-counts.ensures.packed in
     let took = four.holding in
-    record { file = one.file; supplied = one.supplied; digest_is = one.digest_is; holding = (chosen_sound area one.file _ _ h choice.chosen.chosen, record { file = two.file; supplied = two.supplied; digest_is = two.digest_is; holding = record { file = three.file; supplied = three.supplied; digest_is = three.digest_is; holding = record { file = four.file; supplied = four.supplied; digest_is = four.digest_is; holding = record { written = took.written; added = took.added; holding = λ second third fourth. extracted (all_parents area) (λ meant. extract_with_parents (seen_decoded area) meant) (all_parents_select area) area (search rules) one.file _ h (selects_parents _ area one.file _ _ _ h refl (ap (λ (l : List ℕ). judged_file (Some l)) (sym second)) (ap (λ (l : List ℕ). judged_file (Some l)) (sym third)) choice.chosen) c.in_ok-counts.counts _ took.written (ap (λ (l : List ℕ). judged_file (Some l)) (sym fourth)) took.holding } } } }) }
+    record { file = one.file; supplied = one.supplied; digest_is = one.digest_is; holding = (chosen_sound area one.file _ _ h choice.chosen.chosen, record { file = two.file; supplied = two.supplied; digest_is = two.digest_is; holding = record { file = three.file; supplied = three.supplied; digest_is = three.digest_is; holding = record { file = four.file; supplied = four.supplied; digest_is = four.digest_is; holding = record { written = took.written; added = took.added; holding = λ second third fourth. extracted (all_parents area) (λ meant. extract_with_parents (seen_decoded area) meant) (all_parents_select area) area edges one.file _ h (selects_parents _ area one.file _ _ _ h refl (ap (λ (l : List ℕ). judged_file (Some l)) (sym second)) (ap (λ (l : List ℕ). judged_file (Some l)) (sym third)) choice.chosen) c.in_ok-counts.counts _ took.written (ap (λ (l : List ℕ). judged_file (Some l)) (sym fourth)) took.holding } } } }) }
