@@ -1,5 +1,5 @@
 -- The page in which an id can stand.
-use Rattle.std.proofs.Common.{◌≡◌, ℕ, zero, suc, ◌+◌, ◌-◌, ◌<◌, ◌≤◌, ◌⊎◌, true, false, List, [], ◌∷◌, ◌++◌, length, take, drop, get_or, ℤ, ◌<ℤ◌, ◌≤ℤ◌, int_le, inl, inr, refl, sym, ap, subst, ◌∙◌, arith, length-append, true≢false}
+use Rattle.std.proofs.Common.{◌≡◌, ℕ, zero, suc, ◌+◌, ◌-◌, ◌<◌, ◌≤◌, ◌⊎◌, true, false, List, [], ◌∷◌, ◌++◌, length, take, drop, get_or, ℤ, ◌<ℤ◌, ◌≤ℤ◌, int_le, inl, inr, refl, sym, ap, subst, ◌∙◌, arith, length-append, append_assoc, true≢false, Bool, ◌||◌}
 use Rattle.std.specs.List.{list_any}
 use Rattle.std.specs.List.Sorted.{IsPartitionedBy}
 use Rattle.std.specs.Ordering.{int_eq}
@@ -7,6 +7,7 @@ use Rattle.std.proofs.lemmas.Int.{ints}
 use Rattle.std.proofs.lemmas.Bool.{false_from_ne_true}
 use Rattle.std.proofs.lemmas.Grind.{flat_map-append}
 use Rattle.std.proofs.lemmas.List.{get_or_default}
+use Rattle.std.proofs.lemmas.List.Folds.{list_any-append}
 use Rattle.std.proofs.Math.Seq.{drop-append_seam, take-append_seam}
 use Rattle.osm_ids.specs.declared.pages.PageStart.{PageStart}
 use Rattle.osm_ids.specs.declared.page.Cursor.{Cursor}
@@ -16,7 +17,7 @@ use Rattle.osm_ids.proofs.Gaps.{spelled_after}
 use Rattle.osm_ids.proofs.Reading as reading
 use Rattle.osm_ids.proofs.Reading.{cursor, IsAhead}
 use Rattle.osm_ids.proofs.Laid.{ids_in_sealed, fits_front, fits_back}
-use Rattle.osm_ids.proofs.Rising.{other_above, rises_front, rising_back, rising_tail, none_below, none_above, any_in_middle}
+use Rattle.osm_ids.proofs.Rising.{other_above, rises_front, rising_back, rising_tail, none_below, none_above, any_in_middle, cases_order}
 
 pub le_true : (a b : ℤ) → int_le a b ≡ true → a ≤ℤ b
 le_true a b e = grind (arith, ints)
@@ -26,6 +27,9 @@ le_false a b e = grind (arith, ints)
 
 pub true_le : (a b : ℤ) → a ≤ℤ b → int_le a b ≡ true
 true_le a b h = grind (arith, ints)
+
+pub lt_false : (a b : ℤ) → b <ℤ a → int_le a b ≡ false
+lt_false a b h = grind (arith, ints)
 
 -- ---- the first ids rise
 
@@ -152,6 +156,42 @@ none_at_all index bytes pages id n sealed point zero_is =
 abbrev pub EndsAt : List PageStart → List ℕ → ℕ → ℕ → Type 0
 EndsAt index bytes n end = ((next : PageStart) × (n < length index) × (next ≡ get_or index n next) × (end ≡ next.place)) ⊎ ((length index ≤ n) × (end ≡ length bytes))
 
+-- where that is so of the last of them, and not of the next
+pub passed_here : (index : List PageStart) (id : ℤ) (n : ℕ) (d : PageStart) → IsPartitionedBy (λ (s : PageStart). int_le s.first id) index → 0 < n → n ≤ length index → int_le (get_or index (n - 1) d).first id ≡ true → (n < length index → int_le (get_or index n d).first id ≡ false) → IsPassedAt index id n
+passed_here index id n d parted some le low high = (
+  λ i e ge lt. parted i (n - 1) e (omega arith) (omega arith) (ap (λ (s : PageStart). int_le s.first id) (get_or_default index (n - 1) e d (omega arith)) ∙ low),
+  λ i e at lt. false_from_ne_true _ (λ yes. true≢false (sym (parted n i e at lt yes) ∙ ap (λ (s : PageStart). int_le s.first id) (get_or_default index n e d (omega arith)) ∙ high (omega arith))),
+)
+
+-- ids that rise are no less than the first
+pub no_less : (low x : ℤ) (ids : List ℤ) → Rises low ids → list_any (int_eq x) (low ∷ ids) ≡ true → low ≤ℤ x
+no_less low x ids rises there =
+    elim (cases_order x low) [
+      | inl below ↦ absurd (true≢false (sym there ∙ rw (other_above x low below) (none_above low ids x rises (omega (arith, ints)))))
+      | inr more ↦ elim more [
+        | inl above ↦ omega (arith, ints)
+        | inr same ↦ omega (arith, ints)
+      ]
+    ]
+
+not_either : (a b : Bool) → b ≡ true → (a || b) ≡ false → ⊥
+not_either true b e h = true≢false h
+not_either false b e h = true≢false (sym e ∙ h)
+
+-- and less than one that comes after them
+pub all_below : (front ids : List ℤ) (low x : ℤ) (back : List ℤ) → IsRising (front ++ (ids ++ low ∷ back)) → list_any (int_eq x) ids ≡ true → x <ℤ low
+all_below front ids low x back rising there =
+    elim (cases_order x low) [
+      | inl below ↦ below
+      | inr more ↦
+          let high : low ≤ℤ x = elim more [
+            | inl above ↦ omega (arith, ints)
+            | inr same ↦ omega (arith, ints)
+          ] in
+          let none = none_below (front ++ ids) low back x (subst IsRising (sym (append_assoc front ids (low ∷ back))) rising) high in
+          absurd (not_either _ _ there (sym (list_any-append (int_eq x) front ids) ∙ none))
+    ]
+
 -- what lies in the last of so many pages
 pub record Looked (index : List PageStart) (bytes : List ℕ) (begun : ℕ) (start : PageStart) (end : ℕ) : Type 0 where
   pub others : List ℤ
@@ -160,6 +200,7 @@ pub record Looked (index : List PageStart) (bytes : List ℕ) (begun : ℕ) (sta
   pub ordered : start.place ≤ end
   pub within : end ≤ length bytes
   pub spelled : take (end - start.place) (drop start.place bytes) ≡ spelled_after start.first others
+  pub inside : (id : ℤ) → list_any (int_eq id) (start.first ∷ others) ≡ true → IsPassedAt index id begun
   pub answer : (id : ℤ) → IsPassedAt index id begun → list_any (int_eq id) (start.first ∷ others) ≡ list_any (int_eq id) (ids_in index bytes)
 
 looked : (index : List PageStart) (bytes : List ℕ) (pages : List Page) (j : ℕ) (start : PageStart) (end : ℕ) → IsSealed index bytes pages → suc j ≤ length index → start ≡ get_or index j start → EndsAt index bytes (suc j) end → Looked index bytes (suc j) start end
@@ -200,6 +241,19 @@ looked index bytes pages j start end sealed lt is ends =
       fits = subst (λ z. AllFit (z ∷ page.others)) (sym first) fits;
       ordered = omega (arith, ended);
       within = omega (arith, ended, size, place);
+      inside = λ id there.
+          let among : list_any (int_eq id) (page_ids page) ≡ true = ap (λ z. list_any (int_eq id) (z ∷ page.others)) (sym first) ∙ there in
+          let begins = no_less page.first id page.others rises among in
+          let at : suc j - 1 ≡ j = omega arith in
+          passed_here index id (suc j) start (partitioned index pages id starts sealed.rising) (omega arith) lt
+          (ap (λ k. int_le (get_or index k start).first id) at ∙ ap (λ (s : PageStart). int_le s.first id) (sym is) ∙ ap (λ z. int_le z id) first ∙ true_le page.first id begins)
+          (λ another. elim r.next [
+            | inl last ↦ absurd (omega (arith, another, last.1, ap length starts))
+            | inr more ↦
+                let next : (get_or index (suc j) start).first ≡ more.0.first = ap (λ (i : List PageStart). (get_or i (suc j) start).first) starts ∙ ap (λ (s : PageStart). s.first) (more.4 start) in
+                let rising = subst (λ a. IsRising (ids_of_pages r.before ++ (page_ids page ++ ids_of_pages a))) more.2 (subst IsRising parts sealed.rising) in
+                ap (λ z. int_le z id) next ∙ lt_false more.0.first id (all_below (ids_of_pages r.before) (page_ids page) more.0.first id (more.0.others ++ ids_of_pages more.1) rising among)
+          ]);
       spelled = cut_page bytes pages r.before page r.after start.place end sealed.spelled r.whole place ended ∙ ap (λ z. spelled_after z page.others) (sym first);
       answer = λ id point.
           ap (λ z. list_any (int_eq id) (z ∷ page.others)) first
@@ -216,16 +270,9 @@ looked_before index bytes pages begun start end sealed some le is ends =
 -- which is where a look-up stands that begins there
 pub stands : (index : List PageStart) (bytes : List ℕ) (begun : ℕ) (start : PageStart) (end : ℕ) (page : List ℕ) → Looked index bytes begun start end → page ≡ take (end - start.place) (drop start.place bytes) → Stands index bytes begun page (cursor start.first start.first 0)
 stands index bytes begun start end page there cut =
-    record { ids = start.first ∷ there.others; reached = reading.start start.first there.others page there.rises there.fits (cut ∙ there.spelled); answer = there.answer }
+    record { ids = start.first ∷ there.others; reached = reading.start start.first there.others page there.rises there.fits (cut ∙ there.spelled); inside = there.inside; answer = there.answer }
 
 -- ---- so many pages begin at or below an id
-
--- where that is so of the last of them, and not of the next
-pub passed_here : (index : List PageStart) (id : ℤ) (n : ℕ) (d : PageStart) → IsPartitionedBy (λ (s : PageStart). int_le s.first id) index → 0 < n → n ≤ length index → int_le (get_or index (n - 1) d).first id ≡ true → (n < length index → int_le (get_or index n d).first id ≡ false) → IsPassedAt index id n
-passed_here index id n d parted some le low high = (
-  λ i e ge lt. parted i (n - 1) e (omega arith) (omega arith) (ap (λ (s : PageStart). int_le s.first id) (get_or_default index (n - 1) e d (omega arith)) ∙ low),
-  λ i e at lt. false_from_ne_true _ (λ yes. true≢false (sym (parted n i e at lt yes) ∙ ap (λ (s : PageStart). int_le s.first id) (get_or_default index n e d (omega arith)) ∙ high (omega arith))),
-)
 
 -- the same of an id that the code names otherwise
 pub passed_same : (index : List PageStart) (id seen : ℤ) (n : ℕ) → seen ≡ id → (IsPartitionedBy (λ (s : PageStart). int_le s.first seen) index → IsPassedAt index seen n) → IsPartitionedBy (λ (s : PageStart). int_le s.first id) index → IsPassedAt index id n
@@ -260,4 +307,4 @@ found_in_set index bytes begun page from id seen last r point e found =
 
 -- and where it stands then
 pub stands_on : (index : List PageStart) (bytes : List ℕ) (begun : ℕ) (page : List ℕ) (from to : Cursor) (s : Stands index bytes begun page from) → ((ids : List ℤ) → IsAt ids page from → IsAt ids page to) → Stands index bytes begun page to
-stands_on index bytes begun page from to s on = record { ids = s.ids; reached = on s.ids s.reached; answer = s.answer }
+stands_on index bytes begun page from to s on = record { ids = s.ids; reached = on s.ids s.reached; inside = s.inside; answer = s.answer }

@@ -12,3 +12,4 @@ pub mod Walking
 pub mod LinkOrder
 pub mod Closing
 pub mod Striding
+pub mod Lacking

@@ -14,7 +14,7 @@ use Rattle.osm_ids.specs.declared.page.Cursor.{Cursor}
 use Rattle.osm_ids.specs.Pages.{gap, Rises, AllFit}
 use Rattle.osm_ids.specs.Cursors.{IsAt}
 use Rattle.osm_ids.proofs.Gaps.{spelled_after, gap_up, gap-lt, shortest_some, read_at}
-use Rattle.osm_ids.proofs.Rising.{other_below, none_above, or_none}
+use Rattle.osm_ids.proofs.Rising.{other_below, none_above, or_none, first_among}
 
 abbrev pub cursor : ℤ → ℤ → ℕ → Cursor
 cursor passed last at = record { passed = passed; last = last; at = at }
@@ -25,7 +25,7 @@ IsAhead passed last id = (passed <ℤ id) ⊎ (last ≤ℤ id)
 
 -- at a page's first id
 pub start : (first : ℤ) (others : List ℤ) (page : List ℕ) → Rises first others → AllFit (first ∷ others) → page ≡ spelled_after first others → IsAt (first ∷ others) page (cursor first first 0)
-start first others page rises fits e = record { rest = others; rises = rises; fits = fits; left = e; answer = λ id ahead. refl }
+start first others page rises fits e = record { rest = others; rises = rises; fits = fits; left = e; behind = first_among first others; answer = λ id ahead. refl }
 
 pub spelled_none : (last : ℤ) (rest : List ℤ) → Rises last rest → AllFit (last ∷ rest) → length (spelled_after last rest) ≡ 0 → rest ≡ []
 spelled_none last [] rises fits e = refl
@@ -59,7 +59,7 @@ next_of ids page passed last at (x ∷ rest) rises fits left answer lt =
       small = gap-lt last x fits.0 fits.1.0 rises.0;
       spelled = left;
       fits = subst (λ z. FitsSigned w64 z) (sym up) fits.1.0;
-      then = subst (λ z. IsAt ids page (cursor last z (at + size))) (sym up) (record { rest = rest; rises = rises.1; fits = fits.1; left = left'; answer = answer' });
+      then = subst (λ z. IsAt ids page (cursor last z (at + size))) (sym up) (record { rest = rest; rises = rises.1; fits = fits.1; left = left'; behind = sym (answer last (inr (omega (arith, ints)))) ∙ first_among last (x ∷ rest); answer = answer' });
     }
 
 pub following : (ids : List ℤ) (page : List ℕ) (passed last : ℤ) (at : ℕ) → IsAt ids page (cursor passed last at) → at < length page → Next ids page last at

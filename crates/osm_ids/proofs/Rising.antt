@@ -87,7 +87,7 @@ any_in_middle xs ys zs id before after =
 
 -- ---- a set has one rising list
 
-cases_order : (x y : ℤ) → (x <ℤ y) ⊎ ((y <ℤ x) ⊎ (x ≡ y))
+pub cases_order : (x y : ℤ) → (x <ℤ y) ⊎ ((y <ℤ x) ⊎ (x ≡ y))
 cases_order x y =
     elim (int_cmp x y) as (λ r. int_cmp x y ≡ r → (x <ℤ y) ⊎ ((y <ℤ x) ⊎ (x ≡ y))) [
       | Less ↦ λ e. inl (int_ranked x y Less (sym e))
@@ -95,7 +95,7 @@ cases_order x y =
       | Greater ↦ λ e. inr (inl (int_ranked x y Greater (sym e)))
     ] refl
 
-first_among : (x : ℤ) (xs : List ℤ) → list_any (int_eq x) (x ∷ xs) ≡ true
+pub first_among : (x : ℤ) (xs : List ℤ) → list_any (int_eq x) (x ∷ xs) ≡ true
 first_among x xs = rw (Decides-int_eq x x).1 refl
 
 module _ (x : ℤ) (xs : List ℤ) (y : ℤ) (ys : List ℤ) (alike : (id : ℤ) → list_any (int_eq id) (x ∷ xs) ≡ list_any (int_eq id) (y ∷ ys)) where

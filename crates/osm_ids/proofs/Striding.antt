@@ -12,6 +12,7 @@ use Rattle.std.proofs.lemmas.Bool.{ltb-true, and_parts}
 use Rattle.std.proofs.lemmas.Bool.Decides.{nat_tests}
 use Rattle.osm_ids.specs.Cursors.{IsAt, is_short}
 use Rattle.osm_ids.proofs.Gaps.{read_at}
+use Rattle.osm_ids.proofs.Rising.{first_among}
 use Rattle.osm_ids.proofs.Reading.{cursor, following, turn_at}
 
 -- the id before can be forgotten
@@ -21,6 +22,7 @@ settled ids page passed last at h = record {
   rises = h.rises;
   fits = h.fits;
   left = h.left;
+  behind = sym (h.answer last (inr (omega (arith, ints)))) ∙ first_among last h.rest;
   answer = λ id ahead. h.answer id (inr (omega (arith, ints, ahead)));
 }
 

@@ -1,5 +1,5 @@
 -- How far a page is read, and which ids can be looked up from there.
-use Rattle.std.specs.Prelude.{◌≡◌, ℕ, ◌⊎◌, List, ◌∷◌, drop, ℤ, ◌<ℤ◌, ◌≤ℤ◌, int_le, nat_lt, Bool, true, false}
+use Rattle.std.specs.Prelude.{◌≡◌, ℕ, ◌⊎◌, ◌<◌, ◌≤◌, List, ◌∷◌, length, drop, get_or, ℤ, ◌<ℤ◌, ◌≤ℤ◌, int_le, nat_lt, Bool, true, false}
 use Rattle.std.specs.List.{list_any}
 use Rattle.std.specs.List.Sorted.{IsPartitionPoint}
 use Rattle.std.specs.Ordering.{int_eq}
@@ -7,12 +7,13 @@ use Rattle.osm_ids.specs.declared.page.Cursor.{Cursor}
 use Rattle.osm_ids.specs.declared.pages.PageStart.{PageStart}
 use Rattle.osm_ids.specs.Pages.{page_bytes, Rises, AllFit, ids_in}
 
--- among ids, each one above `passed`, or at or above `last`, is `last` or one of those that the bytes from here on spell
+-- `passed` is among the ids, and of them each one above it, or at or above `last`, is `last` or one of those that the bytes from here on spell
 pub record IsAt (ids : List ℤ) (page : List ℕ) (cursor : Cursor) : Type 0 where
   pub rest : List ℤ
   pub rises : Rises cursor.last rest
   pub fits : AllFit (cursor.last ∷ rest)
   pub left : drop cursor.at page ≡ page_bytes (record { first = cursor.last; others = rest })
+  pub behind : list_any (int_eq cursor.passed) ids ≡ true
   pub answer : (id : ℤ) → (cursor.passed <ℤ id) ⊎ (cursor.last ≤ℤ id) → list_any (int_eq id) (cursor.last ∷ rest) ≡ list_any (int_eq id) ids
 
 -- a byte that is a whole varint
@@ -23,8 +24,21 @@ is_short b = nat_lt b 128
 abbrev pub IsPassedAt : List PageStart → ℤ → ℕ → Type 0
 IsPassedAt index id n = IsPartitionPoint (λ (s : PageStart). int_le s.first id ≡ true) (λ (s : PageStart). int_le s.first id ≡ false) index n
 
--- in the last of so many pages, each id that can stand in that page is looked up
+-- all is read that can tell whether the page has the id
+abbrev pub IsReadTo : List ℕ → Cursor → ℤ → Type 0
+IsReadTo page cursor id = (id ≤ℤ cursor.last) ⊎ (length page ≤ cursor.at)
+
+-- the last of so many pages has these ids, all of which can stand there, and each id that can is looked up among them
 pub record Stands (index : List PageStart) (bytes : List ℕ) (begun : ℕ) (page : List ℕ) (cursor : Cursor) : Type 0 where
   pub ids : List ℤ
   pub reached : IsAt ids page cursor
+  pub inside : (id : ℤ) → list_any (int_eq id) ids ≡ true → IsPassedAt index id begun
   pub answer : (id : ℤ) → IsPassedAt index id begun → list_any (int_eq id) ids ≡ list_any (int_eq id) (ids_in index bytes)
+
+-- none of the ids between the two is among those that an index and bytes stand for
+abbrev pub AreAbsent : List PageStart → List ℕ → ℤ → ℤ → Type 0
+AreAbsent index bytes above below = (id : ℤ) → above <ℤ id → id <ℤ below → list_any (int_eq id) (ids_in index bytes) ≡ false
+
+-- no page from this one on begins below a number
+abbrev pub BeginFrom : List PageStart → ℕ → ℤ → Type 0
+BeginFrom index n below = (start : PageStart) → n < length index → start ≡ get_or index n start → below ≤ℤ start.first

@@ -1,14 +1,21 @@
 //! Look-ups of ids that lie close together.
 
-ghost use Rattle.std.specs.Prelude.{◌≡◌, ◌-◌, ◌<◌, ◌≤◌, ◌<ℤ◌, ◌≤ℤ◌, ◌⊎◌, IsTrue, take, drop, length, get_or, int_le, List};
+ghost use Rattle.std.specs.Prelude.{◌≡◌, ◌-◌, ◌<◌, ◌≤◌, ◌<ℤ◌, ◌≤ℤ◌, ◌⊎◌, IsTrue, take, drop, length, get_or, int_le, List, ℕ};
 ghost use Rattle.std.specs.List.Sorted.{IsPartitionedBy};
 ghost use Rattle.std.specs.FinSet as set;
 ghost use Rattle.osm_ids.specs.Pages.{Page, IsSealed};
-ghost use Rattle.osm_ids.specs.Cursors.{IsPassedAt, Stands};
+ghost use Rattle.osm_ids.specs.Cursors.{IsPassedAt, IsReadTo, Stands, AreAbsent, BeginFrom};
 
 use crate::page::{Cursor, read_up_to};
 use crate::pages::{PageStart, SealedIds};
 use std::marker::Model;
+
+/// Ids that the set lacks: all those above one number and below another.
+#[derive(Clone, Copy)]
+struct Absent {
+    above: i64,
+    below: i64,
+}
 
 /// Look-ups in a sealed set that remember where the last one ended: an id a little above is found by reading on from there, one
 /// in the next page from its first id on, and only another one by a search of the index. Contracts see it as the set.
@@ -16,6 +23,8 @@ use std::marker::Model;
 pub struct Lookup<'a> {
     index: &'a [PageStart],
     bytes: &'a [u8],
+    /// The ids round the last one that was looked up. Where the set has few, most that are asked for lie there.
+    absent: Absent,
     /// How many pages begin at or below the id last asked for; the last of them is read. None yet is 0.
     begun: usize,
     page: &'a [u8],
@@ -28,7 +37,7 @@ impl<'a> Model for Lookup<'a> {
     ghost use Rattle.std.specs.Coded.{coded_ℤ};
     ghost use Rattle.std.specs.FinSet as set;
     ghost use Rattle.osm_ids.specs.Pages.{Page, IsSealed, ids_in};
-    ghost use Rattle.osm_ids.specs.Cursors.{Stands};
+    ghost use Rattle.osm_ids.specs.Cursors.{Stands, AreAbsent};
 
     ghost Value = { set.FinSet int_cmp };
 
@@ -38,7 +47,8 @@ impl<'a> Model for Lookup<'a> {
 
     ghost invariant = { λ a. ((pages : List Page) × IsSealed a.index.now a.bytes.now pages)
         × (a.cursor.at ≤ length a.page.now)
-        × (0 < a.begun → Stands a.index.now a.bytes.now a.begun a.page.now a.cursor) };
+        × (0 < a.begun → Stands a.index.now a.bytes.now a.begun a.page.now a.cursor)
+        × AreAbsent a.index.now a.bytes.now a.absent.above a.absent.below };
 }
 
 impl SealedIds {
@@ -49,6 +59,7 @@ impl SealedIds {
         Lookup {
             index: &self.index,
             bytes: &self.bytes,
+            absent: Absent { above: 0, below: 0 },
             begun: 0,
             page: &[],
             cursor: Cursor {
@@ -61,14 +72,28 @@ impl SealedIds {
 }
 
 impl<'a> Lookup<'a> {
+    /// Whether the set has the id. One that is known to be absent takes two comparisons.
+    #[inline(always)]
+    pub fn has(&mut self, id: i64) -> bool
+        ensures found { result ≡ set.contains self.old id }
+        ensures same { self.new ≡ self.old }
+    {
+        if is_within(self.absent, id) {
+            return false;
+        }
+        self.find(id)
+    }
+
     /// Whether the set has the id. It stays at the id, and where the set lacks it at the next one, so that a greater id is read
     /// from there on.
-    pub fn has(&mut self, id: i64) -> bool
+    #[inline(never)]
+    fn find(&mut self, id: i64) -> bool
         ensures found { result ≡ set.contains self.old id }
         ensures same { self.new ≡ self.old }
     {
         let begun = starts_near(self.index, self.begun, id);
         if begun == 0 {
+            self.absent = absent_first(self.index);
             return false;
         }
         let mut page = self.page;
@@ -81,7 +106,55 @@ impl<'a> Lookup<'a> {
         self.begun = begun;
         self.page = page;
         self.cursor = cursor;
+        self.absent = absent_near(self.index, begun, cursor, id);
         cursor.last == id
+    }
+}
+
+/// Whether the id is one of these.
+fn is_within(absent: Absent, id: i64) -> bool
+    ensures { IsTrue result → (absent.above <ℤ id) × (id <ℤ absent.below) }
+{
+    absent.above < id && id < absent.below
+}
+
+/// The ids round one that was read up to: those between two of the set of which one follows the other.
+fn absent_near(index: &[PageStart], begun: usize, cursor: Cursor, id: i64) -> Absent
+    ensures { (bytes page : List ℕ) (pages : List Page) → IsSealed index.now bytes pages
+        → Stands index.now bytes begun page cursor → IsReadTo page cursor id
+        → AreAbsent index.now bytes result.above result.below }
+{
+    if id <= cursor.last {
+        return Absent {
+            above: cursor.passed,
+            below: cursor.last,
+        };
+    }
+    Absent {
+        above: cursor.last,
+        below: first_from(index, begun),
+    }
+}
+
+/// The ids below the first page's.
+fn absent_first(index: &[PageStart]) -> Absent
+    ensures { (bytes : List ℕ) (pages : List Page) → IsSealed index.now bytes pages
+        → AreAbsent index.now bytes result.above result.below }
+{
+    Absent {
+        above: i64::MIN,
+        below: first_from(index, 0),
+    }
+}
+
+/// The first id of the page at a place of the index, and after the last page the greatest number.
+fn first_from(index: &[PageStart], at: usize) -> i64
+    ensures { BeginFrom index.now at result }
+{
+    if at < index.len() {
+        index[at].first
+    } else {
+        i64::MAX
     }
 }
 

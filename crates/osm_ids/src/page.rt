@@ -3,7 +3,7 @@
 ghost use Rattle.std.specs.Prelude.{◌≡◌, ◌≤◌, ◌+◌, ◌⊎◌, List, ℤ, ◌<ℤ◌, ◌≤ℤ◌, IfSome, Some, None, if◌then◌else◌, length};
 ghost use Rattle.std.specs.List.{list_any, list_all, sum};
 ghost use Rattle.std.specs.Ordering.{int_eq};
-ghost use Rattle.osm_ids.specs.Cursors.{IsAt, is_short};
+ghost use Rattle.osm_ids.specs.Cursors.{IsAt, IsReadTo, is_short};
 
 use pbf_wire::get_varint;
 use std::simd::prelude::*;
@@ -62,6 +62,7 @@ pub(crate) fn read_up_to(page: &[u8], from: Cursor, id: i64) -> Cursor
     ensures found { (ids : List ℤ) → IsAt ids page.now from
         → (from.passed <ℤ id) ⊎ (from.last ≤ℤ id)
         → int_eq id result.last ≡ list_any (int_eq id) ids }
+    ensures all { (ids : List ℤ) → IsAt ids page.now from → IsReadTo page.now result id }
 {
     let mut passed = from.passed;
     let mut last = from.last;

@@ -61,3 +61,10 @@ loop-last-preserved-in-Some c =
       within = c.in-Some.ensures.within;
       reading = reads_far _ _ _ _ c.args.page.now _ _ _ _ c.in-Some.far _ c.loop-last.invariant.reading c.in-Some.ensures.on c.in-Some.ensures.low (to_z-of_z w64 c.in-Some.far fits);
     }
+
+pub returns-in_default-get_varint-clause-all : goal.returns-in_default-get_varint-clause-all
+returns-in_default-get_varint-clause-all c = λ ids is_at.
+    let last = to_z w64 c.loop-last.last-bits in
+    let here = c.loop-last.invariant.reading.on ids is_at in
+    let n = following ids c.args.page.now _ last c.loop-last.at here c.if-at-page.true in
+    absurd (c.in_default-get_varint.not-Ok (n.difference, c.loop-last.at + length (shortest n.difference)) (c.get_varint.ensures.exact ∙ reads_next ids c.args.page.now last c.loop-last.at n))
