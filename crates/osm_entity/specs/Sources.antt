@@ -1,5 +1,5 @@
 -- What the sources of tags, refs, locations and members have still to give.
-use Rattle.std.specs.Prelude.{ℕ, zero, suc, ◌%◌, ◌^◌, ◌==◌, if◌then◌else◌, ℤ, List, [], ◌∷◌, map}
+use Rattle.std.specs.Prelude.{ℕ, suc, ◌%◌, ◌^◌, ◌==◌, if◌then◌else◌, ℤ, List, [], ◌∷◌, map}
 use Rattle.std.specs.List.{zip}
 use Rattle.std.specs.Borrow.{Bor}
 use Rattle.std.specs.Global.{Vec}

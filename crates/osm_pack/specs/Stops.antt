@@ -1,7 +1,7 @@
 -- Why writing stops.
 use Rattle.std.specs.Prelude.{ℕ}
 use Rattle.pbf_frame.specs.declared.stop.Stop.{Stop}
-use Rattle.pbf_frame.specs.declared.stop.Stop.TheVariants.{Refused, Read, Write, Memory, Changed}
+use Rattle.pbf_frame.specs.declared.stop.Stop.TheVariants.{Write, Memory}
 use Rattle.pbf_frame.specs.Devices.{HasRisen}
 
 -- a stop names the drain only where its count of failures rose, and never a feed

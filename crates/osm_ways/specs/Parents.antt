@@ -3,7 +3,7 @@ use Rattle.std.specs.Prelude.{◌≡◌, ℕ, zero, suc, ℤ, Bool, true, false,
 use Rattle.std.specs.List.{list_any, filter}
 use Rattle.std.specs.Ordering.{int_eq}
 use Rattle.osm_ids.specs.declared.links.Link.{Link}
-use Rattle.osm_ways.specs.Selection.{MemberSeen, node_member, way_member, relation_member, Seen, a_node, a_way, a_relation, IdTest, no_ids, box_ids, node_ids, way_ids, is_kept_relation, is_kept}
+use Rattle.osm_ways.specs.Selection.{MemberSeen, relation_member, Seen, a_relation, IdTest, no_ids, box_ids, node_ids, way_ids, is_kept_relation, is_kept}
 
 -- a relation of this id that has a selecting member
 abbrev pub is_selected : IdTest → IdTest → IdTest → ℤ → Seen → Bool

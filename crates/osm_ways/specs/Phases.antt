@@ -6,7 +6,7 @@ use Rattle.std.specs.Ordering.{int_cmp}
 use Rattle.std.specs.FinSet as set
 use Rattle.osm_entity.specs.declared.bounding_box.BoundingBox.{BoundingBox}
 use Rattle.osm_ids.specs.Links.{link_cmp, link_code}
-use Rattle.osm_ways.specs.Selection.{MemberSeen, node_member, way_member, relation_member, Seen, a_node, a_way, a_relation, no_ids, is_kept_way, is_kept_relation, is_kept}
+use Rattle.osm_ways.specs.Selection.{MemberSeen, relation_member, Seen, a_node, a_way, a_relation, no_ids, is_kept_way, is_kept_relation, is_kept}
 
 abbrev pub Ids : Type 0
 Ids = set.FinSet int_cmp

@@ -1,6 +1,6 @@
 //! The HeaderBlock of a file, owned, and the one that is written in its place.
 
-ghost use Rattle.std.specs.Prelude.{◌≡◌, IfOk, OnOk, Some, codes, map};
+ghost use Rattle.std.specs.Prelude.{◌≡◌, IfOk, Some, codes, map};
 ghost use Rattle.std.specs.Option.{option_map};
 ghost use Rattle.pbf_block.specs.Header.{header_of, text_of};
 ghost use Rattle.pbf_block.specs.WrittenHeader.{has, kept_features, known_features, header_out, header_out_for_box, header_out_for_convert};

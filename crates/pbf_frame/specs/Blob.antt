@@ -6,7 +6,7 @@ use Rattle.pbf_wire.specs.declared.fault.Fault.{Fault}
 use Rattle.pbf_wire.specs.declared.fault.Reason.{Reason}
 use Rattle.pbf_wire.specs.declared.fault.Reason.TheVariants.{NoRaw, RawLong, Zlib, Lzma, Bzip2, Lz4, Zstd}
 use Rattle.pbf_wire.specs.Least.{least}
-use Rattle.pbf_wire.specs.Occurrence.{Content, Number, Eight, Four, Bytes, Occurrence, items, found}
+use Rattle.pbf_wire.specs.Occurrence.{Content, Bytes, Occurrence, items, found}
 use Rattle.pbf_wire.specs.Reading.{bytes_held, last_of}
 use Rattle.pbf_wire.specs.Wire.{wire}
 use Rattle.pbf_frame.specs.declared.blob.TheConstants.{RAW, ZLIB_DATA, LZMA_DATA, BZIP2_DATA, LZ4_DATA, ZSTD_DATA, BLOB_KINDS, RAW_LIMIT}

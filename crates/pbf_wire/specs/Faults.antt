@@ -5,7 +5,7 @@ use Rattle.pbf_wire.specs.declared.fault.Fault.{Fault}
 use Rattle.pbf_wire.specs.declared.fault.Reason.{Reason}
 use Rattle.pbf_wire.specs.declared.fault.Reason.TheVariants.{Missing, TwiceMessage, StringIndex, OutOfRange}
 use Rattle.pbf_wire.specs.declared.kind.Kind.{Kind}
-use Rattle.pbf_wire.specs.Occurrence.{Content, Number, Eight, Four, Bytes, Occurrence, Item, items, found}
+use Rattle.pbf_wire.specs.Occurrence.{Content, Number, Bytes, Occurrence, Item, items, found}
 use Rattle.pbf_wire.specs.Reading.{last_of}
 use Rattle.pbf_wire.specs.Signed.{delta_in, is_within}
 use Rattle.pbf_wire.specs.Sums.{sums}

@@ -1,7 +1,7 @@
 -- What the occurrences of a message say of one field.
 use Rattle.std.specs.Prelude.{ℕ, ◌==◌, if◌then◌else◌, List, [], Option, Some, None, unwrap_or, filter}
 use Rattle.std.specs.List.{filter_map, last_or}
-use Rattle.pbf_wire.specs.Occurrence.{Content, Number, Eight, Four, Bytes, Occurrence}
+use Rattle.pbf_wire.specs.Occurrence.{Content, Number, Bytes, Occurrence}
 
 -- the last occurrence of the field k
 abbrev pub last_of : ℕ → List Occurrence → Option Occurrence

@@ -19,9 +19,8 @@ use Rattle.osm_ways.specs.Seen.{seen_entity, seen_decoded}
 use Rattle.osm_ways.proofs.Decoding.{seen_alike}
 use Rattle.osm_ways.proofs.Extracts.{chosen_twice, chosen_viewed, keeps_settled}
 use Rattle.osm_ways.proofs.ParentLaws.{keeps_with_parents_settled}
-use Rattle.pbf_frame.specs.declared.frame.FrameKind.{FrameKind}
 use Rattle.pbf_frame.specs.declared.frame.FrameKind.TheVariants as kind
-use Rattle.pbf_frame.specs.Frames.{FrameSpec, frame_kind, frame_payload, frame_payload_at}
+use Rattle.pbf_frame.specs.Frames.{FrameSpec}
 use Rattle.pbf_frame.specs.Verdict.{Verdict, judged}
 use Rattle.pbf_frame.specs.Writing.{written_frame}
 use Rattle.pbf_block.specs.Header.{HeaderSpec}

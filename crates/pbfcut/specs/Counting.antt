@@ -5,7 +5,7 @@ use Rattle.osm_entity.specs.Entity.{EntitySpec}
 pub use Rattle.pbf_block.specs.Numbers.{nodes_of, ways_of, relations_of, capped, counted_with, counts_of, count_one}
 use Rattle.pbf_block.specs.Payload.{entities}
 use Rattle.pbf_frame.specs.Frames.{FrameSpec}
-use Rattle.pbfcut.specs.Payload.{Payload, header_block, primitive_block, unknown, payload_of}
+use Rattle.pbfcut.specs.Payload.{Payload, primitive_block, payload_of}
 
 -- ---- the entities of frames
 
