@@ -2,9 +2,9 @@
 use Rattle.std.specs.Prelude.{◌≡◌, ℕ, zero, suc, true, false, List, [], ◌∷◌, ◌++◌, if◌then◌else◌, length, take, drop}
 use Rattle.std.specs.List.{flat_map}
 use Rattle.osm_entity.specs.Entity.{EntitySpec}
-use Rattle.pbf_block.specs.Header.{HeaderSpec}
+use Rattle.pbf_header.specs.Header.{HeaderSpec}
 use Rattle.pbf_block.specs.WrittenBlock.{is_block, block_message}
-use Rattle.pbf_block.specs.WrittenHeader.{header_message, header_out_for_convert}
+use Rattle.pbf_header.specs.WrittenHeader.{header_message, header_out_for_convert}
 use Rattle.pbf_frame.specs.declared.frame.FrameKind.TheVariants as kind
 use Rattle.pbf_frame.specs.Writing.{written_frame}
 

@@ -5,18 +5,18 @@ ghost use Rattle.osm_entity.specs.Entity.{EntitySpec};
 ghost use Rattle.osm_entity.specs.Ranges.{EntityFits};
 ghost use Rattle.osm_entity.specs.Views.{entity_of};
 ghost use Rattle.osm_entity.specs.Weight.{text_weight};
-ghost use Rattle.pbf_block.specs.Header.{header_of};
+ghost use Rattle.pbf_header.specs.Header.{header_of};
 ghost use Rattle.pbf_frame.specs.Devices.{IsFront};
 ghost use Rattle.pbf_frame.specs.Transfers.{Added};
 ghost use Rattle.osm_pack.specs.Cuts.{block_frame, header_frame, then_pending, then_written, at_end};
 ghost use Rattle.osm_pack.specs.Open.{Holds, IsOpen};
 ghost use Rattle.osm_pack.specs.Stops.{IsPackStop};
-ghost use Rattle.pbf_block.specs.declared.header_write.TheConstants.{MOST_HEADER_TEXT};
+ghost use Rattle.pbf_header.specs.declared.write.TheConstants.{MOST_HEADER_TEXT};
 
 use crate::open_block::OpenBlock;
 use osm_entity::EntityRef;
-use pbf_block::Header;
 use pbf_frame::{Drain, FrameKind, Stop, put_frame};
+use pbf_header::Header;
 use std::alloc::Global;
 use std::hash::BuildHasher;
 

@@ -3,8 +3,8 @@
 use crate::frames::{finish_into, push_into, put_header_into};
 use crate::open_block::OpenBlock;
 use osm_entity::EntityRef;
-use pbf_block::Header;
 use pbf_frame::{Drain, Stop};
+use pbf_header::Header;
 use std::alloc::Global;
 use std::hash::BuildHasher;
 use std::marker::Model;
@@ -45,10 +45,10 @@ impl<D: Drain, S: BuildHasher> Packer<D, S> {
     ghost use Rattle.osm_entity.specs.Entity.{EntitySpec};
     ghost use Rattle.osm_entity.specs.Ranges.{EntityFits};
     ghost use Rattle.osm_entity.specs.Views.{entity_of};
-    ghost use Rattle.pbf_block.specs.Header.{header_of};
+    ghost use Rattle.pbf_header.specs.Header.{header_of};
     ghost use Rattle.pbf_block.specs.WrittenBlock.{is_block};
     ghost use Rattle.osm_entity.specs.Weight.{text_weight};
-    ghost use Rattle.pbf_block.specs.declared.header_write.TheConstants.{MOST_HEADER_TEXT};
+    ghost use Rattle.pbf_header.specs.declared.write.TheConstants.{MOST_HEADER_TEXT};
     ghost use Rattle.pbf_frame.specs.declared.stop.Stop.{Stop};
     ghost use Rattle.pbf_frame.specs.Devices.{IsFront};
     ghost use Rattle.pbf_frame.specs.Transfers.{Added};

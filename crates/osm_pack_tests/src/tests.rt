@@ -2,8 +2,9 @@
 
 use osm_entity::{EntityRef, Member, MemberKind, Meta, Node, Relation, Scale, Way};
 use osm_pack::Packer;
-use pbf_block::{Block, Header};
+use pbf_block::Block;
 use pbf_frame::{FrameKind, FrameReader, Pieces, Sink, Stop};
+use pbf_header::Header;
 use std::alloc::{AllocError, Global};
 use std::hash::{BuildHasherDefault, FoldHasher};
 use std::process::Abort;

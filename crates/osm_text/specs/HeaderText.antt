@@ -1,8 +1,8 @@
 -- The lines of a header.
 use Rattle.std.specs.Prelude.{ℕ, ℤ, List, [], ◌∷◌, ◌++◌, codes, Option, Some, None}
 use Rattle.std.specs.List.{flat_map}
-use Rattle.pbf_block.specs.declared.header.HeaderBox.{HeaderBox}
-use Rattle.pbf_block.specs.Header.{HeaderSpec}
+use Rattle.pbf_header.specs.declared.header.HeaderBox.{HeaderBox}
+use Rattle.pbf_header.specs.Header.{HeaderSpec}
 use Rattle.osm_text.specs.EntityText.{spaced, spaced_pair}
 use Rattle.osm_text.specs.Quoted.{quoted}
 

@@ -2,12 +2,12 @@
 
 ghost use Rattle.std.specs.Prelude.{◌≡◌, ◌++◌, map, OnOk};
 ghost use Rattle.std.specs.Option.{option_map};
-ghost use Rattle.pbf_block.specs.Header.{header_of, text_of};
+ghost use Rattle.pbf_header.specs.Header.{header_of, text_of};
 ghost use Rattle.osm_text.specs.HeaderText.{text_line, text_lines, maybe_text_line, maybe_number_line, edges_text, maybe_box_line, feature_text, origin_text, change_text, header_text};
 
 use crate::number::{put_spaced, put_spaced_pair};
 use crate::quoted::put_quoted;
-use pbf_block::{Header, HeaderBox};
+use pbf_header::{Header, HeaderBox};
 use std::alloc::AllocError;
 
 /// Appends the line of a text.

@@ -2,7 +2,7 @@
 
 use osm_entity::{EntityRef, Member, MemberKind, Meta, Node, Relation, Scale, Way};
 use osm_text::{put_entity, put_header, put_number, put_quoted};
-use pbf_block::{Header, HeaderBox};
+use pbf_header::{Header, HeaderBox};
 use std::alloc::{AllocError, Global};
 use std::process::Abort;
 use std::test::Fail;

@@ -38,7 +38,7 @@ use Rattle.pbf_block.specs.Payload.{by_index, entities}
 use Rattle.pbf_block.specs.Judgement.{payload_values, payload_weights, block_fault}
 use Rattle.pbf_block.specs.WrittenBlock.{unless_default, block_slots}
 use Rattle.pbf_block.specs.declared.scale.TheConstants.{DEFAULT_SCALE}
-use Rattle.pbf_block.proofs.SlotLemmas.{none_of, scalar_given, last_given}
+use Rattle.pbf_wire.proofs.SlotLemmas.{none_of, scalar_given, last_given}
 use Rattle.pbf_block.proofs.InfoLaw.{int32_fits}
 use Rattle.pbf_block.proofs.GroupLaw.{GroupGood}
 

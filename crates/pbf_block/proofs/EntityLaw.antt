@@ -32,7 +32,7 @@ use Rattle.pbf_block.specs.StructureFaults.{entity_structure}
 use Rattle.pbf_block.specs.ValueFaults.{stored_limit, wide_range, info_values, entity_values}
 use Rattle.pbf_block.specs.WrittenEntity.{key_index, value_index, info_message, entity_slots}
 use Rattle.pbf_block.proofs.InfoLaw.{IsAmong, MetaReady, named_read, stored_fits, stored_read, info_read, info_wire, info_quiet}
-use Rattle.pbf_block.proofs.SlotLemmas.{IfSome}
+use Rattle.pbf_wire.proofs.SlotLemmas.{IfSome}
 
 -- ---- columns of other fields
 

@@ -20,7 +20,8 @@ use Rattle.osm_entity.specs.Entity.{EntitySpec, node, way, relation}
 use Rattle.osm_entity.specs.Ranges.{EntityFits, IsInt32, IsInt64, ScaleTyped, EntityTyped}
 use Rattle.osm_entity.specs.Weight.{entity_weight}
 use Rattle.pbf_dense.specs.Judged.{dense_wire, dense_structure, dense_values}
-use Rattle.pbf_dense.proofs.FitsLemmas.{nodes_fit, nodes_typed, version_typed, int32_typed, int64_typed}
+use Rattle.osm_entity.proofs.RangeLemmas.{int32_typed, int64_typed}
+use Rattle.pbf_dense.proofs.FitsLemmas.{nodes_fit, nodes_typed, version_typed}
 use Rattle.pbf_block.specs.declared.message.TheConstants.{PRIMITIVEGROUP, GRANULARITY, DATE_GRANULARITY, BLOCK_KINDS, GROUP_KINDS, NODES, DENSE, WAYS, RELATIONS, INFO, VERSION, LAT_OFFSET, LON_OFFSET}
 use Rattle.pbf_block.specs.Members.{message_entities, member_entities, group_entities, entities_by, node_in, way_in, relation_in}
 use Rattle.pbf_block.specs.Payload.{by_index, entities}

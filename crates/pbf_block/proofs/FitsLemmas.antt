@@ -35,7 +35,7 @@ use Rattle.pbf_block.specs.Scale.{read_or}
 use Rattle.pbf_block.specs.WireFaults.{node_wire, way_wire, relation_wire}
 use Rattle.pbf_block.specs.StructureFaults.{are_located, entity_structure, way_structure}
 use Rattle.pbf_block.specs.ValueFaults.{stored_limit, signed_range, wide_range, uid_range, user_range, info_values, entity_values, node_values, way_values, relation_values}
-use Rattle.pbf_block.proofs.SlotLemmas.{IfSome}
+use Rattle.pbf_wire.proofs.SlotLemmas.{IfSome}
 use Rattle.pbf_block.proofs.ValueLemmas.{later_value, last_is}
 use Rattle.pbf_block.proofs.ReadsLemmas.{entered_nil}
 use Rattle.osm_entity.specs.declared.weight.TheConstants.{HIGHEST_WEIGHT}

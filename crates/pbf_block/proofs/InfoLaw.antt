@@ -23,7 +23,8 @@ use Rattle.pbf_block.specs.declared.message.TheConstants.{INFO_KINDS, VERSION, T
 use Rattle.pbf_block.specs.ValueFaults.{stored_limit, wide_range, uid_range, user_range, info_values}
 use Rattle.pbf_block.specs.Info.{info_in}
 use Rattle.pbf_block.specs.WrittenEntity.{info_slots, info_message}
-use Rattle.pbf_block.proofs.SlotLemmas.{IfSome, scalar_given, given_all, present, option_read, scalar_fits, last_given}
+use Rattle.osm_entity.proofs.RangeLemmas.{present}
+use Rattle.pbf_wire.proofs.SlotLemmas.{IfSome, scalar_given, given_all, option_read, scalar_fits, last_given}
 
 -- ---- texts and their indexes
 

@@ -1,14 +1,16 @@
 -- Judged phase by phase, the least fault of the first phase that has one is the least of all.
-use Rattle.std.proofs.Common.{◌≡◌, ℕ, List, [], ◌∷◌, ◌++◌, refl, ap, ap₂, sym, ◌∙◌, arith}
+use Rattle.std.proofs.Common.{◌≡◌, ℕ, List, [], ◌++◌, refl, ap, ap₂, sym, ◌∙◌}
 use Rattle.std.specs.Prelude.{Option, Some, None}
 use Rattle.std.specs.Option.{option_map, option_or}
 use Rattle.pbf_wire.specs.declared.fault.Fault.{Fault}
-use Rattle.pbf_wire.specs.Least.{lesser_by, least_by, lesser, least}
+use Rattle.pbf_wire.specs.Least.{lesser_by, least_by, least}
+use Rattle.pbf_wire.specs.Phases.{in_phase, phase_rank}
 use Rattle.pbf_wire.proofs.LeastLemmas.{least_joined}
+use Rattle.pbf_wire.proofs.PhaseLemmas.{least_in_phase}
 use Rattle.pbf_wire.proofs.SoundLemmas.{no_least}
 use Rattle.pbf_block.specs.WireFaults.{wire_faults}
 use Rattle.pbf_block.specs.StructureFaults.{structure_faults}
-use Rattle.pbf_block.specs.Judgement.{payload_values, payload_weights, block_fault, in_phase, all_faults, phase_rank}
+use Rattle.pbf_block.specs.Judgement.{payload_values, payload_weights, block_fault, all_faults}
 
 -- ---- where the first two phases have no fault, and where they have one
 
@@ -45,15 +47,6 @@ unfolding block_fault
 no_fault at m e = no_later (wire_faults at m) (structure_faults at m) (payload_values at m) (payload_weights at m) e
 
 -- ---- as one order
-
-lesser_in_phase : (n : ℕ) (f g : Option Fault) → lesser_by phase_rank (option_map (λ f. (n, f)) f) (option_map (λ f. (n, f)) g) ≡ option_map (λ f. (n, f)) (lesser f g)
-lesser_in_phase n None g = refl
-lesser_in_phase n (Some f) None = refl
-lesser_in_phase n (Some f) (Some g) = grind arith
-
-pub least_in_phase : (n : ℕ) (fs : List Fault) → least_by phase_rank (in_phase n fs) ≡ option_map (λ f. (n, f)) (least fs)
-least_in_phase n [] = refl
-least_in_phase n (f ∷ fs) = ap (λ w. lesser_by phase_rank (Some (n, f)) w) (least_in_phase n fs) ∙ lesser_in_phase n (Some f) (least fs)
 
 four : (f g h i : Option Fault)
     → option_map (λ p. p.1) (lesser_by phase_rank (option_map (λ f. (8, f)) f) (lesser_by phase_rank (option_map (λ f. (9, f)) g) (lesser_by phase_rank (option_map (λ f. (10, f)) h) (option_map (λ f. (11, f)) i)))) ≡ option_or f (option_or g (option_or h i))

@@ -1,9 +1,10 @@
 -- The judgement of a payload: its faults phase by phase, and the first of them.
-use Rattle.std.specs.Prelude.{ℕ, List, ◌∷◌, ◌++◌, length, map, Option}
+use Rattle.std.specs.Prelude.{ℕ, List, ◌++◌, length, Option}
 use Rattle.std.specs.Option.{option_or}
 use Rattle.pbf_wire.specs.declared.fault.Fault.{Fault}
 use Rattle.pbf_wire.specs.Faults.{fields_in}
-use Rattle.pbf_wire.specs.Least.{least, rank}
+use Rattle.pbf_wire.specs.Least.{least}
+use Rattle.pbf_wire.specs.Phases.{in_phase}
 use Rattle.pbf_block.specs.WireFaults.{wire_faults}
 use Rattle.pbf_block.specs.StructureFaults.{structure_faults}
 use Rattle.pbf_block.specs.ValueFaults.{value_faults}
@@ -26,15 +27,7 @@ block_fault at m =
 
 -- ---- the same as one order
 
--- the faults of a phase
-abbrev pub in_phase : ℕ → List Fault → List (ℕ × Fault)
-in_phase phase faults = map (λ f. (phase, f)) faults
-
 -- all faults of a payload, each with its phase; a frame has seven before them
 abbrev pub all_faults : ℕ → List ℕ → List (ℕ × Fault)
 all_faults at m =
     in_phase 8 (wire_faults at m) ++ (in_phase 9 (structure_faults at m) ++ (in_phase 10 (payload_values at m) ++ in_phase 11 (payload_weights at m)))
-
--- by phase, then as the faults of one phase: by offset, by the reason's number, by the field that is missing
-abbrev pub phase_rank : ℕ × Fault → List ℕ
-phase_rank p = p.0 ∷ rank p.1

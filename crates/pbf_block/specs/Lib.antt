@@ -11,9 +11,6 @@ pub mod Numbers
 pub mod Cursors
 pub mod Weights
 pub mod Judgement
-pub mod Header
-pub mod HeaderFaults
-pub mod WrittenHeader
 pub mod Counts
 pub mod InfoValues
 pub mod EntityValues

@@ -8,7 +8,7 @@ ghost use Rattle.pbf_wire.specs.declared.fault.ReadFault.TheVariants.{Refused};
 ghost use Rattle.pbf_wire.specs.Faults.{fields_in};
 ghost use Rattle.pbf_wire.specs.Least.{least, least_by};
 ghost use Rattle.osm_entity.specs.Ranges.{EntityFits};
-ghost use Rattle.pbf_block.specs.Judgement.{payload_values, payload_weights, block_fault, all_faults, phase_rank};
+ghost use Rattle.pbf_block.specs.Judgement.{payload_values, payload_weights, block_fault, all_faults};
 ghost use Rattle.pbf_block.specs.Cursors.{entities_left};
 ghost use Rattle.pbf_block.specs.Payload.{entities};
 ghost use Rattle.pbf_block.specs.Kinds.{is_among};

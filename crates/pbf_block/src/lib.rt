@@ -1,4 +1,4 @@
-//! HeaderBlocks and PrimitiveBlocks: read, judged and written.
+//! PrimitiveBlocks: judged, read and written.
 #![tactic(auto)]
 
 mod block;
@@ -12,10 +12,6 @@ mod entity_out;
 mod entity_values;
 mod entity_write;
 mod group;
-mod header;
-mod header_judge;
-mod header_read;
-mod header_write;
 mod info;
 mod info_values;
 mod kinds;
@@ -31,15 +27,13 @@ mod values;
 mod way;
 mod weights;
 mod wire;
-mod writing;
 
 pub use block::Block;
 pub use block_write::{MOST_ENTITIES, put_block, put_dense};
 pub use counts::Counts;
 pub use entities::Entities;
 pub use entity_out::EntityOut;
-pub use header::{Header, HeaderBox};
-pub use header_write::MOST_HEADER_TEXT;
 pub use kinds::Kinds;
+pub use pbf_header::{Header, HeaderBox, MOST_HEADER_TEXT};
 pub use runs::{Run, Runs};
 pub use scale::DEFAULT_SCALE;

@@ -6,6 +6,4 @@ mod block_tests;
 #[cfg(test)]
 mod entity_tests;
 #[cfg(test)]
-mod header_tests;
-#[cfg(test)]
 mod write_tests;

@@ -1,21 +1,20 @@
 -- The nodes of a dense message without faults can be written again, where they are light; and their numbers have the types of the
 -- format, whatever is wrong.
-use Rattle.std.proofs.Common.{◌≡◌, ◌≤◌, ◌^◌, ℕ, zero, suc, ℤ, pos, negsuc, Bool, true, false, List, [], ◌∷◌, length, map, refl, subst, arith, ◌∙◌, ◌<◌, ◌%◌, ◌-◌}
-use Rattle.std.specs.Prelude.{Option, Some, None, slice_get, nat_lt, if◌then◌else◌}
+use Rattle.std.proofs.Common.{◌≡◌, ◌≤◌, ℕ, zero, suc, ℤ, List, [], ◌∷◌, length, map, refl, subst, ◌∙◌}
+use Rattle.std.specs.Prelude.{Option, Some, None, slice_get}
 use Rattle.std.specs.Option.{option_map}
 use Rattle.std.specs.List.{AllByRecursion, range_with_len}
-use Rattle.std.proofs.lemmas.Int.{ints}
-use Rattle.std.proofs.lemmas.Bool.{ltb-true, ltb-false}
 use Rattle.std.proofs.lemmas.List.{length-map}
 use Rattle.pbf_wire.specs.Occurrence.{Occurrence}
 use Rattle.pbf_wire.specs.Columns.{column}
 use Rattle.pbf_wire.specs.Faults.{fields_in, embedded}
-use Rattle.pbf_wire.specs.Signed.{unzigzag, low_i32, low_i64}
+use Rattle.pbf_wire.specs.Signed.{unzigzag, low_i32}
 use Rattle.osm_entity.specs.declared.scale.Scale.{Scale}
 use Rattle.osm_entity.specs.Scale.{ScaleFits}
 use Rattle.osm_entity.specs.Entity.{NodeSpec, node}
-use Rattle.osm_entity.specs.Ranges.{IsStored, IsUid, IfPresent, IsInt32, IsInt64, MetaFits, NodeFits, ScaleTyped, EntityTyped}
+use Rattle.osm_entity.specs.Ranges.{IsStored, IsUid, IfPresent, IsInt32, MetaFits, NodeFits, ScaleTyped, EntityTyped}
 use Rattle.osm_entity.specs.Weight.{node_weight}
+use Rattle.osm_entity.proofs.RangeLemmas.{int32_typed}
 use Rattle.pbf_dense.specs.declared.message.TheConstants.{ID, DENSEINFO, LAT, LON}
 use Rattle.pbf_dense.specs.Info.{meta_at, info_of}
 use Rattle.pbf_dense.specs.Nodes.{value_at, node_at, nodes}
@@ -57,30 +56,6 @@ pub nodes_fit : (table : List (List ℕ)) (scale : Scale) (at : ℕ) (m : List �
 nodes_fit table scale at m scaled h = all_fit table scale scaled (fields_in at m) (dense_reads table at m h)
 
 -- ---- types
-
-int32_pos : (v : ℕ) → v < 2 ^ 31 → IsInt32 (pos v)
-int32_pos v lt = (omega (arith, ints), omega (arith, ints))
-
-int32_negative : (v : ℕ) → v < 2 ^ 32 → 2 ^ 31 ≤ v → IsInt32 (negsuc (2 ^ 32 - 1 - v))
-int32_negative v lt le = let small : 2 ^ 32 - 1 - v < 2 ^ 31 = omega arith in (omega (arith, ints), omega (arith, ints))
-
-pub int32_typed : (v : ℕ) → IsInt32 (low_i32 v)
-int32_typed v = by (nat_lt (v % 2 ^ 32) (2 ^ 31)) refl where
-  by : (b : Bool) → nat_lt (v % 2 ^ 32) (2 ^ 31) ≡ b → IsInt32 (if b then pos (v % 2 ^ 32) else negsuc (2 ^ 32 - 1 - v % 2 ^ 32))
-  by true e = int32_pos (v % 2 ^ 32) (ltb-true (v % 2 ^ 32) (2 ^ 31) e)
-  by false e = int32_negative (v % 2 ^ 32) (omega arith) (ltb-false (v % 2 ^ 32) (2 ^ 31) e)
-
-int64_pos : (v : ℕ) → v < 2 ^ 63 → IsInt64 (pos v)
-int64_pos v lt = (omega (arith, ints), omega (arith, ints))
-
-int64_negative : (v : ℕ) → 2 ^ 63 ≤ v → IsInt64 (negsuc (2 ^ 64 - 1 - v))
-int64_negative v le = let small : 2 ^ 64 - 1 - v < 2 ^ 63 = omega arith in (omega (arith, ints), omega (arith, ints))
-
-pub int64_typed : (v : ℕ) → IsInt64 (low_i64 v)
-int64_typed v = by (nat_lt v (2 ^ 63)) refl where
-  by : (b : Bool) → nat_lt v (2 ^ 63) ≡ b → IsInt64 (if b then pos v else negsuc (2 ^ 64 - 1 - v))
-  by true e = int64_pos v (ltb-true v (2 ^ 63) e)
-  by false e = int64_negative v (ltb-false v (2 ^ 63) e)
 
 pub version_typed : (version : Option ℕ) → IfPresent IsInt32 (option_map low_i32 version)
 version_typed None = tt

@@ -1,7 +1,7 @@
 -- Headers. The payload of an OSMHeader frame is a HeaderBlock: a box, the features that a reader
 -- has to know and those that it may know, and where the file comes from.
 use Rattle.std.specs.Prelude.{ℕ, List, [], ◌∷◌, ◌++◌, pos, Some, None, codes}
-use Rattle.pbf_block.specs.Header.{HeaderSpec}
+use Rattle.pbf_header.specs.Header.{HeaderSpec}
 use Rattle.pbf_wire.specs.declared.fault.Reason.TheVariants.{VarintCut, WrongType, Missing, TwiceMessage, Feature}
 use Rattle.pbf_examples.specs.Hex.{hex}
 use Rattle.pbf_examples.specs.Reading.{◌means◌, ◌has_header◌, ◌refused_at◌for◌, ◌cut_by◌gives◌, ◌converts_to◌, minus, box}

@@ -17,3 +17,6 @@ pub mod RisingLemmas
 pub mod SoundLemmas
 pub mod QuietLemmas
 pub mod ShortLemmas
+pub mod PhaseLemmas
+pub mod SlotLemmas
+pub mod RoomLemmas

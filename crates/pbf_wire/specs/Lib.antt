@@ -1,5 +1,6 @@
 pub mod Reasons
 pub mod Least
+pub mod Phases
 pub mod Varint
 pub mod Occurrence
 pub mod Payload

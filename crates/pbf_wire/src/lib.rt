@@ -43,4 +43,4 @@ pub use signed::{low_i32, low_i64, low_sint32, low_u32, sign_extended, unzigzag,
 pub use sum::Sum;
 pub use sums::Sums;
 pub use varint::{get_varint, put_varint, shortest_spelling, varint_len};
-pub use writing::{put_bytes, put_column, put_number, put_unless_empty};
+pub use writing::{put_bytes, put_column, put_int64, put_number, put_unless_empty};

@@ -4,9 +4,12 @@
 //! stated content.
 
 ghost use Rattle.std.specs.Prelude.{◌≡◌, ◌^◌, ◌<◌, ◌++◌, [], ◌∷◌, ℕ, List, Some, OnOk};
+ghost use Rattle.std.specs.Option.{option_map};
 ghost use Rattle.pbf_wire.specs.Columns.{packed};
+ghost use Rattle.pbf_wire.specs.Signed.{sign_extended};
 ghost use Rattle.pbf_wire.specs.Message.{Scalar, Column, Each, slot_bytes, unless_empty};
 
+use crate::signed::sign_extended;
 use crate::varint::put_varint;
 use std::alloc::AllocError;
 
@@ -18,6 +21,19 @@ pub fn put_number(out: &mut Vec<u8>, number: u64, value: u64) -> Result<(), Allo
 {
     put_varint(out, number * 8)?;
     put_varint(out, value)?;
+    Ok(())
+}
+
+/// Appends a field that holds a number in two's complement (wire type 0), if there is one.
+pub fn put_int64(out: &mut Vec<u8>, number: u64, value: Option<i64>) -> Result<(), AllocError>
+    requires { number < 2 ^ 29 }
+    ensures { OnOk result (out.new.items
+        ≡ out.old.items ++ slot_bytes (Scalar number (option_map sign_extended value))) }
+{
+    match value {
+        Some(value) => put_number(out, number, sign_extended(value))?,
+        None => {}
+    }
     Ok(())
 }
 

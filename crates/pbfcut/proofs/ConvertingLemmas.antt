@@ -5,8 +5,8 @@ use Rattle.std.specs.Option.{option_map}
 use Rattle.pbf_wire.specs.declared.fault.Fault.{Fault}
 use Rattle.osm_entity.specs.Entity.{EntitySpec}
 use Rattle.osm_pack.specs.Cuts.{written_file}
-use Rattle.pbf_block.specs.declared.header.Header.{Header}
-use Rattle.pbf_block.specs.Header.{HeaderSpec, header_of}
+use Rattle.pbf_header.specs.declared.header.Header.{Header}
+use Rattle.pbf_header.specs.Header.{HeaderSpec, header_of}
 use Rattle.pbf_frame.specs.Devices.{IsFront}
 use Rattle.pbf_frame.specs.Frames.{FrameSpec}
 use Rattle.pbf_frame.specs.Verdict.{Verdict, Says}

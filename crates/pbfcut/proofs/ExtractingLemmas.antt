@@ -19,8 +19,8 @@ use Rattle.osm_ways.specs.Seen.{seen_entity}
 use Rattle.osm_ways.specs.Selection.{Seen, keeps}
 use Rattle.osm_ways.proofs.Passes.{chosen_is_kept, chosen_with_parents}
 use Rattle.osm_pack.specs.Cuts.{written_file}
-use Rattle.pbf_block.specs.Header.{HeaderSpec}
-use Rattle.pbf_block.specs.WrittenHeader.{header_out_for_box, edges_of, EdgesTyped}
+use Rattle.pbf_header.specs.Header.{HeaderSpec}
+use Rattle.pbf_header.specs.WrittenHeader.{header_out_for_box, edges_of, EdgesTyped}
 use Rattle.pbf_frame.specs.declared.stop.Stop.{Stop}
 use Rattle.pbf_frame.specs.declared.stop.Stop.TheVariants as stop
 use Rattle.pbf_frame.specs.Devices.{IsFront}

@@ -21,13 +21,13 @@ use Rattle.pbf_frame.specs.Verdict.{Verdict, judged_within, judged, with_first, 
 use Rattle.pbf_frame.specs.Writing.{written_at, written_frame}
 use Rattle.pbf_frame.proofs.Longest.{frames_then_rest}
 use Rattle.pbf_frame.proofs.ReadBack.{written_is_frame, written_kind, written_payload, written_bytes}
-use Rattle.pbf_block.specs.Header.{HeaderSpec}
-use Rattle.pbf_block.specs.HeaderFaults.{header_fault}
+use Rattle.pbf_header.specs.Header.{HeaderSpec}
+use Rattle.pbf_header.specs.HeaderFaults.{header_fault}
 use Rattle.pbf_block.specs.Judgement.{block_fault}
 use Rattle.pbf_block.specs.Payload.{entities}
 use Rattle.pbf_block.specs.WrittenBlock.{is_block, block_message}
-use Rattle.pbf_block.specs.WrittenHeader.{HeaderFits, header_message, header_out_for_convert}
-use Rattle.pbf_block.proofs.HeaderLaw.{header_short, light_read, light_sound}
+use Rattle.pbf_header.specs.WrittenHeader.{HeaderFits, header_message, header_out_for_convert}
+use Rattle.pbf_header.proofs.HeaderLaw.{header_short, light_read, light_sound}
 use Rattle.pbf_block.proofs.LengthLaw.{block_fits}
 use Rattle.pbf_block.proofs.WrittenLaw.{written_sound, written_read}
 use Rattle.osm_pack.specs.Cuts.{cuts, block_frame, written_entities, header_frame, written_file}
@@ -40,7 +40,7 @@ use Rattle.pbfcut.specs.Kept.{verdict_on}
 use Rattle.pbfcut.specs.Judged.{fault_in, payload_fault, sound_first, sound_front, fully, judged_file}
 use Rattle.pbfcut.specs.Pass.{headers_in, frame_headers, file_header}
 use Rattle.pbfcut.specs.Payload.{header_block, payload_as}
-use Rattle.pbf_block.specs.declared.header_write.TheConstants.{MOST_HEADER_TEXT}
+use Rattle.pbf_header.specs.declared.write.TheConstants.{MOST_HEADER_TEXT}
 use Rattle.osm_entity.specs.declared.weight.TheConstants.{HIGHEST_WEIGHT}
 
 -- ---- what a file says

@@ -23,12 +23,12 @@ use Rattle.pbf_frame.specs.declared.frame.FrameKind.TheVariants as kind
 use Rattle.pbf_frame.specs.Frames.{FrameSpec}
 use Rattle.pbf_frame.specs.Verdict.{Verdict, judged}
 use Rattle.pbf_frame.specs.Writing.{written_frame}
-use Rattle.pbf_block.specs.Header.{HeaderSpec}
-use Rattle.pbf_block.specs.WrittenHeader.{edges_of, header_message, header_out_for_box, header_out_for_convert, EdgesTyped, HeaderFits}
+use Rattle.pbf_header.specs.Header.{HeaderSpec}
+use Rattle.pbf_header.specs.WrittenHeader.{edges_of, header_message, header_out_for_box, header_out_for_convert, EdgesTyped, HeaderFits}
 use Rattle.pbf_block.proofs.FitsLaw.{entities_fit, entities_typed}
-use Rattle.pbf_block.proofs.HeaderLaw.{out_fits}
-use Rattle.pbf_block.proofs.HeaderLemmas.{header_again}
-use Rattle.pbf_block.proofs.ReadHeaderLaw.{header_fits}
+use Rattle.pbf_header.proofs.HeaderLaw.{out_fits}
+use Rattle.pbf_header.proofs.HeaderLemmas.{header_again}
+use Rattle.pbf_header.proofs.ReadHeaderLaw.{header_fits}
 use Rattle.osm_pack.specs.Cuts.{written_entities, written_file}
 use Rattle.pbfcut.specs.Converting.{header_limit, is_short, with_limit, limited, conversion, judged_writable, answer_bytes}
 use Rattle.pbfcut.specs.Counting.{entities_in, frame_entities, stored_entities}
@@ -39,7 +39,7 @@ use Rattle.pbfcut.specs.Theorem.{IsConversion, IsExtract}
 use Rattle.pbfcut.specs.Pass.{headers_in, frame_headers, file_header}
 use Rattle.pbfcut.specs.Payload.{Payload, header_block, primitive_block, unknown, payload_of}
 use Rattle.pbfcut.proofs.FileLaw.{IsFileOf, written_is_file}
-use Rattle.pbf_block.specs.declared.header_write.TheConstants.{MOST_HEADER_TEXT}
+use Rattle.pbf_header.specs.declared.write.TheConstants.{MOST_HEADER_TEXT}
 
 -- ---- the payloads of a file without a fault
 

@@ -3,8 +3,8 @@ use Rattle.std.proofs.Common.{◌≡◌, ◌⊎◌, ℕ, ◌≤◌, ◌<◌, Res
 use Rattle.std.specs.List.{flat_map, last_or, filter}
 use Rattle.std.specs.Option.{option_map}
 use Rattle.std.proofs.lemmas.Grind.{flat_map-append}
-use Rattle.pbf_block.specs.declared.header.Header.{Header}
-use Rattle.pbf_block.specs.Header.{HeaderSpec, header_of, header_in}
+use Rattle.pbf_header.specs.declared.header.Header.{Header}
+use Rattle.pbf_header.specs.Header.{HeaderSpec, header_of, header_in}
 use Rattle.std.proofs.lemmas.List.{append-nil}
 use Rattle.std.proofs.lemmas.List.Elements.{filter-append}
 use Rattle.pbf_wire.specs.declared.fault.Fault.{Fault}

@@ -6,7 +6,7 @@ use Rattle.pbf_wire.specs.declared.fault.Reason.TheVariants.{NoHeader, EntityLar
 use Rattle.pbf_wire.specs.Faults.{fault}
 use Rattle.osm_entity.specs.Entity.{EntitySpec}
 use Rattle.osm_entity.specs.Weight.{text_weight}
-use Rattle.pbf_block.specs.Header.{HeaderSpec, header_of}
+use Rattle.pbf_header.specs.Header.{HeaderSpec, header_of}
 use Rattle.pbf_frame.specs.Frames.{FrameSpec}
 use Rattle.pbf_frame.specs.Verdict.{Verdict, Says}
 use Rattle.osm_pack.specs.Cuts.{written_file}
@@ -14,7 +14,7 @@ use Rattle.pbfcut.specs.declared.pass.Pass.{Pass}
 use Rattle.pbfcut.specs.Counting.{stored_entities}
 use Rattle.pbfcut.specs.Judged.{judged_file}
 use Rattle.pbfcut.specs.Pass.{file_header}
-use Rattle.pbf_block.specs.declared.header_write.TheConstants.{MOST_HEADER_TEXT}
+use Rattle.pbf_header.specs.declared.write.TheConstants.{MOST_HEADER_TEXT}
 
 -- ---- the bytes
 

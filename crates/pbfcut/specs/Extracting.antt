@@ -11,8 +11,8 @@ use Rattle.osm_ways.specs.Parents.{extract_with_parents}
 use Rattle.osm_ways.specs.Phases.{WaySets, RelationSets, ParentSets, start_nodes, start_ways, start_relations}
 use Rattle.osm_ways.specs.Seen.{seen_entity}
 use Rattle.osm_pack.specs.Cuts.{written_file}
-use Rattle.pbf_block.specs.Header.{HeaderSpec}
-use Rattle.pbf_block.specs.WrittenHeader.{header_out_for_box}
+use Rattle.pbf_header.specs.Header.{HeaderSpec}
+use Rattle.pbf_header.specs.WrittenHeader.{header_out_for_box}
 use Rattle.pbf_frame.specs.Frames.{FrameSpec}
 use Rattle.pbf_frame.specs.Verdict.{Verdict, Says}
 use Rattle.pbfcut.specs.Converting.{header_limit}

@@ -4,7 +4,7 @@ use Rattle.std.specs.Option.{option_map}
 use Rattle.osm_entity.specs.declared.bounding_box.BoundingBox.{BoundingBox}
 use Rattle.osm_entity.specs.Entity as entity
 use Rattle.osm_entity.specs.Entity.{EntitySpec, Decoded}
-use Rattle.pbf_block.specs.Header.{HeaderSpec}
+use Rattle.pbf_header.specs.Header.{HeaderSpec}
 use Rattle.pbf_frame.specs.Verdict.{Verdict, judged}
 use Rattle.pbfcut.specs.Converting.{limited, answer_bytes}
 use Rattle.pbfcut.specs.Counting.{stored_entities}

@@ -8,7 +8,7 @@ use Rattle.pbf_dense.specs.declared.places.Place.{Place}
 use Rattle.osm_ways.specs.Selection.{a_node}
 use Rattle.osm_ways.specs.Phases.{NodeSets, WaySets, RelationSets, node_step, way_step, relation_step}
 use Rattle.osm_ways.specs.Seen.{seen_node, seen_way, seen_relation}
-use Rattle.pbf_block.specs.Header.{HeaderSpec, header_of, header_in}
+use Rattle.pbf_header.specs.Header.{HeaderSpec, header_of, header_in}
 use Rattle.pbf_block.specs.declared.counts.Counts.{Counts}
 use Rattle.pbf_frame.specs.declared.device.Feed as feed
 use Rattle.pbf_frame.specs.declared.reader.FrameReader.{FrameReader}

@@ -9,7 +9,7 @@ use Rattle.osm_ways.specs.Phases.{WaySets, ParentSets, is_chosen, is_chosen_with
 use Rattle.osm_ways.specs.Seen.{seen_way, seen_relation}
 use Rattle.osm_pack.specs.Cuts.{written_file, written_entities, pending_after, written_after}
 use Rattle.osm_pack.specs.Packing.{Packing, Pending, IsPacking, has_header}
-use Rattle.pbf_block.specs.Header.{HeaderSpec}
+use Rattle.pbf_header.specs.Header.{HeaderSpec}
 use Rattle.pbf_block.specs.declared.counts.Counts.{Counts}
 use Rattle.pbf_frame.specs.declared.device.Drain as drain
 use Rattle.pbf_frame.specs.declared.stop.Stop.{Stop}
@@ -28,7 +28,7 @@ use Rattle.pbfcut.specs.Judged.{fault_in}
 use Rattle.pbfcut.specs.Pass.{TakesSome}
 use Rattle.pbfcut.specs.Payload.{Payload, payload_of}
 use Rattle.pbfcut.specs.Stops.{Caused, Only, unchanged, KeepsDrain, WriteFailed}
-use Rattle.pbf_block.specs.declared.header_write.TheConstants.{MOST_HEADER_TEXT}
+use Rattle.pbf_header.specs.declared.write.TheConstants.{MOST_HEADER_TEXT}
 
 -- ---- which are picked
 

@@ -6,7 +6,7 @@ use Rattle.std.specs.Option.{option_map}
 use Rattle.osm_entity.specs.declared.bounding_box.BoundingBox.{BoundingBox}
 use Rattle.osm_entity.specs.Entity.{Decoded}
 use Rattle.pbf_block.specs.declared.counts.Counts.{Counts}
-use Rattle.pbf_block.specs.WrittenHeader.{header_out_for_box, header_out_for_convert}
+use Rattle.pbf_header.specs.WrittenHeader.{header_out_for_box, header_out_for_convert}
 use Rattle.pbfcut.specs.Counting.{counts_of}
 use Rattle.pbfcut.specs.Extracting.{Choice}
 use Rattle.pbfcut.specs.Kept.{IsWritable, header_in_file, entities_in_file, meant_in_file, conversion_of, extract_of}

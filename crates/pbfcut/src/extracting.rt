@@ -4,7 +4,7 @@ ghost use Rattle.std.specs.Prelude.{◌≡◌, ◌⊎◌, ℕ, List, IfOk, IfErr
 ghost use Rattle.osm_ways.specs.Parents.{extract_with_parents};
 ghost use Rattle.osm_ways.specs.Seen.{seen_decoded};
 ghost use Rattle.osm_ways.specs.Selection.{extract};
-ghost use Rattle.pbf_block.specs.Header.{header_of};
+ghost use Rattle.pbf_header.specs.Header.{header_of};
 ghost use Rattle.pbf_frame.specs.Devices.{IsFront};
 ghost use Rattle.pbfcut.specs.Calls.{AllSupply, FourSupply, ExtractStops, ParentsStops, ChangedIn};
 ghost use Rattle.pbfcut.specs.Theorem.{Extracted};
@@ -24,8 +24,9 @@ use crate::receipt::{Halt, InputReceipt, Receipt};
 use crate::repeat::Repeat;
 use osm_entity::BoundingBox;
 use osm_ways::{Chosen, ChosenParents, NodePhase};
-use pbf_block::{Counts, Header};
+use pbf_block::Counts;
 use pbf_frame::{Drain, Feed, Stop};
+use pbf_header::Header;
 use std::alloc::Global;
 use std::hash::BuildHasher;
 

@@ -3,7 +3,7 @@
 ghost use Rattle.std.specs.Prelude.{◌≡◌, Some, None, IfOk, IfErr};
 ghost use Rattle.std.specs.Option.{option_map};
 ghost use Rattle.osm_entity.specs.Weight.{text_weight};
-ghost use Rattle.pbf_block.specs.Header.{header_of, text_of};
+ghost use Rattle.pbf_header.specs.Header.{header_of, text_of};
 ghost use Rattle.pbfcut.specs.Pick.{IsShort};
 ghost use Rattle.pbf_frame.specs.declared.stop.Stop.TheVariants.{Refused};
 ghost use Rattle.pbf_wire.specs.Faults.{fault};
@@ -12,8 +12,8 @@ ghost use Rattle.pbfcut.specs.Refused.{halted, IsLimitRefused};
 
 use crate::pass::Judged;
 use crate::receipt::Halt;
-use pbf_block::{Header, MOST_HEADER_TEXT};
 use pbf_frame::Stop;
+use pbf_header::{Header, MOST_HEADER_TEXT};
 use pbf_wire::{Fault, Reason};
 
 /// The header of the file that was judged, if it can be written.

@@ -23,9 +23,10 @@ use crate::hashed::HashedFeed;
 use crate::receipt::Halt;
 use osm_entity::EntityRef;
 use osm_ways::{NodePhase, RelationPhase, WayPhase};
-use pbf_block::{Block, Counts, Header, Kinds, Run};
+use pbf_block::{Block, Counts, Kinds, Run};
 use pbf_dense::Dense;
 use pbf_frame::{Feed, Frame, FrameKind, FrameReader, Stop};
+use pbf_header::Header;
 use pbf_wire::ReadFault;
 use std::alloc::{AllocError, Global};
 

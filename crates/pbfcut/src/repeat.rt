@@ -1,7 +1,7 @@
 //! Passes after the first one, whose bytes have to have its digest.
 
 ghost use Rattle.std.specs.Prelude.{◌≡◌, IfOk, IfErr, OnOk, OnErr, Ok, Err, Some, true, false, if◌then◌else◌};
-ghost use Rattle.pbf_block.specs.Header.{header_of};
+ghost use Rattle.pbf_header.specs.Header.{header_of};
 ghost use Rattle.pbf_frame.specs.declared.stop.Stop.TheVariants.{Changed};
 ghost use Rattle.pbfcut.specs.Judged.{judged_file};
 ghost use Rattle.pbfcut.specs.Given.{GaveFile, Took};

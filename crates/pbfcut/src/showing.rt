@@ -4,8 +4,8 @@ ghost use Rattle.std.specs.Prelude.{◌≡◌, ◌+◌, ◌<◌, ◌≤◌, ◌^
 ghost use Rattle.std.specs.List.{flat_map};
 ghost use Rattle.osm_entity.specs.Views.{entity_of};
 ghost use Rattle.pbf_block.specs.Cursors.{entities_left};
-ghost use Rattle.pbf_block.specs.Header.{header_in};
-ghost use Rattle.pbf_block.specs.HeaderFaults.{header_fault};
+ghost use Rattle.pbf_header.specs.Header.{header_in};
+ghost use Rattle.pbf_header.specs.HeaderFaults.{header_fault};
 ghost use Rattle.osm_text.specs.EntityText.{entity_line};
 ghost use Rattle.osm_text.specs.HeaderText.{header_text};
 ghost use Rattle.pbf_frame.specs.Devices.{IsFront};
@@ -27,8 +27,9 @@ use crate::receipt::{Halt, InputReceipt, Receipt};
 use crate::repeat::Repeat;
 use osm_entity::EntityRef;
 use osm_text::{put_entity, put_header};
-use pbf_block::{Block, Counts, Entities, Header};
+use pbf_block::{Block, Counts, Entities};
 use pbf_frame::{Drain, Feed, Frame, FrameKind, FrameReader, Stop, write_all};
+use pbf_header::Header;
 use std::alloc::Global;
 
 /// Writes the line of an entity, which is put together in `text`.

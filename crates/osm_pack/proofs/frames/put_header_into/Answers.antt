@@ -1,7 +1,7 @@
 use Rattle.std.proofs.Common.{◌∙◌, ◌++◌, ◌<◌, List, ℕ, length, ap, sym, subst}
-use Rattle.pbf_block.specs.Header.{header_of}
-use Rattle.pbf_block.specs.WrittenHeader.{header_message, header_out_for_convert}
-use Rattle.pbf_block.proofs.HeaderLaw.{out_short}
+use Rattle.pbf_header.specs.Header.{header_of}
+use Rattle.pbf_header.specs.WrittenHeader.{header_message, header_out_for_convert}
+use Rattle.pbf_header.proofs.HeaderLaw.{out_short}
 use Rattle.osm_pack.proofs.frames.put_header_into.Goals as goal
 
 pub put_frame-requires-clause-short : goal.put_frame-requires-clause-short

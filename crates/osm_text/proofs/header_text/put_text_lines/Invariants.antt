@@ -1,5 +1,5 @@
 use Rattle.std.proofs.Common.{◌≡◌, ◌++◌, map, take}
-use Rattle.pbf_block.specs.Header.{text_of}
+use Rattle.pbf_header.specs.Header.{text_of}
 use Rattle.osm_text.specs.HeaderText.{text_lines}
 use Rattle.osm_text.proofs.header_text.put_text_lines.Given as goal
 

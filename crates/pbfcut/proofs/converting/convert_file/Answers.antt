@@ -1,6 +1,6 @@
 use Rattle.std.proofs.Common.{◌⊎◌, List, ℕ, Some, ap, sym, inr, refl}
 use Rattle.std.proofs.lemmas.Result.{err_from_is_err_and}
-use Rattle.pbf_block.specs.Header.{header_of}
+use Rattle.pbf_header.specs.Header.{header_of}
 use Rattle.pbfcut.specs.Calls.{RefusedFirst, ChangedIn}
 use Rattle.pbfcut.specs.Converting.{header_limit, held_header, judged_writable}
 use Rattle.pbfcut.specs.Judged.{judged_file}

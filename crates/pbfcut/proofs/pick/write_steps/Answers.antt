@@ -2,7 +2,7 @@ use Rattle.std.proofs.Common.{◌≤◌, [], ◌∷◌, ◌++◌, ◌∙◌, ari
 use Rattle.std.specs.List.{filter}
 use Rattle.std.proofs.lemmas.Result.{err_from_is_err_and}
 use Rattle.pbf_frame.proofs.VerdictLemmas.{gone_more}
-use Rattle.pbf_block.specs.Header.{header_of}
+use Rattle.pbf_header.specs.Header.{header_of}
 use Rattle.osm_pack.specs.Cuts.{written_file}
 use Rattle.pbfcut.specs.Counting.{stored_entities}
 use Rattle.pbfcut.specs.Pick.{pick_of}

@@ -1,5 +1,5 @@
 use Rattle.std.proofs.lemmas.Result.{err_from_is_err_and}
-use Rattle.pbf_block.specs.Header.{header_of}
+use Rattle.pbf_header.specs.Header.{header_of}
 use Rattle.pbfcut.specs.Pick.{pick_of}
 use Rattle.pbfcut.proofs.GivenLemmas.{tells_file}
 use Rattle.pbfcut.proofs.PickingLemmas.{packed_front, packed_told}

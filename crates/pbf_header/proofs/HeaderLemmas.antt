@@ -1,0 +1,41 @@
+-- The texts of a header.
+use Rattle.std.proofs.Common.{◌≡◌, ℕ, Bool, true, false, cond, List, [], ◌∷◌, map, refl, ap, nat_eq, codes}
+use Rattle.std.specs.Prelude.{◌||◌, Option, Some}
+use Rattle.std.specs.List.{list_any}
+use Rattle.std.specs.Cmp.Lexicographic.{pointwise}
+use Rattle.std.specs.Global.{Vec}
+use Rattle.pbf_strings.specs.TableOut.{has_text}
+use Rattle.pbf_header.specs.declared.header.HeaderBox.{HeaderBox}
+use Rattle.pbf_header.specs.Header.{HeaderSpec, text_of}
+use Rattle.pbf_header.specs.WrittenHeader.{known_features, kept_features, header_out}
+
+-- a search among texts as they are held
+pub has_held : (text : List ℕ) (held : List (Vec ℕ)) → list_any (λ (t : Vec ℕ). pointwise nat_eq text t.items) held ≡ has_text (map text_of held) text
+has_held text [] = refl
+has_held text (t ∷ held) = ap (λ b. pointwise nat_eq text t.items || b) (has_held text held)
+
+-- by which of the three features there are
+abbrev keep : Bool → List ℕ → List (List ℕ) → List (List ℕ)
+keep there feature features = cond there (feature ∷ features) features
+
+abbrev three : Bool → Bool → Bool → List (List ℕ)
+three a b c = keep a (codes "Has_Metadata") (keep b (codes "Sort.Type_then_ID") (keep c (codes "LocationsOnWays") []))
+
+three_again : (a b c : Bool) → kept_features (three a b c) ≡ three a b c
+three_again false false false = refl
+three_again false false true = refl
+three_again false true false = refl
+three_again false true true = refl
+three_again true false false = refl
+three_again true false true = refl
+three_again true true false = refl
+three_again true true true = refl
+
+-- features that are kept are kept again
+pub kept_again : (optional : List (List ℕ)) → kept_features (kept_features optional) ≡ kept_features optional
+kept_again optional = three_again (has_text optional (codes "Has_Metadata")) (has_text optional (codes "Sort.Type_then_ID")) (has_text optional (codes "LocationsOnWays"))
+
+-- the header of what is written, with another box or the same
+pub header_again : (bbox other : Option HeaderBox) (h : HeaderSpec) → header_out bbox (header_out other h) ≡ header_out bbox h
+header_again bbox other h =
+    ap (λ (optional : List (List ℕ)). record { bbox = bbox; required = known_features; optional = optional; program = Some (codes "pbfcut"); source = h.source; url = h.url; timestamp = h.timestamp; sequence = h.sequence }) (kept_again h.optional)

@@ -1,0 +1,43 @@
+-- What is wrong with a HeaderBlock, phase by phase.
+use Rattle.std.specs.Prelude.{ℕ, not, List, ◌++◌, Option}
+use Rattle.std.specs.List.{flat_map}
+use Rattle.std.specs.Option.{option_or}
+use Rattle.pbf_wire.specs.declared.fault.Fault.{Fault}
+use Rattle.pbf_wire.specs.declared.fault.Reason.TheVariants.{Feature}
+use Rattle.pbf_wire.specs.Faults.{fault_where, entered, fields_in, nested_faults, missing, twice}
+use Rattle.pbf_wire.specs.Least.{least}
+use Rattle.pbf_wire.specs.Occurrence.{Occurrence}
+use Rattle.pbf_strings.specs.TableOut.{has_text}
+use Rattle.pbf_header.specs.declared.header.TheConstants.{BBOX, HEADER_KINDS, BBOX_KINDS, REQUIRED_FEATURES, LEFT, RIGHT, TOP, BOTTOM}
+use Rattle.pbf_wire.specs.Phases.{in_phase}
+use Rattle.pbf_header.specs.WrittenHeader.{known_features}
+
+-- the wire form of the header and of its boxes
+abbrev pub header_wire : ℕ → List ℕ → List Fault
+header_wire at m = nested_faults HEADER_KINDS BBOX BBOX_KINDS at at m
+
+-- the edges that a box lacks, at the box's place
+abbrev pub edge_faults : ℕ → ℕ → List ℕ → List Fault
+edge_faults place at m =
+    let os = fields_in at m in
+    missing LEFT place os ++ (missing RIGHT place os ++ (missing TOP place os ++ missing BOTTOM place os))
+
+-- each box after the first, and what each box lacks
+abbrev pub header_structure : List Occurrence → List Fault
+header_structure os = twice BBOX os ++ flat_map (entered BBOX edge_faults) os
+
+-- a feature that isn't known
+abbrev pub feature_faults : ℕ → ℕ → List ℕ → List Fault
+feature_faults place at text = fault_where (not (has_text known_features text)) place Feature
+
+-- each required feature that isn't known
+abbrev pub header_values : List Occurrence → List Fault
+header_values os = flat_map (entered REQUIRED_FEATURES feature_faults) os
+
+-- the first fault of a header: of its wire form, then of its structure, then of its values
+unfoldable pub header_fault : ℕ → List ℕ → Option Fault
+header_fault at m = option_or (least (header_wire at m)) (option_or (least (header_structure (fields_in at m))) (least (header_values (fields_in at m))))
+
+-- all faults of a header, each with its phase
+abbrev pub all_header_faults : ℕ → List ℕ → List (ℕ × Fault)
+all_header_faults at m = let os = fields_in at m in in_phase 8 (header_wire at m) ++ (in_phase 9 (header_structure os) ++ in_phase 10 (header_values os))

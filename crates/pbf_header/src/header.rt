@@ -1,0 +1,190 @@
+//! The HeaderBlock of a file, owned, and the one that is written in its place.
+
+ghost use Rattle.std.specs.Prelude.{◌≡◌, IfOk, Some, codes, map};
+ghost use Rattle.std.specs.Option.{option_map};
+ghost use Rattle.pbf_strings.specs.TableOut.{has_text};
+ghost use Rattle.pbf_header.specs.Header.{header_of, text_of};
+ghost use Rattle.pbf_header.specs.WrittenHeader.{kept_features, known_features, header_out, header_out_for_box, header_out_for_convert};
+
+use osm_entity::BoundingBox;
+use pbf_wire::Kind;
+use std::alloc::{AllocError, Global};
+
+// The fields of a HeaderBlock.
+pub(crate) const BBOX: u64 = 1;
+
+pub(crate) const REQUIRED_FEATURES: u64 = 4;
+
+pub(crate) const OPTIONAL_FEATURES: u64 = 5;
+
+pub(crate) const WRITINGPROGRAM: u64 = 16;
+
+pub(crate) const SOURCE: u64 = 17;
+
+pub(crate) const REPLICATION_TIMESTAMP: u64 = 32;
+
+pub(crate) const REPLICATION_SEQUENCE: u64 = 33;
+
+pub(crate) const REPLICATION_URL: u64 = 34;
+
+/// How the fields of a HeaderBlock are stored.
+pub(crate) const HEADER_KINDS: [(u64, Kind); 8] = [
+    (BBOX, Kind::Bytes),
+    (REQUIRED_FEATURES, Kind::Bytes),
+    (OPTIONAL_FEATURES, Kind::Bytes),
+    (WRITINGPROGRAM, Kind::Bytes),
+    (SOURCE, Kind::Bytes),
+    (REPLICATION_TIMESTAMP, Kind::Number),
+    (REPLICATION_SEQUENCE, Kind::Number),
+    (REPLICATION_URL, Kind::Bytes),
+];
+
+// The fields of a HeaderBBox.
+pub(crate) const LEFT: u64 = 1;
+
+pub(crate) const RIGHT: u64 = 2;
+
+pub(crate) const TOP: u64 = 3;
+
+pub(crate) const BOTTOM: u64 = 4;
+
+/// How the fields of a HeaderBBox are stored.
+pub(crate) const BBOX_KINDS: [(u64, Kind); 4] = [
+    (LEFT, Kind::Number),
+    (RIGHT, Kind::Number),
+    (TOP, Kind::Number),
+    (BOTTOM, Kind::Number),
+];
+
+// The required features that are known. Both are written.
+pub(crate) const OSM_SCHEMA: &[u8] = b"OsmSchema-V0.6";
+
+pub(crate) const DENSE_NODES: &[u8] = b"DenseNodes";
+
+// The optional features that are written where they were read.
+pub(crate) const HAS_METADATA: &[u8] = b"Has_Metadata";
+
+pub(crate) const SORTED: &[u8] = b"Sort.Type_then_ID";
+
+pub(crate) const LOCATIONS_ON_WAYS: &[u8] = b"LocationsOnWays";
+
+/// The program that a written header names.
+pub(crate) const PROGRAM: &[u8] = b"pbfcut";
+
+/// The box that a header names, by its edges in nanodegrees. It may be any four numbers.
+#[derive(Clone, Copy, Debug, PartialEq, Eq)]
+pub struct HeaderBox {
+    pub left: i64,
+    pub right: i64,
+    pub top: i64,
+    pub bottom: i64,
+}
+
+/// A HeaderBlock: what a file says of itself. Texts are bytes, in any encoding.
+#[derive(Debug, Drop)]
+pub struct Header {
+    pub bbox: Option<HeaderBox>,
+    /// The features that a reader has to know.
+    pub required: Vec<Vec<u8>>,
+    /// The features that a reader may make use of.
+    pub optional: Vec<Vec<u8>>,
+    /// The program that wrote the file.
+    pub program: Option<Vec<u8>>,
+    /// Where the data come from.
+    pub source: Option<Vec<u8>>,
+    /// Where changes to the data are to be had.
+    pub url: Option<Vec<u8>>,
+    /// The time up to which changes are in the data, in seconds from 1970 on.
+    pub timestamp: Option<i64>,
+    /// The number of the newest change that is in the data.
+    pub sequence: Option<i64>,
+}
+
+/// Whether the text is among the texts.
+pub(crate) fn has(texts: &[Vec<u8>], text: &[u8]) -> bool
+    ensures { result ≡ has_text (map text_of texts.now) text.now }
+{
+    texts.iter().any(|held| text == held.as_slice())
+}
+
+/// A text of one's own, where there is one.
+fn copied(alloc: Global, text: &Option<Vec<u8>>) -> Result<Option<Vec<u8>>, AllocError>
+    ensures { IfOk result (λ owned. option_map text_of owned ≡ option_map text_of text.now) }
+{
+    match text {
+        Some(text) => Ok(Some(Vec::from_slice(alloc, text.as_slice())?)),
+        None => Ok(None),
+    }
+}
+
+/// The required features of what is written.
+fn known_features(alloc: Global) -> Result<Vec<Vec<u8>>, AllocError>
+    ensures { IfOk result (λ features. map text_of features.items ≡ known_features) }
+{
+    let mut features = Vec::new(alloc);
+    features.push(Vec::from_slice(alloc, OSM_SCHEMA)?)?;
+    features.push(Vec::from_slice(alloc, DENSE_NODES)?)?;
+    Ok(features)
+}
+
+/// Those of the optional features that what is written has too, each once.
+fn kept_features(alloc: Global, optional: &[Vec<u8>]) -> Result<Vec<Vec<u8>>, AllocError>
+    ensures { IfOk result
+        (λ features. map text_of features.items ≡ kept_features (map text_of optional.now)) }
+{
+    let mut features = Vec::new(alloc);
+    if has(optional, HAS_METADATA) {
+        features.push(Vec::from_slice(alloc, HAS_METADATA)?)?;
+    }
+    if has(optional, SORTED) {
+        features.push(Vec::from_slice(alloc, SORTED)?)?;
+    }
+    if has(optional, LOCATIONS_ON_WAYS) {
+        features.push(Vec::from_slice(alloc, LOCATIONS_ON_WAYS)?)?;
+    }
+    Ok(features)
+}
+
+impl Header {
+    /// The header that is written for this one, with this box.
+    fn written(&self, alloc: Global, bbox: Option<HeaderBox>) -> Result<Header, AllocError>
+        ensures { IfOk result (λ header. header_of header ≡ header_out bbox (header_of self.now)) }
+    {
+        Ok(Header {
+            bbox,
+            required: known_features(alloc)?,
+            optional: kept_features(alloc, &self.optional)?,
+            program: Some(Vec::from_slice(alloc, PROGRAM)?),
+            source: copied(alloc, &self.source)?,
+            url: copied(alloc, &self.url)?,
+            timestamp: self.timestamp,
+            sequence: self.sequence,
+        })
+    }
+
+    /// The header of an extract by this box from a file with this header. It names the box, the features that an extract has,
+    /// the program `pbfcut`, and the source and the three replication fields of this header.
+    pub fn for_box(&self, alloc: Global, area: BoundingBox) -> Result<Header, AllocError>
+        ensures { IfOk result (λ header. header_of header
+            ≡ header_out_for_box area (header_of self.now)) }
+    {
+        self.written(
+            alloc,
+            Some(HeaderBox {
+                left: area.left,
+                right: area.right,
+                top: area.top,
+                bottom: area.bottom,
+            }),
+        )
+    }
+
+    /// The header of a file with the same entities in canonical form: as for [`Header::for_box`], with the box of this header,
+    /// if it has one.
+    pub fn for_convert(&self, alloc: Global) -> Result<Header, AllocError>
+        ensures { IfOk result
+            (λ header. header_of header ≡ header_out_for_convert (header_of self.now)) }
+    {
+        self.written(alloc, self.bbox)
+    }
+}

@@ -1,0 +1,138 @@
+//! A HeaderBlock, read.
+
+ghost use Rattle.std.specs.Prelude.{◌≡◌, ◌+◌, ◌≤◌, ◌^◌, ◌↔◌, IfOk, OnOk, None, Some, Err, length, map};
+ghost use Rattle.std.specs.Option.{option_map};
+ghost use Rattle.pbf_wire.specs.declared.fault.Fault.{Fault};
+ghost use Rattle.pbf_wire.specs.declared.fault.ReadFault.TheVariants.{Refused};
+ghost use Rattle.pbf_wire.specs.Faults.{fields_in};
+ghost use Rattle.pbf_wire.specs.Reading.{each};
+ghost use Rattle.pbf_header.specs.Header.{header_of, header_in, text_of, edge, box_in, last_text, last_int64};
+ghost use Rattle.pbf_header.specs.HeaderFaults.{header_fault};
+
+use crate::header::{
+    BBOX, BOTTOM, Header, HeaderBox, LEFT, OPTIONAL_FEATURES, REPLICATION_SEQUENCE,
+    REPLICATION_TIMESTAMP, REPLICATION_URL, REQUIRED_FEATURES, RIGHT, SOURCE, TOP, WRITINGPROGRAM,
+};
+use crate::judge::judge_header;
+use pbf_wire::{Fields, Payload, ReadFault, last_number, low_i64, unzigzag};
+use std::alloc::{AllocError, Global};
+
+/// An edge of a box, and 0 where it is absent.
+fn edge(message: &[u8], number: u64) -> i64
+    ensures { result ≡ edge number (fields_in 0 message.now) }
+{
+    unzigzag(last_number(message, 0, number).unwrap_or(0))
+}
+
+/// The box of a message.
+fn box_in(message: &[u8]) -> HeaderBox
+    ensures { result ≡ box_in message.now }
+{
+    HeaderBox {
+        left: edge(message, LEFT),
+        right: edge(message, RIGHT),
+        top: edge(message, TOP),
+        bottom: edge(message, BOTTOM),
+    }
+}
+
+/// The last text or message of a field.
+fn last_bytes(payload: &[u8], at: u64, number: u64) -> Option<&[u8]>
+    requires { at + length payload.now ≤ 2 ^ 63 }
+    ensures { option_map (λ bytes. bytes.now) result ≡ last_text number (fields_in at payload.now) }
+{
+    let mut last = None;
+    for item in Fields::new(payload, at) {
+        let Ok(field) = item else {
+            return last;
+        };
+        if field.number == number {
+            if let Payload::Bytes(bytes, _) = field.payload {
+                last = Some(bytes);
+            }
+        }
+    }
+    last
+}
+
+/// The texts of a repeated field.
+fn texts(alloc: Global, payload: &[u8], at: u64, number: u64) -> Result<Vec<Vec<u8>>, AllocError>
+    requires { at + length payload.now ≤ 2 ^ 63 }
+    ensures { IfOk result
+        (λ texts. map text_of texts.items ≡ each number (fields_in at payload.now)) }
+{
+    let mut texts = Vec::new(alloc);
+    for item in Fields::new(payload, at) {
+        let Ok(field) = item else {
+            return Ok(texts);
+        };
+        if field.number == number {
+            if let Payload::Bytes(text, _) = field.payload {
+                texts.push(Vec::from_slice(alloc, text)?)?;
+            }
+        }
+    }
+    Ok(texts)
+}
+
+/// A copy of the last text of a field.
+fn last_text(
+    alloc: Global,
+    payload: &[u8],
+    at: u64,
+    number: u64,
+) -> Result<Option<Vec<u8>>, AllocError>
+    requires { at + length payload.now ≤ 2 ^ 63 }
+    ensures { IfOk result
+        (λ text. option_map text_of text ≡ last_text number (fields_in at payload.now)) }
+{
+    match last_bytes(payload, at, number) {
+        Some(text) => Ok(Some(Vec::from_slice(alloc, text)?)),
+        None => Ok(None),
+    }
+}
+
+/// The last number of a field.
+fn last_int64(payload: &[u8], at: u64, number: u64) -> Option<i64>
+    requires { at + length payload.now ≤ 2 ^ 63 }
+    ensures { result ≡ last_int64 number (fields_in at payload.now) }
+{
+    last_number(payload, at, number).map(|number| low_i64(number))
+}
+
+/// What a HeaderBlock says; where it has a fault, what its fields before the fault say.
+#[tactic(auto, unfolding(crate::specs::Header::header_in))]
+fn header_in(alloc: Global, payload: &[u8], at: u64) -> Result<Header, AllocError>
+    requires { at + length payload.now ≤ 2 ^ 63 }
+    ensures { IfOk result (λ header. header_of header ≡ header_in at payload.now) }
+{
+    Ok(Header {
+        bbox: last_bytes(payload, at, BBOX).map(|message| box_in(message)),
+        required: texts(alloc, payload, at, REQUIRED_FEATURES)?,
+        optional: texts(alloc, payload, at, OPTIONAL_FEATURES)?,
+        program: last_text(alloc, payload, at, WRITINGPROGRAM)?,
+        source: last_text(alloc, payload, at, SOURCE)?,
+        url: last_text(alloc, payload, at, REPLICATION_URL)?,
+        timestamp: last_int64(payload, at, REPLICATION_TIMESTAMP),
+        sequence: last_int64(payload, at, REPLICATION_SEQUENCE),
+    })
+}
+
+impl Header {
+    /// Reads a HeaderBlock whose first byte stands at `at` in the file.
+    ///
+    /// Of several occurrences of a field the last counts, and each of the features. Refuses the least fault of the first phase
+    /// that has one: of the wire form of the header and its box; of the structure, which is a second box (`TwiceMessage`) or a
+    /// box that lacks an edge (`Missing`); of the required features, which have to be known (`Feature`). A refusal comes before
+    /// memory is asked for.
+    pub fn read(alloc: Global, payload: &[u8], at: u64) -> Result<Header, ReadFault>
+        requires { at + length payload.now ≤ 2 ^ 63 }
+        ensures header { IfOk result (λ header. header_of header ≡ header_in at payload.now) }
+        ensures sound { OnOk result (header_fault at payload.now ≡ None) }
+        ensures refused { (fault : Fault)
+            → result ≡ Err (Refused fault) ↔ header_fault at payload.now ≡ Some fault }
+    {
+        judge_header(payload, at)?;
+        Ok(header_in(alloc, payload, at)?)
+    }
+}

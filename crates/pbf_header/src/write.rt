@@ -1,0 +1,148 @@
+//! A HeaderBlock, written.
+
+ghost use Rattle.std.specs.Prelude.{◌≡◌, ◌++◌, ◌∷◌, [], ◌+◌, ◌^◌, ◌<◌, ◌≤◌, OnOk, Some, length, map, filter};
+ghost use Rattle.std.specs.Option.{option_map, option_to_list};
+ghost use Rattle.pbf_wire.specs.Message.{Scalar, Each, slot_bytes};
+ghost use Rattle.pbf_wire.specs.Signed.{zigzag};
+ghost use Rattle.pbf_wire.specs.Varint.{shortest};
+ghost use Rattle.pbf_strings.specs.TableOut.{has_text};
+ghost use Rattle.pbf_header.specs.Header.{header_of, text_of};
+ghost use Rattle.pbf_header.specs.WrittenHeader.{box_message, known_features, kept_features, header_out_for_convert, header_message};
+
+use crate::header::{
+    BBOX, BOTTOM, DENSE_NODES, HAS_METADATA, Header, HeaderBox, LEFT, LOCATIONS_ON_WAYS,
+    OPTIONAL_FEATURES, OSM_SCHEMA, PROGRAM, REPLICATION_SEQUENCE, REPLICATION_TIMESTAMP,
+    REPLICATION_URL, REQUIRED_FEATURES, RIGHT, SORTED, SOURCE, TOP, WRITINGPROGRAM, has,
+};
+use pbf_wire::{put_bytes, put_int64, put_number, put_varint, varint_len, zigzag};
+use std::alloc::AllocError;
+
+/// The most bytes that the source and the base URL of a written header have together: it fits a frame then.
+pub const MOST_HEADER_TEXT: u64 = 12_000_000;
+
+/// The length of an edge in a HeaderBBox: a byte for its field number, and the number.
+fn edge_len(edge: i64) -> usize
+    ensures exact { result ≡ 1 + length (shortest (zigzag edge)) }
+    ensures few { result ≤ 11 }
+{
+    1 + varint_len(zigzag(edge))
+}
+
+/// The length of a HeaderBBox.
+fn box_len(bbox: HeaderBox) -> usize
+    ensures { result ≡ length (box_message bbox) }
+{
+    edge_len(bbox.left) + edge_len(bbox.right) + edge_len(bbox.top) + edge_len(bbox.bottom)
+}
+
+/// Appends an edge of a HeaderBBox.
+fn put_edge(out: &mut Vec<u8>, number: u64, edge: i64) -> Result<(), AllocError>
+    requires { number < 2 ^ 29 }
+    ensures { OnOk result
+        (out.new.items ≡ out.old.items ++ slot_bytes (Scalar number (Some (zigzag edge)))) }
+{
+    put_number(out, number, zigzag(edge))?;
+    Ok(())
+}
+
+/// Appends a HeaderBBox.
+fn put_edges(out: &mut Vec<u8>, bbox: HeaderBox) -> Result<(), AllocError>
+    ensures { OnOk result (out.new.items ≡ out.old.items ++ box_message bbox) }
+{
+    put_edge(out, LEFT, bbox.left)?;
+    put_edge(out, RIGHT, bbox.right)?;
+    put_edge(out, TOP, bbox.top)?;
+    put_edge(out, BOTTOM, bbox.bottom)?;
+    Ok(())
+}
+
+/// Appends the field of a box, its length first.
+fn put_whole_box(out: &mut Vec<u8>, bbox: HeaderBox) -> Result<(), AllocError>
+    ensures { OnOk result
+        (out.new.items ≡ out.old.items ++ slot_bytes (Each BBOX (box_message bbox ∷ []))) }
+{
+    put_varint(out, BBOX * 8 + 2)?;
+    put_varint(out, box_len(bbox) as u64)?;
+    put_edges(out, bbox)?;
+    Ok(())
+}
+
+/// Appends the box of a header, if it has one.
+fn put_box(out: &mut Vec<u8>, bbox: Option<HeaderBox>) -> Result<(), AllocError>
+    ensures { OnOk result (out.new.items
+        ≡ out.old.items ++ slot_bytes (Each BBOX (option_to_list (option_map box_message bbox)))) }
+{
+    match bbox {
+        Some(bbox) => put_whole_box(out, bbox)?,
+        None => {}
+    }
+    Ok(())
+}
+
+/// Appends the required features of what is written.
+fn put_required(out: &mut Vec<u8>) -> Result<(), AllocError>
+    ensures { OnOk result
+        (out.new.items ≡ out.old.items ++ slot_bytes (Each REQUIRED_FEATURES known_features)) }
+{
+    put_bytes(out, REQUIRED_FEATURES, OSM_SCHEMA)?;
+    put_bytes(out, REQUIRED_FEATURES, DENSE_NODES)?;
+    Ok(())
+}
+
+/// Appends those of the optional features that what is written has too, each once.
+fn put_optional(out: &mut Vec<u8>, optional: &[Vec<u8>]) -> Result<(), AllocError>
+    ensures { OnOk result (out.new.items
+        ≡ out.old.items ++ slot_bytes
+        (Each OPTIONAL_FEATURES (kept_features (map text_of optional.now)))) }
+{
+    put_feature(out, optional, HAS_METADATA)?;
+    put_feature(out, optional, SORTED)?;
+    put_feature(out, optional, LOCATIONS_ON_WAYS)?;
+    Ok(())
+}
+
+/// Appends an optional feature, if it is among these.
+fn put_feature(out: &mut Vec<u8>, optional: &[Vec<u8>], feature: &[u8]) -> Result<(), AllocError>
+    ensures { OnOk result (out.new.items
+        ≡ out.old.items ++ slot_bytes
+        (Each OPTIONAL_FEATURES (filter (has_text (map text_of optional.now)) (feature.now ∷ [])))) }
+{
+    if has(optional, feature) {
+        put_bytes(out, OPTIONAL_FEATURES, feature)?;
+    }
+    Ok(())
+}
+
+/// Appends a text, if there is one.
+fn put_text(out: &mut Vec<u8>, number: u64, text: &Option<Vec<u8>>) -> Result<(), AllocError>
+    requires { number < 2 ^ 29 }
+    ensures { OnOk result (out.new.items
+        ≡ out.old.items ++ slot_bytes
+        (Each number (option_to_list (option_map text_of text.now)))) }
+{
+    match text {
+        Some(text) => put_bytes(out, number, text)?,
+        None => {}
+    }
+    Ok(())
+}
+
+impl Header {
+    /// Appends the HeaderBlock that is written for this header: with its box, source and replication fields, and with the
+    /// features and the program of what is written, whatever others the header names. After an `Err` the output has no stated
+    /// content.
+    pub fn write(&self, out: &mut Vec<u8>) -> Result<(), AllocError>
+        ensures { OnOk result (out.new.items
+            ≡ out.old.items ++ header_message (header_out_for_convert (header_of self.now))) }
+    {
+        put_box(out, self.bbox)?;
+        put_required(out)?;
+        put_optional(out, &self.optional)?;
+        put_bytes(out, WRITINGPROGRAM, PROGRAM)?;
+        put_text(out, SOURCE, &self.source)?;
+        put_int64(out, REPLICATION_TIMESTAMP, self.timestamp)?;
+        put_int64(out, REPLICATION_SEQUENCE, self.sequence)?;
+        put_text(out, REPLICATION_URL, &self.url)?;
+        Ok(())
+    }
+}
