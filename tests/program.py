@@ -309,7 +309,7 @@ def words_of_all_kinds(bench: Bench):
             parts += [b"--box", b"--parents", b"degrees", b"west,south,east,north"] if command == b"extract" else []
             bench.case(f"help of {words[0]} by {asked}", words, stdout=helps(*parts))
     for asked in ["--version", "-V"]:
-        bench.case(f"the version by {asked}", [asked], stdout=b"pbfcut 1.0.0 (rattle-kit-13b logic dac8208d650f15bf)\n")
+        bench.case(f"the version by {asked}", [asked], stdout=b"pbfcut 1.0.0 (rattle-kit-13f logic dac8208d650f15bf)\n")
     for words, part in [
         ([], b"subcommand"),
         (["cut", "in"], b"'cut'"),

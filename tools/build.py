@@ -40,11 +40,16 @@ def kit_folder():
     return folder if all(os.path.exists(os.path.join(folder, name)) for name in needed) else None
 
 
-def read_crates():
-    """What each crate of the program stands on, by crates.txt."""
+def known_crates():
+    """What each crate of this repository stands on, by crates.txt."""
     lines = (line.split("#")[0] for line in open(os.path.join(TOP, "crates.txt")))
     pairs = (line.split(":") for line in lines if ":" in line)
-    known = {name.strip(): below.split() for name, below in pairs}
+    return {name.strip(): below.split() for name, below in pairs}
+
+
+def read_crates():
+    """What each crate of the program stands on."""
+    known = known_crates()
     wanted, left = {}, [PROGRAM]
     while left:
         name = left.pop()

@@ -19,7 +19,7 @@ macro_rules! with_exit_statuses {
 }
 
 /// What `--version` prints after the name.
-pub(crate) const VERSION: &str = "1.0.0 (rattle-kit-13b logic dac8208d650f15bf)";
+pub(crate) const VERSION: &str = "1.0.0 (rattle-kit-13f logic dac8208d650f15bf)";
 
 pub(crate) const PROGRAM: &str =
     "Cuts a box out of an OpenStreetMap PBF file, and reads such files";

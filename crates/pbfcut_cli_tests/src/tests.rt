@@ -252,7 +252,7 @@ fn version(rt: HostRuntime) -> Result<(), Fail> {
     };
     assert_eq!(rt;
         text.as_str(),
-        "pbfcut 1.0.0 (rattle-kit-13b logic dac8208d650f15bf)\n"
+        "pbfcut 1.0.0 (rattle-kit-13f logic dac8208d650f15bf)\n"
     );
     Ok(())
 }

@@ -1,0 +1,380 @@
+#!/usr/bin/env python3
+"""Tries every planted bug, crates/NAME/must-fail/*.edit and crates/NAME/more-edits/*.edit: the prover must refuse each.
+
+usage: tools/planted.py [--libraries FOLDER] [--beside PID] [--lanes N] [CRATE..]
+
+The prover judges each function by the contracts of those that it calls, and names each function that it refuses. So one check of a
+crate tries many bugs, one in a function. A bug counts as refused where the prover leaves open a goal of the function that it stands
+in. One that it does not refuse so is tried by itself, and then has to be refused in some place. That a proof cites a name which the
+bug took away is no refusal.
+
+FOLDER has the built libraries, FOLDER/NAME/out/rlib/NAME.rlib; with none they are those of this tree, built where they lack. With
+--beside each crate waits for the libraries that it stands on, as long as the process PID goes on. N checks run at a time: as many as
+there are processors, where nothing else is said and memory allows.
+
+Exit status: 0 each bug was refused; 1 one was not, or cannot be tried; 2 this kit is not called in the way that this script knows,
+and `rt must-fail` and tests/more_edits.sh have to try them, one check for each.
+"""
+import argparse
+import difflib
+import os
+import re
+import shutil
+import signal
+import subprocess
+import sys
+import tempfile
+import time
+from concurrent.futures import ThreadPoolExecutor
+from dataclasses import dataclass
+
+from build import NOT_THIS_KIT, TOP, all_below, kit_folder, known_crates, lanes
+
+FOLDERS = ("must-fail", "more-edits")
+PARTS = ("src", "specs", "proofs")
+
+# What the prover says where a proof cannot be read since a name is gone, or waits for another: no refusal of a goal.
+OF_NAMES = re.compile(r"has no field|is not in scope|has no `|was not admitted|was not checked|is not proved")
+# What it says where an edited text itself cannot be read.
+UNREAD = re.compile(r"is not in scope|has no field|is no name|operand is missing|expected the end|cannot continue")
+
+
+@dataclass
+class Change:
+    """A piece of a file, and what the planted bug has in its place."""
+
+    file: str
+    begin: int
+    end: int
+    text: str
+    function: str  # the function that holds the piece, or nothing
+    homes: tuple  # patterns of the folders that the proofs of the file's functions lie in
+
+
+@dataclass
+class Bug:
+    """A planted bug: all that one .edit file changes."""
+
+    name: str  # of the folder and the file
+    changes: list
+
+    def functions(self):
+        return {(change.file, change.function) for change in self.changes}
+
+    def is_placed(self):
+        """Whether all that it changes stands in functions, so that they alone are judged anew."""
+        return all(change.function for change in self.changes)
+
+
+def text_of(crate, file):
+    with open(os.path.join(crate, file), encoding="utf-8") as it:
+        return it.read()
+
+
+class Unusable(Exception):
+    """An edit that cannot be tried, or a check that gave no verdict."""
+
+
+def module_of(file):
+    """The path of the modules of a file of src/, as the folders of proofs/ have it."""
+    path = file.removeprefix("src/").removesuffix(".rt").removesuffix("/mod")
+    return "" if path in ("lib", "main") else path
+
+
+def function_at(text, place):
+    """The name of the function that holds a place of a file, by the layout that `rt fmt` gives: the body of a function ends with a
+    brace below its first word."""
+    for found in reversed(list(re.finditer(r"^( *)(?:pub(?:\([a-z]+\))? )?(?:const )?fn (\w+)", text[:place], re.M))):
+        end = re.compile(rf"^{found[1]}(?:\}}|\{{\}})$", re.M).search(text, found.end())
+        if end and place < end.end():
+            return found[2]
+    return ""
+
+
+def homes_of(file, text):
+    """Patterns of the folders of proofs/ for the functions of a file: that of its module, and that of each type that it has an `impl`
+    of, wherever the type is declared."""
+    module = module_of(file)
+    types = re.findall(r"^ *(?:unsafe )?impl\b(?:<.*?>)? ?(?:[\w:<>', ]+ for )?&?(?:'\w+ )?(\w+)", text, re.M)
+    return (re.escape(module) + r"(/.*)?", *(rf"(.*/)?{name}" for name in types))
+
+
+def changes_of(file, text, new):
+    """What makes of a file's text the new one: the runs of lines that differ."""
+    old_lines, new_lines = text.splitlines(True), new.splitlines(True)
+    starts = [0]
+    for line in old_lines:
+        starts.append(starts[-1] + len(line))
+    found = []
+    for kind, begin, end, first, last in difflib.SequenceMatcher(None, old_lines, new_lines, False).get_opcodes():
+        if kind != "equal":
+            place = starts[begin]
+            inside = place + len(old_lines[begin]) - len(old_lines[begin].lstrip()) if begin < end else place
+            function = function_at(text, inside) if file.startswith("src/") else ""
+            found.append(Change(file, place, starts[end], "".join(new_lines[first:last]), function, homes_of(file, text)))
+    return found
+
+
+def read_bug(crate, folder, name):
+    """Reads an .edit file: lines 'file: PATH', and pairs of lines 'old: TEXT' and 'new: TEXT', done one after another."""
+    texts, file, old = {}, "", None
+    for line in open(os.path.join(crate, folder, name), encoding="utf-8").read().split("\n"):
+        word, _, rest = line.partition(":")
+        rest = rest.removeprefix(" ")
+        if word == "file":
+            file = rest.strip()
+            texts.setdefault(file, text_of(crate, file))
+        elif word == "old":
+            old = rest
+        elif word == "new":
+            if texts[file].count(old) != 1:
+                raise Unusable(f"{name}: an 'old:' text is in {file} {texts[file].count(old)} times, and not once")
+            texts[file] = texts[file].replace(old, rest)
+    changes = [change for file, new in texts.items() for change in changes_of(file, text_of(crate, file), new)]
+    if not changes:
+        raise Unusable(f"{name}: it changes nothing")
+    return Bug(f"{folder}/{name}", changes)
+
+
+def read_bugs(crate):
+    found = []
+    for folder in FOLDERS:
+        path = os.path.join(crate, folder)
+        names = sorted(os.listdir(path)) if os.path.isdir(path) else []
+        found += [read_bug(crate, folder, name) for name in names if name.endswith(".edit")]
+    return found
+
+
+def apart(bugs):
+    """Of these bugs as many as one check can try: each in functions of its own."""
+    chosen, taken = [], set()
+    for bug in bugs:
+        if not taken & bug.functions():
+            chosen.append(bug)
+            taken |= bug.functions()
+    return chosen
+
+
+def edited(crate, bugs):
+    """The files that the bugs change, as they are with all of them."""
+    changes = {}
+    for bug in bugs:
+        for change in bug.changes:
+            changes.setdefault(change.file, []).append(change)
+    texts = {}
+    for file, parts in changes.items():
+        text = text_of(crate, file)
+        for change in sorted(parts, key=lambda change: -change.begin):
+            text = text[: change.begin] + change.text + text[change.end :]
+        texts[file] = text
+    return texts
+
+
+@dataclass
+class Verdict:
+    """What a check said."""
+
+    is_proved: bool
+    refused: dict  # by module and function: the first goal that was left open
+    elsewhere: str  # the first refusal of whatever kind, but of names
+    unread: str  # the first line on a text that cannot be read
+
+    def refusal_of(self, bug):
+        """The goal that was left open in a function that the bug changes, if one was."""
+        for change in bug.changes:
+            for (path, name), goal in self.refused.items():
+                if name == change.function and any(re.fullmatch(home, path) for home in change.homes):
+                    return f"{name}: {goal}"
+        return None
+
+
+def goal_in(line):
+    found = re.search(r"`([^`]*)`", line)
+    return found[1] if found else "its proof"
+
+
+def read_verdict(status, said, texts):
+    """Reads the lines of a check."""
+    refused, elsewhere, unread = {}, "", ""
+
+    def refuse(path, name, line):
+        refused.setdefault((path, name), goal_in(line))
+
+    for line in said.split("\n"):
+        wrong = re.match(r"(?:\./)?(\S+?):(\d+):\d+: error: (?:(`[^`]*`): )?(.*)", line)
+        if wrong and (wrong[1] in texts or wrong[1].startswith(("src/", "specs/"))):
+            if not wrong[3] or UNREAD.search(re.sub(r"`[^`]*`", "", wrong[4])):
+                unread = unread or line
+        if wrong and not OF_NAMES.search(wrong[4]):
+            elsewhere = elsewhere or line
+            proof = re.fullmatch(r"proofs/(?:(\S+)/)?(\w+)/\w+\.antt", wrong[1])
+            if proof:
+                refuse(proof[1] or "", proof[2], line[line.index("error: ") :])
+        open_goal = re.match(r"note: (src/\S+):(\d+):\d+: it is not proved that .*\((`.*)", line)
+        if open_goal:
+            elsewhere = elsewhere or line
+            text = texts.get(open_goal[1])
+            name = function_below(text, int(open_goal[2])) if text else ""
+            if name:
+                refuse(module_of(open_goal[1]), name, open_goal[3])
+        searched = re.match(r"fn \S+: no proof: expected answers in \./proofs/(?:(\S+)/)?(\w+)/Answers\.antt; (`search` did not prove .*)", line)
+        if searched:
+            elsewhere = elsewhere or line
+            refuse(searched[1] or "", searched[2], searched[3].removeprefix("`search`"))
+    last = said.rstrip("\n").rpartition("\n")[2]
+    if status not in (0, 1) or (status == 1 and not unread and not last.startswith(("logic=not-proved", "only="))):
+        raise Unusable("the check gave no verdict:\n" + "\n".join(said.split("\n")[-6:]))
+    return Verdict(status == 0, refused, elsewhere, unread)
+
+
+def function_below(text, line):
+    """The function that a line stands in, or, where the line is one of its attributes, above it."""
+    lines = text.split("\n")
+    while line < len(lines) and lines[line - 1].lstrip().startswith(("#[", "///", "//")):
+        line += 1
+    return function_at(text, sum(len(it) + 1 for it in lines[:line]) - 1)
+
+
+class Crate:
+    """A crate whose planted bugs are tried."""
+
+    def __init__(self, kit, crates, name, libraries, left):
+        self.kit, self.crates, self.name, self.libraries, self.left = kit, crates, name, libraries, left
+        self.folder = os.path.join(TOP, "crates", name)
+        self.checks = 0
+
+    def library(self, name):
+        return os.path.join(self.libraries, name, "out", "rlib", f"{name}.rlib")
+
+    def below(self):
+        return all_below(self.crates, self.name)
+
+    def words(self):
+        rlibs = os.path.join(self.kit, "rlibs")
+        root = "src/main.rt" if os.path.exists(os.path.join(self.folder, "src/main.rt")) else "src/lib.rt"
+        words = [os.path.join(self.kit, "bin/rattle"), "check", "--crate-name", self.name, root, "--extern", f"std={rlibs}/std.rlib"]
+        for other in self.crates[self.name]:
+            words += ["--extern", f"{other}={self.library(other) if other in self.crates else f'{rlibs}/{other}.rlib'}"]
+        words += ["-L", f"dependency={rlibs}"]
+        for other in self.below():
+            words += ["-L", f"dependency={os.path.dirname(self.library(other))}"]
+        words += ["--antt-project", f"{self.kit}/rattle/logic/antt-project.json", "--logic-built", f"{self.kit}/logic_built"]
+        # the last crates share the processors that no other crate needs
+        return words + ["--jobs", str(max(1, len(os.sched_getaffinity(0)) // len(self.left)))]
+
+    def check(self, bugs, kept):
+        """Checks a copy of the crate that has these bugs, over what the checks before it proved. Where they stand in functions, only
+        the modules of those are checked, and what they call."""
+        texts = edited(self.folder, bugs)
+        modules = sorted({module_of(change.file).replace("/", "::") for bug in bugs for change in bug.changes if bug.is_placed()})
+        only = [word for module in modules for word in ("--only", module)] if all(modules) else []
+        with tempfile.TemporaryDirectory(prefix="planted-") as room:
+            for part in PARTS:
+                if os.path.isdir(os.path.join(self.folder, part)):
+                    shutil.copytree(os.path.join(self.folder, part), os.path.join(room, part))
+            for file, text in texts.items():
+                with open(os.path.join(room, file), "w", encoding="utf-8") as made:
+                    made.write(text)
+            how = {"cwd": room, "stdin": subprocess.DEVNULL, "stdout": subprocess.PIPE, "stderr": subprocess.STDOUT, "errors": "replace"}
+            ran = subprocess.run(self.words() + only + ["--incremental", kept], **how)
+            if ran.returncode == -signal.SIGKILL:  # most often memory ran out: once more
+                ran = subprocess.run(self.words() + only + ["--incremental", kept], **how)
+        self.checks += 1
+        return read_verdict(ran.returncode, ran.stdout, texts)
+
+    def try_alone(self, bug, kept):
+        """Tries one bug by itself. Answers whether it is refused, and where."""
+        verdict = self.check([bug], kept)
+        if verdict.unread:
+            return False, f"it cannot be read: {verdict.unread}"
+        found = verdict.refusal_of(bug) or verdict.elsewhere
+        if found:
+            return True, found
+        return False, "THE CRATE IS STILL PROVED" if verdict.is_proved else "refused for a name alone"
+
+    def try_all(self):
+        """Tries the bugs of the crate. Answers for each its name, whether it is refused, and where."""
+        bugs = read_bugs(self.folder)
+        left, alone, told = [bug for bug in bugs if bug.is_placed()], [bug for bug in bugs if not bug.is_placed()], []
+        with tempfile.TemporaryDirectory(prefix="planted-kept-") as kept:
+            while len(left) > 1:
+                chosen = apart(left)
+                verdict = self.check(chosen, kept) if len(chosen) > 1 else None
+                refused = {} if verdict is None or verdict.unread else {bug.name: verdict.refusal_of(bug) for bug in chosen}
+                told += [(name, True, found) for name, found in refused.items() if found]
+                if not any(refused.values()):
+                    alone += chosen
+                    left = [bug for bug in left if bug not in chosen]
+                else:
+                    left = [bug for bug in left if not refused.get(bug.name)]
+                    # the next check begins with those that this one had in it, and did not refuse
+                    left.sort(key=lambda bug: bug not in chosen)
+            for bug in left + alone:
+                told.append((bug.name, *self.try_alone(bug, kept)))
+        return told
+
+
+def age(library):
+    """How many seconds ago a library was written, or nothing where it is not there."""
+    try:
+        return time.time() - os.path.getmtime(os.path.join(library, "format"))
+    except OSError:
+        return None
+
+
+def wait_for(crate, process):
+    """Waits, as long as the process goes on, until the libraries below are written to the end. Answers whether they are there."""
+    ages = lambda: [age(crate.library(name)) for name in crate.below()]
+    while process and os.path.exists(f"/proc/{process}") and any(it is None or it < 15 for it in ages()):
+        time.sleep(2)
+    return None not in ages()
+
+
+def try_crate(crate, process):
+    try:
+        if not wait_for(crate, process):
+            return [("each", False, "the libraries that its crate stands on are not built")]
+        return crate.try_all()
+    except Unusable as why:
+        return [("each", False, str(why))]
+    finally:
+        crate.left.discard(crate.name)
+
+
+def build_libraries(crates, names):
+    """Builds what the crates stand on, over the work that is kept in this tree."""
+    wanted = {other for name in names for other in all_below(crates, name)}
+    for name in [name for name in crates if name in wanted]:
+        if subprocess.run(["rt", "lib"], cwd=os.path.join(TOP, "crates", name), stdout=subprocess.DEVNULL).returncode:
+            sys.exit(f"planted: {name} is not proved")
+
+
+def main():
+    asked = argparse.ArgumentParser(usage="tools/planted.py [--libraries FOLDER] [--beside PID] [--lanes N] [CRATE..]")
+    asked.add_argument("--libraries")
+    asked.add_argument("--beside", type=int)
+    asked.add_argument("--lanes", type=int, default=lanes())
+    asked.add_argument("crates", nargs="*")
+    given = asked.parse_args()
+    kit, crates = kit_folder(), known_crates()
+    if kit is None:
+        return NOT_THIS_KIT
+    names = given.crates or [name for name in crates if any(os.path.isdir(os.path.join(TOP, "crates", name, it)) for it in FOLDERS)]
+    if not given.libraries:
+        build_libraries(crates, names)
+    left = set(names)
+    tried = [Crate(kit, crates, name, given.libraries or os.path.join(TOP, "crates"), left) for name in names]
+    count, failed, started = 0, 0, time.monotonic()
+    with ThreadPoolExecutor(given.lanes) as pool:
+        for crate, told in zip(tried, pool.map(lambda crate: try_crate(crate, given.beside), tried)):
+            for name, is_refused, found in told:
+                print(f"planted {crate.name}/{name}: {'refused, as it must be' if is_refused else 'NOT REFUSED'}: {found[:160]}", flush=True)
+                failed += not is_refused
+            count += len(told)
+    minutes, checks = (time.monotonic() - started) / 60, sum(crate.checks for crate in tried)
+    print(f"planted: {count - failed} of {count} bugs refused, in {checks} checks and {minutes:.0f} minutes")
+    return 1 if failed else 0
+
+
+if __name__ == "__main__":
+    sys.exit(main())
