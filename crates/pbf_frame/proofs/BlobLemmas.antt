@@ -1,5 +1,5 @@
 -- What a blob without a fault holds.
-use Rattle.std.proofs.Common.{◌≡◌, ℕ, ◌<◌, Bool, true, false, if◌then◌else◌, nat_le, List, [], ◌∷◌, ◌++◌, Option, Some, None, length, refl, arith}
+use Rattle.std.proofs.Common.{◌≡◌, ℕ, ◌<◌, Bool, true, false, if◌then◌else◌, nat_le, List, [], ◌∷◌, ◌++◌, Option, Some, None, length, refl, sym, ap₂, ◌∙◌, arith}
 use Rattle.std.specs.Option.{option_or}
 use Rattle.std.proofs.lemmas.Bool.Decides.{nat_tests}
 use Rattle.pbf_wire.specs.declared.fault.Fault.{Fault}
@@ -8,6 +8,7 @@ use Rattle.pbf_wire.specs.Least.{least, lesser}
 use Rattle.pbf_wire.specs.Occurrence.{Occurrence, items, found}
 use Rattle.pbf_wire.specs.Reading.{bytes_held, last_of}
 use Rattle.pbf_wire.specs.Wire.{wire}
+use Rattle.pbf_wire.proofs.FaultLemmas.{leaf_is_wire}
 use Rattle.pbf_frame.specs.declared.blob.TheConstants.{RAW, BLOB_KINDS, RAW_LIMIT}
 use Rattle.pbf_wire.specs.Faults.{fault_where}
 use Rattle.pbf_frame.specs.Header.{occurrence_text}
@@ -38,6 +39,14 @@ raw_short at (Some o) others e = cases (nat_le RAW_LIMIT (length (bytes_held o.c
   cases true is e = (let bad : ⊥ = cc in absurd bad)
   cases false is e = grind (arith, nat_tests)
 
-pub payload_short : (at : ℕ) (blob : List ℕ) → blob_fault at blob ≡ None → length (raw_of at blob) < RAW_LIMIT
+option_last : (o : Option Fault) → option_or o None ≡ o
+option_last None = refl
+option_last (Some f) = refl
+
+-- the first fault of a blob, where the first wire fault stands for the phase of its wire form
+pub blob_steps : (at : ℕ) (blob : List ℕ) → blob_fault at blob ≡ option_or (wire BLOB_KINDS (items at blob)) (least (blob_faults at blob))
 unfolding blob_fault
-payload_short at blob e = raw_short at (last_of RAW (found (items at blob))) (compressed (found (items at blob))) (least_none (blob_faults at blob) (earlier_none (wire BLOB_KINDS (items at blob)) _ e).1)
+blob_steps at blob = ap₂ option_or (leaf_is_wire BLOB_KINDS (items at blob)) (option_last (least (blob_faults at blob)))
+
+pub payload_short : (at : ℕ) (blob : List ℕ) → blob_fault at blob ≡ None → length (raw_of at blob) < RAW_LIMIT
+payload_short at blob e = raw_short at (last_of RAW (found (items at blob))) (compressed (found (items at blob))) (least_none (blob_faults at blob) (earlier_none (wire BLOB_KINDS (items at blob)) _ (sym (blob_steps at blob) ∙ e)).1)

@@ -10,42 +10,17 @@ use Rattle.pbf_wire.specs.Occurrence.{items, found}
 use Rattle.pbf_wire.specs.Reading.{last_of}
 use Rattle.pbf_wire.specs.Wire.{wire}
 use Rattle.pbf_frame.specs.declared.header.TheConstants.{DATASIZE, HEADER_KINDS}
-use Rattle.pbf_frame.specs.Faults.{unless, ◌>>=◌}
-use Rattle.pbf_frame.specs.Header.{head_of, head_says, header_faults, name_of, kind_named, size_of, or_nothing}
-use Rattle.pbf_frame.specs.Frames.{FrameSpec, prefix_at, header_of, blob_of, frame_of, after_prefix, next_of}
+use Rattle.pbf_frame.specs.Header.{head_says, header_faults, name_of, kind_named, size_of, or_nothing}
+use Rattle.pbf_frame.specs.Frames.{next_of}
 use Rattle.pbf_frame.specs.Reads.{Gives, GaveBlob, GaveFrame, GaveEnd, Holds}
 use Rattle.pbf_frame.specs.Sound.{IsFrame}
+use Rattle.pbf_frame.specs.Steps.{unless, ◌>>=◌, head_of, prefix_at, header_of, blob_of, after_prefix, steps_of}
 use Rattle.pbf_frame.proofs.Passed.{passes_three}
-
--- ---- what follows each part
-
-abbrev pub ReadFrame : Type 0
-ReadFrame = Result (FrameSpec × List ℕ) Fault
-
-abbrev pub after_blob : ℕ → List ℕ → (List ℕ × Head) × List ℕ → List ℕ × List ℕ → ReadFrame
-after_blob p prefix front blob = Ok (record { offset = p; prefix = prefix; header = front.0.0; blob = blob.0 }, blob.1)
-
-abbrev pub after_header : ℕ → List ℕ → (List ℕ × Head) × List ℕ → ReadFrame
-after_header p prefix front = blob_of front.0.1.kind front.0.1.size (p + 4 + length front.0.0) front.1 >>= after_blob p prefix front
-
-abbrev pub as_some : FrameSpec × List ℕ → Result (Option FrameSpec × List ℕ) Fault
-as_some read = Ok (Some read.0, read.1)
-
-pub frame_steps : (h : Bool) (p : ℕ) (prefix bytes : List ℕ) → frame_of h p prefix bytes ≡ (header_of h p prefix bytes >>= after_header p prefix)
-unfolding frame_of
-frame_steps h p prefix bytes = refl
+use Rattle.pbf_frame.proofs.Stepping.{after_blob, after_header, as_some, frame_steps, after_some, after_none, next_is_steps}
 
 pub next_steps : (h : Bool) (p : ℕ) (bytes : List ℕ) → next_of h p bytes ≡ (prefix_at h p bytes >>= after_prefix h p)
-unfolding next_of
-next_steps h p bytes = refl
-
-pub after_some : (h : Bool) (p : ℕ) (prefix bytes : List ℕ) → after_prefix h p (Some prefix, bytes) ≡ (frame_of h p prefix bytes >>= as_some)
-unfolding after_prefix
-after_some h p prefix bytes = refl
-
-pub after_none : (h : Bool) (p : ℕ) (bytes : List ℕ) → after_prefix h p (None, bytes) ≡ Ok (None, bytes)
-unfolding after_prefix
-after_none h p bytes = refl
+unfolding steps_of
+next_steps h p bytes = next_is_steps h p bytes
 
 -- ---- the next frame from its parts
 

@@ -6,12 +6,10 @@ use Rattle.pbf_wire.specs.declared.fault.Fault.{Fault}
 use Rattle.pbf_wire.specs.declared.fault.Reason.TheVariants.{BlobCut}
 use Rattle.pbf_frame.specs.declared.frame.FrameKind.{FrameKind}
 use Rattle.pbf_frame.specs.declared.frame.FrameKind.TheVariants as kind
-use Rattle.pbf_frame.specs.declared.stop.Stop.{Stop}
-use Rattle.pbf_frame.specs.declared.stop.Stop.TheVariants.{Refused, Read, Write, Memory, Changed}
 use Rattle.pbf_frame.specs.Devices.{prepend, Passes}
 use Rattle.pbf_wire.specs.Faults.{fault}
-use Rattle.pbf_frame.specs.Frames.{bytes_at}
 use Rattle.pbf_frame.specs.Reads.{Skips, GaveBlob}
+use Rattle.pbf_frame.specs.Steps.{bytes_at}
 use Rattle.pbf_frame.proofs.KnownBytes.{prepend_more}
 use Rattle.pbf_frame.proofs.Passed.{passes_more}
 

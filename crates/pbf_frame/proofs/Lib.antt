@@ -2,6 +2,7 @@ pub mod KnownBytes
 pub mod Passed
 pub mod Parts
 pub mod FrontLemmas
+pub mod Stepping
 pub mod FrameLemmas
 pub mod BlobLemmas
 pub mod Parting

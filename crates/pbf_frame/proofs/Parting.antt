@@ -11,13 +11,13 @@ use Rattle.pbf_frame.specs.declared.frame.FrameKind.TheVariants as kind
 use Rattle.pbf_frame.specs.declared.header.Head.{Head}
 use Rattle.pbf_frame.specs.declared.header.TheConstants.{HEADER_LIMIT}
 use Rattle.pbf_wire.specs.Faults.{fault}
-use Rattle.pbf_frame.specs.Faults.{unless, ◌>>=◌}
-use Rattle.pbf_frame.specs.Header.{head_of}
 use Rattle.pbf_frame.specs.Blob.{blob_fault}
-use Rattle.pbf_frame.specs.Frames.{FrameSpec, frame_bytes, bytes_at, prefix_at, order_faults, header_of, known_blob_of, blob_of, after_prefix, next_of}
+use Rattle.pbf_frame.specs.Frames.{FrameSpec, frame_bytes, order_faults, next_of}
 use Rattle.pbf_frame.specs.Sound.{IsSound}
+use Rattle.pbf_frame.specs.Steps.{unless, ◌>>=◌, head_of, bytes_at, prefix_at, header_of, known_blob_of, blob_of, after_prefix}
 use Rattle.pbf_frame.proofs.FrontLemmas.{bytes_at_front}
-use Rattle.pbf_frame.proofs.FrameLemmas.{err_ok, unless_ok, after_header, after_blob, as_some, frame_steps, next_steps, after_some, after_none}
+use Rattle.pbf_frame.proofs.Stepping.{after_header, after_blob, as_some, frame_steps, after_some, after_none}
+use Rattle.pbf_frame.proofs.FrameLemmas.{err_ok, unless_ok, next_steps}
 
 -- a step that gave something was on something
 pub bind_inverse : {A B : Type 0} (r : Result A Fault) (f : A → Result B Fault) (y : B) → (r >>= f) ≡ Ok y → (x : A) × (r ≡ Ok x) × (f x ≡ Ok y)

@@ -7,9 +7,9 @@ use Rattle.pbf_frame.specs.declared.frame.FrameKind.TheVariants as kind
 use Rattle.pbf_frame.specs.declared.header.Head.{Head}
 use Rattle.pbf_frame.specs.declared.header.TheConstants.{HEADER_LIMIT}
 use Rattle.pbf_frame.specs.Frames.{FrameSpec, order_faults}
-use Rattle.pbf_frame.specs.Header.{head_of}
 use Rattle.pbf_frame.specs.Reads.{Holds, Skips}
 use Rattle.pbf_frame.specs.Sound.{IsFrame, IsSound}
+use Rattle.pbf_frame.specs.Steps.{head_of}
 use Rattle.pbf_frame.proofs.Parting.{FrameParts}
 use Rattle.pbf_frame.proofs.Longest.{frame_at}
 use Rattle.pbf_frame.proofs.Passed.{passes_none}

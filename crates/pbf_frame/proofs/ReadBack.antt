@@ -28,6 +28,7 @@ use Rattle.pbf_frame.specs.Header.{occurrence_text, name_of, kind_named, size_wi
 use Rattle.pbf_frame.specs.Blob.{compressed, raw_faults, blob_faults, blob_fault, raw_of}
 use Rattle.pbf_frame.specs.Frames.{order_faults, frame_kind, frame_end, frame_bytes, frame_payload, payload_in, blob_at}
 use Rattle.pbf_frame.specs.Sound.{IsSound, IsFrame}
+use Rattle.pbf_frame.proofs.BlobLemmas.{blob_steps}
 use Rattle.pbf_frame.specs.Writing.{written_name, written_header, written_blob, written_at, written_frame}
 
 spelling_short : (v : ℕ) → v < 2 ^ 64 → length (shortest v) ≤ 10
@@ -72,9 +73,9 @@ blob_whole at payload small =
     ∙ ap (λ (b : Bool). least (fault_where b at RawLong ++ [])) below
 
 blob_sound : (at : ℕ) (payload : List ℕ) → length payload < RAW_LIMIT → blob_fault at (written_blob payload) ≡ None
-unfolding blob_fault
 blob_sound at payload small =
-    ap (λ o. option_or o (least (blob_faults at (written_blob payload)))) (blob_wired at payload small) ∙ blob_whole at payload small
+    blob_steps at (written_blob payload)
+    ∙ ap (λ o. option_or o (least (blob_faults at (written_blob payload)))) (blob_wired at payload small) ∙ blob_whole at payload small
 
 -- ---- the header
 

@@ -16,10 +16,9 @@ use Rattle.pbf_frame.specs.declared.stop.Stop.{Stop}
 use Rattle.pbf_frame.specs.declared.stop.Stop.TheVariants.{Refused, Read, Write, Memory, Changed}
 use Rattle.pbf_frame.specs.Blob.{blob_fault}
 use Rattle.pbf_frame.specs.Devices.{prepend, Passes, IsAtEnd, given_prefix}
-use Rattle.pbf_frame.specs.Faults.{unless, ◌>>=◌}
-use Rattle.pbf_frame.specs.Frames.{bytes_at, prefix_at, order_faults, header_of, known_blob_of, blob_of, next_of}
-use Rattle.pbf_frame.specs.Header.{head_of}
+use Rattle.pbf_frame.specs.Frames.{order_faults, next_of}
 use Rattle.pbf_frame.specs.Refusals.{Refuses, RefusedBy}
+use Rattle.pbf_frame.specs.Steps.{bytes_at, prefix_at, header_of, known_blob_of, blob_of, head_of}
 use Rattle.pbf_frame.proofs.FrontLemmas.{bytes_at_front}
 use Rattle.pbf_frame.proofs.FrameLemmas.{prefix_refused, header_refused, blob_refused}
 use Rattle.pbf_frame.proofs.KnownBytes.{prepend_more}

@@ -1,16 +1,14 @@
 -- The Blob: the bytes that it holds.
 use Rattle.std.specs.Prelude.{ℕ, ◌==◌, nat_le, List, [], ◌∷◌, ◌++◌, length, Option, Some, None, if◌then◌else◌}
-use Rattle.std.specs.Option.{option_or}
 use Rattle.std.specs.List.{flat_map}
 use Rattle.pbf_wire.specs.declared.fault.Fault.{Fault}
 use Rattle.pbf_wire.specs.declared.fault.Reason.{Reason}
 use Rattle.pbf_wire.specs.declared.fault.Reason.TheVariants.{NoRaw, RawLong, Zlib, Lzma, Bzip2, Lz4, Zstd}
-use Rattle.pbf_wire.specs.Least.{least}
+use Rattle.pbf_wire.specs.Phases.{first_fault}
 use Rattle.pbf_wire.specs.Occurrence.{Content, Bytes, Occurrence, items, found}
 use Rattle.pbf_wire.specs.Reading.{bytes_held, last_of}
-use Rattle.pbf_wire.specs.Wire.{wire}
 use Rattle.pbf_frame.specs.declared.blob.TheConstants.{RAW, ZLIB_DATA, LZMA_DATA, BZIP2_DATA, LZ4_DATA, ZSTD_DATA, BLOB_KINDS, RAW_LIMIT}
-use Rattle.pbf_wire.specs.Faults.{fault, fault_where}
+use Rattle.pbf_wire.specs.Faults.{fault, fault_where, leaf_faults}
 use Rattle.pbf_frame.specs.Header.{occurrence_text}
 
 -- why data under this field number isn't read
@@ -40,9 +38,13 @@ raw_faults at None (f ∷ others) = f ∷ others
 abbrev pub blob_faults : ℕ → List ℕ → List Fault
 blob_faults at blob = raw_faults at (last_of RAW (found (items at blob))) (compressed (found (items at blob)))
 
--- the first fault of a blob: of its wire form, then of its fields
+-- the faults of a blob: of its wire form, and of its fields
+abbrev pub blob_phases : ℕ → List ℕ → List (List Fault)
+blob_phases at blob = leaf_faults BLOB_KINDS at at blob ∷ blob_faults at blob ∷ []
+
+-- the first of them
 unfoldable pub blob_fault : ℕ → List ℕ → Option Fault
-blob_fault at blob = option_or (wire BLOB_KINDS (items at blob)) (least (blob_faults at blob))
+blob_fault at blob = first_fault (blob_phases at blob)
 
 -- the payload
 abbrev pub raw_of : ℕ → List ℕ → List ℕ

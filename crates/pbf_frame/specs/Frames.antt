@@ -1,20 +1,18 @@
 -- The frames of a file: four bytes for the length of the header, the header, and the blob.
-use Rattle.std.specs.Prelude.{ℕ, ◌+◌, ◌^◌, List, [], ◌++◌, length, take, drop, Bool, true, false, ◌&&◌, not, nat_lt, nat_le, ◌==◌, if◌then◌else◌, Option, Some, None, Result, Ok, Err}
+use Rattle.std.specs.Prelude.{ℕ, ◌+◌, ◌^◌, List, [], ◌∷◌, ◌++◌, length, take, drop, Bool, true, false, ◌&&◌, not, nat_lt, nat_le, ◌==◌, if◌then◌else◌, Option, Some, None, Result, Ok, Err}
 use Rattle.byteorder.specs.Endian.{big_number}
 use Rattle.pbf_wire.specs.declared.fault.Fault.{Fault}
 use Rattle.pbf_wire.specs.declared.fault.Reason.TheVariants.{PrefixCut, HeaderLong, HeaderCut, BlobCut, NoHeader, SecondHeader, DataFirst, FileLong}
-use Rattle.pbf_wire.specs.Least.{least}
+use Rattle.pbf_wire.specs.Phases.{first_fault}
 use Rattle.pbf_wire.specs.Occurrence.{items, found}
 use Rattle.pbf_wire.specs.Reading.{last_of}
 use Rattle.pbf_frame.specs.declared.blob.TheConstants.{RAW}
 use Rattle.pbf_frame.specs.declared.frame.FrameKind.{FrameKind}
 use Rattle.pbf_frame.specs.declared.frame.FrameKind.TheVariants as kind
-use Rattle.pbf_frame.specs.declared.header.Head.{Head}
-use Rattle.pbf_frame.specs.declared.header.TheConstants.{HEADER_LIMIT}
-use Rattle.pbf_wire.specs.Faults.{fault, fault_where}
-use Rattle.pbf_frame.specs.Faults.{unless, ◌>>=◌}
-use Rattle.pbf_frame.specs.Header.{name_of, kind_named, head_of}
-use Rattle.pbf_frame.specs.Blob.{blob_fault, raw_of, raw_at}
+use Rattle.pbf_frame.specs.declared.header.TheConstants.{HEADER_KINDS, HEADER_LIMIT}
+use Rattle.pbf_wire.specs.Faults.{fault, fault_where, leaf_faults}
+use Rattle.pbf_frame.specs.Header.{name_of, kind_named, header_faults, head_says}
+use Rattle.pbf_frame.specs.Blob.{blob_phases, raw_of, raw_at}
 
 -- a frame of a file: where it begins, and its bytes in three parts
 pub record FrameSpec : Type 0 where
@@ -69,19 +67,23 @@ frame_payload f = payload_in (frame_kind f) (blob_at f) f.blob
 abbrev pub frame_payload_at : FrameSpec → ℕ
 frame_payload_at f = payload_place (frame_kind f) (blob_at f) f.blob
 
--- ---- the faults of a frame that begins at a place, phase by phase
+-- ---- the frame that begins at a place
 
--- the first n bytes and the others, where there are n
-unfoldable pub bytes_at : Fault → ℕ → List ℕ → Result (List ℕ × List ℕ) Fault
-bytes_at cut n bytes = if nat_lt (length (take n bytes)) n then Err cut else Ok (take n bytes, drop n bytes)
+-- four bytes, a header as long as they say, and a blob of the size that the header says; where the bytes end before, as many as there are
+abbrev pub frame_at : ℕ → List ℕ → FrameSpec
+frame_at place bytes =
+    let after = drop 4 bytes in
+    let header = take (big_number 4 (take 4 bytes)) after in
+    record { offset = place; prefix = take 4 bytes; header = header; blob = take (head_says (place + 4) header).size (drop (length header) after) }
 
--- the four bytes before the header of the next frame, or nothing at the end of a file that had its header
-unfoldable pub prefix_at : Bool → ℕ → List ℕ → Result (Option (List ℕ) × List ℕ) Fault
-prefix_at had_header place bytes =
-    if length bytes == 0 then (if had_header then Ok (None, []) else Err (fault place NoHeader))
-    else if nat_lt (length (take 4 bytes)) 4 then Err (fault place PrefixCut)
-    else if nat_le HEADER_LIMIT (big_number 4 (take 4 bytes)) then Err (fault place HeaderLong)
-    else Ok (Some (take 4 bytes), drop 4 bytes)
+-- ---- its faults, phase by phase
+
+-- the four bytes or the header are cut, or the header is too long
+abbrev pub cut_faults : FrameSpec → List Fault
+cut_faults f =
+    if nat_lt (length f.prefix) 4 then fault f.offset PrefixCut ∷ []
+    else (if nat_le HEADER_LIMIT (big_number 4 f.prefix) then fault f.offset HeaderLong ∷ []
+    else fault_where (nat_lt (length f.header) (big_number 4 f.prefix)) f.offset HeaderCut)
 
 -- a frame of this kind that ends here is out of order, or ends too late
 abbrev pub order_faults : Bool → ℕ → FrameKind → ℕ → List Fault
@@ -90,36 +92,36 @@ order_faults had_header place kind last =
     ++ fault_where (not had_header && is_data kind) place DataFirst
     ++ fault_where (nat_lt (2 ^ 62) last) place FileLong
 
--- the header behind this prefix, what it says, and the bytes after it
-unfoldable pub header_of : Bool → ℕ → List ℕ → List ℕ → Result ((List ℕ × Head) × List ℕ) Fault
-header_of had_header place prefix bytes = do
-  header ← bytes_at (fault place HeaderCut) (big_number 4 prefix) bytes
-  head ← head_of (place + 4) header.0
-  unless (least (order_faults had_header place head.kind (place + 4 + length header.0 + head.size))) (Ok ((header.0, head), header.1))
+-- the blob of another type isn't looked into
+abbrev pub phases_of_blob : FrameKind → ℕ → List ℕ → List (List Fault)
+phases_of_blob kind.Other at blob = []
+phases_of_blob _ at blob = blob_phases at blob
 
--- the blob of a header or of data, and the bytes after it
-unfoldable pub known_blob_of : ℕ → ℕ → List ℕ → Result (List ℕ × List ℕ) Fault
-known_blob_of size at bytes = do
-  blob ← bytes_at (fault at BlobCut) size bytes
-  unless (blob_fault at blob.0) (Ok blob)
+-- all of them; whether a header frame came before says what order is right
+abbrev pub frame_phases : Bool → FrameSpec → List (List Fault)
+frame_phases had_header f =
+    let size = (head_says (header_at f) f.header).size in
+    cut_faults f
+    ∷ leaf_faults HEADER_KINDS f.offset (header_at f) f.header
+    ∷ header_faults (header_at f) f.header
+    ∷ order_faults had_header f.offset (frame_kind f) (blob_at f + size)
+    ∷ fault_where (nat_lt (length f.blob) size) (blob_at f) BlobCut
+    ∷ phases_of_blob (frame_kind f) (blob_at f) f.blob
 
--- the blob of any frame: one of another type isn't looked into
-abbrev pub blob_of : FrameKind → ℕ → ℕ → List ℕ → Result (List ℕ × List ℕ) Fault
-blob_of kind.Header size at bytes = known_blob_of size at bytes
-blob_of kind.Data size at bytes = known_blob_of size at bytes
-blob_of kind.Other size at bytes = bytes_at (fault at BlobCut) size bytes
+-- ---- the next frame
 
--- the frame behind this prefix, and the bytes after it
-unfoldable pub frame_of : Bool → ℕ → List ℕ → List ℕ → Result (FrameSpec × List ℕ) Fault
-frame_of had_header place prefix bytes = do
-  front ← header_of had_header place prefix bytes
-  blob ← blob_of front.0.1.kind front.0.1.size (place + 4 + length front.0.0) front.1
-  Ok (record { offset = place; prefix = prefix; header = front.0.0; blob = blob.0 }, blob.1)
+-- a file ends here, if it had its header
+abbrev pub end_of : Bool → ℕ → Result (Option FrameSpec × List ℕ) Fault
+end_of true place = Ok (None, [])
+end_of false place = Err (fault place NoHeader)
 
-unfoldable pub after_prefix : Bool → ℕ → Option (List ℕ) × List ℕ → Result (Option FrameSpec × List ℕ) Fault
-after_prefix had_header place (None, bytes) = Ok (None, bytes)
-after_prefix had_header place (Some prefix, bytes) = frame_of had_header place prefix bytes >>= λ read. Ok (Some read.0, read.1)
+-- a frame, and the bytes after it; or its fault
+abbrev pub given_or : Option Fault → FrameSpec → List ℕ → Result (Option FrameSpec × List ℕ) Fault
+given_or None f bytes = Ok (Some f, drop (length (frame_bytes f)) bytes)
+given_or (Some e) f bytes = Err e
 
 -- the next frame and the bytes after it, nothing at the end, or the least fault of the frame's first phase that has one
 unfoldable pub next_of : Bool → ℕ → List ℕ → Result (Option FrameSpec × List ℕ) Fault
-next_of had_header place bytes = prefix_at had_header place bytes >>= after_prefix had_header place
+next_of had_header place bytes =
+    if length bytes == 0 then end_of had_header place
+    else (let f = frame_at place bytes in given_or (first_fault (frame_phases had_header f)) f bytes)

@@ -1,19 +1,16 @@
 -- The BlobHeader: the type of its frame and the size of its blob.
-use Rattle.std.specs.Prelude.{ℕ, ℤ, pos, negsuc, nat_le, List, [], ◌++◌, Option, Some, None, Result, Ok, if◌then◌else◌, is_none, codes, nat_eq}
+use Rattle.std.specs.Prelude.{ℕ, ℤ, pos, negsuc, nat_le, List, [], ◌++◌, Option, Some, None, if◌then◌else◌, is_none, codes, nat_eq}
 use Rattle.std.specs.Cmp.Lexicographic.{pointwise}
 use Rattle.pbf_wire.specs.declared.fault.Fault.{Fault}
 use Rattle.pbf_wire.specs.declared.fault.Reason.TheVariants.{Missing, DataSize}
-use Rattle.pbf_wire.specs.Least.{least}
 use Rattle.pbf_wire.specs.Occurrence.{Content, Number, Occurrence, items, found}
 use Rattle.pbf_wire.specs.Reading.{bytes_held, last_of}
 use Rattle.pbf_wire.specs.Signed.{low_i32}
-use Rattle.pbf_wire.specs.Wire.{wire}
 use Rattle.pbf_frame.specs.declared.frame.FrameKind.{FrameKind}
 use Rattle.pbf_frame.specs.declared.frame.FrameKind.TheVariants as kind
 use Rattle.pbf_frame.specs.declared.header.Head.{Head}
-use Rattle.pbf_frame.specs.declared.header.TheConstants.{TYPE, DATASIZE, HEADER_KINDS, LARGEST_SIZE}
+use Rattle.pbf_frame.specs.declared.header.TheConstants.{TYPE, DATASIZE, LARGEST_SIZE}
 use Rattle.pbf_wire.specs.Faults.{fault_where}
-use Rattle.pbf_frame.specs.Faults.{unless}
 
 -- the text of a field, and none where it is absent
 abbrev pub occurrence_text : Option Occurrence → List ℕ
@@ -65,7 +62,3 @@ header_faults at header =
 
 abbrev pub head_says : ℕ → List ℕ → Head
 head_says at header = record { kind = kind_named (name_of at header); size = or_nothing (size_of (last_of DATASIZE (found (items at header)))) }
-
--- what a header says of its frame, or its first fault: of its wire form, then of its fields
-unfoldable pub head_of : ℕ → List ℕ → Result Head Fault
-head_of at header = unless (wire HEADER_KINDS (items at header)) (unless (least (header_faults at header)) (Ok (head_says at header)))

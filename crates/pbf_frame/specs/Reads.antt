@@ -8,8 +8,9 @@ use Rattle.pbf_frame.specs.declared.stop.Stop.{Stop}
 use Rattle.pbf_frame.specs.declared.stop.Stop.TheVariants.{Refused, Read, Write, Memory}
 use Rattle.pbf_frame.specs.Devices.{HasRisen, IsAtEnd, Passes, prepend}
 use Rattle.pbf_frame.specs.Blob.{blob_fault}
-use Rattle.pbf_frame.specs.Frames.{FrameSpec, blob_at, frame_kind, frame_bytes, blob_of, next_of}
+use Rattle.pbf_frame.specs.Frames.{FrameSpec, blob_at, frame_kind, frame_bytes, next_of}
 use Rattle.pbf_frame.specs.Sound.{IsFrame}
+use Rattle.pbf_frame.specs.Steps.{blob_of}
 
 -- what was read is the first n bytes, or all where there are fewer, and the others are left
 pub record Reads (old new : Option (List ℕ)) (n : ℕ) (read : List ℕ) : Type 0 where

@@ -102,7 +102,7 @@ fn judge_raw(at: u64, raw: Option<Field<'_>>, others: Option<Fault>) -> Option<F
 }
 
 /// The first fault of a blob whose first byte stands at `at` in the file.
-#[tactic(auto, unfolding(crate::specs::Blob::blob_fault))]
+#[tactic(auto, using(crate::proofs::BlobLemmas::blob_steps))]
 pub(crate) fn judge_blob(blob: &[u8], at: u64) -> Option<Fault>
     requires { at + length blob.now ≤ 2 ^ 63 }
     ensures { result ≡ blob_fault at blob.now }

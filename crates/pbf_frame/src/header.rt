@@ -7,7 +7,8 @@ ghost use Rattle.pbf_wire.specs.Least.{least};
 ghost use Rattle.pbf_wire.specs.Occurrence.{items, found};
 ghost use Rattle.pbf_wire.specs.Payload.{content};
 ghost use Rattle.pbf_wire.specs.Reading.{last_of};
-ghost use Rattle.pbf_frame.specs.Header.{occurrence_text, int32_held, size_within, size_of, or_nothing, kind_named, absent_faults, size_faults, header_faults, head_of};
+ghost use Rattle.pbf_frame.specs.Header.{occurrence_text, int32_held, size_within, size_of, or_nothing, kind_named, absent_faults, size_faults, header_faults};
+ghost use Rattle.pbf_frame.specs.Steps.{head_of};
 
 use crate::frame::FrameKind;
 use pbf_wire::{
@@ -128,7 +129,7 @@ fn judge_fields(header: &[u8], at: u64) -> Option<Fault>
 }
 
 /// What a header says of its frame, or its first fault. Its first byte stands at `at` in the file.
-#[tactic(auto, unfolding(crate::specs::Header::head_of))]
+#[tactic(auto, unfolding(crate::specs::Steps::head_of))]
 pub(crate) fn read_head(header: &[u8], at: u64) -> Result<Head, Fault>
     requires { at + length header.now ≤ 2 ^ 63 }
     ensures exact { result ≡ head_of at header.now }

@@ -5,13 +5,13 @@ ghost use Rattle.byteorder.specs.Endian.{big_number};
 ghost use Rattle.pbf_wire.specs.Least.{least};
 ghost use Rattle.pbf_frame.specs.Devices.{IsAtEnd, Passes, given_prefix, prepend};
 ghost use Rattle.pbf_wire.specs.Faults.{fault};
-ghost use Rattle.pbf_frame.specs.Frames.{order_faults, prefix_at, bytes_at, header_of, known_blob_of, blob_of, next_of};
-ghost use Rattle.pbf_frame.specs.Header.{head_of};
+ghost use Rattle.pbf_frame.specs.Frames.{order_faults, next_of};
 ghost use Rattle.pbf_frame.specs.declared.header.TheConstants.{LARGEST_SIZE};
 ghost use Rattle.pbf_frame.specs.Reads.{Gives, IsReaderStop, IsFillStop, Reads, Skips, GaveBlob, GaveFrame, GaveEnd, IsPlaced};
 ghost use Rattle.pbf_frame.specs.Refusals.{RefusedBy};
 ghost use Rattle.pbf_frame.specs.Sound.{IsSound};
 ghost use Rattle.pbf_frame.specs.Blob.{blob_fault};
+ghost use Rattle.pbf_frame.specs.Steps.{prefix_at, bytes_at, header_of, known_blob_of, blob_of, head_of};
 
 use crate::blob::judge_blob;
 use crate::device::Feed;
@@ -53,7 +53,7 @@ fn fill_vec<F: Feed>(feed: &mut F, buf: &mut Vec<u8>, count: usize) -> Result<()
 }
 
 // The four bytes before the next frame's header, or nothing at the end.
-#[tactic(auto, unfolding(crate::specs::Frames::prefix_at))]
+#[tactic(auto, unfolding(crate::specs::Steps::prefix_at))]
 fn read_prefix<F: Feed>(feed: &mut F, had_header: bool, place: u64) -> Result<Option<[u8; 4]>, Stop>
     ensures given { IfOk result (λ o.
         Gives o (F.remaining feed.old) (F.remaining feed.new) (prefix_at had_header place)) }
@@ -91,7 +91,7 @@ fn read_prefix<F: Feed>(feed: &mut F, had_header: bool, place: u64) -> Result<Op
 }
 
 // This many bytes.
-#[tactic(auto, unfolding(crate::specs::Frames::bytes_at))]
+#[tactic(auto, unfolding(crate::specs::Steps::bytes_at))]
 fn read_bytes<F: Feed>(feed: &mut F, buf: &mut Vec<u8>, count: u32, cut: Fault) -> Result<(), Stop>
     ensures given { OnOk result
         (Gives buf.new.items (F.remaining feed.old) (F.remaining feed.new) (bytes_at cut count)) }
@@ -130,7 +130,7 @@ fn judge_order(had_header: bool, place: u64, kind: FrameKind, end: u64) -> Optio
 }
 
 // The header after a prefix, and what it says.
-#[tactic(auto, unfolding(crate::specs::Frames::header_of))]
+#[tactic(auto, unfolding(crate::specs::Steps::header_of))]
 fn read_header<F: Feed>(
     feed: &mut F,
     header: &mut Vec<u8>,
@@ -202,7 +202,7 @@ fn skip<F: Feed>(feed: &mut F, count: u32, room: &mut [u8], cut: Fault) -> Resul
 }
 
 // The blob of a header or of data.
-#[tactic(auto, unfolding(crate::specs::Frames::known_blob_of))]
+#[tactic(auto, unfolding(crate::specs::Steps::known_blob_of))]
 fn read_known_blob<F: Feed>(
     feed: &mut F,
     blob: &mut Vec<u8>,

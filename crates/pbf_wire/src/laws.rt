@@ -3,9 +3,11 @@
 
 ghost use Rattle.std.specs.Prelude.{◌≡◌, ◌+◌, ◌*◌, ◌^◌, ◌<◌, ◌≤◌, ◌<ℤ◌, ◌≤ℤ◌, neg_ℤ, ◌++◌, ℕ, ℤ, pos, negsuc, List, Ok, None, Some, length, map};
 ghost use Rattle.std.specs.List.{AllByRecursion, flat_map, last_or};
+ghost use Rattle.std.specs.Option.{option_map};
 ghost use Rattle.pbf_wire.specs.declared.fault.Fault.{Fault};
 ghost use Rattle.pbf_wire.specs.declared.kind.Kind.{Kind};
-ghost use Rattle.pbf_wire.specs.Least.{rank, least, lesser, IsLeast};
+ghost use Rattle.pbf_wire.specs.Least.{rank, least, least_by, lesser, IsLeast};
+ghost use Rattle.pbf_wire.specs.Phases.{first_fault, in_phases, phase_rank};
 ghost use Rattle.pbf_wire.specs.Varint.{IsVarint, varint_at, shortest};
 ghost use Rattle.pbf_wire.specs.Occurrence.{Occurrence, Joins, IsCutting, items, found, fault_of, without_places};
 ghost use Rattle.pbf_wire.specs.Columns.{entries, packed, joined, column};
@@ -112,6 +114,13 @@ pub fn least_is_least()
     ensures least { (faults : List Fault) → IsLeast rank (least faults) faults }
     ensures parts { (faults others : List Fault)
         → least (faults ++ others) ≡ lesser (least faults) (least others) }
+{}
+
+/// Where faults are found phase by phase, the least of the first phase that has one is the least of all: phases are one order, in
+/// which a fault comes before those of later phases.
+pub fn phases_are_one_order()
+    ensures { (first : ℕ) (phases : List (List Fault))
+        → option_map (λ p. p.1) (least_by phase_rank (in_phases first phases)) ≡ first_fault phases }
 {}
 
 /// In a message without a wire fault, a column has as many numbers as bytes of it end a varint, with one for each single number:

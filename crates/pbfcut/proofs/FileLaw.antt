@@ -15,7 +15,7 @@ use Rattle.osm_entity.specs.Ranges.{EntityFits, EntityTyped}
 use Rattle.osm_entity.specs.Weight.{text_weight, entity_weight}
 use Rattle.pbf_frame.specs.declared.frame.FrameKind.{FrameKind}
 use Rattle.pbf_frame.specs.declared.frame.FrameKind.TheVariants as kind
-use Rattle.pbf_frame.specs.Frames.{FrameSpec, frame_end, frame_kind, frame_payload, frame_payload_at, order_faults, is_header, prefix_at, after_prefix, next_of}
+use Rattle.pbf_frame.specs.Frames.{FrameSpec, frame_end, frame_kind, frame_payload, frame_payload_at, order_faults, is_header, next_of}
 use Rattle.pbf_frame.specs.Sound.{IsFrame, AreFrames, had_after, place_after}
 use Rattle.pbf_frame.specs.Verdict.{Verdict, judged_within, judged, with_first, with_all, joined_frames}
 use Rattle.pbf_frame.specs.Writing.{written_at, written_frame}
@@ -184,7 +184,7 @@ header_stays [] = refl
 header_stays (f ∷ frames) = header_stays frames
 
 nothing_left : (place : ℕ) → judged true place [] ≡ ([], None)
-unfolding judged judged_within next_of prefix_at after_prefix
+unfolding judged judged_within next_of
 nothing_left place = refl
 
 module _ (h : HeaderSpec) (es : List EntitySpec) (fits : HeaderFits (header_out_for_convert h)) (short : text_weight h.source + text_weight h.url ≤ MOST_HEADER_TEXT) (fit : AllByRecursion EntityFits es) (typed : AllByRecursion EntityTyped es) (small : length (written_file h es) ≤ 2 ^ 62) where

@@ -1,13 +1,11 @@
-use Rattle.std.proofs.Common.{ap, refl, subst, ◌≡◌, ℕ, ◌+◌, ◌<◌, true, List, Option, length, arith}
-use Rattle.std.specs.Prelude.{IfSome, IfNone}
+use Rattle.std.proofs.Common.{ap, refl, subst, ◌≡◌, ℕ, ◌+◌, true, List, Option, length, arith}
+use Rattle.std.specs.Prelude.{IfNone}
 use Rattle.pbf_frame.specs.Devices.{IsAtEnd, Passes, given_prefix}
 use Rattle.std.proofs.lemmas.Result.{err_from_is_err_and}
-use Rattle.pbf_frame.specs.Frames.{blob_of}
 use Rattle.pbf_frame.specs.Reads.{GaveBlob}
 use Rattle.pbf_frame.specs.Refusals.{RefusedBy}
 use Rattle.pbf_frame.proofs.Passed.{passes_nothing}
-use Rattle.byteorder.specs.Endian.{big_number}
-use Rattle.pbf_frame.specs.declared.header.TheConstants.{HEADER_LIMIT}
+use Rattle.pbf_frame.specs.Steps.{blob_of}
 use Rattle.pbf_frame.proofs.Passing.{frame_read}
 use Rattle.pbf_frame.proofs.FrameLemmas.{gave_end, prefix_given, gave_frame}
 use Rattle.pbf_frame.proofs.FrontLemmas.{still_untold}

@@ -1,10 +1,10 @@
-use Rattle.std.proofs.Common.{◌≡◌, ℕ, List, ◌+◌, length, sym, arith, ◌∙◌, ap, Some}
+use Rattle.std.proofs.Common.{◌≡◌, ℕ, List, ◌+◌, length, sym, arith, ◌∙◌, ap}
 use Rattle.std.proofs.lemmas.Result.{err_from_is_err_and}
 use Rattle.byteorder.specs.Endian.{big_number}
 use Rattle.pbf_wire.specs.Least.{least}
 use Rattle.pbf_frame.specs.Frames.{order_faults}
-use Rattle.pbf_frame.specs.Header.{head_of}
-use Rattle.pbf_frame.proofs.Refusing.{whatever_follows, refused_as, header_cut, header_unfit, header_misplaced}
+use Rattle.pbf_frame.specs.Steps.{head_of}
+use Rattle.pbf_frame.proofs.Refusing.{whatever_follows, header_unfit, header_misplaced}
 use Rattle.pbf_frame.proofs.reading.read_header.Goals as goal
 
 pub returns-in_err-head-clause-refused : goal.returns-in_err-head-clause-refused

@@ -1,4 +1,4 @@
-use Rattle.std.proofs.Common.{◌≡◌, ℕ, ◌<◌, ◌≤◌, List, length, take, subst, sym, arith, ◌∙◌, ap}
+use Rattle.std.proofs.Common.{◌≡◌, ℕ, ◌≤◌, List, length, take, subst, arith, ◌∙◌, ap}
 use Rattle.std.proofs.lemmas.List.{length-take-le, take_all}
 use Rattle.byteorder.specs.Endian.{big_number}
 use Rattle.pbf_frame.specs.declared.header.TheConstants.{HEADER_LIMIT}
