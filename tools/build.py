@@ -1,7 +1,7 @@
 #!/usr/bin/env python3
-"""Proves the crates that the program is made of, and builds it for this processor.
+"""Proves the crates that a program is made of, and builds it for this processor.
 
-usage: tools/build.py        makes crates/pbfcut_run/out/pbfcut_run
+usage: tools/build.py [CRATE]        makes crates/CRATE/out/CRATE; with no word it is pbfcut_run, the program pbfcut
 
 Crates that do not stand on each other are proved side by side: the longest chain gets all processors, and what stands beside it
 takes what the chain leaves. The judge is that of the gate, `rattle build`, which makes nothing of a crate that is not proved. Where
@@ -19,9 +19,6 @@ import sys
 import time
 
 TOP = os.path.dirname(os.path.dirname(os.path.abspath(__file__)))
-PROGRAM = "pbfcut_run"
-PLACE = os.path.join(TOP, "crates", PROGRAM, "out")
-ROOM = os.path.join(PLACE, "building")
 NOT_THIS_KIT = 2
 
 # what a processor must have, in the words of /proc/cpuinfo, to run code for x86-64-v3
@@ -47,10 +44,10 @@ def known_crates():
     return {name.strip(): below.split() for name, below in pairs}
 
 
-def read_crates():
-    """What each crate of the program stands on."""
+def read_crates(program):
+    """What each crate of a program stands on."""
     known = known_crates()
-    wanted, left = {}, [PROGRAM]
+    wanted, left = {}, [program]
     while left:
         name = left.pop()
         if name in known and name not in wanted:
@@ -107,28 +104,30 @@ def lanes():
 class Build:
     """Crates on their way: which are proved, which are being proved, and since when."""
 
-    def __init__(self, kit, crates):
-        self.kit, self.crates = kit, crates
+    def __init__(self, kit, program):
+        self.kit, self.program, self.crates = kit, program, read_crates(program)
+        self.place = os.path.join(TOP, "crates", program, "out")
+        self.room = os.path.join(self.place, "building")
         self.lanes = lanes()
         self.started = time.monotonic()
         self.proved, self.running, self.again = set(), {}, set()
         self.shown = sys.stderr.isatty()
-        os.makedirs(ROOM, exist_ok=True)
-        self.sums = {name: source_sum(crates, name) for name in crates}
+        os.makedirs(self.room, exist_ok=True)
+        self.sums = {name: source_sum(self.crates, name) for name in self.crates}
 
     def result(self, name):
-        return os.path.join(ROOM, name + (".o" if name == PROGRAM else ".rlib"))
+        return os.path.join(self.room, name + (".o" if name == self.program else ".rlib"))
 
     def command(self, name, jobs):
         rlibs = os.path.join(self.kit, "rlibs")
-        root = "src/main.rt" if name == PROGRAM else "src/lib.rt"
+        root = "src/main.rt" if name == self.program else "src/lib.rt"
         words = [os.path.join(self.kit, "bin/rattle"), "build", "--crate-name", name, root, "--extern", f"std={rlibs}/std.rlib"]
         for other in self.crates[name]:
-            words += ["--extern", f"{other}={ROOM if other in self.crates else rlibs}/{other}.rlib"]
-        words += ["-L", f"dependency={rlibs}", "-L", f"dependency={ROOM}", "--links", f"{name}="]
+            words += ["--extern", f"{other}={self.room if other in self.crates else rlibs}/{other}.rlib"]
+        words += ["-L", f"dependency={rlibs}", "-L", f"dependency={self.room}", "--links", f"{name}="]
         words += ["--antt-project", f"{self.kit}/rattle/logic/antt-project.json", "--logic-built", f"{self.kit}/logic_built"]
         words += ["--jobs", str(jobs), "-o", self.result(name)]
-        if name == PROGRAM:
+        if name == self.program:
             return words + ["--toolchain", f"{self.kit}/toolchain"] + processor_flags()
         return words + ["--statements"]
 
@@ -140,7 +139,7 @@ class Build:
             return False
 
     def start(self, name, jobs, beside):
-        log = open(os.path.join(ROOM, name + ".log"), "w")
+        log = open(os.path.join(self.room, name + ".log"), "w")
         first = (lambda: os.nice(10)) if beside else None
         folder = os.path.join(TOP, "crates", name)
         self.running[name] = subprocess.Popen(
@@ -196,7 +195,7 @@ class Build:
         return None
 
     def fail(self, name):
-        log = os.path.join(ROOM, name + ".log")
+        log = os.path.join(self.room, name + ".log")
         print(f"\npbfcut: {name} could not be proved; this is the end of {log}:", file=sys.stderr)
         sys.stderr.writelines(open(log, errors="replace").readlines()[-20:])
         return 1
@@ -220,14 +219,14 @@ class Build:
 
     def link(self):
         words = [os.path.join(self.kit, "bin/rattle-link"), "--target", "x86_64-unknown-linux-gnu", "--toolchain", f"{self.kit}/toolchain"]
-        made = os.path.join(ROOM, PROGRAM)
-        files = [self.result(PROGRAM), f"{self.kit}/c/libos_c.a", f"{self.kit}/c/liblibc_c.a"]
+        made = os.path.join(self.room, self.program)
+        files = [self.result(self.program), f"{self.kit}/c/libos_c.a", f"{self.kit}/c/liblibc_c.a"]
         linked = subprocess.run(words + ["-o", made, *files], capture_output=True, text=True)
         if linked.returncode:
             print(linked.stderr, file=sys.stderr)
             return NOT_THIS_KIT
-        os.replace(made, os.path.join(PLACE, PROGRAM))
-        shutil.rmtree(ROOM)
+        os.replace(made, os.path.join(self.place, self.program))
+        shutil.rmtree(self.room)
         print(f"pbfcut: built, {self.progress()}", file=sys.stderr)
         return 0
 
@@ -236,7 +235,7 @@ def main():
     kit = kit_folder()
     if kit is None:
         return NOT_THIS_KIT
-    return Build(kit, read_crates()).run()
+    return Build(kit, sys.argv[1] if len(sys.argv) > 1 else "pbfcut_run").run()
 
 
 if __name__ == "__main__":
