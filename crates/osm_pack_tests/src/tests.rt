@@ -29,52 +29,130 @@ const WAY_OF_THREE_REFS: [u8; 88] =
 const NODES_1_AND_2: [u8; 37] =
     *b"\x00\x00\x00\x0b\x0a\x07OSMData\x18\x16\x0a\x14\x0a\x02\x0a\x00\x12\x0e\x12\x0c\x0a\x02\x02\x02\x42\x02\x02\x03\x4a\x02\x02\x00";
 
-fn nothing_known() -> Meta {
-    Meta {
-        version: None,
-        timestamp: None,
-        changeset: None,
-        uid: None,
-        user: None,
-        visible: None,
-    }
+/// An entity that a test packs, by plain numbers and texts.
+#[derive(Clone, Copy)]
+struct Sketch<'a> {
+    kind: MemberKind,
+    id: i64,
+    /// Of a node; its longitude is 1.
+    lat: i64,
+    /// Of a way. A relation has one member, a node of no role.
+    refs: &'a [i64],
+    tag: Option<(&'a [u8], &'a [u8])>,
+    version: Option<i32>,
+    timestamp: Option<i64>,
+    user: Option<&'a [u8]>,
+    scale: Scale,
 }
 
-fn node(alloc: Global, id: i64, lat: i64) -> Node {
-    Node {
+fn node(id: i64, lat: i64) -> Sketch<'static> {
+    Sketch {
+        kind: MemberKind::Node,
         id,
         lat,
-        lon: 1,
-        meta: nothing_known(),
-        tags: Vec::new(alloc),
+        refs: &[],
+        tag: None,
+        version: None,
+        timestamp: None,
+        user: None,
         scale: SCALE,
     }
 }
 
-fn tagged_node(alloc: Global, id: i64, key: &[u8], value: &[u8]) -> Result<Node, AllocError> {
-    let mut node = node(alloc, id, 1);
-    node.tags.push((Vec::from_slice(alloc, key)?, Vec::from_slice(alloc, value)?))?;
-    Ok(node)
+fn tagged_node<'a>(id: i64, key: &'a [u8], value: &'a [u8]) -> Sketch<'a> {
+    Sketch {
+        tag: Some((key, value)),
+        ..node(id, 1)
+    }
 }
 
 /// Way 7 with these refs.
-fn way(alloc: Global, refs: &[i64]) -> Result<Way, AllocError> {
-    Ok(Way {
-        id: 7,
-        meta: nothing_known(),
-        tags: Vec::new(alloc),
-        refs: Vec::from_slice(alloc, refs)?,
-        locations: Vec::new(alloc),
-        scale: SCALE,
+fn way(refs: &[i64]) -> Sketch<'_> {
+    Sketch {
+        kind: MemberKind::Way,
+        refs,
+        ..node(7, 1)
+    }
+}
+
+/// A relation with a tag of this value.
+fn relation(id: i64, value: &[u8]) -> Sketch<'_> {
+    Sketch {
+        kind: MemberKind::Relation,
+        tag: Some((b"k", value)),
+        ..node(id, 1)
+    }
+}
+
+fn meta(alloc: Global, sketch: &Sketch<'_>) -> Result<Meta, AllocError> {
+    let user = match sketch.user {
+        Some(user) => Some(Vec::from_slice(alloc, user)?),
+        None => None,
+    };
+    Ok(Meta {
+        version: sketch.version,
+        timestamp: sketch.timestamp,
+        changeset: None,
+        uid: None,
+        user,
+        visible: None,
     })
 }
 
-/// A relation with one member of no role, and a tag whose value is this long.
-fn relation(alloc: Global, id: i64, length: usize) -> Result<Relation, AllocError> {
-    let mut value = Vec::new(alloc);
-    value.resize(length, b'v')?;
+fn tags(alloc: Global, sketch: &Sketch<'_>) -> Result<Vec<(Vec<u8>, Vec<u8>)>, AllocError> {
     let mut tags = Vec::new(alloc);
-    tags.push((Vec::from_slice(alloc, b"k")?, value))?;
+    if let Some((key, value)) = sketch.tag {
+        tags.push((Vec::from_slice(alloc, key)?, Vec::from_slice(alloc, value)?))?;
+    }
+    Ok(tags)
+}
+
+/// What packs in these tests.
+type Packing = Packer<Sink, BuildHasherDefault<FoldHasher>>;
+
+/// Packs an entity that can be packed.
+fn push(rt: &impl Abort, packer: &mut Packing, entity: &EntityRef<'_>) -> Result<(), Stop> {
+    if !packer.has_header() || !entity.fits() {
+        panic!(rt; "the entity can't be packed");
+    }
+    packer.push(entity)
+}
+
+fn push_node(
+    rt: &(impl Abort + AllocGlobal),
+    packer: &mut Packing,
+    sketch: &Sketch<'_>,
+) -> Result<Result<(), Stop>, AllocError> {
+    let alloc = rt.alloc();
+    let node = Node {
+        id: sketch.id,
+        lat: sketch.lat,
+        lon: 1,
+        meta: meta(alloc, sketch)?,
+        tags: tags(alloc, sketch)?,
+        scale: sketch.scale,
+    };
+    Ok(push(rt, packer, &EntityRef::Node(node.view())))
+}
+
+fn push_way(
+    rt: &(impl Abort + AllocGlobal),
+    packer: &mut Packing,
+    sketch: &Sketch<'_>,
+) -> Result<Result<(), Stop>, AllocError> {
+    let alloc = rt.alloc();
+    let way = Way {
+        id: sketch.id,
+        meta: meta(alloc, sketch)?,
+        tags: tags(alloc, sketch)?,
+        refs: Vec::from_slice(alloc, sketch.refs)?,
+        locations: Vec::new(alloc),
+        scale: sketch.scale,
+    };
+    Ok(push(rt, packer, &EntityRef::Way(way.view())))
+}
+
+fn made_relation(alloc: Global, sketch: &Sketch<'_>) -> Result<Relation, AllocError> {
     let mut members = Vec::new(alloc);
     members.push(Member {
         kind: MemberKind::Node,
@@ -82,63 +160,117 @@ fn relation(alloc: Global, id: i64, length: usize) -> Result<Relation, AllocErro
         role: Vec::new(alloc),
     })?;
     Ok(Relation {
-        id,
-        meta: nothing_known(),
-        tags,
+        id: sketch.id,
+        meta: meta(alloc, sketch)?,
+        tags: tags(alloc, sketch)?,
         members,
-        scale: SCALE,
+        scale: sketch.scale,
     })
 }
 
-/// Packs a header that says nothing and these entities. After a stop each later call answers the same.
-fn packed(
+fn push_relation(
     rt: &(impl Abort + AllocGlobal),
-    sink: Sink,
-    entities: &[EntityRef<'_>],
-) -> (Result<(), Stop>, Sink) {
+    packer: &mut Packing,
+    sketch: &Sketch<'_>,
+) -> Result<Result<(), Stop>, AllocError> {
+    let relation = made_relation(rt.alloc(), sketch)?;
+    Ok(push(rt, packer, &EntityRef::Relation(relation.view())))
+}
+
+fn weighs(alloc: Global, sketch: &Sketch<'_>, weight: u64) -> Result<bool, AllocError> {
+    Ok(made_relation(alloc, sketch)?.view().weight() == weight)
+}
+
+/// Makes an entity and packs it; an error where it can't be made for want of memory.
+fn push_sketch(
+    rt: &(impl Abort + AllocGlobal),
+    packer: &mut Packing,
+    sketch: &Sketch<'_>,
+) -> Result<Result<(), Stop>, AllocError> {
+    match sketch.kind {
+        MemberKind::Node => push_node(rt, packer, sketch),
+        MemberKind::Way => push_way(rt, packer, sketch),
+        MemberKind::Relation => push_relation(rt, packer, sketch),
+    }
+}
+
+/// A packer that put a header which says nothing.
+fn begun(alloc: Global, sink: Sink) -> (Result<(), Stop>, Packing) {
     let header = Header {
         bbox: None,
-        required: Vec::new(rt.alloc()),
-        optional: Vec::new(rt.alloc()),
+        required: Vec::new(alloc),
+        optional: Vec::new(alloc),
         program: None,
         source: None,
         url: None,
         timestamp: None,
         sequence: None,
     };
-    let hasher: BuildHasherDefault<FoldHasher> = BuildHasherDefault::new();
-    let mut packer = Packer::new(rt.alloc(), sink, hasher);
-    let mut outcome = packer.put_header(&header);
-    for entity in entities {
-        if !packer.has_header() || !entity.fits() {
-            panic!(rt; "the entity can't be packed");
-        }
-        let next = packer.push(entity);
-        if outcome.is_err() {
-            assert_eq!(rt; next, outcome);
-        }
+    let mut packer = Packer::new(alloc, sink, BuildHasherDefault::new());
+    (packer.put_header(&header), packer)
+}
+
+/// After a stop each later call answers the same.
+fn stays(rt: &impl Abort, before: Result<(), Stop>, next: Result<(), Stop>) {
+    if before.is_err() {
+        assert_eq!(rt; next, before);
+    }
+}
+
+/// Packs these entities.
+fn push_all(
+    rt: &(impl Abort + AllocGlobal),
+    packer: &mut Packing,
+    first: Result<(), Stop>,
+    sketches: &[Sketch<'_>],
+) -> Result<(), Stop> {
+    let mut outcome = first;
+    for sketch in sketches {
+        let next = push_sketch(rt, packer, sketch)?;
+        stays(rt, outcome, next);
         outcome = next;
     }
+    outcome
+}
+
+fn finish(rt: &impl Abort, packer: &mut Packing) -> Result<(), Stop> {
     if !packer.has_header() {
         panic!(rt; "there is no header");
     }
-    let next = packer.finish();
-    if outcome.is_err() {
-        assert_eq!(rt; next, outcome);
-    }
+    packer.finish()
+}
+
+/// Packs a header that says nothing and these entities.
+fn packed(
+    rt: &(impl Abort + AllocGlobal),
+    sink: Sink,
+    sketches: &[Sketch<'_>],
+) -> (Result<(), Stop>, Sink) {
+    let (first, mut packer) = begun(rt.alloc(), sink);
+    let outcome = push_all(rt, &mut packer, first, sketches);
+    let next = finish(rt, &mut packer);
+    stays(rt, outcome, next);
     (next, packer.into_drain())
+}
+
+/// Whether these entities come to these frames after the header.
+fn come_to(
+    rt: &(impl Abort + AllocGlobal),
+    sketches: &[Sketch<'_>],
+    frames: &[u8],
+) -> Result<bool, Stop> {
+    let (outcome, sink) = packed(rt, Sink::new(rt.alloc(), 1_024, 0)?, sketches);
+    outcome?;
+    Ok(sink.bytes().starts_with(&HEADER) && sink.bytes().get(HEADER.len()..) == Some(frames))
 }
 
 /// Packs these entities, which come to these frames after the header.
 fn packs(
     rt: &(impl Abort + AllocGlobal),
-    entities: &[EntityRef<'_>],
+    sketches: &[Sketch<'_>],
     frames: &[u8],
 ) -> Result<(), Fail> {
-    let (outcome, sink) = packed(rt, Sink::new(rt.alloc(), 1_024, 0)?, entities);
-    outcome?;
-    assert!(rt; sink.bytes().starts_with(&HEADER));
-    assert_eq!(rt; sink.bytes().get(HEADER.len()..), Some(frames));
+    assert!(rt; come_to(rt, sketches, frames)?);
     Ok(())
 }
 
@@ -161,15 +293,16 @@ fn ids(alloc: Global, file: &[u8]) -> Result<Vec<i64>, Stop> {
     Ok(ids)
 }
 
-/// Packs these entities into so much room, and reads their ids.
-fn packed_ids(
+/// Whether these entities, packed into so much room, come to blocks of these ids.
+fn have_ids(
     rt: &(impl Abort + AllocGlobal),
     room: usize,
-    entities: &[EntityRef<'_>],
-) -> Result<Vec<i64>, Stop> {
-    let (outcome, sink) = packed(rt, Sink::new(rt.alloc(), room, 0)?, entities);
+    sketches: &[Sketch<'_>],
+    wanted: &[i64],
+) -> Result<bool, Stop> {
+    let (outcome, sink) = packed(rt, Sink::new(rt.alloc(), room, 0)?, sketches);
     outcome?;
-    ids(rt.alloc(), sink.bytes())
+    Ok(ids(rt.alloc(), sink.bytes())?.as_slice() == wanted)
 }
 
 #[test]
@@ -179,25 +312,18 @@ fn no_entities(rt: HostRuntime) -> Result<(), Fail> {
 
 #[test]
 fn nodes_10_and_15(rt: HostRuntime) -> Result<(), Fail> {
-    let first = node(rt.alloc(), 10, 1);
-    let second = node(rt.alloc(), 15, 1);
-    let entities = [
-        EntityRef::Node(first.view()),
-        EntityRef::Node(second.view()),
-    ];
     packs(
         &rt,
-        &entities,
+        &[node(10, 1), node(15, 1)],
         b"\x00\x00\x00\x0b\x0a\x07OSMData\x18\x16\x0a\x14\x0a\x02\x0a\x00\x12\x0e\x12\x0c\x0a\x02\x14\x0a\x42\x02\x02\x00\x4a\x02\x02\x00",
     )
 }
 
 #[test]
 fn node_with_an_empty_key(rt: HostRuntime) -> Result<(), Fail> {
-    let node = tagged_node(rt.alloc(), 1, b"", b"a")?;
     packs(
         &rt,
-        &[EntityRef::Node(node.view())],
+        &[tagged_node(1, b"", b"a")],
         b"\x00\x00\x00\x0b\x0a\x07OSMData\x18\x1d\x0a\x1b\x0a\x07\x0a\x00\x0a\x00\x0a\x01a\x12\x10\x12\x0e\x0a\x01\x02\x42\x01\x02\x4a\x01\x02\x52\x03\x01\x02\x00",
     )
 }
@@ -205,8 +331,7 @@ fn node_with_an_empty_key(rt: HostRuntime) -> Result<(), Fail> {
 /// The scale stands after the group, the date granularity not, as it is the usual one.
 #[test]
 fn node_of_granularity_1000_and_negative_offsets(rt: HostRuntime) -> Result<(), Fail> {
-    let mut node = node(rt.alloc(), 1, 1);
-    node.scale = Scale {
+    let scale = Scale {
         granularity: 1000,
         lat_offset: -1,
         lon_offset: -1,
@@ -214,20 +339,25 @@ fn node_of_granularity_1000_and_negative_offsets(rt: HostRuntime) -> Result<(), 
     };
     packs(
         &rt,
-        &[EntityRef::Node(node.view())],
+        &[Sketch {
+            scale,
+            ..node(1, 1)
+        }],
         b"\x00\x00\x00\x0b\x0a\x07OSMData\x18\x2f\x0a\x2d\x0a\x02\x0a\x00\x12\x0b\x12\x09\x0a\x01\x02\x42\x01\x02\x4a\x01\x02\x88\x01\xe8\x07\x98\x01\xff\xff\xff\xff\xff\xff\xff\xff\xff\x01\xa0\x01\xff\xff\xff\xff\xff\xff\xff\xff\xff\x01",
     )
 }
 
 #[test]
 fn node_with_version_time_and_user(rt: HostRuntime) -> Result<(), Fail> {
-    let mut node = tagged_node(rt.alloc(), 1, b"highway", b"stop")?;
-    node.meta.version = Some(2);
-    node.meta.timestamp = Some(1_234_567_890);
-    node.meta.user = Some(Vec::from_slice(rt.alloc(), b"ann")?);
+    let node = Sketch {
+        version: Some(2),
+        timestamp: Some(1_234_567_890),
+        user: Some(b"ann"),
+        ..tagged_node(1, b"highway", b"stop")
+    };
     packs(
         &rt,
-        &[EntityRef::Node(node.view())],
+        &[node],
         b"\x00\x00\x00\x0b\x0a\x07OSMData\x18\x3b\x0a\x39\x0a\x16\x0a\x00\x0a\x07highway\x0a\x04stop\x0a\x03ann\x12\x1f\x12\x1d\x0a\x01\x02\x2a\x0d\x0a\x01\x02\x12\x05\xa4\x8b\xb0\x99\x09\x2a\x01\x06\x42\x01\x02\x4a\x01\x02\x52\x03\x01\x02\x00",
     )
 }
@@ -235,15 +365,9 @@ fn node_with_version_time_and_user(rt: HostRuntime) -> Result<(), Fail> {
 /// Two nodes of one block have one table, in which a text of both stands once.
 #[test]
 fn two_nodes_with_a_text_in_common(rt: HostRuntime) -> Result<(), Fail> {
-    let first = tagged_node(rt.alloc(), 1, b"a", b"b")?;
-    let second = tagged_node(rt.alloc(), 2, b"b", b"c")?;
-    let entities = [
-        EntityRef::Node(first.view()),
-        EntityRef::Node(second.view()),
-    ];
     packs(
         &rt,
-        &entities,
+        &[tagged_node(1, b"a", b"b"), tagged_node(2, b"b", b"c")],
         b"\x00\x00\x00\x0b\x0a\x07OSMData\x18\x27\x0a\x25\x0a\x0b\x0a\x00\x0a\x01a\x0a\x01b\x0a\x01c\x12\x16\x12\x14\x0a\x02\x02\x02\x42\x02\x02\x00\x4a\x02\x02\x00\x52\x06\x01\x02\x00\x02\x03\x00",
     )
 }
@@ -251,16 +375,13 @@ fn two_nodes_with_a_text_in_common(rt: HostRuntime) -> Result<(), Fail> {
 /// The text `b` is the second of the node's block and the first of the way's.
 #[test]
 fn node_and_way_with_a_text_in_common(rt: HostRuntime) -> Result<(), Fail> {
-    let node = tagged_node(rt.alloc(), 1, b"a", b"b")?;
-    let mut way = way(rt.alloc(), &[])?;
-    way.tags.push((
-        Vec::from_slice(rt.alloc(), b"b")?,
-        Vec::from_slice(rt.alloc(), b"b")?,
-    ))?;
-    let entities = [EntityRef::Node(node.view()), EntityRef::Way(way.view())];
+    let way = Sketch {
+        tag: Some((b"b", b"b")),
+        ..way(&[])
+    };
     packs(
         &rt,
-        &entities,
+        &[tagged_node(1, b"a", b"b"), way],
         b"\x00\x00\x00\x0b\x0a\x07OSMData\x18\x1e\x0a\x1c\x0a\x08\x0a\x00\x0a\x01a\x0a\x01b\x12\x10\x12\x0e\x0a\x01\x02\x42\x01\x02\x4a\x01\x02\x52\x03\x01\x02\x00\x00\x00\x00\x0b\x0a\x07OSMData\x18\x15\x0a\x13\x0a\x05\x0a\x00\x0a\x01b\x12\x0a\x1a\x08\x08\x07\x12\x01\x01\x1a\x01\x01",
     )
 }
@@ -268,126 +389,108 @@ fn node_and_way_with_a_text_in_common(rt: HostRuntime) -> Result<(), Fail> {
 /// The second has a version, so that no two of them stand in one block.
 #[test]
 fn three_nodes_of_which_the_second_has_a_version(rt: HostRuntime) -> Result<(), Fail> {
-    let first = node(rt.alloc(), 1, 1);
-    let mut second = node(rt.alloc(), 2, 1);
-    second.meta.version = Some(1);
-    let third = node(rt.alloc(), 3, 1);
-    let entities = [
-        EntityRef::Node(first.view()),
-        EntityRef::Node(second.view()),
-        EntityRef::Node(third.view()),
-    ];
+    let second = Sketch {
+        version: Some(1),
+        ..node(2, 1)
+    };
     packs(
         &rt,
-        &entities,
+        &[node(1, 1), second, node(3, 1)],
         b"\x00\x00\x00\x0b\x0a\x07OSMData\x18\x13\x0a\x11\x0a\x02\x0a\x00\x12\x0b\x12\x09\x0a\x01\x02\x42\x01\x02\x4a\x01\x02\x00\x00\x00\x0b\x0a\x07OSMData\x18\x18\x0a\x16\x0a\x02\x0a\x00\x12\x10\x12\x0e\x0a\x01\x04\x2a\x03\x0a\x01\x01\x42\x01\x02\x4a\x01\x02\x00\x00\x00\x0b\x0a\x07OSMData\x18\x13\x0a\x11\x0a\x02\x0a\x00\x12\x0b\x12\x09\x0a\x01\x06\x42\x01\x02\x4a\x01\x02",
     )
 }
 
+/// Way 7 through the nodes 1, 2 and 3, and two of these.
+fn way_and_nodes() -> [Sketch<'static>; 3] {
+    [way(&[1, 2, 3]), node(1, 1), node(2, -1)]
+}
+
 #[test]
 fn way_7_and_nodes_1_and_2(rt: HostRuntime) -> Result<(), Fail> {
-    let way = way(rt.alloc(), &[1, 2, 3])?;
-    let first = node(rt.alloc(), 1, 1);
-    let second = node(rt.alloc(), 2, -1);
-    let entities = [
-        EntityRef::Way(way.view()),
-        EntityRef::Node(first.view()),
-        EntityRef::Node(second.view()),
-    ];
     let mut frames = Vec::from_slice(rt.alloc(), &WAY_OF_THREE_REFS[HEADER.len()..])?;
     frames.extend_from_slice(&NODES_1_AND_2)?;
-    packs(&rt, &entities, &frames)
+    packs(&rt, &way_and_nodes(), &frames)
 }
 
 #[test]
 fn other_kinds_and_scales_between_nodes(rt: HostRuntime) -> Result<(), Fail> {
-    let first = node(rt.alloc(), 1, 1);
-    let way = way(rt.alloc(), &[1])?;
-    let mut second = node(rt.alloc(), 2, 1);
-    second.scale.date_granularity = 1;
-    let third = node(rt.alloc(), 3, 1);
-    let entities = [
-        EntityRef::Node(first.view()),
-        EntityRef::Way(way.view()),
-        EntityRef::Node(third.view()),
-        EntityRef::Node(second.view()),
-        EntityRef::Node(third.view()),
-        EntityRef::Node(first.view()),
+    let scale = Scale {
+        date_granularity: 1,
+        ..SCALE
+    };
+    let second = Sketch {
+        scale,
+        ..node(2, 1)
+    };
+    let sketches = [
+        node(1, 1),
+        way(&[1]),
+        node(3, 1),
+        second,
+        node(3, 1),
+        node(1, 1),
     ];
-    let ids = packed_ids(&rt, 1_024, &entities)?;
-    assert_eq!(rt;
-        ids.as_slice(),
-        [1, 0, 7, 0, 3, 0, 2, 0, 3, 1, 0].as_slice()
-    );
+    let wanted = [1, 0, 7, 0, 3, 0, 2, 0, 3, 1, 0];
+    assert!(rt; have_ids(&rt, 1_024, &sketches, &wanted)?);
     Ok(())
 }
 
 #[test]
 fn nodes_8000_and_8001(rt: HostRuntime) -> Result<(), Fail> {
-    let node = node(rt.alloc(), 1, 1);
-    let mut entities = Vec::new(rt.alloc());
-    entities.resize(8_000, EntityRef::Node(node.view()))?;
+    let mut sketches = Vec::new(rt.alloc());
+    sketches.resize(8_000, node(1, 1))?;
     let mut wanted = Vec::new(rt.alloc());
     wanted.resize(8_000, 1)?;
     wanted.push(0)?;
-    assert_eq!(rt; packed_ids(&rt, 40_000, &entities)?, wanted);
-    entities.push(EntityRef::Node(node.view()))?;
+    assert!(rt; have_ids(&rt, 40_000, &sketches, &wanted)?);
+    sketches.push(node(1, 1))?;
     wanted.extend_from_slice(&[1, 0])?;
-    assert_eq!(rt; packed_ids(&rt, 40_000, &entities)?, wanted);
+    assert!(rt; have_ids(&rt, 40_000, &sketches, &wanted)?);
     Ok(())
 }
 
 /// The second relation weighs 12,000,000, as much as a block may.
 #[test]
 fn relation_of_the_greatest_weight(rt: HostRuntime) -> Result<(), Fail> {
-    let light = relation(rt.alloc(), 1, 0)?;
-    let heavy = relation(rt.alloc(), 2, 11_999_775)?;
-    assert_eq!(rt; heavy.view().weight(), 12_000_000);
-    let entities = [
-        EntityRef::Relation(light.view()),
-        EntityRef::Relation(heavy.view()),
-        EntityRef::Relation(light.view()),
-        EntityRef::Relation(light.view()),
-    ];
-    let ids = packed_ids(&rt, 12_001_000, &entities)?;
-    assert_eq!(rt; ids.as_slice(), [1, 0, 2, 0, 1, 1, 0].as_slice());
+    let mut value = Vec::new(rt.alloc());
+    value.resize(11_999_775, b'v')?;
+    let heavy = relation(2, &value);
+    assert!(rt; weighs(rt.alloc(), &heavy, 12_000_000)?);
+    let sketches = [relation(1, b""), heavy, relation(1, b""), relation(1, b"")];
+    assert!(rt; have_ids(&rt, 12_001_000, &sketches, &[1, 0, 2, 0, 1, 1, 0])?);
     Ok(())
 }
 
-/// A sink of any room takes the prefix that fits, and one that takes a byte a write takes all.
+/// Whether a sink of so much room takes the first bytes that fit, and then no more.
+fn takes_prefix(rt: &(impl Abort + AllocGlobal), room: usize, whole: &[u8]) -> Result<bool, Stop> {
+    let (outcome, sink) = packed(rt, Sink::new(rt.alloc(), room, 0)?, &way_and_nodes());
+    Ok(outcome == Err(Stop::Write) && Some(sink.bytes()) == whole.get(..room))
+}
+
+/// Whether a sink that takes a byte a write takes all.
+fn takes_all(rt: &(impl Abort + AllocGlobal), whole: &[u8]) -> Result<bool, Stop> {
+    let (outcome, sink) = packed(rt, Sink::new(rt.alloc(), 200, 1)?, &way_and_nodes());
+    Ok(outcome == Ok(()) && sink.bytes() == whole)
+}
+
 #[test]
 fn write_fails_after_each_byte(rt: HostRuntime) -> Result<(), Fail> {
-    let way = way(rt.alloc(), &[1, 2, 3])?;
-    let first = node(rt.alloc(), 1, 1);
-    let second = node(rt.alloc(), 2, -1);
-    let entities = [
-        EntityRef::Way(way.view()),
-        EntityRef::Node(first.view()),
-        EntityRef::Node(second.view()),
-    ];
     let mut whole = Vec::from_slice(rt.alloc(), &WAY_OF_THREE_REFS)?;
     whole.extend_from_slice(&NODES_1_AND_2)?;
     for room in 0..whole.len() {
-        let (outcome, sink) = packed(&rt, Sink::new(rt.alloc(), room, 0)?, &entities);
-        assert_eq!(rt; outcome, Err(Stop::Write));
-        assert_eq!(rt; sink.bytes(), &whole[..room]);
+        assert!(rt; takes_prefix(&rt, room, &whole)?);
     }
-    let (outcome, byte_by_byte) = packed(&rt, Sink::new(rt.alloc(), 200, 1)?, &entities);
-    assert_eq!(rt; outcome, Ok(()));
-    assert_eq!(rt; byte_by_byte.bytes(), whole.as_slice());
+    assert!(rt; takes_all(&rt, &whole)?);
     Ok(())
 }
 
 /// Whichever request for memory is refused: what went out is a prefix, and the answer is no other than that.
 #[test]
 fn memory_refused(rt: HostRuntime) {
-    let Ok(way) = way(rt.alloc(), &[1, 2, 3]) else {
-        return;
-    };
     let Ok(sink) = Sink::new(rt.alloc(), 200, 0) else {
         return;
     };
-    let (outcome, sink) = packed(&rt, sink, &[EntityRef::Way(way.view())]);
+    let (outcome, sink) = packed(&rt, sink, &[way(&[1, 2, 3])]);
     match outcome {
         Ok(()) => assert_eq!(rt; sink.bytes(), WAY_OF_THREE_REFS.as_slice()),
         Err(stop) => assert_eq!(rt; stop, Stop::Memory),
