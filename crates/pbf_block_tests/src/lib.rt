@@ -3,7 +3,3 @@
 
 #[cfg(test)]
 mod block_tests;
-#[cfg(test)]
-mod entity_tests;
-#[cfg(test)]
-mod write_tests;

@@ -12,3 +12,4 @@ pub mod Relations
 pub mod Extracts
 pub mod Written
 pub mod Shown
+pub mod InFull
