@@ -1,8 +1,8 @@
 -- All at once: a block that spells each of its entities oddly, and a way and a relation that have all
 -- that they may have.
-use Rattle.std.specs.Prelude.{◌≡◌, ℕ, ℤ, List, [], ◌∷◌, ◌++◌, pos, Some, None, true, false, codes, map}
+use Rattle.std.specs.Prelude.{◌≡◌, ℕ, ℤ, List, [], ◌∷◌, ◌++◌, pos, Some, Bool, true, false, codes, map}
 use Rattle.osm_entity.specs.declared.member.MemberKind.TheVariants as kind
-use Rattle.osm_entity.specs.Entity.{Decoded, MetaSpec, MemberSpec, node_at, way_through, relation_among}
+use Rattle.osm_entity.specs.Entity.{MetaSpec, MemberSpec, node_at, way_through, relation_among}
 use Rattle.osm_entity.specs.Weight.{entity_weight}
 use Rattle.pbfcut.specs.Kept.{entities_in_file}
 use Rattle.pbf_examples.specs.Hex.{hex}
@@ -133,7 +133,43 @@ full_relation =
     ++ field "12" (field "22" (hex "08 08  12 01 01  1a 01 02  22 02 30 01"
     ++ hex "42 03 03 04 03  4a 03 02 01 0a  52 03 00 01 02")))
 
+-- node 1, which is deleted, of version -1, and node 2, which is visible and has a tag
+abbrev pub full_nodes : List ℕ
+full_nodes =
+    converted_header
+    ++ data_frame (field "0a" (hex "0a 00  0a 01 6b")
+    ++ field "12" (field "12" (hex "0a 02 02 02"
+    ++ field "2a" (hex "0a 0b ff ff ff ff ff ff ff ff ff 01 01" ++ hex "1a 02 08 01  22 02 03 0e  32 02 00 01")
+    ++ hex "42 02 01 01  4a 02 00 00  52 04 00 01 01 00")))
+
+abbrev pub of_version : ℤ → ℕ → ℤ → Bool → MetaSpec
+of_version version changeset uid visible =
+    record bare {
+      version = Some version;
+      changeset = Some (pos changeset);
+      uid = Some uid;
+      visible = Some visible;
+    }
+
+-- ids as far apart as they can be: 1 - 2^62, and 2^62 - 1
+abbrev pub widest_ids : List ℕ
+widest_ids =
+    converted_header
+    ++ data_frame (one_text
+    ++ field "12" (field "12" (hex "0a 13  fd ff ff ff ff ff ff ff 7f  fc ff ff ff ff ff ff ff ff 01"
+    ++ hex "42 02 00 00  4a 02 00 00")))
+
 pub record WrittenInFull : Type 0 where
+  pub nodes_mean :
+      full_nodes
+      means node_at (pos 1) (minus 100) (pos 0) (of_version (minus 1) 4 (minus 2) false) []
+      ∷ node_at (pos 2) (minus 200) (pos 0) (of_version (pos 1) 3 (pos 5) true) (tag "k" "k" ∷ []) ∷ []
+  pub nodes_again : full_nodes converts_to full_nodes
+  pub widest_mean :
+      widest_ids
+      means node (minus 4_611_686_018_427_387_903) (pos 0) (pos 0) []
+      ∷ node (pos 4_611_686_018_427_387_903) (pos 0) (pos 0) [] ∷ []
+  pub widest_again : widest_ids converts_to widest_ids
   pub way_means :
       full_way
       means way_through (minus 1) of_u (tag "a" "a" ∷ tag "a" "a" ∷ tag "" "a" ∷ [])
