@@ -17,6 +17,9 @@ CALLS = {
     "extract": "extracting", "extract_with_receipt": "extracting", "extract_parents": "extracting", "convert": "converting",
     "show": "showing", "check": "checking", "list_blobs": "blobs",
 }
+# The calls with a clause of this name, which says what the answer means, and what is refused.
+PROMISE = "promise"
+PROMISED = ("extract", "extract_parents", "convert")
 MODIFIERS = ("abbrev", "unfoldable", "pub", "record")
 
 
@@ -67,6 +70,7 @@ class Definition:
     def __init__(self, module: str, name: str, comment: str):
         self.module, self.name, self.comment, self.lines = module, name, comment, []
         self.under = set()  # the calls whose contracts it is under
+        self.promised = set()  # the calls whose promise it is under
         self.laws = set()  # the laws that name it
 
     @property
@@ -134,11 +138,11 @@ class Sources:
         return found
 
 
-def contract(crate: str, file: str, call: str) -> set:
-    """The definitions that the contract of a function names."""
+def contract(crate: str, file: str, call: str, clause: str = "") -> set:
+    """The definitions that the contract of a function names, or its clause of this name."""
     text = read("crates", crate, "src", file + ".rt")
     found = re.search(rf"^pub fn {call}\b.*?^\{{", text, re.M | re.S)
-    clauses = re.findall(r"^    (?:requires|ensures) .*?\}$", found[0], re.M | re.S)
+    clauses = re.findall(rf"^    (?:requires|ensures) {clause}.*?\}}$", found[0], re.M | re.S)
     return Scope(text.splitlines()).found_in("\n".join(clauses))
 
 
@@ -166,19 +170,26 @@ def crate_part(crate: str, found: list):
             file = module.split(".")[-1]
             yield f"\n**[{file}](../crates/{crate}/specs/{file}.antt)**\n\n| Definition | In words | Under | Laws |\n|---|---|---|---|"
         says = definition.comment.replace("|", "\\|")
-        name = definition.name.replace("|", "\\|")
+        name = f"`{definition.name}`".replace("|", "\\|")
+        name = f"**{name}**" if definition.promised else name
         named = ", ".join(f"`{law.split('::')[-1]}`" for law in sorted(definition.laws))
-        yield f"| `{name}` | {says} | {marks(definition)} | {named} |"
+        yield f"| {name} | {says} | {marks(definition)} | {named} |"
 
 
 def counts_part(sources: Sources, found: list):
-    yield "| Call | Definitions | Lines | " + " | ".join(sources_used(sources, found)) + " |"
-    yield "|---|---|---|" + "---|" * len(sources_used(sources, found))
+    crates = sources_used(sources, found)
+    yield "| Call | Definitions | Lines | " + " | ".join(crates) + " |"
+    yield "|---|---|---|" + "---|" * len(crates)
     for call in CALLS:
-        under = [definition for definition in found if call in definition.under]
-        by_crate = [sum(definition.crate == crate for definition in under) for crate in sources_used(sources, found)]
-        cells = [len(under), sum(definition.size for definition in under), *by_crate]
-        yield f"| [`{call}`](../crates/pbfcut/src/{CALLS[call]}.rt) | " + " | ".join(map(str, cells)) + " |"
+        link = f"[`{call}`](../crates/pbfcut/src/{CALLS[call]}.rt)"
+        if call in PROMISED:
+            yield counts_row(f"{link}: `{PROMISE}`", [definition for definition in found if call in definition.promised], crates)
+        yield counts_row(link, [definition for definition in found if call in definition.under], crates)
+
+
+def counts_row(title: str, under: list, crates: list) -> str:
+    by_crate = [sum(definition.crate == crate for definition in under) for crate in crates]
+    return f"| {title} | " + " | ".join(map(str, [len(under), sum(definition.size for definition in under), *by_crate])) + " |"
 
 
 def sources_used(sources: Sources, found: list) -> list:
@@ -205,6 +216,10 @@ def page() -> str:
                 sources.all[place].under.add(call)
             elif place[0].split(".")[0] not in sources.crates:
                 foreign.add(place)
+    for call in PROMISED:
+        for place in sources.closure(contract("pbfcut", CALLS[call], call, PROMISE)):
+            if place in sources.all:
+                sources.all[place].promised.add(call)
     laws(sources)
     found = [definition for definition in sources.all.values() if definition.under]
     lines = [INTRODUCTION, *counts_part(sources, found)]
@@ -223,6 +238,9 @@ of the sources, and the gate compares it. What each clause says in words is in [
 `Laws` names the laws (functions in `src/laws.rt`) whose contract speaks of the definition: there it is held to a second one, as
 reading to writing. [The examples](../crates/pbf_examples/README.md) hold the definitions to files that are spelled out. Types of the code (structs
 and enums) are not listed, nor are `Feed` and `Drain` of [device](../crates/pbf_frame/src/device.rt), whose contracts say what a device is.
+
+Begin with [Theorem](../crates/pbfcut/specs/Theorem.antt). The clause `promise` of a call says what the answer means, and what is refused; what stands
+under one is printed bold. The rest says how the answer is written, why a call stops, and what went through devices that report nothing.
 """
 
 

@@ -15,13 +15,13 @@ use Rattle.pbf_frame.proofs.Parting.{none_some}
 use Rattle.pbf_block.specs.declared.counts.Counts.{Counts}
 use Rattle.pbfcut.specs.declared.pass.Pass.{Pass}
 use Rattle.pbfcut.specs.declared.pick.Selection.TheVariants as selection
-use Rattle.pbfcut.specs.Theorem.{Converted, IsConversion}
+use Rattle.pbfcut.specs.Theorem.{IsConverted}
 use Rattle.pbfcut.specs.Converting.{header_limit, with_limit, limited, judged_writable, held_header, answer_bytes, conversion, CanBeWritten}
 use Rattle.pbfcut.specs.Counting.{counts_of, stored_entities}
 use Rattle.pbfcut.specs.Judged.{judged_file}
 use Rattle.pbfcut.specs.Kept.{verdict_on, conversion_of, IsWritable}
 use Rattle.pbfcut.proofs.GivenLemmas.{Tells}
-use Rattle.pbfcut.proofs.KeptLaw.{same_verdict, conversion_kept}
+use Rattle.pbfcut.proofs.KeptLaw.{IsKept, same_verdict, conversion_kept}
 use Rattle.pbfcut.specs.Pick.{everything, pick_of, Packed, PacksFront}
 use Rattle.pbfcut.specs.Stops.{FaultOf}
 use Rattle.pbfcut.specs.Pass.{HoldsHeader, TakesFile, file_header}
@@ -108,19 +108,21 @@ answer_is : (frames : List FrameSpec) (at : ℕ) (h : HeaderSpec) → file_heade
 answer_is frames at h e = ap (λ (l : List EntitySpec). written_file h l) (everything_picked (stored_entities frames)) ∙ ap (λ (o : Option (ℕ × HeaderSpec)). conversion o (stored_entities frames)) (sym e)
 
 pub converted : (b : List ℕ) (pass : Pass) (h : HeaderSpec) (counts : Counts) (known : Option Verdict) (written : List ℕ) → known ≡ judged_file (Some b) → Passed b pass h → Packed (pick_of selection.Everything) h counts known written
-    → Converted b counts written
+    → IsConverted b counts written
 converted b pass h counts known written is p went =
     let same = same_frames b p.frames went.frames p.judged (known_says b (went.frames, None) (subst (λ (k : Option Verdict). Says k (went.frames, None)) is went.says)) in
     let all = ap stored_entities same in
     let verdict = same_verdict b p.frames p.writable in
     let sound = ap (λ (v : Verdict). v.1) verdict in
     let whole = went.is ∙ (ap (λ (l : List EntitySpec). written_file h (filter (pick_of selection.Everything) l)) all ∙ (answer_is p.frames pass.header_at h p.header ∙ ap answer_bytes (sym verdict))) in
-    record {
-      sound = sound;
-      is = whole;
-      counted = went.counted ∙ ap (λ (l : List EntitySpec). counts_of l) (everything_picked (stored_entities went.frames) ∙ (all ∙ ap (λ (v : Verdict). stored_entities v.0) (sym verdict)));
-      kept = subst (λ (l : List ℕ). length l ≤ 2 ^ 62 → IsConversion b l) (sym whole) (λ small. conversion_kept b sound small);
-    }
+    let kept = subst (λ (l : List ℕ). length l ≤ 2 ^ 62 → IsKept b l) (sym whole) (λ small. conversion_kept b sound small) in (
+      record {
+        sound = sound;
+        conversion = λ small. (kept small).conversion;
+        counted = went.counted ∙ ap (λ (l : List EntitySpec). counts_of l) (everything_picked (stored_entities went.frames) ∙ (all ∙ ap (λ (v : Verdict). stored_entities v.0) (sym verdict)));
+      },
+      record { is = whole; again = λ small. (kept small).again },
+    )
 
 -- what the first pass says of its file
 pub passed_sound : (b : List ℕ) (pass : Pass) (h : HeaderSpec) → Passed b pass h → IsWritable b

@@ -33,11 +33,11 @@ use Rattle.pbfcut.specs.declared.pick.Selection.TheVariants as selection
 use Rattle.pbfcut.specs.Converting.{header_limit, judged_writable, held_header}
 use Rattle.pbfcut.specs.Counting.{counts_of, stored_entities}
 use Rattle.pbfcut.specs.Calls.{Differ, ChangedIn, ChangedBefore, RefusedFirst, ConvertStops, ExtractStops, ParentsStops}
-use Rattle.pbfcut.specs.Theorem.{Extracted, IsExtract}
+use Rattle.pbfcut.specs.Theorem.{IsExtraction}
 use Rattle.pbfcut.specs.Extracting.{Choice, complete_ways, all_parents, extraction, extract_bytes, Chooses, ChoosesParents}
 use Rattle.pbfcut.specs.Kept.{verdict_on, extract_of, IsWritable}
 use Rattle.pbfcut.proofs.GivenLemmas.{IsDigest}
-use Rattle.pbfcut.proofs.KeptLaw.{IsSelection, same_verdict, extract_kept}
+use Rattle.pbfcut.proofs.KeptLaw.{IsSelection, IsKeptExtract, same_verdict, extract_kept}
 use Rattle.pbfcut.specs.Pass.{with_node, with_way, with_relation, TakesFile, file_header}
 use Rattle.pbfcut.specs.declared.repeat.Repeat.{Repeat}
 use Rattle.pbfcut.specs.Repeat.{GathersAgain, Unlike, StopsAgain, SameDigest}
@@ -124,17 +124,19 @@ module _ (choose : Choice) (select : List Decoded → List Decoded) (selection :
   answer : written_file h (filter pick (stored_entities s.frames)) ≡ extract_of choose area b
   answer = ap (λ (l : List EntitySpec). written_file h l) s.picked ∙ (sym s.bytes ∙ ap (λ (v : Verdict). extract_bytes choose area v) (sym verdict))
 
-  pub extracted : (counts : Counts) (known : Option Verdict) (written : List ℕ) → known ≡ judged_file (Some b) → Packed pick h counts known written → Extracted choose select area b counts written
+  pub extracted : (counts : Counts) (known : Option Verdict) (written : List ℕ) → known ≡ judged_file (Some b) → Packed pick h counts known written → IsExtraction choose select area b counts written
   extracted counts known written is went =
       let same = same_frames b s.frames went.frames s.judged (known_says b (went.frames, None) (subst (λ (k : Option Verdict). Says k (went.frames, None)) is went.says)) in
       let sound = ap (λ (v : Verdict). v.1) verdict in
       let whole = went.is ∙ (ap (λ (l : List FrameSpec). written_file h (filter pick (stored_entities l))) same ∙ answer) in
-      record {
-        sound = sound;
-        is = whole;
-        counted = went.counted ∙ ap (λ (l : List EntitySpec). counts_of l) (ap (λ (l : List FrameSpec). filter pick (stored_entities l)) same ∙ (s.picked ∙ ap (λ (v : Verdict). choose (stored_entities v.0)) (sym verdict)));
-        kept = subst (λ (l : List ℕ). length l ≤ 2 ^ 62 → IsExtract choose select area b l) (sym whole) (λ small. extract_kept choose select selection area edges b sound small);
-      }
+      let kept = subst (λ (l : List ℕ). length l ≤ 2 ^ 62 → IsKeptExtract choose select selection area edges b l) (sym whole) (λ small. extract_kept choose select selection area edges b sound small) in (
+        record {
+          sound = sound;
+          extract = λ small. (kept small).extract;
+          counted = went.counted ∙ ap (λ (l : List EntitySpec). counts_of l) (ap (λ (l : List FrameSpec). filter pick (stored_entities l)) same ∙ (s.picked ∙ ap (λ (v : Verdict). choose (stored_entities v.0)) (sym verdict)));
+        },
+        record { is = whole; again = λ small. (kept small).again },
+      )
 
   pub extracts_front : (known : Option Verdict) (old new : Option (List ℕ)) → known ≡ judged_file (Some b) → PacksFront pick h known old new → IsFront old new (extract_of choose area b)
   extracts_front known old new is front = subst (λ (l : List ℕ). IsFront old new l) answer (front (s.frames, None) (is ∙ s.judged))

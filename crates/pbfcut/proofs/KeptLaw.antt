@@ -187,23 +187,30 @@ same_verdict file frames is = ap (λ (o : Option Verdict). unwrap_or o (frames, 
 written_for_out : (h : HeaderSpec) (es : List EntitySpec) → written_file (header_out_for_convert h) es ≡ written_file h es
 written_for_out h es = ap (λ (g : HeaderSpec). written_frame kind.Header (header_message g) ++ written_entities es) (header_again h.bbox h.bbox h)
 
-conversion_written : (file : List ℕ) (h : HeaderSpec) (es : List EntitySpec) → IsFileOf file h es → CanWrite h es → length (written_file h es) ≤ 2 ^ 62 → IsConversion file (written_file h es)
+-- it means the same, and its conversion is the same bytes
+pub record IsKept (file written : List ℕ) : Type 0 where
+  pub conversion : IsConversion file written
+  pub again : conversion_of written ≡ written
+
+conversion_written : (file : List ℕ) (h : HeaderSpec) (es : List EntitySpec) → IsFileOf file h es → CanWrite h es → length (written_file h es) ≤ 2 ^ 62 → IsKept file (written_file h es)
 conversion_written file h es is can small =
     let again = is_again h es can small in
     let out = header_out_for_convert h in
     let written = written_file h es in
     record {
-      sound = is_sound written out es again;
-      header = header_is written out es again ∙ sym (ap (λ (o : Option HeaderSpec). option_map header_out_for_convert o) (header_is file h es is));
-      entities = entities_are written out es again ∙ sym (entities_are file h es is);
-      same = converted_is written out es again ∙ written_for_out h es;
+      conversion = record {
+        sound = is_sound written out es again;
+        header = header_is written out es again ∙ sym (ap (λ (o : Option HeaderSpec). option_map header_out_for_convert o) (header_is file h es is));
+        entities = entities_are written out es again ∙ sym (entities_are file h es is);
+      };
+      again = converted_is written out es again ∙ written_for_out h es;
     }
 
-pub conversion_kept : (file : List ℕ) → IsWritable file → length (conversion_of file) ≤ 2 ^ 62 → IsConversion file (conversion_of file)
+pub conversion_kept : (file : List ℕ) → IsWritable file → length (conversion_of file) ≤ 2 ^ 62 → IsKept file (conversion_of file)
 conversion_kept file sound small =
     let r = readable file sound in
     let e = converted_is file r.header r.entities r.is in
-    subst (λ (w : List ℕ). IsConversion file w) (sym e) (conversion_written file r.header r.entities r.is r.can (subst (λ (w : List ℕ). length w ≤ 2 ^ 62) e small))
+    subst (λ (w : List ℕ). IsKept file w) (sym e) (conversion_written file r.header r.entities r.is r.can (subst (λ (w : List ℕ). length w ≤ 2 ^ 62) e small))
 
 -- ---- an extract
 
@@ -215,6 +222,11 @@ pub record IsSelection (choose : Choice) (select : List Decoded → List Decoded
   pub meaning : (es : List EntitySpec) → map entity.decoded (choose es) ≡ select (map entity.decoded es)
 
 module _ (choose : Choice) (select : List Decoded → List Decoded) (selection : IsSelection choose select) (area : BoundingBox) (edges : EdgesTyped (edges_of area)) where
+  -- it means what is selected, and its extract is the same bytes
+  pub record IsKeptExtract (file written : List ℕ) : Type 0 where
+    pub extract : IsExtract choose select area file written
+    pub again : extract_of choose area written ≡ written
+
   can_extract : (h : HeaderSpec) (es : List EntitySpec) → CanWrite h es → CanWrite (header_out_for_box area h) (choose es)
   can_extract h es can = record {
     fits = out_fits (Some (edges_of area)) (header_out_for_box area h) edges can.fits.timestamp can.fits.sequence;
@@ -224,7 +236,7 @@ module _ (choose : Choice) (select : List Decoded → List Decoded) (selection :
   }
 
   extract_written : (file : List ℕ) (h : HeaderSpec) (es : List EntitySpec) → IsFileOf file h es → CanWrite h es → length (written_file (header_out_for_box area h) (choose es)) ≤ 2 ^ 62
-      → IsExtract choose select area file (written_file (header_out_for_box area h) (choose es))
+      → IsKeptExtract file (written_file (header_out_for_box area h) (choose es))
   extract_written file h es is can small =
       let out = header_out_for_box area h in
       let kept = choose es in
@@ -233,18 +245,20 @@ module _ (choose : Choice) (select : List Decoded → List Decoded) (selection :
       let again = subst (λ (g : HeaderSpec). IsFileOf written g kept) once (is_again out kept (can_extract h es can) small) in
       let entities = entities_are written out kept again ∙ ap choose (sym (entities_are file h es is)) in
       record {
-        sound = is_sound written out kept again;
-        header = header_is written out kept again ∙ sym (ap (λ (o : Option HeaderSpec). option_map (header_out_for_box area) o) (header_is file h es is));
-        entities = entities;
-        meaning = ap (λ (l : List EntitySpec). map entity.decoded l) entities ∙ selection.meaning (entities_in_file file);
-        same = extracted_is written out kept again choose area ∙ (ap (λ (g : HeaderSpec). written_file g (choose kept)) once ∙ ap (λ (l : List EntitySpec). written_file out l) (selection.twice es));
+        extract = record {
+          sound = is_sound written out kept again;
+          header = header_is written out kept again ∙ sym (ap (λ (o : Option HeaderSpec). option_map (header_out_for_box area) o) (header_is file h es is));
+          meaning = ap (λ (l : List EntitySpec). map entity.decoded l) entities ∙ selection.meaning (entities_in_file file);
+          entities = entities;
+        };
+        again = extracted_is written out kept again choose area ∙ (ap (λ (g : HeaderSpec). written_file g (choose kept)) once ∙ ap (λ (l : List EntitySpec). written_file out l) (selection.twice es));
       }
 
-  pub extract_kept : (file : List ℕ) → IsWritable file → length (extract_of choose area file) ≤ 2 ^ 62 → IsExtract choose select area file (extract_of choose area file)
+  pub extract_kept : (file : List ℕ) → IsWritable file → length (extract_of choose area file) ≤ 2 ^ 62 → IsKeptExtract file (extract_of choose area file)
   extract_kept file sound small =
       let r = readable file sound in
       let e = extracted_is file r.header r.entities r.is choose area in
-      subst (λ (w : List ℕ). IsExtract choose select area file w) (sym e) (extract_written file r.header r.entities r.is r.can (subst (λ (w : List ℕ). length w ≤ 2 ^ 62) e small))
+      subst (λ (w : List ℕ). IsKeptExtract file w) (sym e) (extract_written file r.header r.entities r.is r.can (subst (λ (w : List ℕ). length w ≤ 2 ^ 62) e small))
 
 -- ---- the complete ways, without and with all parents
 

@@ -3,7 +3,7 @@
 ghost use Rattle.std.specs.Prelude.{◌≡◌, ◌⊎◌, ℕ, List, IfOk, IfErr, OnOk, OnErr};
 ghost use Rattle.pbf_frame.specs.Devices.{IsFront};
 ghost use Rattle.pbfcut.specs.Calls.{BothSupply, ConvertStops};
-ghost use Rattle.pbfcut.specs.Theorem.{Converted};
+ghost use Rattle.pbfcut.specs.Theorem.{Converted, IsConverted, Promised, Canonical};
 ghost use Rattle.pbfcut.specs.Converting.{CanBeWritten, judged_writable};
 ghost use Rattle.pbfcut.specs.Given.{GaveFile, Took, TookFile};
 ghost use Rattle.pbfcut.specs.Kept.{IsWritable, conversion_of};
@@ -40,11 +40,13 @@ pub fn convert<F: Feed, G: Feed, D: Drain, S: BuildHasher + Drop>(
 ) -> Result<Counts, Stop>
     // The first file has no fault, and its header can be written.
     ensures judged { OnOk result (CanBeWritten (judged_writable (F.remaining first.old))) }
-    // Where both feeds supply these bytes, the drain took exactly their conversion: a file that is read as the same entities. The
-    // counts are theirs.
-    ensures converted { IfOk result (λ counts. (b : List ℕ)
-        → BothSupply b (F.remaining first.old) (G.remaining second.old)
-        → Took D.Drain drain.old drain.new (Converted b counts)) }
+    // Where both feeds supply these bytes, the drain took bytes that decode to exactly what they do, or they are refused for their
+    // first fault, with nothing written.
+    ensures promise { (b : List ℕ) → BothSupply b (F.remaining first.old) (G.remaining second.old)
+        → Promised D.Drain drain.old drain.new b (Converted b) result }
+    // What the drain took is a beginning of the conversion in canonical form, whatever stopped it, and all of it on success.
+    ensures canonical { (b : List ℕ) → BothSupply b (F.remaining first.old) (G.remaining second.old)
+        → Canonical D.Drain drain.old drain.new conversion_of b result }
     // No files that differ, unless two unlike lists share a digest.
     ensures digests { OnOk result (SameDigest (F.remaining first.old) (G.remaining second.old)) }
     // Each stop has its cause; what is refused is the first file, by its first fault, and then the drain took nothing.
@@ -52,10 +54,6 @@ pub fn convert<F: Feed, G: Feed, D: Drain, S: BuildHasher + Drop>(
         (D.taken drain.old) (D.taken drain.new)
         (ReadFailed F.Feed first.old first.new ⊎ ReadFailed G.Feed second.old second.new)
         (WriteFailed D.Drain drain.old drain.new)) }
-    // Whatever stopped it, where both feeds supply these bytes a prefix of their conversion went out, and nothing where they have a fault.
-    ensures beginning { OnErr result ((b : List ℕ)
-        → BothSupply b (F.remaining first.old) (G.remaining second.old)
-        → IsFront (D.taken drain.old) (D.taken drain.new) (conversion_of b)) }
 {
     Ok(convert_file(alloc, first, second, drain, hasher)?.counts)
 }
@@ -74,7 +72,7 @@ pub fn convert_with_receipt<F: Feed, G: Feed, D: Drain, S: BuildHasher + Drop>(
         (λ b. IsWritable b
         × GaveFile G.Feed second.old second.new receipt.input
         (λ c. TookFile D.Drain drain.old drain.new receipt.output
-        (λ written. b ≡ c → Converted b receipt.counts written)))) }
+        (λ written. b ≡ c → IsConverted b receipt.counts written)))) }
     // The first feed gave as many bytes of this digest, the fault is the first of whatever begins so, and the drain took nothing.
     ensures refused { IfErr result (HaltsFile F.Feed first.old first.new
         D.Drain drain.old drain.new (λ b. judged_writable (Some b))) }
@@ -111,7 +109,7 @@ fn convert_file<F: Feed, G: Feed, D: Drain, S: BuildHasher + Drop>(
     ensures given { IfOk result (λ receipt. GaveFile F.Feed first.old first.new receipt.input
         (λ b. IsWritable b
         × GaveFile G.Feed second.old second.new receipt.input (λ c. Took D.Drain drain.old drain.new
-        (λ written. b ≡ c → Converted b receipt.counts written)))) }
+        (λ written. b ≡ c → IsConverted b receipt.counts written)))) }
     ensures refused { IfErr result (HaltsFile F.Feed first.old first.new
         D.Drain drain.old drain.new (λ b. judged_writable (Some b))) }
     ensures stops { IfErr result (λ h. ConvertStops (F.remaining first.old) (G.remaining second.old)

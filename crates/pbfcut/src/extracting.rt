@@ -7,7 +7,7 @@ ghost use Rattle.osm_ways.specs.Selection.{extract};
 ghost use Rattle.pbf_header.specs.Header.{header_of};
 ghost use Rattle.pbf_frame.specs.Devices.{IsFront};
 ghost use Rattle.pbfcut.specs.Calls.{AllSupply, FourSupply, ExtractStops, ParentsStops, ChangedIn};
-ghost use Rattle.pbfcut.specs.Theorem.{Extracted};
+ghost use Rattle.pbfcut.specs.Theorem.{Extracted, IsExtraction, Promised, Canonical};
 ghost use Rattle.pbfcut.specs.Converting.{CanBeWritten, judged_writable};
 ghost use Rattle.pbfcut.specs.Extracting.{complete_ways, all_parents, IsChoice, IsChoiceWithParents};
 ghost use Rattle.pbfcut.specs.Given.{GaveFile, Took, TookFile};
@@ -103,12 +103,16 @@ pub fn extract<F: Feed, G: Feed, H: Feed, D: Drain, S: BuildHasher + Drop>(
 ) -> Result<Counts, Stop>
     // The first file has no fault, and its header can be written.
     ensures judged { OnOk result (CanBeWritten (judged_writable (F.remaining first.old))) }
-    // Where all feeds supply these bytes, the drain took exactly the complete-ways extract of the decoded bytes, in input order and
-    // in canonical form, after the header of the box; the counts are those of its entities.
-    ensures extracted { IfOk result (λ counts. (b : List ℕ)
+    // Where all feeds supply these bytes, the drain took bytes that decode to exactly the complete-ways extract of what they decode
+    // to, in input order, or they are refused for their first fault, with nothing written.
+    ensures promise { (b : List ℕ)
         → AllSupply b (F.remaining first.old) (G.remaining second.old) (H.remaining third.old)
-        → Took D.Drain drain.old drain.new
-        (Extracted (complete_ways area) (extract (seen_decoded area)) area b counts)) }
+        → Promised D.Drain drain.old drain.new b
+        (Extracted (complete_ways area) (extract (seen_decoded area)) area b) result }
+    // What the drain took is a beginning of the extract in canonical form, whatever stopped it, and all of it on success.
+    ensures canonical { (b : List ℕ)
+        → AllSupply b (F.remaining first.old) (G.remaining second.old) (H.remaining third.old)
+        → Canonical D.Drain drain.old drain.new (extract_of (complete_ways area) area) b result }
     // No files that differ, unless two unlike lists share a digest.
     ensures digests { OnOk result (SameDigest (F.remaining first.old) (G.remaining second.old)
         × SameDigest (F.remaining first.old) (H.remaining third.old)) }
@@ -118,11 +122,6 @@ pub fn extract<F: Feed, G: Feed, H: Feed, D: Drain, S: BuildHasher + Drop>(
         (ReadFailed F.Feed first.old first.new
         ⊎ (ReadFailed G.Feed second.old second.new ⊎ ReadFailed H.Feed third.old third.new))
         (WriteFailed D.Drain drain.old drain.new)) }
-    // Whatever stopped it, where all feeds supply these bytes a prefix of the answer went out, and nothing where they have a fault.
-    ensures beginning { OnErr result ((b : List ℕ)
-        → AllSupply b (F.remaining first.old) (G.remaining second.old) (H.remaining third.old)
-        → IsFront (D.taken drain.old) (D.taken drain.new)
-        (extract_of (complete_ways area) area b)) }
 {
     Ok(extract_file(alloc, first, second, third, area, drain, hasher)?.counts)
 }
@@ -145,7 +144,7 @@ pub fn extract_with_receipt<F: Feed, G: Feed, H: Feed, D: Drain, S: BuildHasher 
         × GaveFile G.Feed second.old second.new receipt.input
         (λ c. GaveFile H.Feed third.old third.new receipt.input (λ d.
         TookFile D.Drain drain.old drain.new receipt.output
-        (λ written. b ≡ c → b ≡ d → Extracted (complete_ways area) (extract (seen_decoded area))
+        (λ written. b ≡ c → b ≡ d → IsExtraction (complete_ways area) (extract (seen_decoded area))
         area b receipt.counts written))))) }
     // The first feed gave as many bytes of this digest, the fault is the first of whatever begins so, and the drain took nothing.
     ensures refused { IfErr result (HaltsFile F.Feed first.old first.new
@@ -189,7 +188,7 @@ fn extract_file<F: Feed, G: Feed, H: Feed, D: Drain, S: BuildHasher + Drop>(
         × GaveFile G.Feed second.old second.new receipt.input
         (λ c. GaveFile H.Feed third.old third.new receipt.input (λ d.
         Took D.Drain drain.old drain.new
-        (λ written. b ≡ c → b ≡ d → Extracted (complete_ways area) (extract (seen_decoded area))
+        (λ written. b ≡ c → b ≡ d → IsExtraction (complete_ways area) (extract (seen_decoded area))
         area b receipt.counts written))))) }
     ensures refused { IfErr result (HaltsFile F.Feed first.old first.new
         D.Drain drain.old drain.new (λ b. judged_writable (Some b))) }
@@ -269,13 +268,18 @@ pub fn extract_parents<F: Feed, G: Feed, H: Feed, I: Feed, D: Drain, S: BuildHas
 ) -> Result<Counts, Stop>
     // The first file has no fault, and its header can be written.
     ensures judged { OnOk result (CanBeWritten (judged_writable (F.remaining first.old))) }
-    // Where all feeds supply these bytes, the drain took exactly the complete-ways extract with all parents of the decoded bytes, in
-    // input order and in canonical form, after the header of the box; the counts are those of its entities.
-    ensures extracted { IfOk result (λ counts. (b : List ℕ)
+    // Where all feeds supply these bytes, the drain took bytes that decode to exactly the complete-ways extract with all parents of
+    // what they decode to, in input order, or they are refused for their first fault, with nothing written.
+    ensures promise { (b : List ℕ)
         → FourSupply b (F.remaining first.old) (G.remaining second.old) (H.remaining third.old)
         (I.remaining fourth.old)
-        → Took D.Drain drain.old drain.new
-        (Extracted (all_parents area) (extract_with_parents (seen_decoded area)) area b counts)) }
+        → Promised D.Drain drain.old drain.new b
+        (Extracted (all_parents area) (extract_with_parents (seen_decoded area)) area b) result }
+    // What the drain took is a beginning of the extract in canonical form, whatever stopped it, and all of it on success.
+    ensures canonical { (b : List ℕ)
+        → FourSupply b (F.remaining first.old) (G.remaining second.old) (H.remaining third.old)
+        (I.remaining fourth.old)
+        → Canonical D.Drain drain.old drain.new (extract_of (all_parents area) area) b result }
     // No files that differ, unless two unlike lists share a digest.
     ensures digests { OnOk result (SameDigest (F.remaining first.old) (G.remaining second.old)
         × SameDigest (F.remaining first.old) (H.remaining third.old)
@@ -287,11 +291,6 @@ pub fn extract_parents<F: Feed, G: Feed, H: Feed, I: Feed, D: Drain, S: BuildHas
         ⊎ (ReadFailed G.Feed second.old second.new ⊎ ReadFailed H.Feed third.old third.new))
         ⊎ ReadFailed I.Feed fourth.old fourth.new)
         (WriteFailed D.Drain drain.old drain.new)) }
-    // Whatever stopped it, where all feeds supply these bytes a prefix of the answer went out, and nothing where they have a fault.
-    ensures beginning { OnErr result ((b : List ℕ)
-        → FourSupply b (F.remaining first.old) (G.remaining second.old) (H.remaining third.old)
-        (I.remaining fourth.old)
-        → IsFront (D.taken drain.old) (D.taken drain.new) (extract_of (all_parents area) area b)) }
 {
     Ok(extract_file_with_parents(alloc, first, second, third, fourth, area, drain, hasher)?.counts)
 }
@@ -324,7 +323,7 @@ pub fn extract_parents_with_receipt<
         (λ c. GaveFile H.Feed third.old third.new receipt.input (λ d.
         GaveFile I.Feed fourth.old fourth.new receipt.input
         (λ e. TookFile D.Drain drain.old drain.new receipt.output
-        (λ written. b ≡ c → b ≡ d → b ≡ e → Extracted (all_parents area)
+        (λ written. b ≡ c → b ≡ d → b ≡ e → IsExtraction (all_parents area)
         (extract_with_parents (seen_decoded area)) area b receipt.counts written)))))) }
     // The first feed gave as many bytes of this digest, the fault is the first of whatever begins so, and the drain took nothing.
     ensures refused { IfErr result (HaltsFile F.Feed first.old first.new
@@ -379,7 +378,7 @@ fn extract_file_with_parents<F: Feed, G: Feed, H: Feed, I: Feed, D: Drain, S: Bu
         × GaveFile G.Feed second.old second.new receipt.input
         (λ c. GaveFile H.Feed third.old third.new receipt.input (λ d.
         GaveFile I.Feed fourth.old fourth.new receipt.input (λ e. Took D.Drain drain.old drain.new
-        (λ written. b ≡ c → b ≡ d → b ≡ e → Extracted (all_parents area)
+        (λ written. b ≡ c → b ≡ d → b ≡ e → IsExtraction (all_parents area)
         (extract_with_parents (seen_decoded area)) area b receipt.counts written)))))) }
     ensures refused { IfErr result (HaltsFile F.Feed first.old first.new
         D.Drain drain.old drain.new (λ b. judged_writable (Some b))) }

@@ -1,0 +1,32 @@
+-- What a call promises for a file that all its feeds supply, from what went through its devices.
+use Rattle.std.proofs.Common.{◌≡◌, ℕ, List, subst}
+use Rattle.pbf_frame.specs.declared.device.Feed as feed
+use Rattle.pbf_frame.specs.declared.device.Drain as drain
+use Rattle.pbfcut.specs.Calls.{BothSupply, AllSupply, FourSupply}
+use Rattle.pbfcut.specs.Given.{GaveFile, Took}
+use Rattle.pbfcut.specs.Kept.{IsWritable}
+use Rattle.pbfcut.proofs.GivenLemmas.{tells_file, one_file}
+
+pub took_weaker : {D : Type 0} (d : drain.Ghosts D) (old new : D) (P Q : List ℕ → Type 0) → ((written : List ℕ) → P written → Q written) → Took d old new P → Took d old new Q
+took_weaker d old new P Q weaker took = record { written = took.written; added = took.added; holding = weaker took.written took.holding }
+
+pub took_of_two : {F G D : Type 0} (f : feed.Ghosts F) (g : feed.Ghosts G) (d : drain.Ghosts D) (first first_new : F) (second second_new : G) (old new : D) (digest : List ℕ) (holds : List ℕ → List ℕ → Type 0) (file : List ℕ) → GaveFile f first first_new digest (λ b. IsWritable b × GaveFile g second second_new digest (λ c. Took d old new (λ written. b ≡ c → holds b written))) → BothSupply file (f.remaining first) (g.remaining second) → Took d old new (holds file)
+took_of_two f g d first first_new second second_new old new digest holds file one supply =
+    let two = one.holding.1 in
+    let tells = tells_file f _ _ _ _ one in
+    took_weaker d old new _ _ (λ written is. subst (λ (b : List ℕ). holds b written) (tells file supply.0) (is (one_file _ _ one.file two.file file tells (tells_file g _ _ _ _ two) supply.0 supply.1))) two.holding
+
+pub took_of_three : {F G H D : Type 0} (f : feed.Ghosts F) (g : feed.Ghosts G) (h : feed.Ghosts H) (d : drain.Ghosts D) (first first_new : F) (second second_new : G) (third third_new : H) (old new : D) (digest : List ℕ) (holds : List ℕ → List ℕ → Type 0) (file : List ℕ) → GaveFile f first first_new digest (λ b. IsWritable b × GaveFile g second second_new digest (λ c. GaveFile h third third_new digest (λ e. Took d old new (λ written. b ≡ c → b ≡ e → holds b written)))) → AllSupply file (f.remaining first) (g.remaining second) (h.remaining third) → Took d old new (holds file)
+took_of_three f g h d first first_new second second_new third third_new old new digest holds file one supply =
+    let two = one.holding.1 in
+    let three = two.holding in
+    let tells = tells_file f _ _ _ _ one in
+    took_weaker d old new _ _ (λ written is. subst (λ (b : List ℕ). holds b written) (tells file supply.0) (is (one_file _ _ one.file two.file file tells (tells_file g _ _ _ _ two) supply.0 supply.1) (one_file _ _ one.file three.file file tells (tells_file h _ _ _ _ three) supply.0 supply.2))) three.holding
+
+pub took_of_four : {F G H I D : Type 0} (f : feed.Ghosts F) (g : feed.Ghosts G) (h : feed.Ghosts H) (i : feed.Ghosts I) (d : drain.Ghosts D) (first first_new : F) (second second_new : G) (third third_new : H) (fourth fourth_new : I) (old new : D) (digest : List ℕ) (holds : List ℕ → List ℕ → Type 0) (file : List ℕ) → GaveFile f first first_new digest (λ b. IsWritable b × GaveFile g second second_new digest (λ c. GaveFile h third third_new digest (λ e. GaveFile i fourth fourth_new digest (λ k. Took d old new (λ written. b ≡ c → b ≡ e → b ≡ k → holds b written))))) → FourSupply file (f.remaining first) (g.remaining second) (h.remaining third) (i.remaining fourth) → Took d old new (holds file)
+took_of_four f g h i d first first_new second second_new third third_new fourth fourth_new old new digest holds file one supply =
+    let two = one.holding.1 in
+    let three = two.holding in
+    let four = three.holding in
+    let tells = tells_file f _ _ _ _ one in
+    took_weaker d old new _ _ (λ written is. subst (λ (b : List ℕ). holds b written) (tells file supply.0) (is (one_file _ _ one.file two.file file tells (tells_file g _ _ _ _ two) supply.0 supply.1) (one_file _ _ one.file three.file file tells (tells_file h _ _ _ _ three) supply.0 supply.2) (one_file _ _ one.file four.file file tells (tells_file i _ _ _ _ four) supply.0 supply.3))) four.holding
