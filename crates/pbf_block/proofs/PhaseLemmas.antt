@@ -1,16 +1,15 @@
 -- Judged phase by phase, the least fault of the first phase that has one is the least of all.
-use Rattle.std.proofs.Common.{◌≡◌, ℕ, List, [], ◌++◌, refl, ap, ap₂, sym, ◌∙◌}
+use Rattle.std.proofs.Common.{◌≡◌, ℕ, List, [], ◌∷◌, refl, ap, ap₂, sym, ◌∙◌}
 use Rattle.std.specs.Prelude.{Option, Some, None}
 use Rattle.std.specs.Option.{option_map, option_or}
 use Rattle.pbf_wire.specs.declared.fault.Fault.{Fault}
-use Rattle.pbf_wire.specs.Least.{lesser_by, least_by, least}
-use Rattle.pbf_wire.specs.Phases.{in_phase, phase_rank}
-use Rattle.pbf_wire.proofs.LeastLemmas.{least_joined}
-use Rattle.pbf_wire.proofs.PhaseLemmas.{least_in_phase}
+use Rattle.pbf_wire.specs.Least.{least_by, least}
+use Rattle.pbf_wire.specs.Phases.{first_fault, phase_rank}
+use Rattle.pbf_wire.proofs.PhaseLemmas.{phases_joined as joined}
 use Rattle.pbf_wire.proofs.SoundLemmas.{no_least}
 use Rattle.pbf_block.specs.WireFaults.{wire_faults}
 use Rattle.pbf_block.specs.StructureFaults.{structure_faults}
-use Rattle.pbf_block.specs.Judgement.{payload_values, payload_weights, block_fault, all_faults}
+use Rattle.pbf_block.specs.Judgement.{payload_values, payload_weights, block_phases, block_fault, all_faults}
 
 -- ---- where the first two phases have no fault, and where they have one
 
@@ -28,18 +27,25 @@ more_phases f (Some w) s late e = e
 
 pub first_early : (f : Fault) (at : ℕ) (m : List ℕ) → Some f ≡ option_or (least (wire_faults at m)) (least (structure_faults at m)) → block_fault at m ≡ Some f
 unfolding block_fault
-first_early f at m e = more_phases f (least (wire_faults at m)) (least (structure_faults at m)) (option_or (least (payload_values at m)) (least (payload_weights at m))) (sym e)
+first_early f at m e = more_phases f (least (wire_faults at m)) (least (structure_faults at m)) (first_fault (payload_values at m ∷ payload_weights at m ∷ [])) (sym e)
+
+last_phase : (f : Option Fault) → option_or f None ≡ f
+last_phase None = refl
+last_phase (Some f) = refl
 
 pub first_late : (r : Option Fault) (at : ℕ) (m : List ℕ) → wire_faults at m ≡ [] → structure_faults at m ≡ [] → r ≡ option_or (least (payload_values at m)) (least (payload_weights at m)) → block_fault at m ≡ r
 unfolding block_fault
-first_late r at m w s e = ap₂ (λ w s. option_or (least w) (option_or (least s) (option_or (least (payload_values at m)) (least (payload_weights at m))))) w s ∙ sym e
+first_late r at m w s e =
+    ap₂ (λ w s. first_fault (w ∷ s ∷ payload_values at m ∷ payload_weights at m ∷ [])) w s
+    ∙ ap (option_or (least (payload_values at m))) (last_phase (least (payload_weights at m))) ∙ sym e
 
-no_later : (w s v x : List Fault) → option_or (least w) (option_or (least s) (option_or (least v) (least x))) ≡ None → (w ≡ []) × (s ≡ []) × (v ≡ []) × (x ≡ [])
+no_later : (w s v x : List Fault) → first_fault (w ∷ s ∷ v ∷ x ∷ []) ≡ None → (w ≡ []) × (s ≡ []) × (v ≡ []) × (x ≡ [])
 no_later w s v x e =
     let one = both_none (least w) _ e in
     let two = both_none (least s) _ one.1 in
     let three = both_none (least v) _ two.1 in
-    (no_least w one.0, no_least s two.0, no_least v three.0, no_least x three.1)
+    let four = both_none (least x) None three.1 in
+    (no_least w one.0, no_least s two.0, no_least v three.0, no_least x four.0)
 
 -- no fault is no fault of any phase
 pub no_fault : (at : ℕ) (m : List ℕ) → block_fault at m ≡ None → (wire_faults at m ≡ []) × (structure_faults at m ≡ []) × (payload_values at m ≡ []) × (payload_weights at m ≡ [])
@@ -48,36 +54,6 @@ no_fault at m e = no_later (wire_faults at m) (structure_faults at m) (payload_v
 
 -- ---- as one order
 
-four : (f g h i : Option Fault)
-    → option_map (λ p. p.1) (lesser_by phase_rank (option_map (λ f. (8, f)) f) (lesser_by phase_rank (option_map (λ f. (9, f)) g) (lesser_by phase_rank (option_map (λ f. (10, f)) h) (option_map (λ f. (11, f)) i)))) ≡ option_or f (option_or g (option_or h i))
-four None None None None = refl
-four None None None (Some i) = refl
-four None None (Some h) None = refl
-four None None (Some h) (Some i) = refl
-four None (Some g) None None = refl
-four None (Some g) None (Some i) = refl
-four None (Some g) (Some h) None = refl
-four None (Some g) (Some h) (Some i) = refl
-four (Some f) None None None = refl
-four (Some f) None None (Some i) = refl
-four (Some f) None (Some h) None = refl
-four (Some f) None (Some h) (Some i) = refl
-four (Some f) (Some g) None None = refl
-four (Some f) (Some g) None (Some i) = refl
-four (Some f) (Some g) (Some h) None = refl
-four (Some f) (Some g) (Some h) (Some i) = refl
-
-parts : (w s v x : List Fault)
-    → least_by phase_rank (in_phase 8 w ++ (in_phase 9 s ++ (in_phase 10 v ++ in_phase 11 x)))
-    ≡ lesser_by phase_rank (option_map (λ f. (8, f)) (least w)) (lesser_by phase_rank (option_map (λ f. (9, f)) (least s)) (lesser_by phase_rank (option_map (λ f. (10, f)) (least v)) (option_map (λ f. (11, f)) (least x))))
-parts w s v x =
-    least_joined phase_rank (in_phase 8 w) (in_phase 9 s ++ (in_phase 10 v ++ in_phase 11 x))
-    ∙ ap₂ (lesser_by phase_rank) (least_in_phase 8 w) (least_joined phase_rank (in_phase 9 s) (in_phase 10 v ++ in_phase 11 x)
-    ∙ ap₂ (lesser_by phase_rank) (least_in_phase 9 s) (least_joined phase_rank (in_phase 10 v) (in_phase 11 x)
-    ∙ ap₂ (lesser_by phase_rank) (least_in_phase 10 v) (least_in_phase 11 x)))
-
 pub phases_joined : (at : ℕ) (m : List ℕ) → option_map (λ p. p.1) (least_by phase_rank (all_faults at m)) ≡ block_fault at m
 unfolding block_fault
-phases_joined at m =
-    ap (λ f. option_map (λ p. p.1) f) (parts (wire_faults at m) (structure_faults at m) (payload_values at m) (payload_weights at m))
-    ∙ four (least (wire_faults at m)) (least (structure_faults at m)) (least (payload_values at m)) (least (payload_weights at m))
+phases_joined at m = joined 8 (block_phases at m)

@@ -1,10 +1,8 @@
 -- The judgement of a payload: its faults phase by phase, and the first of them.
-use Rattle.std.specs.Prelude.{ℕ, List, ◌++◌, length, Option}
-use Rattle.std.specs.Option.{option_or}
+use Rattle.std.specs.Prelude.{ℕ, List, [], ◌∷◌, length, Option}
 use Rattle.pbf_wire.specs.declared.fault.Fault.{Fault}
 use Rattle.pbf_wire.specs.Faults.{fields_in}
-use Rattle.pbf_wire.specs.Least.{least}
-use Rattle.pbf_wire.specs.Phases.{in_phase}
+use Rattle.pbf_wire.specs.Phases.{first_fault, in_phases}
 use Rattle.pbf_block.specs.WireFaults.{wire_faults}
 use Rattle.pbf_block.specs.StructureFaults.{structure_faults}
 use Rattle.pbf_block.specs.ValueFaults.{value_faults}
@@ -20,14 +18,16 @@ payload_values at m = value_faults (length (table_of (fields_in at m))) at m
 unfoldable pub payload_weights : ℕ → List ℕ → List Fault
 payload_weights at m = let os = fields_in at m in weight_faults by_index (table_of os) (scale_of os) os
 
--- the first fault of a payload that begins at this place: the least of the first phase that has one
+-- the faults of a payload that begins at this place, phase by phase
+abbrev pub block_phases : ℕ → List ℕ → List (List Fault)
+block_phases at m = wire_faults at m ∷ structure_faults at m ∷ payload_values at m ∷ payload_weights at m ∷ []
+
+-- the first of them: the least of the first phase that has one
 unfoldable pub block_fault : ℕ → List ℕ → Option Fault
-block_fault at m =
-    option_or (least (wire_faults at m)) (option_or (least (structure_faults at m)) (option_or (least (payload_values at m)) (least (payload_weights at m))))
+block_fault at m = first_fault (block_phases at m)
 
 -- ---- the same as one order
 
 -- all faults of a payload, each with its phase; a frame has seven before them
 abbrev pub all_faults : ℕ → List ℕ → List (ℕ × Fault)
-all_faults at m =
-    in_phase 8 (wire_faults at m) ++ (in_phase 9 (structure_faults at m) ++ (in_phase 10 (payload_values at m) ++ in_phase 11 (payload_weights at m)))
+all_faults at m = in_phases 8 (block_phases at m)

@@ -1,15 +1,13 @@
 -- What is wrong with a HeaderBlock, phase by phase.
-use Rattle.std.specs.Prelude.{ℕ, not, List, ◌++◌, Option}
+use Rattle.std.specs.Prelude.{ℕ, not, List, [], ◌∷◌, ◌++◌, Option}
 use Rattle.std.specs.List.{flat_map}
-use Rattle.std.specs.Option.{option_or}
 use Rattle.pbf_wire.specs.declared.fault.Fault.{Fault}
 use Rattle.pbf_wire.specs.declared.fault.Reason.TheVariants.{Feature}
 use Rattle.pbf_wire.specs.Faults.{fault_where, entered, fields_in, nested_faults, missing, twice}
-use Rattle.pbf_wire.specs.Least.{least}
 use Rattle.pbf_wire.specs.Occurrence.{Occurrence}
 use Rattle.pbf_strings.specs.TableOut.{has_text}
 use Rattle.pbf_header.specs.declared.header.TheConstants.{BBOX, HEADER_KINDS, BBOX_KINDS, REQUIRED_FEATURES, LEFT, RIGHT, TOP, BOTTOM}
-use Rattle.pbf_wire.specs.Phases.{in_phase}
+use Rattle.pbf_wire.specs.Phases.{first_fault, in_phases}
 use Rattle.pbf_header.specs.WrittenHeader.{known_features}
 
 -- the wire form of the header and of its boxes
@@ -34,10 +32,14 @@ feature_faults place at text = fault_where (not (has_text known_features text)) 
 abbrev pub header_values : List Occurrence → List Fault
 header_values os = flat_map (entered REQUIRED_FEATURES feature_faults) os
 
--- the first fault of a header: of its wire form, then of its structure, then of its values
-unfoldable pub header_fault : ℕ → List ℕ → Option Fault
-header_fault at m = option_or (least (header_wire at m)) (option_or (least (header_structure (fields_in at m))) (least (header_values (fields_in at m))))
+-- the faults of a header that begins at this place, phase by phase
+abbrev pub header_phases : ℕ → List ℕ → List (List Fault)
+header_phases at m = header_wire at m ∷ header_structure (fields_in at m) ∷ header_values (fields_in at m) ∷ []
 
--- all faults of a header, each with its phase
+-- the first of them: the least of the first phase that has one
+unfoldable pub header_fault : ℕ → List ℕ → Option Fault
+header_fault at m = first_fault (header_phases at m)
+
+-- all of them, each with its phase; a frame has seven before them
 abbrev pub all_header_faults : ℕ → List ℕ → List (ℕ × Fault)
-all_header_faults at m = let os = fields_in at m in in_phase 8 (header_wire at m) ++ (in_phase 9 (header_structure os) ++ in_phase 10 (header_values os))
+all_header_faults at m = in_phases 8 (header_phases at m)

@@ -2,6 +2,7 @@ pub mod ListingLemmas
 pub mod CountLemmas
 pub mod StepLemmas
 pub mod TheoremLemmas
+pub mod FaultLemmas
 pub mod ShowingLemmas
 pub mod FileLaw
 pub mod GatherLemmas

@@ -2,6 +2,7 @@ pub mod Blobs
 pub mod Listing
 pub mod Payload
 pub mod Judged
+pub mod FileFaults
 pub mod Counting
 pub mod Stops
 pub mod Pass

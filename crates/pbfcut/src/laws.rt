@@ -4,6 +4,7 @@
 ghost use Rattle.std.specs.Prelude.{◌≡◌, ℕ, ◌+◌, ◌^◌, ◌≤◌, List, length, Some, None};
 ghost use Rattle.std.specs.List.{AllByRecursion};
 ghost use Rattle.std.specs.Option.{option_map};
+ghost use Rattle.pbf_wire.specs.Least.{least_by};
 ghost use Rattle.osm_entity.specs.Entity.{EntitySpec};
 ghost use Rattle.osm_entity.specs.Ranges.{EntityFits, EntityTyped};
 ghost use Rattle.osm_entity.specs.Weight.{text_weight};
@@ -17,12 +18,20 @@ ghost use Rattle.pbf_header.specs.WrittenHeader.{HeaderFits, header_out_for_conv
 ghost use Rattle.pbf_frame.specs.Frames.{FrameSpec};
 ghost use Rattle.pbfcut.specs.Counting.{stored_entities};
 ghost use Rattle.pbfcut.specs.Extracting.{complete_ways, all_parents};
+ghost use Rattle.pbfcut.specs.FileFaults.{file_faults, file_rank};
 ghost use Rattle.pbfcut.specs.Judged.{judged_file};
 ghost use Rattle.pbfcut.specs.Kept.{IsWritable, conversion_of, extract_of};
 ghost use Rattle.pbfcut.specs.Theorem.{IsConversion, IsExtract};
 ghost use Rattle.pbfcut.specs.Pass.{file_header};
 
 use osm_entity::BoundingBox;
+
+/// The fault that a file is refused for is the least of all its faults as one set: by the place of the frame, then by phase,
+/// then by offset, by the reason's number and by the field that is missing.
+pub fn file_faults_are_one_order()
+    ensures { (file : List ℕ) → option_map (λ verdict. verdict.1) (judged_file (Some file))
+        ≡ Some (option_map (λ p. p.1.1) (least_by file_rank (file_faults file))) }
+{}
 
 /// A file that is written is read back: where it is at most 2^62 bytes long, it has no fault of any phase, its header is the
 /// header that was written, and its entities are those that were written.
