@@ -1,5 +1,4 @@
 pub mod ScaleLemmas
 pub mod TagLemmas
-pub mod Numbers
 pub mod TextCounts
 pub mod RangeLemmas

@@ -5,6 +5,3 @@ pub mod Views
 pub mod Weight
 pub mod EntityTexts
 pub mod Ranges
-pub mod BoundingBox
-pub mod Degrees
-pub mod BoxText

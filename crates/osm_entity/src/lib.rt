@@ -1,9 +1,7 @@
 //! OpenStreetMap's entities: nodes, ways and relations, as views over a block's bytes or over owned ones, their weight and
-//! ranges, and the box of an extract.
+//! ranges. The box of an extract is `osm_box`'s.
 #![tactic(auto)]
 
-mod bounding_box;
-mod degrees;
 mod entity;
 mod locations;
 mod member;
@@ -16,12 +14,12 @@ mod tags;
 mod way;
 mod weight;
 
-pub use bounding_box::{BoundingBox, BoxFault};
 pub use entity::EntityRef;
 pub use locations::{Locations, NanoLocations, OwnedLocations, SummedLocations};
 pub use member::{ColumnMembers, Member, MemberKind, MemberRef, Members, OwnedMembers};
 pub use meta::{Meta, MetaRef};
 pub use node::{Node, NodeRef};
+pub use osm_box::{BoundingBox, BoxFault};
 pub use refs::{OwnedRefs, Refs};
 pub use relation::{Relation, RelationRef};
 pub use scale::Scale;

@@ -1,6 +1,6 @@
 -- The selection sees stored and decoded entities alike.
 use Rattle.std.proofs.Common.{◌≡◌, refl}
-use Rattle.osm_entity.specs.declared.bounding_box.BoundingBox.{BoundingBox}
+use Rattle.osm_box.specs.declared.bounding_box.BoundingBox.{BoundingBox}
 use Rattle.osm_entity.specs.Entity.{EntitySpec, node, way, relation, decoded}
 use Rattle.osm_ways.specs.Seen.{seen_entity, seen_decoded}
 

@@ -4,7 +4,7 @@ use Rattle.std.specs.Coded.{Coded, code_by, coded×, coded_ℤ}
 use Rattle.std.specs.List.{fold}
 use Rattle.std.specs.Ordering.{int_cmp}
 use Rattle.std.specs.FinSet as set
-use Rattle.osm_entity.specs.declared.bounding_box.BoundingBox.{BoundingBox}
+use Rattle.osm_box.specs.declared.bounding_box.BoundingBox.{BoundingBox}
 use Rattle.osm_ids.specs.Links.{link_cmp, link_code}
 use Rattle.osm_ways.specs.Selection.{MemberSeen, relation_member, Seen, a_node, a_way, a_relation, no_ids, is_kept_way, is_kept_relation, is_kept}
 

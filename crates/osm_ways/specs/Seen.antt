@@ -1,9 +1,9 @@
 -- What the selection sees of entities. A place counts in nanodegrees, edges of the box included.
 use Rattle.std.specs.Prelude.{ℤ, map}
-use Rattle.osm_entity.specs.declared.bounding_box.BoundingBox.{BoundingBox}
+use Rattle.osm_box.specs.declared.bounding_box.BoundingBox.{BoundingBox}
 use Rattle.osm_entity.specs.declared.member.MemberKind.{MemberKind}
 use Rattle.osm_entity.specs.declared.member.MemberKind.TheVariants as kind
-use Rattle.osm_entity.specs.BoundingBox.{is_inside}
+use Rattle.osm_box.specs.BoundingBox.{is_inside}
 use Rattle.osm_entity.specs.Scale.{nano_lat, nano_lon}
 use Rattle.osm_entity.specs.Entity.{NodeSpec, MemberSpec, WaySpec, RelationSpec, EntitySpec, node, way, relation, Decoded, node_at, way_through, relation_among}
 use Rattle.osm_ways.specs.Selection.{MemberSeen, node_member, way_member, relation_member, Seen, a_node, a_way, a_relation}

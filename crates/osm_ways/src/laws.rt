@@ -4,7 +4,7 @@
 ghost use Rattle.std.specs.Prelude.{◌≡◌, List, map};
 ghost use Rattle.std.specs.Ordering.{int_cmp};
 ghost use Rattle.std.specs.FinSet as set;
-ghost use Rattle.osm_entity.specs.declared.bounding_box.BoundingBox.{BoundingBox};
+ghost use Rattle.osm_box.specs.declared.bounding_box.BoundingBox.{BoundingBox};
 ghost use Rattle.osm_entity.specs.Entity.{EntitySpec, decoded};
 ghost use Rattle.osm_ids.specs.Links.{IsLeast};
 ghost use Rattle.osm_ways.specs.Selection.{Seen, node_ids, way_ids, keeps, extract};

@@ -4,7 +4,7 @@ ghost use Rattle.std.specs.Prelude.{◌≡◌, IfOk, OnOk, OnErr};
 ghost use Rattle.std.specs.List.{fold};
 ghost use Rattle.std.specs.FinSet as set;
 ghost use Rattle.osm_entity.specs.Views.{node_of, way_of};
-ghost use Rattle.osm_entity.specs.BoundingBox.{is_inside};
+ghost use Rattle.osm_box.specs.BoundingBox.{is_inside};
 ghost use Rattle.osm_ways.specs.Selection.{is_kept_way, a_node};
 ghost use Rattle.osm_ways.specs.Seen.{seen_node, seen_way};
 ghost use Rattle.osm_ways.specs.Phases.{start_nodes, start_ways, node_step, way_step};

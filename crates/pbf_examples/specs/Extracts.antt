@@ -6,9 +6,9 @@
 -- meridian.
 use Prim.Native.String.{String}
 use Rattle.std.specs.Prelude.{◌≡◌, ℕ, List, [], ◌∷◌, ◌++◌, pos, codes, Ok, Err}
-use Rattle.osm_entity.specs.declared.bounding_box.BoundingBox.{BoundingBox}
-use Rattle.osm_entity.specs.declared.bounding_box.BoxFault.TheVariants.{Shape, Digit, Range, LeftOverRight, BottomOverTop}
-use Rattle.osm_entity.specs.Degrees.{box_of_text}
+use Rattle.osm_box.specs.declared.bounding_box.BoundingBox.{BoundingBox}
+use Rattle.osm_box.specs.declared.bounding_box.BoxFault.TheVariants.{Shape, Digit, Range, LeftOverRight, BottomOverTop}
+use Rattle.osm_box.specs.Degrees.{box_of_text}
 use Rattle.pbf_examples.specs.Hex.{hex}
 use Rattle.pbf_examples.specs.Reading.{◌means◌, ◌cut_by◌gives◌, ◌cut_with_parents_by◌gives◌, minus, node, box}
 use Rattle.pbf_examples.specs.Frames.{header, three_nodes, node_1, data_head, data_frame, header_frame, field}

@@ -10,7 +10,7 @@ use Rattle.pbf_wire.specs.Reading.{number_in, numbers, last_number}
 use Rattle.pbf_wire.specs.Signed.{unzigzag, low_i64}
 use Rattle.pbf_wire.proofs.Cutting.{is_cutting}
 use Rattle.osm_entity.specs.Ranges.{IsInt64, IfPresent}
-use Rattle.osm_entity.specs.declared.bounding_box.BoundingBox.{BoundingBox}
+use Rattle.osm_box.specs.declared.bounding_box.BoundingBox.{BoundingBox}
 use Rattle.osm_entity.proofs.RangeLemmas.{int64_typed}
 use Rattle.pbf_header.specs.declared.header.TheConstants.{LEFT, RIGHT, TOP, BOTTOM, REPLICATION_TIMESTAMP, REPLICATION_SEQUENCE, BBOX}
 use Rattle.pbf_header.specs.Header.{edge, box_in, last_text, header_in}

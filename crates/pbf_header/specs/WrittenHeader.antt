@@ -2,7 +2,7 @@
 use Rattle.std.specs.Prelude.{◌≡◌, ℕ, List, [], ◌∷◌, Option, Some, None, filter, codes}
 use Rattle.std.specs.Option.{option_map, option_to_list}
 use Rattle.osm_entity.specs.Ranges.{IsInt64, IfPresent}
-use Rattle.osm_entity.specs.declared.bounding_box.BoundingBox.{BoundingBox}
+use Rattle.osm_box.specs.declared.bounding_box.BoundingBox.{BoundingBox}
 use Rattle.pbf_wire.specs.Message.{Slot, Scalar, Each, message}
 use Rattle.pbf_wire.specs.Signed.{zigzag, sign_extended}
 use Rattle.pbf_strings.specs.TableOut.{has_text}

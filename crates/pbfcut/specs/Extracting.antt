@@ -3,7 +3,7 @@ use Rattle.std.specs.Prelude.{◌≡◌, ℕ, List, [], Option, Some, None}
 use Rattle.std.specs.FinSet as set
 use Rattle.std.specs.List.{fold}
 use Rattle.std.specs.Option.{option_map}
-use Rattle.osm_entity.specs.declared.bounding_box.BoundingBox.{BoundingBox}
+use Rattle.osm_box.specs.declared.bounding_box.BoundingBox.{BoundingBox}
 use Rattle.osm_entity.specs.Entity.{EntitySpec}
 use Rattle.osm_ids.specs.Links.{IsLeast}
 use Rattle.osm_ways.specs.Selection.{extract}

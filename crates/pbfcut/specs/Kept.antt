@@ -1,7 +1,7 @@
 -- What a file says, and what is written for it.
 use Rattle.std.specs.Prelude.{◌≡◌, ℕ, false, List, map, Option, None}
 use Rattle.std.specs.Option.{option_map}
-use Rattle.osm_entity.specs.declared.bounding_box.BoundingBox.{BoundingBox}
+use Rattle.osm_box.specs.declared.bounding_box.BoundingBox.{BoundingBox}
 use Rattle.osm_entity.specs.Entity as entity
 use Rattle.osm_entity.specs.Entity.{EntitySpec, Decoded}
 use Rattle.pbf_header.specs.Header.{HeaderSpec}

@@ -3,7 +3,7 @@ use Rattle.std.specs.Prelude.{◌≡◌, ℕ, List, [], ◌∷◌, Bool, true, f
 use Rattle.std.specs.List.{flat_map, fold, last_or}
 use Rattle.std.specs.Option.{option_map}
 use Rattle.osm_entity.specs.Entity.{EntitySpec, node, way, relation}
-use Rattle.osm_entity.specs.BoundingBox.{is_inside}
+use Rattle.osm_box.specs.BoundingBox.{is_inside}
 use Rattle.pbf_dense.specs.declared.places.Place.{Place}
 use Rattle.osm_ways.specs.Selection.{a_node}
 use Rattle.osm_ways.specs.Phases.{NodeSets, WaySets, RelationSets, node_step, way_step, relation_step}

@@ -6,8 +6,8 @@ use Rattle.pbf_wire.specs.declared.fault.Reason.TheVariants.{Missing}
 use Rattle.pbf_wire.specs.Reasons.{reason_number, reason_name}
 use Rattle.pbf_frame.specs.declared.stop.Stop.{Stop}
 use Rattle.pbf_frame.specs.declared.stop.Stop.TheVariants as stop
-use Rattle.osm_entity.specs.declared.bounding_box.BoxFault.{BoxFault}
-use Rattle.osm_entity.specs.declared.bounding_box.BoxFault.TheVariants as box
+use Rattle.osm_box.specs.declared.bounding_box.BoxFault.{BoxFault}
+use Rattle.osm_box.specs.declared.bounding_box.BoxFault.TheVariants as box
 use Rattle.pbfcut_cli.specs.declared.words.CliFault.{CliFault}
 use Rattle.pbfcut_cli.specs.declared.words.CliFault.TheVariants as fault
 use Rattle.pbfcut_cli.specs.declared.endings.Ending.{Ending}

@@ -4,8 +4,8 @@ use Rattle.std.specs.Borrow.{Bor}
 use Rattle.clap.specs.Words.{App, Row, Rule, Shape, Text, first_of, new_app, new_rule, one_of, subcommand_of, with_rule, with_subcommand}
 use Rattle.clap.specs.Simple.{on_top}
 use Rattle.clap.specs.declared.builder.ArgAction.TheVariants.{SetTrue}
-use Rattle.osm_entity.specs.Degrees.{box_of_text}
-use Rattle.osm_entity.specs.declared.bounding_box.BoxFault.{BoxFault}
+use Rattle.osm_box.specs.Degrees.{box_of_text}
+use Rattle.osm_box.specs.declared.bounding_box.BoxFault.{BoxFault}
 use Rattle.pbfcut_cli.specs.declared.words.Command.{Command}
 use Rattle.pbfcut_cli.specs.declared.words.Command.TheVariants.{Blobs, Show, Check, Convert, Extract, Help}
 use Rattle.pbfcut_cli.specs.declared.words.CliFault.{CliFault}

@@ -1,8 +1,8 @@
 //! The box of an extract.
 
 ghost use Rattle.std.specs.Prelude.{◌≡◌, ◌↔◌, ◌≤ℤ◌, pos, IsTrue};
-ghost use Rattle.osm_entity.specs.BoundingBox.{box_of_edges, is_up_to, is_between, is_inside};
-ghost use Rattle.osm_entity.specs.Degrees.{box_of_text};
+ghost use Rattle.osm_box.specs.BoundingBox.{box_of_edges, is_up_to, is_between, is_inside};
+ghost use Rattle.osm_box.specs.Degrees.{box_of_text};
 
 use crate::degrees::{Parts, degrees};
 use thiserror::Error;

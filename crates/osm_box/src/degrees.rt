@@ -3,8 +3,8 @@
 ghost use Rattle.std.specs.Prelude.{◌≡◌, ◌≤ℤ◌, ◌<ℤ◌, pos, ◌+◌, ◌<◌, ◌≤◌, ◌*◌, ◌^◌, ◌-◌, length, IfSome, option_map};
 ghost use Rattle.std.specs.List.{list_all};
 ghost use Rattle.std.specs.Char.{is_ascii_digit};
-ghost use Rattle.osm_entity.specs.Degrees.{cut_of, degrees_of, digits_of, halves_of, magnitude_of, parts_of};
-ghost use Rattle.osm_entity.specs.BoxText.{texts_of};
+ghost use Rattle.osm_box.specs.Degrees.{cut_of, degrees_of, digits_of, halves_of, magnitude_of, parts_of};
+ghost use Rattle.osm_box.specs.BoxText.{texts_of};
 
 /// The text before and after the first such character.
 fn cut(text: &str, at: char) -> Option<(&str, &str)>

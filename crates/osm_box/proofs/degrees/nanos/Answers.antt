@@ -1,6 +1,6 @@
 use Rattle.std.proofs.Common.{rules}
-use Rattle.osm_entity.proofs.Numbers.{scaled_small}
-use Rattle.osm_entity.proofs.degrees.nanos.Goals as goal
+use Rattle.osm_box.proofs.Numbers.{scaled_small}
+use Rattle.osm_box.proofs.degrees.nanos.Goals as goal
 
 pub overflow_add-result : goal.overflow_add-result
 overflow_add-result c =

@@ -1,8 +1,8 @@
 use Rattle.std.proofs.Common.{◌≡◌, ◌∙◌, ◌≤◌, rules, length, true}
 use Rattle.std.specs.List.{list_all}
 use Rattle.std.specs.Char.{is_ascii_digit}
-use Rattle.osm_entity.proofs.Numbers.{digits_below, digits_read}
-use Rattle.osm_entity.proofs.degrees.digits.Goals as goal
+use Rattle.osm_box.proofs.Numbers.{digits_below, digits_read}
+use Rattle.osm_box.proofs.degrees.digits.Goals as goal
 
 pub returns-clause-value : goal.returns-clause-value
 returns-clause-value c =

@@ -1,8 +1,8 @@
 -- A box between four edges.
 use Rattle.std.specs.Prelude.{ℤ, pos, neg_ℤ, Bool, not, ◌&&◌, int_le, int_lt, if◌then◌else◌, Result, Ok, Err}
-use Rattle.osm_entity.specs.declared.bounding_box.BoundingBox.{BoundingBox}
-use Rattle.osm_entity.specs.declared.bounding_box.BoxFault.{BoxFault}
-use Rattle.osm_entity.specs.declared.bounding_box.BoxFault.TheVariants.{Range, LeftOverRight, BottomOverTop}
+use Rattle.osm_box.specs.declared.bounding_box.BoundingBox.{BoundingBox}
+use Rattle.osm_box.specs.declared.bounding_box.BoxFault.{BoxFault}
+use Rattle.osm_box.specs.declared.bounding_box.BoxFault.TheVariants.{Range, LeftOverRight, BottomOverTop}
 
 -- the number is from -limit to limit
 abbrev pub is_up_to : ℤ → ℤ → Bool

@@ -5,10 +5,10 @@ use Rattle.std.specs.Prelude.{Option, Some, None, Result, Err, is_some, option_m
 use Rattle.std.specs.List.{list_all, position_or_len, before_first, after_first}
 use Rattle.std.specs.Char.{is_ascii_digit}
 use Rattle.std.specs.Str.Parse.{digits_value}
-use Rattle.osm_entity.specs.declared.bounding_box.BoundingBox.{BoundingBox}
-use Rattle.osm_entity.specs.declared.bounding_box.BoxFault.{BoxFault}
-use Rattle.osm_entity.specs.declared.bounding_box.BoxFault.TheVariants.{Shape, Digit}
-use Rattle.osm_entity.specs.BoundingBox.{box_of_edges}
+use Rattle.osm_box.specs.declared.bounding_box.BoundingBox.{BoundingBox}
+use Rattle.osm_box.specs.declared.bounding_box.BoxFault.{BoxFault}
+use Rattle.osm_box.specs.declared.bounding_box.BoxFault.TheVariants.{Shape, Digit}
+use Rattle.osm_box.specs.BoundingBox.{box_of_edges}
 
 -- what stands before and after the first byte c, if it is there
 abbrev pub cut_of : ℕ → List ℕ → Option (List ℕ × List ℕ)

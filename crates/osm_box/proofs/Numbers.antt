@@ -7,7 +7,7 @@ use Rattle.std.specs.Result.{result_ok}
 use Rattle.std.proofs.lemmas.Nat.{pow-add}
 use Rattle.std.proofs.Math.Nat.{mul-lt-mul_of_pos_right, one-le-pow, pow-le-pow_right}
 use Rattle.std.proofs.lemmas.Int.Digits.{digits_value-lt}
-use Rattle.osm_entity.specs.Degrees.{are_digits, digits_of}
+use Rattle.osm_box.specs.Degrees.{are_digits, digits_of}
 
 both : (a b : Bool) → (a && b) ≡ true → (a ≡ true) × (b ≡ true)
 both true true e = (refl, refl)

@@ -1,6 +1,6 @@
 -- The parts of a box's text, as bytes.
-use Rattle.osm_entity.specs.Degrees as degrees
-use Rattle.osm_entity.specs.declared.degrees.Parts.{Parts}
+use Rattle.osm_box.specs.Degrees as degrees
+use Rattle.osm_box.specs.declared.degrees.Parts.{Parts}
 
 abbrev pub texts_of : Parts → degrees.Parts
 texts_of p = record {

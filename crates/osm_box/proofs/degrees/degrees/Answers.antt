@@ -1,5 +1,5 @@
-use Rattle.osm_entity.proofs.Numbers.{no_minus}
-use Rattle.osm_entity.proofs.degrees.degrees.Goals as goal
+use Rattle.osm_box.proofs.Numbers.{no_minus}
+use Rattle.osm_box.proofs.degrees.degrees.Goals as goal
 
 pub returns-in-None : goal.returns-in-None
 returns-in-None c =

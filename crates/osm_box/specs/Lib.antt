@@ -1,0 +1,3 @@
+pub mod BoundingBox
+pub mod Degrees
+pub mod BoxText
