@@ -30,12 +30,19 @@ pub struct DenseOut {
     tagged: bool,
 }
 
-/// Whether there was a tag before, or is one here.
-fn is_tagged(before: bool, tags: Tags<'_>) -> bool
-    ensures { result ≡ (before || are_some (tags_left tags.entry)) }
+/// Whether there is a tag.
+fn has_tag(tags: Tags<'_>) -> bool
+    ensures { result ≡ are_some (tags_left tags.entry) }
 {
     let mut rest = tags;
-    before || rest.next().is_some()
+    rest.next().is_some()
+}
+
+/// Whether there was a tag before, or is one here.
+fn is_tagged(before: bool, node: &NodeRef<'_>) -> bool
+    ensures { result ≡ (before || are_some (node_of node.now).tags) }
+{
+    before || has_tag(node.tags())
 }
 
 /// Adds the indexes of keys and values in turn, and then a 0.
@@ -96,7 +103,7 @@ impl DenseOut {
         self.ids.push(node.id())?;
         self.lats.push(node.lat())?;
         self.lons.push(node.lon())?;
-        self.tagged = is_tagged(self.tagged, node.tags());
+        self.tagged = is_tagged(self.tagged, node);
         Ok(())
     }
 

@@ -23,5 +23,5 @@ returns-clause-pushed g c = λ ns h. record {
       (to_z w64 (of_z w64 c.id.result)) (to_z w64 (of_z w64 c.lat.result)) (to_z w64 (of_z w64 c.lon.result)) _ _ _ _ _ _ _ _ _ _ _
       c.meta-meta.ensures c.tags.ensures (to_z-of_z w64 _ id ∙ c.id.ensures) (to_z-of_z w64 _ lat ∙ c.lat.ensures) (to_z-of_z w64 _ lon ∙ c.lon.ensures) c.in_ok-push_run.ensures.texts c.in_ok-user.ensures.texts
       h.columns c.in_ok-push_run.ensures.runs c.in_ok-user.ensures.index c.in_ok-push-2.ensures.ok c.in_ok-push-3.ensures.ok c.in_ok-push-4.ensures.ok
-      c.in_ok-push.ensures.versions c.in_ok-push.ensures.timestamps c.in_ok-push.ensures.changesets c.in_ok-push.ensures.uids c.in_ok-push.ensures.users c.in_ok-push.ensures.visible (c.is_tagged-self.ensures ∙ ap (λ (ts : List TagSpec). c.args.self.now.tagged || are_some ts) (c.tags-2.ensures ∙ sym c.tags.ensures));
+      c.in_ok-push.ensures.versions c.in_ok-push.ensures.timestamps c.in_ok-push.ensures.changesets c.in_ok-push.ensures.uids c.in_ok-push.ensures.users c.in_ok-push.ensures.visible (c.is_tagged-self.ensures ∙ ap (λ (ts : List TagSpec). c.args.self.now.tagged || are_some ts) (sym c.tags.ensures));
 }
