@@ -66,6 +66,28 @@ fn push_run<S: BuildHasher>(
     Ok(())
 }
 
+/// As [`push_run`], of the tags of a node. Where it is seen to have none, no copy of them is made: its run is the 0 alone.
+fn push_tags<S: BuildHasher>(
+    runs: &mut ColumnOut,
+    node: &NodeRef<'_>,
+    table: &mut TableOut<S>,
+) -> Result<(), AllocError>
+    requires { length table.old + length (tag_texts (node_of node.now).tags) ≤ 1048575 }
+    ensures texts { OnOk result
+        (table.new ≡ texts_after table.old (tag_texts (node_of node.now).tags)) }
+    ensures runs { (used : List (List ℕ))
+        → OnOk result (runs.new
+        ≡ runs.old ++ run_of (texts_after table.new used) (node_of node.now).tags) }
+{
+    if node.is_bare() {
+        let no_key = 0;
+        runs.push(no_key)?;
+    } else {
+        push_run(runs, node.tags(), table)?;
+    }
+    Ok(())
+}
+
 impl DenseOut {
     /// No nodes, which take no memory yet.
     pub fn new(alloc: Global) -> DenseOut
@@ -96,7 +118,7 @@ impl DenseOut {
         ensures pushed { (ns : List NodeSpec) → HoldsNodes self.old table.old ns
             → OnOk result (HoldsNodes self.new table.new (ns ++ node_of node.now ∷ [])) }
     {
-        push_run(&mut self.runs, node.tags(), table)?;
+        push_tags(&mut self.runs, node, table)?;
         let meta = node.meta();
         let user = table.index_if_some(meta.user)?;
         self.info.push(&meta, user)?;
