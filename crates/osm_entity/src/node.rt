@@ -1,10 +1,10 @@
 //! Nodes.
 
-ghost use Rattle.std.specs.Prelude.{◌≡◌, ◌↔◌, ◌-◌, ◌^◌, min, IsTrue, IfOk};
+ghost use Rattle.std.specs.Prelude.{◌≡◌, ◌↔◌, ◌-◌, ◌^◌, min, [], IsTrue, IfOk};
 ghost use Rattle.std.specs.Option.{option_map};
 ghost use Rattle.osm_entity.specs.Scale.{nano_lat, nano_lon, millis};
 ghost use Rattle.osm_entity.specs.Sources.{tags_left};
-ghost use Rattle.osm_entity.specs.Weight.{node_weight};
+ghost use Rattle.osm_entity.specs.Weight.{node_weight, tags_weight};
 ghost use Rattle.osm_entity.specs.Ranges.{NodeFits};
 ghost use Rattle.osm_entity.specs.Views.{meta_of, node_of, owned_node};
 
@@ -124,6 +124,23 @@ impl<'a> NodeRef<'a> {
         self.tags
     }
 
+    /// Whether it is seen at once that the node has no tag. No column is read for that, so a `false` says nothing.
+    pub fn is_bare(&self) -> bool
+        ensures { IsTrue result → (node_of self.now).tags ≡ [] }
+    {
+        self.tags.are_none()
+    }
+
+    /// What the tags weigh.
+    fn tags_weight(&self) -> u64
+        ensures { result ≡ min (tags_weight (node_of self.now).tags) (2 ^ 64 - 1) }
+    {
+        if self.is_bare() {
+            return 0;
+        }
+        tags_weight(self.tags)
+    }
+
     /// The latitude in nanodegrees.
     pub fn nano_lat(&self) -> i128
         ensures { result ≡ nano_lat (node_of self.now).scale (node_of self.now).lat }
@@ -150,7 +167,7 @@ impl<'a> NodeRef<'a> {
     pub fn weight(&self) -> u64
         ensures { result ≡ min (node_weight (node_of self.now)) (2 ^ 64 - 1) }
     {
-        tags_weight(self.tags)
+        self.tags_weight()
             .saturating_add(self.meta.user_weight())
             .saturating_add(160)
     }

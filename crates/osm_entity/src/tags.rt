@@ -1,6 +1,6 @@
 //! Tags, wherever they lie.
 
-ghost use Rattle.std.specs.Prelude.{◌≡◌, map, IfOk};
+ghost use Rattle.std.specs.Prelude.{◌≡◌, [], map, IfOk, IsTrue};
 ghost use Rattle.pbf_strings.specs.Texts.{text};
 ghost use Rattle.osm_entity.specs.Sources.{named, owned_tag, tags_left};
 
@@ -142,6 +142,18 @@ pub enum Tags<'a> {
     Owned(OwnedTags<'a>),
     Run(RunTags<'a>),
     Paired(PairedTags<'a>),
+}
+
+impl Tags<'_> {
+    /// Whether it is seen at once that there is no tag. No column is read for that, so a `false` says nothing.
+    pub(crate) fn are_none(&self) -> bool
+        ensures { IsTrue result → tags_left self.now ≡ [] }
+    {
+        match self {
+            Tags::Owned(tags) => tags.rest.is_empty(),
+            _ => false,
+        }
+    }
 }
 
 impl<'a> Iterator for Tags<'a> {

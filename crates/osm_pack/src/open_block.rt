@@ -1,6 +1,6 @@
 //! The block that is open.
 
-ghost use Rattle.std.specs.Prelude.{◌≡◌, ◌↔◌, ◌+◌, ◌-◌, ◌≤◌, ◌<◌, ◌^◌, min, ◌&&◌, ◌++◌, ◌∷◌, [], List, true, nat_le, length, map, IsTrue, IfOk, OnOk, Option, Some, None, MatchOption};
+ghost use Rattle.std.specs.Prelude.{◌≡◌, ◌↔◌, ◌+◌, ◌-◌, ◌≤◌, ◌<◌, ◌^◌, min, ◌&&◌, ◌++◌, ◌∷◌, [], List, true, nat_le, length, map, IsTrue, IfOk, OnOk, Option, Some, None, MatchOption, unwrap_or};
 ghost use Rattle.osm_entity.specs.Entity.{EntitySpec, node, way, relation};
 ghost use Rattle.osm_entity.specs.Ranges.{EntityFits};
 ghost use Rattle.osm_entity.specs.Views.{entity_of};
@@ -46,6 +46,16 @@ fn may_join(is_alike: bool, count: usize, weight: u64, more: u64) -> bool
         && nat_le (weight + more) HIGHEST_WEIGHT)) }
 {
     is_alike && count < MOST_ENTITIES && weight.saturating_add(more) <= HIGHEST_WEIGHT
+}
+
+/// Takes what an entity is like, if none was there before it. All later ones are like the first.
+fn remember(likeness: &mut Option<Likeness>, entity: &EntityRef<'_>)
+    ensures { likeness.new
+        ≡ Some (unwrap_or likeness.old (likeness_of (entity_of entity.now))) }
+{
+    if likeness.is_none() {
+        *likeness = Some(Likeness::of(entity));
+    }
 }
 
 impl<S: BuildHasher> OpenBlock<S> {
@@ -138,7 +148,7 @@ impl<S: BuildHasher> OpenBlock<S> {
             → OnOk result (Holds self.new (es ++ entity_of entity.now ∷ [])) }
     {
         self.put(entity)?;
-        self.likeness = Some(self.likeness.unwrap_or(Likeness::of(entity)));
+        remember(&mut self.likeness, entity);
         self.count += 1;
         self.weight += weight;
         Ok(())

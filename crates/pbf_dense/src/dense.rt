@@ -2,14 +2,14 @@
 
 ghost use Rattle.std.specs.Prelude.{◌≡◌, map};
 ghost use Rattle.pbf_wire.specs.Cursors.{numbers_left};
-ghost use Rattle.osm_entity.specs.Sources.{low_32};
+ghost use Rattle.osm_entity.specs.Sources.{low_32, run_tags, tags_left};
 ghost use Rattle.pbf_dense.specs.Runs.{after_run};
 
 use crate::entries::next_number;
 use crate::info::InfoColumns;
 use crate::message::{ID, KEYS_VALS, LAT, LON};
 use crate::places::Places;
-use osm_entity::{NodeRef, RunTags, STORED_LIMIT, Scale, Tags};
+use osm_entity::{NodeRef, OwnedTags, RunTags, STORED_LIMIT, Scale, Tags};
 use pbf_strings::Table;
 use pbf_wire::{Column, Sums, column_count, low_u32};
 
@@ -25,6 +25,24 @@ fn skip_run(numbers: &mut Column<'_>)
         }
         let _value = next_number(numbers);
     }
+}
+
+/// The tags of the next node, whose run is passed over. Most nodes have none, and cost no copy of the column.
+fn take_tags<'a>(numbers: &mut Column<'a>, table: &'a Table<'a>) -> Tags<'a>
+    ensures tags { tags_left result ≡ run_tags table.now (numbers_left numbers.old) }
+    ensures rest { map low_32 (numbers_left numbers.new)
+        ≡ after_run (map low_32 (numbers_left numbers.old)) }
+{
+    let run = RunTags::new(*numbers, table);
+    let Some(first) = next_number(numbers) else {
+        return Tags::Owned(OwnedTags::new(&[]));
+    };
+    if low_u32(first) == 0 {
+        return Tags::Owned(OwnedTags::new(&[]));
+    }
+    let _value = next_number(numbers);
+    skip_run(numbers);
+    Tags::Run(run)
 }
 
 /// The nodes of a dense message that are still to come: an iterator over its columns, which takes no memory.
@@ -118,8 +136,7 @@ impl<'a> Iterator for Dense<'a> {
         let lat = self.lats.next()?;
         let lon = self.lons.next()?;
         let meta = self.info.take(self.table);
-        let tags = RunTags::new(self.keys_vals, self.table);
-        skip_run(&mut self.keys_vals);
-        Some(NodeRef::new(id, lat, lon, meta, Tags::Run(tags), self.scale))
+        let tags = take_tags(&mut self.keys_vals, self.table);
+        Some(NodeRef::new(id, lat, lon, meta, tags, self.scale))
     }
 }

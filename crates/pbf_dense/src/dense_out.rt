@@ -30,12 +30,19 @@ pub struct DenseOut {
     tagged: bool,
 }
 
-/// Whether there was a tag before, or is one here.
-fn is_tagged(before: bool, tags: Tags<'_>) -> bool
-    ensures { result ≡ (before || are_some (tags_left tags.entry)) }
+/// Whether there is a tag.
+fn has_tag(tags: Tags<'_>) -> bool
+    ensures { result ≡ are_some (tags_left tags.entry) }
 {
     let mut rest = tags;
-    before || rest.next().is_some()
+    rest.next().is_some()
+}
+
+/// Whether there was a tag before, or is one here.
+fn is_tagged(before: bool, node: &NodeRef<'_>) -> bool
+    ensures { result ≡ (before || are_some (node_of node.now).tags) }
+{
+    before || has_tag(node.tags())
 }
 
 /// Adds the indexes of keys and values in turn, and then a 0.
@@ -56,6 +63,28 @@ fn push_run<S: BuildHasher>(
         runs.push(u64::from(table.index_of(value)?))?;
     }
     runs.push(0)?;
+    Ok(())
+}
+
+/// As [`push_run`], of the tags of a node. Where it is seen to have none, no copy of them is made: its run is the 0 alone.
+fn push_tags<S: BuildHasher>(
+    runs: &mut ColumnOut,
+    node: &NodeRef<'_>,
+    table: &mut TableOut<S>,
+) -> Result<(), AllocError>
+    requires { length table.old + length (tag_texts (node_of node.now).tags) ≤ 1048575 }
+    ensures texts { OnOk result
+        (table.new ≡ texts_after table.old (tag_texts (node_of node.now).tags)) }
+    ensures runs { (used : List (List ℕ))
+        → OnOk result (runs.new
+        ≡ runs.old ++ run_of (texts_after table.new used) (node_of node.now).tags) }
+{
+    if node.is_bare() {
+        let no_key = 0;
+        runs.push(no_key)?;
+    } else {
+        push_run(runs, node.tags(), table)?;
+    }
     Ok(())
 }
 
@@ -89,14 +118,14 @@ impl DenseOut {
         ensures pushed { (ns : List NodeSpec) → HoldsNodes self.old table.old ns
             → OnOk result (HoldsNodes self.new table.new (ns ++ node_of node.now ∷ [])) }
     {
-        push_run(&mut self.runs, node.tags(), table)?;
+        push_tags(&mut self.runs, node, table)?;
         let meta = node.meta();
         let user = table.index_if_some(meta.user)?;
         self.info.push(&meta, user)?;
         self.ids.push(node.id())?;
         self.lats.push(node.lat())?;
         self.lons.push(node.lon())?;
-        self.tagged = is_tagged(self.tagged, node.tags());
+        self.tagged = is_tagged(self.tagged, node);
         Ok(())
     }
 

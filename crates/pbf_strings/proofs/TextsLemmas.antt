@@ -1,13 +1,16 @@
 -- The texts of a StringTable, one after the other.
-use Rattle.std.proofs.Common.{◌≡◌, cond, eqb, ◌++◌, ℕ, zero, suc, ◌+◌, ◌-◌, ◌<◌, ◌≤◌, List, [], ◌∷◌, length, drop, refl, sym, ap, ◌∙◌, arith}
-use Rattle.std.specs.Prelude.{Option, Some, None, Result, Ok, Err}
+use Rattle.std.proofs.Common.{◌≡◌, cond, eqb, ◌++◌, ℕ, zero, suc, ◌+◌, ◌-◌, ◌<◌, ◌≤◌, List, [], ◌∷◌, length, take, drop, get_or, subst, refl, sym, ap, ◌∙◌, arith}
+use Rattle.std.specs.Prelude.{Option, Some, None, Result, Ok, Err, nat_lt, false}
 use Rattle.std.specs.List.{AllByRecursion, cons_option, flat_map}
 use Rattle.std.proofs.lemmas.List.{length-drop, drop-drop, drop_all}
 use Rattle.pbf_wire.specs.declared.fault.Reason.{Reason}
-use Rattle.pbf_wire.specs.Occurrence.{Content, Number, Eight, Four, Bytes, unplaced, without_places, Occurrence, Item, items, items_past, items_from, occurrence_at, found}
+use Rattle.pbf_wire.specs.Occurrence.{Content, Number, Eight, Four, Bytes, unplaced, without_places, Occurrence, Item, items, items_past, items_from, occurrence_at, body_at, found}
 use Rattle.pbf_wire.specs.Reading.{each, bytes_held, bytes_in, bytes_of}
 use Rattle.pbf_wire.proofs.Cutting.{front_ok}
 use Rattle.pbf_wire.proofs.PlaceLemmas.{same_at}
+use Rattle.pbf_wire.proofs.Varints.{one_byte}
+use Rattle.pbf_wire.specs.Varint.{varint_at}
+use Rattle.std.proofs.lemmas.Bool.Decides.{nat_tests}
 use Rattle.pbf_strings.specs.Texts.{texts, text_at, first_text}
 
 -- the text of the occurrence is found at its place
@@ -87,3 +90,23 @@ without o = ap (λ (t : Option (List ℕ)). cons_option (cond (eqb o.number 1) t
 
 pub texts_at : (at : ℕ) (message : List ℕ) → each 1 (found (items at message)) ≡ texts message
 texts_at at message = each_is (found (items at message)) ∙ same_at one_text without at 0 message ∙ sym (each_is (found (items 0 message)))
+
+-- ---- a text whose tag and length take one byte each
+
+-- a byte below 128 is a number by itself
+alone : (b : ℕ) (bs : List ℕ) → b < 128 → varint_at (b ∷ bs) ≡ Ok (b, 1)
+alone b bs h = one_byte (b ∷ bs) (omega arith) h
+
+enough_bytes : (n : ℕ) (bs : List ℕ) → n ≤ length bs → nat_lt (length bs) n ≡ false
+enough_bytes n bs le = grind (arith, nat_tests)
+
+short_spelled : (at size : ℕ) (bs : List ℕ) → size < 128 → size ≤ length bs → first_text (items at (10 ∷ size ∷ bs)) ≡ take size bs
+unfolding items_past occurrence_at body_at
+short_spelled at size bs small le = rw (alone 10 (size ∷ bs) (omega arith), alone size bs small, enough_bytes size bs le) refl
+
+pub short_text_is : (at : ℕ) (bs : List ℕ) (size : ℕ) → 1 < length bs → get_or bs 0 0 ≡ 10 → get_or bs 1 0 ≡ size → size < 128 → size ≤ length bs - 2 → first_text (items at bs) ≡ take size (drop 2 bs)
+short_text_is at [] size two tag length_is small le = absurd (omega arith)
+short_text_is at (b ∷ []) size two tag length_is small le = absurd (omega arith)
+short_text_is at (b ∷ c ∷ bs) size two tag length_is small le =
+    subst (λ x. first_text (items at (x ∷ c ∷ bs)) ≡ take size bs) (sym tag)
+    (subst (λ x. first_text (items at (10 ∷ x ∷ bs)) ≡ take size bs) (sym length_is) (short_spelled at size bs small (omega arith)))

@@ -1,6 +1,6 @@
 //! A table that is read: where each text stands in the message.
 
-ghost use Rattle.std.specs.Prelude.{◌≡◌, ◌+◌, ◌*◌, ◌≤◌, ◌<◌, ◌^◌, ◌↔◌, [], Some, None, Err, IsTrue, unwrap_or, IfOk, OnOk, length, map, slice_get};
+ghost use Rattle.std.specs.Prelude.{◌≡◌, ◌+◌, ◌*◌, ◌≤◌, ◌<◌, ◌^◌, ◌↔◌, [], Some, None, Err, IsTrue, unwrap_or, IfOk, OnOk, length, map, slice_get, ℕ, MatchOption, ⊤};
 ghost use Rattle.std.specs.Option.{option_map};
 ghost use Rattle.pbf_wire.specs.declared.fault.Fault.{Fault};
 ghost use Rattle.pbf_wire.specs.declared.fault.ReadFault.TheVariants.{Refused};
@@ -32,6 +32,32 @@ fn first_text(fields: &[u8], at: u64) -> &[u8]
     }
 }
 
+/// The text that the first field holds, if its tag is the one of a text, and its length takes one byte: nearly all are so.
+fn short_text(fields: &[u8]) -> Option<&[u8]>
+    ensures { MatchOption result ⊤ (λ text. (at : ℕ)
+        → first_text (items at fields.now) ≡ text.now) }
+{
+    let [tag, size, rest @ ..] = fields else {
+        return None;
+    };
+    let length = usize::from(*size);
+    if *tag != 10 || length >= 128 || rest.len() < length {
+        return None;
+    }
+    Some(&rest[..length])
+}
+
+/// The text that the first field holds, whatever it is.
+fn text_of(fields: &[u8], at: u64) -> &[u8]
+    requires { at + length fields.now ≤ 2 ^ 63 }
+    ensures { result.now ≡ first_text (items at fields.now) }
+{
+    match short_text(fields) {
+        Some(text) => text,
+        None => first_text(fields, at),
+    }
+}
+
 /// The text of the field that begins at `place`.
 #[tactic(auto, using(crate::proofs::TextsLemmas::no_text), unfolding(crate::specs::Texts::text_at))]
 fn text_at(message: &[u8], place: usize) -> &[u8]
@@ -39,7 +65,7 @@ fn text_at(message: &[u8], place: usize) -> &[u8]
     ensures { result.now ≡ text_at message.now place }
 {
     match message.get(place..) {
-        Some(rest) => first_text(rest, place as u64),
+        Some(rest) => text_of(rest, place as u64),
         None => &[],
     }
 }

@@ -1,5 +1,4 @@
-use Rattle.std.proofs.Common.{◌∙◌, ◌+◌, ap, arith, refl, Some}
-use Rattle.std.specs.Prelude.{unwrap_or}
+use Rattle.std.proofs.Common.{◌+◌, ap, arith, refl}
 use Rattle.osm_entity.specs.Views.{entity_of}
 use Rattle.osm_pack.proofs.OpenLemmas.{added, bounds, exact}
 use Rattle.osm_pack.proofs.open_block.OpenBlock.add.Goals as goal
@@ -18,5 +17,5 @@ overflow_add-self-2 g c =
 
 pub returns : goal.returns
 returns g c = λ es h.
-    added c.args.self.now c.put.new.self _ es (entity_of c.args.entity.now) h (c.requires.joins es h) (c.in_ok-put.ensures es h) (ap Some (c.unwrap_or.ensures ∙ ap (unwrap_or c.put.new.self.likeness) c.of.ensures)) refl
+    added c.args.self.now c.put.new.self _ es (entity_of c.args.entity.now) h (c.requires.joins es h) (c.in_ok-put.ensures es h) c.remember.ensures refl
     (ap (λ n. c.put.new.self.weight + n) (exact (entity_of c.args.entity.now) c.args.weight c.requires.fits c.requires.weighs)) refl refl refl refl

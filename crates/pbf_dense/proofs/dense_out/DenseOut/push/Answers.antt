@@ -1,17 +1,16 @@
-use Rattle.std.proofs.Common.{rules, w64, to_z, of_z, ◌∙◌, ap, sym, List, ◌||◌}
-use Rattle.osm_entity.specs.Entity.{TagSpec}
+use Rattle.std.proofs.Common.{rules, w64, to_z, of_z, ◌∙◌, refl}
 use Rattle.osm_entity.specs.Views.{node_of}
 use Rattle.std.proofs.lemmas.Int.{to_z-of_z}
 use mir.Val.{SFits}
-use Rattle.pbf_dense.specs.WrittenDense.{columns_held, are_some}
+use Rattle.pbf_dense.specs.WrittenDense.{columns_held}
 use Rattle.pbf_dense.proofs.DenseOutLemmas.{node_room, node_used, parts_pushed}
 use Rattle.pbf_dense.proofs.dense_out.DenseOut.push.Goals as goal
 
 pub index_if_some-requires : goal.index_if_some-requires
-index_if_some-requires g c = node_room c.args.table.now c.push_run.new.table (node_of c.args.node.now) _ _ c.meta-meta.ensures c.tags.ensures c.in_ok-push_run.ensures.texts c.requires.room
+index_if_some-requires g c = node_room c.args.table.now c.push_tags.new.table (node_of c.args.node.now) _ _ c.meta-meta.ensures refl c.in_ok-push_tags.ensures.texts c.requires.room
 
 pub returns-clause-texts : goal.returns-clause-texts
-returns-clause-texts g c = node_used c.args.table.now c.push_run.new.table c.index_if_some.new.self (node_of c.args.node.now) _ _ c.meta-meta.ensures c.tags.ensures c.in_ok-push_run.ensures.texts c.in_ok-user.ensures.texts
+returns-clause-texts g c = node_used c.args.table.now c.push_tags.new.table c.index_if_some.new.self (node_of c.args.node.now) _ _ c.meta-meta.ensures refl c.in_ok-push_tags.ensures.texts c.in_ok-user.ensures.texts
 
 pub returns-clause-pushed : goal.returns-clause-pushed
 returns-clause-pushed g c = λ ns h. record {
@@ -19,9 +18,9 @@ returns-clause-pushed g c = λ ns h. record {
       let id : SFits w64 c.id.result = search rules in
       let lat : SFits w64 c.lat.result = search rules in
       let lon : SFits w64 c.lon.result = search rules in
-      parts_pushed c.args.table.now c.push_run.new.table c.index_if_some.new.self used ns (node_of c.args.node.now) _ _ (columns_held c.args.self.now) c.in_ok-user.user
+      parts_pushed c.args.table.now c.push_tags.new.table c.index_if_some.new.self used ns (node_of c.args.node.now) _ _ (columns_held c.args.self.now) c.in_ok-user.user
       (to_z w64 (of_z w64 c.id.result)) (to_z w64 (of_z w64 c.lat.result)) (to_z w64 (of_z w64 c.lon.result)) _ _ _ _ _ _ _ _ _ _ _
-      c.meta-meta.ensures c.tags.ensures (to_z-of_z w64 _ id ∙ c.id.ensures) (to_z-of_z w64 _ lat ∙ c.lat.ensures) (to_z-of_z w64 _ lon ∙ c.lon.ensures) c.in_ok-push_run.ensures.texts c.in_ok-user.ensures.texts
-      h.columns c.in_ok-push_run.ensures.runs c.in_ok-user.ensures.index c.in_ok-push-2.ensures.ok c.in_ok-push-3.ensures.ok c.in_ok-push-4.ensures.ok
-      c.in_ok-push.ensures.versions c.in_ok-push.ensures.timestamps c.in_ok-push.ensures.changesets c.in_ok-push.ensures.uids c.in_ok-push.ensures.users c.in_ok-push.ensures.visible (c.is_tagged-self.ensures ∙ ap (λ (ts : List TagSpec). c.args.self.now.tagged || are_some ts) (c.tags-2.ensures ∙ sym c.tags.ensures));
+      c.meta-meta.ensures refl (to_z-of_z w64 _ id ∙ c.id.ensures) (to_z-of_z w64 _ lat ∙ c.lat.ensures) (to_z-of_z w64 _ lon ∙ c.lon.ensures) c.in_ok-push_tags.ensures.texts c.in_ok-user.ensures.texts
+      h.columns c.in_ok-push_tags.ensures.runs c.in_ok-user.ensures.index c.in_ok-push-2.ensures.ok c.in_ok-push-3.ensures.ok c.in_ok-push-4.ensures.ok
+      c.in_ok-push.ensures.versions c.in_ok-push.ensures.timestamps c.in_ok-push.ensures.changesets c.in_ok-push.ensures.uids c.in_ok-push.ensures.users c.in_ok-push.ensures.visible (c.is_tagged-self.ensures);
 }
