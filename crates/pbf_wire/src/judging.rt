@@ -270,6 +270,7 @@ pub fn judge_sums_left(fields: Fields<'_>, number: u64, limit: u64, narrow: bool
                 reason: Reason::OutOfRange,
             });
         };
+        'zeros: while column.pass_zero() {}
     }
     None
 }
@@ -312,6 +313,7 @@ pub fn judge_index_sums(message: &[u8], at: u64, number: u64, limit: u64) -> Opt
             });
         };
         index = sum;
+        'zeros: while column.pass_zero() {}
     }
     None
 }
