@@ -32,7 +32,8 @@ fn first_text(fields: &[u8], at: u64) -> &[u8]
     }
 }
 
-/// The text that the first field holds, if its tag is the one of a text, and its length takes one byte: nearly all are so.
+/// The text that the first field holds, if its tag is the one of a text (10, for number 1 and bytes) and its length takes one byte:
+/// nearly all are so.
 fn short_text(fields: &[u8]) -> Option<&[u8]>
     ensures { MatchOption result ⊤ (λ text. (at : ℕ)
         → first_text (items at fields.now) ≡ text.now) }

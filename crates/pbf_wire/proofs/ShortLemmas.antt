@@ -12,6 +12,8 @@ use Rattle.std.proofs.lemmas.List.Sums.{prefix_len_passes, prefix_len_stops}
 use Rattle.std.proofs.lemmas.List.{get_or-take, get_or-drop, length-take, length-drop}
 use Rattle.pbf_wire.specs.Varint.{value_of, varint_at}
 use Rattle.pbf_wire.specs.declared.fault.Reason.TheVariants.{OutOfRange}
+use Rattle.pbf_wire.specs.declared.fields.Fields.{Fields}
+use Rattle.pbf_wire.specs.Cursors.{fields_left}
 use Rattle.pbf_wire.specs.Occurrence.{Occurrence, Item, found}
 use Rattle.pbf_wire.specs.Columns.{Entry, entries, read_entries, entry_fault, placed, numbers_in, column_of, joined}
 use Rattle.pbf_wire.specs.Signed.{unzigzag, IsWithin, is_within}
@@ -146,6 +148,21 @@ all_short bytes window n long left is last here done i lt =
           subst (λ (k : ℕ). EndsSoon bytes k) at (soon_in_rest bytes m (i - m) (subst (λ (w : List ℕ). EndsSoon w (i - m)) is (last_soon window (i - m) size (omega arith) last here)))
     ]
 
+-- a window that begins with the bytes, of which the last ends the last number
+pub short_few : (bytes window : List ℕ) → length bytes < 64 → take (length bytes) window ≡ bytes → slice_index bytes (length bytes - 1) < 128
+    → ((i : ℕ) → i < 60 → EndsSoon window i) → IsShort bytes
+short_few bytes window few is last here i lt =
+    elim (cases_lt (i + 5) (length bytes)) [
+      | inl early ↦
+          let h = here i (omega (arith, early, few)) in
+          let within : i + h.0 < length bytes = omega (arith, early, h.1) in
+          let same : get_or window (i + h.0) 0 ≡ get_or bytes (i + h.0) 0 = sym (get_or-take (length bytes) window (i + h.0) 0 within) ∙ ap (λ w. get_or w (i + h.0) 0) is in
+          (h.0, h.1, within, omega (arith, h.3, same))
+      | inr late ↦
+          let end : i + (length bytes - 1 - i) ≡ length bytes - 1 = omega (arith, lt) in
+          (length bytes - 1 - i, omega (arith, late), omega (arith, lt), omega (arith, last, ap (λ k. get_or bytes k 0) end))
+    ]
+
 -- ---- what the numbers of short columns are
 
 -- the number at the front
@@ -241,8 +258,12 @@ none_out start (x ∷ xs) distance near room h =
     ∙ none_out sum xs (distance + 2 ^ 35) next (omega (arith, room)) h.1
 
 -- at most 2^26 of them stay in range
-pub small_sums : (k at : ℕ) (m : List ℕ) → length m ≤ 2 ^ 26 → AllSmallPlaced (joined k (fields_in at m)) → sum_faults (pos (2 ^ 62)) false (joined k (fields_in at m)) ≡ []
-small_sums k at m few h =
+small_sums_in : (k at : ℕ) (m : List ℕ) → length m ≤ 2 ^ 26 → AllSmallPlaced (joined k (fields_in at m)) → sum_faults (pos (2 ^ 62)) false (joined k (fields_in at m)) ≡ []
+small_sums_in k at m few h =
     let xs = joined k (fields_in at m) in
     sym (running_is (is_within limit) OutOfRange false xs)
     ∙ none_out (pos 0) xs 0 (record { above = omega (arith, ints); below = omega (arith, ints) }) (omega (arith, few, column_short k at m)) h
+
+pub small_sums : (k : ℕ) (fields : Fields) → length fields.rest.now ≤ 2 ^ 26 → AllSmallPlaced (joined k (found (fields_left fields))) → sum_faults (pos (2 ^ 62)) false (joined k (found (fields_left fields))) ≡ []
+unfolding fields_left
+small_sums k fields few h = small_sums_in k fields.at fields.rest.now few h

@@ -1,6 +1,6 @@
 //! A column: the numbers of all occurrences of one field, packed or single, joined.
 
-ghost use Rattle.std.specs.Prelude.{◌≡◌, ◌∷◌, [], MatchOption, ⊤};
+ghost use Rattle.std.specs.Prelude.{◌≡◌, ◌∷◌, [], MatchOption, ⊤, IsTrue, false};
 ghost use Rattle.pbf_wire.specs.Columns.{entries, read_entries};
 
 use crate::field::Payload;
@@ -89,6 +89,25 @@ impl<'a> Column<'a> {
         self.packed = rest;
         self.place = self.packed_place;
         Some(value)
+    }
+
+    /// Passes over the next number, if it is a 0 of one byte in the packed occurrence that was begun. Many columns are mostly such.
+    #[inline(always)]
+    #[tactic(auto, unfolding(crate::specs::Cursors::column_left))]
+    pub fn pass_zero(&mut self) -> bool
+        ensures passed { IsTrue result
+            → column_left self.old ≡ (0, place_of self.new) ∷ column_left self.new }
+        ensures kept { result ≡ false → self.new ≡ self.old }
+    {
+        let [first, rest @ ..] = self.packed else {
+            return false;
+        };
+        if *first != 0 {
+            return false;
+        }
+        self.packed = rest;
+        self.place = self.packed_place;
+        true
     }
 
     /// The next number, by what is left of the packed occurrence that was begun, and then by the fields after it.

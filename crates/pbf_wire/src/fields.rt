@@ -177,6 +177,14 @@ impl<'a> Fields<'a> {
         self.rest.is_empty()
     }
 
+    /// How many bytes are left.
+    #[inline(always)]
+    pub(crate) fn len(&self) -> usize
+        ensures { result ≡ length self.now.rest.now }
+    {
+        self.rest.len()
+    }
+
     /// The next item, whatever its tag.
     #[inline(never)]
     fn advance(&mut self) -> Option<Result<Field<'a>, Fault>>

@@ -19,7 +19,7 @@ use crate::fields::Fields;
 use crate::judge::{judge_payload, judge_wire, kind_of};
 use crate::kind::Kind;
 use crate::least::lesser;
-use crate::short::has_small_numbers;
+use crate::short::has_small_numbers_left;
 use crate::signed::{low_sint32, low_u32};
 use crate::sum::Sum;
 use crate::sums::delta_in;
@@ -236,24 +236,18 @@ fn add_entry(sum: &mut Sum, narrow: bool, number: u64) -> Option<i64>
     sum.add(delta_in(narrow, number))
 }
 
-/// In a message of fewer bytes a test before its sums are made would save little.
-const LONG_MESSAGE: usize = 256;
-
-/// A message of at most so many bytes has no more than 2^26 numbers in a column. Where no entry is further than 2^34 from 0,
-/// their sums are no further than 2^60.
+/// Fields of at most so many bytes have no more than 2^26 numbers in a column. Where no entry is further than 2^34 from 0, their
+/// sums are no further than 2^60.
 const MOST_BYTES: usize = 1 << 26;
 
-/// Whether a long message has a column of so small numbers that each sum of entries of 64 bits is strictly between -2^62 and
-/// 2^62. No sum is made.
+/// Whether a column in the fields that are still to come has so small numbers that each sum of entries of 64 bits is strictly
+/// between -2^62 and 2^62. No sum is made.
 #[tactic(auto, using(crate::proofs::ShortLemmas::small_sums))]
-fn has_small_sums(message: &[u8], at: u64, number: u64) -> bool
-    requires { at + length message.now ≤ 2 ^ 63 }
-    ensures { IsTrue result
-        → sum_faults (pos (2 ^ 62)) false (joined number (fields_in at message.now)) ≡ [] }
+fn has_small_sums(fields: Fields<'_>, number: u64) -> bool
+    ensures { IsTrue result → sum_faults (pos (2 ^ 62)) false
+        (joined number (found (fields_left fields.entry))) ≡ [] }
 {
-    message.len() >= LONG_MESSAGE
-        && message.len() <= MOST_BYTES
-        && has_small_numbers(message, at, number)
+    fields.len() <= MOST_BYTES && has_small_numbers_left(fields, number)
 }
 
 /// The least fault of the values of a column of differences in the fields that are still to come: `OutOfRange` where one isn't
@@ -264,6 +258,9 @@ pub fn judge_sums_left(fields: Fields<'_>, number: u64, limit: u64, narrow: bool
     ensures { result
         ≡ least (sum_faults (pos limit) narrow (joined number (found (fields_left fields.entry)))) }
 {
+    if limit == 1 << 62 && !narrow && has_small_sums(fields, number) {
+        return None;
+    }
     let mut column = Column::over(fields, number);
     let mut sum = sum_within(limit);
     while let Some(entry) = column.next() {
@@ -273,6 +270,7 @@ pub fn judge_sums_left(fields: Fields<'_>, number: u64, limit: u64, narrow: bool
                 reason: Reason::OutOfRange,
             });
         };
+        'zeros: while column.pass_zero() {}
     }
     None
 }
@@ -284,9 +282,6 @@ pub fn judge_sums(message: &[u8], at: u64, number: u64, limit: u64, narrow: bool
     ensures { result
         ≡ least (sum_faults (pos limit) narrow (joined number (fields_in at message.now))) }
 {
-    if limit == 1 << 62 && !narrow && has_small_sums(message, at, number) {
-        return None;
-    }
     judge_sums_left(Fields::new(message, at), number, limit, narrow)
 }
 
@@ -318,6 +313,7 @@ pub fn judge_index_sums(message: &[u8], at: u64, number: u64, limit: u64) -> Opt
             });
         };
         index = sum;
+        'zeros: while column.pass_zero() {}
     }
     None
 }

@@ -1,9 +1,11 @@
 //! Quick tests for columns whose numbers are short, which most columns are: many bytes at once, and no number decoded.
 
-ghost use Rattle.std.specs.Prelude.{◌≡◌, ◌+◌, ◌<◌, ◌≤◌, ◌^◌, ℕ, IsBitSet, IsTrue, length, slice_index};
+ghost use Rattle.std.specs.Prelude.{◌≡◌, ◌+◌, ◌<◌, ◌≤◌, ◌^◌, ℕ, IsBitSet, IsTrue, length, slice_index, take};
 ghost use Rattle.std.specs.List.{AllByRecursion};
 ghost use Rattle.pbf_wire.specs.Payload.{content};
 ghost use Rattle.pbf_wire.specs.Columns.{numbers_in, joined};
+ghost use Rattle.pbf_wire.specs.Cursors.{fields_left};
+ghost use Rattle.pbf_wire.specs.Occurrence.{found};
 ghost use Rattle.pbf_wire.specs.Faults.{fields_in};
 ghost use Rattle.pbf_wire.specs.Short.{EndsSoon, IsShort};
 
@@ -39,11 +41,34 @@ fn end_soon(window: &[u8; WINDOW]) -> bool
     five & FIRST_SIXTY == FIRST_SIXTY
 }
 
-/// Whether each number takes at most five bytes, and the last one ends. Answers `false` for fewer than `WINDOW` bytes too:
-/// there is little to save.
+/// A window that begins with these bytes, and is filled up with bytes that end.
+fn window_of(bytes: &[u8]) -> [u8; WINDOW]
+    requires { length bytes.now < 64 }
+    ensures { take (length bytes.now) result ≡ bytes.now }
+{
+    let mut window = [0; WINDOW];
+    window[..bytes.len()].copy_from_slice(bytes);
+    window
+}
+
+/// As [`is_short`], for bytes that one window has room for.
+fn is_short_few(bytes: &[u8]) -> bool
+    requires { length bytes.now < 64 }
+    ensures { IsTrue result → IsShort bytes.now }
+{
+    let Some(last) = bytes.last() else {
+        return true;
+    };
+    *last < 128 && end_soon(&window_of(bytes))
+}
+
+/// Whether each number takes at most five bytes, and the last one ends.
 pub fn is_short(bytes: &[u8]) -> bool
     ensures { IsTrue result → IsShort bytes.now }
 {
+    if bytes.len() < WINDOW {
+        return is_short_few(bytes);
+    }
     let Some(last) = bytes.last_chunk::<WINDOW>() else {
         return false;
     };
@@ -69,13 +94,13 @@ fn is_small(payload: Payload<'_>) -> bool
     }
 }
 
-/// Whether the numbers of a column are below 2^35, where that is soon seen. No number of a packed occurrence is decoded.
-pub fn has_small_numbers(message: &[u8], at: u64, number: u64) -> bool
-    requires { at + length message.now ≤ 2 ^ 63 }
+/// Whether the numbers of a column in the fields that are still to come are below 2^35, where that is soon seen. No number of a
+/// packed occurrence is decoded.
+pub(crate) fn has_small_numbers_left(fields: Fields<'_>, number: u64) -> bool
     ensures { IsTrue result
-        → AllByRecursion (λ x. x.0 < 2 ^ 35) (joined number (fields_in at message.now)) }
+        → AllByRecursion (λ x. x.0 < 2 ^ 35) (joined number (found (fields_left fields.entry))) }
 {
-    for item in Fields::new(message, at) {
+    for item in fields {
         let Ok(field) = item else {
             return true;
         };
@@ -84,4 +109,13 @@ pub fn has_small_numbers(message: &[u8], at: u64, number: u64) -> bool
         }
     }
     true
+}
+
+/// As [`has_small_numbers_left`], of all of a message.
+pub fn has_small_numbers(message: &[u8], at: u64, number: u64) -> bool
+    requires { at + length message.now ≤ 2 ^ 63 }
+    ensures { IsTrue result
+        → AllByRecursion (λ x. x.0 < 2 ^ 35) (joined number (fields_in at message.now)) }
+{
+    has_small_numbers_left(Fields::new(message, at), number)
 }

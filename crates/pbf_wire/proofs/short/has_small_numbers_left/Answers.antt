@@ -8,8 +8,8 @@ use Rattle.pbf_wire.specs.Columns.{numbers_in}
 use Rattle.pbf_wire.specs.Cursors.{fields_left}
 use Rattle.pbf_wire.specs.Fields.{occurrence, item}
 use Rattle.pbf_wire.proofs.ShortLemmas.{column_more}
-use Rattle.pbf_wire.proofs.short.has_small_numbers.Goals as goal
-use Rattle.pbf_wire.proofs.short.has_small_numbers.Goals.{else-field-number-via-then-field-number+else-not-is_small, else-field-number-via-else-field-number}
+use Rattle.pbf_wire.proofs.short.has_small_numbers_left.Goals as goal
+use Rattle.pbf_wire.proofs.short.has_small_numbers_left.Goals.{else-field-number-via-then-field-number+else-not-is_small, else-field-number-via-else-field-number}
 
 pub loop-item-preserved : goal.loop-item-preserved
 loop-item-preserved c =

@@ -1,13 +1,12 @@
 use Rattle.pbf_wire.specs.Occurrence.{found}
 use Rattle.pbf_wire.specs.Columns.{joined}
 use Rattle.pbf_wire.specs.Cursors.{fields_left}
-use Rattle.pbf_wire.specs.Faults.{fields_in}
 use Rattle.pbf_wire.proofs.ShortLemmas.{AllSmallPlaced}
-use Rattle.pbf_wire.proofs.short.has_small_numbers.Given as goal
+use Rattle.pbf_wire.proofs.short.has_small_numbers_left.Given as goal
 
 abbrev pub invariant-loop-item : goal.invariant-loop-item
 invariant-loop-item l = record {
   can : (goal.iterator-loop-item).can_next l.item-iterator;
   ends : (goal.iterator-loop-item).is_finite l.item-iterator;
-  so_far : AllSmallPlaced (joined l.number (found (fields_left l.item-iterator))) → AllSmallPlaced (joined l.number (fields_in l.at l.message));
+  so_far : AllSmallPlaced (joined l.number (found (fields_left l.item-iterator))) → AllSmallPlaced (joined l.number (found (fields_left l.fields)));
 }
