@@ -1,6 +1,6 @@
 //! A table that is read: where each text stands in the message.
 
-ghost use Rattle.std.specs.Prelude.{◌≡◌, ◌+◌, ◌*◌, ◌≤◌, ◌<◌, ◌^◌, ◌↔◌, [], Some, None, Err, IsTrue, unwrap_or, IfOk, OnOk, length, map, slice_get, ℕ, MatchOption, ⊤};
+ghost use Rattle.std.specs.Prelude.{◌≡◌, ◌+◌, ◌*◌, ◌≤◌, ◌<◌, ◌^◌, ◌↔◌, [], Some, None, Err, IsTrue, unwrap_or, IfOk, OnOk, length, map, slice_get, ℕ, MatchOption, ⊤, nat_lt};
 ghost use Rattle.std.specs.Option.{option_map};
 ghost use Rattle.pbf_wire.specs.declared.fault.Fault.{Fault};
 ghost use Rattle.pbf_wire.specs.declared.fault.ReadFault.TheVariants.{Refused};
@@ -42,7 +42,8 @@ fn short_text(fields: &[u8]) -> Option<&[u8]>
         return None;
     };
     let length = usize::from(*size);
-    if *tag != 10 || length >= 128 || rest.len() < length {
+    let is_one_byte = length < 128;
+    if *tag != 10 || !is_one_byte || rest.len() < length {
         return None;
     }
     Some(&rest[..length])
@@ -90,6 +91,15 @@ pub fn text_count(message: &[u8]) -> usize
     count
 }
 
+/// Whether there are more than [`MOST_TEXTS`]. A message of no more bytes is not gone through: each text takes some.
+#[tactic(auto, using(crate::proofs::TextsLemmas::texts_few))]
+fn are_too_many(message: &[u8]) -> bool
+    requires { length message.now ≤ 2 ^ 63 }
+    ensures { result ≡ nat_lt MOST_TEXTS (length (texts message.now)) }
+{
+    message.len() > MOST_TEXTS && text_count(message) > MOST_TEXTS
+}
+
 /// Where each text of a StringTable stands in the message.
 fn places(alloc: Global, message: &[u8]) -> Result<Vec<u32>, AllocError>
     requires { length message.now < 33554432 }
@@ -135,7 +145,7 @@ impl<'a> Table<'a> {
         requires { length message.now ≤ 2 ^ 63 }
         ensures { result ≡ judged (count_fault tag message.now) }
     {
-        if text_count(message) > MOST_TEXTS {
+        if are_too_many(message) {
             return Err(Fault {
                 offset: tag,
                 reason: Reason::TooManyStrings,

@@ -14,7 +14,7 @@ use std::hash::BuildHasher;
 use std::marker::Model;
 
 /// How many texts are remembered without their hash.
-const SLOTS: usize = 256;
+const SLOTS: usize = 1024;
 
 /// The slot of a text: by its length and three of its bytes, as it has to cost less than a hash.
 fn slot_of(text: &[u8]) -> usize
@@ -24,6 +24,23 @@ fn slot_of(text: &[u8]) -> usize
     let length = text.len();
     let bytes = byte_at(0) + 7 * byte_at(length / 2) + 31 * byte_at(length.saturating_sub(1));
     (length % SLOTS + bytes) % SLOTS
+}
+
+/// Whether two texts are the same. Most are so short that a look at each byte takes less than `==`, which calls.
+fn is_same(one: &[u8], other: &[u8]) -> bool
+    ensures { IsTrue result ↔ (one.now ≡ other.now) }
+{
+    if one.len() != other.len() {
+        return false;
+    }
+    let mut place = 0;
+    'places: while place < one.len() {
+        if one[place] != other[place] {
+            return false;
+        }
+        place += 1;
+    }
+    true
 }
 
 /// The texts of a block that is being written, in order of first use. The hasher is handed in, as strangers choose the texts.
@@ -86,7 +103,7 @@ impl<S: BuildHasher> TableOut<S> {
     {
         let place = self.recent[slot];
         let known = self.texts.as_slice().get(place as usize)?;
-        if known.as_slice() == text {
+        if is_same(known.as_slice(), text) {
             Some(place + 1)
         } else {
             None

@@ -2,19 +2,18 @@ use Rattle.std.proofs.Common.{◌≡◌, ◌+◌, ap, sym, ◌∙◌, subst, ref
 use Rattle.std.specs.List.{IsDistinct}
 use Rattle.std.specs.Str.{bytes_eq}
 use Rattle.std.proofs.lemmas.Option.{slice_get_read}
-use Rattle.std.proofs.lemmas.Slice.Eq.{bytes_eq-Decides}
 use Rattle.pbf_strings.specs.TableOut.{has_text, index_in}
 use Rattle.pbf_strings.proofs.UsedTexts.{stands, place_at}
 use Rattle.pbf_strings.proofs.table_out.TableOut.recent_index.Goals as goal
 
-pub returns-then-eq : goal.returns-then-eq
-returns-then-eq g c =
+pub returns-then-is_same : goal.returns-then-is_same
+returns-then-is_same g c =
     let texts = c.as_slice.result.now in
     let place = slice_index_or c.self.inside.recent c.args.slot 0 in
     let key = c.in_ok-known.known.now in
     let found = c.in_ok-known.ensures.lookup in
     let at : slice_get texts place ≡ Some key = slice_get_read texts _ place key refl (omega arith) found.1 in
-    let read : key.items ≡ c.args.text.now = sym c.as_slice-2.ensures.value ∙ (bytes_eq-Decides c.as_slice-2.result.now c.args.text.now).0 (sym c.if-eq.ensures) in
+    let read : key.items ≡ c.args.text.now = sym c.as_slice-2.ensures.value ∙ c.is_same.ensures.0 c.if-is_same.true in
     let held : map (λ k. k.items) texts ≡ c.args.self.now = ap (map (λ k. k.items)) c.as_slice.ensures.keys ∙ c.self.view_is in
     let distinct : IsDistinct (λ x y. bytes_eq x.items y.items) texts = subst (IsDistinct (λ x y. bytes_eq x.items y.items)) (sym c.as_slice.ensures.keys) c.as_slice.ensures.unique in
     subst (λ t. (has_text c.args.self.now t ≡ true) × (place + 1 ≡ index_in c.args.self.now t)) read
