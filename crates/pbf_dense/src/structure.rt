@@ -45,6 +45,10 @@ fn are_runs(keys_vals: Column<'_>, nodes: usize) -> bool
     let mut numbers = keys_vals;
     let mut left = nodes;
     'runs: while left > 0 {
+        if numbers.pass_zero() {
+            left -= 1;
+            continue 'runs;
+        }
         let Some(key) = next_number(&mut numbers) else {
             return false;
         };

@@ -39,6 +39,9 @@ fn judge_texts(message: &[u8], at: u64, limit: u64) -> Option<Fault>
             least = lesser(least, judge_index(place, number, limit));
             in_value = !in_value;
         }
+        if !in_value {
+            'zeros: while keys_vals.pass_zero() {}
+        }
     }
     least
 }

@@ -250,10 +250,8 @@ fn has_small_sums(fields: Fields<'_>, number: u64) -> bool
     fields.len() <= MOST_BYTES && has_small_numbers_left(fields, number)
 }
 
-/// The least fault of the values of a column of differences in the fields that are still to come: `OutOfRange` where one isn't
-/// strictly between `-limit` and `limit`. Of `narrow` columns the low 32 bits of each entry count. Reads up to the first such
-/// value.
-pub fn judge_sums_left(fields: Fields<'_>, number: u64, limit: u64, narrow: bool) -> Option<Fault>
+/// As [`judge_sums_left`], where there are fields.
+fn judge_sums_of(fields: Fields<'_>, number: u64, limit: u64, narrow: bool) -> Option<Fault>
     requires { (1 ≤ limit) × (limit ≤ 2 ^ 62) }
     ensures { result
         ≡ least (sum_faults (pos limit) narrow (joined number (found (fields_left fields.entry)))) }
@@ -273,6 +271,22 @@ pub fn judge_sums_left(fields: Fields<'_>, number: u64, limit: u64, narrow: bool
         'zeros: while column.pass_zero() {}
     }
     None
+}
+
+/// The least fault of the values of a column of differences in the fields that are still to come: `OutOfRange` where one isn't
+/// strictly between `-limit` and `limit`. Of `narrow` columns the low 32 bits of each entry count. Reads up to the first such
+/// value.
+#[inline(always)]
+pub fn judge_sums_left(fields: Fields<'_>, number: u64, limit: u64, narrow: bool) -> Option<Fault>
+    requires { (1 ≤ limit) × (limit ≤ 2 ^ 62) }
+    ensures { result
+        ≡ least (sum_faults (pos limit) narrow (joined number (found (fields_left fields.entry)))) }
+{
+    // Most ways have no locations.
+    if fields.is_done() {
+        return None;
+    }
+    judge_sums_of(fields, number, limit, narrow)
 }
 
 /// As [`judge_sums_left`], of all of a message.

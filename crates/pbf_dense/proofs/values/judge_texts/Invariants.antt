@@ -1,4 +1,4 @@
-use Rattle.std.proofs.Common.{◌≡◌, false, length}
+use Rattle.std.proofs.Common.{◌≡◌, ◌≤◌, false, length}
 use Rattle.pbf_wire.specs.Least.{lesser, least}
 use Rattle.pbf_wire.specs.Columns.{joined}
 use Rattle.pbf_wire.specs.Cursors.{column_left}
@@ -12,3 +12,12 @@ invariant-numbers l = lesser l.least (least (index_faults l.limit (texts_named l
 
 abbrev pub decreases-numbers : goal.decreases-numbers
 decreases-numbers l = length (column_left l.keys_vals)
+
+abbrev pub invariant-zeros : goal.invariant-zeros
+invariant-zeros l = record {
+  faults : lesser l.least (least (index_faults l.limit (texts_named false (column_left l.keys_vals)))) ≡ least (index_faults l.limit (texts_named false (joined KEYS_VALS (fields_in l.at l.message))));
+  shorter : length (column_left l.keys_vals) ≤ length (column_left l.initial.keys_vals);
+}
+
+abbrev pub decreases-zeros : goal.decreases-zeros
+decreases-zeros l = length (column_left l.keys_vals)

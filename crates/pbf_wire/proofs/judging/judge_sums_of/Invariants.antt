@@ -7,7 +7,7 @@ use Rattle.pbf_wire.specs.Cursors.{fields_left, column_left}
 use Rattle.pbf_wire.specs.Occurrence.{found}
 use Rattle.pbf_wire.specs.Faults.{sum_faults}
 use Rattle.pbf_wire.proofs.RisingLemmas.{Rising, running}
-use Rattle.pbf_wire.proofs.judging.judge_sums_left.Given as goal
+use Rattle.pbf_wire.proofs.judging.judge_sums_of.Given as goal
 
 abbrev pub invariant-loop-entry : goal.invariant-loop-entry
 invariant-loop-entry l = record {

@@ -7,7 +7,7 @@ use Rattle.pbf_wire.specs.Occurrence.{found}
 use Rattle.pbf_wire.specs.Cursors.{fields_left, column_left, place_of}
 use Rattle.pbf_wire.proofs.SumLemmas.{not_within}
 use Rattle.pbf_wire.proofs.RisingLemmas.{left_rises, not_good, running, running_is}
-use Rattle.pbf_wire.proofs.judging.judge_sums_left.Goals as goal
+use Rattle.pbf_wire.proofs.judging.judge_sums_of.Goals as goal
 
 pub loop-entry-init : goal.loop-entry-init
 loop-entry-init c = rw c.sum_within-sum.ensures (rw c.over-column.ensures.left (record {
