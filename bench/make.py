@@ -3,10 +3,10 @@
 
 usage: bench/make.py SMALL LARGE MEGABYTES
 
-LARGE has the entities of SMALL over and over, each copy with higher ids and a quarter of a degree further east, until it has so many
-megabytes: first the nodes of all copies, then their ways, then their relations, each sorted by id. It prints how many copies there
-are, and the three boxes that hold about 1 %, 25 % and 100 % of them. SMALL is raw, sorted, has dense nodes, and is less than a
-quarter of a degree wide.
+LARGE has the entities of SMALL over and over, each copy a quarter of a degree further east, until it has so many megabytes: first the
+nodes of all copies, then their ways, then their relations, each sorted by id. The ids are numbered anew, from 1 on without gaps, as some
+programs keep room for each id below the greatest. It prints how many copies there are, and the three boxes that hold about 1 %, 25 % and
+100 % of them. SMALL is raw, sorted, has dense nodes, and is less than a quarter of a degree wide.
 """
 import importlib.machinery
 import importlib.util
@@ -14,7 +14,7 @@ import os
 import sys
 
 TOP = os.path.dirname(os.path.dirname(os.path.abspath(__file__)))
-ID_STEP = 1 << 36  # above each id of SMALL
+NODE, WAY, RELATION = 0, 1, 2  # the types of members
 CELL = 250_000_000  # a quarter of a degree, in nanodegrees
 COLUMNS = 600  # copies side by side; then a row further north
 
@@ -40,71 +40,112 @@ def zigzag(number: int) -> bytes:
     return pbf.varint(number << 1 if number >= 0 else (-number << 1) - 1)
 
 
+def column(content) -> list:
+    """The numbers of a packed column of differences."""
+    numbers, number, at = [], 0, 0
+    while at < len(content):
+        difference, at = pbf.read_varint(content, at)
+        number += signed(difference)
+        numbers.append(number)
+    return numbers
+
+
 class Shifted:
     """A column of differences of which only the first changes from copy to copy."""
 
-    def __init__(self, number: int, content):
-        first, rest = pbf.read_varint(content, 0) if len(content) else (0, 0)
-        self.number, self.first, self.rest = number, signed(first), bytes(content[rest:])
-        self.empty = len(content) == 0
+    def __init__(self, number: int, numbers: list):
+        self.number, self.numbers = number, numbers[:1]
+        self.rest = b"".join(zigzag(after - before) for before, after in zip(numbers, numbers[1:]))
 
     def moved(self, by: int) -> bytes:
-        return b"" if self.empty else pbf.nested(self.number, zigzag(self.first + by) + self.rest)
+        return b"".join(pbf.nested(self.number, zigzag(first + by) + self.rest) for first in self.numbers)
 
 
 def field(number: int, value) -> bytes:
     return pbf.scalar(number, value) if isinstance(value, int) else pbf.nested(number, bytes(value))
 
 
-def only(message, number: int, default):
-    return dict(pbf.fields(message)).get(number, default)
+def members(kind: int, message) -> list:
+    """What a way or a relation refers to: pairs of a type and an id."""
+    found = dict(pbf.fields(message))
+    if kind == WAY:
+        return [(NODE, ref) for ref in column(found.get(8, b""))]
+    return list(zip(bytes(found.get(10, b"")), column(found.get(9, b""))))
+
+
+class Ids:
+    """The ids of SMALL, those that it only refers to among them, numbered anew for each type."""
+
+    def __init__(self, payloads: list):
+        found = {NODE: set(), WAY: set(), RELATION: set()}
+        for payload in payloads:
+            for kind, number in self.met(payload):
+                found[kind].add(number)
+        self.new = {kind: {old: 1 + place for place, old in enumerate(sorted(ids))} for kind, ids in found.items()}
+        self.step = max(len(ids) for ids in found.values())
+
+    @staticmethod
+    def met(payload):
+        for group in (value for number, value in pbf.fields(payload) if number == 2):
+            for number, message in pbf.fields(group):
+                if number == 2:
+                    yield from ((NODE, id) for id in column(dict(pbf.fields(message))[1]))
+                elif number in (3, 4):
+                    yield number - 2, dict(pbf.fields(message))[1]
+                    yield from members(number - 2, message)
+
+    def __call__(self, pairs) -> list:
+        return [self.new[kind][number] for kind, number in pairs]
 
 
 class Dense:
     """A dense message, in parts: ids, latitudes and longitudes move."""
 
-    def __init__(self, message, granularity: int):
+    def __init__(self, message, granularity: int, ids: Ids):
         found = pbf.fields(message)
-        self.columns = {number: Shifted(number, value) for number, value in found if number in (1, 8, 9)}
+        numbers = {number: column(value) for number, value in found if number in (1, 8, 9)}
+        numbers[1] = ids((NODE, number) for number in numbers[1])
+        self.columns = [Shifted(number, numbers[number]) for number in (1, 8, 9)]
         self.other = b"".join(field(number, value) for number, value in found if number not in (1, 8, 9))
-        self.granularity = granularity
+        self.granularity, self.step = granularity, ids.step
 
     def moved(self, copy: int) -> bytes:
         east, north = copy % COLUMNS * CELL, copy // COLUMNS * CELL
-        by = {1: copy * ID_STEP, 8: north // self.granularity, 9: east // self.granularity}
-        return pbf.nested(2, b"".join(self.columns[number].moved(by[number]) for number in (1, 8, 9)) + self.other)
+        by = (copy * self.step, north // self.granularity, east // self.granularity)
+        return pbf.nested(2, b"".join(map(Shifted.moved, self.columns, by)) + self.other)
 
 
 class Linked:
     """A way or a relation, in parts: its id moves, and the ids in its column of refs or of members."""
 
-    def __init__(self, kind: int, message, column: int):
-        found = pbf.fields(message)
-        self.kind, self.id = kind, dict(found)[1]
-        self.column = Shifted(column, dict(found).get(column, b""))
-        self.other = b"".join(field(number, value) for number, value in found if number not in (1, column))
+    def __init__(self, kind: int, message, ids: Ids):
+        found, number_of_column = pbf.fields(message), 8 if kind == WAY else 9
+        self.kind, self.step = kind, ids.step
+        self.id = ids([(kind, dict(found)[1])])[0]
+        self.column = Shifted(number_of_column, ids(members(kind, message)))
+        self.other = b"".join(field(number, value) for number, value in found if number not in (1, number_of_column))
 
     def moved(self, copy: int) -> bytes:
-        by = copy * ID_STEP
-        return pbf.nested(self.kind, pbf.scalar(1, self.id + by) + self.other + self.column.moved(by))
+        by = copy * self.step
+        return pbf.nested(self.kind + 2, pbf.scalar(1, self.id + by) + self.other + self.column.moved(by))
 
 
 class Block:
     """A block of SMALL: its fields beside the groups, and its groups by parts."""
 
-    def __init__(self, payload):
+    def __init__(self, payload, ids: Ids):
         found = pbf.fields(payload)
         granularity = dict(found).get(17, 100)
         self.other = b"".join(field(number, value) for number, value in found if number != 2)
-        self.groups = [[self.part(*part, granularity) for part in pbf.fields(group)] for number, group in found if number == 2]
-        self.kinds = {type(part).__name__ + str(getattr(part, "kind", "")) for group in self.groups for part in group}
+        self.groups = [[self.part(*part, granularity, ids) for part in pbf.fields(group)] for number, group in found if number == 2]
+        self.kinds = {getattr(part, "kind", NODE) for group in self.groups for part in group}
 
     @staticmethod
-    def part(number: int, message, granularity: int):
+    def part(number: int, message, granularity: int, ids: Ids):
         if number == 2:
-            return Dense(message, granularity)
+            return Dense(message, granularity, ids)
         if number in (3, 4):
-            return Linked(number, message, 8 if number == 3 else 9)
+            return Linked(number - 2, message, ids)
         sys.exit("bench/make.py: SMALL has plain nodes or changesets")
 
     def moved(self, copy: int) -> bytes:
@@ -113,13 +154,14 @@ class Block:
 
 
 def read_small(path: str):
-    header, blocks = b"", []
+    header, payloads = b"", []
     for found in pbf.frames(pbf.Source(path, "read   ")):
         if found.kind == b"OSMHeader":
             header = found.content
         elif found.known:
-            blocks.append(Block(pbf.stored(found.blob)[1]))
-    return header, blocks
+            payloads.append(bytes(pbf.stored(found.blob)[1]))
+    ids = Ids(payloads)
+    return header, [Block(payload, ids) for payload in payloads]
 
 
 def degrees(nano: int) -> str:
@@ -140,7 +182,7 @@ def main(small: str, large: str, megabytes: str):
     copies = max(1, int(megabytes) * 1_000_000 // size)
     with open(large, "wb") as file:
         file.write(header)
-        for kind in ("Dense", "Linked3", "Linked4"):
+        for kind in (NODE, WAY, RELATION):
             for copy in range(copies):
                 file.write(b"".join(block.moved(copy) for block in blocks if kind in block.kinds))
     print(f"copies {copies}, {os.path.getsize(large)} bytes")

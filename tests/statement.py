@@ -13,9 +13,10 @@ import sys
 
 TOP = os.path.dirname(os.path.dirname(os.path.abspath(__file__)))
 PAGE = os.path.join(TOP, "docs", "STATEMENT.md")
+# Each public call, with the crate and the file that have it.
 CALLS = {
-    "extract": "extracting", "extract_with_receipt": "extracting", "extract_parents": "extracting", "convert": "converting",
-    "show": "showing", "check": "checking", "list_blobs": "blobs",
+    "extract": ("pbfcut", "extracting"), "extract_with_receipt": ("pbfcut", "extracting"), "extract_parents": ("pbfcut", "extracting"),
+    "convert": ("pbfcut", "converting"), "show": ("pbfcut", "showing"), "check": ("pbf_pass", "checking"), "list_blobs": ("pbfcut", "blobs"),
 }
 # The calls with a clause of this name, which says what the answer means, and what is refused.
 PROMISE = "promise"
@@ -181,7 +182,8 @@ def counts_part(sources: Sources, found: list):
     yield "| Call | Definitions | Lines | " + " | ".join(crates) + " |"
     yield "|---|---|---|" + "---|" * len(crates)
     for call in CALLS:
-        link = f"[`{call}`](../crates/pbfcut/src/{CALLS[call]}.rt)"
+        crate, file = CALLS[call]
+        link = f"[`{call}`](../crates/{crate}/src/{file}.rt)"
         if call in PROMISED:
             yield counts_row(f"{link}: `{PROMISE}`", [definition for definition in found if call in definition.promised], crates)
         yield counts_row(link, [definition for definition in found if call in definition.under], crates)
@@ -210,14 +212,14 @@ def foreign_part(places: set):
 
 def page() -> str:
     sources, foreign = Sources(), set()
-    for call, file in CALLS.items():
-        for place in sources.closure(contract("pbfcut", file, call)):
+    for call, home in CALLS.items():
+        for place in sources.closure(contract(*home, call)):
             if place in sources.all:
                 sources.all[place].under.add(call)
             elif place[0].split(".")[0] not in sources.crates:
                 foreign.add(place)
     for call in PROMISED:
-        for place in sources.closure(contract("pbfcut", CALLS[call], call, PROMISE)):
+        for place in sources.closure(contract(*CALLS[call], call, PROMISE)):
             if place in sources.all:
                 sources.all[place].promised.add(call)
     laws(sources)

@@ -65,21 +65,26 @@ def all_below(crates, name):
     return found
 
 
-def height(crates, name):
-    """How many crates stand above one another on this one, itself counted."""
-    return 1 + max((height(crates, other) for other in crates if name in crates[other]), default=0)
+def files_of(name):
+    """The files of a crate that its proof reads, in a fixed order."""
+    for part in ("src", "specs", "proofs"):
+        for folder, folders, files in os.walk(os.path.join(TOP, "crates", name, part)):
+            folders.sort()
+            yield from (os.path.join(folder, file) for file in sorted(files))
+
+
+def way_up(crates, name):
+    """How many bytes have to be proved, one crate after another, from this one up to the program: about how long that takes."""
+    own = sum(os.path.getsize(file) for file in files_of(name))
+    return own + max((way_up(crates, other) for other in crates if name in crates[other]), default=0)
 
 
 def source_sum(crates, name):
     """A digest of the sources of a crate and of those below it."""
     digest = hashlib.sha256(subprocess.run(["rt", "version"], capture_output=True).stdout)
     for crate in all_below(crates, name) + [name]:
-        for part in ("src", "specs", "proofs"):
-            for folder, folders, files in os.walk(os.path.join(TOP, "crates", crate, part)):
-                folders.sort()
-                for file in sorted(files):
-                    path = os.path.join(folder, file)
-                    digest.update(path[len(TOP):].encode() + b"\0" + open(path, "rb").read())
+        for path in files_of(crate):
+            digest.update(path[len(TOP):].encode() + b"\0" + open(path, "rb").read())
     return digest.hexdigest()
 
 
@@ -114,6 +119,7 @@ class Build:
         self.shown = sys.stderr.isatty()
         os.makedirs(self.room, exist_ok=True)
         self.sums = {name: source_sum(self.crates, name) for name in self.crates}
+        self.ways = {name: way_up(self.crates, name) for name in self.crates}
 
     def result(self, name):
         return os.path.join(self.room, name + (".o" if name == self.program else ".rlib"))
@@ -140,28 +146,26 @@ class Build:
 
     def start(self, name, jobs, beside):
         log = open(os.path.join(self.room, name + ".log"), "w")
-        first = (lambda: os.nice(10)) if beside else None
+        first = (lambda: os.nice(5)) if beside else None
         folder = os.path.join(TOP, "crates", name)
         self.running[name] = subprocess.Popen(
             self.command(name, jobs), cwd=folder, stdin=subprocess.DEVNULL, stdout=log, stderr=log, preexec_fn=first
         )
 
     def start_ready(self):
-        """Starts what can be: of the crates that wait, the one that most stands on first."""
+        """Starts what can be: of the crates that wait, the one with the longest way up first. One that is begun beside a longer way gets
+        half of the processors, and the last of them where its way is much shorter."""
         done = self.proved
         ready = [name for name in self.crates if name not in done and name not in self.running]
         ready = [name for name in ready if all(other in done for other in self.crates[name] if other in self.crates)]
-        for name in sorted(ready, key=lambda name: -height(self.crates, name)):
+        for name in sorted(ready, key=lambda name: -self.ways[name]):
             if self.is_kept(name):
                 self.end(name)
                 return self.start_ready()
-            tops = max((height(self.crates, other) for other in self.running), default=0)
-            if not self.running or height(self.crates, name) > tops:
-                self.start(name, 1 if name in self.again else self.lanes, False)
-            elif self.lanes > 1 and height(self.crates, name) == tops:
-                self.start(name, 1 if name in self.again else max(1, self.lanes // 2), False)
-            elif len(self.running) <= self.lanes // 2:
-                self.start(name, 1, True)
+            longest = max((self.ways[other] for other in self.running), default=0)
+            if len(self.running) < self.lanes:
+                jobs = self.lanes if self.ways[name] > longest else max(1, self.lanes // 2)
+                self.start(name, 1 if name in self.again else jobs, self.ways[name] < 0.8 * longest)
 
     def end(self, name):
         with open(self.result(name) + ".sum", "w") as file:
@@ -176,7 +180,7 @@ class Build:
 
     def show(self):
         if self.shown:
-            names = ", ".join(sorted(self.running, key=lambda name: -height(self.crates, name)))
+            names = ", ".join(sorted(self.running, key=lambda name: -self.ways[name]))
             print(f"\r\033[Kpbfcut: proving {names}; proved {self.progress()}"[:150], end="", file=sys.stderr, flush=True)
 
     def collect(self):

@@ -1,64 +1,34 @@
 -- A file's conversion, from what its passes say.
 use Rattle.std.proofs.Common.{◌≡◌, ℕ, ◌≤◌, ◌^◌, List, [], ◌∷◌, length, Option, Some, None, subst, refl, sym, ap, ◌∙◌}
 use Rattle.std.specs.List.{filter}
-use Rattle.std.specs.Option.{option_map}
 use Rattle.pbf_wire.specs.declared.fault.Fault.{Fault}
 use Rattle.osm_entity.specs.Entity.{EntitySpec}
 use Rattle.osm_pack.specs.Cuts.{written_file}
-use Rattle.pbf_header.specs.declared.header.Header.{Header}
-use Rattle.pbf_header.specs.Header.{HeaderSpec, header_of}
+use Rattle.pbf_header.specs.Header.{HeaderSpec}
 use Rattle.pbf_frame.specs.Devices.{IsFront}
 use Rattle.pbf_frame.specs.Frames.{FrameSpec}
 use Rattle.pbf_frame.specs.Verdict.{Verdict, Says}
 use Rattle.pbf_frame.proofs.KnownBytes.{append_none}
-use Rattle.pbf_frame.proofs.Parting.{none_some}
 use Rattle.pbf_block.specs.declared.counts.Counts.{Counts}
-use Rattle.pbfcut.specs.declared.pass.Pass.{Pass}
+use Rattle.pbf_pass.specs.declared.pass.Pass.{Pass}
 use Rattle.pbfcut.specs.declared.pick.Selection.TheVariants as selection
 use Rattle.pbfcut.specs.Theorem.{IsConverted}
-use Rattle.pbfcut.specs.Converting.{header_limit, with_limit, limited, judged_writable, held_header, answer_bytes, conversion, CanBeWritten}
-use Rattle.pbfcut.specs.Counting.{counts_of, stored_entities}
-use Rattle.pbfcut.specs.Judged.{judged_file}
+use Rattle.pbfcut.specs.Converting.{answer_bytes, conversion, CanBeWritten}
+use Rattle.pbf_pass.specs.HeaderLimit.{header_limit, judged_writable, held_header}
+use Rattle.pbf_pass.specs.Counting.{counts_of, stored_entities}
+use Rattle.pbf_pass.specs.Judged.{judged_file}
 use Rattle.pbfcut.specs.Kept.{verdict_on, conversion_of, IsWritable}
-use Rattle.pbfcut.proofs.GivenLemmas.{Tells}
+use Rattle.pbf_pass.proofs.GivenLemmas.{Tells}
+use Rattle.pbf_pass.proofs.LimitLemmas.{held_is, judged_sound}
 use Rattle.pbfcut.proofs.KeptLaw.{IsKept, same_verdict, conversion_kept}
 use Rattle.pbfcut.specs.Pick.{everything, pick_of, Packed, PacksFront}
-use Rattle.pbfcut.specs.Stops.{FaultOf}
-use Rattle.pbfcut.specs.Pass.{HoldsHeader, TakesFile, file_header}
+use Rattle.pbf_pass.specs.Pass.{TakesFile, file_header}
 
--- ---- the header
-
-abbrev placed_at : ℕ → Header → ℕ × HeaderSpec
-placed_at at x = (at, header_of x)
-
-pub held_is : (told : Option (ℕ × HeaderSpec)) (pass : Pass) → HoldsHeader told pass → held_header pass ≡ told
-held_is None pass h = ap (λ (o : Option Header). option_map (placed_at pass.header_at) o) h
-held_is (Some header) pass h = of pass.header h.0 ∙ ap (λ (n : ℕ). let p : ℕ × HeaderSpec = (n, header.1) in Some p) h.1 where
-  of : (o : Option Header) → option_map header_of o ≡ Some header.1 → option_map (placed_at pass.header_at) o ≡ Some (pass.header_at, header.1)
-  of None e = absurd (none_some _ _ refl e)
-  of (Some x) e = ap (λ (o : Option HeaderSpec). option_map (λ (y : HeaderSpec). let p : ℕ × HeaderSpec = (pass.header_at, y) in p) o) e
-
--- ---- the verdict, and the limit of the header
-
-pub limited_fault : (known : Option Verdict) (frames : List FrameSpec) (e : Fault) → Says known (frames, Some e) → Says (option_map limited known) (frames, Some e)
-limited_fault None frames e says = tt
-limited_fault (Some v) frames e says = ap limited says
-
-pub limited_limit : (known : Option Verdict) (frames : List FrameSpec) (e : Fault) → Says known (frames, None) → header_limit (file_header frames) ≡ Some e → Says (option_map limited known) ([], Some e)
-limited_limit None frames e says limit = tt
-limited_limit (Some v) frames e says limit = ap limited says ∙ ap (λ (o : Option Fault). with_limit o frames) limit
-
--- a header that can't be written is refused
-pub limit_refused : {S : Type 0} (gathered : S → EntitySpec → S) (before now : S) (known : Option Verdict) (pass : Pass) (e : Fault) → TakesFile gathered known before now pass → header_limit (held_header pass) ≡ Some e → FaultOf (option_map limited known) e
-limit_refused gathered before now known pass e p limit = ([], limited_limit known p.frames e p.says (ap header_limit (sym (held_is (file_header p.frames) pass p.header)) ∙ limit))
+-- ---- what is known
 
 -- nothing went out
 pub nothing_out : (old : Option (List ℕ)) (whole : List ℕ) → IsFront old old whole
 nothing_out old whole = record { count = 0; taken = sym (append_none old) }
-
--- where the bytes are known, so is their verdict
-pub judged_sound : (b : List ℕ) (frames : List FrameSpec) → judged_file (Some b) ≡ Some (frames, None) → header_limit (file_header frames) ≡ None → judged_writable (Some b) ≡ Some (frames, None)
-judged_sound b frames judged within = ap (λ (o : Option Verdict). option_map limited o) judged ∙ ap (λ (o : Option Fault). Some (with_limit o frames)) within
 
 -- two passes over these bytes met the same frames
 pub same_frames : (b : List ℕ) (frames others : List FrameSpec) → judged_file (Some b) ≡ Some (frames, None) → judged_file (Some b) ≡ Some (others, None) → others ≡ frames

@@ -28,23 +28,24 @@ use Rattle.pbf_frame.specs.Frames.{FrameSpec}
 use Rattle.pbf_frame.specs.Verdict.{Verdict, Says}
 use Rattle.pbf_frame.proofs.Parting.{none_some}
 use Rattle.pbf_block.specs.declared.counts.Counts.{Counts}
-use Rattle.pbfcut.specs.declared.pass.Pass.{Pass}
+use Rattle.pbf_pass.specs.declared.pass.Pass.{Pass}
 use Rattle.pbfcut.specs.declared.pick.Selection.TheVariants as selection
-use Rattle.pbfcut.specs.Converting.{header_limit, judged_writable, held_header}
-use Rattle.pbfcut.specs.Counting.{counts_of, stored_entities}
+use Rattle.pbf_pass.specs.HeaderLimit.{header_limit, judged_writable, held_header}
+use Rattle.pbf_pass.specs.Counting.{counts_of, stored_entities}
 use Rattle.pbfcut.specs.Calls.{Differ, ChangedIn, ChangedBefore, RefusedFirst, ConvertStops, ExtractStops, ParentsStops}
 use Rattle.pbfcut.specs.Theorem.{IsExtraction}
 use Rattle.pbfcut.specs.Extracting.{Choice, complete_ways, all_parents, extraction, extract_bytes, Chooses, ChoosesParents}
 use Rattle.pbfcut.specs.Kept.{verdict_on, extract_of, IsWritable}
-use Rattle.pbfcut.proofs.GivenLemmas.{IsDigest}
+use Rattle.pbf_pass.proofs.GivenLemmas.{IsDigest}
 use Rattle.pbfcut.proofs.KeptLaw.{IsSelection, IsKeptExtract, same_verdict, extract_kept}
-use Rattle.pbfcut.specs.Pass.{with_node, with_way, with_relation, TakesFile, file_header}
+use Rattle.pbf_pass.specs.Pass.{with_node, with_way, with_relation, TakesFile, file_header}
 use Rattle.pbfcut.specs.declared.repeat.Repeat.{Repeat}
 use Rattle.pbfcut.specs.Repeat.{GathersAgain, Unlike, StopsAgain, SameDigest}
-use Rattle.pbfcut.specs.Stops.{Caused}
-use Rattle.pbfcut.specs.Judged.{judged_file}
+use Rattle.pbf_pass.specs.Stops.{Caused}
+use Rattle.pbf_pass.specs.Judged.{judged_file}
 use Rattle.pbfcut.specs.Pick.{Pick, picked_by, picked_with_parents, pick_of, Packed, PacksFront}
-use Rattle.pbfcut.proofs.ConvertingLemmas.{held_is, judged_sound, same_frames, known_says}
+use Rattle.pbfcut.proofs.ConvertingLemmas.{same_frames, known_says}
+use Rattle.pbf_pass.proofs.LimitLemmas.{held_is, judged_sound}
 
 -- ---- what was chosen
 

@@ -3,7 +3,7 @@ use Rattle.std.proofs.Common.{◌≡◌, ℕ, zero, suc, ◌+◌, ◌≤◌, Lis
 use Rattle.std.specs.Prelude.{Bool, true, false, ◌||◌, ◌==◌, if◌then◌else◌, Option, Some, None, map}
 use Rattle.std.specs.Option.{option_map, option_or}
 use Rattle.pbf_wire.specs.declared.fault.Fault.{Fault}
-use Rattle.pbf_wire.specs.Least.{least_by, least}
+use Rattle.pbf_wire.specs.Least.{least_by}
 use Rattle.pbf_wire.specs.Phases.{first_fault, phase_rank}
 use Rattle.pbf_wire.proofs.PhaseLemmas.{IsFrom, later_from, parted_from, parted_found, phases_joined, or_first, first_of_joined}
 use Rattle.pbf_frame.specs.Frames.{FrameSpec, is_header, frame_at, frame_kind, frame_end, frame_bytes, frame_phases, end_of, given_or, next_of}
@@ -11,8 +11,8 @@ use Rattle.pbf_frame.specs.Verdict.{Verdict, judged_after, judged_within, judged
 use Rattle.pbf_header.specs.HeaderFaults.{header_fault}
 use Rattle.pbf_block.specs.Judgement.{block_fault}
 use Rattle.pbfcut.specs.FileFaults.{payload_phases, frame_faults, end_faults, faults_within, file_faults, file_rank}
-use Rattle.pbfcut.specs.Judged.{fault_in, payload_fault, sound_first, fully, judged_file}
-use Rattle.pbfcut.specs.Payload.{Payload, header_block, primitive_block, unknown, payload_of}
+use Rattle.pbf_pass.specs.Judged.{fault_in, payload_fault, sound_first, fully, judged_file}
+use Rattle.pbf_pass.specs.Payload.{Payload, header_block, primitive_block, unknown, payload_of}
 
 -- ---- a frame
 

@@ -34,12 +34,12 @@ use Rattle.osm_pack.specs.Cuts.{cuts, block_frame, written_entities, header_fram
 use Rattle.osm_pack.proofs.CutLaws.{cuts_joined, cuts_kept}
 use Rattle.osm_pack.proofs.CutLemmas.{kept_bounds}
 use Rattle.osm_pack.proofs.OpenLemmas.{alone}
-use Rattle.pbfcut.specs.Converting.{header_limit, with_limit, limited}
-use Rattle.pbfcut.specs.Counting.{entities_in, frame_entities, stored_entities}
+use Rattle.pbf_pass.specs.HeaderLimit.{header_limit, with_limit, limited}
+use Rattle.pbf_pass.specs.Counting.{entities_in, frame_entities, stored_entities}
 use Rattle.pbfcut.specs.Kept.{verdict_on}
-use Rattle.pbfcut.specs.Judged.{fault_in, payload_fault, sound_first, sound_front, fully, judged_file}
-use Rattle.pbfcut.specs.Pass.{headers_in, frame_headers, file_header}
-use Rattle.pbfcut.specs.Payload.{header_block, payload_as}
+use Rattle.pbf_pass.specs.Judged.{fault_in, payload_fault, sound_first, sound_front, fully, judged_file}
+use Rattle.pbf_pass.specs.Pass.{headers_in, frame_headers, file_header}
+use Rattle.pbf_pass.specs.Payload.{header_block, payload_as}
 use Rattle.pbf_header.specs.declared.write.TheConstants.{MOST_HEADER_TEXT}
 use Rattle.osm_entity.specs.declared.weight.TheConstants.{HIGHEST_WEIGHT}
 

@@ -30,14 +30,15 @@ use Rattle.pbf_header.proofs.HeaderLaw.{out_fits}
 use Rattle.pbf_header.proofs.HeaderLemmas.{header_again}
 use Rattle.pbf_header.proofs.ReadHeaderLaw.{header_fits}
 use Rattle.osm_pack.specs.Cuts.{written_entities, written_file}
-use Rattle.pbfcut.specs.Converting.{header_limit, is_short, with_limit, limited, conversion, judged_writable, answer_bytes}
-use Rattle.pbfcut.specs.Counting.{entities_in, frame_entities, stored_entities}
+use Rattle.pbfcut.specs.Converting.{conversion, answer_bytes}
+use Rattle.pbf_pass.specs.HeaderLimit.{header_limit, is_short, with_limit, limited, judged_writable}
+use Rattle.pbf_pass.specs.Counting.{entities_in, frame_entities, stored_entities}
 use Rattle.pbfcut.specs.Extracting.{Choice, complete_ways, all_parents, extraction, extract_bytes}
-use Rattle.pbfcut.specs.Judged.{fault_in, payload_fault, sound_first, sound_front, fully}
+use Rattle.pbf_pass.specs.Judged.{fault_in, payload_fault, sound_first, sound_front, fully}
 use Rattle.pbfcut.specs.Kept.{verdict_on, IsWritable, header_in_file, entities_in_file, conversion_of, extract_of}
 use Rattle.pbfcut.specs.Theorem.{IsConversion, IsExtract}
-use Rattle.pbfcut.specs.Pass.{headers_in, frame_headers, file_header}
-use Rattle.pbfcut.specs.Payload.{Payload, header_block, primitive_block, unknown, payload_of}
+use Rattle.pbf_pass.specs.Pass.{headers_in, frame_headers, file_header}
+use Rattle.pbf_pass.specs.Payload.{Payload, header_block, primitive_block, unknown, payload_of}
 use Rattle.pbfcut.proofs.FileLaw.{IsFileOf, written_is_file}
 use Rattle.pbf_header.specs.declared.write.TheConstants.{MOST_HEADER_TEXT}
 

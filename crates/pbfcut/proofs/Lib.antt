@@ -1,16 +1,11 @@
 pub mod ListingLemmas
-pub mod CountLemmas
-pub mod StepLemmas
 pub mod TheoremLemmas
 pub mod FaultLemmas
 pub mod ShowingLemmas
 pub mod FileLaw
-pub mod GatherLemmas
-pub mod ReadingLemmas
-pub mod GivenLemmas
 pub mod PickingLemmas
+pub mod RepeatLemmas
 pub mod ConvertingLemmas
 pub mod ExtractingLemmas
 pub mod KeptLaw
 pub mod NodeLemmas
-pub mod HaltingLemmas

@@ -21,8 +21,8 @@ use Rattle.pbf_frame.proofs.Beginnings.{front_whole, front_longer, front_then}
 use Rattle.pbf_frame.proofs.VerdictLemmas.{gone_more, gone_split}
 use Rattle.pbfcut.specs.Blobs.{line, lines}
 use Rattle.pbfcut.specs.Listing.{ListsToFault, StopsListing}
-use Rattle.pbfcut.specs.Stops.{Caused, Only, unchanged, WriteFailed}
-use Rattle.pbfcut.proofs.StepLemmas.{StoppedStep}
+use Rattle.pbf_pass.specs.Stops.{Caused, Only, unchanged, WriteFailed}
+use Rattle.pbf_pass.proofs.StepLemmas.{StoppedStep}
 
 -- what is written for one more of anything
 pub text_one : {A : Type 0} (text : A → List ℕ) (xs : List A) (x : A) → flat_map text (xs ++ x ∷ []) ≡ flat_map text xs ++ text x

@@ -15,7 +15,7 @@ use Rattle.pbf_frame.specs.declared.device.Drain as drain
 use Rattle.pbf_frame.specs.declared.reader.FrameReader.{FrameReader}
 use Rattle.pbf_frame.specs.Next.{Gave, verdict}
 use Rattle.pbf_frame.specs.Reads.{IsReaderStop}
-use Rattle.pbfcut.specs.declared.pass.Pass.{Pass}
+use Rattle.pbf_pass.specs.declared.pass.Pass.{Pass}
 use Rattle.pbf_frame.specs.Devices.{append, HasRisen, IsFront}
 use Rattle.pbf_frame.specs.Transfers.{Added}
 use Rattle.pbf_frame.specs.Frames.{FrameSpec}
@@ -31,15 +31,15 @@ use Rattle.osm_pack.proofs.RunLemmas.{run_keeps, run_kept, run_ends, pending_pus
 use Rattle.std.proofs.lemmas.Grind.{flat_map-append}
 use Rattle.pbf_frame.specs.Verdict.{Gone, Says, with_all}
 use Rattle.pbf_frame.proofs.VerdictLemmas.{gone_more, gone_split}
-use Rattle.pbfcut.specs.Counting.{stored_entities, frame_entities}
-use Rattle.pbfcut.specs.Judged.{payload_fault, fully, fully_known, judged_file}
-use Rattle.pbfcut.proofs.GivenLemmas.{Tells, says_told}
-use Rattle.pbfcut.proofs.CountLemmas.{CountedOn}
-use Rattle.pbfcut.proofs.StepLemmas.{StoppedStep, fully_first, picked_one}
+use Rattle.pbf_pass.specs.Counting.{nodes_of, ways_of, relations_of, count_one, counts_of, stored_entities, frame_entities}
+use Rattle.pbf_pass.specs.Judged.{payload_fault, fully, fully_known, judged_file}
+use Rattle.pbf_pass.proofs.GivenLemmas.{Tells, says_told}
+use Rattle.pbf_pass.proofs.CountLemmas.{CountedOn, stored_one}
+use Rattle.pbf_pass.proofs.StepLemmas.{StoppedStep, fully_first, taken_counts_of}
 use Rattle.pbf_block.specs.declared.counts.Counts.{Counts}
-use Rattle.pbfcut.specs.Counting.{nodes_of, ways_of, relations_of, count_one}
-use Rattle.pbfcut.specs.Pick.{Pick, HasPacked, BeginsAll, Packs, Begins, FailsToPack, Packed, PacksFront}
-use Rattle.pbfcut.specs.Stops.{Caused, Only, unchanged}
+use Rattle.pbfcut.specs.Pick.{Pick, TakesPicked, HasPacked, BeginsAll, Packs, Begins, FailsToPack, Packed, PacksFront}
+use Rattle.pbf_pass.specs.Payload.{payload_of}
+use Rattle.pbf_pass.specs.Stops.{Caused, Only, unchanged}
 
 all_push : {A : Type 0} (P : A → Type 0) (xs : List A) (x : A) → AllByRecursion P xs → P x → AllByRecursion P (xs ++ x ∷ [])
 all_push P [] x h p = (p, tt)
@@ -50,6 +50,15 @@ split_here : (done gone left later all rest : List EntitySpec) (e : EntitySpec) 
 split_here done gone left later all rest e is split =
     append_assoc done gone (e ∷ (later ++ rest))
     ∙ (ap (λ (l : List EntitySpec). done ++ l) (sym (append_assoc gone (e ∷ later) rest) ∙ ap (λ (l : List EntitySpec). l ++ rest) (ap (λ (l : List EntitySpec). gone ++ l) (sym is) ∙ split)) ∙ sym (append_assoc done all rest))
+
+-- what is picked of the frames
+pub picked_one : (pick : Pick) (fs : List FrameSpec) (f : FrameSpec) → filter pick (stored_entities (fs ++ f ∷ [])) ≡ filter pick (stored_entities fs) ++ filter pick (frame_entities f)
+picked_one pick fs f = ap (λ (l : List EntitySpec). filter pick l) (stored_one fs f) ∙ filter-append pick (stored_entities fs) (frame_entities f)
+
+pub picked_counts : (pick : Pick) (f : FrameSpec) (old new : Pass) (fs : List FrameSpec) → TakesPicked pick (payload_of f) old new → old.counts ≡ counts_of (filter pick (stored_entities fs))
+    → new.counts ≡ counts_of (filter pick (stored_entities (fs ++ f ∷ [])))
+picked_counts pick f old new fs h so_far =
+    taken_counts_of (λ es. filter pick es) refl (payload_of f) old new (filter pick (stored_entities fs)) h so_far ∙ ap (λ (l : List EntitySpec). counts_of l) (sym (picked_one pick fs f))
 
 front_of : (pick : Pick) (start now : Option (List ℕ)) (fs rest : List FrameSpec) (all : Verdict) → all.0 ≡ fs ++ rest → BeginsAll start (filter pick (stored_entities fs)) now → IsFront start now (written_entities (filter pick (stored_entities all.0)))
 front_of pick start now fs rest all split begins =

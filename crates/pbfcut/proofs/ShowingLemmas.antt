@@ -16,14 +16,14 @@ use Rattle.pbf_frame.specs.declared.reader.FrameReader.{FrameReader}
 use Rattle.pbf_frame.specs.declared.stop.Stop.{Stop}
 use Rattle.pbf_frame.specs.Next.{Gave, verdict}
 use Rattle.pbf_frame.specs.Reads.{IsReaderStop}
-use Rattle.pbfcut.specs.Judged.{payload_fault, fully_known, judged_file}
+use Rattle.pbf_pass.specs.Judged.{payload_fault, fully_known, judged_file}
 use Rattle.pbfcut.specs.Showing.{frame_text, file_text, answer_text, Shown, ShowsFront, FailsToShow}
-use Rattle.pbfcut.specs.Stops.{Caused, Only, unchanged}
+use Rattle.pbf_pass.specs.Stops.{Caused, Only, unchanged}
 use Rattle.pbf_frame.proofs.Beginnings.{front_whole, front_longer, front_then}
 use Rattle.osm_text.specs.EntityText.{entity_line}
 use Rattle.pbfcut.proofs.ListingLemmas.{StoppedWithin, text_one}
-use Rattle.pbfcut.proofs.GivenLemmas.{Tells, says_told}
-use Rattle.pbfcut.proofs.StepLemmas.{StoppedStep, fully_first}
+use Rattle.pbf_pass.proofs.GivenLemmas.{Tells, says_told}
+use Rattle.pbf_pass.proofs.StepLemmas.{StoppedStep, fully_first}
 
 -- why the reading of a payload stops
 pub read_stops : (fault : Option Fault) (e : ReadFault) (before now : ℕ) → ((x : Fault) → e ≡ read.Refused x → fault ≡ Some x) → Caused (Only fault) ⊥ (HasRisen before now) unchanged (stop_of e)

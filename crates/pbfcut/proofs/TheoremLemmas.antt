@@ -3,9 +3,9 @@ use Rattle.std.proofs.Common.{◌≡◌, ℕ, List, subst}
 use Rattle.pbf_frame.specs.declared.device.Feed as feed
 use Rattle.pbf_frame.specs.declared.device.Drain as drain
 use Rattle.pbfcut.specs.Calls.{BothSupply, AllSupply, FourSupply}
-use Rattle.pbfcut.specs.Given.{GaveFile, Took}
+use Rattle.pbf_pass.specs.Given.{GaveFile, Took}
 use Rattle.pbfcut.specs.Kept.{IsWritable}
-use Rattle.pbfcut.proofs.GivenLemmas.{tells_file, one_file}
+use Rattle.pbf_pass.proofs.GivenLemmas.{tells_file, one_file}
 
 pub took_weaker : {D : Type 0} (d : drain.Ghosts D) (old new : D) (P Q : List ℕ → Type 0) → ((written : List ℕ) → P written → Q written) → Took d old new P → Took d old new Q
 took_weaker d old new P Q weaker took = record { written = took.written; added = took.added; holding = weaker took.written took.holding }

@@ -3,8 +3,8 @@ use Rattle.std.specs.Prelude.{◌≡◌, ◌⊎◌, ℕ, List, Option, Some}
 use Rattle.pbf_wire.specs.declared.fault.Fault.{Fault}
 use Rattle.pbf_frame.specs.declared.stop.Stop.{Stop}
 use Rattle.pbf_frame.specs.Verdict.{Verdict}
-use Rattle.pbfcut.specs.Converting.{judged_writable}
-use Rattle.pbfcut.specs.Stops.{Caused, FaultOf}
+use Rattle.pbf_pass.specs.HeaderLimit.{judged_writable}
+use Rattle.pbf_pass.specs.Stops.{Caused, FaultOf}
 
 -- ---- what is supplied
 

@@ -15,11 +15,11 @@ use Rattle.pbf_header.specs.Header.{HeaderSpec}
 use Rattle.pbf_header.specs.WrittenHeader.{header_out_for_box}
 use Rattle.pbf_frame.specs.Frames.{FrameSpec}
 use Rattle.pbf_frame.specs.Verdict.{Verdict, Says}
-use Rattle.pbfcut.specs.Converting.{header_limit}
-use Rattle.pbfcut.specs.Counting.{stored_entities}
-use Rattle.pbfcut.specs.Judged.{judged_file}
-use Rattle.pbfcut.specs.Pick.{IsShort}
-use Rattle.pbfcut.specs.Pass.{with_node, with_way, with_relation, file_header}
+use Rattle.pbf_pass.specs.HeaderLimit.{header_limit}
+use Rattle.pbf_pass.specs.Counting.{stored_entities}
+use Rattle.pbf_pass.specs.Judged.{judged_file}
+use Rattle.pbf_pass.specs.HeaderLimit.{IsShort}
+use Rattle.pbf_pass.specs.Pass.{with_node, with_way, with_relation, file_header}
 
 abbrev pub Choice : Type 0
 Choice = List EntitySpec → List EntitySpec

@@ -6,11 +6,12 @@ use Rattle.osm_entity.specs.Entity as entity
 use Rattle.osm_entity.specs.Entity.{EntitySpec, Decoded}
 use Rattle.pbf_header.specs.Header.{HeaderSpec}
 use Rattle.pbf_frame.specs.Verdict.{Verdict, judged}
-use Rattle.pbfcut.specs.Converting.{limited, answer_bytes}
-use Rattle.pbfcut.specs.Counting.{stored_entities}
+use Rattle.pbfcut.specs.Converting.{answer_bytes}
+use Rattle.pbf_pass.specs.HeaderLimit.{limited}
+use Rattle.pbf_pass.specs.Counting.{stored_entities}
 use Rattle.pbfcut.specs.Extracting.{Choice, extract_bytes}
-use Rattle.pbfcut.specs.Judged.{fully}
-use Rattle.pbfcut.specs.Pass.{file_header}
+use Rattle.pbf_pass.specs.Judged.{fully}
+use Rattle.pbf_pass.specs.Pass.{file_header}
 
 -- ---- what a file says
 

@@ -1,16 +1,8 @@
 pub mod Blobs
 pub mod Listing
-pub mod Payload
-pub mod Judged
 pub mod FileFaults
-pub mod Counting
-pub mod Stops
-pub mod Pass
 pub mod Pick
 pub mod Repeat
-pub mod Hashing
-pub mod Given
-pub mod Refused
 pub mod Showing
 pub mod Converting
 pub mod Extracting

@@ -8,7 +8,7 @@ use Rattle.pbf_frame.specs.Frames.{FrameSpec}
 use Rattle.pbf_frame.specs.Transfers.{Added}
 use Rattle.pbf_frame.specs.Verdict.{Verdict, Says}
 use Rattle.pbfcut.specs.Blobs.{line, lines}
-use Rattle.pbfcut.specs.Stops.{Caused, Only, unchanged, WriteFailed}
+use Rattle.pbf_pass.specs.Stops.{Caused, Only, unchanged, WriteFailed}
 
 -- ---- a whole listing
 

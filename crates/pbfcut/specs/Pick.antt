@@ -1,10 +1,9 @@
 -- Entities that are picked, on their way into the drain.
-use Rattle.std.specs.Prelude.{◌≡◌, ◌⊎◌, ◌≤◌, ℕ, ℤ, ◌+◌, List, [], ◌++◌, Bool, true, false, Option, Some, None}
+use Rattle.std.specs.Prelude.{◌≡◌, ◌⊎◌, ℕ, ℤ, List, [], ◌++◌, Bool, true, false, Option, Some, None}
 use Rattle.std.specs.FinSet as set
 use Rattle.std.specs.List.{AllByRecursion, filter}
 use Rattle.osm_entity.specs.Entity.{EntitySpec, node, way, relation}
 use Rattle.osm_entity.specs.Ranges.{EntityFits}
-use Rattle.osm_entity.specs.Weight.{text_weight}
 use Rattle.osm_ways.specs.Phases.{WaySets, ParentSets, is_chosen, is_chosen_with_parents}
 use Rattle.osm_ways.specs.Seen.{seen_way, seen_relation}
 use Rattle.osm_pack.specs.Cuts.{written_file, written_entities, pending_after, written_after}
@@ -18,17 +17,16 @@ use Rattle.pbf_frame.specs.Transfers.{Added}
 use Rattle.pbf_frame.specs.Frames.{FrameSpec}
 use Rattle.pbf_frame.specs.Verdict.{Verdict, Says}
 use Rattle.pbf_wire.specs.declared.fault.Fault.{Fault}
-use Rattle.pbfcut.specs.declared.pass.Pass.{Pass}
+use Rattle.pbf_pass.specs.declared.pass.Pass.{Pass}
 use Rattle.pbfcut.specs.declared.pick.Selection.{Selection}
 use Rattle.pbfcut.specs.declared.pick.Selection.TheVariants as selection
 use Rattle.pbfcut.specs.declared.pick.Picker.{Picker}
 use Rattle.pbfcut.specs.declared.pick.Picker.TheVariants as picker
-use Rattle.pbfcut.specs.Counting.{counts_of, stored_entities, entities_in}
-use Rattle.pbfcut.specs.Judged.{fault_in}
-use Rattle.pbfcut.specs.Pass.{TakesSome}
-use Rattle.pbfcut.specs.Payload.{Payload, payload_of}
-use Rattle.pbfcut.specs.Stops.{Caused, Only, unchanged, KeepsDrain, WriteFailed}
-use Rattle.pbf_header.specs.declared.write.TheConstants.{MOST_HEADER_TEXT}
+use Rattle.pbf_pass.specs.Counting.{counts_of, stored_entities, entities_in}
+use Rattle.pbf_pass.specs.Judged.{fault_in}
+use Rattle.pbf_pass.specs.Pass.{TakesSome}
+use Rattle.pbf_pass.specs.Payload.{Payload, payload_of}
+use Rattle.pbf_pass.specs.Stops.{Caused, Only, unchanged, KeepsDrain, WriteFailed}
 
 -- ---- which are picked
 
@@ -157,7 +155,3 @@ pub record Packed (pick : Pick) (h : HeaderSpec) (counts : Counts) (known : Opti
 -- a beginning of the header and of what is picked of the frames before the first fault went out
 abbrev pub PacksFront : Pick → HeaderSpec → Option Verdict → Option (List ℕ) → Option (List ℕ) → Type 0
 PacksFront pick h known old new = (all : Verdict) → known ≡ Some all → IsFront old new (written_file h (filter pick (stored_entities all.0)))
-
--- a header that isn't too long to be written
-abbrev pub IsShort : HeaderSpec → Type 0
-IsShort h = text_weight h.source + text_weight h.url ≤ MOST_HEADER_TEXT

@@ -8,9 +8,9 @@ use Rattle.pbf_frame.specs.declared.stop.Stop.TheVariants.{Refused, Read, Write,
 use Rattle.pbf_frame.specs.Frames.{FrameSpec}
 use Rattle.pbf_frame.specs.Verdict.{Verdict, Says}
 use Rattle.pbfcut.specs.declared.repeat.Repeat.{Repeat}
-use Rattle.pbfcut.specs.Counting.{stored_entities}
-use Rattle.pbfcut.specs.Judged.{judged_file}
-use Rattle.pbfcut.specs.Stops.{Caused}
+use Rattle.pbf_pass.specs.Counting.{stored_entities}
+use Rattle.pbf_pass.specs.Judged.{judged_file}
+use Rattle.pbf_pass.specs.Stops.{Caused}
 
 -- the file has no fault, and its entities were gathered
 pub record GathersAgain {S : Type 0} (gathered : S → EntitySpec → S) (known : Option Verdict) (before now : S) : Type 0 where

@@ -12,9 +12,9 @@ use Rattle.pbf_frame.specs.Frames.{FrameSpec}
 use Rattle.pbf_frame.specs.Verdict.{Verdict, Says}
 use Rattle.osm_text.specs.EntityText.{entity_line}
 use Rattle.osm_text.specs.HeaderText.{header_text}
-use Rattle.pbfcut.specs.Judged.{fault_in, payload_fault}
-use Rattle.pbfcut.specs.Payload.{Payload, header_block, primitive_block, unknown, payload_of}
-use Rattle.pbfcut.specs.Stops.{Caused, Only, unchanged, WriteFailed}
+use Rattle.pbf_pass.specs.Judged.{fault_in, payload_fault}
+use Rattle.pbf_pass.specs.Payload.{Payload, header_block, primitive_block, unknown, payload_of}
+use Rattle.pbf_pass.specs.Stops.{Caused, Only, unchanged, WriteFailed}
 
 -- ---- the text
 

@@ -11,9 +11,9 @@ use Rattle.pbf_frame.specs.declared.stop.Stop.{Stop}
 use Rattle.pbf_frame.specs.declared.stop.Stop.TheVariants.{Refused}
 use Rattle.pbf_frame.specs.Devices.{IsFront}
 use Rattle.pbf_header.specs.WrittenHeader.{header_out_for_box, header_out_for_convert}
-use Rattle.pbfcut.specs.Counting.{counts_of}
+use Rattle.pbf_pass.specs.Counting.{counts_of}
 use Rattle.pbfcut.specs.Extracting.{Choice}
-use Rattle.pbfcut.specs.Given.{Took}
+use Rattle.pbf_pass.specs.Given.{Took}
 use Rattle.pbfcut.specs.Kept.{verdict_on, IsWritable, header_in_file, entities_in_file, meant_in_file, conversion_of, extract_of}
 
 -- ---- the promise of a call: what it answers for a file that all its feeds supply

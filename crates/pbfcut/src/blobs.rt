@@ -7,8 +7,8 @@ ghost use Rattle.pbf_frame.specs.Transfers.{Added};
 ghost use Rattle.pbf_frame.specs.Verdict.{judged_known};
 ghost use Rattle.pbfcut.specs.Blobs.{lent_line, shown_name, shown_length};
 ghost use Rattle.pbfcut.specs.Listing.{Lists, ListsFront, ListsToFault, ListsFrame, StopsListing};
-ghost use Rattle.pbfcut.specs.Pass.{IsStep};
-ghost use Rattle.pbfcut.specs.Stops.{Caused, Only, unchanged, KeepsFeed, KeepsDrain, ReadFailed, WriteFailed};
+ghost use Rattle.pbf_pass.specs.Pass.{IsStep};
+ghost use Rattle.pbf_pass.specs.Stops.{Caused, Only, unchanged, KeepsFeed, KeepsDrain, ReadFailed, WriteFailed};
 
 use osm_text::{put_number, put_quoted};
 use pbf_frame::{Drain, Feed, Frame, FrameKind, FrameReader, Stop, write_all};

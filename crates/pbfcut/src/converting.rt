@@ -4,21 +4,19 @@ ghost use Rattle.std.specs.Prelude.{◌≡◌, ◌⊎◌, ℕ, List, IfOk, IfErr
 ghost use Rattle.pbf_frame.specs.Devices.{IsFront};
 ghost use Rattle.pbfcut.specs.Calls.{BothSupply, ConvertStops};
 ghost use Rattle.pbfcut.specs.Theorem.{Converted, IsConverted, Promised, Canonical};
-ghost use Rattle.pbfcut.specs.Converting.{CanBeWritten, judged_writable};
-ghost use Rattle.pbfcut.specs.Given.{GaveFile, Took, TookFile};
+ghost use Rattle.pbfcut.specs.Converting.{CanBeWritten};
+ghost use Rattle.pbf_pass.specs.HeaderLimit.{judged_writable};
+ghost use Rattle.pbf_pass.specs.Given.{GaveFile, Took, TookFile};
 ghost use Rattle.pbfcut.specs.Kept.{IsWritable, conversion_of};
-ghost use Rattle.pbfcut.specs.Refused.{HaltsFile, stop_of};
+ghost use Rattle.pbf_pass.specs.Refused.{HaltsFile, stop_of};
 ghost use Rattle.pbfcut.specs.Repeat.{SameDigest};
-ghost use Rattle.pbfcut.specs.Stops.{KeepsDrain, ReadFailed, WriteFailed};
+ghost use Rattle.pbf_pass.specs.Stops.{KeepsDrain, ReadFailed, WriteFailed};
 
-use crate::hashed::HashedDrain;
-use crate::header_limit::writable_header;
-use crate::pass::{Nothing, judge};
 use crate::pick::{Selection, Writing};
-use crate::receipt::{Halt, InputReceipt, Receipt};
 use crate::repeat::Repeat;
 use pbf_block::Counts;
 use pbf_frame::{Drain, Feed, Stop};
+use pbf_pass::{Halt, HashedDrain, InputReceipt, Nothing, Receipt, judge, writable_header};
 use std::alloc::Global;
 use std::hash::BuildHasher;
 

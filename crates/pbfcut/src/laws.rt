@@ -16,13 +16,13 @@ ghost use Rattle.pbf_header.specs.Header.{HeaderSpec};
 ghost use Rattle.pbf_header.specs.declared.write.TheConstants.{MOST_HEADER_TEXT};
 ghost use Rattle.pbf_header.specs.WrittenHeader.{HeaderFits, header_out_for_convert};
 ghost use Rattle.pbf_frame.specs.Frames.{FrameSpec};
-ghost use Rattle.pbfcut.specs.Counting.{stored_entities};
+ghost use Rattle.pbf_pass.specs.Counting.{stored_entities};
 ghost use Rattle.pbfcut.specs.Extracting.{complete_ways, all_parents};
 ghost use Rattle.pbfcut.specs.FileFaults.{file_faults, file_rank};
-ghost use Rattle.pbfcut.specs.Judged.{judged_file};
+ghost use Rattle.pbf_pass.specs.Judged.{judged_file};
 ghost use Rattle.pbfcut.specs.Kept.{IsWritable, conversion_of, extract_of};
 ghost use Rattle.pbfcut.specs.Theorem.{IsConversion, IsExtract};
-ghost use Rattle.pbfcut.specs.Pass.{file_header};
+ghost use Rattle.pbf_pass.specs.Pass.{file_header};
 
 use osm_entity::BoundingBox;
 

@@ -1,18 +1,19 @@
 //! Passes after the first one, whose bytes have to have its digest.
 
-ghost use Rattle.std.specs.Prelude.{◌≡◌, IfOk, IfErr, OnOk, OnErr, Ok, Err, Some, true, false, if◌then◌else◌};
+ghost use Rattle.std.specs.Prelude.{◌≡◌, IfOk, IfErr, OnOk, OnErr, Ok, Err, Some};
 ghost use Rattle.pbf_header.specs.Header.{header_of};
 ghost use Rattle.pbf_frame.specs.declared.stop.Stop.TheVariants.{Changed};
-ghost use Rattle.pbfcut.specs.Judged.{judged_file};
-ghost use Rattle.pbfcut.specs.Given.{GaveFile, Took};
-ghost use Rattle.pbfcut.specs.Pick.{pick_of, Packed, PacksFront, IsShort};
-ghost use Rattle.pbfcut.specs.Stops.{KeepsDrain, ReadFailed, WriteFailed};
+ghost use Rattle.pbf_pass.specs.Judged.{judged_file};
+ghost use Rattle.pbf_pass.specs.Given.{GaveFile, Took};
+ghost use Rattle.pbfcut.specs.Pick.{pick_of, Packed, PacksFront};
+ghost use Rattle.pbf_pass.specs.HeaderLimit.{IsShort};
+ghost use Rattle.pbf_pass.specs.Stops.{KeepsDrain, ReadFailed, WriteFailed};
 ghost use Rattle.pbfcut.specs.Repeat.{GathersAgain, StopsAgain, as_change};
 
-use crate::pass::{Gather, judge};
 use crate::pick::{Writing, write};
 use pbf_block::Counts;
 use pbf_frame::{Drain, Feed, Stop};
+use pbf_pass::{Gather, judge};
 use std::alloc::Global;
 use std::hash::BuildHasher;
 

@@ -12,24 +12,22 @@ ghost use Rattle.pbf_frame.specs.Devices.{IsFront};
 ghost use Rattle.pbf_frame.specs.Next.{IsReading, place_of, held_by, verdict};
 ghost use Rattle.pbf_frame.specs.Transfers.{Added};
 ghost use Rattle.pbfcut.specs.Calls.{RefusedFirst, ChangedIn};
-ghost use Rattle.pbfcut.specs.Given.{GaveRest, GaveFile, Took, TookFile};
-ghost use Rattle.pbfcut.specs.Judged.{fully_known, judged_file};
-ghost use Rattle.pbfcut.specs.Pass.{CountsFile, IsStep};
-ghost use Rattle.pbfcut.specs.Payload.{primitive_block, lent_by};
-ghost use Rattle.pbfcut.specs.Refused.{HaltsFile, stop_of};
+ghost use Rattle.pbf_pass.specs.Given.{GaveRest, GaveFile, Took, TookFile};
+ghost use Rattle.pbf_pass.specs.Judged.{fully_known, judged_file};
+ghost use Rattle.pbf_pass.specs.Pass.{CountsFile, IsStep};
+ghost use Rattle.pbf_pass.specs.Payload.{primitive_block, lent_by};
+ghost use Rattle.pbf_pass.specs.Refused.{HaltsFile, stop_of};
 ghost use Rattle.pbfcut.specs.Repeat.{SameDigest};
 ghost use Rattle.pbfcut.specs.Showing.{Shown, ShowsFront, WritesFront, ShowsText, StopsShowing, ShowsPayload, FailsToShowPayload, ShowsFrame, FailsToShow};
-ghost use Rattle.pbfcut.specs.Stops.{Caused, FaultOf, Only, unchanged, KeepsFeed, KeepsDrain, ReadFailed, WriteFailed};
+ghost use Rattle.pbf_pass.specs.Stops.{Caused, FaultOf, Only, unchanged, KeepsFeed, KeepsDrain, ReadFailed, WriteFailed};
 
-use crate::hashed::{HashedDrain, HashedFeed};
-use crate::pass::{Nothing, judge};
-use crate::receipt::{Halt, InputReceipt, Receipt};
 use crate::repeat::Repeat;
 use osm_entity::EntityRef;
 use osm_text::{put_entity, put_header};
 use pbf_block::{Block, Counts, Entities};
 use pbf_frame::{Drain, Feed, Frame, FrameKind, FrameReader, Stop, write_all};
 use pbf_header::Header;
+use pbf_pass::{Halt, HashedDrain, HashedFeed, InputReceipt, Nothing, Receipt, judge};
 use std::alloc::Global;
 
 /// Writes the line of an entity, which is put together in `text`.

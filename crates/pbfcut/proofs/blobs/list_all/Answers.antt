@@ -5,7 +5,7 @@ use Rattle.pbf_frame.proofs.VerdictLemmas.{gone_more}
 use Rattle.pbf_frame.specs.Transfers.{Added}
 use Rattle.pbfcut.specs.Blobs.{line, lines}
 use Rattle.pbfcut.proofs.ListingLemmas.{texts_added, texts_front, gone_ending, stopped_within, listing_stops}
-use Rattle.pbfcut.proofs.StepLemmas.{took_one, met_end, stopped_step}
+use Rattle.pbf_pass.proofs.StepLemmas.{took_one, met_end, stopped_step}
 use Rattle.pbfcut.proofs.blobs.list_all.Goals as goal
 
 pub frames-init : goal.frames-init

@@ -2,14 +2,16 @@ use Rattle.std.proofs.Common.{◌⊎◌, List, ℕ, Some, ap, sym, inr, refl}
 use Rattle.std.proofs.lemmas.Result.{err_from_is_err_and}
 use Rattle.pbf_header.specs.Header.{header_of}
 use Rattle.pbfcut.specs.Calls.{RefusedFirst, ChangedIn}
-use Rattle.pbfcut.specs.Converting.{header_limit, held_header, judged_writable}
-use Rattle.pbfcut.specs.Judged.{judged_file}
-use Rattle.pbfcut.specs.Pass.{as_it_was}
-use Rattle.pbfcut.specs.Stops.{Only, unchanged, ReadFailed, WriteFailed}
-use Rattle.pbfcut.proofs.ConvertingLemmas.{limit_refused, nothing_out, passed, passed_sound, converted, converts_front}
+use Rattle.pbf_pass.specs.HeaderLimit.{header_limit, held_header, judged_writable}
+use Rattle.pbf_pass.specs.Judged.{judged_file}
+use Rattle.pbf_pass.specs.Pass.{as_it_was}
+use Rattle.pbf_pass.specs.Stops.{Only, unchanged, ReadFailed, WriteFailed}
+use Rattle.pbfcut.proofs.ConvertingLemmas.{nothing_out, passed, passed_sound, converted, converts_front}
+use Rattle.pbf_pass.proofs.LimitLemmas.{limit_refused}
 use Rattle.pbfcut.proofs.ExtractingLemmas.{convert_stops, stops_earlier}
-use Rattle.pbfcut.proofs.GivenLemmas.{tells_file, told_holds, told_digest, told_says, takes_told}
-use Rattle.pbfcut.proofs.HaltingLemmas.{halts_first, halts_writing, limit_caused, limit_halts, no_refusal}
+use Rattle.pbf_pass.proofs.GivenLemmas.{tells_file, told_holds, told_digest, told_says, takes_told}
+use Rattle.pbf_pass.proofs.HaltingLemmas.{halts_first, halts_writing, limit_caused, limit_halts}
+use Rattle.pbfcut.proofs.RepeatLemmas.{no_refusal}
 use Rattle.pbfcut.proofs.converting.convert_file.Goals as goal
 
 pub returns-in_err-told-clause-refused : goal.returns-in_err-told-clause-refused

@@ -1,13 +1,14 @@
 use Rattle.std.proofs.Common.{inr, refl, rules}
 use Rattle.std.proofs.lemmas.Result.{err_from_is_err_and}
 use Rattle.pbfcut.specs.Calls.{ChangedIn}
-use Rattle.pbfcut.specs.Converting.{header_limit, held_header, judged_writable}
-use Rattle.pbfcut.specs.Pass.{with_node}
-use Rattle.pbfcut.specs.Stops.{FaultOf, Only, unchanged}
-use Rattle.pbfcut.proofs.ConvertingLemmas.{limit_refused}
+use Rattle.pbf_pass.specs.HeaderLimit.{header_limit, held_header, judged_writable}
+use Rattle.pbf_pass.specs.Pass.{with_node}
+use Rattle.pbf_pass.specs.Stops.{FaultOf, Only, unchanged}
+use Rattle.pbf_pass.proofs.LimitLemmas.{limit_refused}
 use Rattle.pbfcut.proofs.ExtractingLemmas.{chooses, stops_earlier, stops_later}
-use Rattle.pbfcut.proofs.GivenLemmas.{tells_file, told_digest, told_says, takes_told}
-use Rattle.pbfcut.proofs.HaltingLemmas.{halts_writing, limit_caused, limit_halts, no_refusal}
+use Rattle.pbf_pass.proofs.GivenLemmas.{tells_file, told_digest, told_says, takes_told}
+use Rattle.pbf_pass.proofs.HaltingLemmas.{halts_writing, limit_caused, limit_halts}
+use Rattle.pbfcut.proofs.RepeatLemmas.{no_refusal}
 use Rattle.pbfcut.proofs.extracting.choose.Goals as goal
 
 pub returns-in_err-told-clause-refused : goal.returns-in_err-told-clause-refused

@@ -1,11 +1,11 @@
 use Rattle.std.proofs.Common.{◌⊎◌, inr, refl}
 use Rattle.std.proofs.lemmas.Result.{err_from_is_err_and}
 use Rattle.pbfcut.specs.Calls.{ChangedIn}
-use Rattle.pbfcut.specs.Converting.{judged_writable}
-use Rattle.pbfcut.specs.Stops.{FaultOf}
+use Rattle.pbf_pass.specs.HeaderLimit.{judged_writable}
+use Rattle.pbf_pass.specs.Stops.{FaultOf}
 use Rattle.pbfcut.proofs.ExtractingLemmas.{chooses_parents, stops_later}
-use Rattle.pbfcut.proofs.GivenLemmas.{told_digest, told_says}
-use Rattle.pbfcut.proofs.HaltingLemmas.{no_refusal}
+use Rattle.pbf_pass.proofs.GivenLemmas.{told_digest, told_says}
+use Rattle.pbfcut.proofs.RepeatLemmas.{no_refusal}
 use Rattle.pbfcut.proofs.extracting.choose_parents.Goals as goal
 
 pub returns-in_err-gather-clause-refused : goal.returns-in_err-gather-clause-refused

@@ -4,12 +4,13 @@ use Rattle.pbf_header.specs.Header.{header_of}
 use Rattle.osm_ways.specs.Seen.{seen_decoded}
 use Rattle.osm_ways.specs.Parents.{extract_with_parents}
 use Rattle.pbfcut.specs.Extracting.{all_parents}
-use Rattle.pbfcut.specs.Judged.{judged_file}
-use Rattle.pbfcut.specs.Stops.{ReadFailed, WriteFailed}
+use Rattle.pbf_pass.specs.Judged.{judged_file}
+use Rattle.pbf_pass.specs.Stops.{ReadFailed, WriteFailed}
 use Rattle.pbfcut.proofs.ExtractingLemmas.{chosen_sound, edges_typed, selects_parents, extracted, extracts_front, parents_stops}
-use Rattle.pbfcut.proofs.GivenLemmas.{tells_file, told_digest, told_says}
+use Rattle.pbf_pass.proofs.GivenLemmas.{tells_file, told_digest, told_says}
 use Rattle.pbfcut.proofs.KeptLaw.{all_parents_select}
-use Rattle.pbfcut.proofs.HaltingLemmas.{halts_first, no_refusal}
+use Rattle.pbf_pass.proofs.HaltingLemmas.{halts_first}
+use Rattle.pbfcut.proofs.RepeatLemmas.{no_refusal}
 use Rattle.pbfcut.proofs.extracting.extract_file_with_parents.Goals as goal
 
 pub returns-in_err-choice-clause-refused : goal.returns-in_err-choice-clause-refused

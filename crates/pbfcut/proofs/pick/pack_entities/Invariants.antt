@@ -5,7 +5,7 @@ use Rattle.osm_entity.specs.Ranges.{EntityFits}
 use Rattle.pbf_block.specs.Cursors.{entities_left}
 use Rattle.osm_pack.specs.Packing.{IsPacking, has_header}
 use Rattle.pbfcut.specs.Pick.{HasPacked, pick_of, picks_of}
-use Rattle.pbfcut.proofs.CountLemmas.{CountedOn}
+use Rattle.pbf_pass.proofs.CountLemmas.{CountedOn}
 use Rattle.pbfcut.proofs.pick.pack_entities.Given as goal
 
 -- what is picked of the entities that are gone was packed and counted

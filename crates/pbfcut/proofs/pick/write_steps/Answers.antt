@@ -4,11 +4,12 @@ use Rattle.std.proofs.lemmas.Result.{err_from_is_err_and}
 use Rattle.pbf_frame.proofs.VerdictLemmas.{gone_more}
 use Rattle.pbf_header.specs.Header.{header_of}
 use Rattle.osm_pack.specs.Cuts.{written_file}
-use Rattle.pbfcut.specs.Counting.{stored_entities}
+use Rattle.pbf_pass.specs.Counting.{stored_entities}
 use Rattle.pbfcut.specs.Pick.{pick_of}
 use Rattle.pbfcut.proofs.PickingLemmas.{none_packed, same_packed, says_end, last_front, frame_packed, step_front, behind_header, header_alone, whole_file, ended, end_front, fails_since}
-use Rattle.pbfcut.proofs.ReadingLemmas.{has_read_none, has_read_more, has_read_all}
-use Rattle.pbfcut.proofs.StepLemmas.{took_one, met_end, stopped_step, loop_stops, fully_first, picked_counts}
+use Rattle.pbf_pass.proofs.ReadingLemmas.{has_read_none, has_read_more, has_read_all}
+use Rattle.pbf_pass.proofs.StepLemmas.{took_one, met_end, stopped_step, loop_stops, fully_first}
+use Rattle.pbfcut.proofs.PickingLemmas.{picked_counts}
 use Rattle.pbfcut.proofs.pick.write_steps.Goals as goal
 
 pub frames-init : goal.frames-init

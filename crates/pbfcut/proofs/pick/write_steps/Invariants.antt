@@ -4,10 +4,10 @@ use Rattle.pbf_frame.specs.Frames.{FrameSpec}
 use Rattle.pbf_frame.specs.Verdict.{Gone}
 use Rattle.pbf_frame.specs.Next.{verdict, place_of, IsReading}
 use Rattle.osm_pack.specs.Packing.{IsPacking, has_header}
-use Rattle.pbfcut.specs.Counting.{counts_of, stored_entities}
-use Rattle.pbfcut.specs.Judged.{fully_known}
+use Rattle.pbf_pass.specs.Counting.{counts_of, stored_entities}
+use Rattle.pbf_pass.specs.Judged.{fully_known}
 use Rattle.pbfcut.specs.Pick.{HasPacked, pick_of}
-use Rattle.pbfcut.proofs.ReadingLemmas.{HasRead}
+use Rattle.pbf_pass.proofs.ReadingLemmas.{HasRead}
 use Rattle.pbfcut.proofs.pick.write_steps.Given as goal
 
 -- what is picked of the frames done was packed and counted, and the verdict is that these frames come and then those of what is left

@@ -6,9 +6,9 @@ use Rattle.pbf_frame.specs.Transfers.{Added}
 use Rattle.pbfcut.specs.Showing.{frame_text, file_text}
 use Rattle.pbfcut.proofs.ListingLemmas.{texts_added, texts_front}
 use Rattle.pbfcut.proofs.PickingLemmas.{fails_since}
-use Rattle.pbfcut.proofs.ReadingLemmas.{has_read_none, has_read_more, has_read_all}
+use Rattle.pbf_pass.proofs.ReadingLemmas.{has_read_none, has_read_more, has_read_all}
 use Rattle.pbfcut.proofs.ShowingLemmas.{stopped_fully}
-use Rattle.pbfcut.proofs.StepLemmas.{took_one, met_end, stopped_step, loop_stops, fully_first}
+use Rattle.pbf_pass.proofs.StepLemmas.{took_one, met_end, stopped_step, loop_stops, fully_first}
 use Rattle.pbfcut.proofs.showing.show_all.Goals as goal
 
 pub frames-init : goal.frames-init

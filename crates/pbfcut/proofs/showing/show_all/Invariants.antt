@@ -3,9 +3,9 @@ use Rattle.pbf_frame.specs.Frames.{FrameSpec}
 use Rattle.pbf_frame.specs.Transfers.{Added}
 use Rattle.pbf_frame.specs.Verdict.{Gone}
 use Rattle.pbf_frame.specs.Next.{verdict, place_of, IsReading}
-use Rattle.pbfcut.specs.Judged.{fully_known}
+use Rattle.pbf_pass.specs.Judged.{fully_known}
 use Rattle.pbfcut.specs.Showing.{file_text}
-use Rattle.pbfcut.proofs.ReadingLemmas.{HasRead}
+use Rattle.pbf_pass.proofs.ReadingLemmas.{HasRead}
 use Rattle.pbfcut.proofs.showing.show_all.Given as goal
 
 -- the text of the frames done went out, and the verdict is that they come and then those of what is left

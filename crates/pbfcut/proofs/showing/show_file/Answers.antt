@@ -1,8 +1,8 @@
 use Rattle.std.proofs.Common.{List, ℕ, Option, sym, subst}
 use Rattle.std.proofs.lemmas.Result.{err_from_is_err_and}
-use Rattle.pbfcut.specs.Judged.{judged_file}
+use Rattle.pbf_pass.specs.Judged.{judged_file}
 use Rattle.pbfcut.specs.Showing.{ShowsFront}
-use Rattle.pbfcut.proofs.GivenLemmas.{tells_file}
+use Rattle.pbf_pass.proofs.GivenLemmas.{tells_file}
 use Rattle.pbfcut.proofs.ShowingLemmas.{shown_front, shown_told}
 use Rattle.pbfcut.proofs.showing.show_file.Goals as goal
 

@@ -1,7 +1,7 @@
 use Rattle.std.proofs.Common.{zero, suc, [], rules}
 use Rattle.std.proofs.lemmas.Result.{err_from_is_err_and}
 use Rattle.pbf_frame.proofs.Passed.{added_as}
-use Rattle.pbfcut.proofs.HaltingLemmas.{halts_below}
+use Rattle.pbf_pass.proofs.HaltingLemmas.{halts_below}
 use Rattle.pbfcut.proofs.showing.show_with_receipt.Goals as goal
 
 pub returns-in_err-counts-clause-refused : goal.returns-in_err-counts-clause-refused

@@ -1,6 +1,6 @@
 use Rattle.std.proofs.Common.{zero, suc, [], rules}
 use Rattle.pbfcut.specs.Showing.{Shown}
-use Rattle.pbfcut.proofs.GivenLemmas.{supplied_as, holds_of_file}
+use Rattle.pbf_pass.proofs.GivenLemmas.{supplied_as, holds_of_file}
 use Rattle.pbfcut.proofs.showing.write_text.Goals as goal
 
 pub returns-clause-shown : goal.returns-clause-shown

@@ -1,7 +1,7 @@
 use Rattle.std.proofs.lemmas.Result.{err_from_is_err_and}
 use Rattle.pbf_header.specs.Header.{header_of}
 use Rattle.pbfcut.specs.Pick.{pick_of}
-use Rattle.pbfcut.proofs.GivenLemmas.{tells_file}
+use Rattle.pbf_pass.proofs.GivenLemmas.{tells_file}
 use Rattle.pbfcut.proofs.PickingLemmas.{packed_front, packed_told}
 use Rattle.pbfcut.proofs.repeat.Repeat.write.Goals as goal
 

@@ -1,0 +1,68 @@
+-- What holds of the bytes that went through a device holds of those that it reports.
+use Rattle.std.proofs.Common.{◌≡◌, ℕ, Bool, false, List, ◌++◌, Option, Some, None, refl, sym, ap, ◌∙◌, subst}
+use Rattle.std.proofs.lemmas.List.{append-nil}
+use Rattle.sha2.specs.Sha256.{sha256}
+use Rattle.osm_entity.specs.Entity.{EntitySpec}
+use Rattle.pbf_frame.specs.declared.device.Feed as feed
+use Rattle.pbf_frame.specs.Devices.{prepend, IsAtEnd}
+use Rattle.pbf_frame.specs.Transfers.{Supplied}
+use Rattle.pbf_frame.specs.Verdict.{Verdict, Says}
+use Rattle.pbf_frame.proofs.Parting.{none_some}
+use Rattle.pbf_pass.specs.declared.pass.Pass.{Pass}
+use Rattle.pbf_pass.specs.Given.{GaveFile, judged_from}
+use Rattle.pbf_pass.specs.Judged.{judged_file}
+use Rattle.pbf_pass.specs.Pass.{TakesFile}
+
+-- these are the bytes, where any are reported
+abbrev pub Tells : Option (List ℕ) → List ℕ → Type 0
+Tells known file = (b : List ℕ) → known ≡ Some b → file ≡ b
+
+tells_all : (old new : Option (List ℕ)) (file : List ℕ) → old ≡ prepend file new → IsAtEnd new → Tells old file
+tells_all old None file told end b is = absurd (none_some _ _ refl (sym told ∙ is))
+tells_all old (Some rest) file told end b is = same (ap (λ (l : List ℕ). file ++ l) end ∙ append-nil file) (sym told ∙ is) where
+  same : file ++ rest ≡ file → Some (file ++ rest) ≡ Some b → file ≡ b
+  same e f = cc
+
+-- the digest of the bytes, where they are reported
+abbrev pub IsDigest : Option (List ℕ) → List ℕ → Type 0
+IsDigest known digest = (b : List ℕ) → known ≡ Some b → digest ≡ sha256 b
+
+-- what is said of them is said of the ones that are reported
+pub says_told : (known : Option (List ℕ)) (file : List ℕ) (v : Verdict) → Tells known file → Says (judged_file (Some file)) v → Says (judged_file known) v
+says_told None file v tells says = tt
+says_told (Some b) file v tells says = subst (λ (l : List ℕ). Says (judged_file (Some l)) v) (tells b refl) says
+
+module _ {F : Type 0} (f : feed.Ghosts F) (old new : F) (digest : List ℕ) where
+  pub tells_file : (holds : List ℕ → Type 0) (given : GaveFile f old new digest holds) → Tells (f.remaining old) given.file
+  tells_file holds given = tells_all (f.remaining old) (f.remaining new) given.file given.supplied.told given.supplied.end
+
+  -- what holds of the file that was given holds of the one that is reported
+  pub told_holds : (holds : List ℕ → Type 0) (b : List ℕ) → GaveFile f old new digest holds → f.remaining old ≡ Some b → holds b
+  told_holds holds b given is = subst holds (tells_file holds given b is) given.holding
+
+  pub told_digest : (holds : List ℕ → Type 0) → GaveFile f old new digest holds → IsDigest (f.remaining old) digest
+  told_digest holds given b is = given.digest_is ∙ ap sha256 (tells_file holds given b is)
+
+  pub told_says : (holds : List ℕ → Type 0) (v : Verdict) (given : GaveFile f old new digest holds) → Says (judged_file (Some given.file)) v → Says (judged_file (f.remaining old)) v
+  told_says holds v given says = says_told (f.remaining old) given.file v (tells_file holds given) says
+
+-- what holds of the bytes that a fresh reader's feed gave holds of the file
+pub holds_of_file : (h : Bool) (p : ℕ) (file : List ℕ) (holds : Option Verdict → Type 0) → h ≡ false → p ≡ 0 → holds (judged_from h p file) → holds (judged_file (Some file))
+holds_of_file h p file holds had place holding = subst (λ (b : Bool). holds (judged_from b 0 file)) had (subst (λ (n : ℕ). holds (judged_from h n file)) place holding)
+
+-- two feeds that report the same bytes gave one file
+pub one_file : (first other : Option (List ℕ)) (file second b : List ℕ) → Tells first file → Tells other second → first ≡ Some b → other ≡ Some b → file ≡ second
+one_file first other file second b tells too is also = tells b is ∙ sym (too b also)
+
+-- the same of devices that are equal
+pub supplied_as : {F : Type 0} (f : feed.Ghosts F) (first old last new : F) (file : List ℕ) → first ≡ old → last ≡ new → Supplied f first file last → Supplied f old file new
+supplied_as f first old last new file e e2 supplied = subst (λ x. Supplied f x file new) e (subst (λ x. Supplied f first file x) e2 supplied)
+
+pub takes_told : {S : Type 0} (gathered : S → EntitySpec → S) (known : Option (List ℕ)) (file : List ℕ) (before now : S) (pass : Pass) → Tells known file → TakesFile gathered (judged_file (Some file)) before now pass → TakesFile gathered (judged_file known) before now pass
+takes_told gathered known file before now pass tells p = record {
+  frames = p.frames;
+  says = says_told known file (p.frames, None) tells p.says;
+  counted = p.counted;
+  header = p.header;
+  gathered_all = p.gathered_all;
+}

@@ -1,0 +1,101 @@
+-- What a halt says of the bytes that were read.
+use Rattle.std.proofs.Common.{◌≡◌, inr, ℕ, List, [], Option, Some, sym, ◌∙◌, subst}
+use Rattle.osm_entity.specs.Entity.{EntitySpec}
+use Rattle.pbf_wire.specs.declared.fault.Fault.{Fault}
+use Rattle.pbf_frame.specs.declared.device.Feed as feed
+use Rattle.pbf_frame.specs.declared.device.Drain as drain
+use Rattle.pbf_frame.specs.declared.reader.FrameReader.{FrameReader}
+use Rattle.pbf_frame.specs.declared.stop.Stop.{Stop}
+use Rattle.pbf_frame.specs.declared.stop.Stop.TheVariants as stop
+use Rattle.pbf_frame.specs.Transfers.{Added}
+use Rattle.pbf_frame.specs.Verdict.{Verdict}
+use Rattle.pbf_frame.proofs.Passed.{added_none}
+use Rattle.pbf_frame.proofs.Refusing.{faulty_as}
+use Rattle.pbf_pass.specs.declared.pass.Judged.{Judged}
+use Rattle.pbf_pass.specs.declared.receipt.Refusal.{Refusal}
+use Rattle.pbf_pass.specs.declared.receipt.Halt.{Halt}
+use Rattle.pbf_pass.specs.declared.receipt.Halt.TheVariants as halt
+use Rattle.pbf_pass.specs.HeaderLimit.{header_limit, held_header, judged_writable}
+use Rattle.pbf_pass.specs.Given.{GaveFile}
+use Rattle.pbf_pass.specs.Hashing.{IsLength}
+use Rattle.pbf_pass.specs.Judged.{judged_file}
+use Rattle.pbf_pass.specs.Pass.{TakesFile}
+use Rattle.pbf_pass.specs.Refused.{RefusesRest, RefusesFile, Halts, HaltsFile, IsLimitRefused, halted, stop_of}
+use Rattle.pbf_pass.specs.Stops.{FaultOf, Caused, Only, unchanged, KeepsFeed}
+use Rattle.pbf_pass.proofs.LimitLemmas.{limited_fault, limit_refused}
+
+-- ---- a stop that is no refusal
+
+pub memory_only : (e : Fault) → stop.Memory ≡ stop.Refused e → ⊥
+memory_only e is = cc
+
+-- a header that can't be written is refused
+pub limit_caused : (told : Judged) (h : Halt) → IsLimitRefused told h → Caused (Only (header_limit (held_header told.pass))) ⊥ ⊥ unchanged (stop_of h)
+limit_caused told (halt.Refused r) limit = limit.0
+limit_caused told (halt.Stopped s) limit = absurd limit
+
+-- ---- of a reader that halts; which feed it has is told by what it keeps of it
+
+pub halts_of : {F : Type 0} {f : feed.Ghosts F} (old new : FrameReader F) (refused : Refusal → Type 0) (count : ℕ) (digest : List ℕ) (s : Stop) → KeepsFeed f old.feed new.feed → RefusesRest f old new s
+    → ((e : Fault) → RefusesRest f old new (stop.Refused e) → refused (record { fault = e; read = count; input = digest })) → Halts refused (halted s count digest)
+halts_of old new refused count digest (stop.Refused e) keeps rest step = step e rest
+halts_of old new refused count digest stop.Read keeps rest step = λ e is. (let bad : ⊥ = cc in bad)
+halts_of old new refused count digest stop.Write keeps rest step = λ e is. (let bad : ⊥ = cc in bad)
+halts_of old new refused count digest stop.Memory keeps rest step = λ e is. (let bad : ⊥ = cc in bad)
+halts_of old new refused count digest (stop.Changed pass) keeps rest step = λ e is. (let bad : ⊥ = cc in bad)
+
+-- ---- of a feed that was refused
+
+module _ {F : Type 0} (f : feed.Ghosts F) (old new : F) where
+  -- by another verdict
+  pub refuses_also : (first then : List ℕ → Option Verdict) (r : Refusal) → ((b : List ℕ) → FaultOf (first b) r.fault → FaultOf (then b) r.fault) → RefusesFile f old new first r → RefusesFile f old new then r
+  refuses_also first then r step refuses = record {
+    bytes = record {
+      read = refuses.bytes.read;
+      told = refuses.bytes.told;
+      logged = refuses.bytes.logged;
+      faulty = faulty_as (λ b. FaultOf (then b) r.fault) (λ b. FaultOf (first b) r.fault) refuses.bytes.read (f.remaining new) step refuses.bytes.faulty;
+    };
+    counted = refuses.counted;
+    digest_is = refuses.digest_is;
+  }
+
+  halts_also : (first then : List ℕ → Option Verdict) (h : Halt) → ((e : Fault) (b : List ℕ) → FaultOf (first b) e → FaultOf (then b) e) → Halts (RefusesFile f old new first) h → Halts (RefusesFile f old new then) h
+  halts_also first then (halt.Refused r) step halts = refuses_also first then r (step r.fault) halts
+  halts_also first then (halt.Stopped s) step halts = halts
+
+  -- a fault of the file is one of what can't be written
+  pub halts_writing : (h : Halt) → Halts (RefusesFile f old new (λ b. judged_file (Some b))) h → Halts (RefusesFile f old new (λ b. judged_writable (Some b))) h
+  halts_writing h halts = halts_also (λ b. judged_file (Some b)) (λ b. judged_writable (Some b)) h (λ e b fault. (fault.0, limited_fault (judged_file (Some b)) fault.0 e fault.1)) halts
+
+  -- all of its bytes were read, and its header can't be written
+  pub limit_halts : {S : Type 0} (gathered : S → EntitySpec → S) (before now : S) (told : Judged) (h : Halt)
+      → GaveFile f old new told.digest (λ file. IsLength told.count file × TakesFile gathered (judged_file (Some file)) before now told.pass) → IsLimitRefused told h → Halts (RefusesFile f old new (λ b. judged_writable (Some b))) h
+  limit_halts gathered before now told (halt.Refused r) given limit = record {
+    bytes = record {
+      read = given.file;
+      told = given.supplied.told;
+      logged = given.supplied.logged;
+      faulty = inr (given.supplied.end, limit_refused gathered before now (judged_file (Some given.file)) told.pass r.fault given.holding.1 limit.0);
+    };
+    counted = subst (λ (n : ℕ). IsLength n given.file) (sym limit.1) given.holding.0;
+    digest_is = limit.2 ∙ given.digest_is;
+  }
+  limit_halts gathered before now told (halt.Stopped s) given limit = absurd limit
+
+  -- the same of devices that are equal
+  pub refuses_file_as : (first last : F) (judge : List ℕ → Option Verdict) (r : Refusal) → old ≡ first → new ≡ last → RefusesFile f old new judge r → RefusesFile f first last judge r
+  refuses_file_as first last judge r e e2 refuses = subst (λ x. RefusesFile f first x judge r) e2 (subst (λ x. RefusesFile f x new judge r) e refuses)
+
+  -- ---- and of a drain
+
+  module _ {D : Type 0} (d : drain.Ghosts D) (judge : List ℕ → Option Verdict) where
+    -- nothing was written yet
+    pub halts_first : (at : D) (h : Halt) → Halts (RefusesFile f old new judge) h → HaltsFile f old new d at at judge h
+    halts_first at (halt.Refused r) halts = (halts, added_none d at)
+    halts_first at (halt.Stopped s) halts = halts
+
+  -- what a device took went through the one below
+  pub halts_below : {D E : Type 0} (d : drain.Ghosts D) (below : drain.Ghosts E) (judge : List ℕ → Option Verdict) (before now : D) (first last : E) (h : Halt) → (Added d before [] now → Added below first [] last) → HaltsFile f old new d before now judge h → HaltsFile f old new below first last judge h
+  halts_below d below judge before now first last (halt.Refused r) step halts = (halts.0, step halts.1)
+  halts_below d below judge before now first last (halt.Stopped s) step halts = halts

@@ -1,0 +1,9 @@
+pub mod Payload
+pub mod Judged
+pub mod Counting
+pub mod Stops
+pub mod Pass
+pub mod HeaderLimit
+pub mod Hashing
+pub mod Given
+pub mod Refused

@@ -1,0 +1,66 @@
+-- What a refusal says of the bytes that were read, whether the feed reports them or not.
+use Rattle.std.specs.Prelude.{◌≡◌, ℕ, List, [], Option, Some}
+use Rattle.sha2.specs.Sha256.{sha256}
+use Rattle.pbf_wire.specs.declared.fault.Fault.{Fault}
+use Rattle.pbf_frame.specs.declared.device.Feed as feed
+use Rattle.pbf_frame.specs.declared.device.Drain as drain
+use Rattle.pbf_frame.specs.declared.reader.FrameReader.{FrameReader}
+use Rattle.pbf_frame.specs.declared.stop.Stop.{Stop}
+use Rattle.pbf_frame.specs.declared.stop.Stop.TheVariants as stop
+use Rattle.pbf_frame.specs.Next.{place_of, had_header_of}
+use Rattle.pbf_frame.specs.Refusals.{Refuses}
+use Rattle.pbf_frame.specs.Transfers.{Added}
+use Rattle.pbf_frame.specs.Verdict.{Verdict}
+use Rattle.pbf_pass.specs.declared.receipt.Refusal.{Refusal}
+use Rattle.pbf_pass.specs.declared.receipt.Halt.{Halt}
+use Rattle.pbf_pass.specs.declared.receipt.Halt.TheVariants as halt
+use Rattle.pbf_pass.specs.declared.pass.Judged.{Judged}
+use Rattle.pbf_pass.specs.HeaderLimit.{header_limit, held_header}
+use Rattle.pbf_pass.specs.Given.{judged_from}
+use Rattle.pbf_pass.specs.Hashing.{IsLength}
+use Rattle.pbf_pass.specs.Stops.{FaultOf}
+
+-- a feed gave bytes of which the verdict is this fault, whatever follows them, or by themselves, where it was at its end
+abbrev pub RefusesAs : {F : Type 0} → feed.Ghosts F → (old new : F) → (List ℕ → Option Verdict) → Fault → Type 0
+RefusesAs f old new judge e = Refuses (λ bytes. FaultOf (judge bytes) e) (f.has_passed old) (f.has_passed new) (f.remaining old) (f.remaining new)
+
+-- a pass over what a reader has left stopped so; what else may stop it says nothing of the bytes
+abbrev pub RefusesRest : {F : Type 0} → feed.Ghosts F → (old new : FrameReader F) → Stop → Type 0
+RefusesRest f old new (stop.Refused e) = RefusesAs f old.feed new.feed (judged_from (had_header_of old) (place_of old)) e
+RefusesRest f old new stop.Read = Unit {0}
+RefusesRest f old new stop.Write = Unit {0}
+RefusesRest f old new stop.Memory = Unit {0}
+RefusesRest f old new (stop.Changed pass) = Unit {0}
+
+-- the same of a file, with the number of the bytes, as far as it can be told, and their digest
+pub record RefusesFile {F : Type 0} (f : feed.Ghosts F) (old new : F) (judge : List ℕ → Option Verdict) (refusal : Refusal) : Type 0 where
+  pub bytes : RefusesAs f old new judge refusal.fault
+  pub counted : IsLength refusal.read bytes.read
+  pub digest_is : refusal.input ≡ sha256 bytes.read
+
+-- the stop that a halt stands for
+abbrev pub stop_of : Halt → Stop
+stop_of (halt.Refused refusal) = stop.Refused refusal.fault
+stop_of (halt.Stopped s) = s
+
+-- the halt for a stop, with what was read
+abbrev pub halted : Stop → ℕ → List ℕ → Halt
+halted (stop.Refused e) read input = halt.Refused (record { fault = e; read = read; input = input })
+halted stop.Read read input = halt.Stopped stop.Read
+halted stop.Write read input = halt.Stopped stop.Write
+halted stop.Memory read input = halt.Stopped stop.Memory
+halted (stop.Changed pass) read input = halt.Stopped (stop.Changed pass)
+
+-- it is a refusal with what was read, or no refusal
+abbrev pub Halts : (Refusal → Type 0) → Halt → Type 0
+Halts refused (halt.Refused refusal) = refused refusal
+Halts refused (halt.Stopped s) = (e : Fault) → s ≡ stop.Refused e → ⊥
+
+-- a call halted: where it refuses a file, nothing went out
+abbrev pub HaltsFile : {F D : Type 0} → feed.Ghosts F → (old new : F) → drain.Ghosts D → (before now : D) → (List ℕ → Option Verdict) → Halt → Type 0
+HaltsFile f old new d before now judge h = Halts (λ refusal. RefusesFile f old new judge refusal × Added d before [] now) h
+
+-- the file that was judged has no fault, but a header that can't be written: it is refused after all of its bytes
+abbrev pub IsLimitRefused : Judged → Halt → Type 0
+IsLimitRefused told (halt.Refused refusal) = (header_limit (held_header told.pass) ≡ Some refusal.fault) × (refusal.read ≡ told.count) × (refusal.input ≡ told.digest)
+IsLimitRefused told (halt.Stopped s) = ⊥

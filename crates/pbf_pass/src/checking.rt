@@ -1,0 +1,49 @@
+//! `check`: a whole file, judged and counted.
+
+ghost use Rattle.std.specs.Prelude.{◌≤◌, Some, IfOk, IfErr};
+ghost use Rattle.pbf_pass.specs.Given.{GaveFile};
+ghost use Rattle.pbf_pass.specs.Judged.{judged_file};
+ghost use Rattle.pbf_pass.specs.Pass.{CountsFile};
+ghost use Rattle.pbf_pass.specs.Refused.{RefusesFile, Halts, stop_of};
+ghost use Rattle.pbf_pass.specs.Stops.{Caused, FaultOf, unchanged, ReadFailed};
+
+use crate::pass::{Nothing, judge};
+use crate::receipt::{Halt, InputReceipt};
+use pbf_block::Counts;
+use pbf_frame::{Feed, Stop};
+use std::alloc::Global;
+
+/// Judges a whole file, and counts its entities.
+///
+/// `Refused` names the first fault of the file, of any phase. Reads once, and holds one frame at a time, with the places of
+/// its texts.
+pub fn check<F: Feed>(alloc: Global, feed: &mut F) -> Result<Counts, Stop>
+    ensures counted { IfOk result (CountsFile (judged_file (F.remaining feed.old))) }
+    ensures stops { IfErr result (Caused (FaultOf (judged_file (F.remaining feed.old)))
+        (ReadFailed F.Feed feed.old feed.new) ⊥ unchanged) }
+    ensures counts { F.failures feed.old ≤ F.failures feed.new }
+{
+    Ok(check_with_receipt(alloc, feed)?.counts)
+}
+
+/// As [`check`], and reports the digest of the bytes that were judged, whether the feed reports its bytes or not.
+///
+/// A refusal says how many bytes were read, and their digest: whatever follows them, the fault is the first.
+pub fn check_with_receipt<F: Feed>(alloc: Global, feed: &mut F) -> Result<InputReceipt, Halt>
+    // The feed gave a file of this digest, to its end. It has no fault, and the counts are those of its entities.
+    ensures receipt { IfOk result (λ receipt. GaveFile F.Feed feed.old feed.new receipt.input
+        (λ file. CountsFile (judged_file (Some file)) receipt.counts)) }
+    // The feed gave as many bytes of this digest, and the fault is the first of whatever begins so.
+    ensures refused { IfErr result
+        (Halts (RefusesFile F.Feed feed.old feed.new (λ b. judged_file (Some b)))) }
+    ensures stops { IfErr result (λ h. Caused (FaultOf (judged_file (F.remaining feed.old)))
+        (ReadFailed F.Feed feed.old feed.new) ⊥ unchanged (stop_of h)) }
+    ensures counts { F.failures feed.old ≤ F.failures feed.new }
+{
+    let told = judge(alloc, feed, &mut Nothing)?;
+    let input = told.digest;
+    Ok(InputReceipt {
+        counts: told.pass.counts,
+        input,
+    })
+}

@@ -1,0 +1,18 @@
+//! A pass over a whole file: it is judged, its entities are counted and gathered, and its bytes are hashed.
+#![tactic(auto)]
+
+mod checking;
+mod hashed;
+mod header_limit;
+mod pass;
+mod receipt;
+
+pub use checking::{check, check_with_receipt};
+pub use hashed::{HashedDrain, HashedFeed};
+pub use header_limit::writable_header;
+pub use pass::{
+    Gather, Judged, Nothing, Pass, judge, step_count, step_gather, step_nodes, step_relations,
+    step_ways,
+};
+pub use pbf_block::Counts;
+pub use receipt::{Halt, InputReceipt, Receipt, Refusal};

@@ -1,0 +1,417 @@
+//! A pass over a file: what it takes and gathers frame by frame, and the loop that judges the whole file.
+
+ghost use Rattle.std.specs.Prelude.{◌≡◌, ◌≤◌, ◌<◌, ◌+◌, ◌^◌, false, None, Some, Err, IfOk, IfErr, OnOk, length, map};
+ghost use Rattle.std.specs.List.{fold};
+ghost use Rattle.osm_entity.specs.Entity.{EntitySpec, node};
+ghost use Rattle.osm_entity.specs.Views.{entity_of};
+ghost use Rattle.pbf_block.specs.Kinds.{is_among};
+ghost use Rattle.pbf_block.specs.Payload.{entities};
+ghost use Rattle.pbf_block.specs.Runs.{run_entities};
+ghost use Rattle.pbf_dense.specs.Cursors.{dense_left};
+ghost use Rattle.pbf_frame.specs.Next.{IsReading, place_of, held_by, verdict};
+ghost use Rattle.pbf_wire.specs.declared.fault.Fault.{Fault};
+ghost use Rattle.pbf_wire.specs.declared.fault.ReadFault.TheVariants.{Refused};
+ghost use Rattle.pbf_pass.specs.Judged.{fault_in, fully_known, judged_file};
+ghost use Rattle.pbf_pass.specs.Payload.{header_block, primitive_block, lent_by};
+ghost use Rattle.pbf_pass.specs.Pass.{IsFresh, TakesPayload, TakesAll, TakesFrame, CountsFrame, TakesFile, IsStep, FailsToJudge, as_it_was, with_node, with_way, with_relation};
+ghost use Rattle.pbf_pass.specs.Given.{GaveRest, GaveFile};
+ghost use Rattle.pbf_pass.specs.Hashing.{IsLength};
+ghost use Rattle.pbf_pass.specs.Refused.{RefusesRest, RefusesFile, Halts, stop_of};
+ghost use Rattle.pbf_pass.specs.Stops.{Caused, FaultOf, unchanged, ReadFailed, KeepsFeed};
+
+use crate::hashed::HashedFeed;
+use crate::receipt::Halt;
+use osm_entity::EntityRef;
+use osm_ways::{NodePhase, RelationPhase, WayPhase};
+use pbf_block::{Block, Counts, Kinds, Run};
+use pbf_dense::Dense;
+use pbf_frame::{Feed, Frame, FrameKind, FrameReader, Stop};
+use pbf_header::Header;
+use pbf_wire::ReadFault;
+use std::alloc::{AllocError, Global};
+
+/// What a pass gathers of a file's entities, besides its header and their numbers.
+pub trait Gather {
+    /// What it is with an entity more.
+    ghost gathered: { Self → EntitySpec → Self };
+
+    /// Which kinds of entities matter: those of another kind leave it as it is.
+    fn kinds() -> Kinds
+        ensures { (so_far : Self) (e : EntitySpec) → is_among result e ≡ false
+            → gathered so_far e ≡ so_far };
+
+    /// Gathers an entity. Where memory is refused it may only be dropped.
+    fn gather(&mut self, entity: &EntityRef<'_>) -> Result<(), AllocError>
+        ensures { OnOk result (self.new ≡ gathered self.old (entity_of entity.now)) };
+
+    /// Gathers the nodes of a dense message. Where memory is refused it may only be dropped.
+    fn gather_dense(&mut self, dense: &Dense<'_>) -> Result<(), AllocError>
+        ensures { OnOk result
+            (self.new ≡ fold gathered self.old (map node (dense_left dense.now))) };
+}
+
+/// Gathers nothing.
+#[derive(Drop)]
+pub struct Nothing;
+
+impl Gather for Nothing {
+    ghost gathered = { as_it_was };
+
+    fn kinds() -> Kinds {
+        Kinds {
+            nodes: false,
+            ways: false,
+            relations: false,
+        }
+    }
+
+    fn gather(&mut self, _entity: &EntityRef<'_>) -> Result<(), AllocError> {
+        Ok(())
+    }
+
+    #[tactic(auto, using(crate::proofs::GatherLemmas::nodes_left_out))]
+    fn gather_dense(&mut self, _dense: &Dense<'_>) -> Result<(), AllocError> {
+        Ok(())
+    }
+}
+
+impl Gather for NodePhase {
+    ghost gathered = { with_node };
+
+    fn kinds() -> Kinds {
+        Kinds {
+            nodes: true,
+            ways: false,
+            relations: false,
+        }
+    }
+
+    fn gather(&mut self, entity: &EntityRef<'_>) -> Result<(), AllocError> {
+        match entity {
+            EntityRef::Node(node) => self.take_node(node),
+            EntityRef::Way(_) | EntityRef::Relation(_) => Ok(()),
+        }
+    }
+
+    fn gather_dense(&mut self, dense: &Dense<'_>) -> Result<(), AllocError> {
+        take_places(self, dense)
+    }
+}
+
+impl Gather for WayPhase {
+    ghost gathered = { with_way };
+
+    fn kinds() -> Kinds {
+        Kinds {
+            nodes: false,
+            ways: true,
+            relations: false,
+        }
+    }
+
+    fn gather(&mut self, entity: &EntityRef<'_>) -> Result<(), AllocError> {
+        match entity {
+            EntityRef::Way(way) => self.take_way(way),
+            EntityRef::Node(_) | EntityRef::Relation(_) => Ok(()),
+        }
+    }
+
+    #[tactic(auto, using(crate::proofs::GatherLemmas::ways_of_nodes))]
+    fn gather_dense(&mut self, _dense: &Dense<'_>) -> Result<(), AllocError> {
+        Ok(())
+    }
+}
+
+impl Gather for RelationPhase {
+    ghost gathered = { with_relation };
+
+    fn kinds() -> Kinds {
+        Kinds {
+            nodes: false,
+            ways: false,
+            relations: true,
+        }
+    }
+
+    fn gather(&mut self, entity: &EntityRef<'_>) -> Result<(), AllocError> {
+        match entity {
+            EntityRef::Relation(relation) => self.take_relation(relation),
+            EntityRef::Node(_) | EntityRef::Way(_) => Ok(()),
+        }
+    }
+
+    #[tactic(auto, using(crate::proofs::GatherLemmas::relations_of_nodes))]
+    fn gather_dense(&mut self, _dense: &Dense<'_>) -> Result<(), AllocError> {
+        Ok(())
+    }
+}
+
+/// Takes the nodes of a dense message, each by its id and its place alone.
+fn take_places(phase: &mut NodePhase, dense: &Dense<'_>) -> Result<(), AllocError>
+    ensures { OnOk result (phase.new ≡ fold with_node phase.old (map node (dense_left dense.now))) }
+{
+    for place in dense.places() {
+        phase.take_place(place.id, place.lat, place.lon)?;
+    }
+    Ok(())
+}
+
+/// Gathers the entities of a run.
+#[inline(always)]
+fn gather_run<G: Gather>(run: &Run<'_>, gathering: &mut G) -> Result<(), AllocError>
+    ensures { OnOk result (gathering.new ≡ fold G.gathered gathering.old (run_entities run.now)) }
+{
+    match run {
+        Run::Nothing => Ok(()),
+        Run::One(entity) => gathering.gather(entity),
+        Run::Dense(dense) => gathering.gather_dense(dense),
+    }
+}
+
+/// Gathers those entities of a block that matter.
+fn gather_entities<G: Gather>(block: &Block<'_>, gathering: &mut G) -> Result<(), AllocError>
+    ensures { OnOk result (gathering.new
+        ≡ fold G.gathered gathering.old (entities block.now.at block.now.payload.now)) }
+{
+    for run in block.runs_among(G::kinds()) {
+        gather_run(&run, gathering)?;
+    }
+    Ok(())
+}
+
+/// What lasts from frame to frame of a pass.
+#[derive(Debug, Drop)]
+pub struct Pass {
+    /// The header, once its frame was met.
+    pub header: Option<Header>,
+    /// Where in the file the HeaderBlock begins; 0 before it.
+    pub header_at: u64,
+    /// The entities met so far.
+    pub counts: Counts,
+}
+
+impl Pass {
+    /// A pass that has met no frame.
+    pub fn new() -> Pass
+        ensures { IsFresh result }
+    {
+        Pass {
+            header: None,
+            header_at: 0,
+            counts: Counts::none(),
+        }
+    }
+
+    /// Takes the header of a frame, or counts its entities and gathers them. Refuses the first fault of its payload.
+    fn take<G: Gather>(
+        &mut self,
+        alloc: Global,
+        frame: &Frame<'_>,
+        gathering: &mut G,
+    ) -> Result<(), ReadFault>
+        ensures taken { OnOk result (TakesAll G.gathered (lent_by frame.now)
+            self.old self.new gathering.old gathering.new) }
+        ensures refused { (fault : Fault) → result ≡ Err (Refused fault)
+            → fault_in (lent_by frame.now) ≡ Some fault }
+    {
+        match frame.kind {
+            FrameKind::Header => self.take_header(alloc, frame.payload, frame.payload_at)?,
+            FrameKind::Data => {
+                self.take_block(alloc, frame.payload, frame.payload_at, gathering)?;
+            }
+            FrameKind::Other => {}
+        }
+        Ok(())
+    }
+
+    /// Takes the header of a HeaderBlock.
+    pub fn take_header(
+        &mut self,
+        alloc: Global,
+        payload: &[u8],
+        at: u64,
+    ) -> Result<(), ReadFault>
+        requires { at + length payload.now ≤ 2 ^ 63 }
+        ensures taken { OnOk result
+            (TakesPayload (header_block at payload.now) self.old self.new) }
+        ensures sound { OnOk result (fault_in (header_block at payload.now) ≡ None) }
+        ensures refused { (fault : Fault) → result ≡ Err (Refused fault)
+            → fault_in (header_block at payload.now) ≡ Some fault }
+    {
+        self.header = Some(Header::read(alloc, payload, at)?);
+        self.header_at = at;
+        Ok(())
+    }
+
+    /// Counts the entities of a PrimitiveBlock, and gathers them.
+    fn take_block<G: Gather>(
+        &mut self,
+        alloc: Global,
+        payload: &[u8],
+        at: u64,
+        gathering: &mut G,
+    ) -> Result<(), ReadFault>
+        requires placed { at + length payload.now ≤ 2 ^ 63 }
+        requires short { length payload.now < 33554432 }
+        ensures taken { OnOk result (TakesAll G.gathered (primitive_block at payload.now)
+            self.old self.new gathering.old gathering.new) }
+        ensures refused { (fault : Fault) → result ≡ Err (Refused fault)
+            → fault_in (primitive_block at payload.now) ≡ Some fault }
+    {
+        let block = Block::read(alloc, payload, at)?;
+        gather_entities(&block, gathering)?;
+        self.counts.add(block.counts());
+        Ok(())
+    }
+}
+
+/// Takes the next frame of a pass: its header, or the numbers of its entities, which are gathered; false at the end of an input
+/// that had its header.
+///
+/// `Refused` names the first fault of the frame, phases of its payload too. After a stop the reader, the pass and what was gathered
+/// may only be dropped, or the reader taken apart.
+pub fn step_gather<F: Feed, G: Gather>(
+    alloc: Global,
+    reader: &mut FrameReader<F>,
+    pass: &mut Pass,
+    gathering: &mut G,
+) -> Result<bool, Stop>
+    ensures step { IsStep F.Feed reader.old reader.new
+        (TakesFrame G.gathered pass.old pass.new gathering.old gathering.new)
+        FailsToJudge ((pass.new ≡ pass.old) × (gathering.new ≡ gathering.old)) result }
+    ensures limited { place_of reader.new ≤ 2 ^ 62 }
+    ensures space { held_by reader.new ≤ 33620990 }
+{
+    let Some(frame) = reader.next()? else {
+        return Ok(false);
+    };
+    pass.take(alloc, &frame, gathering)?;
+    Ok(true)
+}
+
+/// Takes the next frame of a pass: its header, or the numbers of its entities; false at the end of an input that had its header.
+/// It is [`step_gather`] of nothing.
+pub fn step_count<F: Feed>(
+    alloc: Global,
+    reader: &mut FrameReader<F>,
+    pass: &mut Pass,
+) -> Result<bool, Stop>
+    ensures step { IsStep F.Feed reader.old reader.new (CountsFrame pass.old pass.new)
+        FailsToJudge (pass.new ≡ pass.old) result }
+    ensures limited { place_of reader.new ≤ 2 ^ 62 }
+    ensures space { held_by reader.new ≤ 33620990 }
+{
+    step_gather(alloc, reader, pass, &mut Nothing)
+}
+
+/// As [`step_count`], and takes the nodes of the frame in order. After a stop the phase too may only be dropped.
+pub fn step_nodes<F: Feed>(
+    alloc: Global,
+    reader: &mut FrameReader<F>,
+    pass: &mut Pass,
+    phase: &mut NodePhase,
+) -> Result<bool, Stop>
+    ensures step { IsStep F.Feed reader.old reader.new
+        (TakesFrame with_node pass.old pass.new phase.old phase.new)
+        FailsToJudge ((pass.new ≡ pass.old) × (phase.new ≡ phase.old)) result }
+    ensures limited { place_of reader.new ≤ 2 ^ 62 }
+    ensures space { held_by reader.new ≤ 33620990 }
+{
+    step_gather(alloc, reader, pass, phase)
+}
+
+/// As [`step_count`], and takes the ways of the frame in order. After a stop the phase too may only be dropped.
+pub fn step_ways<F: Feed>(
+    alloc: Global,
+    reader: &mut FrameReader<F>,
+    pass: &mut Pass,
+    phase: &mut WayPhase,
+) -> Result<bool, Stop>
+    ensures step { IsStep F.Feed reader.old reader.new
+        (TakesFrame with_way pass.old pass.new phase.old phase.new)
+        FailsToJudge ((pass.new ≡ pass.old) × (phase.new ≡ phase.old)) result }
+    ensures limited { place_of reader.new ≤ 2 ^ 62 }
+    ensures space { held_by reader.new ≤ 33620990 }
+{
+    step_gather(alloc, reader, pass, phase)
+}
+
+/// As [`step_count`], and takes the relations of the frame in order. After a stop the phase too may only be dropped.
+pub fn step_relations<F: Feed>(
+    alloc: Global,
+    reader: &mut FrameReader<F>,
+    pass: &mut Pass,
+    phase: &mut RelationPhase,
+) -> Result<bool, Stop>
+    ensures step { IsStep F.Feed reader.old reader.new
+        (TakesFrame with_relation pass.old pass.new phase.old phase.new)
+        FailsToJudge ((pass.new ≡ pass.old) × (phase.new ≡ phase.old)) result }
+    ensures limited { place_of reader.new ≤ 2 ^ 62 }
+    ensures space { held_by reader.new ≤ 33620990 }
+{
+    step_gather(alloc, reader, pass, phase)
+}
+
+/// Takes the frames that are left, by steps.
+fn steps<F: Feed, G: Gather>(
+    alloc: Global,
+    reader: &mut FrameReader<F>,
+    gathering: &mut G,
+) -> Result<Pass, Stop>
+    requires { IsReading reader.old }
+    ensures taken { IfOk result (λ pass. GaveRest F.Feed reader.old reader.new
+        (λ known. TakesFile G.gathered known gathering.old gathering.new pass)) }
+    ensures stops { IfErr result (Caused (FaultOf (fully_known (verdict F.remaining reader.old)))
+        (ReadFailed F.Feed reader.old.feed reader.new.feed) ⊥ unchanged) }
+    ensures refused { IfErr result (RefusesRest F.Feed reader.old reader.new) }
+    ensures keeps { KeepsFeed F.Feed reader.old.feed reader.new.feed }
+{
+    let mut pass = Pass::new();
+    'frames: while step_gather(alloc, reader, &mut pass, gathering)? {}
+    Ok(pass)
+}
+
+/// What a pass over a whole file without a fault reports.
+#[derive(Drop)]
+pub struct Judged {
+    /// The file's header, and the numbers of its entities.
+    pub pass: Pass,
+    /// How many bytes it has.
+    pub count: u64,
+    /// The digest of its bytes.
+    pub digest: [u8; 32],
+}
+
+/// Judges a whole file, and gathers its entities: all passes but those that write are this one.
+///
+/// `Refused` has the first fault of the file, of any phase, with how many bytes were read and their digest. Reads once, to the file's
+/// end, and holds one frame at a time. After a halt what was gathered may only be dropped.
+pub fn judge<F: Feed, G: Gather>(
+    alloc: Global,
+    feed: &mut F,
+    gathering: &mut G,
+) -> Result<Judged, Halt>
+    ensures judged { IfOk result (λ told. GaveFile F.Feed feed.old feed.new told.digest
+        (λ file. IsLength told.count file
+        × TakesFile G.gathered (judged_file (Some file)) gathering.old gathering.new told.pass)) }
+    ensures stops { IfErr result (λ h. Caused (FaultOf (judged_file (F.remaining feed.old)))
+        (ReadFailed F.Feed feed.old feed.new) ⊥ unchanged (stop_of h)) }
+    ensures refused { IfErr result
+        (Halts (RefusesFile F.Feed feed.old feed.new (λ b. judged_file (Some b)))) }
+    ensures counts { F.failures feed.old ≤ F.failures feed.new }
+{
+    let mut reader = FrameReader::new(alloc, HashedFeed::new(&mut *feed));
+    let outcome = steps(alloc, &mut reader, gathering);
+    let count = reader.feed.count();
+    let digest = reader.feed.digest();
+    // What is known of the feed comes back with the reference itself.
+    let _feed = reader.into_feed().into_inner();
+    match outcome {
+        Ok(pass) => Ok(Judged {
+            pass,
+            count,
+            digest,
+        }),
+        Err(stop) => Err(Halt::new(stop, count, digest)),
+    }
+}

@@ -1,0 +1,91 @@
+//! What a call reports besides its work: the digests of the bytes that went through its devices.
+
+ghost use Rattle.std.specs.Prelude.{◌≡◌};
+ghost use Rattle.pbf_frame.specs.declared.stop.Stop.TheVariants as stop;
+ghost use Rattle.pbf_pass.specs.declared.receipt.Halt.TheVariants as halt;
+ghost use Rattle.pbf_pass.specs.Refused.{stop_of, halted};
+
+use pbf_block::Counts;
+use pbf_frame::Stop;
+use pbf_wire::Fault;
+use std::alloc::AllocError;
+
+/// What a call that reads reports: how many entities, and the SHA-256 digest of its input.
+#[derive(Clone, Copy, Debug)]
+pub struct InputReceipt {
+    /// The numbers of the entities.
+    pub counts: Counts,
+    /// The digest of the bytes that the feed gave; where a call has several feeds, of those that each of them gave.
+    pub input: [u8; 32],
+}
+
+/// What a call that writes reports: how many entities, and the SHA-256 digests of its input and of its output.
+#[derive(Clone, Copy, Debug)]
+pub struct Receipt {
+    /// The numbers of the entities.
+    pub counts: Counts,
+    /// The digest of the bytes that each of the feeds gave.
+    pub input: [u8; 32],
+    /// The digest of the bytes that the drain took.
+    pub output: [u8; 32],
+}
+
+/// The refusal of an input, with what was read of it.
+#[derive(Clone, Copy, Debug)]
+pub struct Refusal {
+    /// The first fault of the input.
+    pub fault: Fault,
+    /// How many bytes the feed gave until then. Whatever follows them, or nothing where the feed had ended, the fault is the first.
+    /// A count that would be higher stays at 2^64 - 1.
+    pub read: u64,
+    /// The digest of these bytes.
+    pub input: [u8; 32],
+}
+
+/// Why a call with a receipt stopped before its end.
+#[derive(Clone, Copy, Debug)]
+pub enum Halt {
+    /// The input of the first feed is refused.
+    Refused(Refusal),
+    /// Another stop, never [`Stop::Refused`].
+    Stopped(Stop),
+}
+
+impl Halt {
+    /// The halt for a stop, after this many bytes of the first feed, of this digest: a refusal takes both up.
+    pub fn new(stop: Stop, read: u64, input: [u8; 32]) -> Halt
+        ensures { result ≡ halted stop read input }
+    {
+        match stop {
+            Stop::Refused(fault) => Halt::Refused(Refusal { fault, read, input }),
+            other => Halt::Stopped(other),
+        }
+    }
+}
+
+impl From<Stop> for Halt {
+    ghost from_gives = { λ stop e. e ≡ halt.Stopped stop };
+
+    fn from(stop: Stop) -> Halt {
+        Halt::Stopped(stop)
+    }
+}
+
+impl From<AllocError> for Halt {
+    ghost from_gives = { λ _ e. e ≡ halt.Stopped stop.Memory };
+
+    fn from(_error: AllocError) -> Halt {
+        Halt::Stopped(Stop::Memory)
+    }
+}
+
+impl From<Halt> for Stop {
+    ghost from_gives = { λ halt e. e ≡ stop_of halt };
+
+    fn from(halt: Halt) -> Stop {
+        match halt {
+            Halt::Refused(refusal) => Stop::Refused(refusal.fault),
+            Halt::Stopped(stop) => stop,
+        }
+    }
+}
