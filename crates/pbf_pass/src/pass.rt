@@ -225,12 +225,7 @@ impl Pass {
     }
 
     /// Takes the header of a HeaderBlock.
-    pub fn take_header(
-        &mut self,
-        alloc: Global,
-        payload: &[u8],
-        at: u64,
-    ) -> Result<(), ReadFault>
+    pub fn take_header(&mut self, alloc: Global, payload: &[u8], at: u64) -> Result<(), ReadFault>
         requires { at + length payload.now ≤ 2 ^ 63 }
         ensures taken { OnOk result
             (TakesPayload (header_block at payload.now) self.old self.new) }

@@ -29,8 +29,8 @@ use osm_ways::{Chooser, ChooserParents, Chosen, ChosenParents};
 use pbf_block::{Block, Counts, Entities, Kinds, Run};
 use pbf_frame::{Drain, Feed, Frame, FrameKind, FrameReader, Stop};
 use pbf_header::Header;
-use pbf_wire::Sums;
 use pbf_pass::{HashedFeed, InputReceipt, Pass};
+use pbf_wire::Sums;
 use std::alloc::Global;
 use std::hash::BuildHasher;
 
