@@ -146,15 +146,15 @@ class Build:
 
     def start(self, name, jobs, beside):
         log = open(os.path.join(self.room, name + ".log"), "w")
-        first = (lambda: os.nice(5)) if beside else None
+        first = (lambda: os.nice(10)) if beside else None
         folder = os.path.join(TOP, "crates", name)
         self.running[name] = subprocess.Popen(
             self.command(name, jobs), cwd=folder, stdin=subprocess.DEVNULL, stdout=log, stderr=log, preexec_fn=first
         )
 
     def start_ready(self):
-        """Starts what can be: of the crates that wait, the one with the longest way up first. One that is begun beside a longer way gets
-        half of the processors, and the last of them where its way is much shorter."""
+        """Starts what can be: of the crates that wait, the one with the longest way up first. What is begun beside a longer way gets half
+        of the processors, or one that the others leave, where its way is much shorter."""
         done = self.proved
         ready = [name for name in self.crates if name not in done and name not in self.running]
         ready = [name for name in ready if all(other in done for other in self.crates[name] if other in self.crates)]
@@ -164,8 +164,9 @@ class Build:
                 return self.start_ready()
             longest = max((self.ways[other] for other in self.running), default=0)
             if len(self.running) < self.lanes:
-                jobs = self.lanes if self.ways[name] > longest else max(1, self.lanes // 2)
-                self.start(name, 1 if name in self.again else jobs, self.ways[name] < 0.8 * longest)
+                beside = self.ways[name] < 0.8 * longest
+                jobs = self.lanes if self.ways[name] > longest else 1 if beside else max(1, self.lanes // 2)
+                self.start(name, 1 if name in self.again else jobs, beside)
 
     def end(self, name):
         with open(self.result(name) + ".sum", "w") as file:
