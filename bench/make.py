@@ -4,9 +4,9 @@
 usage: bench/make.py SMALL LARGE MEGABYTES
 
 LARGE has the entities of SMALL over and over, each copy a quarter of a degree further east, until it has so many megabytes: first the
-nodes of all copies, then their ways, then their relations, each sorted by id. The ids are numbered anew, from 1 on without gaps, as some
-programs keep room for each id below the greatest. It prints how many copies there are, and the three boxes that hold about 1 %, 25 % and
-100 % of them. SMALL is raw, sorted, has dense nodes, and is less than a quarter of a degree wide.
+nodes of all copies, then their ways, then their relations, each sorted by id. The ids are numbered anew, from 1 on, those of the nodes nearly
+without gaps, since some programs keep room for each id below the greatest. It prints how many copies there are, and the three boxes that hold
+about 1 %, 25 % and 100 % of them. SMALL is raw, sorted, has dense nodes, and is less than a quarter of a degree wide.
 """
 import importlib.machinery
 import importlib.util
