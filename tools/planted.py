@@ -47,8 +47,9 @@ class Change:
     begin: int
     end: int
     text: str
-    function: str  # the function that holds the piece, or nothing
-    homes: tuple  # patterns of the folders that the proofs of the file's functions lie in
+    function: str  # the function that holds the piece, or whose contract alone names the definition that holds it; or nothing
+    home: str  # the file of that function
+    homes: tuple  # patterns of the folders that the proofs of that file's functions lie in
 
     def is_in(self, path):
         """Whether it may stand in a function of this folder."""
@@ -63,7 +64,7 @@ class Bug:
     changes: list
 
     def functions(self):
-        return {(change.file, change.function) for change in self.changes}
+        return {(change.home, change.function) for change in self.changes}
 
     def is_placed(self):
         """Whether all that it changes stands in functions, so that they alone are judged anew."""
@@ -95,6 +96,27 @@ def function_at(text, place):
     return ""
 
 
+def files_in(crate):
+    """The files of a crate that are read for its proof, each by its path below the crate."""
+    for part in PARTS:
+        for folder, _, names in os.walk(os.path.join(crate, part)):
+            yield from (os.path.relpath(os.path.join(folder, name), crate) for name in sorted(names))
+
+
+def contract_of(crate, text, place):
+    """The file and the name of the function whose contract names the definition that holds a place of a file of specs/, where nothing else
+    names it: then that function alone is judged by it."""
+    names = re.findall(r"^(?:(?:pub|abbrev|unfoldable|record|data) )+(\w+)", text[:place], re.M)
+    if not names:
+        return "", ""
+    named = re.compile(rf"^(?!(?:ghost )?use |(?:(?:pub|abbrev|unfoldable|record|data) )+{names[-1]}\b).*(?<![\w.]){names[-1]}\b", re.M)
+    found = [(file, it.start()) for file in files_in(crate) for it in named.finditer(text_of(crate, file))]
+    if len(found) != 1 or not found[0][0].startswith("src/"):
+        return "", ""
+    file, begin = found[0]
+    return file, function_at(text_of(crate, file), begin + 1)
+
+
 def homes_of(file, text):
     """Patterns of the folders of proofs/ for the functions of a file: that of its module, and that of each type that it has an `impl`
     of, wherever the type is declared."""
@@ -103,8 +125,9 @@ def homes_of(file, text):
     return (re.escape(module) + r"(/.*)?", *(rf"(.*/)?{name}" for name in types))
 
 
-def changes_of(file, text, new):
+def changes_of(crate, file, new):
     """What makes of a file's text the new one: the runs of lines that differ."""
+    text = text_of(crate, file)
     old_lines, new_lines = text.splitlines(True), new.splitlines(True)
     starts = [0]
     for line in old_lines:
@@ -114,8 +137,9 @@ def changes_of(file, text, new):
         if kind != "equal":
             place = starts[begin]
             inside = place + len(old_lines[begin]) - len(old_lines[begin].lstrip()) if begin < end else place
-            function = function_at(text, inside) if file.startswith("src/") else ""
-            found.append(Change(file, place, starts[end], "".join(new_lines[first:last]), function, homes_of(file, text)))
+            home, function = (file, function_at(text, inside)) if file.startswith("src/") else contract_of(crate, text, inside)
+            homes = homes_of(home, text_of(crate, home)) if home else ()
+            found.append(Change(file, place, starts[end], "".join(new_lines[first:last]), function, home, homes))
     return found
 
 
@@ -134,7 +158,7 @@ def read_bug(crate, folder, name):
             if texts[file].count(old) != 1:
                 raise Unusable(f"{name}: an 'old:' text is in {file} {texts[file].count(old)} times, and not once")
             texts[file] = texts[file].replace(old, rest)
-    changes = [change for file, new in texts.items() for change in changes_of(file, text_of(crate, file), new)]
+    changes = [change for file, new in texts.items() for change in changes_of(crate, file, new)]
     if not changes:
         raise Unusable(f"{name}: it changes nothing")
     return Bug(f"{folder}/{name}", changes)
@@ -198,8 +222,8 @@ def goal_in(line):
     return found[1] if found else "its proof"
 
 
-def read_verdict(status, said, texts):
-    """Reads the lines of a check."""
+def read_verdict(crate, status, said, texts):
+    """Reads the lines of a check of a crate that has these texts in place of its own."""
     functions = {(path.replace("::", "/"), name) for path, name in re.findall(r"^fn \w+::(?:(\S+)::)?(\w+): ", said, re.M)}
     refused, elsewhere, unread = {}, "", ""
 
@@ -219,8 +243,8 @@ def read_verdict(status, said, texts):
         open_goal = re.match(r"note: (src/\S+):(\d+):\d+: it is not proved that .*\((`.*)", line)
         if open_goal:
             elsewhere = elsewhere or line
-            text = texts.get(open_goal[1])
-            name = function_below(text, int(open_goal[2])) if text else ""
+            text = texts.get(open_goal[1]) or text_of(crate, open_goal[1])
+            name = function_below(text, int(open_goal[2]))
             if name:
                 refuse(module_of(open_goal[1]), name, open_goal[3])
         searched = re.match(r"fn \S+: no proof: expected answers in \./proofs/(?:(\S+)/)?(\w+)/Answers\.antt; (`search` did not prove .*)", line)
@@ -273,7 +297,7 @@ class Crate:
         """What the prover is asked to check for a change: the functions that it may stand in, by the names that a check before told, or
         else the module."""
         named = [(path, name) for path, name in self.functions if name == change.function and change.is_in(path)]
-        return {f"{path}/{name}".lstrip("/").replace("/", "::") for path, name in named} or {module_of(change.file).replace("/", "::")}
+        return {f"{path}/{name}".lstrip("/").replace("/", "::") for path, name in named} or {module_of(change.home).replace("/", "::")}
 
     def check(self, bugs, kept):
         """Checks a copy of the crate that has these bugs, over what the checks before it proved. Where they stand in functions, only
@@ -293,7 +317,7 @@ class Crate:
             if ran.returncode == -signal.SIGKILL:  # most often memory ran out: once more
                 ran = subprocess.run(self.words() + only + ["--incremental", kept], **how)
         self.checks += 1
-        verdict = read_verdict(ran.returncode, ran.stdout, texts)
+        verdict = read_verdict(self.folder, ran.returncode, ran.stdout, texts)
         self.functions |= verdict.functions
         return verdict
 
