@@ -24,12 +24,8 @@ use Rattle.pbf_pass.specs.Refused.{RefusesRest, RefusesFile, Halts, HaltsFile, I
 use Rattle.pbf_pass.specs.Stops.{FaultOf, Caused, Only, unchanged, KeepsFeed}
 use Rattle.pbf_pass.proofs.LimitLemmas.{limited_fault, limit_refused}
 
--- ---- a stop that is no refusal
+-- ---- a header that can't be written is refused
 
-pub memory_only : (e : Fault) → stop.Memory ≡ stop.Refused e → ⊥
-memory_only e is = cc
-
--- a header that can't be written is refused
 pub limit_caused : (told : Judged) (h : Halt) → IsLimitRefused told h → Caused (Only (header_limit (held_header told.pass))) ⊥ ⊥ unchanged (stop_of h)
 limit_caused told (halt.Refused r) limit = limit.0
 limit_caused told (halt.Stopped s) limit = absurd limit

@@ -379,8 +379,8 @@ pub struct Judged {
 
 /// Judges a whole file, and gathers its entities: all passes but those that write are this one.
 ///
-/// `Refused` has the first fault of the file, of any phase, with how many bytes were read and their digest. Reads once, to the file's
-/// end, and holds one frame at a time. After a halt what was gathered may only be dropped.
+/// `Refused` has the first fault of the file, of any phase, with how many bytes were read and their digest. Reads each byte once, to
+/// the file's end where it answers `Ok`, and holds one frame at a time. After a halt what was gathered may only be dropped.
 pub fn judge<F: Feed, G: Gather>(
     alloc: Global,
     feed: &mut F,
