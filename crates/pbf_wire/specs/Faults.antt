@@ -95,15 +95,9 @@ column_count k os = length (flat_map (ends_of k) os)
 abbrev pub below_fault : Reason → ℕ → ℕ × ℕ → List Fault
 below_fault reason limit x = fault_where (not (nat_lt (x.0 % 2 ^ 32) limit)) x.1 reason
 
-abbrev pub below_faults : Reason → ℕ → List (ℕ × ℕ) → List Fault
-below_faults reason limit entries = flat_map (below_fault reason limit) entries
-
 -- a table of this length has no text for a number
-abbrev pub index_fault : ℕ → ℕ × ℕ → List Fault
-index_fault limit x = below_fault StringIndex limit x
-
 abbrev pub index_faults : ℕ → List (ℕ × ℕ) → List Fault
-index_faults limit entries = below_faults StringIndex limit entries
+index_faults limit entries = flat_map (below_fault StringIndex limit) entries
 
 -- a number isn't strictly between -limit and limit
 abbrev pub range_fault : ℤ → ℕ → ℤ → List Fault
