@@ -11,7 +11,7 @@ use Rattle.pbf_wire.specs.declared.fault.Reason.TheVariants.{DataSize, RawLong}
 use Rattle.pbf_wire.specs.Least.{least}
 use Rattle.pbf_wire.specs.Message.{Slot, Scalar, Each, parts_of, message, slot_bytes, SlotFits}
 use Rattle.pbf_wire.specs.Occurrence.{items, found}
-use Rattle.pbf_wire.specs.Reading.{last_of}
+use Rattle.pbf_wire.specs.Reading.{occurrence_text, last_of}
 use Rattle.pbf_wire.specs.Signed.{low_i32}
 use Rattle.pbf_wire.specs.Varint.{shortest}
 use Rattle.pbf_wire.specs.Wire.{wire}
@@ -24,7 +24,7 @@ use Rattle.pbf_frame.specs.declared.frame.FrameKind.{FrameKind}
 use Rattle.pbf_frame.specs.declared.frame.FrameKind.TheVariants as kind
 use Rattle.pbf_frame.specs.declared.header.TheConstants.{TYPE, DATASIZE, HEADER_KINDS, LARGEST_SIZE}
 use Rattle.pbf_wire.specs.Faults.{fault_where}
-use Rattle.pbf_frame.specs.Header.{occurrence_text, name_of, kind_named, size_within, size_of, absent_faults, size_faults, header_faults}
+use Rattle.pbf_frame.specs.Header.{name_of, kind_named, size_within, size_of, absent_faults, size_faults, header_faults}
 use Rattle.pbf_frame.specs.Blob.{compressed, raw_faults, blob_faults, blob_fault, raw_of}
 use Rattle.pbf_frame.specs.Frames.{order_faults, frame_kind, frame_end, frame_bytes, frame_payload, payload_in, blob_at}
 use Rattle.pbf_frame.specs.Sound.{IsSound, IsFrame}

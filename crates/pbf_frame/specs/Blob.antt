@@ -6,10 +6,9 @@ use Rattle.pbf_wire.specs.declared.fault.Reason.{Reason}
 use Rattle.pbf_wire.specs.declared.fault.Reason.TheVariants.{NoRaw, RawLong, Zlib, Lzma, Bzip2, Lz4, Zstd}
 use Rattle.pbf_wire.specs.Phases.{first_fault}
 use Rattle.pbf_wire.specs.Occurrence.{Content, Bytes, Occurrence, items, found}
-use Rattle.pbf_wire.specs.Reading.{bytes_held, last_of}
+use Rattle.pbf_wire.specs.Reading.{bytes_held, occurrence_text, last_of}
 use Rattle.pbf_frame.specs.declared.blob.TheConstants.{RAW, ZLIB_DATA, LZMA_DATA, BZIP2_DATA, LZ4_DATA, ZSTD_DATA, BLOB_KINDS, RAW_LIMIT}
 use Rattle.pbf_wire.specs.Faults.{fault, fault_where, leaf_faults}
-use Rattle.pbf_frame.specs.Header.{occurrence_text}
 
 -- why data under this field number isn't read
 abbrev pub compression_of : ℕ → Option Reason

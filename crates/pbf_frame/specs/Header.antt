@@ -4,18 +4,13 @@ use Rattle.std.specs.Cmp.Lexicographic.{pointwise}
 use Rattle.pbf_wire.specs.declared.fault.Fault.{Fault}
 use Rattle.pbf_wire.specs.declared.fault.Reason.TheVariants.{Missing, DataSize}
 use Rattle.pbf_wire.specs.Occurrence.{Content, Number, Occurrence, items, found}
-use Rattle.pbf_wire.specs.Reading.{bytes_held, last_of}
+use Rattle.pbf_wire.specs.Reading.{occurrence_text, last_of}
 use Rattle.pbf_wire.specs.Signed.{low_i32}
 use Rattle.pbf_frame.specs.declared.frame.FrameKind.{FrameKind}
 use Rattle.pbf_frame.specs.declared.frame.FrameKind.TheVariants as kind
 use Rattle.pbf_frame.specs.declared.header.Head.{Head}
 use Rattle.pbf_frame.specs.declared.header.TheConstants.{TYPE, DATASIZE, LARGEST_SIZE}
 use Rattle.pbf_wire.specs.Faults.{fault_where}
-
--- the text of a field, and none where it is absent
-abbrev pub occurrence_text : Option Occurrence → List ℕ
-occurrence_text None = []
-occurrence_text (Some o) = bytes_held o.content
 
 -- the number that an occurrence holds, as an int32
 abbrev pub int32_held : Content → ℤ

@@ -6,8 +6,8 @@ ghost use Rattle.pbf_wire.specs.Fields.{occurrence};
 ghost use Rattle.pbf_wire.specs.Least.{least};
 ghost use Rattle.pbf_wire.specs.Occurrence.{items, found};
 ghost use Rattle.pbf_wire.specs.Payload.{content};
-ghost use Rattle.pbf_wire.specs.Reading.{last_of};
-ghost use Rattle.pbf_frame.specs.Header.{occurrence_text, int32_held, size_within, size_of, or_nothing, kind_named, absent_faults, size_faults, header_faults};
+ghost use Rattle.pbf_wire.specs.Reading.{occurrence_text, last_of};
+ghost use Rattle.pbf_frame.specs.Header.{int32_held, size_within, size_of, or_nothing, kind_named, absent_faults, size_faults, header_faults};
 ghost use Rattle.pbf_frame.specs.Steps.{head_of};
 
 use crate::frame::FrameKind;

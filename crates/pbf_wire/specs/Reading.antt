@@ -31,6 +31,11 @@ bytes_in _ = None
 abbrev pub bytes_held : Content → List ℕ
 bytes_held c = unwrap_or (bytes_in c) []
 
+-- the text of a field, and none where it is absent
+abbrev pub occurrence_text : Option Occurrence → List ℕ
+occurrence_text None = []
+occurrence_text (Some o) = bytes_held o.content
+
 -- the bytes that an occurrence gives the field k
 abbrev pub bytes_of : ℕ → Occurrence → Option (List ℕ)
 bytes_of k o = if o.number == k then bytes_in o.content else None
