@@ -48,7 +48,7 @@ abbrev pub frame_name : FrameSpec → List ℕ
 frame_name f = name_of (header_at f) f.header
 
 abbrev pub frame_kind : FrameSpec → FrameKind
-frame_kind f = kind_named (frame_name f)
+frame_kind f = kind_named (name_of (header_at f) f.header)
 
 -- the payload of a blob that stands at this place, and where it begins; a blob of another type isn't looked into
 abbrev pub payload_in : FrameKind → ℕ → List ℕ → List ℕ
