@@ -8,7 +8,8 @@ use Rattle.pbf_wire.specs.declared.fault.Reason.TheVariants.{StringIndex}
 use Rattle.pbf_wire.specs.Least.{lesser, least}
 use Rattle.pbf_wire.specs.Columns.{placed, numbers_in, column_of, joined}
 use Rattle.pbf_wire.specs.Occurrence.{Occurrence}
-use Rattle.pbf_wire.specs.Faults.{fault, fault_where, below_fault, index_faults, value_in, value_of_last, last_value}
+use Rattle.pbf_wire.specs.Faults.{fault, fault_where, below_fault, index_faults, value_in, last_value}
+use Rattle.pbf_wire.proofs.QuietLemmas.{value_of_last}
 
 -- the last number of the field k, where this was the last before
 abbrev pub later_value : ℕ → Option (ℕ × ℕ) → List Occurrence → Option (ℕ × ℕ)
