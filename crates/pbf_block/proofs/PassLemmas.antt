@@ -8,7 +8,8 @@ use Rattle.pbf_wire.specs.Cursors.{fields_left}
 use Rattle.pbf_wire.specs.Faults.{last_value}
 use Rattle.pbf_wire.proofs.QuietLemmas.{value_of_last}
 use Rattle.pbf_wire.specs.Occurrence.{Occurrence, found}
-use Rattle.pbf_wire.specs.Reading.{numbers, last_number}
+use Rattle.pbf_wire.specs.Reading.{last_number}
+use Rattle.pbf_wire.proofs.MessageLemmas.{numbers}
 use Rattle.pbf_block.specs.Passes.{only, only_left}
 
 joined_only : (k : ℕ) (os : List Occurrence) → joined k (only k os) ≡ joined k os

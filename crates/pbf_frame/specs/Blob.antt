@@ -1,6 +1,7 @@
 -- The Blob: the bytes that it holds.
 use Rattle.std.specs.Prelude.{ℕ, ◌==◌, nat_le, List, [], ◌∷◌, ◌++◌, length, Option, Some, None, if◌then◌else◌}
 use Rattle.std.specs.List.{flat_map}
+use Rattle.std.specs.Option.{option_map_or}
 use Rattle.pbf_wire.specs.declared.fault.Fault.{Fault}
 use Rattle.pbf_wire.specs.declared.fault.Reason.{Reason}
 use Rattle.pbf_wire.specs.declared.fault.Reason.TheVariants.{NoRaw, RawLong, Zlib, Lzma, Bzip2, Lz4, Zstd}
@@ -52,5 +53,4 @@ bytes_place at _ = at
 
 -- where its first byte stands
 abbrev pub raw_at : ℕ → Option Occurrence → ℕ
-raw_at at None = at
-raw_at at (Some o) = bytes_place at o.content
+raw_at at last = option_map_or (λ o. bytes_place at o.content) last at

@@ -1,6 +1,7 @@
 -- The BlobHeader: the type of its frame and the size of its blob.
 use Rattle.std.specs.Prelude.{ℕ, ℤ, pos, negsuc, nat_le, List, [], ◌++◌, Option, Some, None, if◌then◌else◌, is_none, unwrap_or, codes, nat_eq}
 use Rattle.std.specs.Cmp.Lexicographic.{pointwise}
+use Rattle.std.specs.Option.{option_and_then, option_map_or}
 use Rattle.pbf_wire.specs.declared.fault.Fault.{Fault}
 use Rattle.pbf_wire.specs.declared.fault.Reason.TheVariants.{Missing, DataSize}
 use Rattle.pbf_wire.specs.Occurrence.{Content, Number, Occurrence, items, found}
@@ -23,8 +24,7 @@ size_within (pos n) = if nat_le n LARGEST_SIZE then Some n else None
 size_within (negsuc n) = None
 
 abbrev pub size_of : Option Occurrence → Option ℕ
-size_of None = None
-size_of (Some o) = size_within (int32_held o.content)
+size_of last = option_and_then (λ o. size_within (int32_held o.content)) last
 
 -- the type of the frame whose header stands at this place
 abbrev pub name_of : ℕ → List ℕ → List ℕ
@@ -37,8 +37,7 @@ kind_named name =
     else (if pointwise nat_eq name (codes "OSMData") then kind.Data else kind.Other)
 
 abbrev pub size_faults : Option Occurrence → List Fault
-size_faults None = []
-size_faults (Some o) = fault_where (is_none (size_within (int32_held o.content))) o.place DataSize
+size_faults last = option_map_or (λ o. fault_where (is_none (size_within (int32_held o.content))) o.place DataSize) last []
 
 -- what is wrong with the fields of a header: a required one is absent, or the size is none of a blob
 abbrev pub header_faults : ℕ → List ℕ → List Fault

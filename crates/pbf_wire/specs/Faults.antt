@@ -36,8 +36,7 @@ abbrev pub fields_in : ℕ → List ℕ → List Occurrence
 fields_in at m = found (items at m)
 
 abbrev pub fields_of : Option Occurrence → List Occurrence
-fields_of None = []
-fields_of (Some o) = inside fields_in o.content
+fields_of last = option_map_or (λ o. inside fields_in o.content) last []
 
 -- the occurrences in the last message that the field k holds, and none where there is no such field
 abbrev pub embedded : ℕ → List Occurrence → List Occurrence
