@@ -12,7 +12,7 @@ use Rattle.pbf_wire.specs.declared.fault.Fault.{Fault}
 use Rattle.pbf_wire.specs.declared.fault.Reason.{Reason}
 use Rattle.pbf_wire.specs.declared.fault.Reason.TheVariants.{Granularity, DateGranularity}
 use Rattle.pbf_wire.specs.Occurrence.{Bytes, Occurrence, Number}
-use Rattle.pbf_wire.specs.Reading.{last_number}
+use Rattle.pbf_wire.specs.Reading.{occurrence_text, last_number}
 use Rattle.pbf_wire.specs.Signed.{low_i32, low_i64, sign_extended}
 use Rattle.pbf_wire.specs.Faults.{fault_where, fields_in, leaf_faults, missing, twice, in_last, entered, inside}
 use Rattle.pbf_wire.specs.Message.{Slot, Scalar, Each, message, SlotFits, SlotIs, scalars_at}
@@ -28,7 +28,7 @@ use Rattle.osm_entity.specs.Scale.{ScaleFits}
 use Rattle.osm_entity.specs.Ranges.{IsInt32, ScaleTyped}
 use Rattle.osm_entity.specs.Entity.{EntitySpec}
 use Rattle.pbf_block.specs.declared.message.TheConstants.{STRINGTABLE, PRIMITIVEGROUP, BLOCK_KINDS, GRANULARITY, DATE_GRANULARITY, LAT_OFFSET, LON_OFFSET}
-use Rattle.pbf_block.specs.Scale.{read_or, scale_of, held_by, table_of}
+use Rattle.pbf_block.specs.Scale.{read_or, scale_of, table_of}
 use Rattle.pbf_block.specs.WireFaults.{group_wire, part_wire, wire_faults}
 use Rattle.pbf_block.specs.StructureFaults.{table_structure, of_option, group_structure, part_structure, structure_faults}
 use Rattle.pbf_block.specs.ValueFaults.{positive, group_values, value_faults}
@@ -162,7 +162,7 @@ module _ (scale : Scale) (used : List (List ℕ)) (group : List ℕ) (es : List 
   table_is : (at : ℕ) → table_of (fields_in at (message (block_slots scale used group))) ≡ written_table used
   table_is at =
       let held = last_held STRINGTABLE at (block_slots scale used group) (table_message used) fits short refl only_table in
-      ap (λ (o : Option Occurrence). texts (held_by o)) held.2 ∙ table_read
+      ap (λ (o : Option Occurrence). texts (occurrence_text o)) held.2 ∙ table_read
 
   scale_is : (at : ℕ) → scale_of (fields_in at (message (block_slots scale used group))) ≡ scale
   scale_is at =

@@ -15,7 +15,8 @@ use Rattle.pbf_wire.specs.declared.kind.Kind.TheVariants as kind
 use Rattle.pbf_wire.specs.Occurrence.{Content, Number, Eight, Four, Bytes, Occurrence, items}
 use Rattle.pbf_wire.specs.Columns.{joined, column}
 use Rattle.pbf_wire.specs.Wire.{kind_of, reason_in}
-use Rattle.pbf_wire.specs.Reading.{last_of, number_in, numbers, last_number}
+use Rattle.pbf_wire.specs.Reading.{last_of, number_in, last_number}
+use Rattle.pbf_wire.proofs.MessageLemmas.{numbers}
 use Rattle.pbf_wire.specs.Signed.{IsWithin, is_within, unzigzag, low_i32, low_i64}
 use Rattle.pbf_wire.specs.Sums.{sum_at}
 use Rattle.pbf_wire.specs.Faults.{inside, entered, fields_in, fields_of, embedded, leaf_faults, column_count, sum_faults, range_fault, value_in, of_value, in_last}

@@ -1,12 +1,12 @@
 -- A written relation has no fault and is read as what it was written for.
 use Rattle.std.proofs.Common.{◌≡◌, ℕ, ◌%◌, ◌^◌, ◌<◌, ◌≤◌, ◌==◌, ◌&&◌, true, ℤ, List, [], ◌∷◌, ◌++◌, length, map, refl, ap₂, subst, sym, ◌∙◌, arith}
-use Rattle.std.specs.List.{AllByRecursion}
+use Rattle.std.specs.List.{AllByRecursion, flat_map}
 use Rattle.std.specs.Option.{option_to_list}
 use Rattle.std.proofs.lemmas.Bool.Decides.{nat_tests}
 use Rattle.std.proofs.lemmas.List.{append-nil, length-map}
 use Rattle.pbf_wire.specs.declared.fault.Reason.TheVariants.{MemberKind as WrongKind}
 use Rattle.pbf_wire.specs.Columns.{column, joined}
-use Rattle.pbf_wire.specs.Faults.{fields_in, below_faults}
+use Rattle.pbf_wire.specs.Faults.{fields_in, below_fault}
 use Rattle.pbf_wire.specs.Message.{Slot, Column, message, SlotFits}
 use Rattle.pbf_wire.specs.Sums.{deltas}
 use Rattle.pbf_wire.proofs.MessageLemmas.{all_left, all_right, column_written}
@@ -142,7 +142,7 @@ module _ (texts : List (List ℕ)) (r : RelationSpec) (h : RelationFits r) (type
         let sids = named_good texts few (joined ROLES_SID (fields_in at (message (relation_slots texts r)))) (map (role_index texts) r.members) roles_column (roles_named texts r.members roles) in
         let ids = sums_good (joined MEMIDS (fields_in at (message (relation_slots texts r)))) (map (λ m. m.id) r.members) ids_column (ids_stored r.members h.members) in
         let low = all_such (λ v. v < 3) (λ v. v % 2 ^ 32 < 3) (λ v lt. omega (arith, lt)) (map (λ m. kind_number m.kind) r.members) (kinds_small r.members) in
-        let kinds : below_faults WrongKind 3 (joined TYPES (fields_in at (message (relation_slots texts r)))) ≡ [] =
+        let kinds : flat_map (below_fault WrongKind 3) (joined TYPES (fields_in at (message (relation_slots texts r)))) ≡ [] =
         below_good WrongKind 3 (joined TYPES (fields_in at (message (relation_slots texts r)))) (subst (λ (ns : List ℕ). AllByRecursion (λ v. v % 2 ^ 32 < 3) ns) (sym kinds_column) low) in
         rw (id, common, sids, ids, kinds) refl
 

@@ -6,23 +6,23 @@ use Rattle.std.specs.Prelude.{nat_lt, Option, Some, None, if◌then◌else◌}
 use Rattle.std.specs.List.{flat_map, AllByRecursion}
 use Rattle.pbf_wire.specs.declared.fault.Fault.{Fault}
 use Rattle.pbf_wire.specs.Occurrence.{Content, Number, Eight, Four, Bytes, Occurrence, items_past}
-use Rattle.pbf_wire.specs.Reading.{bytes_held, last_of}
+use Rattle.pbf_wire.specs.Reading.{bytes_held, occurrence_text, last_of}
 use Rattle.pbf_wire.specs.Faults.{inside, entered, fields_in}
 use Rattle.pbf_wire.proofs.FaultLemmas.{held_short}
 use Rattle.pbf_wire.proofs.SoundLemmas.{both_nil, all_nil, last_holds}
 use Rattle.pbf_strings.specs.Texts.{count_fault, texts}
 use Rattle.pbf_block.specs.declared.message.TheConstants.{STRINGTABLE, PRIMITIVEGROUP}
-use Rattle.pbf_block.specs.Scale.{held_by, table_of}
+use Rattle.pbf_block.specs.Scale.{table_of}
 use Rattle.pbf_block.specs.StructureFaults.{of_option, table_structure, part_structure, group_structure, structure_faults}
 use Rattle.pbf_block.proofs.ReadsLemmas.{entered_nil}
 
 -- ---- it is no longer than the payload
 
-short_if : (n k : ℕ) (os : List Occurrence) (last : Option Occurrence) → AllByRecursion (λ o. length (bytes_held o.content) ≤ n) os → last_of k os ≡ last → length (held_by last) ≤ n
+short_if : (n k : ℕ) (os : List Occurrence) (last : Option Occurrence) → AllByRecursion (λ o. length (bytes_held o.content) ≤ n) os → last_of k os ≡ last → length (occurrence_text last) ≤ n
 short_if n k os None all e = omega arith
 short_if n k os (Some o) all e = (last_holds (λ o. length (bytes_held o.content) ≤ n) k os o all e).0
 
-pub table_short : (at : ℕ) (m : List ℕ) → length (held_by (last_of STRINGTABLE (fields_in at m))) ≤ length m
+pub table_short : (at : ℕ) (m : List ℕ) → length (occurrence_text (last_of STRINGTABLE (fields_in at m))) ≤ length m
 table_short at m = short_if (length m) STRINGTABLE (fields_in at m) (last_of STRINGTABLE (fields_in at m)) (held_short at m) refl
 
 -- ---- it has no more texts than it may have
@@ -48,7 +48,7 @@ few_inside place (Eight bytes) s = few_none
 few_inside place (Four bytes) s = few_none
 few_inside place (Bytes bytes at) s = few_texts place bytes (no_option (count_fault place bytes) s)
 
-few_if : (os : List Occurrence) (last : Option Occurrence) → AllByRecursion (λ o. part_structure o ≡ []) os → last_of STRINGTABLE os ≡ last → length (texts (held_by last)) ≤ 1048576
+few_if : (os : List Occurrence) (last : Option Occurrence) → AllByRecursion (λ o. part_structure o ≡ []) os → last_of STRINGTABLE os ≡ last → length (texts (occurrence_text last)) ≤ 1048576
 few_if os None all e = few_none
 few_if os (Some o) all e =
     let h = last_holds (λ o. part_structure o ≡ []) STRINGTABLE os o all e in

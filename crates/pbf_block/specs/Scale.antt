@@ -1,7 +1,7 @@
 -- What a PrimitiveBlock says of all its entities: the scale of their numbers, and the texts that they name.
-use Rattle.std.specs.Prelude.{ℕ, ℤ, List, [], Option, Some, None}
+use Rattle.std.specs.Prelude.{ℕ, ℤ, List, Option, Some, None}
 use Rattle.pbf_wire.specs.Occurrence.{Occurrence}
-use Rattle.pbf_wire.specs.Reading.{bytes_held, last_of, last_number}
+use Rattle.pbf_wire.specs.Reading.{occurrence_text, last_of, last_number}
 use Rattle.pbf_wire.specs.Signed.{low_i32, low_i64}
 use Rattle.pbf_strings.specs.Texts.{texts}
 use Rattle.osm_entity.specs.declared.scale.Scale.{Scale}
@@ -22,11 +22,6 @@ scale_of os = record {
   lon_offset = read_or DEFAULT_SCALE.lon_offset low_i64 (last_number LON_OFFSET os);
 }
 
--- the bytes of a field, and none where it is absent
-abbrev pub held_by : Option Occurrence → List ℕ
-held_by None = []
-held_by (Some o) = bytes_held o.content
-
 -- the texts of the last string table
 abbrev pub table_of : List Occurrence → List (List ℕ)
-table_of os = texts (held_by (last_of STRINGTABLE os))
+table_of os = texts (occurrence_text (last_of STRINGTABLE os))

@@ -3,11 +3,11 @@ use Rattle.std.specs.Prelude.{ℕ, ℤ, pos, ◌^◌, int_lt, false, List, ◌++
 use Rattle.std.specs.List.{flat_map}
 use Rattle.pbf_wire.specs.declared.fault.Fault.{Fault}
 use Rattle.pbf_wire.specs.declared.fault.Reason.{Reason}
-use Rattle.pbf_wire.specs.declared.fault.Reason.TheVariants.{Granularity, DateGranularity, MemberKind}
+use Rattle.pbf_wire.specs.declared.fault.Reason.TheVariants.{Granularity, DateGranularity, MemberKind, StringIndex}
 use Rattle.pbf_wire.specs.Occurrence.{Occurrence}
 use Rattle.pbf_wire.specs.Columns.{joined}
 use Rattle.pbf_wire.specs.Signed.{unzigzag, low_i32, low_i64}
-use Rattle.pbf_wire.specs.Faults.{fault_where, entered, fields_in, in_last, range_fault, index_fault, index_faults, below_faults, sum_faults}
+use Rattle.pbf_wire.specs.Faults.{fault_where, entered, fields_in, in_last, range_fault, below_fault, index_faults, sum_faults}
 use Rattle.pbf_dense.specs.Judged.{dense_values}
 use Rattle.pbf_block.specs.declared.message.TheConstants.{PRIMITIVEGROUP, GRANULARITY, DATE_GRANULARITY, NODES, DENSE, WAYS, RELATIONS, ID, KEYS, VALS, INFO, NODE_LAT, NODE_LON, REFS, WAY_LAT, WAY_LON, ROLES_SID, MEMIDS, TYPES, TIMESTAMP, CHANGESET, UID, USER_SID}
 
@@ -31,7 +31,7 @@ uid_range place v = range_fault (pos (2 ^ 30)) place (low_i32 v)
 
 -- a user's text is one of the table's
 abbrev pub user_range : ℕ → ℕ → ℕ → List Fault
-user_range limit place v = index_fault limit (v, place)
+user_range limit place v = below_fault StringIndex limit (v, place)
 
 -- a number that must be at least 1
 abbrev pub positive : Reason → ℕ → ℕ → List Fault
@@ -62,8 +62,8 @@ way_values limit place at m =
 abbrev pub relation_values : ℕ → ℕ → ℕ → List ℕ → List Fault
 relation_values limit place at m =
     let os = fields_in at m in
-    in_last ID wide_range os ++ entity_values limit os
-    ++ index_faults limit (joined ROLES_SID os) ++ sum_faults stored_limit false (joined MEMIDS os) ++ below_faults MemberKind 3 (joined TYPES os)
+    in_last ID wide_range os ++ entity_values limit os ++ index_faults limit (joined ROLES_SID os)
+    ++ sum_faults stored_limit false (joined MEMIDS os) ++ flat_map (below_fault MemberKind 3) (joined TYPES os)
 
 abbrev pub member_values : ℕ → Occurrence → List Fault
 member_values limit o = entered NODES (node_values limit) o ++ entered DENSE (dense_values limit) o ++ entered WAYS (way_values limit) o ++ entered RELATIONS (relation_values limit) o

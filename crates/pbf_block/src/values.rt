@@ -6,7 +6,7 @@ ghost use Rattle.pbf_wire.specs.declared.fault.Reason.TheVariants.{MemberKind};
 ghost use Rattle.pbf_wire.specs.Fields.{occurrence};
 ghost use Rattle.pbf_wire.specs.Columns.{joined};
 ghost use Rattle.pbf_wire.specs.Least.{least};
-ghost use Rattle.pbf_wire.specs.Faults.{fields_in, entered, below_faults};
+ghost use Rattle.pbf_wire.specs.Faults.{fields_in, entered, below_fault};
 ghost use Rattle.pbf_block.specs.ValueFaults.{node_values, way_values, relation_values, member_values, group_values, value_faults};
 
 use crate::column_values::{judge_sums, last_value, last_value_left};
@@ -45,7 +45,8 @@ fn judge_way(message: &[u8], at: u64, limit: u64) -> Option<Fault>
 /// The least of the kinds of members that are none.
 fn judge_kinds(message: &[u8], at: u64) -> Option<Fault>
     requires { at + length message.now ≤ 2 ^ 63 }
-    ensures { result ≡ least (below_faults MemberKind 3 (joined TYPES (fields_in at message.now))) }
+    ensures { result ≡ least (flat_map (below_fault MemberKind 3)
+        (joined TYPES (fields_in at message.now))) }
 {
     judge_low_numbers(message, at, TYPES, 3, Reason::MemberKind)
 }
