@@ -3,9 +3,14 @@ use Rattle.std.proofs.Common.{◌≡◌, ℕ, zero, suc, ◌+◌, ◌-◌, ℤ, 
 use Rattle.std.specs.Prelude.{slice_get, slice_range}
 use Rattle.std.specs.List.{range_with_len}
 use Rattle.std.proofs.Math.Seq.{drop-nil, take-nil}
+use Rattle.pbf_wire.specs.Occurrence.{Occurrence}
+use Rattle.pbf_wire.specs.Columns.{column}
+use Rattle.pbf_wire.specs.Signed.{unzigzag, low_sint32}
+use Rattle.pbf_wire.specs.Sums.{sums}
 use Rattle.osm_entity.specs.declared.scale.Scale.{Scale}
 use Rattle.osm_entity.specs.Entity.{TagSpec, MetaSpec, NodeSpec}
 use Rattle.osm_entity.specs.Sources.{tag_of, run}
+use Rattle.pbf_dense.specs.declared.message.TheConstants.{VERSION, TIMESTAMP, CHANGESET, UID, USER_SID, VISIBLE}
 use Rattle.pbf_dense.specs.Info.{InfoSpec, meta_at, later}
 use Rattle.pbf_dense.specs.Runs.{zeros, tags_end, tags_start, pairs, tags_at, after_run}
 use Rattle.pbf_dense.specs.Nodes.{moving}
@@ -80,6 +85,17 @@ unfolding tags_at
 tags_at_later table column i = rw (add-one i) (ap (λ (numbers : List ℕ). map (tag_of table) (pairs numbers)) (sym (run_later column i)))
 
 -- ---- metadata
+
+-- the columns in the occurrences of a DenseInfo
+unfoldable pub info_of : List Occurrence → InfoSpec
+info_of os = record {
+  versions = column VERSION os;
+  timestamps = sums (map unzigzag (column TIMESTAMP os));
+  changesets = sums (map unzigzag (column CHANGESET os));
+  uids = sums (map low_sint32 (column UID os));
+  users = sums (map low_sint32 (column USER_SID os));
+  visible = column VISIBLE os;
+}
 
 get_later : {X : Type 0} (xs : List X) (i : ℕ) → slice_get (drop 1 xs) i ≡ slice_get xs (suc i)
 get_later [] i = refl
