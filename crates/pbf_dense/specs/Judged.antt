@@ -43,8 +43,7 @@ are_runs _ _ = false
 
 -- there are no tags at all, or a run of them for each node
 abbrev pub are_tags : ℕ → List ℕ → Bool
-are_tags n [] = true
-are_tags n (x ∷ xs) = are_runs n (x ∷ xs)
+are_tags n column = are_runs 0 column || are_runs n column
 
 abbrev pub run_faults : ℕ → List Occurrence → List Fault
 run_faults place os = fault_where (not (are_tags (column_count ID os) (map low_32 (column KEYS_VALS os)))) place KeysVals
