@@ -21,17 +21,13 @@ lasting_features = codes "Has_Metadata" ∷ codes "Sort.Type_then_ID" ∷ codes 
 abbrev pub kept_features : List (List ℕ) → List (List ℕ)
 kept_features optional = filter (has_text optional) lasting_features
 
--- the header that is written, with this box
+-- the header that is written, with this box; the source and the replication fields stay
 abbrev pub header_out : Option HeaderBox → HeaderSpec → HeaderSpec
-header_out bbox h = record {
+header_out bbox h = record h {
   bbox = bbox;
   required = known_features;
   optional = kept_features h.optional;
   program = Some (codes "pbfcut");
-  source = h.source;
-  url = h.url;
-  timestamp = h.timestamp;
-  sequence = h.sequence;
 }
 
 abbrev pub edges_of : BoundingBox → HeaderBox
