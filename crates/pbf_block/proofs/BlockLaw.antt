@@ -19,7 +19,7 @@ use Rattle.pbf_wire.specs.Message.{Slot, Scalar, Each, message, SlotFits, SlotIs
 use Rattle.pbf_wire.proofs.MessageLemmas.{last_written, embedded_below}
 use Rattle.pbf_wire.proofs.SumLemmas.{signs_fit, signs_read, low_signs_read}
 use Rattle.pbf_wire.proofs.QuietLemmas.{field_at, SlotQuiet, SlotGives, scalar_quiet, quiet_gives, fields_quiet, fields_give, no_fault_within, leaf_quiet, present_written, once_written, last_held, in_last_written}
-use Rattle.pbf_strings.specs.Texts.{texts, table_kinds, count_fault}
+use Rattle.pbf_strings.specs.Texts.{texts, table_kinds}
 use Rattle.pbf_strings.specs.TableOut.{table_message}
 use Rattle.pbf_strings.specs.TableOut.{table_of as written_table}
 use Rattle.pbf_strings.proofs.WrittenTable.{written_texts}
@@ -30,7 +30,7 @@ use Rattle.osm_entity.specs.Entity.{EntitySpec}
 use Rattle.pbf_block.specs.declared.message.TheConstants.{STRINGTABLE, PRIMITIVEGROUP, BLOCK_KINDS, GRANULARITY, DATE_GRANULARITY, LAT_OFFSET, LON_OFFSET}
 use Rattle.pbf_block.specs.Scale.{read_or, scale_of, held_by, table_of}
 use Rattle.pbf_block.specs.WireFaults.{group_wire, part_wire, wire_faults}
-use Rattle.pbf_block.specs.StructureFaults.{table_structure, of_option, group_structure, part_structure, structure_faults}
+use Rattle.pbf_block.specs.StructureFaults.{table_structure, group_structure, part_structure, structure_faults}
 use Rattle.pbf_block.specs.ValueFaults.{positive, group_values, value_faults}
 use Rattle.pbf_block.specs.Weights.{group_weights, weight_faults, member_weights}
 use Rattle.pbf_block.specs.Members.{group_entities, entities_by, member_entities}
@@ -139,7 +139,7 @@ module _ (scale : Scale) (used : List (List ℕ)) (group : List ℕ) (es : List 
   table_read : texts (table_message used) ≡ written_table used
   table_read = written_texts used table_short
 
-  counted : (place : ℕ) → count_fault place (table_message used) ≡ None
+  counted : (place : ℕ) → table_structure place 0 (table_message used) ≡ []
   counted place =
       let e : nat_lt 1048576 (length (texts (table_message used))) ≡ false = le-ltb _ _ (omega (arith, ap (λ (ts : List (List ℕ)). length ts) table_read, few)) in
       rw e refl
@@ -153,7 +153,7 @@ module _ (scale : Scale) (used : List (List ℕ)) (group : List ℕ) (es : List 
       fields_quiet part_structure at (block_slots scale used group)
       (parts_quiet part_structure
       (λ number place value. ap₂ (λ (xs ys : List Fault). xs ++ ys) (no_message STRINGTABLE number place value table_structure) (no_message PRIMITIVEGROUP number place value group_structure))
-      (λ place begin. ap (λ (f : Option Fault). of_option f ++ []) (counted place)) good.structure)
+      (λ place begin. ap (λ (fs : List Fault). fs ++ []) (counted place)) good.structure)
       fits short in
       rw (there, once, parts) refl
 

@@ -1,12 +1,12 @@
 -- The faults of structure of a PrimitiveBlock: messages that lack or repeat something, or whose columns don't fit together.
-use Rattle.std.specs.Prelude.{ℕ, ◌==◌, Bool, false, not, ◌&&◌, ◌||◌, List, [], ◌∷◌, ◌++◌, map, filter, Option, Some, None}
+use Rattle.std.specs.Prelude.{ℕ, ◌==◌, Bool, false, not, ◌&&◌, ◌||◌, nat_lt, List, ◌++◌, length, map, filter, Option, Some, None}
 use Rattle.std.specs.Option.{option_map}
 use Rattle.std.specs.List.{flat_map, find}
 use Rattle.pbf_wire.specs.declared.fault.Fault.{Fault}
-use Rattle.pbf_wire.specs.declared.fault.Reason.TheVariants.{MixedGroup, Changesets, TagColumns, MemberColumns, LocationColumns}
+use Rattle.pbf_wire.specs.declared.fault.Reason.TheVariants.{TooManyStrings, MixedGroup, Changesets, TagColumns, MemberColumns, LocationColumns}
 use Rattle.pbf_wire.specs.Occurrence.{Occurrence}
 use Rattle.pbf_wire.specs.Faults.{fault, fault_where, entered, fields_in, missing, twice, column_count}
-use Rattle.pbf_strings.specs.Texts.{count_fault}
+use Rattle.pbf_strings.specs.Texts.{texts}
 use Rattle.pbf_dense.specs.Judged.{dense_structure}
 use Rattle.pbf_block.specs.declared.message.TheConstants.{STRINGTABLE, PRIMITIVEGROUP, NODES, DENSE, WAYS, RELATIONS, CHANGESETS, ID, KEYS, VALS, INFO, NODE_LAT, NODE_LON, REFS, WAY_LAT, WAY_LON, ROLES_SID, MEMIDS, TYPES}
 
@@ -70,13 +70,9 @@ group_structure place at m = let os = fields_in at m in twice DENSE os ++ mixed 
 
 -- ---- the block
 
-abbrev pub of_option : {X : Type 0} → Option X → List X
-of_option None = []
-of_option (Some x) = x ∷ []
-
 -- a table has too many texts
 abbrev pub table_structure : ℕ → ℕ → List ℕ → List Fault
-table_structure place at m = of_option (count_fault place m)
+table_structure place at m = fault_where (nat_lt 1048576 (length (texts m))) place TooManyStrings
 
 abbrev pub part_structure : Occurrence → List Fault
 part_structure o = entered STRINGTABLE table_structure o ++ entered PRIMITIVEGROUP group_structure o
