@@ -2,7 +2,7 @@
 use Rattle.std.proofs.Common.{◌≡◌, ℕ, ◌^◌, ◌<◌, ◌≤◌, ◌==◌, ℤ, pos, Bool, true, false, List, [], ◌∷◌, ◌++◌, length, take, drop, Option, Some, None, refl, sym, ap, ap₂, subst, ◌∙◌, arith}
 use Rattle.std.specs.Prelude.{◌≤ℤ◌, int_lt, nat_lt, if◌then◌else◌}
 use Rattle.std.specs.List.{flat_map, AllByRecursion}
-use Rattle.std.specs.Option.{option_to_list}
+use Rattle.std.specs.Option.{option_map_or, option_to_list}
 use Rattle.std.specs.Ordering.{int_eq}
 use Rattle.std.proofs.lemmas.Int.{ints}
 use Rattle.std.proofs.lemmas.Bool.{le-ltb}
@@ -12,7 +12,6 @@ use Rattle.pbf_wire.specs.declared.fault.Fault.{Fault}
 use Rattle.pbf_wire.specs.declared.fault.Reason.{Reason}
 use Rattle.pbf_wire.specs.declared.fault.Reason.TheVariants.{Granularity, DateGranularity}
 use Rattle.pbf_wire.specs.Occurrence.{Bytes, Occurrence, Number}
-use Rattle.pbf_wire.specs.Reading.{last_number}
 use Rattle.pbf_wire.specs.Signed.{low_i32, low_i64, sign_extended}
 use Rattle.pbf_wire.specs.Faults.{fault_where, fields_in, leaf_faults, missing, twice, in_last, entered, inside}
 use Rattle.pbf_wire.specs.Message.{Slot, Scalar, Each, message, SlotFits, SlotIs, scalars_at}
@@ -28,7 +27,7 @@ use Rattle.osm_entity.specs.Scale.{ScaleFits}
 use Rattle.osm_entity.specs.Ranges.{IsInt32, ScaleTyped}
 use Rattle.osm_entity.specs.Entity.{EntitySpec}
 use Rattle.pbf_block.specs.declared.message.TheConstants.{STRINGTABLE, PRIMITIVEGROUP, BLOCK_KINDS, GRANULARITY, DATE_GRANULARITY, LAT_OFFSET, LON_OFFSET}
-use Rattle.pbf_block.specs.Scale.{read_or, scale_of, held_by, table_of}
+use Rattle.pbf_block.specs.Scale.{number_or, scale_of, held_by, table_of}
 use Rattle.pbf_block.specs.WireFaults.{group_wire, part_wire, wire_faults}
 use Rattle.pbf_block.specs.StructureFaults.{table_structure, group_structure, part_structure, structure_faults}
 use Rattle.pbf_block.specs.ValueFaults.{positive, group_values, value_faults}
@@ -47,10 +46,10 @@ use Rattle.pbf_block.proofs.GroupLaw.{GroupGood}
 default_fits : (number : ℕ) (default z : ℤ) → 0 < number → number < 2 ^ 29 → sign_extended z < 2 ^ 64 → SlotFits (Scalar number (unless_default default z))
 default_fits number default z positive small fits = elim (int_eq z default) as (λ b. SlotFits (Scalar number (if b then None else Some (sign_extended z)))) [ true ↦ tt | false ↦ (positive, small, fits) ]
 
-default_read : (read : ℕ → ℤ) (default z : ℤ) → read (sign_extended z) ≡ z → read_or default read (unless_default default z) ≡ z
+default_read : (read : ℕ → ℤ) (default z : ℤ) → read (sign_extended z) ≡ z → option_map_or read (unless_default default z) default ≡ z
 default_read read default z back = by (int_eq z default) refl
   where
-    by : (b : Bool) → int_eq z default ≡ b → read_or default read (if b then None else Some (sign_extended z)) ≡ z
+    by : (b : Bool) → int_eq z default ≡ b → option_map_or read (if b then None else Some (sign_extended z)) default ≡ z
     by true e = sym ((Decides-int_eq z default).0 e)
     by false e = back
 
@@ -166,17 +165,17 @@ module _ (scale : Scale) (used : List (List ℕ)) (group : List ℕ) (es : List 
 
   scale_is : (at : ℕ) → scale_of (fields_in at (message (block_slots scale used group))) ≡ scale
   scale_is at =
-      let places : read_or DEFAULT_SCALE.granularity low_i32 (last_number GRANULARITY (fields_in at (message (block_slots scale used group)))) ≡ scale.granularity =
-      ap (read_or DEFAULT_SCALE.granularity low_i32) (last_written GRANULARITY at (block_slots scale used group) fits short ∙ last_given GRANULARITY _ (take 2 (block_slots scale used group)) (drop 3 (block_slots scale used group)) refl (tt, (tt, tt)) (refl, (refl, (refl, tt))))
+      let places : number_or DEFAULT_SCALE.granularity low_i32 GRANULARITY (fields_in at (message (block_slots scale used group))) ≡ scale.granularity =
+      ap (λ (o : Option ℕ). option_map_or low_i32 o DEFAULT_SCALE.granularity) (last_written GRANULARITY at (block_slots scale used group) fits short ∙ last_given GRANULARITY _ (take 2 (block_slots scale used group)) (drop 3 (block_slots scale used group)) refl (tt, (tt, tt)) (refl, (refl, (refl, tt))))
       ∙ default_read low_i32 DEFAULT_SCALE.granularity scale.granularity (low_signs_read scale.granularity typed.granularity.0 typed.granularity.1) in
-      let dates : read_or DEFAULT_SCALE.date_granularity low_i32 (last_number DATE_GRANULARITY (fields_in at (message (block_slots scale used group)))) ≡ scale.date_granularity =
-      ap (read_or DEFAULT_SCALE.date_granularity low_i32) (last_written DATE_GRANULARITY at (block_slots scale used group) fits short ∙ last_given DATE_GRANULARITY _ (take 3 (block_slots scale used group)) (drop 4 (block_slots scale used group)) refl (tt, (tt, (refl, tt))) (refl, (refl, tt)))
+      let dates : number_or DEFAULT_SCALE.date_granularity low_i32 DATE_GRANULARITY (fields_in at (message (block_slots scale used group))) ≡ scale.date_granularity =
+      ap (λ (o : Option ℕ). option_map_or low_i32 o DEFAULT_SCALE.date_granularity) (last_written DATE_GRANULARITY at (block_slots scale used group) fits short ∙ last_given DATE_GRANULARITY _ (take 3 (block_slots scale used group)) (drop 4 (block_slots scale used group)) refl (tt, (tt, (refl, tt))) (refl, (refl, tt)))
       ∙ default_read low_i32 DEFAULT_SCALE.date_granularity scale.date_granularity (low_signs_read scale.date_granularity typed.date_granularity.0 typed.date_granularity.1) in
-      let lats : read_or DEFAULT_SCALE.lat_offset low_i64 (last_number LAT_OFFSET (fields_in at (message (block_slots scale used group)))) ≡ scale.lat_offset =
-      ap (read_or DEFAULT_SCALE.lat_offset low_i64) (last_written LAT_OFFSET at (block_slots scale used group) fits short ∙ last_given LAT_OFFSET _ (take 4 (block_slots scale used group)) (drop 5 (block_slots scale used group)) refl (tt, (tt, (refl, (refl, tt)))) (refl, tt))
+      let lats : number_or DEFAULT_SCALE.lat_offset low_i64 LAT_OFFSET (fields_in at (message (block_slots scale used group))) ≡ scale.lat_offset =
+      ap (λ (o : Option ℕ). option_map_or low_i64 o DEFAULT_SCALE.lat_offset) (last_written LAT_OFFSET at (block_slots scale used group) fits short ∙ last_given LAT_OFFSET _ (take 4 (block_slots scale used group)) (drop 5 (block_slots scale used group)) refl (tt, (tt, (refl, (refl, tt)))) (refl, tt))
       ∙ default_read low_i64 DEFAULT_SCALE.lat_offset scale.lat_offset (signs_read scale.lat_offset typed.lat_offset.0 typed.lat_offset.1) in
-      let lons : read_or DEFAULT_SCALE.lon_offset low_i64 (last_number LON_OFFSET (fields_in at (message (block_slots scale used group)))) ≡ scale.lon_offset =
-      ap (read_or DEFAULT_SCALE.lon_offset low_i64) (last_written LON_OFFSET at (block_slots scale used group) fits short ∙ last_given LON_OFFSET _ (take 5 (block_slots scale used group)) (drop 6 (block_slots scale used group)) refl (tt, (tt, (refl, (refl, (refl, tt))))) tt)
+      let lons : number_or DEFAULT_SCALE.lon_offset low_i64 LON_OFFSET (fields_in at (message (block_slots scale used group))) ≡ scale.lon_offset =
+      ap (λ (o : Option ℕ). option_map_or low_i64 o DEFAULT_SCALE.lon_offset) (last_written LON_OFFSET at (block_slots scale used group) fits short ∙ last_given LON_OFFSET _ (take 5 (block_slots scale used group)) (drop 6 (block_slots scale used group)) refl (tt, (tt, (refl, (refl, (refl, tt))))) tt)
       ∙ default_read low_i64 DEFAULT_SCALE.lon_offset scale.lon_offset (signs_read scale.lon_offset typed.lon_offset.0 typed.lon_offset.1) in
       rw (places, dates, lats, lons) refl
 

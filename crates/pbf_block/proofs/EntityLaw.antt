@@ -12,7 +12,7 @@ use Rattle.pbf_wire.specs.Faults.{sum_faults, fields_in, entered, embedded, leaf
 use Rattle.pbf_wire.specs.Message.{Slot, Scalar, Column, Each, message, unless_empty, SlotFits, SlotIs, numbers_at, scalars_at, messages_at}
 use Rattle.pbf_wire.specs.Signed.{unzigzag, delta_in, IsWithin, is_within, low_i64, sign_extended}
 use Rattle.pbf_wire.specs.Sums.{sums, deltas}
-use Rattle.std.specs.Option.{option_to_list}
+use Rattle.std.specs.Option.{option_map_or, option_to_list}
 use Rattle.pbf_wire.specs.Wire.{kind_of}
 use Rattle.pbf_wire.proofs.MessageLemmas.{column_written, last_written, embedded_below}
 use Rattle.pbf_wire.proofs.QuietLemmas.{sums_good_written, SlotQuiet, column_quiet, fields_quiet, no_fault_within, counted_written, indexes_good, present_written, once_written, embedded_or_none, in_last_written, unless_all, unless_below, unless_few, column_passed}
@@ -25,9 +25,9 @@ use Rattle.osm_entity.specs.Ranges.{IsStored}
 use Rattle.osm_entity.specs.Sources.{paired_tags}
 use Rattle.pbf_block.specs.declared.message.TheConstants.{ID, KEYS, VALS, INFO, INFO_KINDS}
 use Rattle.pbf_block.specs.Info.{info_in}
-use Rattle.pbf_block.specs.Members.{values_in, wide_in, tags_in}
+use Rattle.pbf_block.specs.Members.{values_in, tags_in}
 use Rattle.pbf_block.specs.Payload.{by_index}
-use Rattle.pbf_block.specs.Scale.{read_or}
+use Rattle.pbf_block.specs.Scale.{number_or}
 use Rattle.pbf_block.specs.StructureFaults.{entity_structure}
 use Rattle.pbf_block.specs.ValueFaults.{stored_limit, wide_range, info_values, entity_values}
 use Rattle.pbf_block.specs.WrittenEntity.{key_index, value_index, info_message, entity_slots}
@@ -163,10 +163,10 @@ module _ (kinds : List (ℕ × Kind)) (known : AreKnown kinds) (texts : List (Li
     info_short : length (info_message texts meta) < 2 ^ 64
     info_short = unless_below (2 ^ 64) (info_message texts meta) (omega arith) (embedded_below (2 ^ 64) (entity_slots texts id meta tags own) room).1.1.1.0
 
-    pub id_read : wide_in ID (fields_in at (message (entity_slots texts id meta tags own))) ≡ id
+    pub id_read : number_or (pos 0) low_i64 ID (fields_in at (message (entity_slots texts id meta tags own))) ≡ id
     id_read =
         let number = ap (λ (vs : List ℕ). last_or None (sign_extended id ∷ vs)) (no_scalar ID own others.ids) in
-        ap (λ (v : Option ℕ). read_or (pos 0) low_i64 v) (last_written ID at (entity_slots texts id meta tags own) entity_fits room ∙ number) ∙ stored_read id ready.stored
+        ap (λ (v : Option ℕ). option_map_or low_i64 v (pos 0)) (last_written ID at (entity_slots texts id meta tags own) entity_fits room ∙ number) ∙ stored_read id ready.stored
 
     keys_column : column KEYS (fields_in at (message (entity_slots texts id meta tags own))) ≡ map (key_index texts) tags
     keys_column = column_written KEYS at (entity_slots texts id meta tags own) entity_fits room ∙ ap (λ (vs : List ℕ). map (key_index texts) tags ++ vs) (no_number KEYS own others.keys) ∙ append-nil _

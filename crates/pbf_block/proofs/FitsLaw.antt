@@ -1,6 +1,7 @@
 -- The entities of a payload without faults can be written again, and their numbers have the types of the format.
 use Rattle.std.proofs.Common.{◌≡◌, ℕ, ◌≤◌, ◌^◌, ℤ, pos, Bool, true, false, cond, eqb, List, [], ◌∷◌, length, refl, arith}
 use Rattle.std.specs.Prelude.{◌≤ℤ◌, int_lt, None, Option, Some}
+use Rattle.std.specs.Option.{option_map_or}
 use Rattle.std.specs.List.{flat_map, AllByRecursion}
 use Rattle.std.proofs.lemmas.Int.{ints}
 use Rattle.std.proofs.lemmas.Bool.{eqb-true, ltb-false}
@@ -25,7 +26,7 @@ use Rattle.pbf_dense.proofs.FitsLemmas.{nodes_fit, nodes_typed, version_typed}
 use Rattle.pbf_block.specs.declared.message.TheConstants.{PRIMITIVEGROUP, GRANULARITY, DATE_GRANULARITY, BLOCK_KINDS, GROUP_KINDS, NODES, DENSE, WAYS, RELATIONS, INFO, VERSION, LAT_OFFSET, LON_OFFSET}
 use Rattle.pbf_block.specs.Members.{message_entities, member_entities, group_entities, entities_by, node_in, way_in, relation_in}
 use Rattle.pbf_block.specs.Payload.{by_index, entities}
-use Rattle.pbf_block.specs.Scale.{scale_of, table_of, read_or}
+use Rattle.pbf_block.specs.Scale.{scale_of, table_of}
 use Rattle.pbf_block.specs.Judgement.{payload_values, payload_weights, block_fault}
 use Rattle.pbf_block.specs.WireFaults.{node_wire, way_wire, relation_wire, member_wire, group_wire, part_wire, wire_faults}
 use Rattle.pbf_block.specs.StructureFaults.{node_structure, way_structure, relation_structure, member_structure, group_structure, part_structure, structure_faults}
@@ -240,11 +241,11 @@ module _ (table : List (List ℕ)) (scale : Scale) (scaled : ScaleTyped scale) w
   group_typed : (o : Occurrence) → AllByRecursion EntityTyped (group_entities by_index table scale o)
   group_typed o = cond_all EntityTyped (eqb o.number PRIMITIVEGROUP) _ _ (λ t. inside_typed _ o.content (λ at m. all_flat EntityTyped (member_entities by_index table scale) (fields_in at m) member_typed)) tt
 
-int32_or : (otherwise : ℤ) (o : Option ℕ) → IsInt32 otherwise → IsInt32 (read_or otherwise low_i32 o)
+int32_or : (otherwise : ℤ) (o : Option ℕ) → IsInt32 otherwise → IsInt32 (option_map_or low_i32 o otherwise)
 int32_or otherwise None h = h
 int32_or otherwise (Some v) h = int32_typed v
 
-int64_or : (otherwise : ℤ) (o : Option ℕ) → IsInt64 otherwise → IsInt64 (read_or otherwise low_i64 o)
+int64_or : (otherwise : ℤ) (o : Option ℕ) → IsInt64 otherwise → IsInt64 (option_map_or low_i64 o otherwise)
 int64_or otherwise None h = h
 int64_or otherwise (Some v) h = int64_typed v
 

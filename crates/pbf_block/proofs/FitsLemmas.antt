@@ -1,7 +1,7 @@
 -- The entities of a payload without faults can be written again.
 use Rattle.std.proofs.Common.{◌≡◌, inl, inr, ◌==◌, ◌&&◌, ◌||◌, ℕ, ◌≤◌, ◌^◌, ℤ, pos, Bool, true, false, List, [], ◌∷◌, length, map, refl, sym, ap, ◌∙◌, arith}
 use Rattle.std.specs.Prelude.{Option, Some, None, if◌then◌else◌}
-use Rattle.std.specs.Option.{option_map}
+use Rattle.std.specs.Option.{option_map, option_map_or}
 use Rattle.std.specs.List.{flat_map, zip, last_or, cons_option, AllByRecursion}
 use Rattle.std.proofs.lemmas.Bool.{eqb-true}
 use Rattle.std.proofs.lemmas.Bool.Decides.{nat_tests}
@@ -29,9 +29,9 @@ use Rattle.osm_entity.specs.Sources.{column_members}
 use Rattle.osm_entity.specs.Weight.{entity_weight}
 use Rattle.pbf_block.specs.declared.message.TheConstants.{NODE_KINDS, WAY_KINDS, RELATION_KINDS, INFO_KINDS, ID, INFO, NODE_LAT, NODE_LON, REFS, WAY_LAT, WAY_LON, MEMIDS, TYPES, ROLES_SID, TIMESTAMP, CHANGESET, UID, USER_SID}
 use Rattle.pbf_block.specs.Info.{info_in}
-use Rattle.pbf_block.specs.Members.{signed_in, wide_in, values_in, node_in, way_in, relation_in}
+use Rattle.pbf_block.specs.Members.{values_in, node_in, way_in, relation_in}
 use Rattle.pbf_block.specs.Payload.{by_index}
-use Rattle.pbf_block.specs.Scale.{read_or}
+use Rattle.pbf_block.specs.Scale.{number_or}
 use Rattle.pbf_block.specs.WireFaults.{node_wire, way_wire, relation_wire}
 use Rattle.pbf_block.specs.StructureFaults.{are_located, entity_structure, way_structure}
 use Rattle.pbf_block.specs.ValueFaults.{stored_limit, signed_range, wide_range, uid_range, user_range, info_values, entity_values, node_values, way_values, relation_values}
@@ -80,7 +80,7 @@ if_present : (P : ℤ → Type 0) (read : ℕ → ℤ) (o : Option ℕ) → IfSo
 if_present P read None h = tt
 if_present P read (Some v) h = h
 
-pub or_else : (P : ℤ → Type 0) (otherwise : ℤ) (read : ℕ → ℤ) (o : Option ℕ) → P otherwise → IfSome (λ v. P (read v)) o → P (read_or otherwise read o)
+pub or_else : (P : ℤ → Type 0) (otherwise : ℤ) (read : ℕ → ℤ) (o : Option ℕ) → P otherwise → IfSome (λ v. P (read v)) o → P (option_map_or read o otherwise)
 or_else P otherwise read None d h = d
 or_else P otherwise read (Some v) d h = h
 
@@ -170,11 +170,11 @@ module _ (limit : ℕ) (table : List (List ℕ)) (scale : Scale) (scaled : Scale
       let lons = both_nil _ (in_last NODE_LON signed_range os) v in
       let lats = both_nil _ (in_last NODE_LAT signed_range os) lons.0 in
       let alike = both_nil (in_last ID signed_range os) (entity_values limit os) lats.0 in
-      let stored : (k : ℕ) → kind_of NODE_KINDS k ≡ Some kind.Number → in_last k signed_range os ≡ [] → IsStored (signed_in k os) =
+      let stored : (k : ℕ) → kind_of NODE_KINDS k ≡ Some kind.Number → in_last k signed_range os ≡ [] → IsStored (number_or (pos 0) unzigzag k os) =
       λ k known e. or_else IsStored (pos 0) unzigzag _ small_zero (number_holds k signed_range (λ v. IsStored (unzigzag v)) (λ place v e. in_range stored_limit place (unzigzag v) e) os (are_numbers NODE_KINDS inner k os known sound) e) in
       record { id = stored ID refl alike.0; lat = stored NODE_LAT refl lats.1; lon = stored NODE_LON refl lons.1; meta = meta_fits limit table NODE_KINDS os sound alike.1; scale = scaled; light = light }
 
-  wide_fits : (kinds : List (ℕ × Kind)) (inner : Occurrence → List Fault) (os : List Occurrence) → kind_of kinds ID ≡ Some kind.Number → AllByRecursion (IsSound kinds inner) os → in_last ID wide_range os ≡ [] → IsStored (wide_in ID os)
+  wide_fits : (kinds : List (ℕ × Kind)) (inner : Occurrence → List Fault) (os : List Occurrence) → kind_of kinds ID ≡ Some kind.Number → AllByRecursion (IsSound kinds inner) os → in_last ID wide_range os ≡ [] → IsStored (number_or (pos 0) low_i64 ID os)
   wide_fits kinds inner os known sound e =
       or_else IsStored (pos 0) low_i64 _ small_zero (number_holds ID wide_range (λ v. IsStored (low_i64 v)) (λ place v e. in_range stored_limit place (low_i64 v) e) os (are_numbers kinds inner ID os known sound) e)
 
