@@ -11,7 +11,7 @@ use Rattle.pbf_wire.specs.declared.fault.Reason.TheVariants.{Granularity, DateGr
 use Rattle.pbf_wire.specs.Occurrence.{Content, Number, Eight, Four, Bytes, Occurrence, items}
 use Rattle.pbf_wire.specs.Reading.{last_number}
 use Rattle.pbf_wire.specs.Signed.{low_i32, low_i64}
-use Rattle.pbf_wire.specs.Faults.{inside, entered, fields_in, in_last, embedded}
+use Rattle.pbf_wire.specs.Faults.{inside, entered, fields_in, in_last, embedded, nested_faults}
 use Rattle.pbf_wire.proofs.MessageLemmas.{all_append}
 use Rattle.pbf_wire.proofs.SoundLemmas.{both_nil, all_nil, not_wrong, fields_sound, IsSound}
 use Rattle.osm_entity.specs.declared.scale.Scale.{Scale}
@@ -23,12 +23,12 @@ use Rattle.osm_entity.specs.Weight.{entity_weight}
 use Rattle.pbf_dense.specs.Judged.{dense_wire, dense_structure, dense_values}
 use Rattle.osm_entity.proofs.RangeLemmas.{int32_typed, int64_typed}
 use Rattle.pbf_dense.proofs.FitsLemmas.{nodes_fit, nodes_typed, version_typed}
-use Rattle.pbf_block.specs.declared.message.TheConstants.{PRIMITIVEGROUP, GRANULARITY, DATE_GRANULARITY, BLOCK_KINDS, GROUP_KINDS, NODES, DENSE, WAYS, RELATIONS, INFO, VERSION, LAT_OFFSET, LON_OFFSET}
+use Rattle.pbf_block.specs.declared.message.TheConstants.{PRIMITIVEGROUP, GRANULARITY, DATE_GRANULARITY, BLOCK_KINDS, GROUP_KINDS, NODES, DENSE, WAYS, RELATIONS, INFO, VERSION, LAT_OFFSET, LON_OFFSET, NODE_KINDS, WAY_KINDS, RELATION_KINDS, INFO_KINDS}
 use Rattle.pbf_block.specs.Members.{message_entities, member_entities, group_entities, entities_by, node_in, way_in, relation_in}
 use Rattle.pbf_block.specs.Payload.{by_index, entities}
 use Rattle.pbf_block.specs.Scale.{scale_of, table_of}
 use Rattle.pbf_block.specs.Judgement.{payload_values, payload_weights, block_fault}
-use Rattle.pbf_block.specs.WireFaults.{node_wire, way_wire, relation_wire, member_wire, group_wire, part_wire, wire_faults}
+use Rattle.pbf_block.specs.WireFaults.{member_wire, group_wire, part_wire, wire_faults}
 use Rattle.pbf_block.specs.StructureFaults.{node_structure, way_structure, relation_structure, member_structure, group_structure, part_structure, structure_faults}
 use Rattle.pbf_block.specs.ValueFaults.{positive, node_values, way_values, relation_values, member_values, group_values, value_faults}
 use Rattle.pbf_block.specs.Weights.{weight_fault, member_weights, group_weights, weight_faults}
@@ -102,15 +102,15 @@ module _ (table : List (List ℕ)) (few : length table ≤ 2 ^ 62) (scale : Scal
 
   -- a message without faults, under the number of its field
   record Clean (k place at : ℕ) (m : List ℕ) : Type 0 where
-    node_form : k ≡ NODES → node_wire place at m ≡ []
+    node_form : k ≡ NODES → nested_faults NODE_KINDS INFO INFO_KINDS place at m ≡ []
     node_numbers : k ≡ NODES → node_values limit place at m ≡ []
     dense_form : k ≡ DENSE → dense_wire place at m ≡ []
     dense_parts : k ≡ DENSE → dense_structure place at m ≡ []
     dense_numbers : k ≡ DENSE → dense_values limit place at m ≡ []
-    way_form : k ≡ WAYS → way_wire place at m ≡ []
+    way_form : k ≡ WAYS → nested_faults WAY_KINDS INFO INFO_KINDS place at m ≡ []
     way_parts : k ≡ WAYS → way_structure place at m ≡ []
     way_numbers : k ≡ WAYS → way_values limit place at m ≡ []
-    relation_form : k ≡ RELATIONS → relation_wire place at m ≡ []
+    relation_form : k ≡ RELATIONS → nested_faults RELATION_KINDS INFO INFO_KINDS place at m ≡ []
     relation_numbers : k ≡ RELATIONS → relation_values limit place at m ≡ []
 
   message_fits : (k place at : ℕ) (m : List ℕ) → Clean k place at m → AllByRecursion FitsLight (message_entities by_index table scale k (fields_in at m))
@@ -121,10 +121,10 @@ module _ (table : List (List ℕ)) (few : length table ≤ 2 ^ 62) (scale : Scal
       (cond_all FitsLight (eqb k WAYS) _ _ (λ t. let is = eqb-true k WAYS t in (way_fits limit table scale scaled place at m (h.way_form is) (h.way_parts is) (h.way_numbers is), tt))
       (cond_all FitsLight (eqb k RELATIONS) _ _ (λ t. let is = eqb-true k RELATIONS t in (relation_fits limit table scale scaled place at m (h.relation_form is) (h.relation_numbers is), tt)) tt)))
 
-  inside_fits : (k place : ℕ) (c : Content) → (k ≡ NODES → inside (node_wire place) c ≡ []) → (k ≡ NODES → inside (node_values limit place) c ≡ [])
+  inside_fits : (k place : ℕ) (c : Content) → (k ≡ NODES → inside (nested_faults NODE_KINDS INFO INFO_KINDS place) c ≡ []) → (k ≡ NODES → inside (node_values limit place) c ≡ [])
       → (k ≡ DENSE → inside (dense_wire place) c ≡ []) → (k ≡ DENSE → inside (dense_structure place) c ≡ []) → (k ≡ DENSE → inside (dense_values limit place) c ≡ [])
-      → (k ≡ WAYS → inside (way_wire place) c ≡ []) → (k ≡ WAYS → inside (way_structure place) c ≡ []) → (k ≡ WAYS → inside (way_values limit place) c ≡ [])
-      → (k ≡ RELATIONS → inside (relation_wire place) c ≡ []) → (k ≡ RELATIONS → inside (relation_values limit place) c ≡ [])
+      → (k ≡ WAYS → inside (nested_faults WAY_KINDS INFO INFO_KINDS place) c ≡ []) → (k ≡ WAYS → inside (way_structure place) c ≡ []) → (k ≡ WAYS → inside (way_values limit place) c ≡ [])
+      → (k ≡ RELATIONS → inside (nested_faults RELATION_KINDS INFO INFO_KINDS place) c ≡ []) → (k ≡ RELATIONS → inside (relation_values limit place) c ≡ [])
       → AllByRecursion FitsLight (inside (λ at m. message_entities by_index table scale k (fields_in at m)) c)
   inside_fits k place (Number v) nw nv dw ds dv ww ws wv lw lv = tt
   inside_fits k place (Eight bytes) nw nv dw ds dv ww ws wv lw lv = tt
@@ -144,19 +144,19 @@ module _ (table : List (List ℕ)) (few : length table ≤ 2 ^ 62) (scale : Scal
 
   member_fits : (o : Occurrence) → member_wire o ≡ [] → member_structure o ≡ [] → member_values limit o ≡ [] → AllByRecursion FitsLight (member_entities by_index table scale o)
   member_fits o w s v =
-      let w4 = both_nil _ (entered RELATIONS relation_wire o) w in
-      let w3 = both_nil _ (entered WAYS way_wire o) w4.0 in
-      let w2 = both_nil (entered NODES node_wire o) (entered DENSE dense_wire o) w3.0 in
+      let w4 = both_nil _ (entered RELATIONS (nested_faults RELATION_KINDS INFO INFO_KINDS) o) w in
+      let w3 = both_nil _ (entered WAYS (nested_faults WAY_KINDS INFO INFO_KINDS) o) w4.0 in
+      let w2 = both_nil (entered NODES (nested_faults NODE_KINDS INFO INFO_KINDS) o) (entered DENSE dense_wire o) w3.0 in
       let s4 = both_nil _ (entered RELATIONS relation_structure o) s in
       let s3 = both_nil _ (entered WAYS way_structure o) s4.0 in
       let s2 = both_nil (entered NODES node_structure o) (entered DENSE dense_structure o) s3.0 in
       let v4 = both_nil _ (entered RELATIONS (relation_values limit) o) v in
       let v3 = both_nil _ (entered WAYS (way_values limit) o) v4.0 in
       let v2 = both_nil (entered NODES (node_values limit) o) (entered DENSE (dense_values limit) o) v3.0 in
-      inside_fits o.number o.place o.content (entered_nil NODES node_wire o w2.0) (entered_nil NODES (node_values limit) o v2.0)
+      inside_fits o.number o.place o.content (entered_nil NODES (nested_faults NODE_KINDS INFO INFO_KINDS) o w2.0) (entered_nil NODES (node_values limit) o v2.0)
       (entered_nil DENSE dense_wire o w2.1) (entered_nil DENSE dense_structure o s2.1) (entered_nil DENSE (dense_values limit) o v2.1)
-      (entered_nil WAYS way_wire o w3.1) (entered_nil WAYS way_structure o s3.1) (entered_nil WAYS (way_values limit) o v3.1)
-      (entered_nil RELATIONS relation_wire o w4.1) (entered_nil RELATIONS (relation_values limit) o v4.1)
+      (entered_nil WAYS (nested_faults WAY_KINDS INFO INFO_KINDS) o w3.1) (entered_nil WAYS way_structure o s3.1) (entered_nil WAYS (way_values limit) o v3.1)
+      (entered_nil RELATIONS (nested_faults RELATION_KINDS INFO INFO_KINDS) o w4.1) (entered_nil RELATIONS (relation_values limit) o v4.1)
 
   members_fit : (os : List Occurrence) → AllByRecursion (IsSound GROUP_KINDS member_wire) os → AllByRecursion (λ o. member_structure o ≡ []) os → AllByRecursion (λ o. member_values limit o ≡ []) os
       → AllByRecursion FitsLight (flat_map (member_entities by_index table scale) os)

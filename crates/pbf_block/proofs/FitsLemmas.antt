@@ -18,7 +18,7 @@ use Rattle.pbf_wire.specs.Wire.{kind_of, reason_in}
 use Rattle.pbf_wire.specs.Reading.{last_of, number_in, numbers, last_number}
 use Rattle.pbf_wire.specs.Signed.{IsWithin, is_within, unzigzag, low_i32, low_i64}
 use Rattle.pbf_wire.specs.Sums.{sum_at}
-use Rattle.pbf_wire.specs.Faults.{inside, entered, fields_in, fields_of, embedded, leaf_faults, column_count, sum_faults, range_fault, value_in, of_value, in_last}
+use Rattle.pbf_wire.specs.Faults.{inside, entered, fields_in, fields_of, embedded, leaf_faults, column_count, sum_faults, range_fault, value_in, of_value, in_last, nested_faults}
 use Rattle.pbf_wire.proofs.SumLemmas.{small_zero, within_is}
 use Rattle.pbf_wire.proofs.SoundLemmas.{both_nil, all_nil, is_right, sums_within_limit, count_is_length, fields_sound, IsSound, last_holds}
 use Rattle.osm_entity.specs.declared.scale.Scale.{Scale}
@@ -32,7 +32,6 @@ use Rattle.pbf_block.specs.Info.{info_in}
 use Rattle.pbf_block.specs.Members.{values_in, node_in, way_in, relation_in}
 use Rattle.pbf_block.specs.Payload.{by_index}
 use Rattle.pbf_block.specs.Scale.{number_or}
-use Rattle.pbf_block.specs.WireFaults.{node_wire, way_wire, relation_wire}
 use Rattle.pbf_block.specs.StructureFaults.{are_located, entity_structure, way_structure}
 use Rattle.pbf_block.specs.ValueFaults.{stored_limit, signed_range, wide_range, uid_range, user_range, info_values, entity_values, node_values, way_values, relation_values}
 use Rattle.pbf_wire.proofs.SlotLemmas.{IfSome}
@@ -161,7 +160,7 @@ abbrev pub FitsLight : EntitySpec → Type 0
 FitsLight e = IsLight e → EntityFits e
 
 module _ (limit : ℕ) (table : List (List ℕ)) (scale : Scale) (scaled : ScaleFits scale) where
-  pub node_fits : (place at : ℕ) (m : List ℕ) → node_wire place at m ≡ [] → node_values limit place at m ≡ [] → FitsLight (node (node_in table scale (fields_in at m)))
+  pub node_fits : (place at : ℕ) (m : List ℕ) → nested_faults NODE_KINDS INFO INFO_KINDS place at m ≡ [] → node_values limit place at m ≡ [] → FitsLight (node (node_in table scale (fields_in at m)))
   unfolding node_in
   node_fits place at m w v light =
       let os = fields_in at m in
@@ -178,7 +177,7 @@ module _ (limit : ℕ) (table : List (List ℕ)) (scale : Scale) (scaled : Scale
   wide_fits kinds inner os known sound e =
       or_else IsStored (pos 0) low_i64 _ small_zero (number_holds ID wide_range (λ v. IsStored (low_i64 v)) (λ place v e. in_range stored_limit place (low_i64 v) e) os (are_numbers kinds inner ID os known sound) e)
 
-  pub way_fits : (place at : ℕ) (m : List ℕ) → way_wire place at m ≡ [] → way_structure place at m ≡ [] → way_values limit place at m ≡ [] → FitsLight (way (way_in by_index table scale (fields_in at m)))
+  pub way_fits : (place at : ℕ) (m : List ℕ) → nested_faults WAY_KINDS INFO INFO_KINDS place at m ≡ [] → way_structure place at m ≡ [] → way_values limit place at m ≡ [] → FitsLight (way (way_in by_index table scale (fields_in at m)))
   unfolding way_in
   way_fits place at m w s v light =
       let os = fields_in at m in
@@ -200,7 +199,7 @@ module _ (limit : ℕ) (table : List (List ℕ)) (scale : Scale) (scaled : Scale
         light = light;
       }
 
-  pub relation_fits : (place at : ℕ) (m : List ℕ) → relation_wire place at m ≡ [] → relation_values limit place at m ≡ [] → FitsLight (relation (relation_in by_index table scale (fields_in at m)))
+  pub relation_fits : (place at : ℕ) (m : List ℕ) → nested_faults RELATION_KINDS INFO INFO_KINDS place at m ≡ [] → relation_values limit place at m ≡ [] → FitsLight (relation (relation_in by_index table scale (fields_in at m)))
   unfolding relation_in
   relation_fits place at m w v light =
       let os = fields_in at m in

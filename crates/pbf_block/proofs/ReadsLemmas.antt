@@ -3,13 +3,13 @@ use Rattle.std.proofs.Common.{◌≡◌, ◌==◌, ℕ, ◌^◌, ◌≤◌, Bool
 use Rattle.std.specs.Prelude.{if◌then◌else◌}
 use Rattle.std.specs.List.{flat_map, AllByRecursion}
 use Rattle.pbf_wire.specs.Occurrence.{Content, Number, Eight, Four, Bytes, Occurrence, items}
-use Rattle.pbf_wire.specs.Faults.{inside, entered, fields_in}
+use Rattle.pbf_wire.specs.Faults.{inside, entered, fields_in, nested_faults}
 use Rattle.pbf_wire.proofs.SoundLemmas.{both_nil, all_nil, fields_sound, IsSound}
 use Rattle.osm_entity.specs.declared.scale.Scale.{Scale}
 use Rattle.pbf_dense.specs.Judged.{dense_wire, dense_structure, dense_values}
 use Rattle.pbf_dense.proofs.SoundDense.{nodes_same}
-use Rattle.pbf_block.specs.declared.message.TheConstants.{PRIMITIVEGROUP, DENSE, WAYS, RELATIONS, BLOCK_KINDS, GROUP_KINDS, REFS, WAY_LAT, WAY_LON, MEMIDS}
-use Rattle.pbf_block.specs.WireFaults.{way_wire, relation_wire, member_wire, group_wire, part_wire, wire_faults}
+use Rattle.pbf_block.specs.declared.message.TheConstants.{PRIMITIVEGROUP, DENSE, WAYS, RELATIONS, BLOCK_KINDS, GROUP_KINDS, REFS, WAY_LAT, WAY_LON, MEMIDS, WAY_KINDS, RELATION_KINDS, INFO, INFO_KINDS}
+use Rattle.pbf_block.specs.WireFaults.{member_wire, group_wire, part_wire, wire_faults}
 use Rattle.pbf_block.specs.StructureFaults.{way_structure, relation_structure, member_structure, group_structure, part_structure, structure_faults}
 use Rattle.pbf_block.specs.ValueFaults.{way_values, relation_values, member_values, group_values, value_faults}
 use Rattle.pbf_block.proofs.ByIndexLemmas.{Reads, Inside, InRange, MemberReads, GroupReads}
@@ -63,7 +63,7 @@ module _ (table : List (List ℕ)) (scale : Scale) (few : length table ≤ 2 ^ 6
 
   member_reads : (o : Occurrence) → member_wire o ≡ [] → member_structure o ≡ [] → member_values (length table) o ≡ [] → MemberReads table scale o
   member_reads o w s v =
-      let wire = both_nil _ (entered DENSE dense_wire o) (both_nil _ (entered WAYS way_wire o) (both_nil _ (entered RELATIONS relation_wire o) w).0).0 in
+      let wire = both_nil _ (entered DENSE dense_wire o) (both_nil _ (entered WAYS (nested_faults WAY_KINDS INFO INFO_KINDS) o) (both_nil _ (entered RELATIONS (nested_faults RELATION_KINDS INFO INFO_KINDS) o) w).0).0 in
       let structure = both_nil _ (entered DENSE dense_structure o) (both_nil _ (entered WAYS way_structure o) (both_nil _ (entered RELATIONS relation_structure o) s).0).0 in
       let relations = both_nil _ (entered RELATIONS (relation_values (length table)) o) v in
       let ways = both_nil _ (entered WAYS (way_values (length table)) o) relations.0 in
