@@ -29,7 +29,7 @@ use Rattle.pbf_block.specs.Members.{values_in, tags_in}
 use Rattle.pbf_block.specs.Payload.{by_index}
 use Rattle.pbf_block.specs.Scale.{number_or}
 use Rattle.pbf_block.specs.StructureFaults.{entity_structure}
-use Rattle.pbf_block.specs.ValueFaults.{stored_limit, wide_range, info_values, entity_values}
+use Rattle.pbf_block.specs.ValueFaults.{out_of_range, info_values, entity_values}
 use Rattle.pbf_block.specs.WrittenEntity.{key_index, value_index, info_message, entity_slots}
 use Rattle.pbf_block.proofs.InfoLaw.{IsAmong, MetaReady, named_read, stored_fits, stored_read, info_read, info_wire, info_quiet}
 use Rattle.pbf_wire.proofs.SlotLemmas.{IfSome}
@@ -120,10 +120,10 @@ pub values_read : (k : ℕ) (os : List Occurrence) (values : List ℤ) → colum
 values_read k os values e = ap (λ (ns : List ℕ). sums (map unzigzag ns)) e ∙ sums_of_deltas values
 
 -- a column of values in range
-pub sums_good : (entries : List (ℕ × ℕ)) (values : List ℤ) → map (λ p. p.0) entries ≡ deltas values → AllByRecursion IsStored values → sum_faults stored_limit false entries ≡ []
+pub sums_good : (entries : List (ℕ × ℕ)) (values : List ℤ) → map (λ p. p.0) entries ≡ deltas values → AllByRecursion IsStored values → sum_faults (pos (2 ^ 62)) false entries ≡ []
 sums_good entries values e h =
     let same : sums (map (delta_in false) (map (λ p. p.0) entries)) ≡ values = ap (λ (ns : List ℕ). sums (map unzigzag ns)) e ∙ sums_of_deltas values in
-    sums_good_written stored_limit false entries (subst (λ (zs : List ℤ). AllByRecursion (IsWithin stored_limit) zs) (sym same) h)
+    sums_good_written (pos (2 ^ 62)) false entries (subst (λ (zs : List ℤ). AllByRecursion (IsWithin (pos (2 ^ 62))) zs) (sym same) h)
 
 -- ---- an entity
 
@@ -217,12 +217,12 @@ module _ (kinds : List (ℕ × Kind)) (known : AreKnown kinds) (texts : List (Li
         let same : (column_count KEYS (fields_in at (message slots)) == column_count VALS (fields_in at (message slots))) ≡ true = grind (arith, nat_tests, keys, values) in
         rw (there, once, same) refl
 
-    pub id_quiet : in_last ID wide_range (fields_in at (message (entity_slots texts id meta tags own))) ≡ []
+    pub id_quiet : in_last ID (out_of_range 62 low_i64) (fields_in at (message (entity_slots texts id meta tags own))) ≡ []
     id_quiet =
         let slots = entity_slots texts id meta tags own in
-        let good : is_within stored_limit (low_i64 (sign_extended id)) ≡ true = ap (is_within stored_limit) (stored_read id ready.stored) ∙ within_true stored_limit id ready.stored in
-        let one : AllByRecursion (λ v. (place : ℕ) → wide_range place v ≡ []) (sign_extended id ∷ []) = ((λ place. rw good refl), tt) in
-        in_last_written ID wide_range at slots entity_fits room (subst (λ (vs : List ℕ). AllByRecursion (λ v. (place : ℕ) → wide_range place v ≡ []) (sign_extended id ∷ vs)) (sym (no_scalar ID own others.ids)) one)
+        let good : is_within (pos (2 ^ 62)) (low_i64 (sign_extended id)) ≡ true = ap (is_within (pos (2 ^ 62))) (stored_read id ready.stored) ∙ within_true (pos (2 ^ 62)) id ready.stored in
+        let one : AllByRecursion (λ v. (place : ℕ) → out_of_range 62 low_i64 place v ≡ []) (sign_extended id ∷ []) = ((λ place. rw good refl), tt) in
+        in_last_written ID (out_of_range 62 low_i64) at slots entity_fits room (subst (λ (vs : List ℕ). AllByRecursion (λ v. (place : ℕ) → out_of_range 62 low_i64 place v ≡ []) (sign_extended id ∷ vs)) (sym (no_scalar ID own others.ids)) one)
 
     pub no_value : entity_values (length (table_of texts)) (fields_in at (message (entity_slots texts id meta tags own))) ≡ []
     no_value =
