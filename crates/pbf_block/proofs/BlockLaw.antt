@@ -26,13 +26,14 @@ use Rattle.osm_entity.specs.declared.scale.Scale.{Scale}
 use Rattle.osm_entity.specs.Scale.{ScaleFits}
 use Rattle.osm_entity.specs.Ranges.{IsInt32, ScaleTyped}
 use Rattle.osm_entity.specs.Entity.{EntitySpec}
+use Rattle.pbf_block.specs.Groups.{in_group}
 use Rattle.pbf_block.specs.declared.message.TheConstants.{STRINGTABLE, PRIMITIVEGROUP, BLOCK_KINDS, GRANULARITY, DATE_GRANULARITY, LAT_OFFSET, LON_OFFSET}
 use Rattle.pbf_block.specs.Scale.{number_or, scale_of, held_by, table_of}
 use Rattle.pbf_block.specs.WireFaults.{group_wire, part_wire, wire_faults}
 use Rattle.pbf_block.specs.StructureFaults.{table_structure, group_structure, part_structure, structure_faults}
-use Rattle.pbf_block.specs.ValueFaults.{positive, group_values, value_faults}
-use Rattle.pbf_block.specs.Weights.{group_weights, weight_faults, member_weights}
-use Rattle.pbf_block.specs.Members.{group_entities, entities_by, member_entities}
+use Rattle.pbf_block.specs.ValueFaults.{positive, value_faults, member_values}
+use Rattle.pbf_block.specs.Weights.{member_weights}
+use Rattle.pbf_block.specs.Members.{member_entities}
 use Rattle.pbf_block.specs.Payload.{by_index, entities}
 use Rattle.pbf_block.specs.Judgement.{payload_values, payload_weights, block_fault}
 use Rattle.pbf_block.specs.WrittenBlock.{unless_default, block_slots}
@@ -187,10 +188,10 @@ module _ (scale : Scale) (used : List (List ℕ)) (group : List ℕ) (es : List 
       in_last_written k f at (block_slots scale used group) fits short
       (subst (λ (vs : List ℕ). AllByRecursion (λ v. (place : ℕ) → f place v ≡ []) vs) (sym e) (default_all (λ v. (place : ℕ) → f place v ≡ []) default z h))
 
-  groups_good : (at : ℕ) → flat_map (entered PRIMITIVEGROUP (group_values (length (written_table used)))) (fields_in at (message (block_slots scale used group))) ≡ []
+  groups_good : (at : ℕ) → flat_map (in_group (member_values (length (written_table used)))) (fields_in at (message (block_slots scale used group))) ≡ []
   groups_good at =
-      fields_quiet (entered PRIMITIVEGROUP (group_values (length (written_table used)))) at (block_slots scale used group)
-      (parts_quiet (entered PRIMITIVEGROUP (group_values (length (written_table used)))) (λ number place value. no_message PRIMITIVEGROUP number place value (group_values (length (written_table used)))) (λ place begin. refl) good.values) fits short
+      fields_quiet (in_group (member_values (length (written_table used)))) at (block_slots scale used group)
+      (parts_quiet (in_group (member_values (length (written_table used)))) (λ number place value. no_message PRIMITIVEGROUP number place value (λ place at m. flat_map (member_values (length (written_table used))) (fields_in at m))) (λ place begin. refl) good.values) fits short
 
   values_good : (at : ℕ) → value_faults (length (written_table used)) at (message (block_slots scale used group)) ≡ []
   unfolding value_faults
@@ -210,9 +211,9 @@ module _ (scale : Scale) (used : List (List ℕ)) (group : List ℕ) (es : List 
   pub weights_sound : (at : ℕ) → payload_weights at (message (block_slots scale used group)) ≡ []
   unfolding payload_weights
   weights_sound at =
-      ap₂ (λ (ts : List (List ℕ)) (s : Scale). weight_faults by_index ts s (fields_in at (message (block_slots scale used group)))) (table_is at) (scale_is at)
-      ∙ fields_quiet (group_weights by_index (written_table used) scale) at (block_slots scale used group)
-      (parts_quiet (group_weights by_index (written_table used) scale) (λ number place value. no_message PRIMITIVEGROUP number place value (λ place at m. flat_map (member_weights by_index (written_table used) scale) (fields_in at m))) (λ place begin. refl) (λ place begin. good.weights begin)) fits short
+      ap₂ (λ (ts : List (List ℕ)) (s : Scale). flat_map (in_group (member_weights by_index ts s)) (fields_in at (message (block_slots scale used group)))) (table_is at) (scale_is at)
+      ∙ fields_quiet (in_group (member_weights by_index (written_table used) scale)) at (block_slots scale used group)
+      (parts_quiet (in_group (member_weights by_index (written_table used) scale)) (λ number place value. no_message PRIMITIVEGROUP number place value (λ place at m. flat_map (member_weights by_index (written_table used) scale) (fields_in at m))) (λ place begin. refl) (λ place begin. good.weights begin)) fits short
 
   pub block_sound : (at : ℕ) → block_fault at (message (block_slots scale used group)) ≡ None
   unfolding block_fault
@@ -223,9 +224,9 @@ module _ (scale : Scale) (used : List (List ℕ)) (group : List ℕ) (es : List 
   pub block_read : (at : ℕ) → entities at (message (block_slots scale used group)) ≡ es
   unfolding entities
   block_read at =
-      let f = group_entities by_index (written_table used) scale in
+      let f = in_group (member_entities by_index (written_table used) scale) in
       let give = λ (number place value : ℕ). no_message PRIMITIVEGROUP number place value (λ place at m. flat_map (member_entities by_index (written_table used) scale) (fields_in at m)) in
-      ap₂ (λ (ts : List (List ℕ)) (s : Scale). entities_by by_index ts s (fields_in at (message (block_slots scale used group)))) (table_is at) (scale_is at)
+      ap₂ (λ (ts : List (List ℕ)) (s : Scale). flat_map (in_group (member_entities by_index ts s)) (fields_in at (message (block_slots scale used group)))) (table_is at) (scale_is at)
       ∙ fields_give f at
       ((Each STRINGTABLE (table_message used ∷ []), []) ∷ (Each PRIMITIVEGROUP (group ∷ []), es)
       ∷ (Scalar GRANULARITY (unless_default DEFAULT_SCALE.granularity scale.granularity), []) ∷ (Scalar DATE_GRANULARITY (unless_default DEFAULT_SCALE.date_granularity scale.date_granularity), [])
@@ -247,5 +248,5 @@ module _ (scale : Scale) (used : List (List ℕ)) (group : List ℕ) (es : List 
       )
       fits short ∙ append-nil es
     where
-      one_group : SlotGives (group_entities by_index (written_table used) scale) (Each PRIMITIVEGROUP (group ∷ [])) es
+      one_group : SlotGives (in_group (member_entities by_index (written_table used) scale)) (Each PRIMITIVEGROUP (group ∷ [])) es
       one_group = λ at. append-nil _ ∙ good.entities _

@@ -23,15 +23,16 @@ use Rattle.osm_entity.specs.Weight.{entity_weight}
 use Rattle.pbf_dense.specs.Judged.{dense_wire, dense_structure, dense_values}
 use Rattle.osm_entity.proofs.RangeLemmas.{int32_typed, int64_typed}
 use Rattle.pbf_dense.proofs.FitsLemmas.{nodes_fit, nodes_typed, version_typed}
+use Rattle.pbf_block.specs.Groups.{in_group}
 use Rattle.pbf_block.specs.declared.message.TheConstants.{PRIMITIVEGROUP, GRANULARITY, DATE_GRANULARITY, BLOCK_KINDS, GROUP_KINDS, NODES, DENSE, WAYS, RELATIONS, INFO, VERSION, LAT_OFFSET, LON_OFFSET, NODE_KINDS, WAY_KINDS, RELATION_KINDS, INFO_KINDS}
-use Rattle.pbf_block.specs.Members.{message_entities, member_entities, group_entities, entities_by, node_in, way_in, relation_in}
+use Rattle.pbf_block.specs.Members.{message_entities, member_entities, node_in, way_in, relation_in}
 use Rattle.pbf_block.specs.Payload.{by_index, entities}
 use Rattle.pbf_block.specs.Scale.{scale_of, table_of}
 use Rattle.pbf_block.specs.Judgement.{payload_values, payload_weights, block_fault}
 use Rattle.pbf_block.specs.WireFaults.{member_wire, group_wire, part_wire, wire_faults}
 use Rattle.pbf_block.specs.StructureFaults.{node_structure, way_structure, relation_structure, member_structure, group_structure, part_structure, structure_faults}
-use Rattle.pbf_block.specs.ValueFaults.{positive, node_values, way_values, relation_values, member_values, group_values, value_faults}
-use Rattle.pbf_block.specs.Weights.{weight_fault, member_weights, group_weights, weight_faults}
+use Rattle.pbf_block.specs.ValueFaults.{positive, node_values, way_values, relation_values, member_values, value_faults}
+use Rattle.pbf_block.specs.Weights.{weight_fault, member_weights}
 use Rattle.pbf_block.specs.declared.scale.TheConstants.{DEFAULT_SCALE}
 use Rattle.pbf_block.proofs.EntityLaw.{all_such, map_of_all}
 use Rattle.pbf_block.proofs.ReadsLemmas.{entered_nil}
@@ -70,11 +71,11 @@ module _ (table : List (List ℕ)) (scale : Scale) where
   inside_light (Four bytes) e = tt
   inside_light (Bytes bytes at) e = all_where IsLight held weights (fields_in at bytes) member_light e
 
-  group_light : (o : Occurrence) → group_weights by_index table scale o ≡ [] → AllByRecursion IsLight (group_entities by_index table scale o)
+  group_light : (o : Occurrence) → in_group (member_weights by_index table scale) o ≡ [] → AllByRecursion IsLight (in_group (member_entities by_index table scale) o)
   group_light o e = cond_all IsLight (eqb o.number PRIMITIVEGROUP) _ _ (λ t. inside_light o.content (entered_nil PRIMITIVEGROUP (λ place at m. flat_map weights (fields_in at m)) o e (eqb-true o.number PRIMITIVEGROUP t))) tt
 
-  payload_light : (os : List Occurrence) → weight_faults by_index table scale os ≡ [] → AllByRecursion IsLight (entities_by by_index table scale os)
-  payload_light os e = all_where IsLight (group_entities by_index table scale) (group_weights by_index table scale) os group_light e
+  payload_light : (os : List Occurrence) → flat_map (in_group (member_weights by_index table scale)) os ≡ [] → AllByRecursion IsLight (flat_map (in_group (member_entities by_index table scale)) os)
+  payload_light os e = all_where IsLight (in_group (member_entities by_index table scale)) (in_group (member_weights by_index table scale)) os group_light e
 
 -- ---- the scale
 
@@ -88,7 +89,7 @@ unfolding wire_faults value_faults
 scale_fits limit at m w v =
     let os = fields_in at m in
     let sound = fields_sound BLOCK_KINDS part_wire (items at m) w in
-    let both = both_nil (in_last GRANULARITY (positive Granularity) os) (in_last DATE_GRANULARITY (positive DateGranularity) os) (both_nil _ (flat_map (entered PRIMITIVEGROUP (group_values limit)) os) v).0 in
+    let both = both_nil (in_last GRANULARITY (positive Granularity) os) (in_last DATE_GRANULARITY (positive DateGranularity) os) (both_nil _ (flat_map (in_group (member_values limit)) os) v).0 in
     record {
       places = or_else (λ z. pos 1 ≤ℤ z) DEFAULT_SCALE.granularity low_i32 (last_number GRANULARITY os) (omega (arith, ints)) (number_holds GRANULARITY (positive Granularity) (λ v. pos 1 ≤ℤ low_i32 v) (at_least_one Granularity) os (are_numbers BLOCK_KINDS part_wire GRANULARITY os refl sound) both.0);
       dates = or_else (λ z. pos 1 ≤ℤ z) DEFAULT_SCALE.date_granularity low_i32 (last_number DATE_GRANULARITY os) (omega (arith, ints)) (number_holds DATE_GRANULARITY (positive DateGranularity) (λ v. pos 1 ≤ℤ low_i32 v) (at_least_one DateGranularity) os (are_numbers BLOCK_KINDS part_wire DATE_GRANULARITY os refl sound) both.1);
@@ -165,7 +166,7 @@ module _ (table : List (List ℕ)) (few : length table ≤ 2 ^ 62) (scale : Scal
 
   -- ---- the entities of a payload
 
-  group_fits : (place : ℕ) (c : Content) → inside (group_wire place) c ≡ [] → inside (group_structure place) c ≡ [] → inside (group_values limit place) c ≡ []
+  group_fits : (place : ℕ) (c : Content) → inside (group_wire place) c ≡ [] → inside (group_structure place) c ≡ [] → inside (λ at m. flat_map (member_values limit) (fields_in at m)) c ≡ []
       → AllByRecursion FitsLight (inside (λ at m. flat_map (member_entities by_index table scale) (fields_in at m)) c)
   group_fits place (Number v) w s u = tt
   group_fits place (Eight bytes) w s u = tt
@@ -174,23 +175,23 @@ module _ (table : List (List ℕ)) (few : length table ≤ 2 ^ 62) (scale : Scal
       let os = fields_in at bytes in
       members_fit os (fields_sound GROUP_KINDS member_wire (items at bytes) w) (all_nil member_structure os (both_nil _ (flat_map member_structure os) s).1) (all_nil (member_values limit) os u)
 
-  part_fits : (o : Occurrence) → part_wire o ≡ [] → part_structure o ≡ [] → entered PRIMITIVEGROUP (group_values limit) o ≡ [] → AllByRecursion FitsLight (group_entities by_index table scale o)
+  part_fits : (o : Occurrence) → part_wire o ≡ [] → part_structure o ≡ [] → in_group (member_values limit) o ≡ [] → AllByRecursion FitsLight (in_group (member_entities by_index table scale) o)
   part_fits o w s v = cond_all FitsLight (eqb o.number PRIMITIVEGROUP) _ _ (λ t.
       let is = eqb-true o.number PRIMITIVEGROUP t in
       group_fits o.place o.content (entered_nil PRIMITIVEGROUP group_wire o (both_nil _ (entered PRIMITIVEGROUP group_wire o) w).1 is)
-      (entered_nil PRIMITIVEGROUP group_structure o (both_nil _ (entered PRIMITIVEGROUP group_structure o) s).1 is) (entered_nil PRIMITIVEGROUP (group_values limit) o v is)) tt
+      (entered_nil PRIMITIVEGROUP group_structure o (both_nil _ (entered PRIMITIVEGROUP group_structure o) s).1 is) (entered_nil PRIMITIVEGROUP (λ place at m. flat_map (member_values limit) (fields_in at m)) o v is)) tt
 
-  parts_fit : (os : List Occurrence) → AllByRecursion (IsSound BLOCK_KINDS part_wire) os → AllByRecursion (λ o. part_structure o ≡ []) os → AllByRecursion (λ o. entered PRIMITIVEGROUP (group_values limit) o ≡ []) os
-      → AllByRecursion FitsLight (entities_by by_index table scale os)
+  parts_fit : (os : List Occurrence) → AllByRecursion (IsSound BLOCK_KINDS part_wire) os → AllByRecursion (λ o. part_structure o ≡ []) os → AllByRecursion (λ o. in_group (member_values limit) o ≡ []) os
+      → AllByRecursion FitsLight (flat_map (in_group (member_entities by_index table scale)) os)
   parts_fit [] w s v = tt
-  parts_fit (o ∷ os) w s v = all_append FitsLight (group_entities by_index table scale o) _ (part_fits o w.0.1 s.0 v.0) (parts_fit os w.1 s.1 v.1)
+  parts_fit (o ∷ os) w s v = all_append FitsLight (in_group (member_entities by_index table scale) o) _ (part_fits o w.0.1 s.0 v.0) (parts_fit os w.1 s.1 v.1)
 
-  payload_fits : (at : ℕ) (m : List ℕ) → wire_faults at m ≡ [] → structure_faults at m ≡ [] → value_faults limit at m ≡ [] → AllByRecursion FitsLight (entities_by by_index table scale (fields_in at m))
+  payload_fits : (at : ℕ) (m : List ℕ) → wire_faults at m ≡ [] → structure_faults at m ≡ [] → value_faults limit at m ≡ [] → AllByRecursion FitsLight (flat_map (in_group (member_entities by_index table scale)) (fields_in at m))
   unfolding wire_faults structure_faults value_faults
   payload_fits at m w s v =
       let os = fields_in at m in
       parts_fit os (fields_sound BLOCK_KINDS part_wire (items at m) w) (all_nil part_structure os (both_nil _ (flat_map part_structure os) s).1)
-      (all_nil (entered PRIMITIVEGROUP (group_values limit)) os (both_nil _ (flat_map (entered PRIMITIVEGROUP (group_values limit)) os) v).1)
+      (all_nil (in_group (member_values limit)) os (both_nil _ (flat_map (in_group (member_values limit)) os) v).1)
 
 both : (es : List EntitySpec) → AllByRecursion FitsLight es → AllByRecursion IsLight es → AllByRecursion EntityFits es
 both [] f l = tt
@@ -203,7 +204,7 @@ entities_fit at m e =
     let none = no_fault at m e in
     let few : length (table_of os) ≤ 2 ^ 62 = omega (arith, table_few at m none.1) in
     let scaled = scale_fits (length (table_of os)) at m none.0 none.2 in
-    both (entities_by by_index (table_of os) (scale_of os) os) (payload_fits (table_of os) few (scale_of os) scaled at m none.0 none.1 none.2) (payload_light (table_of os) (scale_of os) os none.3)
+    both (flat_map (in_group (member_entities by_index (table_of os) (scale_of os))) os) (payload_fits (table_of os) few (scale_of os) scaled at m none.0 none.1 none.2) (payload_light (table_of os) (scale_of os) os none.3)
 
 -- ---- types
 
@@ -238,7 +239,7 @@ module _ (table : List (List ℕ)) (scale : Scale) (scaled : ScaleTyped scale) w
   member_typed : (o : Occurrence) → AllByRecursion EntityTyped (member_entities by_index table scale o)
   member_typed o = inside_typed _ o.content (λ at m. message_typed o.number (fields_in at m))
 
-  group_typed : (o : Occurrence) → AllByRecursion EntityTyped (group_entities by_index table scale o)
+  group_typed : (o : Occurrence) → AllByRecursion EntityTyped (in_group (member_entities by_index table scale) o)
   group_typed o = cond_all EntityTyped (eqb o.number PRIMITIVEGROUP) _ _ (λ t. inside_typed _ o.content (λ at m. all_flat EntityTyped (member_entities by_index table scale) (fields_in at m) member_typed)) tt
 
 int32_or : (otherwise : ℤ) (o : Option ℕ) → IsInt32 otherwise → IsInt32 (option_map_or low_i32 o otherwise)
@@ -262,4 +263,4 @@ pub entities_typed : (at : ℕ) (m : List ℕ) → AllByRecursion EntityTyped (e
 unfolding entities
 entities_typed at m =
     let os = fields_in at m in
-    all_flat EntityTyped (group_entities by_index (table_of os) (scale_of os)) os (group_typed (table_of os) (scale_of os) (scale_typed os))
+    all_flat EntityTyped (in_group (member_entities by_index (table_of os) (scale_of os))) os (group_typed (table_of os) (scale_of os) (scale_typed os))

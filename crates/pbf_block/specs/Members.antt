@@ -1,15 +1,15 @@
 -- The entities of a payload, from its messages. What is read of a column of differences, and of a dense message, is left open:
 -- it is said once by index, and once as cursors go along the columns.
 use Rattle.std.specs.Prelude.{ℕ, ℤ, pos, List, [], ◌∷◌, ◌==◌, if◌then◌else◌, map}
-use Rattle.std.specs.List.{flat_map, zip}
+use Rattle.std.specs.List.{zip}
 use Rattle.pbf_wire.specs.Columns.{column}
-use Rattle.pbf_wire.specs.Faults.{entered, inside, fields_in, embedded}
+use Rattle.pbf_wire.specs.Faults.{inside, fields_in, embedded}
 use Rattle.pbf_wire.specs.Occurrence.{Occurrence}
 use Rattle.pbf_wire.specs.Signed.{unzigzag, low_i64}
 use Rattle.osm_entity.specs.declared.scale.Scale.{Scale}
 use Rattle.osm_entity.specs.Entity.{TagSpec, NodeSpec, WaySpec, RelationSpec, EntitySpec, node, way, relation}
 use Rattle.osm_entity.specs.Sources.{paired_tags, column_members}
-use Rattle.pbf_block.specs.declared.message.TheConstants.{PRIMITIVEGROUP, NODES, DENSE, WAYS, RELATIONS, ID, KEYS, VALS, INFO, NODE_LAT, NODE_LON, REFS, WAY_LAT, WAY_LON, ROLES_SID, MEMIDS, TYPES}
+use Rattle.pbf_block.specs.declared.message.TheConstants.{NODES, DENSE, WAYS, RELATIONS, ID, KEYS, VALS, INFO, NODE_LAT, NODE_LON, REFS, WAY_LAT, WAY_LON, ROLES_SID, MEMIDS, TYPES}
 use Rattle.pbf_block.specs.Scale.{number_or}
 use Rattle.pbf_block.specs.Info.{info_in}
 
@@ -57,9 +57,9 @@ relation_in how table scale os = record {
   scale = scale;
 }
 
--- ---- the entities of groups
+-- ---- the entities of a group's fields
 
--- those of the message that the field k of a group holds
+-- those of the message that the field k holds
 abbrev pub message_entities : How → List (List ℕ) → Scale → ℕ → List Occurrence → List EntitySpec
 message_entities how table scale k os =
     if k == NODES then node (node_in table scale os) ∷ []
@@ -70,10 +70,3 @@ message_entities how table scale k os =
 
 abbrev pub member_entities : How → List (List ℕ) → Scale → Occurrence → List EntitySpec
 member_entities how table scale o = inside (λ at m. message_entities how table scale o.number (fields_in at m)) o.content
-
--- those of a field of the payload, which may be a group
-abbrev pub group_entities : How → List (List ℕ) → Scale → Occurrence → List EntitySpec
-group_entities how table scale o = entered PRIMITIVEGROUP (λ place at m. flat_map (member_entities how table scale) (fields_in at m)) o
-
-abbrev pub entities_by : How → List (List ℕ) → Scale → List Occurrence → List EntitySpec
-entities_by how table scale os = flat_map (group_entities how table scale) os

@@ -9,7 +9,8 @@ use Rattle.pbf_wire.specs.Columns.{joined}
 use Rattle.pbf_wire.specs.Signed.{is_within, unzigzag, low_i32, low_i64}
 use Rattle.pbf_wire.specs.Faults.{fault_where, entered, fields_in, in_last, index_fault, index_faults, below_faults}
 use Rattle.pbf_dense.specs.Judged.{range_faults, dense_values}
-use Rattle.pbf_block.specs.declared.message.TheConstants.{PRIMITIVEGROUP, GRANULARITY, DATE_GRANULARITY, NODES, DENSE, WAYS, RELATIONS, ID, KEYS, VALS, INFO, NODE_LAT, NODE_LON, REFS, WAY_LAT, WAY_LON, ROLES_SID, MEMIDS, TYPES, TIMESTAMP, CHANGESET, UID, USER_SID}
+use Rattle.pbf_block.specs.declared.message.TheConstants.{GRANULARITY, DATE_GRANULARITY, NODES, DENSE, WAYS, RELATIONS, ID, KEYS, VALS, INFO, NODE_LAT, NODE_LON, REFS, WAY_LAT, WAY_LON, ROLES_SID, MEMIDS, TYPES, TIMESTAMP, CHANGESET, UID, USER_SID}
+use Rattle.pbf_block.specs.Groups.{in_group}
 
 -- ---- one number
 
@@ -60,11 +61,8 @@ member_values limit o = entered NODES (node_values limit) o ++ entered DENSE (de
 
 -- ---- the block
 
-abbrev pub group_values : ℕ → ℕ → ℕ → List ℕ → List Fault
-group_values limit place at m = flat_map (member_values limit) (fields_in at m)
-
 -- the faults of values of a payload that begins at this place
 unfoldable pub value_faults : ℕ → ℕ → List ℕ → List Fault
 value_faults limit at m =
     let os = fields_in at m in
-    in_last GRANULARITY (positive Granularity) os ++ in_last DATE_GRANULARITY (positive DateGranularity) os ++ flat_map (entered PRIMITIVEGROUP (group_values limit)) os
+    in_last GRANULARITY (positive Granularity) os ++ in_last DATE_GRANULARITY (positive DateGranularity) os ++ flat_map (in_group (member_values limit)) os
