@@ -5,7 +5,7 @@ use Rattle.osm_entity.specs.declared.scale.Scale.{Scale}
 use Rattle.std.specs.List.{flat_map}
 use Rattle.pbf_wire.specs.Faults.{fields_in}
 use Rattle.pbf_block.specs.Groups.{in_group}
-use Rattle.pbf_block.specs.Judgement.{block_fault, payload_values}
+use Rattle.pbf_block.specs.Judgement.{block_fault}
 use Rattle.pbf_block.specs.Members.{member_entities}
 use Rattle.pbf_block.specs.Payload.{along, entities}
 use Rattle.pbf_block.specs.Scale.{table_of, scale_of}
@@ -16,7 +16,7 @@ use Rattle.pbf_block.proofs.TableLemmas.{table_few}
 
 pub along_same : (at : ℕ) (m : List ℕ) → block_fault at m ≡ None → (table : List (List ℕ)) (scale : Scale) → table ≡ table_of (fields_in at m) → scale ≡ scale_of (fields_in at m)
     → flat_map (in_group (member_entities along table scale)) (fields_in at m) ≡ entities at m
-unfolding entities payload_values
+unfolding entities
 along_same at m sound table scale texts scaled =
     let none = no_fault at m sound in
     let os = fields_in at m in

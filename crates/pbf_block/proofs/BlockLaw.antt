@@ -35,7 +35,7 @@ use Rattle.pbf_block.specs.ValueFaults.{positive, value_faults, member_values}
 use Rattle.pbf_block.specs.Weights.{member_weights}
 use Rattle.pbf_block.specs.Members.{member_entities}
 use Rattle.pbf_block.specs.Payload.{by_index, entities}
-use Rattle.pbf_block.specs.Judgement.{payload_values, payload_weights, block_fault}
+use Rattle.pbf_block.specs.Judgement.{payload_weights, block_fault}
 use Rattle.pbf_block.specs.WrittenBlock.{unless_default, block_slots}
 use Rattle.pbf_block.specs.declared.scale.TheConstants.{DEFAULT_SCALE}
 use Rattle.pbf_wire.proofs.SlotLemmas.{none_of, scalar_given, last_given}
@@ -202,8 +202,7 @@ module _ (scale : Scale) (used : List (List ℕ)) (group : List ℕ) (es : List 
       (scalar_given DATE_GRANULARITY _ (take 3 (block_slots scale used group)) (drop 4 (block_slots scale used group)) refl (tt, (tt, (refl, tt))) (refl, (refl, tt))) (positive_quiet DateGranularity scale.date_granularity typed.date_granularity fit.dates) in
       rw (places, dates, groups_good at) refl
 
-  pub values_sound : (at : ℕ) → payload_values at (message (block_slots scale used group)) ≡ []
-  unfolding payload_values
+  pub values_sound : (at : ℕ) → value_faults (length (table_of (fields_in at (message (block_slots scale used group))))) at (message (block_slots scale used group)) ≡ []
   values_sound at = ap (λ (ts : List (List ℕ)). value_faults (length ts) at (message (block_slots scale used group))) (table_is at) ∙ values_good at
 
   -- ---- weights

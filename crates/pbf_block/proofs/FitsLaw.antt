@@ -28,7 +28,7 @@ use Rattle.pbf_block.specs.declared.message.TheConstants.{PRIMITIVEGROUP, GRANUL
 use Rattle.pbf_block.specs.Members.{message_entities, member_entities, node_in, way_in, relation_in}
 use Rattle.pbf_block.specs.Payload.{by_index, entities}
 use Rattle.pbf_block.specs.Scale.{scale_of, table_of}
-use Rattle.pbf_block.specs.Judgement.{payload_values, payload_weights, block_fault}
+use Rattle.pbf_block.specs.Judgement.{payload_weights, block_fault}
 use Rattle.pbf_block.specs.WireFaults.{member_wire, group_wire, part_wire, wire_faults}
 use Rattle.pbf_block.specs.StructureFaults.{node_structure, way_structure, relation_structure, member_structure, group_structure, part_structure, structure_faults}
 use Rattle.pbf_block.specs.ValueFaults.{positive, node_values, way_values, relation_values, member_values, value_faults}
@@ -198,7 +198,7 @@ both [] f l = tt
 both (e ∷ es) f l = (f.0 l.0, both es f.1 l.1)
 
 pub entities_fit : (at : ℕ) (m : List ℕ) → block_fault at m ≡ None → AllByRecursion EntityFits (entities at m)
-unfolding entities payload_values payload_weights
+unfolding entities payload_weights
 entities_fit at m e =
     let os = fields_in at m in
     let none = no_fault at m e in

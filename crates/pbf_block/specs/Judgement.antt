@@ -12,17 +12,13 @@ use Rattle.pbf_block.specs.Weights.{member_weights}
 use Rattle.pbf_block.specs.Scale.{scale_of, table_of}
 use Rattle.pbf_block.specs.Payload.{by_index}
 
--- values out of range, where texts are those of the last table wherever it stands
-unfoldable pub payload_values : ℕ → List ℕ → List Fault
-payload_values at m = value_faults (length (table_of (fields_in at m))) at m
-
 -- entities that are too heavy
 unfoldable pub payload_weights : ℕ → List ℕ → List Fault
 payload_weights at m = let os = fields_in at m in flat_map (in_group (member_weights by_index (table_of os) (scale_of os))) os
 
--- the faults of a payload that begins at this place, phase by phase
+-- the faults of a payload that begins at this place, phase by phase, where texts are those of the last table wherever it stands
 abbrev pub block_phases : ℕ → List ℕ → List (List Fault)
-block_phases at m = wire_faults at m ∷ structure_faults at m ∷ payload_values at m ∷ payload_weights at m ∷ []
+block_phases at m = wire_faults at m ∷ structure_faults at m ∷ value_faults (length (table_of (fields_in at m))) at m ∷ payload_weights at m ∷ []
 
 -- the first of them: the least of the first phase that has one
 unfoldable pub block_fault : ℕ → List ℕ → Option Fault

@@ -5,7 +5,7 @@ use Rattle.pbf_wire.specs.Least.{least}
 use Rattle.pbf_wire.specs.Faults.{fields_in}
 use Rattle.pbf_wire.proofs.SoundLemmas.{no_least}
 use Rattle.pbf_block.specs.Groups.{in_group}
-use Rattle.pbf_block.specs.Judgement.{payload_values, payload_weights}
+use Rattle.pbf_block.specs.Judgement.{payload_weights}
 use Rattle.osm_entity.specs.declared.scale.Scale.{Scale}
 use Rattle.pbf_block.specs.Scale.{scale_of, table_of}
 use Rattle.pbf_block.specs.ValueFaults.{value_faults}
@@ -16,8 +16,7 @@ use Rattle.pbf_block.proofs.ReadsLemmas.{payload_reads}
 use Rattle.pbf_block.proofs.block.late_fault.Goals as goal
 
 module _ (table : List (List ℕ)) (at : ℕ) (m : List ℕ) (texts : table ≡ table_of (fields_in at m)) where
-  values_are : value_faults (length table) at m ≡ payload_values at m
-  unfolding payload_values
+  values_are : value_faults (length table) at m ≡ value_faults (length (table_of (fields_in at m))) at m
   values_are = ap (λ (t : List (List ℕ)). value_faults (length t) at m) texts
 
   weights_are : (scale : Scale) → scale ≡ scale_of (fields_in at m) → flat_map (in_group (member_weights by_index table scale)) (fields_in at m) ≡ payload_weights at m
