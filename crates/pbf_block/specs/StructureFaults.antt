@@ -7,7 +7,7 @@ use Rattle.pbf_wire.specs.declared.fault.Reason.TheVariants.{TooManyStrings, Mix
 use Rattle.pbf_wire.specs.Occurrence.{Occurrence}
 use Rattle.pbf_wire.specs.Faults.{fault, fault_where, entered, fields_in, missing, twice, column_count}
 use Rattle.pbf_strings.specs.Texts.{texts}
-use Rattle.pbf_dense.specs.Judged.{dense_structure}
+use Rattle.pbf_dense.specs.Judged.{has_count, goes_with, dense_structure}
 use Rattle.pbf_block.specs.declared.message.TheConstants.{STRINGTABLE, PRIMITIVEGROUP, NODES, DENSE, WAYS, RELATIONS, CHANGESETS, ID, KEYS, VALS, INFO, NODE_LAT, NODE_LON, REFS, WAY_LAT, WAY_LON, ROLES_SID, MEMIDS, TYPES}
 
 -- ---- entities
@@ -23,11 +23,9 @@ entity_structure place os = missing ID place os ++ twice INFO os ++ tag_columns 
 abbrev pub node_structure : ℕ → ℕ → List ℕ → List Fault
 node_structure place at m = let os = fields_in at m in entity_structure place os ++ missing NODE_LAT place os ++ missing NODE_LON place os
 
--- there are no locations, or as many as refs
+-- there are as many latitudes as longitudes, and no locations or as many as refs
 abbrev pub are_located : List Occurrence → Bool
-are_located os =
-    column_count WAY_LAT os == column_count WAY_LON os
-    && (column_count WAY_LAT os == 0 || column_count WAY_LAT os == column_count REFS os)
+are_located os = has_count (column_count WAY_LON os) WAY_LAT os && goes_with (column_count REFS os) WAY_LAT os
 
 abbrev pub way_structure : ℕ → ℕ → List ℕ → List Fault
 way_structure place at m = let os = fields_in at m in entity_structure place os ++ fault_where (not (are_located os)) place LocationColumns
