@@ -12,9 +12,7 @@ use Rattle.pbf_header.specs.WrittenHeader.{known_features}
 
 -- the edges that a box lacks, at the box's place
 abbrev pub edge_faults : ℕ → ℕ → List ℕ → List Fault
-edge_faults place at m =
-    let os = fields_in at m in
-    missing LEFT place os ++ (missing RIGHT place os ++ (missing TOP place os ++ missing BOTTOM place os))
+edge_faults place at m = flat_map (λ k. missing k place (fields_in at m)) (LEFT ∷ RIGHT ∷ TOP ∷ BOTTOM ∷ [])
 
 -- each box after the first, and what each box lacks
 abbrev pub header_structure : List Occurrence → List Fault
