@@ -9,7 +9,7 @@ use Rattle.std.proofs.lemmas.List.{length-map}
 use Rattle.std.proofs.lemmas.List.FromFn.{length-map-range_with_len}
 use Rattle.std.proofs.lemmas.Slice.Zip.{length-zip}
 use Rattle.pbf_wire.specs.declared.fault.Fault.{Fault}
-use Rattle.pbf_wire.specs.declared.fault.Reason.TheVariants.{LocationColumns, OutOfRange}
+use Rattle.pbf_wire.specs.declared.fault.Reason.TheVariants.{LocationColumns, OutOfRange, StringIndex}
 use Rattle.pbf_wire.specs.declared.kind.Kind.{Kind}
 use Rattle.pbf_wire.specs.declared.kind.Kind.TheVariants as kind
 use Rattle.pbf_wire.specs.Occurrence.{Content, Number, Eight, Four, Bytes, Occurrence, items}
@@ -18,7 +18,7 @@ use Rattle.pbf_wire.specs.Wire.{kind_of, reason_in}
 use Rattle.pbf_wire.specs.Reading.{last_of, number_in, numbers, last_number}
 use Rattle.pbf_wire.specs.Signed.{IsWithin, is_within, unzigzag, low_i32, low_i64}
 use Rattle.pbf_wire.specs.Sums.{sum_at}
-use Rattle.pbf_wire.specs.Faults.{inside, entered, fields_in, fields_of, embedded, leaf_faults, column_count, range_fault, value_in, of_value, in_last, nested_faults}
+use Rattle.pbf_wire.specs.Faults.{inside, entered, fields_in, fields_of, embedded, leaf_faults, column_count, below_fault, range_fault, value_in, of_value, in_last, nested_faults}
 use Rattle.pbf_wire.proofs.SumLemmas.{small_zero, within_is}
 use Rattle.pbf_wire.proofs.SoundLemmas.{both_nil, all_nil, is_right, sums_within_limit, count_is_length, fields_sound, IsSound, last_holds}
 use Rattle.osm_entity.specs.declared.scale.Scale.{Scale}
@@ -34,7 +34,7 @@ use Rattle.pbf_block.specs.Members.{values_in, node_in, way_in, relation_in}
 use Rattle.pbf_block.specs.Payload.{by_index}
 use Rattle.pbf_block.specs.Scale.{number_or}
 use Rattle.pbf_block.specs.StructureFaults.{are_located, entity_structure, way_structure}
-use Rattle.pbf_block.specs.ValueFaults.{out_of_range, user_range, info_values, entity_values, node_values, way_values, relation_values}
+use Rattle.pbf_block.specs.ValueFaults.{out_of_range, info_values, entity_values, node_values, way_values, relation_values}
 use Rattle.pbf_wire.proofs.SlotLemmas.{IfSome}
 use Rattle.pbf_block.proofs.ValueLemmas.{later_value, last_is}
 use Rattle.pbf_block.proofs.ReadsLemmas.{entered_nil}
@@ -91,7 +91,7 @@ module _ (limit : ℕ) (table : List (List ℕ)) where
   info_fits place at m w v =
       let os = fields_in at m in
       let sound = fields_sound INFO_KINDS (λ o. []) (items at m) w in
-      let uids = both_nil _ _ (both_nil _ (in_last USER_SID (user_range limit) os) v).0 in
+      let uids = both_nil _ _ (both_nil _ (in_last USER_SID (λ place v. below_fault StringIndex limit (v, place)) os) v).0 in
       let changesets = both_nil _ _ uids.0 in
       record {
         timestamp = if_present IsStored low_i64 _ (number_holds TIMESTAMP (out_of_range 62 low_i64) (λ v. IsStored (low_i64 v)) (λ place v e. in_range (pos (2 ^ 62)) place (low_i64 v) e) os (are_numbers INFO_KINDS (λ o. []) TIMESTAMP os refl sound) changesets.0);

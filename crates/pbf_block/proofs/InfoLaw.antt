@@ -3,8 +3,9 @@ use Rattle.std.proofs.Common.{pos, sym, [], ◌≡◌, ℕ, ◌%◌, ◌^◌, �
 use Rattle.std.specs.List.{flat_map, AllByRecursion}
 use Rattle.std.specs.Option.{option_map, option_to_list}
 use Rattle.std.proofs.lemmas.Int.{ints}
+use Rattle.pbf_wire.specs.declared.fault.Reason.TheVariants.{StringIndex}
 use Rattle.pbf_wire.specs.declared.fault.Fault.{Fault}
-use Rattle.pbf_wire.specs.Faults.{fields_in, leaf_faults}
+use Rattle.pbf_wire.specs.Faults.{below_fault, fields_in, leaf_faults}
 use Rattle.pbf_wire.proofs.QuietLemmas.{leaf_quiet, in_last_written}
 use Rattle.std.proofs.lemmas.Bool.{lt-ltb}
 use Rattle.pbf_wire.specs.Message.{scalars_at, SlotFits, message}
@@ -20,7 +21,7 @@ use Rattle.osm_entity.specs.Ranges.{IsInt32, IsStored, IsUid, IfPresent, MetaFit
 use Rattle.osm_entity.specs.Sources.{named}
 use Rattle.pbf_dense.specs.WrittenDense.{bit_of}
 use Rattle.pbf_block.specs.declared.message.TheConstants.{INFO_KINDS, VERSION, TIMESTAMP, CHANGESET, UID, USER_SID, VISIBLE}
-use Rattle.pbf_block.specs.ValueFaults.{out_of_range, user_range, info_values}
+use Rattle.pbf_block.specs.ValueFaults.{out_of_range, info_values}
 use Rattle.pbf_block.specs.Info.{info_in}
 use Rattle.pbf_block.specs.WrittenEntity.{info_slots, info_message}
 use Rattle.osm_entity.proofs.RangeLemmas.{present}
@@ -136,7 +137,7 @@ module _ (texts : List (List ℕ)) (meta : MetaSpec) (h : MetaReady texts meta) 
   uid_quiet : (z : ℤ) → IsUid z → (place : ℕ) → out_of_range 30 low_i32 place (sign_extended z) ≡ []
   uid_quiet z s place = let e : is_within (pos (2 ^ 30)) (low_i32 (sign_extended z)) ≡ true = ap (is_within (pos (2 ^ 30))) (uid_read z s) ∙ within_true (pos (2 ^ 30)) z s in rw e refl
 
-  user_quiet : (t : List ℕ) → IsAmong texts t → (place : ℕ) → user_range (length (table_of texts)) place (index_in texts t) ≡ []
+  user_quiet : (t : List ℕ) → IsAmong texts t → (place : ℕ) → below_fault StringIndex (length (table_of texts)) (index_in texts t, place) ≡ []
   user_quiet t s place =
       let below : index_in texts t % 2 ^ 32 < length (table_of texts) = omega (arith, low_index texts h.few t s, index_below texts t s) in
       rw (lt-ltb (index_in texts t % 2 ^ 32) (length (table_of texts)) below) refl
@@ -154,6 +155,6 @@ module _ (texts : List (List ℕ)) (meta : MetaSpec) (h : MetaReady texts meta) 
       (given_all sign_extended IsStored (λ v. (place : ℕ) → out_of_range 62 low_i64 place v ≡ []) stored_quiet meta.changeset (present IsStored meta.changeset h.fits.changeset)) in
       let uid = all UID (out_of_range 30 low_i32) _ (scalar_given UID _ (take 3 slots) (drop 4 slots) refl (refl, (refl, (refl, tt))) (refl, (refl, tt)))
       (given_all sign_extended IsUid (λ v. (place : ℕ) → out_of_range 30 low_i32 place v ≡ []) uid_quiet meta.uid (present IsUid meta.uid h.fits.uid)) in
-      let user = all USER_SID (user_range (length (table_of texts))) _ (scalar_given USER_SID _ (take 4 slots) (drop 5 slots) refl (refl, (refl, (refl, (refl, tt)))) (refl, tt))
-      (given_all (index_in texts) (IsAmong texts) (λ v. (place : ℕ) → user_range (length (table_of texts)) place v ≡ []) user_quiet meta.user h.user) in
+      let user = all USER_SID (λ place v. below_fault StringIndex (length (table_of texts)) (v, place)) _ (scalar_given USER_SID _ (take 4 slots) (drop 5 slots) refl (refl, (refl, (refl, (refl, tt)))) (refl, tt))
+      (given_all (index_in texts) (IsAmong texts) (λ v. (place : ℕ) → below_fault StringIndex (length (table_of texts)) (v, place) ≡ []) user_quiet meta.user h.user) in
       rw (timestamp, changeset, uid, user) refl

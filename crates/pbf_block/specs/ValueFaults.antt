@@ -3,11 +3,11 @@ use Rattle.std.specs.Prelude.{ℕ, ℤ, pos, ◌^◌, int_lt, not, List, ◌++�
 use Rattle.std.specs.List.{flat_map}
 use Rattle.pbf_wire.specs.declared.fault.Fault.{Fault}
 use Rattle.pbf_wire.specs.declared.fault.Reason.{Reason}
-use Rattle.pbf_wire.specs.declared.fault.Reason.TheVariants.{OutOfRange, Granularity, DateGranularity, MemberKind}
+use Rattle.pbf_wire.specs.declared.fault.Reason.TheVariants.{StringIndex, OutOfRange, Granularity, DateGranularity, MemberKind}
 use Rattle.pbf_wire.specs.Occurrence.{Occurrence}
 use Rattle.pbf_wire.specs.Columns.{joined}
 use Rattle.pbf_wire.specs.Signed.{is_within, unzigzag, low_i32, low_i64}
-use Rattle.pbf_wire.specs.Faults.{fault_where, entered, fields_in, in_last, index_fault, index_faults, below_faults}
+use Rattle.pbf_wire.specs.Faults.{fault_where, entered, fields_in, in_last, below_fault, index_faults, below_faults}
 use Rattle.pbf_dense.specs.Judged.{range_faults, dense_values}
 use Rattle.pbf_block.specs.declared.message.TheConstants.{GRANULARITY, DATE_GRANULARITY, NODES, DENSE, WAYS, RELATIONS, ID, KEYS, VALS, INFO, NODE_LAT, NODE_LON, REFS, WAY_LAT, WAY_LON, ROLES_SID, MEMIDS, TYPES, TIMESTAMP, CHANGESET, UID, USER_SID}
 use Rattle.pbf_block.specs.Groups.{in_group}
@@ -17,10 +17,6 @@ use Rattle.pbf_block.specs.Groups.{in_group}
 -- a number, as it is read, isn't strictly between -2^bits and 2^bits
 abbrev pub out_of_range : ℕ → (ℕ → ℤ) → ℕ → ℕ → List Fault
 out_of_range bits read place v = fault_where (not (is_within (pos (2 ^ bits)) (read v))) place OutOfRange
-
--- a user's text is one of the table's
-abbrev pub user_range : ℕ → ℕ → ℕ → List Fault
-user_range limit place v = index_fault limit (v, place)
 
 -- a number that must be at least 1
 abbrev pub positive : Reason → ℕ → ℕ → List Fault
@@ -32,7 +28,7 @@ abbrev pub info_values : ℕ → ℕ → ℕ → List ℕ → List Fault
 info_values limit place at m =
     let os = fields_in at m in
     in_last TIMESTAMP (out_of_range 62 low_i64) os ++ in_last CHANGESET (out_of_range 62 low_i64) os
-    ++ in_last UID (out_of_range 30 low_i32) os ++ in_last USER_SID (user_range limit) os
+    ++ in_last UID (out_of_range 30 low_i32) os ++ in_last USER_SID (λ place v. below_fault StringIndex limit (v, place)) os
 
 -- what all entities have alike
 abbrev pub entity_values : ℕ → List Occurrence → List Fault
