@@ -12,13 +12,9 @@ use Rattle.pbf_block.specs.declared.message.TheConstants.{STRINGTABLE, PRIMITIVE
 
 -- ---- entities
 
--- the keys and values of an entity are of unlike count
-abbrev pub tag_columns : ℕ → List Occurrence → List Fault
-tag_columns place os = fault_where (not (column_count KEYS os == column_count VALS os)) place TagColumns
-
--- what all entities have alike
+-- what all entities have alike: an id, no second Info, and as many keys as values
 abbrev pub entity_structure : ℕ → List Occurrence → List Fault
-entity_structure place os = missing ID place os ++ twice INFO os ++ tag_columns place os
+entity_structure place os = missing ID place os ++ twice INFO os ++ fault_where (not (has_count (column_count VALS os) KEYS os)) place TagColumns
 
 abbrev pub node_structure : ℕ → ℕ → List ℕ → List Fault
 node_structure place at m = let os = fields_in at m in entity_structure place os ++ missing NODE_LAT place os ++ missing NODE_LON place os
