@@ -1,5 +1,5 @@
 -- The faults of structure of a PrimitiveBlock: messages that lack or repeat something, or whose columns don't fit together.
-use Rattle.std.specs.Prelude.{ℕ, ◌==◌, Bool, false, not, ◌&&◌, ◌||◌, nat_lt, List, ◌++◌, length, map, filter, Option, Some, None}
+use Rattle.std.specs.Prelude.{ℕ, ◌==◌, Bool, not, ◌&&◌, ◌||◌, nat_lt, List, ◌++◌, length, map, filter, Option, unwrap_or}
 use Rattle.std.specs.Option.{option_map}
 use Rattle.std.specs.List.{flat_map, find}
 use Rattle.pbf_wire.specs.declared.fault.Fault.{Fault}
@@ -46,14 +46,13 @@ is_member k = k == NODES || k == DENSE || k == WAYS || k == RELATIONS
 abbrev pub first_member : List Occurrence → Option ℕ
 first_member os = option_map (λ o. o.number) (find (λ o. is_member o.number) os)
 
--- it holds entities of another kind than the first
+-- it holds entities of another kind than the first, where there is a first
 abbrev pub is_other : Option ℕ → ℕ → Bool
-is_other None k = false
-is_other (Some first) k = is_member k && not (k == first)
+is_other first k = is_member k && not (k == unwrap_or first k)
 
 -- each field that holds entities of another kind than the first
 abbrev pub mixed : List Occurrence → List Fault
-mixed os = map (λ o. fault o.place MixedGroup) (filter (λ o. is_other (first_member os) o.number) os)
+mixed os = map (λ o. fault o.place MixedGroup) (filter (λ o. is_member o.number && not (o.number == unwrap_or (first_member os) o.number)) os)
 
 -- each field of changesets
 abbrev pub changesets : List Occurrence → List Fault
