@@ -7,21 +7,21 @@ use Rattle.pbf_wire.specs.declared.fault.Reason.TheVariants.{TooManyStrings, Mix
 use Rattle.pbf_wire.specs.Occurrence.{Occurrence}
 use Rattle.pbf_wire.specs.Faults.{fault, fault_where, entered, fields_in, missing, twice, column_count}
 use Rattle.pbf_strings.specs.Texts.{texts}
-use Rattle.pbf_dense.specs.Judged.{has_count, goes_with, dense_structure}
+use Rattle.pbf_dense.specs.Judged.{goes_with, dense_structure}
 use Rattle.pbf_block.specs.declared.message.TheConstants.{STRINGTABLE, PRIMITIVEGROUP, NODES, DENSE, WAYS, RELATIONS, CHANGESETS, ID, KEYS, VALS, INFO, NODE_LAT, NODE_LON, REFS, WAY_LAT, WAY_LON, ROLES_SID, MEMIDS, TYPES}
 
 -- ---- entities
 
 -- what all entities have alike: an id, no second Info, and as many keys as values
 abbrev pub entity_structure : ℕ → List Occurrence → List Fault
-entity_structure place os = missing ID place os ++ twice INFO os ++ fault_where (not (has_count (column_count VALS os) KEYS os)) place TagColumns
+entity_structure place os = missing ID place os ++ twice INFO os ++ fault_where (not (column_count KEYS os == column_count VALS os)) place TagColumns
 
 abbrev pub node_structure : ℕ → ℕ → List ℕ → List Fault
 node_structure place at m = let os = fields_in at m in entity_structure place os ++ missing NODE_LAT place os ++ missing NODE_LON place os
 
 -- there are as many latitudes as longitudes, and no locations or as many as refs
 abbrev pub are_located : List Occurrence → Bool
-are_located os = has_count (column_count WAY_LON os) WAY_LAT os && goes_with (column_count REFS os) WAY_LAT os
+are_located os = column_count WAY_LAT os == column_count WAY_LON os && goes_with (column_count REFS os) WAY_LAT os
 
 abbrev pub way_structure : ℕ → ℕ → List ℕ → List Fault
 way_structure place at m = let os = fields_in at m in entity_structure place os ++ fault_where (not (are_located os)) place LocationColumns
@@ -52,7 +52,7 @@ is_other first k = is_member k && not (k == unwrap_or first k)
 
 -- each field that holds entities of another kind than the first
 abbrev pub mixed : List Occurrence → List Fault
-mixed os = map (λ o. fault o.place MixedGroup) (filter (λ o. is_member o.number && not (o.number == unwrap_or (first_member os) o.number)) os)
+mixed os = map (λ o. fault o.place MixedGroup) (filter (λ o. is_other (first_member os) o.number) os)
 
 -- each field of changesets
 abbrev pub changesets : List Occurrence → List Fault
