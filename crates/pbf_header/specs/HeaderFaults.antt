@@ -24,7 +24,7 @@ feature_faults place at text = fault_where (not (has_text known_features text)) 
 
 -- each required feature that isn't known
 abbrev pub header_values : List Occurrence → List Fault
-header_values os = flat_map (entered REQUIRED_FEATURES (λ place at text. fault_where (not (has_text known_features text)) place Feature)) os
+header_values os = flat_map (entered REQUIRED_FEATURES feature_faults) os
 
 -- the faults of a header that begins at this place, phase by phase: first those of the wire form of it and of its boxes
 abbrev pub header_phases : ℕ → List ℕ → List (List Fault)
