@@ -25,7 +25,7 @@ use Rattle.osm_entity.specs.Ranges.{IsStored}
 use Rattle.osm_entity.specs.Sources.{paired_tags}
 use Rattle.pbf_block.specs.declared.message.TheConstants.{ID, KEYS, VALS, INFO, INFO_KINDS}
 use Rattle.pbf_block.specs.Info.{info_in}
-use Rattle.pbf_block.specs.Members.{values_in}
+use Rattle.pbf_block.specs.Members.{values_in, tags_in}
 use Rattle.pbf_block.specs.Payload.{by_index}
 use Rattle.pbf_block.specs.Scale.{number_or}
 use Rattle.pbf_block.specs.StructureFaults.{entity_structure}
@@ -174,7 +174,7 @@ module _ (kinds : List (ℕ × Kind)) (known : AreKnown kinds) (texts : List (Li
     values_column : column VALS (fields_in at (message (entity_slots texts id meta tags own))) ≡ map (value_index texts) tags
     values_column = column_written VALS at (entity_slots texts id meta tags own) entity_fits room ∙ ap (λ (vs : List ℕ). map (value_index texts) tags ++ vs) (no_number VALS own others.vals) ∙ append-nil _
 
-    pub tags_read : paired_tags (table_of texts) (column KEYS (fields_in at (message (entity_slots texts id meta tags own)))) (column VALS (fields_in at (message (entity_slots texts id meta tags own)))) ≡ tags
+    pub tags_read : tags_in (table_of texts) (fields_in at (message (entity_slots texts id meta tags own))) ≡ tags
     tags_read = ap₂ (λ (ks vs : List ℕ). paired_tags (table_of texts) ks vs) keys_column values_column ∙ tags_given texts ready.good.few tags ready.named
 
     info_messages : flat_map (messages_at INFO) (entity_slots texts id meta tags own) ≡ unless_empty (info_message texts meta)

@@ -7,7 +7,7 @@ use Rattle.pbf_wire.specs.Faults.{inside, fields_in, embedded}
 use Rattle.pbf_wire.specs.Occurrence.{Occurrence}
 use Rattle.pbf_wire.specs.Signed.{unzigzag, low_i64}
 use Rattle.osm_entity.specs.declared.scale.Scale.{Scale}
-use Rattle.osm_entity.specs.Entity.{NodeSpec, WaySpec, RelationSpec, EntitySpec, node, way, relation}
+use Rattle.osm_entity.specs.Entity.{TagSpec, NodeSpec, WaySpec, RelationSpec, EntitySpec, node, way, relation}
 use Rattle.osm_entity.specs.Sources.{paired_tags, column_members}
 use Rattle.pbf_block.specs.declared.message.TheConstants.{NODES, DENSE, WAYS, RELATIONS, ID, KEYS, VALS, INFO, NODE_LAT, NODE_LON, REFS, WAY_LAT, WAY_LON, ROLES_SID, MEMIDS, TYPES}
 use Rattle.pbf_block.specs.Scale.{number_or}
@@ -18,6 +18,11 @@ pub record How : Type 0 where
   pub values : List ℤ → List ℤ
   pub dense : List (List ℕ) → Scale → List Occurrence → List NodeSpec
 
+-- ---- parts of nodes, ways and relations
+
+abbrev pub tags_in : List (List ℕ) → List Occurrence → List TagSpec
+tags_in table os = paired_tags table (column KEYS os) (column VALS os)
+
 -- ---- the entity of a message
 
 unfoldable pub node_in : List (List ℕ) → Scale → List Occurrence → NodeSpec
@@ -26,7 +31,7 @@ node_in table scale os = record {
   lat = number_or (pos 0) unzigzag NODE_LAT os;
   lon = number_or (pos 0) unzigzag NODE_LON os;
   meta = info_in table (embedded INFO os);
-  tags = paired_tags table (column KEYS os) (column VALS os);
+  tags = tags_in table os;
   scale = scale;
 }
 
@@ -37,7 +42,7 @@ unfoldable pub way_in : How → List (List ℕ) → Scale → List Occurrence �
 way_in how table scale os = record {
   id = number_or (pos 0) low_i64 ID os;
   meta = info_in table (embedded INFO os);
-  tags = paired_tags table (column KEYS os) (column VALS os);
+  tags = tags_in table os;
   refs = values_in how REFS os;
   locations = zip (values_in how WAY_LAT os) (values_in how WAY_LON os);
   scale = scale;
@@ -47,7 +52,7 @@ unfoldable pub relation_in : How → List (List ℕ) → Scale → List Occurren
 relation_in how table scale os = record {
   id = number_or (pos 0) low_i64 ID os;
   meta = info_in table (embedded INFO os);
-  tags = paired_tags table (column KEYS os) (column VALS os);
+  tags = tags_in table os;
   members = column_members table (column TYPES os) (values_in how MEMIDS os) (column ROLES_SID os);
   scale = scale;
 }

@@ -7,10 +7,10 @@ ghost use Rattle.pbf_wire.specs.Faults.{fields_in, embedded};
 ghost use Rattle.pbf_wire.specs.Occurrence.{Occurrence, found};
 ghost use Rattle.pbf_wire.specs.Reading.{last_number};
 ghost use Rattle.pbf_wire.specs.Signed.{unzigzag, low_i64};
-ghost use Rattle.osm_entity.specs.Sources.{paired_tags, tags_left};
+ghost use Rattle.osm_entity.specs.Sources.{tags_left};
 ghost use Rattle.osm_entity.specs.Views.{meta_of};
 ghost use Rattle.pbf_block.specs.Info.{info_in};
-ghost use Rattle.pbf_block.specs.Members.{values_in};
+ghost use Rattle.pbf_block.specs.Members.{tags_in, values_in};
 ghost use Rattle.pbf_block.specs.Payload.{along};
 ghost use Rattle.pbf_block.specs.Passes.{AreFields, only, only_left};
 ghost use Rattle.pbf_block.specs.Scale.{number_or};
@@ -107,7 +107,7 @@ impl<'a> EntityFields<'a> {
     /// The tags.
     pub(crate) fn tags(&self, table: &'a Table<'a>) -> Tags<'a>
         ensures { (os : List Occurrence) → AreFields self.now os
-            → tags_left result ≡ paired_tags table.now (column KEYS os) (column VALS os) }
+            → tags_left result ≡ tags_in table.now os }
     {
         let keys = column(self.keys, KEYS);
         let vals = column(self.vals, VALS);
