@@ -5,7 +5,7 @@ use Rattle.std.specs.Ordering.{int_eq}
 use Rattle.std.specs.Cmp.{both_ways as same_answers}
 use Rattle.std.proofs.lemmas.Bool.{both_ways, or_cases, and_parts, cases_lt}
 use Rattle.std.proofs.lemmas.Bool.Decides.{Decides-int_eq}
-use Rattle.osm_ways.specs.Selection.{MemberSeen, node_member, way_member, relation_member, Seen, a_node, a_way, a_relation, IdTest, is_selecting}
+use Rattle.osm_ways.specs.Selection.{MemberSeen, node_member, way_member, relation_member, Seen, a_node, a_way, a_relation, IdTest, is_selecting, is_kept_relation}
 use Rattle.osm_ways.specs.Parents.{is_selected, selected, IsClosed, IsLeastSelected, levels}
 use Rattle.osm_ways.proofs.Filters.{any_weaker}
 
@@ -24,14 +24,14 @@ module _ (nodes ways : IdTest) where
   selecting_more some more h (way_member id) e = e
   selecting_more some more h (relation_member id) e = h id e
 
-  pub kept_relation_more : (some more : IdTest) → Implies some more → (members : List MemberSeen) → list_any (is_selecting nodes ways some) members ≡ true → list_any (is_selecting nodes ways more) members ≡ true
+  pub kept_relation_more : (some more : IdTest) → Implies some more → (members : List MemberSeen) → is_kept_relation nodes ways some members ≡ true → is_kept_relation nodes ways more members ≡ true
   kept_relation_more some more h members e = any_weaker (is_selecting nodes ways some) (is_selecting nodes ways more) (selecting_more some more h) members e
 
   is_selected_more : (some more : IdTest) → Implies some more → (id : ℤ) (e : Seen) → is_selected nodes ways some id e ≡ true → is_selected nodes ways more id e ≡ true
   is_selected_more some more h id (a_node own inside) e = e
   is_selected_more some more h id (a_way own refs) e = e
   is_selected_more some more h id (a_relation own members) e =
-      let parts = and_parts (list_any (is_selecting nodes ways some) members) (int_eq id own) e in
+      let parts = and_parts (is_kept_relation nodes ways some members) (int_eq id own) e in
       and_true _ _ (kept_relation_more some more h members parts.0) parts.1
 
   pub selected_more : (seen : List Seen) (some more : IdTest) → Implies some more → Implies (selected nodes ways seen some) (selected nodes ways seen more)
@@ -104,12 +104,12 @@ module _ (nodes ways : IdTest) (seen : List Seen) where
   own_id : (some : IdTest) (id : ℤ) (e : Seen) (test : IdTest) → test id ≡ true → is_selected nodes ways some id e ≡ true → has_id test e ≡ true
   own_id some id (a_node own inside) test at e = e
   own_id some id (a_way own refs) test at e = e
-  own_id some id (a_relation own members) test at e = ap test (sym ((Decides-int_eq id own).0 (and_parts (list_any (is_selecting nodes ways some) members) (int_eq id own) e).1)) ∙ at
+  own_id some id (a_relation own members) test at e = ap test (sym ((Decides-int_eq id own).0 (and_parts (is_kept_relation nodes ways some members) (int_eq id own) e).1)) ∙ at
 
   back_to_id : (some : IdTest) (id : ℤ) (e : Seen) (test : IdTest) → is_selected nodes ways some id e ≡ true → has_id test e ≡ true → test id ≡ true
   back_to_id some id (a_node own inside) test e at = absurd (both_ways false refl e)
   back_to_id some id (a_way own refs) test e at = absurd (both_ways false refl e)
-  back_to_id some id (a_relation own members) test e at = ap test ((Decides-int_eq id own).0 (and_parts (list_any (is_selecting nodes ways some) members) (int_eq id own) e).1) ∙ at
+  back_to_id some id (a_relation own members) test e at = ap test ((Decides-int_eq id own).0 (and_parts (is_kept_relation nodes ways some members) (int_eq id own) e).1) ∙ at
 
   -- a level that adds no relation adds no id
   stays : (n : ℕ) → how_many (level (suc n)) seen ≤ how_many (level n) seen → Implies (level (suc n)) (level n)

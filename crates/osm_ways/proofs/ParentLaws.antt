@@ -8,7 +8,7 @@ use Rattle.std.proofs.lemmas.Bool.{both_ways, and_parts, or_cases, or_left, or_r
 use Rattle.std.proofs.lemmas.Bool.Decides.{Decides-int_eq}
 use Rattle.osm_ids.specs.declared.links.Link.{Link}
 use Rattle.osm_ids.specs.Links.{IsLeast}
-use Rattle.osm_ways.specs.Selection.{MemberSeen, node_member, way_member, relation_member, Seen, a_node, a_way, a_relation, IdTest, no_ids, box_ids, node_ids, way_ids, is_selecting, is_kept}
+use Rattle.osm_ways.specs.Selection.{MemberSeen, node_member, way_member, relation_member, Seen, a_node, a_way, a_relation, IdTest, no_ids, box_ids, node_ids, way_ids, is_selecting, is_kept_relation, is_kept}
 use Rattle.osm_ways.specs.Parents.{is_selected, IsClosed, IsLeastSelected, relation_ids, keeps_with_parents, is_relation_member, has_link, links_in, start_in}
 use Rattle.osm_ways.proofs.Filters.{any_of_kept, any_unfiltered, any_weaker, any_found}
 use Rattle.osm_ways.proofs.Extracts.{kept, box_ids-kept, node_ids-kept, way_ids-kept, IsSettled}
@@ -42,7 +42,7 @@ module _ (seen : List Seen) where
   selected_is_kept : (some : IdTest) → Implies some rels → (id : ℤ) (e : Seen) → is_selected nodes ways some id e ≡ true → keep e ≡ true
   selected_is_kept some h id (a_node own inside) e = absurd (both_ways false refl e)
   selected_is_kept some h id (a_way own refs) e = absurd (both_ways false refl e)
-  selected_is_kept some h id (a_relation own members) e = kept_relation_more nodes ways some rels h members (and_parts (list_any (is_selecting nodes ways some) members) (int_eq id own) e).0
+  selected_is_kept some h id (a_relation own members) e = kept_relation_more nodes ways some rels h members (and_parts (is_kept_relation nodes ways some members) (int_eq id own) e).0
 
   -- and so the part's least set is the list's
   part_least : (some : IdTest) → IsLeastSelected nodes ways part some → IsLeastSelected nodes ways seen some
@@ -71,20 +71,20 @@ module _ (seen : List Seen) (start ids : set.FinSet int_cmp) (starts : set.conta
   all_ways = way_ids seen
 
   -- a member selects by itself, or by a link to its relation
-  member_cases : (members : List MemberSeen) (R : Type 0) → list_any (is_selecting all_nodes all_ways (set.contains ids)) members ≡ true → (list_any (is_selecting all_nodes all_ways no_ids) members ≡ true → R) → ((m : ℤ) → list_any (is_relation_member m) members ≡ true → set.contains ids m ≡ true → R) → R
+  member_cases : (members : List MemberSeen) (R : Type 0) → is_kept_relation all_nodes all_ways (set.contains ids) members ≡ true → (is_kept_relation all_nodes all_ways no_ids members ≡ true → R) → ((m : ℤ) → list_any (is_relation_member m) members ≡ true → set.contains ids m ≡ true → R) → R
   member_cases [] R e direct linked = absurd (both_ways false refl e)
   member_cases (node_member id ∷ members) R e direct linked =
-      elim (or_cases (all_nodes id) (list_any (is_selecting all_nodes all_ways (set.contains ids)) members) e) [
+      elim (or_cases (all_nodes id) (is_kept_relation all_nodes all_ways (set.contains ids) members) e) [
         | inl f ↦ direct (or_left (all_nodes id) _ f)
         | inr f ↦ member_cases members R f (λ k. direct (or_right (all_nodes id) _ k)) linked
       ]
   member_cases (way_member id ∷ members) R e direct linked =
-      elim (or_cases (all_ways id) (list_any (is_selecting all_nodes all_ways (set.contains ids)) members) e) [
+      elim (or_cases (all_ways id) (is_kept_relation all_nodes all_ways (set.contains ids) members) e) [
         | inl f ↦ direct (or_left (all_ways id) _ f)
         | inr f ↦ member_cases members R f (λ k. direct (or_right (all_ways id) _ k)) linked
       ]
   member_cases (relation_member id ∷ members) R e direct linked =
-      elim (or_cases (set.contains ids id) (list_any (is_selecting all_nodes all_ways (set.contains ids)) members) e) [
+      elim (or_cases (set.contains ids id) (is_kept_relation all_nodes all_ways (set.contains ids) members) e) [
         | inl f ↦ linked id (or_left (int_eq id id) _ ((Decides-int_eq id id).1 refl)) f
         | inr f ↦ member_cases members R f direct (λ m k. linked m (or_right (int_eq m id) _ k))
       ]
@@ -93,7 +93,7 @@ module _ (seen : List Seen) (start ids : set.FinSet int_cmp) (starts : set.conta
   by_relation id (a_node own inside) is among = absurd (both_ways false refl is)
   by_relation id (a_way own refs) is among = absurd (both_ways false refl is)
   by_relation id (a_relation own members) is among =
-      let parts = and_parts (list_any (is_selecting all_nodes all_ways (set.contains ids)) members) (int_eq id own) is in
+      let parts = and_parts (is_kept_relation all_nodes all_ways (set.contains ids) members) (int_eq id own) is in
       member_cases members (set.contains ids id ≡ true) parts.0
       (λ direct. h.holds id (ap (λ (test : IdTest). test id) starts ∙ among (is_selected all_nodes all_ways no_ids id) (and_true _ _ direct parts.1)))
       (λ m linked has. h.closed (record { member = m; parent = id }) (among (has_link (record { member = m; parent = id })) (and_true _ _ parts.1 linked)) has)

@@ -7,7 +7,7 @@ use Rattle.std.specs.FinSet as set
 use Rattle.osm_ids.specs.declared.links.Link.{Link}
 use Rattle.osm_ids.specs.Links.{link_cmp, IsLeast}
 use Rattle.osm_ids.proofs.LinkOrder.{link_cmp_total}
-use Rattle.osm_ways.specs.Selection.{MemberSeen, node_member, way_member, relation_member, Seen, a_node, a_way, a_relation, no_ids, box_ids, node_ids, way_ids, is_box_node, is_kept_ref, is_kept_id, is_kept, keeps}
+use Rattle.osm_ways.specs.Selection.{MemberSeen, node_member, way_member, relation_member, Seen, a_node, a_way, a_relation, no_ids, box_ids, node_ids, way_ids, is_box_node, is_kept_way, is_kept_ref, is_kept_id, is_kept, keeps}
 use Rattle.osm_ways.specs.Parents.{is_selected, is_relation_member, links_in, start_in, keeps_with_parents}
 use Rattle.osm_ways.specs.Phases.{Ids, LinkSet, WaySets, RelationSets, with_way, with_link, with_relation, is_start, node_step, way_step, relation_step, start_ways, start_relations, node_pass, way_pass, relation_pass, is_chosen, is_chosen_with_parents}
 use Rattle.osm_ways.proofs.ParentLaws.{links_are_parents}
@@ -61,14 +61,14 @@ box_ids-way_pass sets [] = refl
 box_ids-way_pass sets (a_node own inside ∷ seen) = box_ids-way_pass sets seen
 box_ids-way_pass sets (a_way own refs ∷ seen) =
     box_ids-way_pass (with_way sets own refs) seen
-    ∙ elim (list_any (set.contains sets.box_ids) refs) as (λ b. (cond b (with_kept sets own refs) sets).box_ids ≡ sets.box_ids) [ true ↦ refl | false ↦ refl ]
+    ∙ elim (is_kept_way (set.contains sets.box_ids) refs) as (λ b. (cond b (with_kept sets own refs) sets).box_ids ≡ sets.box_ids) [ true ↦ refl | false ↦ refl ]
 box_ids-way_pass sets (a_relation own members ∷ seen) = box_ids-way_pass sets seen
 
 node_ids-way_pass : (sets : WaySets) (seen : List Seen) (id : ℤ) → set.contains (fold way_step sets seen).node_ids id ≡ (set.contains sets.node_ids id || list_any (is_kept_ref (set.contains sets.box_ids) id) seen)
 node_ids-way_pass sets [] id = or_none _
 node_ids-way_pass sets (a_node own inside ∷ seen) id = node_ids-way_pass sets seen id
 node_ids-way_pass sets (a_way own refs ∷ seen) id =
-    elim (list_any (set.contains sets.box_ids) refs) as (λ b. set.contains (fold way_step (cond b (with_kept sets own refs) sets) seen).node_ids id ≡ (set.contains sets.node_ids id || ((b && list_any (int_eq id) refs) || list_any (is_kept_ref (set.contains sets.box_ids) id) seen))) [
+    elim (is_kept_way (set.contains sets.box_ids) refs) as (λ b. set.contains (fold way_step (cond b (with_kept sets own refs) sets) seen).node_ids id ≡ (set.contains sets.node_ids id || ((b && list_any (int_eq id) refs) || list_any (is_kept_ref (set.contains sets.box_ids) id) seen))) [
       | true ↦
           node_ids-way_pass (with_kept sets own refs) seen id
           ∙ ap (λ b. b || list_any (is_kept_ref (set.contains sets.box_ids) id) seen) (contains-insert_all sets.node_ids refs id)
@@ -81,7 +81,7 @@ way_ids-way_pass : (sets : WaySets) (seen : List Seen) (id : ℤ) → set.contai
 way_ids-way_pass sets [] id = or_none _
 way_ids-way_pass sets (a_node own inside ∷ seen) id = way_ids-way_pass sets seen id
 way_ids-way_pass sets (a_way own refs ∷ seen) id =
-    elim (list_any (set.contains sets.box_ids) refs) as (λ b. set.contains (fold way_step (cond b (with_kept sets own refs) sets) seen).way_ids id ≡ (set.contains sets.way_ids id || ((b && int_eq id own) || list_any (is_kept_id (set.contains sets.box_ids) id) seen))) [
+    elim (is_kept_way (set.contains sets.box_ids) refs) as (λ b. set.contains (fold way_step (cond b (with_kept sets own refs) sets) seen).way_ids id ≡ (set.contains sets.way_ids id || ((b && int_eq id own) || list_any (is_kept_id (set.contains sets.box_ids) id) seen))) [
       | true ↦
           way_ids-way_pass (with_kept sets own refs) seen id
           ∙ ap (λ b. b || list_any (is_kept_id (set.contains sets.box_ids) id) seen) (contains-insert sets.way_ids own id)

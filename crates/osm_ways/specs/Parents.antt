@@ -3,11 +3,11 @@ use Rattle.std.specs.Prelude.{◌≡◌, ℕ, zero, suc, ℤ, Bool, true, false,
 use Rattle.std.specs.List.{list_any, filter}
 use Rattle.std.specs.Ordering.{int_eq}
 use Rattle.osm_ids.specs.declared.links.Link.{Link}
-use Rattle.osm_ways.specs.Selection.{MemberSeen, relation_member, Seen, a_relation, IdTest, no_ids, box_ids, node_ids, way_ids, is_selecting, is_kept}
+use Rattle.osm_ways.specs.Selection.{MemberSeen, relation_member, Seen, a_relation, IdTest, no_ids, box_ids, node_ids, way_ids, is_kept_relation, is_kept}
 
 -- a relation of this id that has a selecting member
 abbrev pub is_selected : IdTest → IdTest → IdTest → ℤ → Seen → Bool
-is_selected nodes ways relations id (a_relation own members) = list_any (is_selecting nodes ways relations) members && int_eq id own
+is_selected nodes ways relations id (a_relation own members) = is_kept_relation nodes ways relations members && int_eq id own
 is_selected _ _ _ _ _ = false
 
 -- the ids of the relations that have a selecting member

@@ -1,12 +1,12 @@
 -- The passes over a list, each entity by itself, and the sets that they gather.
 use Rattle.std.specs.Prelude.{ℤ, Bool, if◌then◌else◌, List, refl}
 use Rattle.std.specs.Coded.{Coded, code_by, coded×, coded_ℤ}
-use Rattle.std.specs.List.{fold, list_any}
+use Rattle.std.specs.List.{fold}
 use Rattle.std.specs.Ordering.{int_cmp}
 use Rattle.std.specs.FinSet as set
 use Rattle.osm_box.specs.declared.bounding_box.BoundingBox.{BoundingBox}
 use Rattle.osm_ids.specs.Links.{link_cmp, link_code}
-use Rattle.osm_ways.specs.Selection.{MemberSeen, relation_member, Seen, a_node, a_way, a_relation, no_ids, is_selecting, is_kept}
+use Rattle.osm_ways.specs.Selection.{MemberSeen, relation_member, Seen, a_node, a_way, a_relation, no_ids, is_kept_way, is_kept_relation, is_kept}
 
 abbrev pub Ids : Type 0
 Ids = set.FinSet int_cmp
@@ -63,7 +63,7 @@ with_node ids id inside = if inside then set.insert ids id else ids
 
 abbrev pub with_way : WaySets → ℤ → List ℤ → WaySets
 with_way sets id refs =
-    if list_any (set.contains sets.box_ids) refs then record sets { node_ids = fold set.insert sets.node_ids refs; way_ids = set.insert sets.way_ids id } else sets
+    if is_kept_way (set.contains sets.box_ids) refs then record sets { node_ids = fold set.insert sets.node_ids refs; way_ids = set.insert sets.way_ids id } else sets
 
 -- the link of a member to its relation
 abbrev pub with_link : ℤ → LinkSet → MemberSeen → LinkSet
@@ -72,7 +72,7 @@ with_link _ links _ = links
 
 -- whether a node or a way selects a relation
 abbrev pub is_start : WaySets → List MemberSeen → Bool
-is_start sets members = list_any (is_selecting (set.contains sets.node_ids) (set.contains sets.way_ids) no_ids) members
+is_start sets members = is_kept_relation (set.contains sets.node_ids) (set.contains sets.way_ids) no_ids members
 
 abbrev pub with_relation : RelationSets → ℤ → List MemberSeen → RelationSets
 with_relation sets id members =

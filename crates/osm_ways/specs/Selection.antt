@@ -31,11 +31,15 @@ is_box_node _ _ = false
 abbrev pub box_ids : List Seen → IdTest
 box_ids seen id = list_any (is_box_node id) seen
 
--- ---- kept ways: those with a ref among the box's nodes
+-- ---- kept ways
+
+-- a kept way has a ref among the box's nodes
+abbrev pub is_kept_way : IdTest → List ℤ → Bool
+is_kept_way in_box refs = list_any in_box refs
 
 -- a kept way that refers to this id
 abbrev pub is_kept_ref : IdTest → ℤ → Seen → Bool
-is_kept_ref in_box id (a_way own refs) = list_any in_box refs && list_any (int_eq id) refs
+is_kept_ref in_box id (a_way own refs) = is_kept_way in_box refs && list_any (int_eq id) refs
 is_kept_ref _ _ _ = false
 
 -- the box's nodes and all refs of kept ways, also to nodes that the list doesn't have
@@ -44,14 +48,14 @@ node_ids seen id = box_ids seen id || list_any (is_kept_ref (box_ids seen) id) s
 
 -- a kept way of this id
 abbrev pub is_kept_id : IdTest → ℤ → Seen → Bool
-is_kept_id in_box id (a_way own refs) = list_any in_box refs && int_eq id own
+is_kept_id in_box id (a_way own refs) = is_kept_way in_box refs && int_eq id own
 is_kept_id _ _ _ = false
 
 -- the ids of kept ways
 abbrev pub way_ids : List Seen → IdTest
 way_ids seen id = list_any (is_kept_id (box_ids seen) id) seen
 
--- ---- kept relations: those with a member that selects them
+-- ---- kept relations
 
 -- whether a member selects its relation
 abbrev pub is_selecting : IdTest → IdTest → IdTest → MemberSeen → Bool
@@ -59,13 +63,16 @@ is_selecting nodes ways relations (node_member id) = nodes id
 is_selecting nodes ways relations (way_member id) = ways id
 is_selecting nodes ways relations (relation_member id) = relations id
 
+abbrev pub is_kept_relation : IdTest → IdTest → IdTest → List MemberSeen → Bool
+is_kept_relation nodes ways relations members = list_any (is_selecting nodes ways relations) members
+
 -- ---- the extract
 
 -- what the sets keep: of two ways or relations of one id each is judged by itself
 abbrev pub is_kept : IdTest → IdTest → IdTest → IdTest → Seen → Bool
 is_kept in_box nodes ways relations (a_node id inside) = nodes id
-is_kept in_box nodes ways relations (a_way id refs) = list_any in_box refs
-is_kept in_box nodes ways relations (a_relation id members) = list_any (is_selecting nodes ways relations) members
+is_kept in_box nodes ways relations (a_way id refs) = is_kept_way in_box refs
+is_kept in_box nodes ways relations (a_relation id members) = is_kept_relation nodes ways relations members
 
 -- a member that is a relation selects nothing
 abbrev pub keeps : List Seen → Seen → Bool

@@ -1,11 +1,11 @@
 //! The phases of a selection, each of its own type: first all nodes are taken, then all ways, then the entities are chosen.
 
 ghost use Rattle.std.specs.Prelude.{◌≡◌, IfOk, OnOk, OnErr};
-ghost use Rattle.std.specs.List.{fold, list_any};
+ghost use Rattle.std.specs.List.{fold};
 ghost use Rattle.std.specs.FinSet as set;
 ghost use Rattle.osm_entity.specs.Views.{node_of, way_of};
 ghost use Rattle.osm_box.specs.BoundingBox.{is_inside};
-ghost use Rattle.osm_ways.specs.Selection.{a_node};
+ghost use Rattle.osm_ways.specs.Selection.{is_kept_way, a_node};
 ghost use Rattle.osm_ways.specs.Seen.{seen_node, seen_way};
 ghost use Rattle.osm_ways.specs.Phases.{start_nodes, start_ways, node_step, way_step};
 
@@ -179,7 +179,7 @@ pub(crate) fn sealed(ids: IdSet) -> Result<SealedIds, AllocError>
 
 /// Whether one of the way's refs is among the ids.
 pub(crate) fn is_kept_by(ids: &mut Lookup<'_>, way: &WayRef<'_>) -> bool
-    ensures kept { result ≡ list_any (set.contains ids.old) (way_of way.now).refs }
+    ensures kept { result ≡ is_kept_way (set.contains ids.old) (way_of way.now).refs }
     ensures same { ids.new ≡ ids.old }
 {
     for id in way.refs() {
