@@ -2,12 +2,16 @@
 use Rattle.std.specs.Prelude.{ℤ, pos, ◌+ℤ◌, ◌*ℤ◌, ◌≤ℤ◌}
 use Rattle.osm_entity.specs.declared.scale.Scale.{Scale}
 
--- nanodegrees: an offset and a number of units
+-- an offset and a number of units
+abbrev pub nano : ℤ → ℤ → ℤ → ℤ
+nano offset granularity stored = offset +ℤ (granularity *ℤ stored)
+
+-- nanodegrees
 abbrev pub nano_lat : Scale → ℤ → ℤ
-nano_lat scale lat = scale.lat_offset +ℤ (scale.granularity *ℤ lat)
+nano_lat scale lat = nano scale.lat_offset scale.granularity lat
 
 abbrev pub nano_lon : Scale → ℤ → ℤ
-nano_lon scale lon = scale.lon_offset +ℤ (scale.granularity *ℤ lon)
+nano_lon scale lon = nano scale.lon_offset scale.granularity lon
 
 -- milliseconds
 abbrev pub millis : Scale → ℤ → ℤ

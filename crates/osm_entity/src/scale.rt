@@ -1,7 +1,7 @@
 //! What stored numbers are multiplied with, and counted from.
 
-ghost use Rattle.std.specs.Prelude.{◌≡◌, ◌↔◌, ◌≤◌, ◌^◌, ◌+ℤ◌, ◌*ℤ◌, IsTrue, nat_abs};
-ghost use Rattle.osm_entity.specs.Scale.{nano_lat, nano_lon, millis, ScaleFits};
+ghost use Rattle.std.specs.Prelude.{◌≡◌, ◌↔◌, ◌≤◌, ◌^◌, ◌*ℤ◌, IsTrue, nat_abs};
+ghost use Rattle.osm_entity.specs.Scale.{nano, nano_lat, nano_lon, millis, ScaleFits};
 
 /// How the stored numbers of a block are meant. Coordinates are stored in units of `granularity` nanodegrees, counted from an
 /// offset in nanodegrees, and times in units of `date_granularity` milliseconds.
@@ -24,7 +24,7 @@ fn scaled(granularity: i32, stored: i64) -> i128
 
 /// An offset and a number of units.
 fn nano(offset: i64, granularity: i32, stored: i64) -> i128
-    ensures { result ≡ offset +ℤ (granularity *ℤ stored) }
+    ensures { result ≡ nano offset granularity stored }
 {
     i128::from(offset) + scaled(granularity, stored)
 }
