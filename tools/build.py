@@ -21,6 +21,15 @@ import time
 TOP = os.path.dirname(os.path.dirname(os.path.abspath(__file__)))
 NOT_THIS_KIT = 2
 
+# About how many seconds of a processor the proof of each crate takes (docs/GATE.md). What begins when, and with how many jobs, is
+# decided by them, and nothing else.
+SECONDS = {
+    "pbf_wire": 239, "pbf_frame": 207, "pbf_strings": 116, "osm_box": 10, "osm_entity": 236, "pbf_header": 73, "pbf_dense": 148,
+    "pbf_block": 356, "osm_ids": 116, "osm_ways": 61, "osm_pack": 138, "osm_text": 136, "pbf_pass": 142, "pbfcut": 377,
+    "pbfcut_cli": 327, "pbfcut_run": 181,
+}
+LONG = 200
+
 # what a processor must have, in the words of /proc/cpuinfo, to run code for x86-64-v3
 VERSION_3 = {"avx", "avx2", "bmi1", "bmi2", "f16c", "fma", "abm", "movbe"}
 
@@ -73,10 +82,13 @@ def files_of(name):
             yield from (os.path.join(folder, file) for file in sorted(files))
 
 
+def seconds(name):
+    return SECONDS.get(name, LONG)
+
+
 def way_up(crates, name):
-    """How many bytes have to be proved, one crate after another, from this one up to the program: about how long that takes."""
-    own = sum(os.path.getsize(file) for file in files_of(name))
-    return own + max((way_up(crates, other) for other in crates if name in crates[other]), default=0)
+    """How many seconds of proofs there are, one crate after another, from this one up to the program."""
+    return seconds(name) + max((way_up(crates, other) for other in crates if name in crates[other]), default=0)
 
 
 def source_sum(crates, name):
@@ -154,7 +166,7 @@ class Build:
 
     def start_ready(self):
         """Starts what can be: of the crates that wait, the one with the longest way up first. What is begun beside a longer way gets half
-        of the processors, or one that the others leave, where its way is much shorter."""
+        of the processors; where its way is much shorter, it gets what the others leave, with a second job if it takes long itself."""
         done = self.proved
         ready = [name for name in self.crates if name not in done and name not in self.running]
         ready = [name for name in ready if all(other in done for other in self.crates[name] if other in self.crates)]
@@ -165,7 +177,8 @@ class Build:
             longest = max((self.ways[other] for other in self.running), default=0)
             if len(self.running) < self.lanes:
                 beside = self.ways[name] < 0.8 * longest
-                jobs = self.lanes if self.ways[name] > longest else 1 if beside else max(1, self.lanes // 2)
+                half = max(1, self.lanes // 2)
+                jobs = self.lanes if self.ways[name] > longest else half if not beside else min(2, half) if seconds(name) >= LONG else 1
                 self.start(name, 1 if name in self.again else jobs, beside)
 
     def end(self, name):

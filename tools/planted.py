@@ -50,6 +50,10 @@ class Change:
     function: str  # the function that holds the piece, or nothing
     homes: tuple  # patterns of the folders that the proofs of the file's functions lie in
 
+    def is_in(self, path):
+        """Whether it may stand in a function of this folder."""
+        return any(re.fullmatch(home, path) for home in self.homes)
+
 
 @dataclass
 class Bug:
@@ -175,6 +179,7 @@ class Verdict:
     """What a check said."""
 
     is_proved: bool
+    functions: set  # what was checked: module and function
     refused: dict  # by module and function: the first goal that was left open
     elsewhere: str  # the first refusal of whatever kind, but of names
     unread: str  # the first line on a text that cannot be read
@@ -183,7 +188,7 @@ class Verdict:
         """The goal that was left open in a function that the bug changes, if one was."""
         for change in bug.changes:
             for (path, name), goal in self.refused.items():
-                if name == change.function and any(re.fullmatch(home, path) for home in change.homes):
+                if name == change.function and change.is_in(path):
                     return f"{name}: {goal}"
         return None
 
@@ -195,6 +200,7 @@ def goal_in(line):
 
 def read_verdict(status, said, texts):
     """Reads the lines of a check."""
+    functions = {(path.replace("::", "/"), name) for path, name in re.findall(r"^fn \w+::(?:(\S+)::)?(\w+): ", said, re.M)}
     refused, elsewhere, unread = {}, "", ""
 
     def refuse(path, name, line):
@@ -224,7 +230,7 @@ def read_verdict(status, said, texts):
     last = said.rstrip("\n").rpartition("\n")[2]
     if status not in (0, 1) or (status == 1 and not unread and not last.startswith(("logic=not-proved", "only="))):
         raise Unusable("the check gave no verdict:\n" + "\n".join(said.split("\n")[-6:]))
-    return Verdict(status == 0, refused, elsewhere, unread)
+    return Verdict(status == 0, functions, refused, elsewhere, unread)
 
 
 def function_below(text, line):
@@ -241,6 +247,7 @@ class Crate:
     def __init__(self, kit, crates, name, libraries, left):
         self.kit, self.crates, self.name, self.libraries, self.left = kit, crates, name, libraries, left
         self.folder = os.path.join(TOP, "crates", name)
+        self.functions = set()  # those that the checks named
         self.checks = 0
 
     def library(self, name):
@@ -262,12 +269,18 @@ class Crate:
         # the last crates share the processors that no other crate needs
         return words + ["--jobs", str(max(1, len(os.sched_getaffinity(0)) // len(self.left)))]
 
+    def paths_of(self, change):
+        """What the prover is asked to check for a change: the functions that it may stand in, by the names that a check before told, or
+        else the module."""
+        named = [(path, name) for path, name in self.functions if name == change.function and change.is_in(path)]
+        return {f"{path}/{name}".lstrip("/").replace("/", "::") for path, name in named} or {module_of(change.file).replace("/", "::")}
+
     def check(self, bugs, kept):
         """Checks a copy of the crate that has these bugs, over what the checks before it proved. Where they stand in functions, only
-        the modules of those are checked, and what they call."""
+        those are checked, or their modules, and what they call."""
         texts = edited(self.folder, bugs)
-        modules = sorted({module_of(change.file).replace("/", "::") for bug in bugs for change in bug.changes if bug.is_placed()})
-        only = [word for module in modules for word in ("--only", module)] if all(modules) else []
+        paths = sorted({path for bug in bugs for change in bug.changes if bug.is_placed() for path in self.paths_of(change)})
+        only = [word for path in paths for word in ("--only", path)] if all(paths) else []
         with tempfile.TemporaryDirectory(prefix="planted-") as room:
             for part in PARTS:
                 if os.path.isdir(os.path.join(self.folder, part)):
@@ -280,7 +293,9 @@ class Crate:
             if ran.returncode == -signal.SIGKILL:  # most often memory ran out: once more
                 ran = subprocess.run(self.words() + only + ["--incremental", kept], **how)
         self.checks += 1
-        return read_verdict(ran.returncode, ran.stdout, texts)
+        verdict = read_verdict(ran.returncode, ran.stdout, texts)
+        self.functions |= verdict.functions
+        return verdict
 
     def try_alone(self, bug, kept):
         """Tries one bug by itself. Answers whether it is refused, and where."""

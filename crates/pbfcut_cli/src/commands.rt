@@ -1,7 +1,7 @@
 //! The commands and their arguments, as `clap` takes them.
 
 ghost use Rattle.std.specs.Prelude.{◌≡◌, IfOk, false};
-ghost use Rattle.clap.specs.Words.{app_of, rule_of};
+ghost use Rattle.clap.specs.Words.{app_of, new_app, rule_of};
 ghost use Rattle.clap.specs.declared.builder.command.Command.TheViews.{out-Command as fields_of};
 ghost use Rattle.pbfcut_cli.specs.Words.{
   bare_app,
@@ -95,23 +95,28 @@ fn area<'a>(alloc: Global) -> Arg<'a>
         .help(help::BOX)
 }
 
+/// A command of this name, with no argument yet.
+fn named<'a>(alloc: Global, name: &'a str, about: &'a str, after_help: &'a str) -> Command<'a>
+    ensures app { app_of result ≡ new_app name.now }
+    ensures local { (fields_of result).has_globals ≡ false }
+{
+    Command::new(alloc, name)
+        .about(about)
+        .after_help(after_help)
+}
+
 fn blobs<'a>(alloc: Global) -> Result<Command<'a>, AllocError>
     ensures app { IfOk result (λ c. app_of c ≡ blobs_app) }
     ensures local { IfOk result (λ c. (fields_of c).has_globals ≡ false) }
 {
-    Command::new(alloc, "blobs")
-        .about(help::BLOBS)
-        .after_help(help::AFTER_BLOBS)
-        .arg(input(alloc))
+    named(alloc, "blobs", help::BLOBS, help::AFTER_BLOBS).arg(input(alloc))
 }
 
 fn show<'a>(alloc: Global) -> Result<Command<'a>, AllocError>
     ensures app { IfOk result (λ c. app_of c ≡ show_app) }
     ensures local { IfOk result (λ c. (fields_of c).has_globals ≡ false) }
 {
-    Command::new(alloc, "show")
-        .about(help::SHOW)
-        .after_help(help::AFTER_SHOW)
+    named(alloc, "show", help::SHOW, help::AFTER_SHOW)
         .arg(dates(alloc))?
         .arg(progress(alloc))?
         .arg(input(alloc))
@@ -121,9 +126,7 @@ fn check<'a>(alloc: Global) -> Result<Command<'a>, AllocError>
     ensures app { IfOk result (λ c. app_of c ≡ check_app) }
     ensures local { IfOk result (λ c. (fields_of c).has_globals ≡ false) }
 {
-    Command::new(alloc, "check")
-        .about(help::CHECK)
-        .after_help(help::AFTER_CHECK)
+    named(alloc, "check", help::CHECK, help::AFTER_CHECK)
         .arg(progress(alloc))?
         .arg(digests(alloc))?
         .arg(input(alloc))
@@ -134,9 +137,7 @@ fn conversion<'a>(alloc: Global) -> Result<Command<'a>, AllocError>
     ensures app { IfOk result (λ c. app_of c ≡ conversion_app) }
     ensures local { IfOk result (λ c. (fields_of c).has_globals ≡ false) }
 {
-    Command::new(alloc, "convert")
-        .about(help::CONVERT)
-        .after_help(help::AFTER_CONVERT)
+    named(alloc, "convert", help::CONVERT, help::AFTER_CONVERT)
         .arg(progress(alloc))?
         .arg(digests(alloc))
 }
@@ -153,9 +154,7 @@ fn options<'a>(alloc: Global) -> Result<Command<'a>, AllocError>
     ensures app { IfOk result (λ c. app_of c ≡ options_app) }
     ensures local { IfOk result (λ c. (fields_of c).has_globals ≡ false) }
 {
-    Command::new(alloc, "extract")
-        .about(help::EXTRACT)
-        .after_help(help::AFTER_EXTRACT)
+    named(alloc, "extract", help::EXTRACT, help::AFTER_EXTRACT)
         .override_usage(help::USAGE_OF_EXTRACT)
         .arg(parents(alloc))?
         .arg(progress(alloc))?

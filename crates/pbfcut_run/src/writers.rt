@@ -48,6 +48,11 @@ fn counted(outcome: Result<Counts, Stop>) -> Result<Report, Halt> {
     Ok(Report::Counted(outcome?))
 }
 
+/// What a call with a receipt reports.
+fn receipted(outcome: Result<Receipt, Halt>) -> Result<Report, Halt> {
+    Ok(Report::Receipted(outcome?))
+}
+
 /// Writes to OUT what is left in its buffer, also after a stop, and prints after none what the call reports.
 fn end(
     rt: &HostRuntime,
@@ -89,9 +94,7 @@ pub(crate) fn run_convert(rt: &HostRuntime, files: Files<'_>) -> Result<(), Endi
     let mut file = create_output(rt, files.output)?;
     let drain = &mut ToWrite::new(&mut file);
     let outcome = if files.digests {
-        convert_with_receipt(alloc, &mut first, &mut second, drain, hasher).map(
-            |receipt| Report::Receipted(receipt),
-        )
+        receipted(convert_with_receipt(alloc, &mut first, &mut second, drain, hasher))
     } else {
         counted(convert(alloc, &mut first, &mut second, drain, hasher))
     };
@@ -113,9 +116,7 @@ pub(crate) fn run_extract(
     let mut file = create_output(rt, files.output)?;
     let drain = &mut ToWrite::new(&mut file);
     let outcome = if files.digests {
-        extract_with_receipt(alloc, one, two, three, area, drain, hasher).map(
-            |receipt| Report::Receipted(receipt),
-        )
+        receipted(extract_with_receipt(alloc, one, two, three, area, drain, hasher))
     } else {
         counted(extract(alloc, one, two, three, area, drain, hasher))
     };
@@ -138,9 +139,7 @@ pub(crate) fn run_extract_parents(
     let mut file = create_output(rt, files.output)?;
     let drain = &mut ToWrite::new(&mut file);
     let outcome = if files.digests {
-        extract_parents_with_receipt(alloc, one, two, three, four, area, drain, hasher).map(
-            |receipt| Report::Receipted(receipt),
-        )
+        receipted(extract_parents_with_receipt(alloc, one, two, three, four, area, drain, hasher))
     } else {
         counted(extract_parents(alloc, one, two, three, four, area, drain, hasher))
     };
