@@ -5,6 +5,6 @@ use Rattle.pbf_wire.specs.Faults.{entered, fields_in}
 use Rattle.pbf_wire.specs.Occurrence.{Occurrence}
 use Rattle.pbf_block.specs.declared.message.TheConstants.{PRIMITIVEGROUP}
 
--- what each field of a group gives, of a field of the payload that is a group
+-- where a field of the payload is a group, what f gives for each field of that group; else nothing
 abbrev pub in_group : {X : Type 0} → (Occurrence → List X) → Occurrence → List X
 in_group f o = entered PRIMITIVEGROUP (λ place at m. flat_map f (fields_in at m)) o
