@@ -17,9 +17,6 @@ box_of_edges left bottom right top =
     else (if int_lt top bottom then Err BottomOverTop
     else Ok (record { left = left; bottom = bottom; right = right; top = top }))))
 
-abbrev pub is_between : ℤ → ℤ → ℤ → Bool
-is_between least number most = int_le least number && int_le number most
-
 -- a place in nanodegrees is in the box, edges included
 abbrev pub is_inside : BoundingBox → ℤ → ℤ → Bool
-is_inside area lat lon = is_between area.bottom lat area.top && is_between area.left lon area.right
+is_inside area lat lon = (int_le area.bottom lat && int_le lat area.top) && (int_le area.left lon && int_le lon area.right)

@@ -1,7 +1,7 @@
 //! The box of an extract.
 
-ghost use Rattle.std.specs.Prelude.{◌≡◌, ◌↔◌, ◌≤ℤ◌, pos, IsTrue};
-ghost use Rattle.osm_box.specs.BoundingBox.{box_of_edges, is_up_to, is_between, is_inside};
+ghost use Rattle.std.specs.Prelude.{◌≡◌, ◌↔◌, ◌≤ℤ◌, ◌&&◌, pos, int_le, IsTrue};
+ghost use Rattle.osm_box.specs.BoundingBox.{box_of_edges, is_up_to, is_inside};
 ghost use Rattle.osm_box.specs.Degrees.{box_of_text};
 
 use crate::degrees::{Parts, degrees};
@@ -105,13 +105,13 @@ impl BoundingBox {
     }
 
     fn spans_lat(&self, lat: i128) -> bool
-        ensures { result ≡ is_between self.now.bottom lat self.now.top }
+        ensures { result ≡ (int_le self.now.bottom lat && int_le lat self.now.top) }
     {
         i128::from(self.bottom) <= lat && lat <= i128::from(self.top)
     }
 
     fn spans_lon(&self, lon: i128) -> bool
-        ensures { result ≡ is_between self.now.left lon self.now.right }
+        ensures { result ≡ (int_le self.now.left lon && int_le lon self.now.right) }
     {
         i128::from(self.left) <= lon && lon <= i128::from(self.right)
     }

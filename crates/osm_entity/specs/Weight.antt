@@ -15,16 +15,16 @@ abbrev pub text_weight : Option (List ℕ) → ℕ
 text_weight None = 0
 text_weight (Some text) = length text
 
+abbrev pub entity_weight : EntitySpec → ℕ
+entity_weight (node n) = 160 + text_weight n.meta.user + tags_weight n.tags
+entity_weight (way w) = 160 + text_weight w.meta.user + tags_weight w.tags + 32 * length w.refs + 32 * length w.locations
+entity_weight (relation r) = 160 + text_weight r.meta.user + tags_weight r.tags + members_weight r.members
+
 abbrev pub node_weight : NodeSpec → ℕ
-node_weight n = 160 + text_weight n.meta.user + tags_weight n.tags
+node_weight n = entity_weight (node n)
 
 abbrev pub way_weight : WaySpec → ℕ
-way_weight w = 160 + text_weight w.meta.user + tags_weight w.tags + 32 * length w.refs + 32 * length w.locations
+way_weight w = entity_weight (way w)
 
 abbrev pub relation_weight : RelationSpec → ℕ
-relation_weight r = 160 + text_weight r.meta.user + tags_weight r.tags + members_weight r.members
-
-abbrev pub entity_weight : EntitySpec → ℕ
-entity_weight (node n) = node_weight n
-entity_weight (way w) = way_weight w
-entity_weight (relation r) = relation_weight r
+relation_weight r = entity_weight (relation r)

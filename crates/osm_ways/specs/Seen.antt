@@ -5,7 +5,7 @@ use Rattle.osm_entity.specs.declared.member.MemberKind.{MemberKind}
 use Rattle.osm_entity.specs.declared.member.MemberKind.TheVariants as kind
 use Rattle.osm_box.specs.BoundingBox.{is_inside}
 use Rattle.osm_entity.specs.Scale.{nano_lat, nano_lon}
-use Rattle.osm_entity.specs.Entity.{NodeSpec, MemberSpec, WaySpec, RelationSpec, EntitySpec, node, way, relation, Decoded, node_at, way_through, relation_among}
+use Rattle.osm_entity.specs.Entity.{NodeSpec, MemberSpec, WaySpec, RelationSpec, EntitySpec, Decoded, node_at, way_through, relation_among, decoded}
 use Rattle.osm_ways.specs.Selection.{MemberSeen, node_member, way_member, relation_member, Seen, a_node, a_way, a_relation}
 
 abbrev pub seen_node : BoundingBox → NodeSpec → Seen
@@ -25,13 +25,12 @@ seen_member member = member_of_kind member.kind member.id
 abbrev pub seen_relation : RelationSpec → Seen
 seen_relation r = a_relation r.id (map seen_member r.members)
 
-abbrev pub seen_entity : BoundingBox → EntitySpec → Seen
-seen_entity area (node n) = seen_node area n
-seen_entity area (way w) = seen_way w
-seen_entity area (relation r) = seen_relation r
-
--- the same of decoded entities
+-- what is seen of an entity; its scale is worked in, since a box speaks of degrees
 abbrev pub seen_decoded : BoundingBox → Decoded → Seen
 seen_decoded area (node_at id lat lon meta tags) = a_node id (is_inside area lat lon)
 seen_decoded area (way_through id meta tags refs locations) = a_way id refs
 seen_decoded area (relation_among id meta tags members) = a_relation id (map seen_member members)
+
+-- of a stored entity the same as of what it means
+abbrev pub seen_entity : BoundingBox → EntitySpec → Seen
+seen_entity area e = seen_decoded area (decoded e)

@@ -2,9 +2,11 @@
 use Rattle.std.proofs.Common.{◌≡◌, ◌≤◌, ◌^◌, ap₂, ◌∙◌, List, ℕ, length, arith}
 use Rattle.std.specs.Prelude.{None}
 use Rattle.osm_entity.specs.declared.scale.Scale.{Scale}
+use Rattle.std.specs.List.{flat_map}
 use Rattle.pbf_wire.specs.Faults.{fields_in}
-use Rattle.pbf_block.specs.Judgement.{block_fault, payload_values}
-use Rattle.pbf_block.specs.Members.{entities_by}
+use Rattle.pbf_block.specs.Groups.{in_group}
+use Rattle.pbf_block.specs.Judgement.{block_fault}
+use Rattle.pbf_block.specs.Members.{member_entities}
 use Rattle.pbf_block.specs.Payload.{along, entities}
 use Rattle.pbf_block.specs.Scale.{table_of, scale_of}
 use Rattle.pbf_block.proofs.ByIndexLemmas.{entities_same}
@@ -13,11 +15,11 @@ use Rattle.pbf_block.proofs.ReadsLemmas.{payload_reads}
 use Rattle.pbf_block.proofs.TableLemmas.{table_few}
 
 pub along_same : (at : ℕ) (m : List ℕ) → block_fault at m ≡ None → (table : List (List ℕ)) (scale : Scale) → table ≡ table_of (fields_in at m) → scale ≡ scale_of (fields_in at m)
-    → entities_by along table scale (fields_in at m) ≡ entities at m
-unfolding entities payload_values
+    → flat_map (in_group (member_entities along table scale)) (fields_in at m) ≡ entities at m
+unfolding entities
 along_same at m sound table scale texts scaled =
     let none = no_fault at m sound in
     let os = fields_in at m in
     let few : length (table_of os) ≤ 2 ^ 62 = omega (arith, table_few at m none.1) in
-    ap₂ (λ (t : List (List ℕ)) (s : Scale). entities_by along t s os) texts scaled
+    ap₂ (λ (t : List (List ℕ)) (s : Scale). flat_map (in_group (member_entities along t s)) os) texts scaled
     ∙ entities_same (table_of os) (scale_of os) os (payload_reads (table_of os) (scale_of os) few at m none.0 none.1 none.2)

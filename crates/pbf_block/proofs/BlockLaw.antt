@@ -2,7 +2,7 @@
 use Rattle.std.proofs.Common.{◌≡◌, ℕ, ◌^◌, ◌<◌, ◌≤◌, ◌==◌, ℤ, pos, Bool, true, false, List, [], ◌∷◌, ◌++◌, length, take, drop, Option, Some, None, refl, sym, ap, ap₂, subst, ◌∙◌, arith}
 use Rattle.std.specs.Prelude.{◌≤ℤ◌, int_lt, nat_lt, if◌then◌else◌}
 use Rattle.std.specs.List.{flat_map, AllByRecursion}
-use Rattle.std.specs.Option.{option_to_list}
+use Rattle.std.specs.Option.{option_map_or, option_to_list}
 use Rattle.std.specs.Ordering.{int_eq}
 use Rattle.std.proofs.lemmas.Int.{ints}
 use Rattle.std.proofs.lemmas.Bool.{le-ltb}
@@ -12,14 +12,14 @@ use Rattle.pbf_wire.specs.declared.fault.Fault.{Fault}
 use Rattle.pbf_wire.specs.declared.fault.Reason.{Reason}
 use Rattle.pbf_wire.specs.declared.fault.Reason.TheVariants.{Granularity, DateGranularity}
 use Rattle.pbf_wire.specs.Occurrence.{Bytes, Occurrence, Number}
-use Rattle.pbf_wire.specs.Reading.{last_number}
+use Rattle.pbf_wire.specs.Reading.{occurrence_text}
 use Rattle.pbf_wire.specs.Signed.{low_i32, low_i64, sign_extended}
 use Rattle.pbf_wire.specs.Faults.{fault_where, fields_in, leaf_faults, missing, twice, in_last, entered, inside}
 use Rattle.pbf_wire.specs.Message.{Slot, Scalar, Each, message, SlotFits, SlotIs, scalars_at}
 use Rattle.pbf_wire.proofs.MessageLemmas.{last_written, embedded_below}
 use Rattle.pbf_wire.proofs.SumLemmas.{signs_fit, signs_read, low_signs_read}
 use Rattle.pbf_wire.proofs.QuietLemmas.{field_at, SlotQuiet, SlotGives, scalar_quiet, quiet_gives, fields_quiet, fields_give, no_fault_within, leaf_quiet, present_written, once_written, last_held, in_last_written}
-use Rattle.pbf_strings.specs.Texts.{texts, table_kinds, count_fault}
+use Rattle.pbf_strings.specs.Texts.{texts, table_kinds}
 use Rattle.pbf_strings.specs.TableOut.{table_message}
 use Rattle.pbf_strings.specs.TableOut.{table_of as written_table}
 use Rattle.pbf_strings.proofs.WrittenTable.{written_texts}
@@ -27,15 +27,16 @@ use Rattle.osm_entity.specs.declared.scale.Scale.{Scale}
 use Rattle.osm_entity.specs.Scale.{ScaleFits}
 use Rattle.osm_entity.specs.Ranges.{IsInt32, ScaleTyped}
 use Rattle.osm_entity.specs.Entity.{EntitySpec}
+use Rattle.pbf_block.specs.Groups.{in_group}
 use Rattle.pbf_block.specs.declared.message.TheConstants.{STRINGTABLE, PRIMITIVEGROUP, BLOCK_KINDS, GRANULARITY, DATE_GRANULARITY, LAT_OFFSET, LON_OFFSET}
-use Rattle.pbf_block.specs.Scale.{read_or, scale_of, held_by, table_of}
+use Rattle.pbf_block.specs.Scale.{number_or, scale_of, table_of}
 use Rattle.pbf_block.specs.WireFaults.{group_wire, part_wire, wire_faults}
-use Rattle.pbf_block.specs.StructureFaults.{table_structure, of_option, group_structure, part_structure, structure_faults}
-use Rattle.pbf_block.specs.ValueFaults.{positive, group_values, value_faults}
-use Rattle.pbf_block.specs.Weights.{group_weights, weight_faults, member_weights}
-use Rattle.pbf_block.specs.Members.{group_entities, entities_by, member_entities}
+use Rattle.pbf_block.specs.StructureFaults.{table_structure, group_structure, part_structure, structure_faults}
+use Rattle.pbf_block.specs.ValueFaults.{positive, value_faults, member_values}
+use Rattle.pbf_block.specs.Weights.{member_weights}
+use Rattle.pbf_block.specs.Members.{member_entities}
 use Rattle.pbf_block.specs.Payload.{by_index, entities}
-use Rattle.pbf_block.specs.Judgement.{payload_values, payload_weights, block_fault}
+use Rattle.pbf_block.specs.Judgement.{payload_weights, block_fault}
 use Rattle.pbf_block.specs.WrittenBlock.{unless_default, block_slots}
 use Rattle.pbf_block.specs.declared.scale.TheConstants.{DEFAULT_SCALE}
 use Rattle.pbf_wire.proofs.SlotLemmas.{none_of, scalar_given, last_given}
@@ -47,10 +48,10 @@ use Rattle.pbf_block.proofs.GroupLaw.{GroupGood}
 default_fits : (number : ℕ) (default z : ℤ) → 0 < number → number < 2 ^ 29 → sign_extended z < 2 ^ 64 → SlotFits (Scalar number (unless_default default z))
 default_fits number default z positive small fits = elim (int_eq z default) as (λ b. SlotFits (Scalar number (if b then None else Some (sign_extended z)))) [ true ↦ tt | false ↦ (positive, small, fits) ]
 
-default_read : (read : ℕ → ℤ) (default z : ℤ) → read (sign_extended z) ≡ z → read_or default read (unless_default default z) ≡ z
+default_read : (read : ℕ → ℤ) (default z : ℤ) → read (sign_extended z) ≡ z → option_map_or read (unless_default default z) default ≡ z
 default_read read default z back = by (int_eq z default) refl
   where
-    by : (b : Bool) → int_eq z default ≡ b → read_or default read (if b then None else Some (sign_extended z)) ≡ z
+    by : (b : Bool) → int_eq z default ≡ b → option_map_or read (if b then None else Some (sign_extended z)) default ≡ z
     by true e = sym ((Decides-int_eq z default).0 e)
     by false e = back
 
@@ -139,7 +140,7 @@ module _ (scale : Scale) (used : List (List ℕ)) (group : List ℕ) (es : List 
   table_read : texts (table_message used) ≡ written_table used
   table_read = written_texts used table_short
 
-  counted : (place : ℕ) → count_fault place (table_message used) ≡ None
+  counted : (place : ℕ) → table_structure place 0 (table_message used) ≡ []
   counted place =
       let e : nat_lt 1048576 (length (texts (table_message used))) ≡ false = le-ltb _ _ (omega (arith, ap (λ (ts : List (List ℕ)). length ts) table_read, few)) in
       rw e refl
@@ -153,7 +154,7 @@ module _ (scale : Scale) (used : List (List ℕ)) (group : List ℕ) (es : List 
       fields_quiet part_structure at (block_slots scale used group)
       (parts_quiet part_structure
       (λ number place value. ap₂ (λ (xs ys : List Fault). xs ++ ys) (no_message STRINGTABLE number place value table_structure) (no_message PRIMITIVEGROUP number place value group_structure))
-      (λ place begin. ap (λ (f : Option Fault). of_option f ++ []) (counted place)) good.structure)
+      (λ place begin. ap (λ (fs : List Fault). fs ++ []) (counted place)) good.structure)
       fits short in
       rw (there, once, parts) refl
 
@@ -162,21 +163,21 @@ module _ (scale : Scale) (used : List (List ℕ)) (group : List ℕ) (es : List 
   table_is : (at : ℕ) → table_of (fields_in at (message (block_slots scale used group))) ≡ written_table used
   table_is at =
       let held = last_held STRINGTABLE at (block_slots scale used group) (table_message used) fits short refl only_table in
-      ap (λ (o : Option Occurrence). texts (held_by o)) held.2 ∙ table_read
+      ap (λ (o : Option Occurrence). texts (occurrence_text o)) held.2 ∙ table_read
 
   scale_is : (at : ℕ) → scale_of (fields_in at (message (block_slots scale used group))) ≡ scale
   scale_is at =
-      let places : read_or DEFAULT_SCALE.granularity low_i32 (last_number GRANULARITY (fields_in at (message (block_slots scale used group)))) ≡ scale.granularity =
-      ap (read_or DEFAULT_SCALE.granularity low_i32) (last_written GRANULARITY at (block_slots scale used group) fits short ∙ last_given GRANULARITY _ (take 2 (block_slots scale used group)) (drop 3 (block_slots scale used group)) refl (tt, (tt, tt)) (refl, (refl, (refl, tt))))
+      let places : number_or DEFAULT_SCALE.granularity low_i32 GRANULARITY (fields_in at (message (block_slots scale used group))) ≡ scale.granularity =
+      ap (λ (o : Option ℕ). option_map_or low_i32 o DEFAULT_SCALE.granularity) (last_written GRANULARITY at (block_slots scale used group) fits short ∙ last_given GRANULARITY _ (take 2 (block_slots scale used group)) (drop 3 (block_slots scale used group)) refl (tt, (tt, tt)) (refl, (refl, (refl, tt))))
       ∙ default_read low_i32 DEFAULT_SCALE.granularity scale.granularity (low_signs_read scale.granularity typed.granularity.0 typed.granularity.1) in
-      let dates : read_or DEFAULT_SCALE.date_granularity low_i32 (last_number DATE_GRANULARITY (fields_in at (message (block_slots scale used group)))) ≡ scale.date_granularity =
-      ap (read_or DEFAULT_SCALE.date_granularity low_i32) (last_written DATE_GRANULARITY at (block_slots scale used group) fits short ∙ last_given DATE_GRANULARITY _ (take 3 (block_slots scale used group)) (drop 4 (block_slots scale used group)) refl (tt, (tt, (refl, tt))) (refl, (refl, tt)))
+      let dates : number_or DEFAULT_SCALE.date_granularity low_i32 DATE_GRANULARITY (fields_in at (message (block_slots scale used group))) ≡ scale.date_granularity =
+      ap (λ (o : Option ℕ). option_map_or low_i32 o DEFAULT_SCALE.date_granularity) (last_written DATE_GRANULARITY at (block_slots scale used group) fits short ∙ last_given DATE_GRANULARITY _ (take 3 (block_slots scale used group)) (drop 4 (block_slots scale used group)) refl (tt, (tt, (refl, tt))) (refl, (refl, tt)))
       ∙ default_read low_i32 DEFAULT_SCALE.date_granularity scale.date_granularity (low_signs_read scale.date_granularity typed.date_granularity.0 typed.date_granularity.1) in
-      let lats : read_or DEFAULT_SCALE.lat_offset low_i64 (last_number LAT_OFFSET (fields_in at (message (block_slots scale used group)))) ≡ scale.lat_offset =
-      ap (read_or DEFAULT_SCALE.lat_offset low_i64) (last_written LAT_OFFSET at (block_slots scale used group) fits short ∙ last_given LAT_OFFSET _ (take 4 (block_slots scale used group)) (drop 5 (block_slots scale used group)) refl (tt, (tt, (refl, (refl, tt)))) (refl, tt))
+      let lats : number_or DEFAULT_SCALE.lat_offset low_i64 LAT_OFFSET (fields_in at (message (block_slots scale used group))) ≡ scale.lat_offset =
+      ap (λ (o : Option ℕ). option_map_or low_i64 o DEFAULT_SCALE.lat_offset) (last_written LAT_OFFSET at (block_slots scale used group) fits short ∙ last_given LAT_OFFSET _ (take 4 (block_slots scale used group)) (drop 5 (block_slots scale used group)) refl (tt, (tt, (refl, (refl, tt)))) (refl, tt))
       ∙ default_read low_i64 DEFAULT_SCALE.lat_offset scale.lat_offset (signs_read scale.lat_offset typed.lat_offset.0 typed.lat_offset.1) in
-      let lons : read_or DEFAULT_SCALE.lon_offset low_i64 (last_number LON_OFFSET (fields_in at (message (block_slots scale used group)))) ≡ scale.lon_offset =
-      ap (read_or DEFAULT_SCALE.lon_offset low_i64) (last_written LON_OFFSET at (block_slots scale used group) fits short ∙ last_given LON_OFFSET _ (take 5 (block_slots scale used group)) (drop 6 (block_slots scale used group)) refl (tt, (tt, (refl, (refl, (refl, tt))))) tt)
+      let lons : number_or DEFAULT_SCALE.lon_offset low_i64 LON_OFFSET (fields_in at (message (block_slots scale used group))) ≡ scale.lon_offset =
+      ap (λ (o : Option ℕ). option_map_or low_i64 o DEFAULT_SCALE.lon_offset) (last_written LON_OFFSET at (block_slots scale used group) fits short ∙ last_given LON_OFFSET _ (take 5 (block_slots scale used group)) (drop 6 (block_slots scale used group)) refl (tt, (tt, (refl, (refl, (refl, tt))))) tt)
       ∙ default_read low_i64 DEFAULT_SCALE.lon_offset scale.lon_offset (signs_read scale.lon_offset typed.lon_offset.0 typed.lon_offset.1) in
       rw (places, dates, lats, lons) refl
 
@@ -188,10 +189,10 @@ module _ (scale : Scale) (used : List (List ℕ)) (group : List ℕ) (es : List 
       in_last_written k f at (block_slots scale used group) fits short
       (subst (λ (vs : List ℕ). AllByRecursion (λ v. (place : ℕ) → f place v ≡ []) vs) (sym e) (default_all (λ v. (place : ℕ) → f place v ≡ []) default z h))
 
-  groups_good : (at : ℕ) → flat_map (entered PRIMITIVEGROUP (group_values (length (written_table used)))) (fields_in at (message (block_slots scale used group))) ≡ []
+  groups_good : (at : ℕ) → flat_map (in_group (member_values (length (written_table used)))) (fields_in at (message (block_slots scale used group))) ≡ []
   groups_good at =
-      fields_quiet (entered PRIMITIVEGROUP (group_values (length (written_table used)))) at (block_slots scale used group)
-      (parts_quiet (entered PRIMITIVEGROUP (group_values (length (written_table used)))) (λ number place value. no_message PRIMITIVEGROUP number place value (group_values (length (written_table used)))) (λ place begin. refl) good.values) fits short
+      fields_quiet (in_group (member_values (length (written_table used)))) at (block_slots scale used group)
+      (parts_quiet (in_group (member_values (length (written_table used)))) (λ number place value. no_message PRIMITIVEGROUP number place value (λ place at m. flat_map (member_values (length (written_table used))) (fields_in at m))) (λ place begin. refl) good.values) fits short
 
   values_good : (at : ℕ) → value_faults (length (written_table used)) at (message (block_slots scale used group)) ≡ []
   unfolding value_faults
@@ -202,8 +203,7 @@ module _ (scale : Scale) (used : List (List ℕ)) (group : List ℕ) (es : List 
       (scalar_given DATE_GRANULARITY _ (take 3 (block_slots scale used group)) (drop 4 (block_slots scale used group)) refl (tt, (tt, (refl, tt))) (refl, (refl, tt))) (positive_quiet DateGranularity scale.date_granularity typed.date_granularity fit.dates) in
       rw (places, dates, groups_good at) refl
 
-  pub values_sound : (at : ℕ) → payload_values at (message (block_slots scale used group)) ≡ []
-  unfolding payload_values
+  pub values_sound : (at : ℕ) → value_faults (length (table_of (fields_in at (message (block_slots scale used group))))) at (message (block_slots scale used group)) ≡ []
   values_sound at = ap (λ (ts : List (List ℕ)). value_faults (length ts) at (message (block_slots scale used group))) (table_is at) ∙ values_good at
 
   -- ---- weights
@@ -211,9 +211,9 @@ module _ (scale : Scale) (used : List (List ℕ)) (group : List ℕ) (es : List 
   pub weights_sound : (at : ℕ) → payload_weights at (message (block_slots scale used group)) ≡ []
   unfolding payload_weights
   weights_sound at =
-      ap₂ (λ (ts : List (List ℕ)) (s : Scale). weight_faults by_index ts s (fields_in at (message (block_slots scale used group)))) (table_is at) (scale_is at)
-      ∙ fields_quiet (group_weights by_index (written_table used) scale) at (block_slots scale used group)
-      (parts_quiet (group_weights by_index (written_table used) scale) (λ number place value. no_message PRIMITIVEGROUP number place value (λ place at m. flat_map (member_weights by_index (written_table used) scale) (fields_in at m))) (λ place begin. refl) (λ place begin. good.weights begin)) fits short
+      ap₂ (λ (ts : List (List ℕ)) (s : Scale). flat_map (in_group (member_weights by_index ts s)) (fields_in at (message (block_slots scale used group)))) (table_is at) (scale_is at)
+      ∙ fields_quiet (in_group (member_weights by_index (written_table used) scale)) at (block_slots scale used group)
+      (parts_quiet (in_group (member_weights by_index (written_table used) scale)) (λ number place value. no_message PRIMITIVEGROUP number place value (λ place at m. flat_map (member_weights by_index (written_table used) scale) (fields_in at m))) (λ place begin. refl) (λ place begin. good.weights begin)) fits short
 
   pub block_sound : (at : ℕ) → block_fault at (message (block_slots scale used group)) ≡ None
   unfolding block_fault
@@ -224,9 +224,9 @@ module _ (scale : Scale) (used : List (List ℕ)) (group : List ℕ) (es : List 
   pub block_read : (at : ℕ) → entities at (message (block_slots scale used group)) ≡ es
   unfolding entities
   block_read at =
-      let f = group_entities by_index (written_table used) scale in
+      let f = in_group (member_entities by_index (written_table used) scale) in
       let give = λ (number place value : ℕ). no_message PRIMITIVEGROUP number place value (λ place at m. flat_map (member_entities by_index (written_table used) scale) (fields_in at m)) in
-      ap₂ (λ (ts : List (List ℕ)) (s : Scale). entities_by by_index ts s (fields_in at (message (block_slots scale used group)))) (table_is at) (scale_is at)
+      ap₂ (λ (ts : List (List ℕ)) (s : Scale). flat_map (in_group (member_entities by_index ts s)) (fields_in at (message (block_slots scale used group)))) (table_is at) (scale_is at)
       ∙ fields_give f at
       ((Each STRINGTABLE (table_message used ∷ []), []) ∷ (Each PRIMITIVEGROUP (group ∷ []), es)
       ∷ (Scalar GRANULARITY (unless_default DEFAULT_SCALE.granularity scale.granularity), []) ∷ (Scalar DATE_GRANULARITY (unless_default DEFAULT_SCALE.date_granularity scale.date_granularity), [])
@@ -248,5 +248,5 @@ module _ (scale : Scale) (used : List (List ℕ)) (group : List ℕ) (es : List 
       )
       fits short ∙ append-nil es
     where
-      one_group : SlotGives (group_entities by_index (written_table used) scale) (Each PRIMITIVEGROUP (group ∷ [])) es
+      one_group : SlotGives (in_group (member_entities by_index (written_table used) scale)) (Each PRIMITIVEGROUP (group ∷ [])) es
       one_group = λ at. append-nil _ ∙ good.entities _

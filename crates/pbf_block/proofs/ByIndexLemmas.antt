@@ -13,10 +13,11 @@ use Rattle.osm_entity.specs.declared.scale.Scale.{Scale}
 use Rattle.osm_entity.specs.Entity.{WaySpec, node, way, relation}
 use Rattle.osm_entity.specs.Sources.{column_members}
 use Rattle.pbf_dense.specs.Nodes.{nodes, nodes_along}
+use Rattle.pbf_block.specs.Groups.{in_group}
 use Rattle.pbf_block.specs.declared.message.TheConstants.{PRIMITIVEGROUP, NODES, DENSE, WAYS, RELATIONS, REFS, WAY_LAT, WAY_LON, MEMIDS, ROLES_SID, TYPES}
-use Rattle.pbf_block.specs.Members.{values_in, way_in, relation_in, message_entities, member_entities, entities_by}
+use Rattle.pbf_block.specs.Members.{values_in, way_in, relation_in, message_entities, member_entities}
 use Rattle.pbf_block.specs.Payload.{by_index, along}
-use Rattle.pbf_block.specs.Weights.{weight_fault, member_weights, weight_faults}
+use Rattle.pbf_block.specs.Weights.{weight_fault, member_weights}
 
 -- ---- one message
 
@@ -100,9 +101,9 @@ module _ {X : Type 0} (table : List (List ℕ)) (scale : Scale) (f g : Occurrenc
       → flat_map (entered PRIMITIVEGROUP (λ place at m. flat_map f (fields_in at m))) os ≡ flat_map (entered PRIMITIVEGROUP (λ place at m. flat_map g (fields_in at m))) os
   groups_same os h = flat_same _ _ (GroupReads table scale) os group_same h
 
-pub entities_same : (table : List (List ℕ)) (scale : Scale) (os : List Occurrence) → AllByRecursion (GroupReads table scale) os → entities_by along table scale os ≡ entities_by by_index table scale os
+pub entities_same : (table : List (List ℕ)) (scale : Scale) (os : List Occurrence) → AllByRecursion (GroupReads table scale) os → flat_map (in_group (member_entities along table scale)) os ≡ flat_map (in_group (member_entities by_index table scale)) os
 entities_same table scale os h = groups_same table scale (member_entities along table scale) (member_entities by_index table scale) (member_same table scale) os h
 
-pub weights_same : (table : List (List ℕ)) (scale : Scale) (os : List Occurrence) → AllByRecursion (GroupReads table scale) os → weight_faults along table scale os ≡ weight_faults by_index table scale os
+pub weights_same : (table : List (List ℕ)) (scale : Scale) (os : List Occurrence) → AllByRecursion (GroupReads table scale) os → flat_map (in_group (member_weights along table scale)) os ≡ flat_map (in_group (member_weights by_index table scale)) os
 weights_same table scale os h =
     groups_same table scale (member_weights along table scale) (member_weights by_index table scale) (λ o p. ap (flat_map (weight_fault o.place)) (member_same table scale o p)) os h

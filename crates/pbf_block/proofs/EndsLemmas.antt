@@ -4,20 +4,21 @@ use Rattle.std.specs.Prelude.{None}
 use Rattle.std.specs.List.{flat_map, range_with_len}
 use Rattle.std.proofs.lemmas.Bool.{eqb-true}
 use Rattle.pbf_wire.specs.Occurrence.{Content, Number, Eight, Four, Bytes, Occurrence, items}
-use Rattle.pbf_wire.specs.Faults.{inside, entered, fields_in}
+use Rattle.pbf_wire.specs.Faults.{inside, entered, fields_in, nested_faults}
 use Rattle.pbf_wire.proofs.SoundLemmas.{both_nil, fields_sound, IsSound}
 use Rattle.osm_entity.specs.declared.scale.Scale.{Scale}
 use Rattle.osm_entity.specs.Entity.{node, way, relation}
 use Rattle.pbf_dense.specs.Judged.{dense_wire}
 use Rattle.pbf_dense.specs.Nodes.{node_at, nodes}
 use Rattle.pbf_dense.proofs.SoundDense.{ids_counted}
-use Rattle.pbf_block.specs.declared.message.TheConstants.{PRIMITIVEGROUP, NODES, DENSE, WAYS, RELATIONS, BLOCK_KINDS, GROUP_KINDS}
+use Rattle.pbf_block.specs.Groups.{in_group}
+use Rattle.pbf_block.specs.declared.message.TheConstants.{PRIMITIVEGROUP, NODES, DENSE, WAYS, RELATIONS, BLOCK_KINDS, GROUP_KINDS, WAY_KINDS, RELATION_KINDS, INFO, INFO_KINDS}
 use Rattle.pbf_block.specs.Judgement.{block_fault}
-use Rattle.pbf_block.specs.Members.{way_in, relation_in, message_entities, member_entities, group_entities, entities_by}
+use Rattle.pbf_block.specs.Members.{way_in, relation_in, message_entities, member_entities}
 use Rattle.pbf_block.specs.Numbers.{by_ends}
 use Rattle.pbf_block.specs.Payload.{by_index, entities}
 use Rattle.pbf_block.specs.Scale.{table_of, scale_of}
-use Rattle.pbf_block.specs.WireFaults.{way_wire, relation_wire, member_wire, group_wire, part_wire, wire_faults}
+use Rattle.pbf_block.specs.WireFaults.{member_wire, group_wire, part_wire, wire_faults}
 use Rattle.pbf_block.proofs.ByIndexLemmas.{Inside, inside_same, cond_same, flat_same}
 use Rattle.pbf_block.proofs.PhaseLemmas.{no_fault}
 use Rattle.pbf_block.proofs.ReadsLemmas.{entered_nil}
@@ -55,7 +56,7 @@ module _ (table : List (List ℕ)) (scale : Scale) where
 
   member_same : (o : Occurrence) → IsSound GROUP_KINDS member_wire o → member_entities by_ends table scale o ≡ member_entities by_index table scale o
   member_same o sound =
-      let wire = both_nil _ (entered DENSE dense_wire o) (both_nil _ (entered WAYS way_wire o) (both_nil _ (entered RELATIONS relation_wire o) sound.1).0).0 in
+      let wire = both_nil _ (entered DENSE dense_wire o) (both_nil _ (entered WAYS (nested_faults WAY_KINDS INFO INFO_KINDS) o) (both_nil _ (entered RELATIONS (nested_faults RELATION_KINDS INFO INFO_KINDS) o) sound.1).0).0 in
       inside_same _ _ _ o.content (λ at m h. message_same o.place o.number at m h) (inside_wired o.place o.number o.content (entered_nil DENSE dense_wire o wire.1))
 
   -- ---- one field of the payload
@@ -69,18 +70,18 @@ module _ (table : List (List ℕ)) (scale : Scale) where
   inside_group place (Four bytes) h = tt
   inside_group place (Bytes bytes at) h = h
 
-  part_same : (o : Occurrence) → IsSound BLOCK_KINDS part_wire o → group_entities by_ends table scale o ≡ group_entities by_index table scale o
+  part_same : (o : Occurrence) → IsSound BLOCK_KINDS part_wire o → in_group (member_entities by_ends table scale) o ≡ in_group (member_entities by_index table scale) o
   part_same o sound =
       let wire = both_nil _ (entered PRIMITIVEGROUP group_wire o) sound.1 in
       cond_same (eqb o.number PRIMITIVEGROUP) _ _ _ _
       (λ e. inside_same _ _ _ o.content (λ at m h. members_same o.place at m h) (inside_group o.place o.content (entered_nil PRIMITIVEGROUP group_wire o wire.1 (eqb-true o.number PRIMITIVEGROUP e))))
       refl
 
-  parts_same : (at : ℕ) (m : List ℕ) → wire_faults at m ≡ [] → entities_by by_ends table scale (fields_in at m) ≡ entities_by by_index table scale (fields_in at m)
+  parts_same : (at : ℕ) (m : List ℕ) → wire_faults at m ≡ [] → flat_map (in_group (member_entities by_ends table scale)) (fields_in at m) ≡ flat_map (in_group (member_entities by_index table scale)) (fields_in at m)
   unfolding wire_faults
   parts_same at m e = flat_same _ _ _ (fields_in at m) part_same (fields_sound BLOCK_KINDS part_wire (items at m) e)
 
 -- so its entities are as many as are counted
-pub ends_same : (at : ℕ) (m : List ℕ) → block_fault at m ≡ None → entities_by by_ends (table_of (fields_in at m)) (scale_of (fields_in at m)) (fields_in at m) ≡ entities at m
+pub ends_same : (at : ℕ) (m : List ℕ) → block_fault at m ≡ None → flat_map (in_group (member_entities by_ends (table_of (fields_in at m)) (scale_of (fields_in at m)))) (fields_in at m) ≡ entities at m
 unfolding entities
 ends_same at m sound = parts_same (table_of (fields_in at m)) (scale_of (fields_in at m)) at m (no_fault at m sound).0

@@ -1,7 +1,7 @@
 -- The entities of a payload without faults can be written again.
 use Rattle.std.proofs.Common.{◌≡◌, inl, inr, ◌==◌, ◌&&◌, ◌||◌, ℕ, ◌≤◌, ◌^◌, ℤ, pos, Bool, true, false, List, [], ◌∷◌, length, map, refl, sym, ap, ◌∙◌, arith}
 use Rattle.std.specs.Prelude.{Option, Some, None, if◌then◌else◌}
-use Rattle.std.specs.Option.{option_map}
+use Rattle.std.specs.Option.{option_map, option_map_or}
 use Rattle.std.specs.List.{flat_map, zip, last_or, cons_option, AllByRecursion}
 use Rattle.std.proofs.lemmas.Bool.{eqb-true}
 use Rattle.std.proofs.lemmas.Bool.Decides.{nat_tests}
@@ -9,16 +9,17 @@ use Rattle.std.proofs.lemmas.List.{length-map}
 use Rattle.std.proofs.lemmas.List.FromFn.{length-map-range_with_len}
 use Rattle.std.proofs.lemmas.Slice.Zip.{length-zip}
 use Rattle.pbf_wire.specs.declared.fault.Fault.{Fault}
-use Rattle.pbf_wire.specs.declared.fault.Reason.TheVariants.{LocationColumns, OutOfRange}
+use Rattle.pbf_wire.specs.declared.fault.Reason.TheVariants.{LocationColumns, OutOfRange, StringIndex}
 use Rattle.pbf_wire.specs.declared.kind.Kind.{Kind}
 use Rattle.pbf_wire.specs.declared.kind.Kind.TheVariants as kind
 use Rattle.pbf_wire.specs.Occurrence.{Content, Number, Eight, Four, Bytes, Occurrence, items}
 use Rattle.pbf_wire.specs.Columns.{joined, column}
 use Rattle.pbf_wire.specs.Wire.{kind_of, reason_in}
-use Rattle.pbf_wire.specs.Reading.{last_of, number_in, numbers, last_number}
+use Rattle.pbf_wire.specs.Reading.{last_of, number_in, last_number}
+use Rattle.pbf_wire.proofs.MessageLemmas.{numbers}
 use Rattle.pbf_wire.specs.Signed.{IsWithin, is_within, unzigzag, low_i32, low_i64}
 use Rattle.pbf_wire.specs.Sums.{sum_at}
-use Rattle.pbf_wire.specs.Faults.{inside, entered, fields_in, fields_of, embedded, leaf_faults, column_count, sum_faults, range_fault, value_in, of_value, in_last}
+use Rattle.pbf_wire.specs.Faults.{inside, entered, fields_in, fields_of, embedded, leaf_faults, column_count, below_fault, range_fault, value_in, of_value, in_last, nested_faults}
 use Rattle.pbf_wire.proofs.SumLemmas.{small_zero, within_is}
 use Rattle.pbf_wire.proofs.SoundLemmas.{both_nil, all_nil, is_right, sums_within_limit, count_is_length, fields_sound, IsSound, last_holds}
 use Rattle.osm_entity.specs.declared.scale.Scale.{Scale}
@@ -27,14 +28,14 @@ use Rattle.osm_entity.specs.Entity.{EntitySpec, node, way, relation}
 use Rattle.osm_entity.specs.Ranges.{IsStored, IsUid, IfPresent, MetaFits, LocationFits, MemberFits, AreLocated, EntityFits}
 use Rattle.osm_entity.specs.Sources.{column_members}
 use Rattle.osm_entity.specs.Weight.{entity_weight}
+use Rattle.pbf_dense.specs.Judged.{range_faults}
 use Rattle.pbf_block.specs.declared.message.TheConstants.{NODE_KINDS, WAY_KINDS, RELATION_KINDS, INFO_KINDS, ID, INFO, NODE_LAT, NODE_LON, REFS, WAY_LAT, WAY_LON, MEMIDS, TYPES, ROLES_SID, TIMESTAMP, CHANGESET, UID, USER_SID}
 use Rattle.pbf_block.specs.Info.{info_in}
-use Rattle.pbf_block.specs.Members.{signed_in, wide_in, values_in, node_in, way_in, relation_in}
+use Rattle.pbf_block.specs.Members.{values_in, node_in, way_in, relation_in}
 use Rattle.pbf_block.specs.Payload.{by_index}
-use Rattle.pbf_block.specs.Scale.{read_or}
-use Rattle.pbf_block.specs.WireFaults.{node_wire, way_wire, relation_wire}
+use Rattle.pbf_block.specs.Scale.{number_or}
 use Rattle.pbf_block.specs.StructureFaults.{are_located, entity_structure, way_structure}
-use Rattle.pbf_block.specs.ValueFaults.{stored_limit, signed_range, wide_range, uid_range, user_range, info_values, entity_values, node_values, way_values, relation_values}
+use Rattle.pbf_block.specs.ValueFaults.{out_of_range, info_values, entity_values, node_values, way_values, relation_values}
 use Rattle.pbf_wire.proofs.SlotLemmas.{IfSome}
 use Rattle.pbf_block.proofs.ValueLemmas.{later_value, last_is}
 use Rattle.pbf_block.proofs.ReadsLemmas.{entered_nil}
@@ -80,7 +81,7 @@ if_present : (P : ℤ → Type 0) (read : ℕ → ℤ) (o : Option ℕ) → IfSo
 if_present P read None h = tt
 if_present P read (Some v) h = h
 
-pub or_else : (P : ℤ → Type 0) (otherwise : ℤ) (read : ℕ → ℤ) (o : Option ℕ) → P otherwise → IfSome (λ v. P (read v)) o → P (read_or otherwise read o)
+pub or_else : (P : ℤ → Type 0) (otherwise : ℤ) (read : ℕ → ℤ) (o : Option ℕ) → P otherwise → IfSome (λ v. P (read v)) o → P (option_map_or read o otherwise)
 or_else P otherwise read None d h = d
 or_else P otherwise read (Some v) d h = h
 
@@ -91,12 +92,12 @@ module _ (limit : ℕ) (table : List (List ℕ)) where
   info_fits place at m w v =
       let os = fields_in at m in
       let sound = fields_sound INFO_KINDS (λ o. []) (items at m) w in
-      let uids = both_nil _ _ (both_nil _ (in_last USER_SID (user_range limit) os) v).0 in
+      let uids = both_nil _ _ (both_nil _ (in_last USER_SID (λ place v. below_fault StringIndex limit (v, place)) os) v).0 in
       let changesets = both_nil _ _ uids.0 in
       record {
-        timestamp = if_present IsStored low_i64 _ (number_holds TIMESTAMP wide_range (λ v. IsStored (low_i64 v)) (λ place v e. in_range stored_limit place (low_i64 v) e) os (are_numbers INFO_KINDS (λ o. []) TIMESTAMP os refl sound) changesets.0);
-        changeset = if_present IsStored low_i64 _ (number_holds CHANGESET wide_range (λ v. IsStored (low_i64 v)) (λ place v e. in_range stored_limit place (low_i64 v) e) os (are_numbers INFO_KINDS (λ o. []) CHANGESET os refl sound) changesets.1);
-        uid = if_present IsUid low_i32 _ (number_holds UID uid_range (λ v. IsUid (low_i32 v)) (λ place v e. in_range (pos (2 ^ 30)) place (low_i32 v) e) os (are_numbers INFO_KINDS (λ o. []) UID os refl sound) uids.1);
+        timestamp = if_present IsStored low_i64 _ (number_holds TIMESTAMP (out_of_range 62 low_i64) (λ v. IsStored (low_i64 v)) (λ place v e. in_range (pos (2 ^ 62)) place (low_i64 v) e) os (are_numbers INFO_KINDS (λ o. []) TIMESTAMP os refl sound) changesets.0);
+        changeset = if_present IsStored low_i64 _ (number_holds CHANGESET (out_of_range 62 low_i64) (λ v. IsStored (low_i64 v)) (λ place v e. in_range (pos (2 ^ 62)) place (low_i64 v) e) os (are_numbers INFO_KINDS (λ o. []) CHANGESET os refl sound) changesets.1);
+        uid = if_present IsUid low_i32 _ (number_holds UID (out_of_range 30 low_i32) (λ v. IsUid (low_i32 v)) (λ place v e. in_range (pos (2 ^ 30)) place (low_i32 v) e) os (are_numbers INFO_KINDS (λ o. []) UID os refl sound) uids.1);
       }
 
   inside_fits : (place : ℕ) (c : Content) → inside (leaf_faults INFO_KINDS place) c ≡ [] → inside (info_values limit place) c ≡ [] → MetaFits (info_in table (inside fields_in c))
@@ -148,8 +149,8 @@ values_counted kinds inner k os known sound =
     length-map-range_with_len (sum_at entries) 0 (length entries) ∙ length-map (column k os) unzigzag ∙ length-map (joined k os) (λ p. p.0)
     ∙ sym (count_is_length kinds inner k os known sound)
 
-values_fit : (k : ℕ) (os : List Occurrence) → sum_faults stored_limit false (joined k os) ≡ [] → AllByRecursion IsStored (values_in by_index k os)
-values_fit k os e = sums_within_limit stored_limit OutOfRange false (joined k os) e
+values_fit : (k : ℕ) (os : List Occurrence) → range_faults k os ≡ [] → AllByRecursion IsStored (values_in by_index k os)
+values_fit k os e = sums_within_limit (pos (2 ^ 62)) OutOfRange false (joined k os) e
 
 -- ---- entities, where they are light
 
@@ -161,33 +162,33 @@ abbrev pub FitsLight : EntitySpec → Type 0
 FitsLight e = IsLight e → EntityFits e
 
 module _ (limit : ℕ) (table : List (List ℕ)) (scale : Scale) (scaled : ScaleFits scale) where
-  pub node_fits : (place at : ℕ) (m : List ℕ) → node_wire place at m ≡ [] → node_values limit place at m ≡ [] → FitsLight (node (node_in table scale (fields_in at m)))
+  pub node_fits : (place at : ℕ) (m : List ℕ) → nested_faults NODE_KINDS INFO INFO_KINDS place at m ≡ [] → node_values limit place at m ≡ [] → FitsLight (node (node_in table scale (fields_in at m)))
   unfolding node_in
   node_fits place at m w v light =
       let os = fields_in at m in
       let inner = entered INFO (leaf_faults INFO_KINDS) in
       let sound = fields_sound NODE_KINDS inner (items at m) w in
-      let lons = both_nil _ (in_last NODE_LON signed_range os) v in
-      let lats = both_nil _ (in_last NODE_LAT signed_range os) lons.0 in
-      let alike = both_nil (in_last ID signed_range os) (entity_values limit os) lats.0 in
-      let stored : (k : ℕ) → kind_of NODE_KINDS k ≡ Some kind.Number → in_last k signed_range os ≡ [] → IsStored (signed_in k os) =
-      λ k known e. or_else IsStored (pos 0) unzigzag _ small_zero (number_holds k signed_range (λ v. IsStored (unzigzag v)) (λ place v e. in_range stored_limit place (unzigzag v) e) os (are_numbers NODE_KINDS inner k os known sound) e) in
+      let lons = both_nil _ (in_last NODE_LON (out_of_range 62 unzigzag) os) v in
+      let lats = both_nil _ (in_last NODE_LAT (out_of_range 62 unzigzag) os) lons.0 in
+      let alike = both_nil (in_last ID (out_of_range 62 unzigzag) os) (entity_values limit os) lats.0 in
+      let stored : (k : ℕ) → kind_of NODE_KINDS k ≡ Some kind.Number → in_last k (out_of_range 62 unzigzag) os ≡ [] → IsStored (number_or (pos 0) unzigzag k os) =
+      λ k known e. or_else IsStored (pos 0) unzigzag _ small_zero (number_holds k (out_of_range 62 unzigzag) (λ v. IsStored (unzigzag v)) (λ place v e. in_range (pos (2 ^ 62)) place (unzigzag v) e) os (are_numbers NODE_KINDS inner k os known sound) e) in
       record { id = stored ID refl alike.0; lat = stored NODE_LAT refl lats.1; lon = stored NODE_LON refl lons.1; meta = meta_fits limit table NODE_KINDS os sound alike.1; scale = scaled; light = light }
 
-  wide_fits : (kinds : List (ℕ × Kind)) (inner : Occurrence → List Fault) (os : List Occurrence) → kind_of kinds ID ≡ Some kind.Number → AllByRecursion (IsSound kinds inner) os → in_last ID wide_range os ≡ [] → IsStored (wide_in ID os)
+  wide_fits : (kinds : List (ℕ × Kind)) (inner : Occurrence → List Fault) (os : List Occurrence) → kind_of kinds ID ≡ Some kind.Number → AllByRecursion (IsSound kinds inner) os → in_last ID (out_of_range 62 low_i64) os ≡ [] → IsStored (number_or (pos 0) low_i64 ID os)
   wide_fits kinds inner os known sound e =
-      or_else IsStored (pos 0) low_i64 _ small_zero (number_holds ID wide_range (λ v. IsStored (low_i64 v)) (λ place v e. in_range stored_limit place (low_i64 v) e) os (are_numbers kinds inner ID os known sound) e)
+      or_else IsStored (pos 0) low_i64 _ small_zero (number_holds ID (out_of_range 62 low_i64) (λ v. IsStored (low_i64 v)) (λ place v e. in_range (pos (2 ^ 62)) place (low_i64 v) e) os (are_numbers kinds inner ID os known sound) e)
 
-  pub way_fits : (place at : ℕ) (m : List ℕ) → way_wire place at m ≡ [] → way_structure place at m ≡ [] → way_values limit place at m ≡ [] → FitsLight (way (way_in by_index table scale (fields_in at m)))
+  pub way_fits : (place at : ℕ) (m : List ℕ) → nested_faults WAY_KINDS INFO INFO_KINDS place at m ≡ [] → way_structure place at m ≡ [] → way_values limit place at m ≡ [] → FitsLight (way (way_in by_index table scale (fields_in at m)))
   unfolding way_in
   way_fits place at m w s v light =
       let os = fields_in at m in
       let inner = entered INFO (leaf_faults INFO_KINDS) in
       let sound = fields_sound WAY_KINDS inner (items at m) w in
-      let lons = both_nil _ (sum_faults stored_limit false (joined WAY_LON os)) v in
-      let lats = both_nil _ (sum_faults stored_limit false (joined WAY_LAT os)) lons.0 in
-      let refs = both_nil _ (sum_faults stored_limit false (joined REFS os)) lats.0 in
-      let alike = both_nil (in_last ID wide_range os) (entity_values limit os) refs.0 in
+      let lons = both_nil _ (range_faults WAY_LON os) v in
+      let lats = both_nil _ (range_faults WAY_LAT os) lons.0 in
+      let refs = both_nil _ (range_faults REFS os) lats.0 in
+      let alike = both_nil (in_last ID (out_of_range 62 low_i64) os) (entity_values limit os) refs.0 in
       let counts = is_right (are_located os) place LocationColumns (both_nil (entity_structure place os) _ s).1 in
       record {
         id = wide_fits WAY_KINDS inner os refl sound alike.0;
@@ -200,16 +201,16 @@ module _ (limit : ℕ) (table : List (List ℕ)) (scale : Scale) (scaled : Scale
         light = light;
       }
 
-  pub relation_fits : (place at : ℕ) (m : List ℕ) → relation_wire place at m ≡ [] → relation_values limit place at m ≡ [] → FitsLight (relation (relation_in by_index table scale (fields_in at m)))
+  pub relation_fits : (place at : ℕ) (m : List ℕ) → nested_faults RELATION_KINDS INFO INFO_KINDS place at m ≡ [] → relation_values limit place at m ≡ [] → FitsLight (relation (relation_in by_index table scale (fields_in at m)))
   unfolding relation_in
   relation_fits place at m w v light =
       let os = fields_in at m in
       let inner = entered INFO (leaf_faults INFO_KINDS) in
       let sound = fields_sound RELATION_KINDS inner (items at m) w in
       let kinds = both_nil _ _ v in
-      let ids = both_nil _ (sum_faults stored_limit false (joined MEMIDS os)) kinds.0 in
+      let ids = both_nil _ (range_faults MEMIDS os) kinds.0 in
       let roles = both_nil _ _ ids.0 in
-      let alike = both_nil (in_last ID wide_range os) (entity_values limit os) roles.0 in
+      let alike = both_nil (in_last ID (out_of_range 62 low_i64) os) (entity_values limit os) roles.0 in
       record {
         id = wide_fits RELATION_KINDS inner os refl sound alike.0;
         meta = meta_fits limit table RELATION_KINDS os sound alike.1;

@@ -19,7 +19,7 @@ use Rattle.osm_entity.specs.Entity.{EntitySpec}
 use Rattle.pbf_block.specs.declared.message.TheConstants.{GROUP_KINDS, DENSE, CHANGESETS}
 use Rattle.pbf_block.specs.WireFaults.{member_wire, group_wire}
 use Rattle.pbf_block.specs.StructureFaults.{member_structure, is_member, first_member, is_other, mixed, changesets, group_structure}
-use Rattle.pbf_block.specs.ValueFaults.{member_values, group_values}
+use Rattle.pbf_block.specs.ValueFaults.{member_values}
 use Rattle.pbf_block.specs.Weights.{weight_fault, member_weights}
 use Rattle.pbf_block.specs.Members.{member_entities}
 use Rattle.pbf_block.specs.Payload.{by_index}
@@ -36,7 +36,7 @@ pub record MemberGood (table : List (List ℕ)) (scale : Scale) (k : ℕ) (m : L
 pub record GroupGood (table : List (List ℕ)) (scale : Scale) (group : List ℕ) (es : List EntitySpec) : Type 0 where
   pub wire : (place at : ℕ) → group_wire place at group ≡ []
   pub structure : (place at : ℕ) → group_structure place at group ≡ []
-  pub values : (place at : ℕ) → group_values (length table) place at group ≡ []
+  pub values : (place at : ℕ) → flat_map (member_values (length table)) (fields_in at group) ≡ []
   pub entities : (at : ℕ) → flat_map (member_entities by_index table scale) (fields_in at group) ≡ es
   pub weights : (at : ℕ) → flat_map (member_weights by_index table scale) (fields_in at group) ≡ []
 

@@ -3,8 +3,9 @@ use Rattle.std.proofs.Common.{pos, sym, [], ◌≡◌, ℕ, ◌%◌, ◌^◌, �
 use Rattle.std.specs.List.{flat_map, AllByRecursion}
 use Rattle.std.specs.Option.{option_map, option_to_list}
 use Rattle.std.proofs.lemmas.Int.{ints}
+use Rattle.pbf_wire.specs.declared.fault.Reason.TheVariants.{StringIndex}
 use Rattle.pbf_wire.specs.declared.fault.Fault.{Fault}
-use Rattle.pbf_wire.specs.Faults.{fields_in, leaf_faults}
+use Rattle.pbf_wire.specs.Faults.{below_fault, fields_in, leaf_faults}
 use Rattle.pbf_wire.proofs.QuietLemmas.{leaf_quiet, in_last_written}
 use Rattle.std.proofs.lemmas.Bool.{lt-ltb}
 use Rattle.pbf_wire.specs.Message.{scalars_at, SlotFits, message}
@@ -20,7 +21,7 @@ use Rattle.osm_entity.specs.Ranges.{IsInt32, IsStored, IsUid, IfPresent, MetaFit
 use Rattle.osm_entity.specs.Sources.{named}
 use Rattle.pbf_dense.specs.WrittenDense.{bit_of}
 use Rattle.pbf_block.specs.declared.message.TheConstants.{INFO_KINDS, VERSION, TIMESTAMP, CHANGESET, UID, USER_SID, VISIBLE}
-use Rattle.pbf_block.specs.ValueFaults.{stored_limit, wide_range, uid_range, user_range, info_values}
+use Rattle.pbf_block.specs.ValueFaults.{out_of_range, info_values}
 use Rattle.pbf_block.specs.Info.{info_in}
 use Rattle.pbf_block.specs.WrittenEntity.{info_slots, info_message}
 use Rattle.osm_entity.proofs.RangeLemmas.{present}
@@ -130,13 +131,13 @@ module _ (texts : List (List ℕ)) (meta : MetaSpec) (h : MetaReady texts meta) 
   unfolding info_message
   info_wire place at room = leaf_quiet INFO_KINDS place at (info_slots texts meta) (refl, (refl, (refl, (refl, (refl, (refl, tt)))))) info_fits room
 
-  stored_quiet : (z : ℤ) → IsStored z → (place : ℕ) → wide_range place (sign_extended z) ≡ []
-  stored_quiet z s place = let e : is_within stored_limit (low_i64 (sign_extended z)) ≡ true = ap (is_within stored_limit) (stored_read z s) ∙ within_true stored_limit z s in rw e refl
+  stored_quiet : (z : ℤ) → IsStored z → (place : ℕ) → out_of_range 62 low_i64 place (sign_extended z) ≡ []
+  stored_quiet z s place = let e : is_within (pos (2 ^ 62)) (low_i64 (sign_extended z)) ≡ true = ap (is_within (pos (2 ^ 62))) (stored_read z s) ∙ within_true (pos (2 ^ 62)) z s in rw e refl
 
-  uid_quiet : (z : ℤ) → IsUid z → (place : ℕ) → uid_range place (sign_extended z) ≡ []
+  uid_quiet : (z : ℤ) → IsUid z → (place : ℕ) → out_of_range 30 low_i32 place (sign_extended z) ≡ []
   uid_quiet z s place = let e : is_within (pos (2 ^ 30)) (low_i32 (sign_extended z)) ≡ true = ap (is_within (pos (2 ^ 30))) (uid_read z s) ∙ within_true (pos (2 ^ 30)) z s in rw e refl
 
-  user_quiet : (t : List ℕ) → IsAmong texts t → (place : ℕ) → user_range (length (table_of texts)) place (index_in texts t) ≡ []
+  user_quiet : (t : List ℕ) → IsAmong texts t → (place : ℕ) → below_fault StringIndex (length (table_of texts)) (index_in texts t, place) ≡ []
   user_quiet t s place =
       let below : index_in texts t % 2 ^ 32 < length (table_of texts) = omega (arith, low_index texts h.few t s, index_below texts t s) in
       rw (lt-ltb (index_in texts t % 2 ^ 32) (length (table_of texts)) below) refl
@@ -148,12 +149,12 @@ module _ (texts : List (List ℕ)) (meta : MetaSpec) (h : MetaReady texts meta) 
       let fits = info_fits in
       let all = λ (k : ℕ) (f : ℕ → ℕ → List Fault) (value : Option ℕ) (e : flat_map (scalars_at k) slots ≡ option_to_list value) (g : AllByRecursion (λ v. (place : ℕ) → f place v ≡ []) (option_to_list value)).
       in_last_written k f at slots fits room (subst (λ (vs : List ℕ). AllByRecursion (λ v. (place : ℕ) → f place v ≡ []) vs) (sym e) g) in
-      let timestamp = all TIMESTAMP wide_range _ (scalar_given TIMESTAMP _ (take 1 slots) (drop 2 slots) refl (refl, tt) (refl, (refl, (refl, (refl, tt)))))
-      (given_all sign_extended IsStored (λ v. (place : ℕ) → wide_range place v ≡ []) stored_quiet meta.timestamp (present IsStored meta.timestamp h.fits.timestamp)) in
-      let changeset = all CHANGESET wide_range _ (scalar_given CHANGESET _ (take 2 slots) (drop 3 slots) refl (refl, (refl, tt)) (refl, (refl, (refl, tt))))
-      (given_all sign_extended IsStored (λ v. (place : ℕ) → wide_range place v ≡ []) stored_quiet meta.changeset (present IsStored meta.changeset h.fits.changeset)) in
-      let uid = all UID uid_range _ (scalar_given UID _ (take 3 slots) (drop 4 slots) refl (refl, (refl, (refl, tt))) (refl, (refl, tt)))
-      (given_all sign_extended IsUid (λ v. (place : ℕ) → uid_range place v ≡ []) uid_quiet meta.uid (present IsUid meta.uid h.fits.uid)) in
-      let user = all USER_SID (user_range (length (table_of texts))) _ (scalar_given USER_SID _ (take 4 slots) (drop 5 slots) refl (refl, (refl, (refl, (refl, tt)))) (refl, tt))
-      (given_all (index_in texts) (IsAmong texts) (λ v. (place : ℕ) → user_range (length (table_of texts)) place v ≡ []) user_quiet meta.user h.user) in
+      let timestamp = all TIMESTAMP (out_of_range 62 low_i64) _ (scalar_given TIMESTAMP _ (take 1 slots) (drop 2 slots) refl (refl, tt) (refl, (refl, (refl, (refl, tt)))))
+      (given_all sign_extended IsStored (λ v. (place : ℕ) → out_of_range 62 low_i64 place v ≡ []) stored_quiet meta.timestamp (present IsStored meta.timestamp h.fits.timestamp)) in
+      let changeset = all CHANGESET (out_of_range 62 low_i64) _ (scalar_given CHANGESET _ (take 2 slots) (drop 3 slots) refl (refl, (refl, tt)) (refl, (refl, (refl, tt))))
+      (given_all sign_extended IsStored (λ v. (place : ℕ) → out_of_range 62 low_i64 place v ≡ []) stored_quiet meta.changeset (present IsStored meta.changeset h.fits.changeset)) in
+      let uid = all UID (out_of_range 30 low_i32) _ (scalar_given UID _ (take 3 slots) (drop 4 slots) refl (refl, (refl, (refl, tt))) (refl, (refl, tt)))
+      (given_all sign_extended IsUid (λ v. (place : ℕ) → out_of_range 30 low_i32 place v ≡ []) uid_quiet meta.uid (present IsUid meta.uid h.fits.uid)) in
+      let user = all USER_SID (λ place v. below_fault StringIndex (length (table_of texts)) (v, place)) _ (scalar_given USER_SID _ (take 4 slots) (drop 5 slots) refl (refl, (refl, (refl, (refl, tt)))) (refl, tt))
+      (given_all (index_in texts) (IsAmong texts) (λ v. (place : ℕ) → below_fault StringIndex (length (table_of texts)) (v, place) ≡ []) user_quiet meta.user h.user) in
       rw (timestamp, changeset, uid, user) refl

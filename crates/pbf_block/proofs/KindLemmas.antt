@@ -7,9 +7,10 @@ use Rattle.pbf_wire.specs.Faults.{inside, fields_in}
 use Rattle.pbf_wire.specs.Occurrence.{Content, Number, Eight, Four, Bytes, Occurrence}
 use Rattle.osm_entity.specs.declared.scale.Scale.{Scale}
 use Rattle.osm_entity.specs.Entity.{NodeSpec, EntitySpec, node, way, relation}
+use Rattle.pbf_block.specs.Groups.{in_group}
 use Rattle.pbf_block.specs.declared.kinds.Kinds.{Kinds}
 use Rattle.pbf_block.specs.declared.message.TheConstants.{PRIMITIVEGROUP, NODES, DENSE, WAYS, RELATIONS}
-use Rattle.pbf_block.specs.Members.{How, node_in, way_in, relation_in, message_entities, member_entities, group_entities, entities_by}
+use Rattle.pbf_block.specs.Members.{How, node_in, way_in, relation_in, message_entities, member_entities}
 use Rattle.pbf_block.specs.Kinds.{is_among, holds_kind, member_entities_among, group_entities_among, entities_among}
 
 -- all are of all kinds
@@ -80,11 +81,11 @@ module _ (kinds : Kinds) (how : How) (table : List (List ℕ)) (scale : Scale) w
   if_group true x y e = e
   if_group false x y e = refl
 
-  group_kept : (o : Occurrence) → group_entities_among kinds how table scale o ≡ filter (is_among kinds) (group_entities how table scale o)
+  group_kept : (o : Occurrence) → group_entities_among kinds how table scale o ≡ filter (is_among kinds) (in_group (member_entities how table scale) o)
   group_kept o = if_group (o.number == PRIMITIVEGROUP) _ _ (inner_kept o.content)
 
-  pub all_kept : (os : List Occurrence) → entities_among kinds how table scale os ≡ filter (is_among kinds) (entities_by how table scale os)
-  all_kept os = kept_parts (is_among kinds) (group_entities how table scale) (group_entities_among kinds how table scale) group_kept os
+  pub all_kept : (os : List Occurrence) → entities_among kinds how table scale os ≡ filter (is_among kinds) (flat_map (in_group (member_entities how table scale)) os)
+  all_kept os = kept_parts (is_among kinds) (in_group (member_entities how table scale)) (group_entities_among kinds how table scale) group_kept os
 
 -- what holds of all holds of those that are kept
 all_next : (P : EntitySpec → Type 0) (p : EntitySpec → Bool) (e : EntitySpec) (es : List EntitySpec) (b : Bool) → p e ≡ b → P e → AllByRecursion P (filter p es) → AllByRecursion P (filter p (e ∷ es))

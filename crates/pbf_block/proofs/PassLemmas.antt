@@ -5,9 +5,11 @@ use Rattle.std.specs.List.{last_or}
 use Rattle.pbf_wire.specs.declared.fields.Fields.{Fields}
 use Rattle.pbf_wire.specs.Columns.{joined, column}
 use Rattle.pbf_wire.specs.Cursors.{fields_left}
-use Rattle.pbf_wire.specs.Faults.{value_of_last, last_value}
+use Rattle.pbf_wire.specs.Faults.{last_value}
+use Rattle.pbf_wire.proofs.QuietLemmas.{value_of_last}
 use Rattle.pbf_wire.specs.Occurrence.{Occurrence, found}
-use Rattle.pbf_wire.specs.Reading.{numbers, last_number}
+use Rattle.pbf_wire.specs.Reading.{last_number}
+use Rattle.pbf_wire.proofs.MessageLemmas.{numbers}
 use Rattle.pbf_block.specs.Passes.{only, only_left}
 
 joined_only : (k : ℕ) (os : List Occurrence) → joined k (only k os) ≡ joined k os

@@ -3,15 +3,16 @@ use Rattle.std.proofs.Common.{◌≡◌, ◌==◌, ℕ, ◌^◌, ◌≤◌, Bool
 use Rattle.std.specs.Prelude.{if◌then◌else◌}
 use Rattle.std.specs.List.{flat_map, AllByRecursion}
 use Rattle.pbf_wire.specs.Occurrence.{Content, Number, Eight, Four, Bytes, Occurrence, items}
-use Rattle.pbf_wire.specs.Faults.{inside, entered, fields_in}
+use Rattle.pbf_wire.specs.Faults.{inside, entered, fields_in, nested_faults}
 use Rattle.pbf_wire.proofs.SoundLemmas.{both_nil, all_nil, fields_sound, IsSound}
 use Rattle.osm_entity.specs.declared.scale.Scale.{Scale}
 use Rattle.pbf_dense.specs.Judged.{dense_wire, dense_structure, dense_values}
 use Rattle.pbf_dense.proofs.SoundDense.{nodes_same}
-use Rattle.pbf_block.specs.declared.message.TheConstants.{PRIMITIVEGROUP, DENSE, WAYS, RELATIONS, BLOCK_KINDS, GROUP_KINDS, REFS, WAY_LAT, WAY_LON, MEMIDS}
-use Rattle.pbf_block.specs.WireFaults.{way_wire, relation_wire, member_wire, group_wire, part_wire, wire_faults}
+use Rattle.pbf_block.specs.Groups.{in_group}
+use Rattle.pbf_block.specs.declared.message.TheConstants.{PRIMITIVEGROUP, DENSE, WAYS, RELATIONS, BLOCK_KINDS, GROUP_KINDS, REFS, WAY_LAT, WAY_LON, MEMIDS, WAY_KINDS, RELATION_KINDS, INFO, INFO_KINDS}
+use Rattle.pbf_block.specs.WireFaults.{member_wire, group_wire, part_wire, wire_faults}
 use Rattle.pbf_block.specs.StructureFaults.{way_structure, relation_structure, member_structure, group_structure, part_structure, structure_faults}
-use Rattle.pbf_block.specs.ValueFaults.{way_values, relation_values, member_values, group_values, value_faults}
+use Rattle.pbf_block.specs.ValueFaults.{way_values, relation_values, member_values, value_faults}
 use Rattle.pbf_block.proofs.ByIndexLemmas.{Reads, Inside, InRange, MemberReads, GroupReads}
 
 -- ---- what is in a message that a field holds
@@ -63,7 +64,7 @@ module _ (table : List (List ℕ)) (scale : Scale) (few : length table ≤ 2 ^ 6
 
   member_reads : (o : Occurrence) → member_wire o ≡ [] → member_structure o ≡ [] → member_values (length table) o ≡ [] → MemberReads table scale o
   member_reads o w s v =
-      let wire = both_nil _ (entered DENSE dense_wire o) (both_nil _ (entered WAYS way_wire o) (both_nil _ (entered RELATIONS relation_wire o) w).0).0 in
+      let wire = both_nil _ (entered DENSE dense_wire o) (both_nil _ (entered WAYS (nested_faults WAY_KINDS INFO INFO_KINDS) o) (both_nil _ (entered RELATIONS (nested_faults RELATION_KINDS INFO INFO_KINDS) o) w).0).0 in
       let structure = both_nil _ (entered DENSE dense_structure o) (both_nil _ (entered WAYS way_structure o) (both_nil _ (entered RELATIONS relation_structure o) s).0).0 in
       let relations = both_nil _ (entered RELATIONS (relation_values (length table)) o) v in
       let ways = both_nil _ (entered WAYS (way_values (length table)) o) relations.0 in
@@ -78,25 +79,25 @@ module _ (table : List (List ℕ)) (scale : Scale) (few : length table ≤ 2 ^ 6
 
   -- ---- one field of the payload
 
-  group_reads : (place at : ℕ) (m : List ℕ) → group_wire place at m ≡ [] → group_structure place at m ≡ [] → group_values (length table) place at m ≡ [] → AllByRecursion (MemberReads table scale) (fields_in at m)
+  group_reads : (place at : ℕ) (m : List ℕ) → group_wire place at m ≡ [] → group_structure place at m ≡ [] → flat_map (member_values (length table)) (fields_in at m) ≡ [] → AllByRecursion (MemberReads table scale) (fields_in at m)
   group_reads place at m w s v =
       members_read (fields_in at m) (fields_sound GROUP_KINDS member_wire (items at m) w)
       (all_nil member_structure (fields_in at m) (both_nil _ (flat_map member_structure (fields_in at m)) s).1) (all_nil (member_values (length table)) (fields_in at m) v)
 
-  inside_group : (place : ℕ) (c : Content) → inside (group_wire place) c ≡ [] → inside (group_structure place) c ≡ [] → inside (group_values (length table) place) c ≡ [] → Inside (λ at m. AllByRecursion (MemberReads table scale) (fields_in at m)) c
+  inside_group : (place : ℕ) (c : Content) → inside (group_wire place) c ≡ [] → inside (group_structure place) c ≡ [] → inside (λ at m. flat_map (member_values (length table)) (fields_in at m)) c ≡ [] → Inside (λ at m. AllByRecursion (MemberReads table scale) (fields_in at m)) c
   inside_group place (Number v) a b d = tt
   inside_group place (Eight bytes) a b d = tt
   inside_group place (Four bytes) a b d = tt
   inside_group place (Bytes bytes at) a b d = group_reads place at bytes a b d
 
-  part_reads : (o : Occurrence) → part_wire o ≡ [] → part_structure o ≡ [] → entered PRIMITIVEGROUP (group_values (length table)) o ≡ [] → GroupReads table scale o
+  part_reads : (o : Occurrence) → part_wire o ≡ [] → part_structure o ≡ [] → in_group (member_values (length table)) o ≡ [] → GroupReads table scale o
   part_reads o w s v = λ is.
       inside_group o.place o.content
       (entered_nil PRIMITIVEGROUP group_wire o (both_nil _ (entered PRIMITIVEGROUP group_wire o) w).1 is)
       (entered_nil PRIMITIVEGROUP group_structure o (both_nil _ (entered PRIMITIVEGROUP group_structure o) s).1 is)
-      (entered_nil PRIMITIVEGROUP (group_values (length table)) o v is)
+      (entered_nil PRIMITIVEGROUP (λ place at m. flat_map (member_values (length table)) (fields_in at m)) o v is)
 
-  parts_read : (os : List Occurrence) → AllByRecursion (IsSound BLOCK_KINDS part_wire) os → AllByRecursion (λ o. part_structure o ≡ []) os → AllByRecursion (λ o. entered PRIMITIVEGROUP (group_values (length table)) o ≡ []) os → AllByRecursion (GroupReads table scale) os
+  parts_read : (os : List Occurrence) → AllByRecursion (IsSound BLOCK_KINDS part_wire) os → AllByRecursion (λ o. part_structure o ≡ []) os → AllByRecursion (λ o. in_group (member_values (length table)) o ≡ []) os → AllByRecursion (GroupReads table scale) os
   parts_read [] w s v = tt
   parts_read (o ∷ os) w s v = (part_reads o w.0.1 s.0 v.0, parts_read os w.1 s.1 v.1)
 
@@ -105,4 +106,4 @@ module _ (table : List (List ℕ)) (scale : Scale) (few : length table ≤ 2 ^ 6
   payload_reads at m w s v =
       let os = fields_in at m in
       parts_read os (fields_sound BLOCK_KINDS part_wire (items at m) w) (all_nil part_structure os (both_nil _ (flat_map part_structure os) s).1)
-      (all_nil (entered PRIMITIVEGROUP (group_values (length table))) os (both_nil _ (flat_map (entered PRIMITIVEGROUP (group_values (length table))) os) v).1)
+      (all_nil (in_group (member_values (length table))) os (both_nil _ (flat_map (in_group (member_values (length table))) os) v).1)

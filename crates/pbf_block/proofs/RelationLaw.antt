@@ -1,12 +1,12 @@
 -- A written relation has no fault and is read as what it was written for.
 use Rattle.std.proofs.Common.{◌≡◌, ℕ, ◌%◌, ◌^◌, ◌<◌, ◌≤◌, ◌==◌, ◌&&◌, true, ℤ, List, [], ◌∷◌, ◌++◌, length, map, refl, ap₂, subst, sym, ◌∙◌, arith}
-use Rattle.std.specs.List.{AllByRecursion}
+use Rattle.std.specs.List.{AllByRecursion, flat_map}
 use Rattle.std.specs.Option.{option_to_list}
 use Rattle.std.proofs.lemmas.Bool.Decides.{nat_tests}
 use Rattle.std.proofs.lemmas.List.{append-nil, length-map}
 use Rattle.pbf_wire.specs.declared.fault.Reason.TheVariants.{MemberKind as WrongKind}
 use Rattle.pbf_wire.specs.Columns.{column, joined}
-use Rattle.pbf_wire.specs.Faults.{fields_in, below_faults}
+use Rattle.pbf_wire.specs.Faults.{fields_in, below_fault, nested_faults}
 use Rattle.pbf_wire.specs.Message.{Slot, Column, message, SlotFits}
 use Rattle.pbf_wire.specs.Sums.{deltas}
 use Rattle.pbf_wire.proofs.MessageLemmas.{all_left, all_right, column_written}
@@ -21,12 +21,11 @@ use Rattle.osm_entity.specs.EntityTexts.{tag_texts, relation_texts}
 use Rattle.osm_entity.specs.Ranges.{IsStored, MemberFits, RelationFits, EntityTyped}
 use Rattle.osm_entity.specs.Sources.{member_kind, column_members}
 use Rattle.pbf_dense.proofs.InfoLaw.{deltas_length}
-use Rattle.pbf_block.specs.declared.message.TheConstants.{RELATION_KINDS, ROLES_SID, MEMIDS, TYPES}
+use Rattle.pbf_block.specs.declared.message.TheConstants.{RELATION_KINDS, ROLES_SID, MEMIDS, TYPES, INFO, INFO_KINDS}
 use Rattle.pbf_block.specs.Members.{relation_in}
 use Rattle.pbf_block.specs.Payload.{by_index}
 use Rattle.pbf_block.specs.StructureFaults.{are_members, relation_structure}
 use Rattle.pbf_block.specs.ValueFaults.{relation_values}
-use Rattle.pbf_block.specs.WireFaults.{relation_wire}
 use Rattle.pbf_block.specs.WrittenEntity.{kind_number, role_index, relation_slots, relation_message}
 use Rattle.pbf_block.proofs.InfoLaw.{named_read}
 use Rattle.pbf_block.proofs.EntityLaw.{AreAmong, IsNamed, AreKnown, IsOwn, IsReady, all_such, user_among, named_fit, named_good, values_read, count_is, sums_good, entity_fits, id_read, tags_read, meta_read, entity_wire, no_structure, id_quiet, no_value}
@@ -142,7 +141,7 @@ module _ (texts : List (List ℕ)) (r : RelationSpec) (h : RelationFits r) (type
         let sids = named_good texts few (joined ROLES_SID (fields_in at (message (relation_slots texts r)))) (map (role_index texts) r.members) roles_column (roles_named texts r.members roles) in
         let ids = sums_good (joined MEMIDS (fields_in at (message (relation_slots texts r)))) (map (λ m. m.id) r.members) ids_column (ids_stored r.members h.members) in
         let low = all_such (λ v. v < 3) (λ v. v % 2 ^ 32 < 3) (λ v lt. omega (arith, lt)) (map (λ m. kind_number m.kind) r.members) (kinds_small r.members) in
-        let kinds : below_faults WrongKind 3 (joined TYPES (fields_in at (message (relation_slots texts r)))) ≡ [] =
+        let kinds : flat_map (below_fault WrongKind 3) (joined TYPES (fields_in at (message (relation_slots texts r)))) ≡ [] =
         below_good WrongKind 3 (joined TYPES (fields_in at (message (relation_slots texts r)))) (subst (λ (ns : List ℕ). AllByRecursion (λ v. v % 2 ^ 32 < 3) ns) (sym kinds_column) low) in
         rw (id, common, sids, ids, kinds) refl
 
@@ -151,7 +150,7 @@ module _ (texts : List (List ℕ)) (r : RelationSpec) (h : RelationFits r) (type
     unfolding relation_message
     relation_read = slots_read at room
 
-    pub relation_no_wire : (place : ℕ) → relation_wire place at (relation_message texts r) ≡ []
+    pub relation_no_wire : (place : ℕ) → nested_faults RELATION_KINDS INFO INFO_KINDS place at (relation_message texts r) ≡ []
     unfolding relation_message
     relation_no_wire place = entity_wire RELATION_KINDS known texts r.id r.meta r.tags own ready own_is at room place
 

@@ -1,42 +1,33 @@
 -- The last string table of a payload without faults of the wire form and of structure.
-use Rattle.std.proofs.Common.{◌≡◌, ℕ, ◌≤◌, Bool, true, false, List, [], length, refl, arith}
+use Rattle.std.proofs.Common.{◌≡◌, ℕ, ◌≤◌, List, [], length, refl, arith}
 use Rattle.std.proofs.lemmas.Bool.{ltb-false}
 use Rattle.pbf_wire.specs.declared.fault.Reason.TheVariants.{TooManyStrings}
-use Rattle.std.specs.Prelude.{nat_lt, Option, Some, None, if◌then◌else◌}
+use Rattle.std.specs.Prelude.{nat_lt, Option, Some, None}
 use Rattle.std.specs.List.{flat_map, AllByRecursion}
-use Rattle.pbf_wire.specs.declared.fault.Fault.{Fault}
 use Rattle.pbf_wire.specs.Occurrence.{Content, Number, Eight, Four, Bytes, Occurrence, items_past}
-use Rattle.pbf_wire.specs.Reading.{bytes_held, last_of}
+use Rattle.pbf_wire.specs.Reading.{bytes_held, occurrence_text, last_of}
 use Rattle.pbf_wire.specs.Faults.{inside, entered, fields_in}
 use Rattle.pbf_wire.proofs.FaultLemmas.{held_short}
-use Rattle.pbf_wire.proofs.SoundLemmas.{both_nil, all_nil, last_holds}
-use Rattle.pbf_strings.specs.Texts.{count_fault, texts}
+use Rattle.pbf_wire.proofs.SoundLemmas.{both_nil, all_nil, not_wrong, last_holds}
+use Rattle.pbf_strings.specs.Texts.{texts}
 use Rattle.pbf_block.specs.declared.message.TheConstants.{STRINGTABLE, PRIMITIVEGROUP}
-use Rattle.pbf_block.specs.Scale.{held_by, table_of}
-use Rattle.pbf_block.specs.StructureFaults.{of_option, table_structure, part_structure, group_structure, structure_faults}
+use Rattle.pbf_block.specs.Scale.{table_of}
+use Rattle.pbf_block.specs.StructureFaults.{table_structure, part_structure, group_structure, structure_faults}
 use Rattle.pbf_block.proofs.ReadsLemmas.{entered_nil}
 
 -- ---- it is no longer than the payload
 
-short_if : (n k : ℕ) (os : List Occurrence) (last : Option Occurrence) → AllByRecursion (λ o. length (bytes_held o.content) ≤ n) os → last_of k os ≡ last → length (held_by last) ≤ n
+short_if : (n k : ℕ) (os : List Occurrence) (last : Option Occurrence) → AllByRecursion (λ o. length (bytes_held o.content) ≤ n) os → last_of k os ≡ last → length (occurrence_text last) ≤ n
 short_if n k os None all e = omega arith
 short_if n k os (Some o) all e = (last_holds (λ o. length (bytes_held o.content) ≤ n) k os o all e).0
 
-pub table_short : (at : ℕ) (m : List ℕ) → length (held_by (last_of STRINGTABLE (fields_in at m))) ≤ length m
+pub table_short : (at : ℕ) (m : List ℕ) → length (occurrence_text (last_of STRINGTABLE (fields_in at m))) ≤ length m
 table_short at m = short_if (length m) STRINGTABLE (fields_in at m) (last_of STRINGTABLE (fields_in at m)) (held_short at m) refl
 
 -- ---- it has no more texts than it may have
 
-no_record : (b : Bool) (f : Fault) → (if b then Some f else None) ≡ None → b ≡ false
-no_record true f e = absurd (cc)
-no_record false f e = refl
-
-few_texts : (place : ℕ) (m : List ℕ) → count_fault place m ≡ None → length (texts m) ≤ 1048576
-few_texts place m e = omega (arith, ltb-false 1048576 (length (texts m)) (no_record (nat_lt 1048576 (length (texts m))) (record { offset = place; reason = TooManyStrings }) e))
-
-no_option : {X : Type 0} (x : Option X) → of_option x ≡ [] → x ≡ None
-no_option None e = refl
-no_option (Some x) e = absurd (cc)
+few_texts : (place : ℕ) (m : List ℕ) → table_structure place 0 m ≡ [] → length (texts m) ≤ 1048576
+few_texts place m e = omega (arith, ltb-false 1048576 (length (texts m)) (not_wrong (nat_lt 1048576 (length (texts m))) place TooManyStrings e))
 
 few_none : length (texts []) ≤ 1048576
 unfolding items_past
@@ -46,9 +37,9 @@ few_inside : (place : ℕ) (c : Content) → inside (table_structure place) c �
 few_inside place (Number v) s = few_none
 few_inside place (Eight bytes) s = few_none
 few_inside place (Four bytes) s = few_none
-few_inside place (Bytes bytes at) s = few_texts place bytes (no_option (count_fault place bytes) s)
+few_inside place (Bytes bytes at) s = few_texts place bytes s
 
-few_if : (os : List Occurrence) (last : Option Occurrence) → AllByRecursion (λ o. part_structure o ≡ []) os → last_of STRINGTABLE os ≡ last → length (texts (held_by last)) ≤ 1048576
+few_if : (os : List Occurrence) (last : Option Occurrence) → AllByRecursion (λ o. part_structure o ≡ []) os → last_of STRINGTABLE os ≡ last → length (texts (occurrence_text last)) ≤ 1048576
 few_if os None all e = few_none
 few_if os (Some o) all e =
     let h = last_holds (λ o. part_structure o ≡ []) STRINGTABLE os o all e in

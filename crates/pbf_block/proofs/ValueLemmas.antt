@@ -8,7 +8,8 @@ use Rattle.pbf_wire.specs.declared.fault.Reason.TheVariants.{StringIndex}
 use Rattle.pbf_wire.specs.Least.{lesser, least}
 use Rattle.pbf_wire.specs.Columns.{placed, numbers_in, column_of, joined}
 use Rattle.pbf_wire.specs.Occurrence.{Occurrence}
-use Rattle.pbf_wire.specs.Faults.{fault, fault_where, index_fault, index_faults, value_in, value_of_last, last_value}
+use Rattle.pbf_wire.specs.Faults.{fault, fault_where, below_fault, index_faults, value_in, last_value}
+use Rattle.pbf_wire.proofs.QuietLemmas.{value_of_last}
 
 -- the last number of the field k, where this was the last before
 abbrev pub later_value : ℕ → Option (ℕ × ℕ) → List Occurrence → Option (ℕ × ℕ)
@@ -37,7 +38,7 @@ pub texts_are : (k limit : ℕ) (os : List Occurrence) → flat_map (texts_of k 
 texts_are k limit [] = refl
 texts_are k limit (o ∷ os) =
     ap₂ (λ (xs ys : List Fault). xs ++ ys) (here (o.number == k)) (texts_are k limit os)
-    ∙ sym (flat_map-append (index_fault limit) (column_of k o) (joined k os)) where
+    ∙ sym (flat_map-append (below_fault StringIndex limit) (column_of k o) (joined k os)) where
       here : (b : Bool) → (if b then index_faults limit (placed o.place (numbers_in o.content)) else []) ≡ index_faults limit (if b then placed o.place (numbers_in o.content) else [])
       here true = refl
       here false = refl
@@ -55,7 +56,7 @@ first_of_all limit place (n ∷ ns) = by (nat_lt (n % 2 ^ 32) limit) (first_of_a
   by false rest = ap (λ w. lesser (Some (fault place StringIndex)) w) rest ∙ same_fault place
 
 -- so the first of them is the least
-pub first_told : (limit place n : ℕ) (ns : List ℕ) (f : Fault) → Some f ≡ least (index_fault limit (n, place)) → Some f ≡ least (index_faults limit (placed place (n ∷ ns)))
+pub first_told : (limit place n : ℕ) (ns : List ℕ) (f : Fault) → Some f ≡ least (below_fault StringIndex limit (n, place)) → Some f ≡ least (index_faults limit (placed place (n ∷ ns)))
 first_told limit place n ns f e = by (nat_lt (n % 2 ^ 32) limit) e where
   by : (b : Bool) → Some f ≡ least (fault_where (not b) place StringIndex) → Some f ≡ least (fault_where (not b) place StringIndex ++ index_faults limit (placed place ns))
   by true e = absurd (cc)

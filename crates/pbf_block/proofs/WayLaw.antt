@@ -5,7 +5,7 @@ use Rattle.std.specs.Option.{option_to_list}
 use Rattle.std.proofs.lemmas.Bool.Decides.{nat_tests}
 use Rattle.std.proofs.lemmas.List.{append-nil, length-map}
 use Rattle.pbf_wire.specs.Columns.{column, joined}
-use Rattle.pbf_wire.specs.Faults.{fields_in}
+use Rattle.pbf_wire.specs.Faults.{fields_in, nested_faults}
 use Rattle.pbf_wire.specs.Message.{Slot, Column, message, SlotFits}
 use Rattle.pbf_wire.specs.Sums.{deltas}
 use Rattle.pbf_wire.proofs.MessageLemmas.{all_left, all_right, column_written}
@@ -15,12 +15,11 @@ use Rattle.osm_entity.specs.Entity.{LocationSpec, WaySpec, way}
 use Rattle.osm_entity.specs.EntityTexts.{tag_texts, way_texts}
 use Rattle.osm_entity.specs.Ranges.{IsStored, LocationFits, AreLocated, WayFits, EntityTyped}
 use Rattle.pbf_dense.proofs.InfoLaw.{deltas_length}
-use Rattle.pbf_block.specs.declared.message.TheConstants.{WAY_KINDS, REFS, WAY_LAT, WAY_LON}
+use Rattle.pbf_block.specs.declared.message.TheConstants.{WAY_KINDS, REFS, WAY_LAT, WAY_LON, INFO, INFO_KINDS}
 use Rattle.pbf_block.specs.Members.{way_in}
 use Rattle.pbf_block.specs.Payload.{by_index}
 use Rattle.pbf_block.specs.StructureFaults.{are_located, way_structure}
 use Rattle.pbf_block.specs.ValueFaults.{way_values}
-use Rattle.pbf_block.specs.WireFaults.{way_wire}
 use Rattle.pbf_block.specs.WrittenEntity.{way_slots, way_message}
 use Rattle.pbf_block.proofs.EntityLaw.{AreAmong, AreKnown, IsOwn, IsReady, user_among, values_read, count_is, sums_good, entity_fits, id_read, tags_read, meta_read, entity_wire, no_structure, id_quiet, no_value}
 
@@ -124,7 +123,7 @@ module _ (texts : List (List ℕ)) (w : WaySpec) (h : WayFits w) (typed : Entity
     unfolding way_message
     way_read = slots_read at room
 
-    pub way_no_wire : (place : ℕ) → way_wire place at (way_message texts w) ≡ []
+    pub way_no_wire : (place : ℕ) → nested_faults WAY_KINDS INFO INFO_KINDS place at (way_message texts w) ≡ []
     unfolding way_message
     way_no_wire place = entity_wire WAY_KINDS known texts w.id w.meta w.tags own ready own_is at room place
 

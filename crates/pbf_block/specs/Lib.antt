@@ -1,6 +1,7 @@
 pub mod WireFaults
 pub mod StructureFaults
 pub mod ValueFaults
+pub mod Groups
 pub mod Scale
 pub mod Info
 pub mod Members

@@ -1,17 +1,16 @@
 -- The entities of a payload, from its messages. What is read of a column of differences, and of a dense message, is left open:
 -- it is said once by index, and once as cursors go along the columns.
 use Rattle.std.specs.Prelude.{ℕ, ℤ, pos, List, [], ◌∷◌, ◌==◌, if◌then◌else◌, map}
-use Rattle.std.specs.List.{flat_map, zip}
+use Rattle.std.specs.List.{zip}
 use Rattle.pbf_wire.specs.Columns.{column}
-use Rattle.pbf_wire.specs.Faults.{entered, inside, fields_in, embedded}
+use Rattle.pbf_wire.specs.Faults.{inside, fields_in, embedded}
 use Rattle.pbf_wire.specs.Occurrence.{Occurrence}
-use Rattle.pbf_wire.specs.Reading.{last_number}
 use Rattle.pbf_wire.specs.Signed.{unzigzag, low_i64}
 use Rattle.osm_entity.specs.declared.scale.Scale.{Scale}
 use Rattle.osm_entity.specs.Entity.{TagSpec, NodeSpec, WaySpec, RelationSpec, EntitySpec, node, way, relation}
 use Rattle.osm_entity.specs.Sources.{paired_tags, column_members}
-use Rattle.pbf_block.specs.declared.message.TheConstants.{PRIMITIVEGROUP, NODES, DENSE, WAYS, RELATIONS, ID, KEYS, VALS, INFO, NODE_LAT, NODE_LON, REFS, WAY_LAT, WAY_LON, ROLES_SID, MEMIDS, TYPES}
-use Rattle.pbf_block.specs.Scale.{read_or}
+use Rattle.pbf_block.specs.declared.message.TheConstants.{NODES, DENSE, WAYS, RELATIONS, ID, KEYS, VALS, INFO, NODE_LAT, NODE_LON, REFS, WAY_LAT, WAY_LON, ROLES_SID, MEMIDS, TYPES}
+use Rattle.pbf_block.specs.Scale.{number_or}
 use Rattle.pbf_block.specs.Info.{info_in}
 
 -- the values of a column of differences, and the nodes of a dense message
@@ -21,14 +20,6 @@ pub record How : Type 0 where
 
 -- ---- parts of nodes, ways and relations
 
--- a number in zigzag, and 0 where it is absent
-abbrev pub signed_in : ℕ → List Occurrence → ℤ
-signed_in k os = read_or (pos 0) unzigzag (last_number k os)
-
--- a number in two's complement, and 0 where it is absent
-abbrev pub wide_in : ℕ → List Occurrence → ℤ
-wide_in k os = read_or (pos 0) low_i64 (last_number k os)
-
 abbrev pub tags_in : List (List ℕ) → List Occurrence → List TagSpec
 tags_in table os = paired_tags table (column KEYS os) (column VALS os)
 
@@ -36,9 +27,9 @@ tags_in table os = paired_tags table (column KEYS os) (column VALS os)
 
 unfoldable pub node_in : List (List ℕ) → Scale → List Occurrence → NodeSpec
 node_in table scale os = record {
-  id = signed_in ID os;
-  lat = signed_in NODE_LAT os;
-  lon = signed_in NODE_LON os;
+  id = number_or (pos 0) unzigzag ID os;
+  lat = number_or (pos 0) unzigzag NODE_LAT os;
+  lon = number_or (pos 0) unzigzag NODE_LON os;
   meta = info_in table (embedded INFO os);
   tags = tags_in table os;
   scale = scale;
@@ -49,7 +40,7 @@ values_in how k os = how.values (map unzigzag (column k os))
 
 unfoldable pub way_in : How → List (List ℕ) → Scale → List Occurrence → WaySpec
 way_in how table scale os = record {
-  id = wide_in ID os;
+  id = number_or (pos 0) low_i64 ID os;
   meta = info_in table (embedded INFO os);
   tags = tags_in table os;
   refs = values_in how REFS os;
@@ -59,16 +50,16 @@ way_in how table scale os = record {
 
 unfoldable pub relation_in : How → List (List ℕ) → Scale → List Occurrence → RelationSpec
 relation_in how table scale os = record {
-  id = wide_in ID os;
+  id = number_or (pos 0) low_i64 ID os;
   meta = info_in table (embedded INFO os);
   tags = tags_in table os;
   members = column_members table (column TYPES os) (values_in how MEMIDS os) (column ROLES_SID os);
   scale = scale;
 }
 
--- ---- the entities of groups
+-- ---- the entities of a group's fields
 
--- those of the message that the field k of a group holds
+-- those of the message that the field k holds
 abbrev pub message_entities : How → List (List ℕ) → Scale → ℕ → List Occurrence → List EntitySpec
 message_entities how table scale k os =
     if k == NODES then node (node_in table scale os) ∷ []
@@ -79,10 +70,3 @@ message_entities how table scale k os =
 
 abbrev pub member_entities : How → List (List ℕ) → Scale → Occurrence → List EntitySpec
 member_entities how table scale o = inside (λ at m. message_entities how table scale o.number (fields_in at m)) o.content
-
--- those of a field of the payload, which may be a group
-abbrev pub group_entities : How → List (List ℕ) → Scale → Occurrence → List EntitySpec
-group_entities how table scale o = entered PRIMITIVEGROUP (λ place at m. flat_map (member_entities how table scale) (fields_in at m)) o
-
-abbrev pub entities_by : How → List (List ℕ) → Scale → List Occurrence → List EntitySpec
-entities_by how table scale os = flat_map (group_entities how table scale) os

@@ -1,33 +1,27 @@
 -- The faults of structure of a PrimitiveBlock: messages that lack or repeat something, or whose columns don't fit together.
-use Rattle.std.specs.Prelude.{ℕ, ◌==◌, Bool, false, not, ◌&&◌, ◌||◌, List, [], ◌∷◌, ◌++◌, map, filter, Option, Some, None}
+use Rattle.std.specs.Prelude.{ℕ, ◌==◌, Bool, not, ◌&&◌, ◌||◌, nat_lt, List, ◌++◌, length, map, filter, Option, unwrap_or}
 use Rattle.std.specs.Option.{option_map}
 use Rattle.std.specs.List.{flat_map, find}
 use Rattle.pbf_wire.specs.declared.fault.Fault.{Fault}
-use Rattle.pbf_wire.specs.declared.fault.Reason.TheVariants.{MixedGroup, Changesets, TagColumns, MemberColumns, LocationColumns}
+use Rattle.pbf_wire.specs.declared.fault.Reason.TheVariants.{TooManyStrings, MixedGroup, Changesets, TagColumns, MemberColumns, LocationColumns}
 use Rattle.pbf_wire.specs.Occurrence.{Occurrence}
 use Rattle.pbf_wire.specs.Faults.{fault, fault_where, entered, fields_in, missing, twice, column_count}
-use Rattle.pbf_strings.specs.Texts.{count_fault}
-use Rattle.pbf_dense.specs.Judged.{dense_structure}
+use Rattle.pbf_strings.specs.Texts.{texts}
+use Rattle.pbf_dense.specs.Judged.{goes_with, dense_structure}
 use Rattle.pbf_block.specs.declared.message.TheConstants.{STRINGTABLE, PRIMITIVEGROUP, NODES, DENSE, WAYS, RELATIONS, CHANGESETS, ID, KEYS, VALS, INFO, NODE_LAT, NODE_LON, REFS, WAY_LAT, WAY_LON, ROLES_SID, MEMIDS, TYPES}
 
 -- ---- entities
 
--- the keys and values of an entity are of unlike count
-abbrev pub tag_columns : ℕ → List Occurrence → List Fault
-tag_columns place os = fault_where (not (column_count KEYS os == column_count VALS os)) place TagColumns
-
--- what all entities have alike
+-- what all entities have alike: an id, no second Info, and as many keys as values
 abbrev pub entity_structure : ℕ → List Occurrence → List Fault
-entity_structure place os = missing ID place os ++ twice INFO os ++ tag_columns place os
+entity_structure place os = missing ID place os ++ twice INFO os ++ fault_where (not (column_count KEYS os == column_count VALS os)) place TagColumns
 
 abbrev pub node_structure : ℕ → ℕ → List ℕ → List Fault
 node_structure place at m = let os = fields_in at m in entity_structure place os ++ missing NODE_LAT place os ++ missing NODE_LON place os
 
--- there are no locations, or as many as refs
+-- there are as many latitudes as longitudes, and no locations or as many as refs
 abbrev pub are_located : List Occurrence → Bool
-are_located os =
-    column_count WAY_LAT os == column_count WAY_LON os
-    && (column_count WAY_LAT os == 0 || column_count WAY_LAT os == column_count REFS os)
+are_located os = column_count WAY_LAT os == column_count WAY_LON os && goes_with (column_count REFS os) WAY_LAT os
 
 abbrev pub way_structure : ℕ → ℕ → List ℕ → List Fault
 way_structure place at m = let os = fields_in at m in entity_structure place os ++ fault_where (not (are_located os)) place LocationColumns
@@ -52,10 +46,9 @@ is_member k = k == NODES || k == DENSE || k == WAYS || k == RELATIONS
 abbrev pub first_member : List Occurrence → Option ℕ
 first_member os = option_map (λ o. o.number) (find (λ o. is_member o.number) os)
 
--- it holds entities of another kind than the first
+-- it holds entities of another kind than the first, where there is a first
 abbrev pub is_other : Option ℕ → ℕ → Bool
-is_other None k = false
-is_other (Some first) k = is_member k && not (k == first)
+is_other first k = is_member k && not (k == unwrap_or first k)
 
 -- each field that holds entities of another kind than the first
 abbrev pub mixed : List Occurrence → List Fault
@@ -70,13 +63,9 @@ group_structure place at m = let os = fields_in at m in twice DENSE os ++ mixed 
 
 -- ---- the block
 
-abbrev pub of_option : {X : Type 0} → Option X → List X
-of_option None = []
-of_option (Some x) = x ∷ []
-
 -- a table has too many texts
 abbrev pub table_structure : ℕ → ℕ → List ℕ → List Fault
-table_structure place at m = of_option (count_fault place m)
+table_structure place at m = fault_where (nat_lt 1048576 (length (texts m))) place TooManyStrings
 
 abbrev pub part_structure : Occurrence → List Fault
 part_structure o = entered STRINGTABLE table_structure o ++ entered PRIMITIVEGROUP group_structure o

@@ -7,17 +7,11 @@ use Rattle.pbf_strings.specs.Texts.{table_kinds}
 use Rattle.pbf_dense.specs.Judged.{dense_wire}
 use Rattle.pbf_block.specs.declared.message.TheConstants.{STRINGTABLE, PRIMITIVEGROUP, BLOCK_KINDS, NODES, DENSE, WAYS, RELATIONS, GROUP_KINDS, INFO, INFO_KINDS, NODE_KINDS, WAY_KINDS, RELATION_KINDS}
 
-abbrev pub node_wire : ℕ → ℕ → List ℕ → List Fault
-node_wire place at m = nested_faults NODE_KINDS INFO INFO_KINDS place at m
-
-abbrev pub way_wire : ℕ → ℕ → List ℕ → List Fault
-way_wire place at m = nested_faults WAY_KINDS INFO INFO_KINDS place at m
-
-abbrev pub relation_wire : ℕ → ℕ → List ℕ → List Fault
-relation_wire place at m = nested_faults RELATION_KINDS INFO INFO_KINDS place at m
-
+-- of an entity and of its Info, or of dense nodes
 abbrev pub member_wire : Occurrence → List Fault
-member_wire o = entered NODES node_wire o ++ entered DENSE dense_wire o ++ entered WAYS way_wire o ++ entered RELATIONS relation_wire o
+member_wire o =
+    entered NODES (nested_faults NODE_KINDS INFO INFO_KINDS) o ++ entered DENSE dense_wire o
+    ++ entered WAYS (nested_faults WAY_KINDS INFO INFO_KINDS) o ++ entered RELATIONS (nested_faults RELATION_KINDS INFO INFO_KINDS) o
 
 abbrev pub group_wire : ℕ → ℕ → List ℕ → List Fault
 group_wire place at m = message_faults GROUP_KINDS member_wire (items at m)

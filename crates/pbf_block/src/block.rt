@@ -7,15 +7,17 @@ ghost use Rattle.pbf_wire.specs.declared.fault.Fault.{Fault};
 ghost use Rattle.pbf_wire.specs.declared.fault.ReadFault.TheVariants.{Refused};
 ghost use Rattle.pbf_wire.specs.Faults.{fields_in};
 ghost use Rattle.pbf_wire.specs.Least.{least, least_by};
+ghost use Rattle.pbf_wire.specs.Reading.{occurrence_text};
 ghost use Rattle.osm_entity.specs.Ranges.{EntityFits};
-ghost use Rattle.pbf_block.specs.Judgement.{payload_values, payload_weights, block_fault, all_faults};
+ghost use Rattle.pbf_block.specs.Judgement.{payload_weights, block_fault, all_faults};
+ghost use Rattle.pbf_block.specs.ValueFaults.{value_faults};
 ghost use Rattle.pbf_block.specs.Cursors.{entities_left};
 ghost use Rattle.pbf_block.specs.Payload.{entities};
 ghost use Rattle.pbf_block.specs.Kinds.{is_among};
 ghost use Rattle.pbf_block.specs.Numbers.{counts_of};
 ghost use Rattle.pbf_block.specs.Runs.{joined_runs, runs_left};
 ghost use Rattle.pbf_wire.specs.Fields.{occurrence};
-ghost use Rattle.pbf_block.specs.Scale.{scale_of, table_of, held_by};
+ghost use Rattle.pbf_block.specs.Scale.{scale_of, table_of};
 ghost use Rattle.pbf_block.specs.StructureFaults.{structure_faults};
 ghost use Rattle.pbf_block.specs.WireFaults.{wire_faults};
 
@@ -48,7 +50,7 @@ fn early_fault(payload: &[u8], at: u64) -> Option<Fault>
 
 /// The bytes of a field; none where the field is absent.
 fn bytes_in(field: Option<Field<'_>>) -> &[u8]
-    ensures { result.now ≡ held_by (option_map occurrence field.entry) }
+    ensures { result.now ≡ occurrence_text (option_map occurrence field.entry) }
 {
     match field {
         Some(field) => field.payload.bytes(),
@@ -73,7 +75,8 @@ fn late_fault<'a>(payload: &'a [u8], at: u64, table: &'a Table<'a>, scale: Scale
     requires scale { scale ≡ scale_of (fields_in at payload.now) }
     requires wire { wire_faults at payload.now ≡ [] }
     requires structure { structure_faults at payload.now ≡ [] }
-    ensures { result ≡ option_or (least (payload_values at payload.now))
+    ensures { result ≡ option_or
+        (least (value_faults (length (table_of (fields_in at payload.now))) at payload.now))
         (least (payload_weights at payload.now)) }
 {
     if let Some(fault) = judge_values(payload, at, table.len() as u64) {

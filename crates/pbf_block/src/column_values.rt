@@ -1,14 +1,14 @@
 //! The columns of an entity's message, judged one field at a time or from where the first of their fields was found.
 
-ghost use Rattle.std.specs.Prelude.{◌≡◌, false, List};
-ghost use Rattle.pbf_wire.specs.Columns.{entries, read_entries, placed, numbers_in, joined};
+ghost use Rattle.std.specs.Prelude.{◌≡◌, List};
+ghost use Rattle.pbf_wire.specs.Columns.{entries, read_entries, placed, numbers_in};
 ghost use Rattle.pbf_wire.specs.Cursors.{fields_left};
-ghost use Rattle.pbf_wire.specs.Faults.{index_faults, sum_faults, last_value};
+ghost use Rattle.pbf_wire.specs.Faults.{index_faults, last_value};
 ghost use Rattle.pbf_wire.specs.Least.{least};
 ghost use Rattle.pbf_wire.specs.Occurrence.{Occurrence, found};
 ghost use Rattle.pbf_wire.specs.Payload.{content};
+ghost use Rattle.pbf_dense.specs.Judged.{range_faults};
 ghost use Rattle.pbf_block.specs.Passes.{only, only_left};
-ghost use Rattle.pbf_block.specs.ValueFaults.{stored_limit};
 
 use crate::info_values::value_in;
 use osm_entity::STORED_LIMIT;
@@ -46,7 +46,7 @@ pub(crate) fn judge_texts(field: Field<'_>, limit: u64) -> Option<Fault>
 #[tactic(auto, using(crate::proofs::PassLemmas::joined_left_is))]
 pub(crate) fn judge_sums(fields: Fields<'_>, number: u64) -> Option<Fault>
     ensures { (os : List Occurrence) → only_left number fields.entry ≡ only number os
-        → result ≡ least (sum_faults stored_limit false (joined number os)) }
+        → result ≡ least (range_faults number os) }
 {
     judge_sums_left(fields, number, STORED_LIMIT.unsigned_abs(), false)
 }

@@ -6,7 +6,8 @@ ghost use Rattle.pbf_wire.specs.Fields.{occurrence};
 ghost use Rattle.pbf_wire.specs.Faults.{fields_in};
 ghost use Rattle.osm_entity.specs.declared.scale.Scale.{Scale};
 ghost use Rattle.osm_entity.specs.Views.{entity_of};
-ghost use Rattle.pbf_block.specs.Members.{member_entities, group_entities, entities_by};
+ghost use Rattle.pbf_block.specs.Groups.{in_group};
+ghost use Rattle.pbf_block.specs.Members.{member_entities};
 ghost use Rattle.pbf_block.specs.Numbers.{counted_with, count_one, counts_of, by_ends};
 
 use crate::message::{DENSE, NODES, PRIMITIVEGROUP, RELATIONS, WAYS};
@@ -94,7 +95,7 @@ fn count_group(message: &[u8], at: u64) -> Counts
 /// Counts the entities of a field of the payload, which may be a group.
 fn count_part(field: Field<'_>) -> Counts
     ensures { (table : List (List ℕ)) (scale : Scale)
-        → result ≡ counts_of (group_entities by_ends table scale (occurrence field.entry)) }
+        → result ≡ counts_of (in_group (member_entities by_ends table scale) (occurrence field.entry)) }
 {
     if field.number != PRIMITIVEGROUP {
         return Counts::none();
@@ -111,7 +112,8 @@ fn count_part(field: Field<'_>) -> Counts
 pub(crate) fn count_entities(payload: &[u8], at: u64) -> Counts
     requires { at + length payload.now ≤ 2 ^ 63 }
     ensures { (table : List (List ℕ)) (scale : Scale)
-        → result ≡ counts_of (entities_by by_ends table scale (fields_in at payload.now)) }
+        → result ≡ counts_of
+        (flat_map (in_group (member_entities by_ends table scale)) (fields_in at payload.now)) }
 {
     let mut counts = Counts::none();
     for item in Fields::new(payload, at) {

@@ -1,17 +1,19 @@
 //! The fields of a node, a way or a relation, found in one pass over its message.
 
-ghost use Rattle.std.specs.Prelude.{◌≡◌, ◌+◌, ◌≤◌, ◌^◌, List, length};
+ghost use Rattle.std.specs.Prelude.{◌≡◌, ◌+◌, ◌≤◌, ◌^◌, pos, List, length};
 ghost use Rattle.pbf_wire.specs.Columns.{column};
 ghost use Rattle.pbf_wire.specs.Cursors.{fields_left, numbers_left, sums_left};
 ghost use Rattle.pbf_wire.specs.Faults.{fields_in, embedded};
 ghost use Rattle.pbf_wire.specs.Occurrence.{Occurrence, found};
 ghost use Rattle.pbf_wire.specs.Reading.{last_number};
+ghost use Rattle.pbf_wire.specs.Signed.{unzigzag, low_i64};
 ghost use Rattle.osm_entity.specs.Sources.{tags_left};
 ghost use Rattle.osm_entity.specs.Views.{meta_of};
 ghost use Rattle.pbf_block.specs.Info.{info_in};
-ghost use Rattle.pbf_block.specs.Members.{signed_in, wide_in, tags_in, values_in};
+ghost use Rattle.pbf_block.specs.Members.{tags_in, values_in};
 ghost use Rattle.pbf_block.specs.Payload.{along};
 ghost use Rattle.pbf_block.specs.Passes.{AreFields, only, only_left};
+ghost use Rattle.pbf_block.specs.Scale.{number_or};
 
 use crate::info::meta_in;
 use crate::message::{ID, INFO, KEYS, VALS};
@@ -76,7 +78,7 @@ pub(crate) fn entity_fields(message: &[u8], at: u64) -> EntityFields<'_>
 impl<'a> EntityFields<'a> {
     /// The id as a `sint64`, which it is of a node, and 0 where it is absent.
     pub(crate) fn signed_id(&self) -> i64
-        ensures { (os : List Occurrence) → AreFields self.now os → result ≡ signed_in ID os }
+        ensures { (os : List Occurrence) → AreFields self.now os → result ≡ number_or (pos 0) unzigzag ID os }
     {
         match self.id {
             Some(number) => unzigzag(number),
@@ -86,7 +88,7 @@ impl<'a> EntityFields<'a> {
 
     /// The id as an `int64`, which it is of a way or a relation, and 0 where it is absent.
     pub(crate) fn wide_id(&self) -> i64
-        ensures { (os : List Occurrence) → AreFields self.now os → result ≡ wide_in ID os }
+        ensures { (os : List Occurrence) → AreFields self.now os → result ≡ number_or (pos 0) low_i64 ID os }
     {
         match self.id {
             Some(number) => low_i64(number),
@@ -152,7 +154,7 @@ fn last_left(fields: Fields<'_>, number: u64) -> Option<u64>
 #[tactic(auto, using(crate::proofs::PassLemmas::last_left_is))]
 pub(crate) fn last_signed(fields: Fields<'_>, number: u64) -> i64
     ensures { (os : List Occurrence) → only_left number fields.entry ≡ only number os
-        → result ≡ signed_in number os }
+        → result ≡ number_or (pos 0) unzigzag number os }
 {
     match last_left(fields, number) {
         Some(value) => unzigzag(value),

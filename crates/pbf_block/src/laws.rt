@@ -4,7 +4,7 @@
 ghost use Rattle.std.specs.Prelude.{◌≡◌, ℕ, ◌+◌, ◌*◌, ◌<◌, ◌≤◌, true, List, [], length, None};
 ghost use Rattle.std.specs.List.{AllByRecursion, sum_by};
 ghost use Rattle.std.specs.Option.{option_map};
-ghost use Rattle.pbf_wire.specs.Faults.{fields_in};
+ghost use Rattle.pbf_wire.specs.Faults.{fields_in, nested_faults};
 ghost use Rattle.pbf_wire.specs.Least.{least_by};
 ghost use Rattle.pbf_wire.specs.Phases.{phase_rank};
 ghost use Rattle.pbf_strings.specs.TableOut.{has_text, table_of};
@@ -12,12 +12,12 @@ ghost use Rattle.osm_entity.specs.Entity.{WaySpec, RelationSpec, EntitySpec, way
 ghost use Rattle.osm_entity.specs.EntityTexts.{way_texts, relation_texts};
 ghost use Rattle.osm_entity.specs.Ranges.{WayFits, RelationFits, EntityFits, EntityTyped};
 ghost use Rattle.osm_entity.specs.Weight.{entity_weight};
+ghost use Rattle.pbf_block.specs.declared.message.TheConstants.{WAY_KINDS, RELATION_KINDS, INFO, INFO_KINDS};
 ghost use Rattle.pbf_block.specs.Judgement.{block_fault, all_faults};
 ghost use Rattle.pbf_block.specs.Members.{way_in, relation_in};
 ghost use Rattle.pbf_block.specs.Payload.{by_index, entities};
 ghost use Rattle.pbf_block.specs.StructureFaults.{way_structure, relation_structure};
 ghost use Rattle.pbf_block.specs.ValueFaults.{way_values, relation_values};
-ghost use Rattle.pbf_block.specs.WireFaults.{way_wire, relation_wire};
 ghost use Rattle.pbf_block.specs.WrittenBlock.{is_block, block_message};
 ghost use Rattle.pbf_block.specs.WrittenEntity.{way_message, relation_message};
 
@@ -42,7 +42,7 @@ pub fn written_way_is_read()
     ensures wire { (texts : List (List ℕ)) (w : WaySpec) → WayFits w → EntityTyped (way w)
         → AllByRecursion (λ text. has_text texts text ≡ true) (way_texts w)
         → length (table_of texts) ≤ 1048576 → (place at : ℕ)
-        → way_wire place at (way_message texts w) ≡ [] }
+        → nested_faults WAY_KINDS INFO INFO_KINDS place at (way_message texts w) ≡ [] }
     ensures structure { (texts : List (List ℕ)) (w : WaySpec) → WayFits w → EntityTyped (way w)
         → AllByRecursion (λ text. has_text texts text ≡ true) (way_texts w)
         → length (table_of texts) ≤ 1048576 → (place at : ℕ)
@@ -63,7 +63,7 @@ pub fn written_relation_is_read()
     ensures wire { (texts : List (List ℕ)) (r : RelationSpec) → RelationFits r
         → EntityTyped (relation r) → AllByRecursion (λ text. has_text texts text ≡ true)
         (relation_texts r) → length (table_of texts) ≤ 1048576 → (place at : ℕ)
-        → relation_wire place at (relation_message texts r) ≡ [] }
+        → nested_faults RELATION_KINDS INFO INFO_KINDS place at (relation_message texts r) ≡ [] }
     ensures structure { (texts : List (List ℕ)) (r : RelationSpec) → RelationFits r
         → EntityTyped (relation r) → AllByRecursion (λ text. has_text texts text ≡ true)
         (relation_texts r) → length (table_of texts) ≤ 1048576 → (place at : ℕ)

@@ -1,14 +1,15 @@
 //! The structure of a payload: messages that lack or repeat something, or whose columns don't fit together.
 
-ghost use Rattle.std.specs.Prelude.{◌≡◌, ◌+◌, ◌≤◌, ◌^◌, List, length};
+ghost use Rattle.std.specs.Prelude.{◌≡◌, ◌+◌, ◌≤◌, ◌^◌, ◌==◌, not, List, length};
 ghost use Rattle.std.specs.List.{flat_map};
+ghost use Rattle.pbf_wire.specs.declared.fault.Reason.TheVariants.{TagColumns};
 ghost use Rattle.pbf_wire.specs.Fields.{occurrence};
 ghost use Rattle.pbf_wire.specs.Least.{least};
 ghost use Rattle.pbf_wire.specs.Occurrence.{Occurrence};
-ghost use Rattle.pbf_wire.specs.Faults.{fields_in, missing, twice};
-ghost use Rattle.pbf_block.specs.declared.message.TheConstants.{ID, INFO};
+ghost use Rattle.pbf_wire.specs.Faults.{fault_where, fields_in, missing, twice, column_count};
+ghost use Rattle.pbf_block.specs.declared.message.TheConstants.{ID, KEYS, VALS, INFO};
 ghost use Rattle.pbf_block.specs.Counts.{AreCounts};
-ghost use Rattle.pbf_block.specs.StructureFaults.{tag_columns, entity_structure, node_structure, are_located, way_structure, are_members, relation_structure, member_structure, is_member, first_member, is_other, mixed, changesets, group_structure, table_structure, part_structure, structure_faults};
+ghost use Rattle.pbf_block.specs.StructureFaults.{entity_structure, node_structure, are_located, way_structure, are_members, relation_structure, member_structure, is_member, first_member, is_other, mixed, changesets, group_structure, table_structure, part_structure, structure_faults};
 
 use crate::entity_counts::{EntityCounts, entity_counts};
 use crate::message::{
@@ -42,7 +43,8 @@ fn judge_infos(message: &[u8], at: u64, counts: EntityCounts) -> Option<Fault>
 
 /// Whether the keys and values of an entity are of one count.
 fn judge_tags(counts: EntityCounts, tag: u64) -> Option<Fault>
-    ensures { (os : List Occurrence) → AreCounts counts os → result ≡ least (tag_columns tag os) }
+    ensures { (os : List Occurrence) → AreCounts counts os → result
+        ≡ least (fault_where (not (column_count KEYS os == column_count VALS os)) tag TagColumns) }
 {
     fault_where(counts.keys != counts.vals, tag, Reason::TagColumns)
 }

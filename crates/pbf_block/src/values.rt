@@ -6,8 +6,9 @@ ghost use Rattle.pbf_wire.specs.declared.fault.Reason.TheVariants.{MemberKind};
 ghost use Rattle.pbf_wire.specs.Fields.{occurrence};
 ghost use Rattle.pbf_wire.specs.Columns.{joined};
 ghost use Rattle.pbf_wire.specs.Least.{least};
-ghost use Rattle.pbf_wire.specs.Faults.{fields_in, entered, below_faults};
-ghost use Rattle.pbf_block.specs.ValueFaults.{node_values, way_values, relation_values, member_values, group_values, value_faults};
+ghost use Rattle.pbf_wire.specs.Faults.{fields_in, below_fault};
+ghost use Rattle.pbf_block.specs.Groups.{in_group};
+ghost use Rattle.pbf_block.specs.ValueFaults.{node_values, way_values, relation_values, member_values, value_faults};
 
 use crate::column_values::{judge_sums, last_value, last_value_left};
 use crate::entity_values::entity_values;
@@ -45,7 +46,8 @@ fn judge_way(message: &[u8], at: u64, limit: u64) -> Option<Fault>
 /// The least of the kinds of members that are none.
 fn judge_kinds(message: &[u8], at: u64) -> Option<Fault>
     requires { at + length message.now ≤ 2 ^ 63 }
-    ensures { result ≡ least (below_faults MemberKind 3 (joined TYPES (fields_in at message.now))) }
+    ensures { result ≡ least (flat_map (below_fault MemberKind 3)
+        (joined TYPES (fields_in at message.now))) }
 {
     judge_low_numbers(message, at, TYPES, 3, Reason::MemberKind)
 }
@@ -83,7 +85,7 @@ fn judge_member(field: Field<'_>, limit: u64) -> Option<Fault>
 fn judge_group(message: &[u8], at: u64, limit: u64) -> Option<Fault>
     requires placed { at + length message.now ≤ 2 ^ 63 }
     requires limited { limit ≤ 2 ^ 62 }
-    ensures { result ≡ least (group_values limit 0 at message.now) }
+    ensures { result ≡ least (flat_map (member_values limit) (fields_in at message.now)) }
 {
     let mut least = None;
     for item in Fields::new(message, at) {
@@ -98,8 +100,7 @@ fn judge_group(message: &[u8], at: u64, limit: u64) -> Option<Fault>
 /// The least fault of values of a group.
 fn judge_part(field: Field<'_>, limit: u64) -> Option<Fault>
     requires { limit ≤ 2 ^ 62 }
-    ensures { result
-        ≡ least (entered PRIMITIVEGROUP (group_values limit) (occurrence field.entry)) }
+    ensures { result ≡ least (in_group (member_values limit) (occurrence field.entry)) }
 {
     if field.number != PRIMITIVEGROUP {
         return None;
@@ -114,8 +115,7 @@ fn judge_part(field: Field<'_>, limit: u64) -> Option<Fault>
 fn judge_parts(payload: &[u8], at: u64, limit: u64) -> Option<Fault>
     requires placed { at + length payload.now ≤ 2 ^ 63 }
     requires limited { limit ≤ 2 ^ 62 }
-    ensures { result ≡ least (flat_map (entered PRIMITIVEGROUP (group_values limit))
-        (fields_in at payload.now)) }
+    ensures { result ≡ least (flat_map (in_group (member_values limit)) (fields_in at payload.now)) }
 {
     let mut least = None;
     for item in Fields::new(payload, at) {

@@ -9,8 +9,9 @@ ghost use Rattle.pbf_strings.specs.Texts.{longest as longest_of};
 ghost use Rattle.osm_entity.specs.Entity.{node};
 ghost use Rattle.osm_entity.specs.Views.{entity_of};
 ghost use Rattle.pbf_dense.specs.Nodes.{nodes_along};
+ghost use Rattle.pbf_block.specs.Groups.{in_group};
 ghost use Rattle.pbf_block.specs.Payload.{along};
-ghost use Rattle.pbf_block.specs.Weights.{weight_fault, member_weights, group_weights, weight_faults};
+ghost use Rattle.pbf_block.specs.Weights.{weight_fault, member_weights};
 
 use crate::message::{DENSE, NODES, PRIMITIVEGROUP, RELATIONS, WAYS};
 use crate::node::node_in;
@@ -144,7 +145,7 @@ fn judge_field_weights<'a>(
     longest: u64,
 ) -> Option<Fault>
     requires { longest_of table.now ≤ longest }
-    ensures { result ≡ least (group_weights along table.now scale (occurrence field.entry)) }
+    ensures { result ≡ least (in_group (member_weights along table.now scale) (occurrence field.entry)) }
 {
     if field.number != PRIMITIVEGROUP {
         return None;
@@ -166,7 +167,8 @@ pub(crate) fn judge_weights<'a>(
     scale: Scale,
 ) -> Option<Fault>
     requires { at + length payload.now ≤ 2 ^ 63 }
-    ensures { result ≡ least (weight_faults along table.now scale (fields_in at payload.now)) }
+    ensures { result ≡ least
+        (flat_map (in_group (member_weights along table.now scale)) (fields_in at payload.now)) }
 {
     let longest = table.longest() as u64;
     let mut least = None;

@@ -15,8 +15,8 @@ use Rattle.osm_entity.specs.Entity.{NodeSpec, node}
 use Rattle.osm_entity.specs.Ranges.{IsStored, IsUid, IfPresent, IsInt32, MetaFits, NodeFits, ScaleTyped, EntityTyped}
 use Rattle.osm_entity.specs.Weight.{node_weight}
 use Rattle.osm_entity.proofs.RangeLemmas.{int32_typed}
-use Rattle.pbf_dense.specs.declared.message.TheConstants.{ID, DENSEINFO, LAT, LON}
-use Rattle.pbf_dense.specs.Info.{meta_at, info_of}
+use Rattle.pbf_dense.specs.declared.message.TheConstants.{ID, DENSEINFO, LAT, LON, VERSION}
+use Rattle.pbf_dense.specs.Info.{dense_meta}
 use Rattle.pbf_dense.specs.Nodes.{value_at, node_at, nodes}
 use Rattle.pbf_dense.specs.Judged.{IsSound}
 use Rattle.pbf_dense.proofs.ReadableLemmas.{InRange, InfoReads, DenseReads}
@@ -30,8 +30,7 @@ get_all P [] i h = tt
 get_all P (z ∷ zs) zero h = h.0
 get_all P (z ∷ zs) (suc i) h = get_all P zs i h.1
 
-meta_fits : (table : List (List ℕ)) (os : List Occurrence) (i : ℕ) → InfoReads os → MetaFits (meta_at table (info_of os) i)
-unfolding info_of
+meta_fits : (table : List (List ℕ)) (os : List Occurrence) (i : ℕ) → InfoReads os → MetaFits (dense_meta table os i)
 meta_fits table os i h = record { timestamp = get_all IsStored _ i h.timestamps; changeset = get_all IsStored _ i h.changesets; uid = get_all IsUid _ i h.uids }
 
 -- a node that is light can be written
@@ -63,9 +62,8 @@ version_typed (Some v) = int32_typed v
 
 module _ (table : List (List ℕ)) (scale : Scale) (scaled : ScaleTyped scale) (os : List Occurrence) where
   each_typed : (places : List ℕ) → AllByRecursion (λ n. EntityTyped (node n)) (map (node_at table scale os) places)
-  unfolding info_of
   each_typed [] = tt
-  each_typed (i ∷ places) = (record { version = version_typed (slice_get (info_of (embedded DENSEINFO os)).versions i); scale = scaled }, each_typed places)
+  each_typed (i ∷ places) = (record { version = version_typed (slice_get (column VERSION (embedded DENSEINFO os)) i); scale = scaled }, each_typed places)
 
   pub nodes_typed : AllByRecursion (λ n. EntityTyped (node n)) (nodes table scale os)
   unfolding nodes

@@ -1,13 +1,17 @@
 -- Columns that move together give what indices into whole columns give.
-use Rattle.std.proofs.Common.{◌≡◌, ℕ, zero, suc, ◌+◌, ◌-◌, ℤ, List, [], ◌∷◌, length, drop, get_or, map, refl, sym, ap, ap₂, ◌∙◌, arith, add-one, one-add}
-use Rattle.std.specs.Prelude.{slice_get, slice_range}
+use Rattle.std.proofs.Common.{◌≡◌, ℕ, zero, suc, ◌+◌, ℤ, List, [], ◌∷◌, drop, get_or, map, refl, sym, ap, ap₂, ◌∙◌, add-one}
+use Rattle.std.specs.Prelude.{slice_get}
 use Rattle.std.specs.List.{range_with_len}
-use Rattle.std.proofs.Math.Seq.{drop-nil, take-nil}
+use Rattle.pbf_wire.specs.Occurrence.{Occurrence}
+use Rattle.pbf_wire.specs.Columns.{column}
+use Rattle.pbf_wire.specs.Signed.{unzigzag, low_sint32}
+use Rattle.pbf_wire.specs.Sums.{sums}
 use Rattle.osm_entity.specs.declared.scale.Scale.{Scale}
 use Rattle.osm_entity.specs.Entity.{TagSpec, MetaSpec, NodeSpec}
 use Rattle.osm_entity.specs.Sources.{tag_of, run}
+use Rattle.pbf_dense.specs.declared.message.TheConstants.{VERSION, TIMESTAMP, CHANGESET, UID, USER_SID, VISIBLE}
 use Rattle.pbf_dense.specs.Info.{InfoSpec, meta_at, later}
-use Rattle.pbf_dense.specs.Runs.{zeros, tags_end, tags_start, pairs, tags_at, after_run}
+use Rattle.pbf_dense.specs.Runs.{with_pair, runs_in, tags_at, after_run}
 use Rattle.pbf_dense.specs.Nodes.{moving}
 
 -- ---- lists made from an index
@@ -25,61 +29,46 @@ same_map {X = X} f g a (suc n) h = ap₂ (λ (x : X) (xs : List X). x ∷ xs) (h
 
 -- ---- runs
 
-zeros_later : (p q place : ℕ) (column : List ℕ) (i d e : ℕ) → place ≡ p + q → e ≡ p + d → get_or (zeros place column) i e ≡ p + get_or (zeros q column) i d
-zeros_later p q place [] i d e at past = past
-zeros_later p q place (zero ∷ rest) zero d e at past = at
-zeros_later p q place (zero ∷ rest) (suc i) d e at past = zeros_later p (q + 1) (place + 1) rest i d e (omega arith) past
-zeros_later p q place (suc key ∷ []) i d e at past = past
-zeros_later p q place (suc key ∷ value ∷ rest) i d e at past = zeros_later p (q + 2) (place + 2) rest i d e (omega arith) past
+first_with : (pair : ℕ × ℕ) (runs : List (List (ℕ × ℕ))) → get_or (with_pair pair runs) 0 [] ≡ pair ∷ get_or runs 0 []
+first_with pair [] = refl
+first_with pair (run ∷ later) = refl
 
-abbrev run_at : List ℕ → ℕ → List ℕ
-run_at column i = slice_range column (tags_start column i) (tags_end column i)
+later_with : (pair : ℕ × ℕ) (runs : List (List (ℕ × ℕ))) (i : ℕ) → get_or (with_pair pair runs) (suc i) [] ≡ get_or runs (suc i) []
+later_with pair [] i = refl
+later_with pair (run ∷ later) i = refl
 
-slice_nil : (a b : ℕ) → slice_range {X = ℕ} [] a b ≡ []
-slice_nil a b = rw drop-nil (take-nil (b - a))
+run_first : (column : List ℕ) → get_or (runs_in column) 0 [] ≡ run column
+run_first [] = refl
+run_first (zero ∷ rest) = refl
+run_first (suc key ∷ []) = refl
+run_first (suc key ∷ value ∷ rest) = first_with (suc key, value) (runs_in rest) ∙ ap (λ (pairs : List (ℕ × ℕ)). (suc key, value) ∷ pairs) (run_first rest)
 
-slice_later : (x : ℕ) (xs : List ℕ) (s e a b : ℕ) → a ≡ suc s → b ≡ suc e → slice_range (x ∷ xs) a b ≡ slice_range xs s e
-slice_later x xs s e a b at to =
-    let len : suc e - suc s ≡ e - s = omega arith in
-    rw (at, to, len) refl
-
-run_first : (table : List (List ℕ)) (column : List ℕ) → map (tag_of table) (run column) ≡ map (tag_of table) (pairs (run_at column 0))
-run_first table [] = refl
-run_first table (zero ∷ rest) = refl
-run_first table (suc key ∷ []) = refl
-run_first table (suc key ∷ value ∷ rest) =
-    let len : tags_end (suc key ∷ value ∷ rest) 0 - 0 ≡ suc (suc (tags_end rest 0 - 0)) = omega (arith, zeros_later 2 0 2 rest 0 (length rest) (suc (suc (length rest))) refl (omega arith)) in
-    rw len (ap (λ (ts : List TagSpec). tag_of table (suc key, value) ∷ ts) (run_first table rest))
-
-end_behind_zero : (rest : List ℕ) (i : ℕ) → tags_end (0 ∷ rest) (suc i) ≡ suc (tags_end rest i)
-end_behind_zero rest i = zeros_later 1 0 1 rest i (length rest) (suc (length rest)) refl (omega arith) ∙ one-add _
-
-end_behind_tag : (key value : ℕ) (rest : List ℕ) (i : ℕ) → tags_end (suc key ∷ value ∷ rest) i ≡ suc (suc (tags_end rest i))
-end_behind_tag key value rest i = omega (arith, zeros_later 2 0 2 rest i (length rest) (suc (suc (length rest))) refl (omega arith))
-
-run_later : (column : List ℕ) (i : ℕ) → run_at column (suc i) ≡ run_at (after_run column) i
-run_later [] i = slice_nil (tags_start [] (suc i)) (tags_end [] (suc i)) ∙ sym (slice_nil (tags_start [] i) (tags_end [] i))
-run_later (zero ∷ rest) zero =
-    slice_later 0 rest 0 (tags_end rest 0) 1 (tags_end (0 ∷ rest) 1) refl (end_behind_zero rest 0)
-run_later (zero ∷ rest) (suc i) =
-    let start : tags_start (0 ∷ rest) (suc (suc i)) ≡ suc (tags_start rest (suc i)) = omega (arith, end_behind_zero rest i) in
-    slice_later 0 rest (tags_start rest (suc i)) (tags_end rest (suc i)) _ _ start (end_behind_zero rest (suc i))
-run_later (suc key ∷ []) i = sym (slice_nil (tags_start [] i) (tags_end [] i))
-run_later (suc key ∷ value ∷ rest) i =
-    let start : tags_start (suc key ∷ value ∷ rest) (suc i) ≡ suc (suc (tags_start rest (suc i))) = omega (arith, end_behind_tag key value rest i) in
-    slice_later (suc key) (value ∷ rest) (suc (tags_start rest (suc i))) (suc (tags_end rest (suc i))) (tags_start (suc key ∷ value ∷ rest) (suc i)) (tags_end (suc key ∷ value ∷ rest) (suc i)) start (end_behind_tag key value rest (suc i))
-    ∙ slice_later value rest (tags_start rest (suc i)) (tags_end rest (suc i)) (suc (tags_start rest (suc i))) (suc (tags_end rest (suc i))) refl refl
-    ∙ run_later rest i
+run_later : (column : List ℕ) (i : ℕ) → get_or (runs_in (after_run column)) i [] ≡ get_or (runs_in column) (suc i) []
+run_later [] i = refl
+run_later (zero ∷ rest) i = refl
+run_later (suc key ∷ []) i = refl
+run_later (suc key ∷ value ∷ rest) i = run_later rest i ∙ sym (later_with (suc key, value) (runs_in rest) i)
 
 tags_at_first : (table : List (List ℕ)) (column : List ℕ) → map (tag_of table) (run column) ≡ tags_at table column 0
 unfolding tags_at
-tags_at_first = run_first
+tags_at_first table column = ap (λ (pairs : List (ℕ × ℕ)). map (tag_of table) pairs) (sym (run_first column))
 
 tags_at_later : (table : List (List ℕ)) (column : List ℕ) (i : ℕ) → tags_at table (after_run column) i ≡ tags_at table column (i + 1)
 unfolding tags_at
-tags_at_later table column i = rw (add-one i) (ap (λ (numbers : List ℕ). map (tag_of table) (pairs numbers)) (sym (run_later column i)))
+tags_at_later table column i = rw (add-one i) (ap (λ (pairs : List (ℕ × ℕ)). map (tag_of table) pairs) (run_later column i))
 
 -- ---- metadata
+
+-- the columns in the occurrences of a DenseInfo
+unfoldable pub info_of : List Occurrence → InfoSpec
+info_of os = record {
+  versions = column VERSION os;
+  timestamps = sums (map unzigzag (column TIMESTAMP os));
+  changesets = sums (map unzigzag (column CHANGESET os));
+  uids = sums (map low_sint32 (column UID os));
+  users = sums (map low_sint32 (column USER_SID os));
+  visible = column VISIBLE os;
+}
 
 get_later : {X : Type 0} (xs : List X) (i : ℕ) → slice_get (drop 1 xs) i ≡ slice_get xs (suc i)
 get_later [] i = refl

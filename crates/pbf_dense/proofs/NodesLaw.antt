@@ -22,11 +22,11 @@ use Rattle.osm_entity.specs.EntityTexts.{tag_texts}
 use Rattle.osm_entity.specs.Ranges.{IfPresent, IsInt32, NodeFits}
 use Rattle.osm_entity.specs.Sources.{low_32, tag_of, run}
 use Rattle.pbf_dense.specs.declared.message.TheConstants.{ID, DENSEINFO, LAT, LON, KEYS_VALS}
-use Rattle.pbf_dense.specs.Info.{InfoSpec, info_of}
+use Rattle.pbf_dense.specs.Info.{InfoSpec}
 use Rattle.pbf_dense.specs.Runs.{after_run}
 use Rattle.pbf_dense.specs.Nodes.{nodes, moving}
 use Rattle.pbf_dense.specs.WrittenDense.{info_columns, info_message, run_of, are_some, has_tag, columns_of, dense_slots, dense_message, AreAlike, NodesHeld}
-use Rattle.pbf_dense.proofs.IndexLemmas.{moving_same, moving_by_index}
+use Rattle.pbf_dense.proofs.IndexLemmas.{info_of, moving_same, moving_by_index}
 use Rattle.pbf_dense.proofs.MovingLemmas.{run_on}
 use Rattle.pbf_dense.proofs.MetaLaw.{alike_later, meta_given, info_later}
 use Rattle.pbf_dense.proofs.InfoLaw.{info_read, no_faults_joined}
@@ -36,7 +36,7 @@ use Rattle.pbf_dense.proofs.DenseLaw.{NamedNode, nodes_named, written_runs, info
 
 nodes_moving : (table : List (List ℕ)) (scale : Scale) (os : List Occurrence) → length (column LAT os) ≡ length (column ID os) → length (column LON os) ≡ length (column ID os)
     → nodes table scale os ≡ moving table scale (sums (map unzigzag (column ID os))) (sums (map unzigzag (column LAT os))) (sums (map unzigzag (column LON os))) (info_of (embedded DENSEINFO os)) (map low_32 (column KEYS_VALS os))
-unfolding nodes
+unfolding nodes info_of
 nodes_moving table scale os lats lons =
     let n = length (column ID os) in
     let along : (k : ℕ) → length (column k os) ≡ n → map (sum_at (map unzigzag (column k os))) (range_with_len 0 n) ≡ sums (map unzigzag (column k os)) =

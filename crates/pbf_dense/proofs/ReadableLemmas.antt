@@ -11,9 +11,9 @@ use Rattle.pbf_wire.proofs.SumLemmas.{sums_in_range}
 use Rattle.osm_entity.specs.declared.scale.Scale.{Scale}
 use Rattle.osm_entity.specs.Sources.{low_32}
 use Rattle.pbf_dense.specs.declared.message.TheConstants.{ID, DENSEINFO, LAT, LON, KEYS_VALS, TIMESTAMP, CHANGESET, UID, USER_SID}
-use Rattle.pbf_dense.specs.Info.{info_of, info_along}
+use Rattle.pbf_dense.specs.Info.{info_along}
 use Rattle.pbf_dense.specs.Nodes.{nodes, nodes_along, values_along}
-use Rattle.pbf_dense.proofs.IndexLemmas.{moving_same, moving_by_index}
+use Rattle.pbf_dense.proofs.IndexLemmas.{info_of, moving_same, moving_by_index}
 
 abbrev pub InRange : ℕ → List Occurrence → Type 0
 InRange k os = AllByRecursion (IsWithin (pos (2 ^ 62))) (sums (map unzigzag (column k os)))
@@ -42,7 +42,7 @@ whole : (k : ℕ) (os : List Occurrence) (n : ℕ) → InRange k os → length (
 whole k os n h long = sums_in_range (pos (2 ^ 62)) (map unzigzag (column k os)) h ∙ ap (λ (n : ℕ). map (sum_at (map unzigzag (column k os))) (range_with_len 0 n)) (length-map (column k os) unzigzag ∙ long)
 
 pub reads_same : (table : List (List ℕ)) (scale : Scale) (os : List Occurrence) → DenseReads os → nodes_along table scale os ≡ nodes table scale os
-unfolding nodes nodes_along
+unfolding nodes nodes_along info_of
 reads_same table scale os h =
     let n = length (column ID os) in
     moving_same table scale _ _ _ _ _ _ _ _ (map low_32 (column KEYS_VALS os)) (whole ID os n h.ids refl) (whole LAT os n h.lats h.lats_long) (whole LON os n h.lons h.lons_long) (info_same (embedded DENSEINFO os) h.info)

@@ -18,7 +18,7 @@ use Rattle.pbf_wire.proofs.SoundLemmas.{both_nil, all_nil, is_right, sums_good, 
 use Rattle.osm_entity.specs.declared.scale.Scale.{Scale}
 use Rattle.pbf_dense.specs.declared.message.TheConstants.{DENSE_KINDS, DENSEINFO_KINDS, ID, DENSEINFO, LAT, LON, KEYS_VALS, TIMESTAMP, CHANGESET, UID, USER_SID}
 use Rattle.pbf_dense.specs.Nodes.{node_at, nodes, nodes_along}
-use Rattle.pbf_dense.specs.Judged.{id_count, dense_wire, dense_structure, dense_values, has_count, coordinate_counts, info_values, range_faults, texts_named, IsSound}
+use Rattle.pbf_dense.specs.Judged.{id_count, dense_wire, dense_structure, dense_values, coordinate_counts, info_values, range_faults, texts_named, IsSound}
 use Rattle.pbf_dense.proofs.ReadableLemmas.{InRange, InfoReads, DenseReads, reads_same}
 
 -- ---- the last message that a field holds
@@ -86,7 +86,7 @@ module _ (at : ℕ) (m : List ℕ) (e : dense_wire 0 at m ≡ []) where
       count_is_length DENSE_KINDS inner k (fields_in at m) known (fields_sound DENSE_KINDS inner (items at m) e)
       ∙ sym (length-map (joined k (fields_in at m)) (λ p. p.0))
 
-  as_long : (k : ℕ) → kind_of DENSE_KINDS k ≡ Some kind.Column → has_count (column_count ID (fields_in at m)) k (fields_in at m) ≡ true → length (column k (fields_in at m)) ≡ length (column ID (fields_in at m))
+  as_long : (k : ℕ) → kind_of DENSE_KINDS k ≡ Some kind.Column → (column_count k (fields_in at m) == column_count ID (fields_in at m)) ≡ true → length (column k (fields_in at m)) ≡ length (column ID (fields_in at m))
   as_long k known h =
       let same : column_count k (fields_in at m) ≡ column_count ID (fields_in at m) = grind arith in
       sym (counted k known) ∙ same ∙ counted ID refl
@@ -116,7 +116,7 @@ dense_reads table at m h =
     let os = fields_in at m in
     let wire : dense_wire 0 at m ≡ [] = sym (wire_anywhere h.place at m) ∙ h.wire in
     let counts = both_nil (coordinate_counts h.place os) _ h.structure in
-    let long = both_true _ _ (is_right (has_count (column_count ID os) LAT os && has_count (column_count ID os) LON os) h.place ColumnLengths counts.0) in
+    let long = both_true _ _ (is_right ((column_count LAT os == column_count ID os) && (column_count LON os == column_count ID os)) h.place ColumnLengths counts.0) in
     let ids = both_nil (range_faults ID os) _ h.values in
     let lats = both_nil (range_faults LAT os) _ ids.1 in
     let lons = both_nil (range_faults LON os) _ lats.1 in

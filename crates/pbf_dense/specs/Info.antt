@@ -1,4 +1,4 @@
--- The columns of a DenseInfo, and the metadata of a node.
+-- The metadata of a node, and the columns of a DenseInfo.
 use Rattle.std.specs.Prelude.{ℕ, ◌^◌, ◌==◌, not, ℤ, pos, negsuc, List, [], map, drop, slice_get}
 use Rattle.std.specs.Option.{option_map}
 use Rattle.pbf_wire.specs.Occurrence.{Occurrence}
@@ -9,6 +9,26 @@ use Rattle.pbf_strings.specs.Texts.{text}
 use Rattle.osm_entity.specs.Entity.{MetaSpec}
 use Rattle.pbf_dense.specs.declared.message.TheConstants.{VERSION, TIMESTAMP, CHANGESET, UID, USER_SID, VISIBLE}
 
+-- the text of an index, and the empty text where it is negative
+abbrev pub user_text : List (List ℕ) → ℤ → List ℕ
+user_text table (pos n) = text table n
+user_text table (negsuc n) = []
+
+-- ---- by an index into whole columns
+
+-- the metadata of node i as the fields of a DenseInfo have it: entry i of each column, which an empty column lacks
+abbrev pub dense_meta : List (List ℕ) → List Occurrence → ℕ → MetaSpec
+dense_meta table os i = record {
+  version = option_map low_i32 (slice_get (column VERSION os) i);
+  timestamp = slice_get (sums (map unzigzag (column TIMESTAMP os))) i;
+  changeset = slice_get (sums (map unzigzag (column CHANGESET os))) i;
+  uid = slice_get (sums (map low_sint32 (column UID os))) i;
+  user = option_map (user_text table) (slice_get (sums (map low_sint32 (column USER_SID os))) i);
+  visible = option_map (λ n. not (n == 0)) (slice_get (column VISIBLE os) i);
+}
+
+-- ---- by columns that move together
+
 -- the columns with what their entries mean; a column that is absent is empty
 pub record InfoSpec : Type 0 where
   pub versions : List ℕ
@@ -18,12 +38,7 @@ pub record InfoSpec : Type 0 where
   pub users : List ℤ
   pub visible : List ℕ
 
--- the text of an index, and the empty text where it is negative
-abbrev pub user_text : List (List ℕ) → ℤ → List ℕ
-user_text table (pos n) = text table n
-user_text table (negsuc n) = []
-
--- the metadata of node i: entry i of each column, which an empty column lacks
+-- the same of columns: entry i of each
 abbrev pub meta_at : List (List ℕ) → InfoSpec → ℕ → MetaSpec
 meta_at table info i = record {
   version = option_map low_i32 (slice_get info.versions i);
@@ -34,18 +49,7 @@ meta_at table info i = record {
   visible = option_map (λ n. not (n == 0)) (slice_get info.visible i);
 }
 
--- the columns in the occurrences of a DenseInfo
-unfoldable pub info_of : List Occurrence → InfoSpec
-info_of os = record {
-  versions = column VERSION os;
-  timestamps = sums (map unzigzag (column TIMESTAMP os));
-  changesets = sums (map unzigzag (column CHANGESET os));
-  uids = sums (map low_sint32 (column UID os));
-  users = sums (map low_sint32 (column USER_SID os));
-  visible = column VISIBLE os;
-}
-
--- the same, where each column of sums ends at the first that is out of range
+-- the columns in the occurrences of a DenseInfo, where each column of sums ends at the first that is out of range
 unfoldable pub info_along : List Occurrence → InfoSpec
 info_along os = record {
   versions = column VERSION os;

@@ -30,13 +30,9 @@ dense_wire place at m = nested_faults DENSE_KINDS DENSEINFO DENSEINFO_KINDS plac
 abbrev pub id_count : List Occurrence → ℕ
 id_count os = column_count ID os
 
--- the column k has this many entries
-abbrev pub has_count : ℕ → ℕ → List Occurrence → Bool
-has_count n k os = column_count k os == n
-
 -- the latitudes or the longitudes are more or fewer than the ids
 abbrev pub coordinate_counts : ℕ → List Occurrence → List Fault
-coordinate_counts place os = fault_where (not (has_count (column_count ID os) LAT os && has_count (column_count ID os) LON os)) place ColumnLengths
+coordinate_counts place os = fault_where (not (column_count LAT os == column_count ID os && column_count LON os == column_count ID os)) place ColumnLengths
 
 -- keys with their values, and a 0 in key place, so many times, and nothing after
 abbrev pub are_runs : ℕ → List ℕ → Bool
@@ -47,15 +43,14 @@ are_runs _ _ = false
 
 -- there are no tags at all, or a run of them for each node
 abbrev pub are_tags : ℕ → List ℕ → Bool
-are_tags n [] = true
-are_tags n (x ∷ xs) = are_runs n (x ∷ xs)
+are_tags n column = are_runs 0 column || are_runs n column
 
 abbrev pub run_faults : ℕ → List Occurrence → List Fault
 run_faults place os = fault_where (not (are_tags (column_count ID os) (map low_32 (column KEYS_VALS os)))) place KeysVals
 
 -- the column k is empty, or has this many entries
 abbrev pub goes_with : ℕ → ℕ → List Occurrence → Bool
-goes_with n k os = has_count 0 k os || has_count n k os
+goes_with n k os = column_count k os == 0 || column_count k os == n
 
 -- a column of a DenseInfo is neither empty nor has an entry for each node
 abbrev pub info_counts : ℕ → ℕ → ℕ → List ℕ → List Fault

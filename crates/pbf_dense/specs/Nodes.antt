@@ -10,7 +10,7 @@ use Rattle.osm_entity.specs.declared.scale.Scale.{Scale}
 use Rattle.osm_entity.specs.Entity.{NodeSpec}
 use Rattle.osm_entity.specs.Sources.{low_32, tag_of, run}
 use Rattle.pbf_dense.specs.declared.message.TheConstants.{ID, DENSEINFO, LAT, LON, KEYS_VALS}
-use Rattle.pbf_dense.specs.Info.{InfoSpec, meta_at, info_of, info_along, later}
+use Rattle.pbf_dense.specs.Info.{dense_meta, InfoSpec, meta_at, info_along, later}
 use Rattle.pbf_dense.specs.Runs.{tags_at, after_run}
 
 -- ---- by indices into whole columns
@@ -25,7 +25,7 @@ node_at table scale os i = record {
   id = value_at ID os i;
   lat = value_at LAT os i;
   lon = value_at LON os i;
-  meta = meta_at table (info_of (embedded DENSEINFO os)) i;
+  meta = dense_meta table (embedded DENSEINFO os) i;
   tags = tags_at table (map low_32 (column KEYS_VALS os)) i;
   scale = scale;
 }

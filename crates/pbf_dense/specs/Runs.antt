@@ -1,31 +1,23 @@
 -- The tags of dense nodes: runs of keys and values, each with a 0 in key place behind it.
-use Rattle.std.specs.Prelude.{ℕ, zero, suc, ◌+◌, List, [], ◌∷◌, length, map, slice_index_or, slice_range}
+use Rattle.std.specs.Prelude.{ℕ, zero, suc, List, [], ◌∷◌, map, slice_index_or}
 use Rattle.osm_entity.specs.Entity.{TagSpec}
 use Rattle.osm_entity.specs.Sources.{tag_of}
 
--- the places of the zeros in key place, counted from `place` on
-abbrev pub zeros : ℕ → List ℕ → List ℕ
-zeros place [] = []
-zeros place (zero ∷ rest) = place ∷ zeros (place + 1) rest
-zeros place (suc key ∷ []) = []
-zeros place (suc key ∷ value ∷ rest) = zeros (place + 2) rest
+-- the runs with this pair in front of the first; where there is none, a run of the pair alone
+abbrev pub with_pair : ℕ × ℕ → List (List (ℕ × ℕ)) → List (List (ℕ × ℕ))
+with_pair pair [] = (pair ∷ []) ∷ []
+with_pair pair (run ∷ later) = (pair ∷ run) ∷ later
 
--- where the tags of node i end, and where they begin: behind the zero before
-abbrev pub tags_end : List ℕ → ℕ → ℕ
-tags_end column i = slice_index_or (zeros 0 column) i (length column)
+-- the runs in a column: a run is pairs of a key and its value, and a 0 in key place ends it; a last key that has no value counts for nothing
+abbrev pub runs_in : List ℕ → List (List (ℕ × ℕ))
+runs_in [] = []
+runs_in (zero ∷ rest) = [] ∷ runs_in rest
+runs_in (suc key ∷ []) = []
+runs_in (suc key ∷ value ∷ rest) = with_pair (suc key, value) (runs_in rest)
 
-abbrev pub tags_start : List ℕ → ℕ → ℕ
-tags_start column zero = 0
-tags_start column (suc i) = tags_end column i + 1
-
--- two by two
-abbrev pub pairs : List ℕ → List (ℕ × ℕ)
-pairs (key ∷ value ∷ rest) = (key, value) ∷ pairs rest
-pairs _ = []
-
--- the tags of node i
+-- the tags of node i: run i, and none where there are fewer runs
 unfoldable pub tags_at : List (List ℕ) → List ℕ → ℕ → List TagSpec
-tags_at table column i = map (tag_of table) (pairs (slice_range column (tags_start column i) (tags_end column i)))
+tags_at table column i = map (tag_of table) (slice_index_or (runs_in column) i [])
 
 -- what stands behind the next 0 in key place
 abbrev pub after_run : List ℕ → List ℕ

@@ -8,7 +8,7 @@ ghost use Rattle.pbf_wire.specs.Fields.{occurrence};
 ghost use Rattle.pbf_wire.specs.Least.{least};
 ghost use Rattle.pbf_wire.specs.Faults.{fault_where, entered, fields_in, column_count};
 ghost use Rattle.osm_entity.specs.Sources.{low_32};
-ghost use Rattle.pbf_dense.specs.Judged.{has_count, coordinate_counts, are_runs, are_tags, run_faults, goes_with, info_counts, dense_structure};
+ghost use Rattle.pbf_dense.specs.Judged.{coordinate_counts, are_runs, are_tags, run_faults, goes_with, info_counts, dense_structure};
 
 use crate::entries::next_number;
 use crate::message::{
@@ -22,7 +22,7 @@ use pbf_wire::{
 /// Whether a column has so many entries.
 fn has_count(message: &[u8], at: u64, number: u64, count: usize) -> bool
     requires { at + length message.now ≤ 2 ^ 63 }
-    ensures { result ≡ has_count count number (fields_in at message.now) }
+    ensures { result ≡ (column_count number (fields_in at message.now) == count) }
 {
     column_count(message, at, number) == count
 }

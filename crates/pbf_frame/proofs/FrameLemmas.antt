@@ -1,5 +1,6 @@
 -- A frame read part by part is the next frame of the bytes.
 use Rattle.std.proofs.Common.{◌≡◌, ℕ, ◌+◌, Bool, true, List, Option, Some, None, Result, Ok, Err, length, refl, sym, ap, ◌∙◌, subst}
+use Rattle.std.specs.Prelude.{unwrap_or}
 use Rattle.pbf_wire.specs.declared.fault.Fault.{Fault}
 use Rattle.pbf_frame.specs.declared.frame.FrameKind.{FrameKind}
 use Rattle.pbf_frame.specs.declared.header.Head.{Head}
@@ -10,7 +11,7 @@ use Rattle.pbf_wire.specs.Occurrence.{items, found}
 use Rattle.pbf_wire.specs.Reading.{last_of}
 use Rattle.pbf_wire.specs.Wire.{wire}
 use Rattle.pbf_frame.specs.declared.header.TheConstants.{DATASIZE, HEADER_KINDS}
-use Rattle.pbf_frame.specs.Header.{head_says, header_faults, name_of, kind_named, size_of, or_nothing}
+use Rattle.pbf_frame.specs.Header.{head_says, header_faults, name_of, kind_named, size_of}
 use Rattle.pbf_frame.specs.Frames.{next_of}
 use Rattle.pbf_frame.specs.Reads.{Gives, GaveBlob, GaveFrame, GaveEnd, Holds}
 use Rattle.pbf_frame.specs.Sound.{IsFrame}
@@ -58,7 +59,7 @@ unless_ok None later x e = (refl, e)
 unless_ok (Some f) later x e = absurd (err_ok f x e)
 
 pub head_parts : (at : ℕ) (header : List ℕ) (head : Head) → head_of at header ≡ Ok head
-    → (wire HEADER_KINDS (items at header) ≡ None) × (least (header_faults at header) ≡ None) × (head.kind ≡ kind_named (name_of at header)) × (head.size ≡ or_nothing (size_of (last_of DATASIZE (found (items at header)))))
+    → (wire HEADER_KINDS (items at header) ≡ None) × (least (header_faults at header) ≡ None) × (head.kind ≡ kind_named (name_of at header)) × (head.size ≡ unwrap_or (size_of (last_of DATASIZE (found (items at header)))) 0)
 unfolding head_of
 head_parts at header head e =
     let (wired, e1) = unless_ok (wire HEADER_KINDS (items at header)) _ head e in

@@ -1,16 +1,19 @@
 -- Frames without faults, and the longest list of them.
 use Rattle.std.proofs.Common.{◌≡◌, ℕ, zero, suc, ◌+◌, ◌<◌, ◌||◌, ◌==◌, nat_lt, nat_le, Bool, false, List, [], ◌∷◌, ◌++◌, length, take, Option, Some, None, Result, Ok, Err, refl, sym, ap, ◌∙◌, subst, append_assoc, length-append, arith}
+use Rattle.std.specs.Prelude.{is_none, unwrap_or}
 use Rattle.std.proofs.lemmas.Bool.Decides.{nat_tests}
 use Rattle.std.proofs.lemmas.List.{take_at, drop_at}
 use Rattle.byteorder.specs.Endian.{big_number}
 use Rattle.pbf_wire.specs.declared.fault.Fault.{Fault}
+use Rattle.pbf_wire.specs.declared.fault.Reason.TheVariants.{Missing}
+use Rattle.pbf_wire.specs.Faults.{fault_where}
 use Rattle.pbf_wire.specs.Least.{least}
 use Rattle.pbf_wire.specs.Occurrence.{Occurrence, items, found}
 use Rattle.pbf_wire.specs.Reading.{last_of}
 use Rattle.pbf_wire.specs.Wire.{wire}
 use Rattle.pbf_frame.specs.declared.frame.FrameKind.{FrameKind}
 use Rattle.pbf_frame.specs.declared.header.TheConstants.{TYPE, DATASIZE, HEADER_LIMIT, HEADER_KINDS}
-use Rattle.pbf_frame.specs.Header.{head_says, header_faults, int32_held, size_within, size_of, or_nothing, absent_faults, size_faults}
+use Rattle.pbf_frame.specs.Header.{head_says, header_faults, int32_held, size_within, size_of, size_faults}
 use Rattle.pbf_frame.specs.Frames.{FrameSpec, is_header, header_at, blob_at, frame_kind, frame_bytes, frame_end, order_faults, next_of}
 use Rattle.pbf_frame.specs.Verdict.{Verdict, with_first, with_all, judged_after, judged, joined_frames}
 use Rattle.pbf_frame.specs.Sound.{IsSound, IsFrame, AreFrames, had_after, place_after, EndsAs, IsLongestFront}
@@ -23,7 +26,7 @@ use Rattle.pbf_frame.proofs.Judging.{judged_step, judged_some}
 -- ---- one frame
 
 -- a header without faults names a size
-sized : (at : ℕ) (front : List Fault) (last : Option Occurrence) → front ++ absent_faults at DATASIZE last ++ size_faults last ≡ [] → size_of last ≡ Some (or_nothing (size_of last))
+sized : (at : ℕ) (front : List Fault) (last : Option Occurrence) → front ++ fault_where (is_none last) at (Missing DATASIZE) ++ size_faults last ≡ [] → size_of last ≡ Some (unwrap_or (size_of last) 0)
 sized at front None e = absurd (never front _ e) where
   never : (front : List Fault) (x : Fault) → (front ++ x ∷ []) ++ [] ≡ [] → ⊥
   never [] x e = cc
@@ -33,15 +36,15 @@ sized at front (Some o) e = cases (size_within (int32_held o.content)) refl wher
   never [] x e = cc
   never (y ∷ ys) x e = cc
 
-  cases : (s : Option ℕ) → size_within (int32_held o.content) ≡ s → size_within (int32_held o.content) ≡ Some (or_nothing (size_within (int32_held o.content)))
-  cases (Some n) is = is ∙ ap (λ (m : Option ℕ). Some (or_nothing m)) (sym is)
+  cases : (s : Option ℕ) → size_within (int32_held o.content) ≡ s → size_within (int32_held o.content) ≡ Some (unwrap_or (size_within (int32_held o.content)) 0)
+  cases (Some n) is = is ∙ ap (λ (m : Option ℕ). Some (unwrap_or m 0)) (sym is)
   cases None is = absurd (never front _ (rw (is) at e))
 
 pub frame_at : (h : Bool) (bytes : List ℕ) (f : FrameSpec) (rest : List ℕ) → FrameParts h f.offset bytes f rest → IsFrame h f.offset f
 frame_at h bytes f rest parts =
     let says = head_parts (header_at f) f.header parts.head parts.header_is.says in
     let last = last_of DATASIZE (found (items (header_at f) f.header)) in
-    let size : length f.blob ≡ or_nothing (size_of last) = parts.blob_is.long ∙ says.3 in
+    let size : length f.blob ≡ unwrap_or (size_of last) 0 = parts.blob_is.long ∙ says.3 in
     record {
       offset = refl;
       prefix_long = parts.prefix_long;
@@ -49,7 +52,7 @@ frame_at h bytes f rest parts =
       short = subst (λ (n : ℕ). n < HEADER_LIMIT) (sym parts.header_is.long) parts.small;
       wired = says.0;
       whole = says.1;
-      sized = sized (header_at f) (absent_faults (header_at f) TYPE (last_of TYPE (found (items (header_at f) f.header)))) last (least_none (header_faults (header_at f) f.header) says.1) ∙ ap Some (sym size);
+      sized = sized (header_at f) (fault_where (is_none (last_of TYPE (found (items (header_at f) f.header)))) (header_at f) (Missing TYPE)) last (least_none (header_faults (header_at f) f.header) says.1) ∙ ap Some (sym size);
       ordered = ap (λ (k : FrameKind). least (order_faults h f.offset k (frame_end f))) (sym says.2) ∙ ap (λ (n : ℕ). least (order_faults h f.offset parts.head.kind (blob_at f + n))) parts.blob_is.long ∙ parts.header_is.ordered;
       sound = subst (λ (k : FrameKind). IsSound k (blob_at f) f.blob) says.2 parts.blob_is.sound;
     }
@@ -75,7 +78,7 @@ head_whole at header f wired whole = rw (wired, whole) refl
 next_at : (h : Bool) (f : FrameSpec) (rest : List ℕ) → IsFrame h f.offset f → next_of h f.offset (frame_bytes f ++ rest) ≡ Ok (Some f, rest)
 next_at h f rest is =
     let head = head_says (header_at f) f.header in
-    let size : length f.blob ≡ head.size = ap or_nothing (sym is.sized) in
+    let size : length f.blob ≡ head.size = ap (λ (m : Option ℕ). unwrap_or m 0) (sym is.sized) in
     let left = f.header ++ (f.blob ++ rest) in
     let header : HeaderParts h f.offset f.prefix left f.header (f.blob ++ rest) head = record {
       split = refl;

@@ -7,11 +7,11 @@ use Rattle.std.specs.List.{flat_map, AllByRecursion}
 use Rattle.std.specs.Prelude.{is_none}
 use Rattle.byteorder.specs.Endian.{big_bytes, big_from}
 use Rattle.byteorder.specs.Numbers.{length-bytes_high_first, big_number-reads_back}
-use Rattle.pbf_wire.specs.declared.fault.Reason.TheVariants.{DataSize, RawLong}
+use Rattle.pbf_wire.specs.declared.fault.Reason.TheVariants.{DataSize, Missing, RawLong}
 use Rattle.pbf_wire.specs.Least.{least}
 use Rattle.pbf_wire.specs.Message.{Slot, Scalar, Each, parts_of, message, slot_bytes, SlotFits}
 use Rattle.pbf_wire.specs.Occurrence.{items, found}
-use Rattle.pbf_wire.specs.Reading.{last_of}
+use Rattle.pbf_wire.specs.Reading.{occurrence_text, last_of}
 use Rattle.pbf_wire.specs.Signed.{low_i32}
 use Rattle.pbf_wire.specs.Varint.{shortest}
 use Rattle.pbf_wire.specs.Wire.{wire}
@@ -24,7 +24,7 @@ use Rattle.pbf_frame.specs.declared.frame.FrameKind.{FrameKind}
 use Rattle.pbf_frame.specs.declared.frame.FrameKind.TheVariants as kind
 use Rattle.pbf_frame.specs.declared.header.TheConstants.{TYPE, DATASIZE, HEADER_KINDS, LARGEST_SIZE}
 use Rattle.pbf_wire.specs.Faults.{fault_where}
-use Rattle.pbf_frame.specs.Header.{occurrence_text, name_of, kind_named, size_within, size_of, absent_faults, size_faults, header_faults}
+use Rattle.pbf_frame.specs.Header.{name_of, kind_named, size_within, size_of, size_faults, header_faults}
 use Rattle.pbf_frame.specs.Blob.{compressed, raw_faults, blob_faults, blob_fault, raw_of}
 use Rattle.pbf_frame.specs.Frames.{order_faults, frame_kind, frame_end, frame_bytes, frame_payload, payload_in, blob_at}
 use Rattle.pbf_frame.specs.Sound.{IsSound, IsFrame}
@@ -148,7 +148,7 @@ header_sized at k size small = ap (λ os. size_of (last_of DATASIZE os)) (header
 
 header_whole : (at : ℕ) (k : FrameKind) (size : ℕ) → size ≤ LARGEST_SIZE → least (header_faults at (written_header k size)) ≡ None
 header_whole at k size small =
-    ap (λ os. least (absent_faults at TYPE (last_of TYPE os) ++ absent_faults at DATASIZE (last_of DATASIZE os) ++ size_faults (last_of DATASIZE os))) (header_fields at k size (omega (arith, small)))
+    ap (λ os. least (fault_where (is_none (last_of TYPE os)) at (Missing TYPE) ++ fault_where (is_none (last_of DATASIZE os)) at (Missing DATASIZE) ++ size_faults (last_of DATASIZE os))) (header_fields at k size (omega (arith, small)))
     ∙ ap (λ (o : Option ℕ). least (fault_where (is_none o) (at + length (shortest (TYPE * 8 + 2) ++ (shortest (length (written_name k)) ++ written_name k))) DataSize)) (size_read size small)
 
 -- ---- the frame

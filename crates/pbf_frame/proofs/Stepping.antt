@@ -1,6 +1,6 @@
 -- The steps of a reader come to the next frame: the fault of a step is the least of the first phase that has one.
 use Rattle.std.proofs.Common.{◌≡◌, ℕ, ◌+◌, ◌==◌, nat_lt, nat_le, Bool, true, false, List, [], ◌∷◌, ◌++◌, length, take, drop, Option, Some, None, Result, Ok, Err, refl, sym, ap, ◌∙◌, length-append}
-use Rattle.std.specs.Option.{option_or}
+use Rattle.std.specs.Option.{option_or, option_map_or}
 use Rattle.std.proofs.lemmas.List.{length-take, drop-drop, drop_min}
 use Rattle.byteorder.specs.Endian.{big_number}
 use Rattle.pbf_wire.specs.declared.fault.Fault.{Fault}
@@ -17,7 +17,7 @@ use Rattle.pbf_frame.specs.declared.header.Head.{Head}
 use Rattle.pbf_frame.specs.declared.header.TheConstants.{HEADER_KINDS, HEADER_LIMIT}
 use Rattle.pbf_frame.specs.Header.{header_faults, head_says}
 use Rattle.pbf_frame.specs.Blob.{blob_fault}
-use Rattle.pbf_frame.specs.Frames.{FrameSpec, header_at, blob_at, frame_bytes, frame_kind, frame_at, cut_faults, order_faults, phases_of_blob, given_or, next_of}
+use Rattle.pbf_frame.specs.Frames.{FrameSpec, header_at, blob_at, frame_bytes, frame_kind, frame_at, cut_faults, order_faults, phases_of_blob, next_of}
 use Rattle.pbf_frame.specs.Steps.{unless, ◌>>=◌, head_of, bytes_at, prefix_at, header_of, known_blob_of, blob_of, frame_of, after_prefix, steps_of}
 
 -- ---- what follows each part
@@ -85,6 +85,10 @@ Found = Result (Option FrameSpec × List ℕ) Fault
 last_step : {A B C : Type 0} (l : Option Fault) (x : A) (g : A → B) (s : B → C) → unless l (Ok (s (g x))) ≡ ((unless l (Ok x) >>= λ v. Ok (g v)) >>= λ w. Ok (s w))
 last_step None x g s = refl
 last_step (Some e) x g s = refl
+
+-- a frame, and the bytes after it; or its fault
+abbrev pub given_or : Option Fault → FrameSpec → List ℕ → Result (Option FrameSpec × List ℕ) Fault
+given_or fault f bytes = option_map_or Err fault (Ok (Some f, drop (length (frame_bytes f)) bytes))
 
 given_is : (o : Option Fault) (f : FrameSpec) (bytes : List ℕ) → given_or o f bytes ≡ unless o (Ok (Some f, drop (length (frame_bytes f)) bytes))
 given_is None f bytes = refl

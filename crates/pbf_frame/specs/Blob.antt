@@ -1,15 +1,15 @@
 -- The Blob: the bytes that it holds.
 use Rattle.std.specs.Prelude.{ℕ, ◌==◌, nat_le, List, [], ◌∷◌, ◌++◌, length, Option, Some, None, if◌then◌else◌}
 use Rattle.std.specs.List.{flat_map}
+use Rattle.std.specs.Option.{option_map_or}
 use Rattle.pbf_wire.specs.declared.fault.Fault.{Fault}
 use Rattle.pbf_wire.specs.declared.fault.Reason.{Reason}
 use Rattle.pbf_wire.specs.declared.fault.Reason.TheVariants.{NoRaw, RawLong, Zlib, Lzma, Bzip2, Lz4, Zstd}
 use Rattle.pbf_wire.specs.Phases.{first_fault}
 use Rattle.pbf_wire.specs.Occurrence.{Content, Bytes, Occurrence, items, found}
-use Rattle.pbf_wire.specs.Reading.{bytes_held, last_of}
+use Rattle.pbf_wire.specs.Reading.{bytes_held, occurrence_text, last_of}
 use Rattle.pbf_frame.specs.declared.blob.TheConstants.{RAW, ZLIB_DATA, LZMA_DATA, BZIP2_DATA, LZ4_DATA, ZSTD_DATA, BLOB_KINDS, RAW_LIMIT}
-use Rattle.pbf_wire.specs.Faults.{fault, fault_where, leaf_faults}
-use Rattle.pbf_frame.specs.Header.{occurrence_text}
+use Rattle.pbf_wire.specs.Faults.{fault, fault_where, or_more, leaf_faults}
 
 -- why data under this field number isn't read
 abbrev pub compression_of : ℕ → Option Reason
@@ -20,13 +20,9 @@ compression_of number =
     else (if number == LZ4_DATA then Some Lz4
     else (if number == ZSTD_DATA then Some Zstd else None))))
 
-abbrev pub reason_faults : ℕ → Option Reason → List Fault
-reason_faults place None = []
-reason_faults place (Some reason) = fault place reason ∷ []
-
 -- each occurrence of compressed data
 abbrev pub compressed : List Occurrence → List Fault
-compressed os = flat_map (λ (o : Occurrence). reason_faults o.place (compression_of o.number)) os
+compressed os = flat_map (λ (o : Occurrence). or_more o.place (compression_of o.number) []) os
 
 -- the raw data is too long, or there is no data at all
 abbrev pub raw_faults : ℕ → Option Occurrence → List Fault → List Fault
@@ -57,5 +53,4 @@ bytes_place at _ = at
 
 -- where its first byte stands
 abbrev pub raw_at : ℕ → Option Occurrence → ℕ
-raw_at at None = at
-raw_at at (Some o) = bytes_place at o.content
+raw_at at last = option_map_or (λ o. bytes_place at o.content) last at

@@ -1,5 +1,6 @@
 -- The frames of a file: four bytes for the length of the header, the header, and the blob.
 use Rattle.std.specs.Prelude.{ℕ, ◌+◌, ◌^◌, List, [], ◌∷◌, ◌++◌, length, take, drop, Bool, true, false, ◌&&◌, not, nat_lt, nat_le, ◌==◌, if◌then◌else◌, Option, Some, None, Result, Ok, Err}
+use Rattle.std.specs.Option.{option_map_or}
 use Rattle.byteorder.specs.Endian.{big_number}
 use Rattle.pbf_wire.specs.declared.fault.Fault.{Fault}
 use Rattle.pbf_wire.specs.declared.fault.Reason.TheVariants.{PrefixCut, HeaderLong, HeaderCut, BlobCut, NoHeader, SecondHeader, DataFirst, FileLong}
@@ -48,18 +49,16 @@ abbrev pub frame_name : FrameSpec → List ℕ
 frame_name f = name_of (header_at f) f.header
 
 abbrev pub frame_kind : FrameSpec → FrameKind
-frame_kind f = kind_named (frame_name f)
+frame_kind f = kind_named (name_of (header_at f) f.header)
 
 -- the payload of a blob that stands at this place, and where it begins; a blob of another type isn't looked into
 abbrev pub payload_in : FrameKind → ℕ → List ℕ → List ℕ
-payload_in kind.Header at blob = raw_of at blob
-payload_in kind.Data at blob = raw_of at blob
 payload_in kind.Other at blob = []
+payload_in _ at blob = raw_of at blob
 
 abbrev pub payload_place : FrameKind → ℕ → List ℕ → ℕ
-payload_place kind.Header at blob = raw_at at (last_of RAW (found (items at blob)))
-payload_place kind.Data at blob = raw_at at (last_of RAW (found (items at blob)))
 payload_place kind.Other at blob = at
+payload_place _ at blob = raw_at at (last_of RAW (found (items at blob)))
 
 abbrev pub frame_payload : FrameSpec → List ℕ
 frame_payload f = payload_in (frame_kind f) (blob_at f) f.blob
@@ -110,18 +109,10 @@ frame_phases had_header f =
 
 -- ---- the next frame
 
--- a file ends here, if it had its header
-abbrev pub end_of : Bool → ℕ → Result (Option FrameSpec × List ℕ) Fault
-end_of true place = Ok (None, [])
-end_of false place = Err (fault place NoHeader)
-
--- a frame, and the bytes after it; or its fault
-abbrev pub given_or : Option Fault → FrameSpec → List ℕ → Result (Option FrameSpec × List ℕ) Fault
-given_or None f bytes = Ok (Some f, drop (length (frame_bytes f)) bytes)
-given_or (Some e) f bytes = Err e
-
--- the next frame and the bytes after it, nothing at the end, or the least fault of the frame's first phase that has one
+-- the next frame and the bytes after it, nothing at the end of a file that had its header, or the least fault of the frame's first phase
+-- that has one
 unfoldable pub next_of : Bool → ℕ → List ℕ → Result (Option FrameSpec × List ℕ) Fault
 next_of had_header place bytes =
-    if length bytes == 0 then end_of had_header place
-    else (let f = frame_at place bytes in given_or (first_fault (frame_phases had_header f)) f bytes)
+    if length bytes == 0 then (if had_header then Ok (None, []) else Err (fault place NoHeader))
+    else (let f = frame_at place bytes in
+    option_map_or Err (first_fault (frame_phases had_header f)) (Ok (Some f, drop (length (frame_bytes f)) bytes)))

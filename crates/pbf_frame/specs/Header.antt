@@ -1,21 +1,17 @@
 -- The BlobHeader: the type of its frame and the size of its blob.
-use Rattle.std.specs.Prelude.{ℕ, ℤ, pos, negsuc, nat_le, List, [], ◌++◌, Option, Some, None, if◌then◌else◌, is_none, codes, nat_eq}
+use Rattle.std.specs.Prelude.{ℕ, ℤ, pos, negsuc, nat_le, List, [], ◌++◌, Option, Some, None, if◌then◌else◌, is_none, unwrap_or, codes, nat_eq}
 use Rattle.std.specs.Cmp.Lexicographic.{pointwise}
+use Rattle.std.specs.Option.{option_and_then, option_map_or}
 use Rattle.pbf_wire.specs.declared.fault.Fault.{Fault}
 use Rattle.pbf_wire.specs.declared.fault.Reason.TheVariants.{Missing, DataSize}
 use Rattle.pbf_wire.specs.Occurrence.{Content, Number, Occurrence, items, found}
-use Rattle.pbf_wire.specs.Reading.{bytes_held, last_of}
+use Rattle.pbf_wire.specs.Reading.{occurrence_text, last_of}
 use Rattle.pbf_wire.specs.Signed.{low_i32}
 use Rattle.pbf_frame.specs.declared.frame.FrameKind.{FrameKind}
 use Rattle.pbf_frame.specs.declared.frame.FrameKind.TheVariants as kind
 use Rattle.pbf_frame.specs.declared.header.Head.{Head}
 use Rattle.pbf_frame.specs.declared.header.TheConstants.{TYPE, DATASIZE, LARGEST_SIZE}
 use Rattle.pbf_wire.specs.Faults.{fault_where}
-
--- the text of a field, and none where it is absent
-abbrev pub occurrence_text : Option Occurrence → List ℕ
-occurrence_text None = []
-occurrence_text (Some o) = bytes_held o.content
 
 -- the number that an occurrence holds, as an int32
 abbrev pub int32_held : Content → ℤ
@@ -28,12 +24,7 @@ size_within (pos n) = if nat_le n LARGEST_SIZE then Some n else None
 size_within (negsuc n) = None
 
 abbrev pub size_of : Option Occurrence → Option ℕ
-size_of None = None
-size_of (Some o) = size_within (int32_held o.content)
-
-abbrev pub or_nothing : Option ℕ → ℕ
-or_nothing None = 0
-or_nothing (Some n) = n
+size_of last = option_and_then (λ o. size_within (int32_held o.content)) last
 
 -- the type of the frame whose header stands at this place
 abbrev pub name_of : ℕ → List ℕ → List ℕ
@@ -45,20 +36,15 @@ kind_named name =
     if pointwise nat_eq name (codes "OSMHeader") then kind.Header
     else (if pointwise nat_eq name (codes "OSMData") then kind.Data else kind.Other)
 
--- a required field that is absent
-abbrev pub absent_faults : ℕ → ℕ → Option Occurrence → List Fault
-absent_faults at field last = fault_where (is_none last) at (Missing field)
-
 abbrev pub size_faults : Option Occurrence → List Fault
-size_faults None = []
-size_faults (Some o) = fault_where (is_none (size_within (int32_held o.content))) o.place DataSize
+size_faults last = option_map_or (λ o. fault_where (is_none (size_within (int32_held o.content))) o.place DataSize) last []
 
--- what is wrong with the fields of a header
+-- what is wrong with the fields of a header: a required one is absent, or the size is none of a blob
 abbrev pub header_faults : ℕ → List ℕ → List Fault
 header_faults at header =
     let type = last_of TYPE (found (items at header)) in
     let datasize = last_of DATASIZE (found (items at header)) in
-    absent_faults at TYPE type ++ absent_faults at DATASIZE datasize ++ size_faults datasize
+    fault_where (is_none type) at (Missing TYPE) ++ fault_where (is_none datasize) at (Missing DATASIZE) ++ size_faults datasize
 
 abbrev pub head_says : ℕ → List ℕ → Head
-head_says at header = record { kind = kind_named (name_of at header); size = or_nothing (size_of (last_of DATASIZE (found (items at header)))) }
+head_says at header = record { kind = kind_named (name_of at header); size = unwrap_or (size_of (last_of DATASIZE (found (items at header)))) 0 }

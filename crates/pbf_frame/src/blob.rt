@@ -1,14 +1,14 @@
 //! The Blob of a frame: its payload, and why it is refused.
 
-ghost use Rattle.std.specs.Prelude.{◌≡◌, ◌+◌, ◌<◌, ◌≤◌, ◌^◌, List, None, length};
+ghost use Rattle.std.specs.Prelude.{◌≡◌, ◌+◌, ◌<◌, ◌≤◌, ◌^◌, List, [], None, length};
 ghost use Rattle.std.specs.Option.{option_map};
 ghost use Rattle.pbf_wire.specs.declared.fault.Fault.{Fault};
+ghost use Rattle.pbf_wire.specs.Faults.{or_more};
 ghost use Rattle.pbf_wire.specs.Fields.{occurrence};
 ghost use Rattle.pbf_wire.specs.Least.{least};
 ghost use Rattle.pbf_wire.specs.Occurrence.{items, found};
-ghost use Rattle.pbf_wire.specs.Reading.{last_of};
-ghost use Rattle.pbf_frame.specs.Header.{occurrence_text};
-ghost use Rattle.pbf_frame.specs.Blob.{compression_of, reason_faults, compressed, raw_faults, blob_faults, blob_fault, raw_of, raw_at};
+ghost use Rattle.pbf_wire.specs.Reading.{occurrence_text, last_of};
+ghost use Rattle.pbf_frame.specs.Blob.{compression_of, compressed, raw_faults, blob_faults, blob_fault, raw_of, raw_at};
 
 use crate::header::occurrence_text;
 use pbf_wire::{
@@ -61,7 +61,7 @@ fn compression_of(number: u64) -> Option<Reason>
 /// Whether a field holds compressed data.
 fn judge_compression(field: Field<'_>) -> Option<Fault>
     ensures { result
-        ≡ least (reason_faults field.entry.offset (compression_of field.entry.number)) }
+        ≡ least (or_more field.entry.offset (compression_of field.entry.number) []) }
 {
     let reason = compression_of(field.number)?;
     Some(Fault {

@@ -1,13 +1,15 @@
 //! The BlobHeader of a frame: its type and the size of its blob.
 
-ghost use Rattle.std.specs.Prelude.{◌≡◌, ◌+◌, ◌≤◌, ◌^◌, length, IfOk};
+ghost use Rattle.std.specs.Prelude.{◌≡◌, ◌+◌, ◌≤◌, ◌^◌, length, IfOk, is_none, unwrap_or};
 ghost use Rattle.std.specs.Option.{option_map};
+ghost use Rattle.pbf_wire.specs.declared.fault.Reason.TheVariants.{Missing};
+ghost use Rattle.pbf_wire.specs.Faults.{fault_where};
 ghost use Rattle.pbf_wire.specs.Fields.{occurrence};
 ghost use Rattle.pbf_wire.specs.Least.{least};
 ghost use Rattle.pbf_wire.specs.Occurrence.{items, found};
 ghost use Rattle.pbf_wire.specs.Payload.{content};
-ghost use Rattle.pbf_wire.specs.Reading.{last_of};
-ghost use Rattle.pbf_frame.specs.Header.{occurrence_text, int32_held, size_within, size_of, or_nothing, kind_named, absent_faults, size_faults, header_faults};
+ghost use Rattle.pbf_wire.specs.Reading.{occurrence_text, last_of};
+ghost use Rattle.pbf_frame.specs.Header.{int32_held, size_within, size_of, kind_named, size_faults, header_faults};
 ghost use Rattle.pbf_frame.specs.Steps.{head_of};
 
 use crate::frame::FrameKind;
@@ -74,7 +76,8 @@ fn size_in(payload: Payload<'_>) -> Option<u32>
 /// The size of the blob by the last `datasize`, and 0 where it is none.
 fn size_in_header(header: &[u8], at: u64) -> u32
     requires { at + length header.now ≤ 2 ^ 63 }
-    ensures size { result ≡ or_nothing (size_of (last_of DATASIZE (found (items at header.now)))) }
+    ensures size { result
+        ≡ unwrap_or (size_of (last_of DATASIZE (found (items at header.now)))) 0 }
     ensures small { result ≤ LARGEST_SIZE }
 {
     let Some(datasize) = last_field(header, at, DATASIZE) else {
@@ -108,7 +111,7 @@ fn judge_size(datasize: Option<Field<'_>>) -> Option<Fault>
 
 /// Whether a required field, of which this is the last, is absent.
 fn judge_missing(at: u64, number: u64, last: Option<Field<'_>>) -> Option<Fault>
-    ensures { result ≡ least (absent_faults at number (option_map occurrence last.entry)) }
+    ensures { result ≡ least (fault_where (is_none (option_map occurrence last.entry)) at (Missing number)) }
 {
     fault_where(last.is_none(), at, Reason::Missing(number))
 }

@@ -5,9 +5,9 @@ use Rattle.std.specs.List.{flat_map, last_or, AllByRecursion}
 use Rattle.std.specs.Option.{option_map, option_to_list}
 use Rattle.std.proofs.lemmas.List.{append-nil}
 use Rattle.std.proofs.lemmas.Int.{ints}
-use Rattle.pbf_wire.specs.Faults.{fields_in, entered, leaf_faults, twice}
+use Rattle.pbf_wire.specs.Faults.{fields_in, entered, leaf_faults, nested_faults, twice}
 use Rattle.pbf_wire.specs.Message.{message, SlotFits, scalars_at}
-use Rattle.pbf_wire.specs.Reading.{each}
+use Rattle.pbf_wire.specs.Reading.{last_number, each}
 use Rattle.pbf_wire.specs.Signed.{zigzag, unzigzag, sign_extended, low_i64}
 use Rattle.pbf_wire.specs.declared.fault.Fault.{Fault}
 use Rattle.pbf_wire.proofs.QuietLemmas.{SlotQuiet, scalar_quiet, each_quiet, fields_quiet, no_fault_within, leaf_quiet, field_count, present_written, once_written}
@@ -18,8 +18,8 @@ use Rattle.osm_entity.specs.Ranges.{IsInt64, IfPresent}
 use Rattle.pbf_strings.specs.TableOut.{has_text}
 use Rattle.pbf_header.specs.declared.header.HeaderBox.{HeaderBox}
 use Rattle.pbf_header.specs.declared.header.TheConstants.{HEADER_KINDS, BBOX_KINDS, BBOX, REQUIRED_FEATURES, OPTIONAL_FEATURES, WRITINGPROGRAM, SOURCE, REPLICATION_TIMESTAMP, REPLICATION_SEQUENCE, REPLICATION_URL, LEFT, RIGHT, TOP, BOTTOM}
-use Rattle.pbf_header.specs.Header.{HeaderSpec, edge, box_in, last_text, last_int64, header_in}
-use Rattle.pbf_header.specs.HeaderFaults.{header_wire, edge_faults, header_structure, feature_faults, header_values, header_fault}
+use Rattle.pbf_header.specs.Header.{HeaderSpec, edge, box_in, last_text, header_in}
+use Rattle.pbf_header.specs.HeaderFaults.{edge_faults, header_structure, feature_faults, header_values, header_fault}
 use Rattle.pbf_header.specs.WrittenHeader.{known_features, header_out, header_out_for_convert, kept_features, EdgesTyped, BoxTyped, HeaderFits, box_slots, box_message, header_slots, header_message}
 use Rattle.pbf_header.proofs.HeaderLemmas.{header_again}
 use Rattle.pbf_wire.proofs.RoomLemmas.{each_room, message_short}
@@ -89,10 +89,10 @@ header_read at h fits room =
     let program : last_text WRITINGPROGRAM os ≡ h.program = ap (λ (ts : List (List ℕ)). last_or None ts) (each_written WRITINGPROGRAM at slots good room) ∙ last_text_of h.program in
     let source : last_text SOURCE os ≡ h.source = ap (λ (ts : List (List ℕ)). last_or None ts) (each_written SOURCE at slots good room) ∙ last_text_of h.source in
     let url : last_text REPLICATION_URL os ≡ h.url = ap (λ (ts : List (List ℕ)). last_or None ts) (each_written REPLICATION_URL at slots good room) ∙ last_text_of h.url in
-    let timestamp : last_int64 REPLICATION_TIMESTAMP os ≡ h.timestamp =
+    let timestamp : option_map low_i64 (last_number REPLICATION_TIMESTAMP os) ≡ h.timestamp =
     ap (option_map low_i64) (last_written REPLICATION_TIMESTAMP at slots good room ∙ last_given REPLICATION_TIMESTAMP _ (take 5 slots) (drop 6 slots) refl (tt, (tt, (tt, (tt, (tt, tt))))) (refl, (tt, tt)))
     ∙ option_read sign_extended low_i64 IsInt64 int64_read h.timestamp (present IsInt64 h.timestamp fits.timestamp) in
-    let sequence : last_int64 REPLICATION_SEQUENCE os ≡ h.sequence =
+    let sequence : option_map low_i64 (last_number REPLICATION_SEQUENCE os) ≡ h.sequence =
     ap (option_map low_i64) (last_written REPLICATION_SEQUENCE at slots good room ∙ last_given REPLICATION_SEQUENCE _ (take 6 slots) (drop 7 slots) refl (tt, (tt, (tt, (tt, (tt, (refl, tt)))))) (tt, tt))
     ∙ option_read sign_extended low_i64 IsInt64 int64_read h.sequence (present IsInt64 h.sequence fits.sequence) in
     rw (bbox, required, optional, program, source, url, timestamp, sequence) refl
@@ -159,7 +159,7 @@ module _ (at : ℕ) (h : HeaderSpec) (fits : HeaderFits h) (room : length (heade
   unfolding header_message
   boxes = box_some h.bbox fits.bbox (embedded_below (2 ^ 64) (header_slots h) room).0
 
-  no_wire : header_wire at (header_message h) ≡ []
+  no_wire : nested_faults HEADER_KINDS BBOX BBOX_KINDS at at (header_message h) ≡ []
   unfolding header_message
   no_wire =
       let f = leaf_faults BBOX_KINDS in

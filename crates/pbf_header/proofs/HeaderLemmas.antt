@@ -1,9 +1,13 @@
--- The texts of a header.
-use Rattle.std.proofs.Common.{◌≡◌, ℕ, Bool, true, false, cond, List, [], ◌∷◌, map, refl, ap, nat_eq, codes}
+-- The texts of a header, and the edges of its box.
+use Rattle.std.proofs.Common.{◌≡◌, ℕ, Bool, true, false, cond, List, [], ◌∷◌, ◌++◌, map, refl, sym, ap, ◌∙◌, nat_eq, codes}
 use Rattle.std.specs.Prelude.{◌||◌, Option, Some}
 use Rattle.std.specs.List.{list_any}
 use Rattle.std.specs.Cmp.Lexicographic.{pointwise}
 use Rattle.std.specs.Global.{Vec}
+use Rattle.std.proofs.lemmas.List.{append-nil}
+use Rattle.pbf_wire.specs.declared.fault.Fault.{Fault}
+use Rattle.pbf_wire.specs.Least.{lesser, least}
+use Rattle.pbf_wire.proofs.LeastLemmas.{lesser_parts}
 use Rattle.pbf_strings.specs.TableOut.{has_text}
 use Rattle.pbf_header.specs.declared.header.HeaderBox.{HeaderBox}
 use Rattle.pbf_header.specs.Header.{HeaderSpec, text_of}
@@ -39,3 +43,9 @@ kept_again optional = three_again (has_text optional (codes "Has_Metadata")) (ha
 pub header_again : (bbox other : Option HeaderBox) (h : HeaderSpec) → header_out bbox (header_out other h) ≡ header_out bbox h
 header_again bbox other h =
     ap (λ (optional : List (List ℕ)). record { bbox = bbox; required = known_features; optional = optional; program = Some (codes "pbfcut"); source = h.source; url = h.url; timestamp = h.timestamp; sequence = h.sequence }) (kept_again h.optional)
+
+-- the least of what four edges lack, one after another
+pub edges_joined : (a b c d : List Fault) → lesser (least a) (lesser (least b) (lesser (least c) (least d))) ≡ least (a ++ (b ++ (c ++ (d ++ []))))
+edges_joined a b c d =
+    ap (λ f. lesser (least a) (lesser (least b) f)) (lesser_parts c d) ∙ ap (λ f. lesser (least a) f) (lesser_parts b (c ++ d)) ∙ lesser_parts a (b ++ (c ++ d))
+    ∙ ap (λ (e : List Fault). least (a ++ (b ++ (c ++ e)))) (sym (append-nil d))

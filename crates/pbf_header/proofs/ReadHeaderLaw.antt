@@ -6,7 +6,8 @@ use Rattle.std.specs.List.{last_or, cons_option, AllByRecursion}
 use Rattle.std.proofs.lemmas.Int.{ints}
 use Rattle.pbf_wire.specs.Faults.{fields_in}
 use Rattle.pbf_wire.specs.Occurrence.{Content, Number, Eight, Four, Bytes, Occurrence, IsBody, Joins}
-use Rattle.pbf_wire.specs.Reading.{number_in, numbers, last_number}
+use Rattle.pbf_wire.specs.Reading.{number_in, last_number}
+use Rattle.pbf_wire.proofs.MessageLemmas.{numbers}
 use Rattle.pbf_wire.specs.Signed.{unzigzag, low_i64}
 use Rattle.pbf_wire.proofs.Cutting.{is_cutting}
 use Rattle.osm_entity.specs.Ranges.{IsInt64, IfPresent}

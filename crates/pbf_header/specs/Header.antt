@@ -45,35 +45,23 @@ header_of h = record {
 abbrev pub edge : ℕ → List Occurrence → ℤ
 edge k os = unzigzag (unwrap_or (last_number k os) 0)
 
--- the box of these fields
-abbrev pub box_by : List Occurrence → HeaderBox
-box_by os = record { left = edge LEFT os; right = edge RIGHT os; top = edge TOP os; bottom = edge BOTTOM os }
-
 -- the box of a message; where in the file that stands doesn't matter
 abbrev pub box_in : List ℕ → HeaderBox
-box_in m = box_by (fields_in 0 m)
+box_in m = let os = fields_in 0 m in record { left = edge LEFT os; right = edge RIGHT os; top = edge TOP os; bottom = edge BOTTOM os }
 
 -- the last text of the field k
 abbrev pub last_text : ℕ → List Occurrence → Option (List ℕ)
 last_text k os = last_or None (each k os)
 
--- the last number of the field k as an int64
-abbrev pub last_int64 : ℕ → List Occurrence → Option ℤ
-last_int64 k os = option_map low_i64 (last_number k os)
-
--- the header of these fields
-abbrev pub header_by : List Occurrence → HeaderSpec
-header_by os = record {
+-- the header that a payload holds whose first byte stands at this place
+unfoldable pub header_in : ℕ → List ℕ → HeaderSpec
+header_in at m = let os = fields_in at m in record {
   bbox = option_map box_in (last_text BBOX os);
   required = each REQUIRED_FEATURES os;
   optional = each OPTIONAL_FEATURES os;
   program = last_text WRITINGPROGRAM os;
   source = last_text SOURCE os;
   url = last_text REPLICATION_URL os;
-  timestamp = last_int64 REPLICATION_TIMESTAMP os;
-  sequence = last_int64 REPLICATION_SEQUENCE os;
+  timestamp = option_map low_i64 (last_number REPLICATION_TIMESTAMP os);
+  sequence = option_map low_i64 (last_number REPLICATION_SEQUENCE os);
 }
-
--- the header that a payload holds whose first byte stands at this place
-unfoldable pub header_in : ℕ → List ℕ → HeaderSpec
-header_in at m = header_by (fields_in at m)

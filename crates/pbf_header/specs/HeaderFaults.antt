@@ -10,15 +10,9 @@ use Rattle.pbf_header.specs.declared.header.TheConstants.{BBOX, HEADER_KINDS, BB
 use Rattle.pbf_wire.specs.Phases.{first_fault, in_phases}
 use Rattle.pbf_header.specs.WrittenHeader.{known_features}
 
--- the wire form of the header and of its boxes
-abbrev pub header_wire : ℕ → List ℕ → List Fault
-header_wire at m = nested_faults HEADER_KINDS BBOX BBOX_KINDS at at m
-
 -- the edges that a box lacks, at the box's place
 abbrev pub edge_faults : ℕ → ℕ → List ℕ → List Fault
-edge_faults place at m =
-    let os = fields_in at m in
-    missing LEFT place os ++ (missing RIGHT place os ++ (missing TOP place os ++ missing BOTTOM place os))
+edge_faults place at m = flat_map (λ k. missing k place (fields_in at m)) (LEFT ∷ RIGHT ∷ TOP ∷ BOTTOM ∷ [])
 
 -- each box after the first, and what each box lacks
 abbrev pub header_structure : List Occurrence → List Fault
@@ -32,9 +26,9 @@ feature_faults place at text = fault_where (not (has_text known_features text)) 
 abbrev pub header_values : List Occurrence → List Fault
 header_values os = flat_map (entered REQUIRED_FEATURES feature_faults) os
 
--- the faults of a header that begins at this place, phase by phase
+-- the faults of a header that begins at this place, phase by phase: first those of the wire form of it and of its boxes
 abbrev pub header_phases : ℕ → List ℕ → List (List Fault)
-header_phases at m = header_wire at m ∷ header_structure (fields_in at m) ∷ header_values (fields_in at m) ∷ []
+header_phases at m = let os = fields_in at m in nested_faults HEADER_KINDS BBOX BBOX_KINDS at at m ∷ header_structure os ∷ header_values os ∷ []
 
 -- the first of them: the least of the first phase that has one
 unfoldable pub header_fault : ℕ → List ℕ → Option Fault

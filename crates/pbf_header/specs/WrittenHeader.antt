@@ -15,23 +15,16 @@ abbrev pub known_features : List (List ℕ)
 known_features = codes "OsmSchema-V0.6" ∷ codes "DenseNodes" ∷ []
 
 -- the optional features that hold of what is written where they hold of what was read, in the order in which they are written
-abbrev pub lasting_features : List (List ℕ)
-lasting_features = codes "Has_Metadata" ∷ codes "Sort.Type_then_ID" ∷ codes "LocationsOnWays" ∷ []
-
 abbrev pub kept_features : List (List ℕ) → List (List ℕ)
-kept_features optional = filter (has_text optional) lasting_features
+kept_features optional = filter (has_text optional) (codes "Has_Metadata" ∷ codes "Sort.Type_then_ID" ∷ codes "LocationsOnWays" ∷ [])
 
--- the header that is written, with this box
+-- the header that is written, with this box; the source and the replication fields stay
 abbrev pub header_out : Option HeaderBox → HeaderSpec → HeaderSpec
-header_out bbox h = record {
+header_out bbox h = record h {
   bbox = bbox;
   required = known_features;
   optional = kept_features h.optional;
   program = Some (codes "pbfcut");
-  source = h.source;
-  url = h.url;
-  timestamp = h.timestamp;
-  sequence = h.sequence;
 }
 
 abbrev pub edges_of : BoundingBox → HeaderBox

@@ -20,7 +20,7 @@ use pbf_wire::{
 };
 
 /// The first of the edges that a box lacks. Its field stands at `place`.
-#[tactic(auto, using(crate::proofs::Parts::lesser_parts))]
+#[tactic(auto, using(crate::proofs::HeaderLemmas::edges_joined))]
 fn judge_edges(message: &[u8], at: u64, place: u64) -> Option<Fault>
     requires { at + length message.now ≤ 2 ^ 63 }
     ensures { result ≡ least (edge_faults place at message.now) }

@@ -5,8 +5,9 @@ ghost use Rattle.std.specs.Option.{option_map};
 ghost use Rattle.pbf_wire.specs.declared.fault.Fault.{Fault};
 ghost use Rattle.pbf_wire.specs.declared.fault.ReadFault.TheVariants.{Refused};
 ghost use Rattle.pbf_wire.specs.Faults.{fields_in};
-ghost use Rattle.pbf_wire.specs.Reading.{each};
-ghost use Rattle.pbf_header.specs.Header.{header_of, header_in, text_of, edge, box_in, last_text, last_int64};
+ghost use Rattle.pbf_wire.specs.Reading.{last_number, each};
+ghost use Rattle.pbf_wire.specs.Signed.{low_i64};
+ghost use Rattle.pbf_header.specs.Header.{header_of, header_in, text_of, edge, box_in, last_text};
 ghost use Rattle.pbf_header.specs.HeaderFaults.{header_fault};
 
 use crate::header::{
@@ -95,7 +96,7 @@ fn last_text(
 /// The last number of a field.
 fn last_int64(payload: &[u8], at: u64, number: u64) -> Option<i64>
     requires { at + length payload.now ≤ 2 ^ 63 }
-    ensures { result ≡ last_int64 number (fields_in at payload.now) }
+    ensures { result ≡ option_map low_i64 (last_number number (fields_in at payload.now)) }
 {
     last_number(payload, at, number).map(|number| low_i64(number))
 }

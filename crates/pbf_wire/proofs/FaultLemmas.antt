@@ -15,7 +15,7 @@ use Rattle.pbf_wire.specs.Columns.{Entry, entries_from, entries_past, read_entri
 use Rattle.pbf_wire.specs.Wire.{kind_of, reason_in, or_at, wire, judged}
 use Rattle.pbf_wire.specs.Reading.{bytes_held}
 use Rattle.pbf_wire.specs.Least.{lesser, least, rank}
-use Rattle.pbf_wire.specs.Faults.{fault, or_more, message_faults, ends, ends_in, ends_of, column_count, fields_in}
+use Rattle.pbf_wire.specs.Faults.{fault, or_more, message_faults, ends_in, ends_of, column_count, fields_in}
 use Rattle.pbf_wire.proofs.Cutting.{is_cutting}
 use Rattle.pbf_wire.proofs.LeastLemmas.{lesser_joined}
 
@@ -54,6 +54,10 @@ again seen so_far k its t o all e next same h =
     ∙ h
 
 -- ---- how many numbers a column has
+
+-- the bytes that end a varint
+abbrev pub ends : List ℕ → List ℕ
+ends bytes = filter (λ b. nat_lt b 128) bytes
 
 pub ends_counted : (bytes : List ℕ) → length (ends bytes) ≡ count_by (λ b. nat_lt b 128) bytes
 ends_counted bytes = length-filter (λ b. nat_lt b 128) bytes

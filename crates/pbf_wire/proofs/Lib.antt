@@ -9,6 +9,7 @@ pub mod SumLemmas
 pub mod PackedLemmas
 pub mod WritingLemmas
 pub mod CountLemmas
+pub mod ReasonLemmas
 pub mod LeastLemmas
 pub mod PlaceLemmas
 pub mod MessageLemmas

@@ -1,7 +1,7 @@
 -- What a written message reads as, field by field.
 use Rattle.std.proofs.Common.{◌≡◌, ℕ, ◌+◌, ◌*◌, ◌^◌, ◌<◌, Bool, true, false, cond, eqb, List, [], ◌∷◌, ◌++◌, length, map, Option, Some, None, refl, ap, ◌∙◌, arith, length-append}
 use Rattle.std.specs.Prelude.{Ok}
-use Rattle.std.specs.List.{flat_map, last_or, AllByRecursion}
+use Rattle.std.specs.List.{filter_map, flat_map, last_or, AllByRecursion}
 use Rattle.std.proofs.lemmas.List.{append-nil, map-append}
 use Rattle.std.proofs.lemmas.Grind.{flat_map-append}
 use Rattle.pbf_wire.specs.declared.fault.Reason.{Reason}
@@ -10,12 +10,16 @@ use Rattle.pbf_wire.specs.declared.kind.Kind.TheVariants as kind
 use Rattle.pbf_wire.specs.Varint.{shortest}
 use Rattle.pbf_wire.specs.Occurrence.{Number, Bytes, Occurrence, Item, items, found}
 use Rattle.pbf_wire.specs.Columns.{Entry, entries, read_entries, entry_fault, packed, placed, column_of, joined, column}
-use Rattle.pbf_wire.specs.Reading.{numbers, last_number, each}
+use Rattle.pbf_wire.specs.Reading.{number_of, last_number, each}
 use Rattle.pbf_wire.specs.Wire.{reason_in, kind_of, or_at, wire}
 use Rattle.pbf_wire.specs.Writing.{Part, Single, Whole, spelling, written, IsWritable, occurrence_of, occurrences_of}
 use Rattle.pbf_wire.specs.Message.{Slot, Scalar, Column, Each, parts_of, message, SlotFits, SlotIs, SlotBelow, numbers_at, scalars_at, messages_at}
 use Rattle.pbf_wire.proofs.Written.{reads_back, column_reads_back}
 use Rattle.pbf_wire.proofs.PackedLemmas.{column_read}
+
+-- the numbers of the field k, in order
+abbrev pub numbers : ℕ → List Occurrence → List ℕ
+numbers k os = filter_map (number_of k) os
 
 -- ---- all fields can be written
 

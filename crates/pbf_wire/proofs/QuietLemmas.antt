@@ -4,6 +4,7 @@ use Rattle.std.proofs.lemmas.Grind.{flat_map-append}
 use Rattle.std.proofs.Common.{◌≡◌, ℕ, ◌+◌, ◌*◌, ◌%◌, ◌^◌, ◌<◌, ℤ, pos, ◌+ℤ◌, Bool, true, List, [], ◌∷◌, ◌++◌, length, map, Option, Some, None, refl, sym, ap, ap₂, subst, ◌∙◌, ◌||◌, drop, ◌==◌, arith, ◌≤◌, false}
 use Rattle.std.specs.Prelude.{Ok, Err, not, filter, if◌then◌else◌}
 use Rattle.std.specs.List.{flat_map, AllByRecursion, list_any, last_or}
+use Rattle.std.specs.Option.{option_and_then}
 use Rattle.std.proofs.lemmas.Bool.{lt-ltb}
 use Rattle.std.proofs.lemmas.List.{length-map}
 use Rattle.pbf_wire.specs.declared.fault.Fault.{Fault}
@@ -19,13 +20,16 @@ use Rattle.pbf_wire.specs.Writing.{Part, Single, Whole, spelling, occurrences_of
 use Rattle.pbf_wire.specs.Message.{Slot, Scalar, Column, Each, parts_of, message, SlotFits, SlotIs, numbers_at, unless_empty, messages_at, scalars_at}
 use Rattle.pbf_wire.specs.Signed.{delta_in, IsWithin, is_within}
 use Rattle.pbf_wire.specs.Sums.{sums, sums_from}
-use Rattle.pbf_wire.specs.Faults.{fault_where, or_more, message_faults, leaf_faults, fields_in, column_count, below_faults, index_faults, faults_of_sums, sum_faults, index_sum_faults, is_index, fault, fields_of, embedded, missing, twice, of_value, value_of_last, in_last}
+use Rattle.pbf_wire.specs.Faults.{fault_where, or_more, message_faults, leaf_faults, fields_in, column_count, below_fault, index_faults, faults_of_sums, sum_faults, index_sum_faults, is_index, fault, fields_of, embedded, missing, twice, value_in, of_value, in_last}
 use Rattle.pbf_wire.proofs.MessageLemmas.{all_append, fields_written, column_written, no_wire_fault, part_scalars, part_messages, slots_scalars, slots_messages}
 use Rattle.pbf_wire.proofs.SumLemmas.{running_sums, within_true}
 use Rattle.pbf_wire.proofs.SoundLemmas.{both_nil, whole_count}
 use Rattle.pbf_wire.proofs.RisingLemmas.{running, running_is}
 
 -- ---- what the fields give
+
+abbrev pub value_of_last : Option Occurrence → Option (ℕ × ℕ)
+value_of_last last = option_and_then (λ o. value_in o.place o.content) last
 
 abbrev pub field_at : ℕ → ℕ → Content → Occurrence
 field_at place number content = record { place = place; number = number; content = content }
@@ -160,7 +164,7 @@ counted_written kinds k at slots known h fits lt =
 
 -- ---- values
 
-pub below_good : (reason : Reason) (limit : ℕ) (entries : List (ℕ × ℕ)) → AllByRecursion (λ v. v % 2 ^ 32 < limit) (map (λ p. p.0) entries) → below_faults reason limit entries ≡ []
+pub below_good : (reason : Reason) (limit : ℕ) (entries : List (ℕ × ℕ)) → AllByRecursion (λ v. v % 2 ^ 32 < limit) (map (λ p. p.0) entries) → flat_map (below_fault reason limit) entries ≡ []
 below_good reason limit [] h = refl
 below_good reason limit (x ∷ xs) h =
     ap₂ (λ (b : Bool) (fs : List Fault). fault_where (not b) x.1 reason ++ fs) (lt-ltb (x.0 % 2 ^ 32) limit h.0) (below_good reason limit xs h.1)

@@ -12,12 +12,12 @@ use Rattle.pbf_wire.specs.Varint.{EndsOnce, varint_at}
 use Rattle.pbf_wire.specs.Occurrence.{Content, Number, Eight, Four, Bytes, Occurrence, Item, items, found}
 use Rattle.pbf_wire.specs.Columns.{entries, read_entries, entry_fault, placed, numbers_in, column_of, joined}
 use Rattle.pbf_wire.specs.Wire.{kind_of, reason_in, wire}
-use Rattle.pbf_wire.proofs.FaultLemmas.{leaf_is_wire}
+use Rattle.pbf_wire.proofs.FaultLemmas.{leaf_is_wire, ends}
 use Rattle.pbf_wire.specs.Reading.{last_of}
 use Rattle.pbf_wire.specs.Signed.{IsWithin, is_within, delta_in}
 use Rattle.pbf_wire.specs.Sums.{sums, sums_from}
 use Rattle.pbf_wire.specs.Least.{least, lesser_by, rank}
-use Rattle.pbf_wire.specs.Faults.{fault_where, or_more, message_faults, ends, ends_in, ends_of, column_count, fields_in, faults_of_sums}
+use Rattle.pbf_wire.specs.Faults.{fault_where, or_more, message_faults, ends_in, ends_of, column_count, fields_in, faults_of_sums}
 use Rattle.pbf_wire.proofs.Columns.{entries_none, entries_ok, entries_err}
 use Rattle.pbf_wire.proofs.Spellings.{varint_ok}
 use Rattle.pbf_wire.proofs.SumLemmas.{running_sums, within_is}

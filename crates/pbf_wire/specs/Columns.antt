@@ -1,6 +1,7 @@
 -- The numbers of a column, packed or single.
 use Rattle.std.specs.Prelude.{ℕ, zero, suc, ◌-◌, ◌==◌, if◌then◌else◌, List, [], ◌∷◌, map, Option, Some, None, Result, Ok, Err}
 use Rattle.std.specs.List.{flat_map}
+use Rattle.std.specs.Result.{ok_prefix}
 use Rattle.pbf_wire.specs.declared.fault.Reason.{Reason}
 use Rattle.pbf_wire.specs.Varint.{varint_at, shortest}
 use Rattle.pbf_wire.specs.Occurrence.{Content, Number, Bytes, Occurrence}
@@ -22,10 +23,9 @@ entries_past zero (b ∷ bs) = entries_from (varint_at (b ∷ bs)) (λ skip. ent
 abbrev pub entries : List ℕ → List Entry
 entries bytes = entries_past 0 bytes
 
+-- the numbers before the first that can't be read
 abbrev pub read_entries : List Entry → List ℕ
-read_entries [] = []
-read_entries (Ok v ∷ rest) = v ∷ read_entries rest
-read_entries (Err e ∷ rest) = []
+read_entries entries = ok_prefix entries
 
 abbrev pub entry_fault : List Entry → Option Reason
 entry_fault [] = None

@@ -1,6 +1,7 @@
 -- Faults of messages as lists: the words that the judgement of every message is put together from.
 use Rattle.std.specs.Prelude.{ℕ, ℤ, pos, negsuc, ◌%◌, ◌^◌, ◌==◌, if◌then◌else◌, Bool, true, false, not, nat_lt, List, [], ◌∷◌, ◌++◌, length, map, drop, filter, Option, Some, None, Ok, Err}
 use Rattle.std.specs.List.{flat_map, list_any, zip}
+use Rattle.std.specs.Option.{option_and_then, option_map_or}
 use Rattle.pbf_wire.specs.declared.fault.Fault.{Fault}
 use Rattle.pbf_wire.specs.declared.fault.Reason.{Reason}
 use Rattle.pbf_wire.specs.declared.fault.Reason.TheVariants.{Missing, TwiceMessage, StringIndex, OutOfRange}
@@ -35,8 +36,7 @@ abbrev pub fields_in : ℕ → List ℕ → List Occurrence
 fields_in at m = found (items at m)
 
 abbrev pub fields_of : Option Occurrence → List Occurrence
-fields_of None = []
-fields_of (Some o) = inside fields_in o.content
+fields_of last = option_map_or (λ o. inside fields_in o.content) last []
 
 -- the occurrences in the last message that the field k holds, and none where there is no such field
 abbrev pub embedded : ℕ → List Occurrence → List Occurrence
@@ -73,13 +73,10 @@ missing k place os = fault_where (not (list_any (λ o. o.number == k) os)) place
 abbrev pub twice : ℕ → List Occurrence → List Fault
 twice k os = map (λ o. fault o.place TwiceMessage) (drop 1 (filter (λ o. o.number == k) os))
 
--- the bytes that end a varint
-abbrev pub ends : List ℕ → List ℕ
-ends bytes = filter (λ b. nat_lt b 128) bytes
-
+-- what ends a number of a column: a single one ends itself, and of packed ones the bytes below 128 do
 abbrev pub ends_in : Content → List ℕ
 ends_in (Number v) = 0 ∷ []
-ends_in (Bytes bytes at) = ends bytes
+ends_in (Bytes bytes at) = filter (λ b. nat_lt b 128) bytes
 ends_in _ = []
 
 abbrev pub ends_of : ℕ → Occurrence → List ℕ
@@ -95,15 +92,9 @@ column_count k os = length (flat_map (ends_of k) os)
 abbrev pub below_fault : Reason → ℕ → ℕ × ℕ → List Fault
 below_fault reason limit x = fault_where (not (nat_lt (x.0 % 2 ^ 32) limit)) x.1 reason
 
-abbrev pub below_faults : Reason → ℕ → List (ℕ × ℕ) → List Fault
-below_faults reason limit entries = flat_map (below_fault reason limit) entries
-
 -- a table of this length has no text for a number
-abbrev pub index_fault : ℕ → ℕ × ℕ → List Fault
-index_fault limit x = below_fault StringIndex limit x
-
 abbrev pub index_faults : ℕ → List (ℕ × ℕ) → List Fault
-index_faults limit entries = below_faults StringIndex limit entries
+index_faults limit entries = flat_map (below_fault StringIndex limit) entries
 
 -- a number isn't strictly between -limit and limit
 abbrev pub range_fault : ℤ → ℕ → ℤ → List Fault
@@ -132,17 +123,12 @@ abbrev pub value_in : ℕ → Content → Option (ℕ × ℕ)
 value_in place (Number v) = Some (place, v)
 value_in _ _ = None
 
-abbrev pub value_of_last : Option Occurrence → Option (ℕ × ℕ)
-value_of_last None = None
-value_of_last (Some o) = value_in o.place o.content
-
 -- the place of the last occurrence of the field k, and its number
 abbrev pub last_value : ℕ → List Occurrence → Option (ℕ × ℕ)
-last_value k os = value_of_last (last_of k os)
+last_value k os = option_and_then (λ o. value_in o.place o.content) (last_of k os)
 
 abbrev pub of_value : {X : Type 0} → (ℕ → ℕ → List X) → Option (ℕ × ℕ) → List X
-of_value f None = []
-of_value f (Some p) = f p.0 p.1
+of_value f last = option_map_or (λ p. f p.0 p.1) last []
 
 -- what they give
 abbrev pub in_last : {X : Type 0} → ℕ → (ℕ → ℕ → List X) → List Occurrence → List X

@@ -1,11 +1,14 @@
--- The least of faults: by offset, then by the reason's number, then by the field of Missing.
+-- The least of faults: by offset, then by the reason, in the order of the reasons' numbers, then by the field of Missing.
 use Rattle.std.specs.Prelude.{◌≡◌, ◌⊎◌, ℕ, List, [], ◌∷◌, Bool, true, false, Option, Some, None, nat_lt, if◌then◌else◌}
+use denote.Enum.Declared.{tag_of}
+use Rattle.pbf_wire.specs.contracts.fault.Reason.{the_type}
 use Rattle.pbf_wire.specs.declared.fault.Fault.{Fault}
-use Rattle.pbf_wire.specs.Reasons.{reason_number, missing_field}
+use Rattle.pbf_wire.specs.Reasons.{missing_field}
 
--- what faults are compared by, the first number first
+-- what faults are compared by, the first number first; the tag of a reason is its place among the reasons as they are declared, and
+-- reasons are declared in the order of their numbers
 abbrev pub rank : Fault → List ℕ
-rank f = f.offset ∷ reason_number f.reason ∷ missing_field f.reason ∷ []
+rank f = f.offset ∷ tag_of the_type f.reason ∷ missing_field f.reason ∷ []
 
 -- the first list is less, by the first numbers that differ
 abbrev pub is_less : List ℕ → List ℕ → Bool

@@ -8,7 +8,8 @@ use std::alloc::{AllocError, AllocFailed};
 use std::fmt;
 use thiserror::Error;
 
-/// What is wrong with the bytes. Each reason has a fixed number, and faults at one place are compared by it.
+/// What is wrong with the bytes. Each reason has a fixed number, and faults at one place are compared by it: the reasons are
+/// declared in the order of their numbers.
 #[derive(Clone, Copy, Debug, PartialEq, Eq)]
 pub enum Reason {
     /// 1: the message ends inside a varint.

@@ -3,14 +3,15 @@
 //! A message of which these calls read one field may have a wire fault; its fields before the fault count.
 
 ghost use Rattle.std.specs.Prelude.{◌≡◌, ◌+◌, ◌+ℤ◌, ◌≤◌, ◌^◌, ◌==◌, pos, true, false, [], IsTrue, length, MatchOption};
-ghost use Rattle.std.specs.List.{list_any};
+ghost use Rattle.std.specs.List.{flat_map, list_any};
+ghost use Rattle.pbf_wire.specs.declared.fault.Reason.TheVariants.{StringIndex};
 ghost use Rattle.pbf_wire.specs.Occurrence.{items, found};
 ghost use Rattle.pbf_wire.specs.Cursors.{fields_left};
 ghost use Rattle.pbf_wire.specs.Columns.{joined};
 ghost use Rattle.pbf_wire.specs.Fields.{occurrence};
 ghost use Rattle.pbf_wire.specs.Least.{least};
 ghost use Rattle.pbf_wire.specs.Signed.{IsWithin, delta_in, low_sint32};
-ghost use Rattle.pbf_wire.specs.Faults.{fault_where, fields_in, leaf_faults, entered, nested_faults, missing, twice, column_count, below_fault, below_faults, index_fault, index_faults, range_fault, sum_faults, is_index, index_sum_faults};
+ghost use Rattle.pbf_wire.specs.Faults.{fault_where, fields_in, leaf_faults, entered, nested_faults, missing, twice, column_count, below_fault, index_faults, range_fault, sum_faults, is_index, index_sum_faults};
 
 use crate::column::Column;
 use crate::fault::{Fault, Reason};
@@ -185,7 +186,7 @@ pub fn judge_low_numbers(
 ) -> Option<Fault>
     requires { at + length message.now ≤ 2 ^ 63 }
     ensures { result
-        ≡ least (below_faults reason limit (joined number (fields_in at message.now))) }
+        ≡ least (flat_map (below_fault reason limit) (joined number (fields_in at message.now))) }
 {
     let mut column = Column::new(message, at, number);
     let mut least = None;
@@ -197,7 +198,7 @@ pub fn judge_low_numbers(
 
 /// `StringIndex` at `place`, where the low 32 bits of the number aren't below `limit`, the length of a table.
 pub fn judge_index(place: u64, number: u64, limit: u64) -> Option<Fault>
-    ensures { result ≡ least (index_fault limit (number, place)) }
+    ensures { result ≡ least (below_fault StringIndex limit (number, place)) }
 {
     judge_low(place, number, limit, Reason::StringIndex)
 }

@@ -1,12 +1,13 @@
 //! The laws of the wire encoding. Each is the contract of a function that does nothing: a proof that needs the law calls it,
 //! or takes the lemma of that name from this crate's `proofs/`.
 
-ghost use Rattle.std.specs.Prelude.{◌≡◌, ◌+◌, ◌*◌, ◌^◌, ◌<◌, ◌≤◌, ◌<ℤ◌, ◌≤ℤ◌, neg_ℤ, ◌++◌, ℕ, ℤ, pos, negsuc, List, Ok, None, Some, length, map};
+ghost use Rattle.std.specs.Prelude.{◌≡◌, ◌+◌, ◌*◌, ◌^◌, ◌<◌, ◌≤◌, ◌<ℤ◌, ◌≤ℤ◌, neg_ℤ, ◌++◌, ℕ, ℤ, pos, negsuc, List, [], ◌∷◌, Ok, None, Some, length, map};
 ghost use Rattle.std.specs.List.{AllByRecursion, flat_map, last_or};
 ghost use Rattle.std.specs.Option.{option_map};
 ghost use Rattle.pbf_wire.specs.declared.fault.Fault.{Fault};
 ghost use Rattle.pbf_wire.specs.declared.kind.Kind.{Kind};
-ghost use Rattle.pbf_wire.specs.Least.{rank, least, least_by, lesser, IsLeast};
+ghost use Rattle.pbf_wire.specs.Least.{rank, is_less, least, least_by, lesser, IsLeast};
+ghost use Rattle.pbf_wire.specs.Reasons.{reason_number, missing_field};
 ghost use Rattle.pbf_wire.specs.Phases.{first_fault, in_phases, phase_rank};
 ghost use Rattle.pbf_wire.specs.Varint.{IsVarint, varint_at, shortest};
 ghost use Rattle.pbf_wire.specs.Occurrence.{Occurrence, Joins, IsCutting, items, found, fault_of, without_places};
@@ -114,6 +115,14 @@ pub fn least_is_least()
     ensures least { (faults : List Fault) → IsLeast rank (least faults) faults }
     ensures parts { (faults others : List Fault)
         → least (faults ++ others) ≡ lesser (least faults) (least others) }
+{}
+
+/// Reasons are declared in the order of their numbers, so faults are compared by offset, then by the reason's number, then by the
+/// field of `Missing`.
+pub fn faults_go_by_number()
+    ensures { (one other : Fault) → is_less (rank one) (rank other)
+        ≡ is_less (one.offset ∷ reason_number one.reason ∷ missing_field one.reason ∷ [])
+        (other.offset ∷ reason_number other.reason ∷ missing_field other.reason ∷ []) }
 {}
 
 /// Where faults are found phase by phase, the least of the first phase that has one is the least of all: phases are one order, in

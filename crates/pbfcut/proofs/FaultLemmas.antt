@@ -1,12 +1,14 @@
 -- The first fault of a file is the least of all its faults.
 use Rattle.std.proofs.Common.{◌≡◌, ℕ, zero, suc, ◌+◌, ◌≤◌, List, ◌++◌, length, drop, refl, ap, ap₂, sym, ◌∙◌, arith}
-use Rattle.std.specs.Prelude.{Bool, true, false, ◌||◌, ◌==◌, if◌then◌else◌, Option, Some, None, map}
+use Rattle.std.specs.Prelude.{Bool, true, false, ◌||◌, ◌==◌, if◌then◌else◌, Option, Some, None, Result, Ok, Err, [], map}
 use Rattle.std.specs.Option.{option_map, option_or}
 use Rattle.pbf_wire.specs.declared.fault.Fault.{Fault}
+use Rattle.pbf_wire.specs.declared.fault.Reason.TheVariants.{NoHeader}
 use Rattle.pbf_wire.specs.Least.{least_by}
 use Rattle.pbf_wire.specs.Phases.{first_fault, phase_rank}
 use Rattle.pbf_wire.proofs.PhaseLemmas.{IsFrom, later_from, parted_from, parted_found, phases_joined, or_first, first_of_joined}
-use Rattle.pbf_frame.specs.Frames.{FrameSpec, is_header, frame_at, frame_kind, frame_end, frame_bytes, frame_phases, end_of, given_or, next_of}
+use Rattle.pbf_frame.specs.Frames.{FrameSpec, is_header, frame_at, frame_kind, frame_end, frame_bytes, frame_phases, next_of}
+use Rattle.pbf_frame.proofs.Stepping.{given_or}
 use Rattle.pbf_frame.specs.Verdict.{Verdict, judged_after, judged_within, judged}
 use Rattle.pbf_header.specs.HeaderFaults.{header_fault}
 use Rattle.pbf_block.specs.Judgement.{block_fault}
@@ -56,6 +58,10 @@ frame_ends f = omega arith
 ends_from : (had_header : Bool) (place : ℕ) → IsFrom place (least_by file_rank (map (λ p. (place, p)) (end_faults had_header place)))
 ends_from true place = tt
 ends_from false place = omega arith
+
+-- a file ends here, if it had its header
+abbrev end_of : Bool → ℕ → Result (Option FrameSpec × List ℕ) Fault
+end_of had_header place = if had_header then Ok (None, []) else Err (record { offset = place; reason = NoHeader })
 
 ends_same : (later : Bool → ℕ → List ℕ → Verdict) (had_header : Bool) (place : ℕ) → option_map (λ p. p.1.1) (least_by file_rank (map (λ p. (place, p)) (end_faults had_header place))) ≡ (fully (judged_after later had_header (end_of had_header place))).1
 ends_same later true place = refl

@@ -2,7 +2,8 @@ use Rattle.std.proofs.Common.{◌≡◌}
 use Rattle.std.specs.List.{last_or}
 use Rattle.pbf_wire.specs.Cursors.{fields_left}
 use Rattle.pbf_wire.specs.Occurrence.{found}
-use Rattle.pbf_wire.specs.Reading.{numbers, last_number}
+use Rattle.pbf_wire.specs.Reading.{last_number}
+use Rattle.pbf_wire.proofs.MessageLemmas.{numbers}
 use Rattle.pbf_block.proofs.entity_fields.last_left.Given as goal
 
 abbrev pub invariant-loop-item : goal.invariant-loop-item

@@ -1,7 +1,7 @@
 use Rattle.std.proofs.Common.{◌≡◌, None}
 use Rattle.std.specs.List.{last_or}
 use Rattle.pbf_wire.specs.Occurrence.{items, found}
-use Rattle.pbf_wire.specs.Reading.{numbers}
+use Rattle.pbf_wire.proofs.MessageLemmas.{numbers}
 use Rattle.pbf_wire.specs.Cursors.{fields_left}
 use Rattle.pbf_wire.proofs.reading.last_number.Given as goal
 

@@ -1,0 +1,76 @@
+-- The numbers of reasons rise as the reasons are declared, so to compare reasons by their places is to compare them by their numbers.
+use Rattle.std.proofs.Common.{◌≡◌, ℕ, ◌+◌, [], ◌∷◌, Bool, refl, sym, ap₂, ◌∙◌, arith}
+use Rattle.std.specs.Prelude.{true, false, nat_lt, if◌then◌else◌}
+use Rattle.std.proofs.lemmas.Bool.Decides.{nat_tests}
+use denote.Enum.Declared.{tag_of}
+use Rattle.pbf_wire.specs.contracts.fault.Reason.{the_type}
+use Rattle.pbf_wire.specs.declared.fault.Fault.{Fault}
+use Rattle.pbf_wire.specs.declared.fault.Reason.{Reason}
+use Rattle.pbf_wire.specs.declared.fault.Reason.TheVariants.{VarintCut, VarintLong, NumberZero, TagLarge, Group, WireType, LengthPast, FixedCut, WrongType, PrefixCut, HeaderLong, HeaderCut, BlobCut, DataSize, NoRaw, RawLong, Zlib, Lzma, Bzip2, Lz4, Zstd, NoHeader, SecondHeader, DataFirst, Missing, FileLong, TooManyStrings, StringIndex, ColumnLengths, KeysVals, OutOfRange, EntityLarge, TwiceMessage, MixedGroup, Changesets, Granularity, DateGranularity, Feature, TagColumns, MemberColumns, MemberKind, LocationColumns}
+use Rattle.pbf_wire.specs.Least.{rank, is_less}
+use Rattle.pbf_wire.specs.Reasons.{reason_number, missing_field}
+
+-- the number of the reason at this place
+number_at : ℕ → ℕ
+number_at place =
+    if nat_lt place 26 then place + 1
+    else (if nat_lt place 28 then place + 4
+    else (if nat_lt place 32 then place + 12
+    else (if nat_lt place 38 then place + 18 else place + 19)))
+
+rising : (p q : ℕ) → nat_lt (number_at p) (number_at q) ≡ nat_lt p q
+unfolding number_at
+rising p q = grind (arith, nat_tests)
+
+numbered : (r : Reason) → reason_number r ≡ number_at (tag_of the_type r)
+unfolding number_at
+numbered VarintCut = refl
+numbered VarintLong = refl
+numbered NumberZero = refl
+numbered TagLarge = refl
+numbered Group = refl
+numbered WireType = refl
+numbered LengthPast = refl
+numbered FixedCut = refl
+numbered WrongType = refl
+numbered PrefixCut = refl
+numbered HeaderLong = refl
+numbered HeaderCut = refl
+numbered BlobCut = refl
+numbered DataSize = refl
+numbered NoRaw = refl
+numbered RawLong = refl
+numbered Zlib = refl
+numbered Lzma = refl
+numbered Bzip2 = refl
+numbered Lz4 = refl
+numbered Zstd = refl
+numbered NoHeader = refl
+numbered SecondHeader = refl
+numbered DataFirst = refl
+numbered (Missing field) = refl
+numbered FileLong = refl
+numbered TooManyStrings = refl
+numbered StringIndex = refl
+numbered ColumnLengths = refl
+numbered KeysVals = refl
+numbered OutOfRange = refl
+numbered EntityLarge = refl
+numbered TwiceMessage = refl
+numbered MixedGroup = refl
+numbered Changesets = refl
+numbered Granularity = refl
+numbered DateGranularity = refl
+numbered Feature = refl
+numbered TagColumns = refl
+numbered MemberColumns = refl
+numbered MemberKind = refl
+numbered LocationColumns = refl
+
+numbers_rise : (r s : Reason) → nat_lt (reason_number r) (reason_number s) ≡ nat_lt (tag_of the_type r) (tag_of the_type s)
+numbers_rise r s = ap₂ nat_lt (numbered r) (numbered s) ∙ rising (tag_of the_type r) (tag_of the_type s)
+
+pub by_number : (f g : Fault) → is_less (rank f) (rank g) ≡ is_less (f.offset ∷ reason_number f.reason ∷ missing_field f.reason ∷ []) (g.offset ∷ reason_number g.reason ∷ missing_field g.reason ∷ [])
+by_number f g =
+    ap₂ (λ (before after : Bool). if nat_lt f.offset g.offset then true else (if nat_lt g.offset f.offset then false else (if before then true else (if after then false else is_less (missing_field f.reason ∷ []) (missing_field g.reason ∷ [])))))
+    (sym (numbers_rise f.reason g.reason)) (sym (numbers_rise g.reason f.reason))
