@@ -1,6 +1,6 @@
 //! The box of an extract.
 
-ghost use Rattle.std.specs.Prelude.{◌≡◌, ◌↔◌, ◌≤ℤ◌, ◌&&◌, pos, int_le, IsTrue};
+ghost use Rattle.std.specs.Prelude.{◌≡◌, ◌≤ℤ◌, ◌&&◌, pos, int_le};
 ghost use Rattle.osm_box.specs.BoundingBox.{box_of_edges, is_up_to, is_inside};
 ghost use Rattle.osm_box.specs.Degrees.{box_of_text};
 

@@ -1,15 +1,15 @@
 //! A PrimitiveBlock that is judged and read.
 
-ghost use Rattle.std.specs.Prelude.{◌≡◌, ◌+◌, ◌*◌, ◌≤◌, ◌<◌, ◌^◌, [], None, Some, Err, ℕ, List, IfOk, OnOk, length};
+ghost use Rattle.std.specs.Prelude.{◌≡◌, ◌+◌, ◌*◌, ◌≤◌, ◌<◌, ◌^◌, [], None, Some, Err, IfOk, OnOk, length};
 ghost use Rattle.std.specs.List.{AllByRecursion, filter};
 ghost use Rattle.std.specs.Option.{option_or, option_map};
 ghost use Rattle.pbf_wire.specs.declared.fault.Fault.{Fault};
 ghost use Rattle.pbf_wire.specs.declared.fault.ReadFault.TheVariants.{Refused};
 ghost use Rattle.pbf_wire.specs.Faults.{fields_in};
-ghost use Rattle.pbf_wire.specs.Least.{least, least_by};
+ghost use Rattle.pbf_wire.specs.Least.{least};
 ghost use Rattle.pbf_wire.specs.Reading.{occurrence_text};
 ghost use Rattle.osm_entity.specs.Ranges.{EntityFits};
-ghost use Rattle.pbf_block.specs.Judgement.{payload_weights, block_fault, all_faults};
+ghost use Rattle.pbf_block.specs.Judgement.{payload_weights, block_fault};
 ghost use Rattle.pbf_block.specs.ValueFaults.{value_faults};
 ghost use Rattle.pbf_block.specs.Cursors.{entities_left};
 ghost use Rattle.pbf_block.specs.Payload.{entities};

@@ -8,7 +8,7 @@ ghost use Rattle.pbf_wire.specs.Fields.{occurrence};
 ghost use Rattle.pbf_wire.specs.Least.{least};
 ghost use Rattle.pbf_wire.specs.Occurrence.{items, found};
 ghost use Rattle.pbf_wire.specs.Reading.{occurrence_text, last_of};
-ghost use Rattle.pbf_frame.specs.Blob.{compression_of, compressed, raw_faults, blob_faults, blob_fault, raw_of, raw_at};
+ghost use Rattle.pbf_frame.specs.Blob.{compression_of, compressed, raw_faults, blob_fault, raw_of, raw_at};
 
 use crate::header::occurrence_text;
 use pbf_wire::{

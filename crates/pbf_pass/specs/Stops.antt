@@ -28,10 +28,6 @@ unchanged pass = ⊥
 abbrev pub FaultOf : Option Verdict → Fault → Type 0
 FaultOf known e = (frames : List FrameSpec) × Says known (frames, Some e)
 
--- it comes before any frame
-abbrev pub FaultNext : Option Verdict → Fault → Type 0
-FaultNext known e = Says known ([], Some e)
-
 -- a device failed during the call
 abbrev pub ReadFailed : {F : Type 0} → feed.Ghosts F → F → F → Type 0
 ReadFailed f old new = HasRisen (f.failures old) (f.failures new)

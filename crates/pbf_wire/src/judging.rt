@@ -5,7 +5,7 @@
 ghost use Rattle.std.specs.Prelude.{◌≡◌, ◌+◌, ◌+ℤ◌, ◌≤◌, ◌^◌, ◌==◌, pos, true, false, [], IsTrue, length, MatchOption};
 ghost use Rattle.std.specs.List.{flat_map, list_any};
 ghost use Rattle.pbf_wire.specs.declared.fault.Reason.TheVariants.{StringIndex};
-ghost use Rattle.pbf_wire.specs.Occurrence.{items, found};
+ghost use Rattle.pbf_wire.specs.Occurrence.{found};
 ghost use Rattle.pbf_wire.specs.Cursors.{fields_left};
 ghost use Rattle.pbf_wire.specs.Columns.{joined};
 ghost use Rattle.pbf_wire.specs.Fields.{occurrence};
