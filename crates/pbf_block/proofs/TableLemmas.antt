@@ -1,15 +1,18 @@
 -- The last string table of a payload without faults of the wire form and of structure.
-use Rattle.std.proofs.Common.{◌≡◌, ℕ, ◌≤◌, List, [], length, refl, arith}
-use Rattle.std.proofs.lemmas.Bool.{ltb-false}
+use Rattle.std.proofs.Common.{◌≡◌, ℕ, ◌≤◌, List, [], length, Bool, true, false, refl, arith}
+use Rattle.std.proofs.lemmas.Bool.{ltb-false, le-ltb}
+use Rattle.pbf_wire.specs.declared.fault.Fault.{Fault}
 use Rattle.pbf_wire.specs.declared.fault.Reason.TheVariants.{TooManyStrings}
-use Rattle.std.specs.Prelude.{nat_lt, Option, Some, None}
+use Rattle.std.specs.Prelude.{nat_lt, if◌then◌else◌, Option, Some, None}
 use Rattle.std.specs.List.{flat_map, AllByRecursion}
+use Rattle.std.specs.Result.{is_err}
 use Rattle.pbf_wire.specs.Occurrence.{Content, Number, Eight, Four, Bytes, Occurrence, items_past}
 use Rattle.pbf_wire.specs.Reading.{bytes_held, occurrence_text, last_of}
 use Rattle.pbf_wire.specs.Faults.{inside, entered, fields_in}
 use Rattle.pbf_wire.proofs.FaultLemmas.{held_short}
 use Rattle.pbf_wire.proofs.SoundLemmas.{both_nil, all_nil, not_wrong, last_holds}
-use Rattle.pbf_strings.specs.Texts.{texts}
+use Rattle.pbf_wire.specs.Wire.{judged}
+use Rattle.pbf_strings.specs.Texts.{texts, count_fault}
 use Rattle.pbf_block.specs.declared.message.TheConstants.{STRINGTABLE, PRIMITIVEGROUP}
 use Rattle.pbf_block.specs.Scale.{table_of}
 use Rattle.pbf_block.specs.StructureFaults.{table_structure, part_structure, group_structure, structure_faults}
@@ -50,3 +53,11 @@ unfolding structure_faults
 table_few at m s =
     let os = fields_in at m in
     few_if os (last_of STRINGTABLE os) (all_nil part_structure os (both_nil _ (flat_map part_structure os) s).1) refl
+
+-- a payload whose table has more of them has a fault
+counts_few : (b : Bool) (e : Fault) → b ≡ false → is_err (judged (if b then Some e else None)) ≡ true → ⊥
+counts_few true e few is = cc
+counts_few false e few is = cc
+
+pub many_texts : (tag at : ℕ) (m : List ℕ) → is_err (judged (count_fault tag (occurrence_text (last_of STRINGTABLE (fields_in at m))))) ≡ true → structure_faults at m ≡ [] → ⊥
+many_texts tag at m is sound = counts_few (nat_lt 1048576 (length (table_of (fields_in at m)))) _ (le-ltb _ _ (omega (arith, table_few at m sound))) is

@@ -49,7 +49,7 @@ fn early_fault(payload: &[u8], at: u64) -> Option<Fault>
 }
 
 /// The bytes of a field; none where the field is absent.
-fn bytes_in(field: Option<Field<'_>>) -> &[u8]
+pub(crate) fn bytes_in(field: Option<Field<'_>>) -> &[u8]
     ensures { result.now ≡ occurrence_text (option_map occurrence field.entry) }
 {
     match field {

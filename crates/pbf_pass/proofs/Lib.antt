@@ -1,7 +1,9 @@
 pub mod CountLemmas
+pub mod SoundLemmas
 pub mod StepLemmas
 pub mod GatherLemmas
 pub mod ReadingLemmas
+pub mod AgainLemmas
 pub mod GivenLemmas
 pub mod LimitLemmas
 pub mod HaltingLemmas

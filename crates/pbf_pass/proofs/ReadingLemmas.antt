@@ -1,7 +1,9 @@
 -- The frames that a loop read, and at its end the bytes that the feed gave.
 use Rattle.std.proofs.Common.{◌≡◌, inl, inr, ℕ, Bool, true, List, [], ◌∷◌, ◌++◌, ◌||◌, Option, Some, None, Ok, Err, refl, sym, ap, ◌∙◌, subst, append_assoc}
+use Rattle.std.specs.List.{AllByRecursion}
 use Rattle.std.specs.Option.{option_map}
 use Rattle.std.proofs.lemmas.List.{append-nil}
+use Rattle.pbf_wire.proofs.MessageLemmas.{all_append}
 use Rattle.pbf_frame.specs.declared.device.Feed as feed
 use Rattle.pbf_frame.specs.declared.reader.FrameReader.{FrameReader}
 use Rattle.pbf_frame.specs.declared.stop.Stop.{Stop}
@@ -18,11 +20,13 @@ use Rattle.pbf_frame.proofs.Refusing.{refuses_more}
 use Rattle.pbf_frame.proofs.Parting.{some_same}
 use Rattle.pbf_frame.proofs.Passed.{passes_none, passes_more, passes_same}
 use Rattle.pbf_frame.proofs.VerdictLemmas.{gone_more}
+use Rattle.pbf_pass.specs.Again.{IsSound}
 use Rattle.pbf_pass.specs.Given.{GaveRest, judged_from}
 use Rattle.pbf_pass.specs.Judged.{payload_fault, fully}
 use Rattle.pbf_pass.specs.Refused.{RefusesRest}
 use Rattle.pbf_pass.specs.Stops.{FaultOf}
-use Rattle.pbf_pass.proofs.StepLemmas.{GaveOne, GaveNone, RefusedStep, fully_first, gone_fault, gone_payload}
+use Rattle.pbf_pass.proofs.SoundLemmas.{front_of_sound, fully_gone}
+use Rattle.pbf_pass.proofs.StepLemmas.{GaveOne, GaveNone, RefusedStep, gone_fault, gone_payload}
 
 joined_one : (frames : List FrameSpec) (f : FrameSpec) → joined_frames (frames ++ f ∷ []) ≡ joined_frames frames ++ frame_bytes f
 joined_one [] f = append-nil (frame_bytes f)
@@ -35,54 +39,60 @@ next_nothing p = refl
 judged_nothing : (p : ℕ) → judged true p [] ≡ ([], None)
 judged_nothing p = judged_step true p [] ∙ ap (judged_after judged true) (next_nothing p)
 
-nothing_left : (h : Bool) (p : ℕ) → h ≡ true → judged_from h p [] ≡ Some ([], None)
-nothing_left h p had = ap (λ (b : Bool). judged_from b p []) had ∙ ap (λ (v : Verdict). Some (fully v)) (judged_nothing p)
+nothing_left : (h : Bool) (p : ℕ) → h ≡ true → judged_known h p (Some []) ≡ Some ([], None)
+nothing_left h p had = ap (λ (b : Bool). judged_known b p (Some [])) had ∙ ap (λ (v : Verdict). Some v) (judged_nothing p)
 
 -- since the first reader these frames were read
-pub record HasRead {F : Type 0} (g : feed.Ghosts F) (first : FrameReader F) (frames : List FrameSpec) (now : FrameReader F) : Type 0 where
+pub record HasPassed {F : Type 0} (g : feed.Ghosts F) (first : FrameReader F) (frames : List FrameSpec) (now : FrameReader F) : Type 0 where
   pub told : g.remaining first.feed ≡ prepend (joined_frames frames) (g.remaining now.feed)
   pub logged : Passes (g.has_passed first.feed) (joined_frames frames) (g.has_passed now.feed)
   -- whatever follows them
-  pub gone : (rest : List ℕ) → Gone (judged_from (had_header_of first) (place_of first) (joined_frames frames ++ rest)) frames (judged_from (had_header_of now) (place_of now) rest)
+  pub gone : (rest : List ℕ) → Gone (judged_known (had_header_of first) (place_of first) (Some (joined_frames frames ++ rest))) frames (judged_known (had_header_of now) (place_of now) (Some rest))
 
-gone_none : (h : Bool) (p : ℕ) (rest : List ℕ) → Gone (judged_from h p rest) [] (judged_from h p rest)
+-- and their payloads have no fault
+pub record HasRead {F : Type 0} (g : feed.Ghosts F) (first : FrameReader F) (frames : List FrameSpec) (now : FrameReader F) : Type 0 where
+  pub passed : HasPassed g first frames now
+  pub sound : AllByRecursion IsSound frames
+
+gone_none : (h : Bool) (p : ℕ) (rest : List ℕ) → Gone (judged_known h p (Some rest)) [] (judged_known h p (Some rest))
 gone_none h p rest = refl
 
-gone_one : (h : Bool) (p : ℕ) (h2 : Bool) (p2 : ℕ) (first : Option Verdict) (frames : List FrameSpec) (f : FrameSpec) (rest : List ℕ) → Gone first frames (judged_from h p (frame_bytes f ++ rest)) → IsFrame h p f → payload_fault f ≡ None
-    → h2 ≡ (h || is_header (frame_kind f)) → p2 ≡ frame_end f → Gone first (frames ++ f ∷ []) (judged_from h2 p2 rest)
-gone_one h p h2 p2 first frames f rest so_far is sound had place =
+gone_one : (h : Bool) (p : ℕ) (h2 : Bool) (p2 : ℕ) (first : Option Verdict) (frames : List FrameSpec) (f : FrameSpec) (rest : List ℕ) → Gone first frames (judged_known h p (Some (frame_bytes f ++ rest))) → IsFrame h p f
+    → h2 ≡ (h || is_header (frame_kind f)) → p2 ≡ frame_end f → Gone first (frames ++ f ∷ []) (judged_known h2 p2 (Some rest))
+gone_one h p h2 p2 first frames f rest so_far is had place =
     let known : judged_known h p (Some (frame_bytes f ++ rest)) ≡ with_first_known f (judged_known h2 p2 (Some rest)) =
     ap Some (judged_some h p (frame_bytes f ++ rest) f rest (frame_is_next h p f rest is))
     ∙ ap (λ (b : Bool). with_first_known f (judged_known b (frame_end f) (Some rest))) (sym had)
     ∙ ap (λ (n : ℕ). with_first_known f (judged_known h2 n (Some rest))) (sym place) in
-    gone_more first (judged_from h p (frame_bytes f ++ rest)) (judged_from h2 p2 rest) frames f so_far (fully_first (judged_known h p (Some (frame_bytes f ++ rest))) (judged_known h2 p2 (Some rest)) f known sound)
+    gone_more first (judged_known h p (Some (frame_bytes f ++ rest))) (judged_known h2 p2 (Some rest)) frames f so_far known
 
 module _ {F : Type 0} (g : feed.Ghosts F) where
-  pub has_read_none : (first : FrameReader F) → HasRead g first [] first
-  has_read_none first = record {
+  pub has_passed_none : (first : FrameReader F) → HasPassed g first [] first
+  has_passed_none first = record {
     told = sym (prepend_none (g.remaining first.feed));
     logged = passes_none (g.has_passed first.feed);
     gone = λ rest. gone_none (had_header_of first) (place_of first) rest;
   }
 
-  pub has_read_more : (first mid now : FrameReader F) (frames : List FrameSpec) (f : FrameSpec) → HasRead g first frames mid → payload_fault f ≡ None → GaveOne g mid now f → HasRead g first (frames ++ f ∷ []) now
-  has_read_more first mid now frames f so_far sound gave =
+  pub has_passed_more : (first mid now : FrameReader F) (frames : List FrameSpec) (f : FrameSpec) → HasPassed g first frames mid → GaveOne g mid now f → HasPassed g first (frames ++ f ∷ []) now
+  has_passed_more first mid now frames f so_far gave =
       let one = joined_one frames f in
       record {
         told = prepend_more _ _ _ (joined_frames frames) (frame_bytes f) so_far.told gave.told ∙ ap (λ (l : List ℕ). prepend l (g.remaining now.feed)) (sym one);
         logged = passes_same (g.has_passed first.feed) (g.has_passed now.feed) _ _ (sym one) (passes_more (g.has_passed first.feed) (g.has_passed mid.feed) (g.has_passed now.feed) (joined_frames frames) (frame_bytes f) so_far.logged gave.logged);
         gone = λ rest.
             let split : joined_frames (frames ++ f ∷ []) ++ rest ≡ joined_frames frames ++ (frame_bytes f ++ rest) = ap (λ (l : List ℕ). l ++ rest) one ∙ append_assoc (joined_frames frames) (frame_bytes f) rest in
-            subst (λ (l : List ℕ). Gone (judged_from (had_header_of first) (place_of first) l) (frames ++ f ∷ []) (judged_from (had_header_of now) (place_of now) rest)) (sym split)
-            (gone_one (had_header_of mid) (place_of mid) (had_header_of now) (place_of now) _ frames f rest (so_far.gone (frame_bytes f ++ rest)) gave.is_frame sound gave.had_header gave.place);
+            subst (λ (l : List ℕ). Gone (judged_known (had_header_of first) (place_of first) (Some l)) (frames ++ f ∷ []) (judged_known (had_header_of now) (place_of now) (Some rest))) (sym split)
+            (gone_one (had_header_of mid) (place_of mid) (had_header_of now) (place_of now) _ frames f rest (so_far.gone (frame_bytes f ++ rest)) gave.is_frame gave.had_header gave.place);
       }
 
   -- at the end these frames are all, and their bytes are what the feed gave
-  pub has_read_all : (first mid now : FrameReader F) (frames : List FrameSpec) (holds : Option Verdict → Type 0) → HasRead g first frames mid → GaveNone g mid now
-      → ((known : Option Verdict) → Says known (frames, None) → holds known) → GaveRest g first now holds
-  has_read_all first mid now frames holds so_far none holding =
+  pub has_passed_all : (first mid now : FrameReader F) (frames : List FrameSpec) (holds : Option Verdict → Type 0) → HasPassed g first frames mid → GaveNone g mid now → holds (Some (fully (frames, None))) → GaveRest g first now holds
+  has_passed_all first mid now frames holds so_far none holding =
       let all = so_far.gone [] ∙ ap (λ (v : Option Verdict). option_map (with_all frames) v) (nothing_left (had_header_of mid) (place_of mid) none.had_header) in
-      let whole : fully (judged (had_header_of first) (place_of first) (joined_frames frames ++ [])) ≡ (frames ++ [], None) = some_same _ _ all in
+      let whole : judged (had_header_of first) (place_of first) (joined_frames frames ++ []) ≡ (frames ++ [], None) = some_same _ _ all in
+      let is : judged (had_header_of first) (place_of first) (joined_frames frames) ≡ (frames, None) =
+      ap (judged (had_header_of first) (place_of first)) (sym (append-nil (joined_frames frames))) ∙ whole ∙ ap (λ (l : List FrameSpec). let v : Verdict = (l, None) in v) (append-nil frames) in
       record {
         bytes = joined_frames frames;
         supplied = record {
@@ -90,9 +100,26 @@ module _ {F : Type 0} (g : feed.Ghosts F) where
           end = none.end;
           logged = λ log b h. none.logged log (b ++ joined_frames frames) (so_far.logged log b h);
         };
-        holding = holding (judged_from (had_header_of first) (place_of first) (joined_frames frames))
-            (ap (λ (l : List ℕ). fully (judged (had_header_of first) (place_of first) l)) (sym (append-nil (joined_frames frames))) ∙ whole ∙ ap (λ (l : List FrameSpec). let v : Verdict = (l, None) in v) (append-nil frames));
+        holding = subst (λ (v : Verdict). holds (Some (fully v))) (sym is) holding;
       }
+
+  -- ---- where they have no fault
+
+  pub has_read_none : (first : FrameReader F) → HasRead g first [] first
+  has_read_none first = record { passed = has_passed_none first; sound = tt }
+
+  pub has_read_more : (first mid now : FrameReader F) (frames : List FrameSpec) (f : FrameSpec) → HasRead g first frames mid → payload_fault f ≡ None → GaveOne g mid now f → HasRead g first (frames ++ f ∷ []) now
+  has_read_more first mid now frames f so_far sound gave = record {
+    passed = has_passed_more first mid now frames f so_far.passed gave;
+    sound = all_append IsSound frames (f ∷ []) so_far.sound (sound, tt);
+  }
+
+  pub has_read_all : (first mid now : FrameReader F) (frames : List FrameSpec) (holds : Option Verdict → Type 0) → HasRead g first frames mid → GaveNone g mid now
+      → ((known : Option Verdict) → Says known (frames, None) → holds known) → GaveRest g first now holds
+  has_read_all first mid now frames holds so_far none holding = has_passed_all first mid now frames holds so_far.passed none (holding (Some (fully (frames, None))) (front_of_sound frames None so_far.sound))
+
+  read_gone : (first now : FrameReader F) (frames : List FrameSpec) → HasRead g first frames now → (rest : List ℕ) → Gone (judged_from (had_header_of first) (place_of first) (joined_frames frames ++ rest)) frames (judged_from (had_header_of now) (place_of now) rest)
+  read_gone first now frames read rest = fully_gone _ (judged_known (had_header_of now) (place_of now) (Some rest)) frames read.sound (read.passed.gone rest)
 
   -- the bytes of these frames, and those of what is refused behind them
   pub has_read_refused : (first mid now : FrameReader F) (frames : List FrameSpec) (stop : Stop) → HasRead g first frames mid → RefusedStep g mid now stop → RefusesRest g first now stop
@@ -103,7 +130,7 @@ module _ {F : Type 0} (g : feed.Ghosts F) where
     by_reader : (b : List ℕ) → next_of (had_header_of mid) (place_of mid) b ≡ Err e → judge (joined_frames frames ++ b)
     by_reader b is = (
       frames,
-      gone_fault (judged_from (had_header_of first) (place_of first) (joined_frames frames ++ b)) frames (judged_known (had_header_of mid) (place_of mid) (Some b)) e (so_far.gone b)
+      gone_fault (judged_from (had_header_of first) (place_of first) (joined_frames frames ++ b)) frames (judged_known (had_header_of mid) (place_of mid) (Some b)) e (read_gone first mid frames so_far b)
           (gave_fault (had_header_of mid) (place_of mid) (Some b) e (λ bytes same. subst (λ (l : List ℕ). next_of (had_header_of mid) (place_of mid) l ≡ Err e) (some_same _ _ same) is)),
     )
 
@@ -111,15 +138,15 @@ module _ {F : Type 0} (g : feed.Ghosts F) where
     by_payload f gave fault rest = subst judge (sym (append_assoc (joined_frames frames) (frame_bytes f) rest)) (
       frames,
       gone_payload (judged_from (had_header_of first) (place_of first) (joined_frames frames ++ (frame_bytes f ++ rest))) frames (judged_known (had_header_of mid) (place_of mid) (Some (frame_bytes f ++ rest)))
-          (judged_known (had_header_of mid || is_header (frame_kind f)) (frame_end f) (Some rest)) f e (so_far.gone (frame_bytes f ++ rest)) (ap Some (judged_some (had_header_of mid) (place_of mid) (frame_bytes f ++ rest) f rest (frame_is_next (had_header_of mid) (place_of mid) f rest gave.is_frame))) fault,
+          (judged_known (had_header_of mid || is_header (frame_kind f)) (frame_end f) (Some rest)) f e (read_gone first mid frames so_far (frame_bytes f ++ rest)) (ap Some (judged_some (had_header_of mid) (place_of mid) (frame_bytes f ++ rest) f rest (frame_is_next (had_header_of mid) (place_of mid) f rest gave.is_frame))) fault,
     )
 
     of : RefusedStep g mid now (why.Refused e) → RefusesRest g first now (why.Refused e)
-    of (inl refuses) = refuses_more judge (λ b. next_of (had_header_of mid) (place_of mid) b ≡ Err e) (g.has_passed first.feed) (g.has_passed mid.feed) (g.has_passed now.feed) (g.remaining first.feed) (g.remaining mid.feed) (g.remaining now.feed) (joined_frames frames) so_far.told so_far.logged by_reader refuses
+    of (inl refuses) = refuses_more judge (λ b. next_of (had_header_of mid) (place_of mid) b ≡ Err e) (g.has_passed first.feed) (g.has_passed mid.feed) (g.has_passed now.feed) (g.remaining first.feed) (g.remaining mid.feed) (g.remaining now.feed) (joined_frames frames) so_far.passed.told so_far.passed.logged by_reader refuses
     of (inr (f, gave, fault)) = record {
       read = joined_frames frames ++ frame_bytes f;
-      told = prepend_more _ _ _ (joined_frames frames) (frame_bytes f) so_far.told gave.told;
-      logged = passes_more (g.has_passed first.feed) (g.has_passed mid.feed) (g.has_passed now.feed) (joined_frames frames) (frame_bytes f) so_far.logged gave.logged;
+      told = prepend_more _ _ _ (joined_frames frames) (frame_bytes f) so_far.passed.told gave.told;
+      logged = passes_more (g.has_passed first.feed) (g.has_passed mid.feed) (g.has_passed now.feed) (joined_frames frames) (frame_bytes f) so_far.passed.logged gave.logged;
       faulty = inl (by_payload f gave fault);
     }
   has_read_refused first mid now frames why.Read so_far refused = tt

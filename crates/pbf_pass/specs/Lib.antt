@@ -3,6 +3,7 @@ pub mod Judged
 pub mod Counting
 pub mod Stops
 pub mod Pass
+pub mod Again
 pub mod HeaderLimit
 pub mod Hashing
 pub mod Given

@@ -1,12 +1,14 @@
 //! A pass over a whole file: it is judged, its entities are counted and gathered, and its bytes are hashed.
 #![tactic(auto)]
 
+mod again;
 mod checking;
 mod hashed;
 mod header_limit;
 mod pass;
 mod receipt;
 
+pub use again::{gather_again, step_again};
 pub use checking::{check, check_with_receipt};
 pub use hashed::{HashedDrain, HashedFeed};
 pub use header_limit::writable_header;

@@ -6,7 +6,7 @@ ghost use Rattle.osm_entity.specs.Entity.{EntitySpec, node};
 ghost use Rattle.osm_entity.specs.Views.{entity_of};
 ghost use Rattle.pbf_block.specs.Kinds.{is_among};
 ghost use Rattle.pbf_block.specs.Payload.{entities};
-ghost use Rattle.pbf_block.specs.Runs.{run_entities};
+ghost use Rattle.pbf_block.specs.Runs.{joined_runs, run_entities, runs_left};
 ghost use Rattle.pbf_dense.specs.Cursors.{dense_left};
 ghost use Rattle.pbf_frame.specs.Next.{IsReading, place_of, held_by, verdict};
 ghost use Rattle.pbf_wire.specs.declared.fault.Fault.{Fault};
@@ -23,7 +23,7 @@ use crate::hashed::HashedFeed;
 use crate::receipt::Halt;
 use osm_entity::EntityRef;
 use osm_ways::{NodePhase, RelationPhase, WayPhase};
-use pbf_block::{Block, Counts, Kinds, Run};
+use pbf_block::{Block, Counts, Kinds, Run, Runs};
 use pbf_dense::Dense;
 use pbf_frame::{Feed, Frame, FrameKind, FrameReader, Stop};
 use pbf_header::Header;
@@ -168,14 +168,23 @@ fn gather_run<G: Gather>(run: &Run<'_>, gathering: &mut G) -> Result<(), AllocEr
     }
 }
 
+/// Gathers the entities of runs.
+pub(crate) fn gather_runs<G: Gather>(runs: Runs<'_>, gathering: &mut G) -> Result<(), AllocError>
+    ensures { OnOk result
+        (gathering.new ≡ fold G.gathered gathering.old (joined_runs (runs_left runs.entry))) }
+{
+    for run in runs {
+        gather_run(&run, gathering)?;
+    }
+    Ok(())
+}
+
 /// Gathers those entities of a block that matter.
 fn gather_entities<G: Gather>(block: &Block<'_>, gathering: &mut G) -> Result<(), AllocError>
     ensures { OnOk result (gathering.new
         ≡ fold G.gathered gathering.old (entities block.now.at block.now.payload.now)) }
 {
-    for run in block.runs_among(G::kinds()) {
-        gather_run(&run, gathering)?;
-    }
+    gather_runs(block.runs_among(G::kinds()), gathering)?;
     Ok(())
 }
 

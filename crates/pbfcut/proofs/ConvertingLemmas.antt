@@ -21,7 +21,8 @@ use Rattle.pbfcut.specs.Kept.{verdict_on, conversion_of, IsWritable}
 use Rattle.pbf_pass.proofs.GivenLemmas.{Tells}
 use Rattle.pbf_pass.proofs.LimitLemmas.{held_is, judged_sound}
 use Rattle.pbfcut.proofs.KeptLaw.{IsKept, same_verdict, conversion_kept}
-use Rattle.pbfcut.specs.Pick.{everything, pick_of, Packed, PacksFront}
+use Rattle.pbfcut.specs.Pick.{everything, pick_of}
+use Rattle.pbfcut.specs.Write.{Packed, PacksFront}
 use Rattle.pbf_pass.specs.Pass.{TakesFile, file_header}
 
 -- ---- what is known
@@ -29,13 +30,6 @@ use Rattle.pbf_pass.specs.Pass.{TakesFile, file_header}
 -- nothing went out
 pub nothing_out : (old : Option (List ℕ)) (whole : List ℕ) → IsFront old old whole
 nothing_out old whole = record { count = 0; taken = sym (append_none old) }
-
--- two passes over these bytes met the same frames
-pub same_frames : (b : List ℕ) (frames others : List FrameSpec) → judged_file (Some b) ≡ Some (frames, None) → judged_file (Some b) ≡ Some (others, None) → others ≡ frames
-same_frames b frames others e f = ap frames_of (sym f ∙ e) where
-  frames_of : Option Verdict → List FrameSpec
-  frames_of None = []
-  frames_of (Some v) = v.0
 
 pub known_says : (b : List ℕ) (v : Verdict) → Says (judged_file (Some b)) v → judged_file (Some b) ≡ Some v
 known_says b v says = ap (λ (w : Verdict). Some w) says
@@ -80,16 +74,15 @@ answer_is frames at h e = ap (λ (l : List EntitySpec). written_file h l) (every
 pub converted : (b : List ℕ) (pass : Pass) (h : HeaderSpec) (counts : Counts) (known : Option Verdict) (written : List ℕ) → known ≡ judged_file (Some b) → Passed b pass h → Packed (pick_of selection.Everything) h counts known written
     → IsConverted b counts written
 converted b pass h counts known written is p went =
-    let same = same_frames b p.frames went.frames p.judged (known_says b (went.frames, None) (subst (λ (k : Option Verdict). Says k (went.frames, None)) is went.says)) in
-    let all = ap stored_entities same in
+    let packed = went p.frames (is ∙ p.judged) in
     let verdict = same_verdict b p.frames p.writable in
     let sound = ap (λ (v : Verdict). v.1) verdict in
-    let whole = went.is ∙ (ap (λ (l : List EntitySpec). written_file h (filter (pick_of selection.Everything) l)) all ∙ (answer_is p.frames pass.header_at h p.header ∙ ap answer_bytes (sym verdict))) in
+    let whole = packed.is ∙ (answer_is p.frames pass.header_at h p.header ∙ ap answer_bytes (sym verdict)) in
     let kept = subst (λ (l : List ℕ). length l ≤ 2 ^ 62 → IsKept b l) (sym whole) (λ small. conversion_kept b sound small) in (
       record {
         sound = sound;
         conversion = λ small. (kept small).conversion;
-        counted = went.counted ∙ ap (λ (l : List EntitySpec). counts_of l) (everything_picked (stored_entities went.frames) ∙ (all ∙ ap (λ (v : Verdict). stored_entities v.0) (sym verdict)));
+        counted = packed.counted ∙ ap (λ (l : List EntitySpec). counts_of l) (everything_picked (stored_entities p.frames) ∙ ap (λ (v : Verdict). stored_entities v.0) (sym verdict));
       },
       record { is = whole; again = λ small. (kept small).again },
     )
@@ -106,4 +99,4 @@ can_told (Some b) file tells sound =
 
 pub converts_front : (b : List ℕ) (pass : Pass) (h : HeaderSpec) (known : Option Verdict) (old new : Option (List ℕ)) → known ≡ judged_file (Some b) → Passed b pass h → PacksFront (pick_of selection.Everything) h known old new → IsFront old new (conversion_of b)
 converts_front b pass h known old new is p front =
-    subst (λ (l : List ℕ). IsFront old new l) (answer_is p.frames pass.header_at h p.header ∙ ap answer_bytes (sym (same_verdict b p.frames p.writable))) (front (p.frames, None) (is ∙ p.judged))
+    subst (λ (l : List ℕ). IsFront old new l) (answer_is p.frames pass.header_at h p.header ∙ ap answer_bytes (sym (same_verdict b p.frames p.writable))) (front p.frames (is ∙ p.judged))

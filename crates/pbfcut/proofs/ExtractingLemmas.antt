@@ -40,11 +40,13 @@ use Rattle.pbf_pass.proofs.GivenLemmas.{IsDigest}
 use Rattle.pbfcut.proofs.KeptLaw.{IsSelection, IsKeptExtract, same_verdict, extract_kept}
 use Rattle.pbf_pass.specs.Pass.{with_node, with_way, with_relation, TakesFile, file_header}
 use Rattle.pbfcut.specs.declared.repeat.Repeat.{Repeat}
-use Rattle.pbfcut.specs.Repeat.{GathersAgain, Unlike, StopsAgain, SameDigest}
+use Rattle.pbfcut.specs.Repeat.{Unlike, StopsAgain, SameDigest}
 use Rattle.pbf_pass.specs.Stops.{Caused}
+use Rattle.pbf_pass.specs.Again.{GathersFile}
 use Rattle.pbf_pass.specs.Judged.{judged_file}
-use Rattle.pbfcut.specs.Pick.{Pick, picked_by, picked_with_parents, pick_of, Packed, PacksFront}
-use Rattle.pbfcut.proofs.ConvertingLemmas.{same_frames, known_says}
+use Rattle.pbfcut.specs.Pick.{Pick, picked_by, picked_with_parents, pick_of}
+use Rattle.pbfcut.specs.Write.{Packed, PacksFront}
+use Rattle.pbfcut.proofs.ConvertingLemmas.{known_says}
 use Rattle.pbf_pass.proofs.LimitLemmas.{held_is, judged_sound}
 
 -- ---- what was chosen
@@ -97,8 +99,7 @@ pub record Selects (b : List ℕ) (choose : Choice) (area : BoundingBox) (pick :
 pub selects_ways : (area : BoundingBox) (b : List ℕ) (first second : Option Verdict) (sets : WaySets) (h : HeaderSpec) → first ≡ judged_file (Some b) → second ≡ judged_file (Some b) → Chooses area first second sets h → Selects b (complete_ways area) area (picked_by sets) h
 selects_ways area b first second sets h is too c =
     let judged = known_says b (c.frames, None) (subst (λ (k : Option Verdict). Says k (c.frames, None)) is c.judged) in
-    let same = same_frames b c.frames c.others judged (known_says b (c.others, None) (subst (λ (k : Option Verdict). Says k (c.others, None)) too c.read)) in
-    let gathered = c.chosen ∙ (ap (λ (l : List FrameSpec). fold with_way (start_ways (fold with_node (start_nodes area) (stored_entities c.frames)).box_ids) (stored_entities l)) same ∙ sets_are area (stored_entities c.frames)) in
+    let gathered = c.chosen c.frames (too ∙ judged) ∙ sets_are area (stored_entities c.frames) in
     record {
       frames = c.frames;
       judged = judged;
@@ -127,35 +128,33 @@ module _ (choose : Choice) (select : List Decoded → List Decoded) (selection :
 
   pub extracted : (counts : Counts) (known : Option Verdict) (written : List ℕ) → known ≡ judged_file (Some b) → Packed pick h counts known written → IsExtraction choose select area b counts written
   extracted counts known written is went =
-      let same = same_frames b s.frames went.frames s.judged (known_says b (went.frames, None) (subst (λ (k : Option Verdict). Says k (went.frames, None)) is went.says)) in
+      let packed = went s.frames (is ∙ s.judged) in
       let sound = ap (λ (v : Verdict). v.1) verdict in
-      let whole = went.is ∙ (ap (λ (l : List FrameSpec). written_file h (filter pick (stored_entities l))) same ∙ answer) in
+      let whole = packed.is ∙ answer in
       let kept = subst (λ (l : List ℕ). length l ≤ 2 ^ 62 → IsKeptExtract choose select selection area edges b l) (sym whole) (λ small. extract_kept choose select selection area edges b sound small) in (
         record {
           sound = sound;
           extract = λ small. (kept small).extract;
-          counted = went.counted ∙ ap (λ (l : List EntitySpec). counts_of l) (ap (λ (l : List FrameSpec). filter pick (stored_entities l)) same ∙ (s.picked ∙ ap (λ (v : Verdict). choose (stored_entities v.0)) (sym verdict)));
+          counted = packed.counted ∙ ap (λ (l : List EntitySpec). counts_of l) (s.picked ∙ ap (λ (v : Verdict). choose (stored_entities v.0)) (sym verdict));
         },
         record { is = whole; again = λ small. (kept small).again },
       )
 
   pub extracts_front : (known : Option Verdict) (old new : Option (List ℕ)) → known ≡ judged_file (Some b) → PacksFront pick h known old new → IsFront old new (extract_of choose area b)
-  extracts_front known old new is front = subst (λ (l : List ℕ). IsFront old new l) answer (front (s.frames, None) (is ∙ s.judged))
+  extracts_front known old new is front = subst (λ (l : List ℕ). IsFront old new l) answer (front s.frames (is ∙ s.judged))
 
 -- ---- the passes that choose
 
 pub chooses : (area : BoundingBox) (first second : Option Verdict) (pass : Pass) (header h : HeaderSpec) (begun nodes : NodeSets) (started ways sets : WaySets) → TakesFile with_node first begun nodes pass → begun ≡ start_nodes area
-    → held_header pass ≡ Some (pass.header_at, header) → header_limit (held_header pass) ≡ None → h ≡ header_out_for_box area header → started ≡ start_ways nodes.box_ids → GathersAgain with_way second started ways → sets ≡ ways → Chooses area first second sets h
+    → held_header pass ≡ Some (pass.header_at, header) → header_limit (held_header pass) ≡ None → h ≡ header_out_for_box area header → started ≡ start_ways nodes.box_ids → GathersFile with_way second started ways → sets ≡ ways → Chooses area first second sets h
 chooses area first second pass header h begun nodes started ways sets p new held within is starts more ends =
     let told = held_is (file_header p.frames) pass p.header in
     record {
       frames = p.frames;
-      others = more.frames;
       judged = p.says;
-      read = more.says;
       within = ap header_limit (sym told) ∙ within;
       header = ap (λ (o : Option (ℕ × HeaderSpec)). option_map (λ p. header_out_for_box area p.1) o) (sym told ∙ held) ∙ ap (λ (g : HeaderSpec). Some g) (sym is);
-      chosen = ends ∙ (more.gathered_all ∙ ap (λ (s : WaySets). fold with_way s (stored_entities more.frames)) (starts ∙ ap (λ (s : NodeSets). start_ways s.box_ids) (p.gathered_all ∙ ap (λ (s : NodeSets). fold with_node s (stored_entities p.frames)) new)));
+      chosen = λ frames known. ends ∙ (more frames known ∙ ap (λ (s : WaySets). fold with_way s (stored_entities frames)) (starts ∙ ap (λ (s : NodeSets). start_ways s.box_ids) (p.gathered_all ∙ ap (λ (s : NodeSets). fold with_node s (stored_entities p.frames)) new)));
     }
 
 -- the first file can be written
@@ -241,11 +240,9 @@ selects_parents chosen area b first second third h is too more p =
     let c = p.chosen in
     let es = stored_entities c.frames in
     let judged = known_says b (c.frames, None) (subst (λ (k : Option Verdict). Says k (c.frames, None)) is c.judged) in
-    let same = same_frames b c.frames c.others judged (known_says b (c.others, None) (subst (λ (k : Option Verdict). Says k (c.others, None)) too c.read)) in
-    let third_same = same_frames b c.frames p.frames judged (known_says b (p.frames, None) (subst (λ (k : Option Verdict). Says k (p.frames, None)) more p.read)) in
-    let ways = c.chosen ∙ (ap (λ (l : List FrameSpec). fold with_way (start_ways (fold with_node (start_nodes area) es).box_ids) (stored_entities l)) same ∙ sets_are area es) in
+    let ways = c.chosen c.frames (too ∙ judged) ∙ sets_are area es in
     let relations : p.relations ≡ relation_pass (map (seen_entity area) es) =
-    p.gathered ∙ (ap (λ (l : List FrameSpec). fold with_relation (start_relations p.ways) (stored_entities l)) third_same ∙ (ap (λ (w : WaySets). fold with_relation (start_relations w) es) ways ∙ relations_folded area (start_relations (way_pass (map (seen_entity area) es))) es)) in
+    p.gathered c.frames (more ∙ judged) ∙ (ap (λ (w : WaySets). fold with_relation (start_relations w) es) ways ∙ relations_folded area (start_relations (way_pass (map (seen_entity area) es))) es) in
     record {
       frames = c.frames;
       judged = judged;
@@ -254,15 +251,13 @@ selects_parents chosen area b first second third h is too more p =
       picked = parents_are area es chosen.now (p.kept ∙ ap (λ (r : RelationSets). r.ways) relations) (subst (λ (r : RelationSets). IsLeast (set.contains r.links) r.start chosen.now.relation_ids) relations p.least);
     }
 
-pub chooses_parents : (area : BoundingBox) (first second third : Option Verdict) (ways : WaySets) (h : HeaderSpec) (begun relations : RelationSets) (sets : ParentSets) → Chooses area first second ways h → begun ≡ start_relations ways → GathersAgain with_relation third begun relations
+pub chooses_parents : (area : BoundingBox) (first second third : Option Verdict) (ways : WaySets) (h : HeaderSpec) (begun relations : RelationSets) (sets : ParentSets) → Chooses area first second ways h → begun ≡ start_relations ways → GathersFile with_relation third begun relations
     → sets.ways ≡ relations.ways → IsLeast (set.contains relations.links) relations.start sets.relation_ids → ChoosesParents area first second third sets h
 chooses_parents area first second third ways h begun relations sets chosen starts more kept least = record {
   ways = ways;
   chosen = chosen;
-  frames = more.frames;
-  read = more.says;
   relations = relations;
-  gathered = more.gathered_all ∙ ap (λ (s : RelationSets). fold with_relation s (stored_entities more.frames)) starts;
+  gathered = λ frames known. more frames known ∙ ap (λ (s : RelationSets). fold with_relation s (stored_entities frames)) starts;
   kept = kept;
   least = least;
 }

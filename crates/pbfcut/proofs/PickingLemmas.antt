@@ -10,16 +10,11 @@ use Rattle.osm_entity.specs.Ranges.{EntityFits}
 use Rattle.pbf_header.specs.Header.{HeaderSpec}
 use Rattle.pbf_frame.specs.declared.stop.Stop.{Stop}
 use Rattle.pbf_frame.specs.declared.stop.Stop.TheVariants as stop
-use Rattle.pbf_frame.specs.declared.device.Feed as feed
 use Rattle.pbf_frame.specs.declared.device.Drain as drain
-use Rattle.pbf_frame.specs.declared.reader.FrameReader.{FrameReader}
-use Rattle.pbf_frame.specs.Next.{Gave, verdict}
-use Rattle.pbf_frame.specs.Reads.{IsReaderStop}
-use Rattle.pbf_pass.specs.declared.pass.Pass.{Pass}
 use Rattle.pbf_frame.specs.Devices.{append, HasRisen, IsFront}
 use Rattle.pbf_frame.specs.Transfers.{Added}
 use Rattle.pbf_frame.specs.Frames.{FrameSpec}
-use Rattle.pbf_frame.specs.Verdict.{Verdict, with_first_known}
+use Rattle.pbf_frame.specs.Verdict.{Verdict}
 use Rattle.pbf_frame.proofs.Beginnings.{front_whole, front_longer, front_then}
 use Rattle.pbf_frame.proofs.Passed.{added_none, added_more, added_same}
 use Rattle.osm_pack.specs.Cuts.{header_frame, written_file, written_entities, then_pending, then_written, at_end, pending_after, written_after}
@@ -29,17 +24,11 @@ use Rattle.osm_pack.proofs.CutLemmas.{push_keeps, kept_none}
 use Rattle.osm_pack.proofs.OpenLemmas.{alone}
 use Rattle.osm_pack.proofs.RunLemmas.{run_keeps, run_kept, run_ends, pending_push, written_push}
 use Rattle.std.proofs.lemmas.Grind.{flat_map-append}
-use Rattle.pbf_frame.specs.Verdict.{Gone, Says, with_all}
-use Rattle.pbf_frame.proofs.VerdictLemmas.{gone_more, gone_split}
 use Rattle.pbf_pass.specs.Counting.{nodes_of, ways_of, relations_of, count_one, counts_of, stored_entities, frame_entities}
-use Rattle.pbf_pass.specs.Judged.{payload_fault, fully, fully_known, judged_file}
-use Rattle.pbf_pass.proofs.GivenLemmas.{Tells, says_told}
 use Rattle.pbf_pass.proofs.CountLemmas.{CountedOn, stored_one}
-use Rattle.pbf_pass.proofs.StepLemmas.{StoppedStep, fully_first, taken_counts_of}
 use Rattle.pbf_block.specs.declared.counts.Counts.{Counts}
-use Rattle.pbfcut.specs.Pick.{Pick, TakesPicked, HasPacked, BeginsAll, Packs, Begins, FailsToPack, Packed, PacksFront}
-use Rattle.pbf_pass.specs.Payload.{payload_of}
-use Rattle.pbf_pass.specs.Stops.{Caused, Only, unchanged}
+use Rattle.pbfcut.specs.Pick.{Pick, HasPacked, BeginsAll, Packs, Begins, StopsPacking, StopsAmong}
+use Rattle.pbf_pass.specs.Stops.{Caused, Only, unchanged, WriteFailed}
 
 all_push : {A : Type 0} (P : A → Type 0) (xs : List A) (x : A) → AllByRecursion P xs → P x → AllByRecursion P (xs ++ x ∷ [])
 all_push P [] x h p = (p, tt)
@@ -55,25 +44,11 @@ split_here done gone left later all rest e is split =
 pub picked_one : (pick : Pick) (fs : List FrameSpec) (f : FrameSpec) → filter pick (stored_entities (fs ++ f ∷ [])) ≡ filter pick (stored_entities fs) ++ filter pick (frame_entities f)
 picked_one pick fs f = ap (λ (l : List EntitySpec). filter pick l) (stored_one fs f) ∙ filter-append pick (stored_entities fs) (frame_entities f)
 
-pub picked_counts : (pick : Pick) (f : FrameSpec) (old new : Pass) (fs : List FrameSpec) → TakesPicked pick (payload_of f) old new → old.counts ≡ counts_of (filter pick (stored_entities fs))
-    → new.counts ≡ counts_of (filter pick (stored_entities (fs ++ f ∷ [])))
-picked_counts pick f old new fs h so_far =
-    taken_counts_of (λ es. filter pick es) refl (payload_of f) old new (filter pick (stored_entities fs)) h so_far ∙ ap (λ (l : List EntitySpec). counts_of l) (sym (picked_one pick fs f))
-
-front_of : (pick : Pick) (start now : Option (List ℕ)) (fs rest : List FrameSpec) (all : Verdict) → all.0 ≡ fs ++ rest → BeginsAll start (filter pick (stored_entities fs)) now → IsFront start now (written_entities (filter pick (stored_entities all.0)))
+pub front_of : (pick : Pick) (start now : Option (List ℕ)) (fs rest : List FrameSpec) (all : Verdict) → all.0 ≡ fs ++ rest → BeginsAll start (filter pick (stored_entities fs)) now → IsFront start now (written_entities (filter pick (stored_entities all.0)))
 front_of pick start now fs rest all split begins =
     subst (λ (l : List EntitySpec). IsFront start now (written_entities l))
     (sym (filter-append pick (stored_entities fs) (stored_entities rest)) ∙ ap (λ (l : List EntitySpec). filter pick l) (sym (flat_map-append frame_entities fs rest) ∙ ap stored_entities (sym split)))
     (begins (filter pick (stored_entities rest)))
-
--- at the end of a file without a fault its frames are those done
-pub says_end : (first mid : Option Verdict) (fs : List FrameSpec) → Gone first fs (fully_known mid) → Says mid ([], None) → Says first (fs, None)
-says_end first None fs gone says = subst (λ (k : Option Verdict). Says k (fs, None)) (sym gone) tt
-says_end first (Some v) fs gone says =
-    subst (λ (k : Option Verdict). Says k (fs, None)) (sym gone) (ap (λ (v : Verdict). with_all fs (fully v)) says ∙ ap (λ (l : List FrameSpec). (l, None)) (append-nil fs))
-
-pub told_frames : (first : Option Verdict) (fs : List FrameSpec) (all : Verdict) → Says first (fs, None) → first ≡ Some all → all.0 ≡ fs
-told_frames first fs all says is = ap (λ (v : Verdict). v.0) (subst (λ (k : Option Verdict). Says k (fs, None)) is says)
 
 -- ---- which are picked
 
@@ -130,25 +105,6 @@ count_picked pick now next e left rest all is picked counts h =
 pub count_left : (pick : Pick) (now : Counts) (e : EntitySpec) (left rest all : List EntitySpec) → left ≡ e ∷ rest → pick e ≡ false → CountedOn now (filter pick left) all → CountedOn now (filter pick rest) all
 count_left pick now e left rest all is picked h = subst (λ (l : List EntitySpec). CountedOn now l all) (ap (λ (l : List EntitySpec). filter pick l) is ∙ left_next pick e rest picked) h
 
-pub last_front : (pick : Pick) (start now : Option (List ℕ)) (first : Option Verdict) (fs : List FrameSpec) (all : Verdict) → Says first (fs, None) → first ≡ Some all → IsFront start now (written_entities (filter pick (stored_entities fs)))
-    → IsFront start now (written_entities (filter pick (stored_entities all.0)))
-last_front pick start now first fs all says is front = subst (λ (l : List FrameSpec). IsFront start now (written_entities (filter pick (stored_entities l)))) (sym (told_frames first fs all says is)) front
-
--- the whole is a beginning of itself
-pub packed_front : (pick : Pick) (h : HeaderSpec) (counts : Counts) (known : Option Verdict) (old new : Option (List ℕ)) (written : List ℕ) → Packed pick h counts known written → new ≡ append old written → PacksFront pick h known old new
-packed_front pick h counts known old new written p taken all is =
-    subst (λ (l : List FrameSpec). IsFront old new (written_file h (filter pick (stored_entities l)))) (sym (told_frames known p.frames all p.says is))
-    (front_whole old new (written_file h (filter pick (stored_entities p.frames))) (taken ∙ ap (append old) p.is))
-
--- the same of the file that is reported
-pub packed_told : (pick : Pick) (h : HeaderSpec) (counts : Counts) (known : Option (List ℕ)) (file written : List ℕ) → Tells known file → Packed pick h counts (judged_file (Some file)) written → Packed pick h counts (judged_file known) written
-packed_told pick h counts known file written tells p = record {
-  frames = p.frames;
-  says = says_told known file (p.frames, None) tells p.says;
-  counted = p.counted;
-  is = p.is;
-}
-
 module _ {D S H : Type 0} (d : drain.Ghosts D) where
   -- one entity more is packed
   packed_push : (start : D) (done : List EntitySpec) (e : EntitySpec) (old new : Packing D S H) → HasPacked d start done old → EntityFits e
@@ -196,47 +152,27 @@ module _ {D S H : Type 0} (d : drain.Ghosts D) where
       subst (λ (l : List EntitySpec). IsFront (d.taken start) (d.taken new.drain) (written_entities l)) (split_here done (filter pick gone) (e ∷ filter pick later) (filter pick later) (filter pick all) rest e refl (picked_here pick gone left later all e is split picked))
       (begins_push start (done ++ filter pick gone) e packer new h fits f (filter pick later ++ rest))
 
+  -- no more of them went out
+  pub changed_here : (pick : Pick) (start : D) (done gone left all : List EntitySpec) (packer : Packing D S H) → gone ++ left ≡ all → HasPacked d start (done ++ filter pick gone) packer → BeginsAll (d.taken start) (done ++ filter pick all) (d.taken packer.drain)
+  changed_here pick start done gone left all packer split h rest =
+      subst (λ (l : List EntitySpec). IsFront (d.taken start) (d.taken packer.drain) (written_entities l))
+      (append_assoc done (filter pick gone) (filter pick left ++ rest)
+      ∙ ap (λ (l : List EntitySpec). done ++ l) (sym (append_assoc (filter pick gone) (filter pick left) rest) ∙ ap (λ (l : List EntitySpec). l ++ rest) (sym (filter-append pick gone left) ∙ ap (filter pick) split))
+      ∙ sym (append_assoc done (filter pick all) rest))
+      (begins_packed start (done ++ filter pick gone) packer h (filter pick left ++ rest))
+
+  -- nothing of them went out
+  pub begins_none : (es : List EntitySpec) (old new : Packing D S H) → d.taken new.drain ≡ d.taken old.drain → Begins d old new es
+  begins_none es old new same = record {
+    begun = λ start done h rest.
+        subst (λ (k : Option (List ℕ)). IsFront (d.taken start) k (written_entities ((done ++ es) ++ rest))) (sym same)
+        (subst (λ (l : List EntitySpec). IsFront (d.taken start) (d.taken old.drain) (written_entities l)) (sym (append_assoc done es rest)) (begins_packed start done old h (es ++ rest)));
+  }
+
   -- ---- in a loop over frames
 
   pub none_packed : (packer : Packing D S H) → Pending packer [] → HasPacked d packer.drain [] packer
   none_packed packer p = record { fits = tt; added = added_none d packer.drain; pending = p }
-
-  pub frame_packed : (pick : Pick) (start : D) (fs : List FrameSpec) (f : FrameSpec) (old new : Packing D S H) → HasPacked d start (filter pick (stored_entities fs)) old → Packs d old new (filter pick (frame_entities f))
-      → HasPacked d start (filter pick (stored_entities (fs ++ f ∷ []))) new
-  frame_packed pick start fs f old new h p = subst (λ (l : List EntitySpec). HasPacked d start l new) (sym (picked_one pick fs f)) (p.packed start (filter pick (stored_entities fs)) h)
-
-  nothing_more : (pick : Pick) (start : D) (first mid : Option Verdict) (fs : List FrameSpec) (old new : Packing D S H) → Gone first fs mid → HasPacked d start (filter pick (stored_entities fs)) old → d.taken new.drain ≡ d.taken old.drain
-      → (all : Verdict) → first ≡ Some all → IsFront (d.taken start) (d.taken new.drain) (written_entities (filter pick (stored_entities all.0)))
-  nothing_more pick start first mid fs old new gone h same all is =
-      let (rest, e, split) = gone_split first mid fs all gone is in
-      front_of pick (d.taken start) (d.taken new.drain) fs rest.0 all split
-      (subst (λ (k : Option (List ℕ)). BeginsAll (d.taken start) (filter pick (stored_entities fs)) k) (sym same) (begins_packed start (filter pick (stored_entities fs)) old h))
-
-  begun_one : (pick : Pick) (start : D) (first mid later : Option Verdict) (fs : List FrameSpec) (f : FrameSpec) (old new : Packing D S H) → Gone first fs (fully_known mid) → HasPacked d start (filter pick (stored_entities fs)) old
-      → mid ≡ with_first_known f later → payload_fault f ≡ None → Begins d old new (filter pick (frame_entities f)) → (all : Verdict) → first ≡ Some all → IsFront (d.taken start) (d.taken new.drain) (written_entities (filter pick (stored_entities all.0)))
-  begun_one pick start first mid later fs f old new gone h e sound begins all is =
-      let (rest, e2, split) = gone_split first (fully_known later) (fs ++ f ∷ []) all (gone_more first (fully_known mid) (fully_known later) fs f gone (fully_first mid later f e sound)) is in
-      front_of pick (d.taken start) (d.taken new.drain) (fs ++ f ∷ []) rest.0 all split (subst (λ (l : List EntitySpec). BeginsAll (d.taken start) l (d.taken new.drain)) (sym (picked_one pick fs f)) (begins.begun start (filter pick (stored_entities fs)) h))
-
-  -- whatever a step that stopped wrote, a beginning of all went out
-  pub step_front : {F : Type 0} (g : feed.Ghosts F) (pick : Pick) (start : D) (first : Option Verdict) (fs : List FrameSpec) (reader read : FrameReader F) (old new : Packing D S H) (before now : Pass) (s : Stop)
-      → Gone first fs (fully_known (verdict g.remaining reader)) → HasPacked d start (filter pick (stored_entities fs)) old → StoppedStep g reader read (FailsToPack d pick old new) ((now ≡ before) × (new ≡ old)) s
-      → (all : Verdict) → first ≡ Some all → IsFront (d.taken start) (d.taken new.drain) (written_entities (filter pick (stored_entities all.0)))
-  step_front g pick start first fs reader read old new before now s gone h stopped all is = of stopped.where_it_stopped where
-    mid : Option Verdict
-    mid = verdict g.remaining reader
-
-    went : Option (List ℕ)
-    went = d.taken new.drain
-
-    begun_at : (f : FrameSpec) → mid ≡ with_first_known f (verdict g.remaining read) → ((went ≡ d.taken old.drain) ⊎ ((payload_fault f ≡ None) × Begins d old new (filter pick (frame_entities f)))) → IsFront (d.taken start) went (written_entities (filter pick (stored_entities all.0)))
-    begun_at f e (inl same) = nothing_more pick start first (fully_known mid) fs old new gone h same all is
-    begun_at f e (inr (sound, begins)) = begun_one pick start first mid (verdict g.remaining read) fs f old new gone h e sound begins all is
-
-    of : ((Gave mid (Err s) (verdict g.remaining read) × IsReaderStop (g.failures reader.feed) (g.failures read.feed) s × ((now ≡ before) × (new ≡ old))) ⊎ ((f : FrameSpec) × (mid ≡ with_first_known f (verdict g.remaining read)) × FailsToPack d pick old new f s))
-        → IsFront (d.taken start) went (written_entities (filter pick (stored_entities all.0)))
-    of (inl (gave, why, same)) = nothing_more pick start first (fully_known mid) fs old new gone h (ap (λ (p : Packing D S H). d.taken p.drain) same.1) all is
-    of (inr (f, e, why)) = begun_at f e why.front
 
   pub same_packed : (start : D) (es : List EntitySpec) (old new : Packing D S H) → new ≡ old → HasPacked d start es old → HasPacked d start es new
   same_packed start es old new p h = subst (λ (q : Packing D S H). HasPacked d start es q) (sym p) h
@@ -262,13 +198,27 @@ header_alone h old now es f = front_longer old now (header_frame h) (written_ent
 pub whole_file : {D : Type 0} (d : drain.Ghosts D) (h : HeaderSpec) (old start new : D) (es : List EntitySpec) → Added d old (header_frame h) start → Added d start (written_entities es) new → Added d old (written_file h es) new
 whole_file d h old start new es first then = added_more d old start new (header_frame h) (written_entities es) first then
 
--- a packer's stop is one of a payload without a fault
-pub pack_stop : (first before now : ℕ) (s : Stop) → first ≤ before → IsPackStop before now s → Caused (Only None) ⊥ (HasRisen first now) unchanged s
-pack_stop first before now (stop.Refused e) l h = absurd h
-pack_stop first before now stop.Read l h = absurd h
-pack_stop first before now stop.Write l h = omega (arith, l, h)
-pack_stop first before now stop.Memory l h = tt
-pack_stop first before now (stop.Changed pass) l h = absurd h
+-- a packer's stop is one of the entities that are packed
+pub pack_stop : (first before now : ℕ) (changed : ℕ → Type 0) (s : Stop) → first ≤ before → IsPackStop before now s → Caused (λ e. ⊥) ⊥ (HasRisen first now) changed s
+pack_stop first before now changed (stop.Refused e) l h = absurd h
+pack_stop first before now changed stop.Read l h = absurd h
+pack_stop first before now changed stop.Write l h = omega (arith, l, h)
+pack_stop first before now changed stop.Memory l h = tt
+pack_stop first before now changed (stop.Changed pass) l h = absurd h
+
+-- where all of them can be written, it is one of a payload without a fault
+pub stops_judged : {D S H : Type 0} (d : drain.Ghosts D) (number : ℕ) (pick : Pick) (fault : Option Fault) (es all : List EntitySpec) (old new : Packing D S H) (s : Stop) → fault ≡ None → AllByRecursion EntityFits es → filter pick es ≡ all
+    → StopsAmong d number pick es old new s → StopsPacking d fault all old new s
+stops_judged d number pick fault es all old new s sound fits same stops = record {
+  cause = of s stops.cause;
+  front = inr (sound, subst (λ (l : List EntitySpec). Begins d old new l) same stops.begins);
+} where
+  of : (s : Stop) → Caused (λ e. ⊥) ⊥ (WriteFailed d old.drain new.drain) (λ pass. (pass ≡ number) × (AllByRecursion EntityFits es → ⊥)) s → Caused (Only fault) ⊥ (WriteFailed d old.drain new.drain) unchanged s
+  of (stop.Refused e) h = absurd h
+  of stop.Read h = h
+  of stop.Write h = h
+  of stop.Memory h = tt
+  of (stop.Changed pass) h = h.1 fits
 
 -- a failure of the last frame is one of the loop
 pub fails_since : (fault : Option Fault) (first before now : ℕ) (s : Stop) → first ≤ before → Caused (Only fault) ⊥ (HasRisen before now) unchanged s → Caused (Only fault) ⊥ (HasRisen first now) unchanged s

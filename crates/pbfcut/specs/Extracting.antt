@@ -15,6 +15,7 @@ use Rattle.pbf_header.specs.Header.{HeaderSpec}
 use Rattle.pbf_header.specs.WrittenHeader.{header_out_for_box}
 use Rattle.pbf_frame.specs.Frames.{FrameSpec}
 use Rattle.pbf_frame.specs.Verdict.{Verdict, Says}
+use Rattle.pbf_pass.specs.Again.{GathersFile}
 use Rattle.pbf_pass.specs.HeaderLimit.{header_limit}
 use Rattle.pbf_pass.specs.Counting.{stored_entities}
 use Rattle.pbf_pass.specs.Judged.{judged_file}
@@ -44,24 +45,21 @@ extract_bytes choose area (frames, Some e) = []
 
 -- ---- the passes that choose
 
--- neither file has a fault, the header is that of the first with the box, and the sets are those of its nodes and of the other's ways
+-- the first file has no fault, and the header is its with the box; the sets are those of its nodes and of the other's ways, if that has no
+-- fault
 pub record Chooses (area : BoundingBox) (first second : Option Verdict) (sets : WaySets) (h : HeaderSpec) : Type 0 where
   pub frames : List FrameSpec
-  pub others : List FrameSpec
   pub judged : Says first (frames, None)
-  pub read : Says second (others, None)
   pub within : header_limit (file_header frames) ≡ None
   pub header : option_map (λ p. header_out_for_box area p.1) (file_header frames) ≡ Some h
-  pub chosen : sets ≡ fold with_way (start_ways (fold with_node (start_nodes area) (stored_entities frames)).box_ids) (stored_entities others)
+  pub chosen : GathersFile with_way second (start_ways (fold with_node (start_nodes area) (stored_entities frames)).box_ids) sets
 
 -- and the relations of a third file, with all parents
 pub record ChoosesParents (area : BoundingBox) (first second third : Option Verdict) (sets : ParentSets) (h : HeaderSpec) : Type 0 where
   pub ways : WaySets
   pub chosen : Chooses area first second ways h
-  pub frames : List FrameSpec
-  pub read : Says third (frames, None)
   pub relations : RelationSets
-  pub gathered : relations ≡ fold with_relation (start_relations ways) (stored_entities frames)
+  pub gathered : GathersFile with_relation third (start_relations ways) relations
   pub kept : sets.ways ≡ relations.ways
   pub least : IsLeast (set.contains relations.links) relations.start sets.relation_ids
 

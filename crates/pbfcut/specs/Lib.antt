@@ -2,6 +2,7 @@ pub mod Blobs
 pub mod Listing
 pub mod FileFaults
 pub mod Pick
+pub mod Write
 pub mod Repeat
 pub mod Showing
 pub mod Converting

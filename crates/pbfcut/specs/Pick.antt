@@ -6,23 +6,20 @@ use Rattle.osm_entity.specs.Entity.{EntitySpec, node, way, relation}
 use Rattle.osm_entity.specs.Ranges.{EntityFits}
 use Rattle.osm_ways.specs.Phases.{WaySets, ParentSets, is_chosen, is_chosen_with_parents}
 use Rattle.osm_ways.specs.Seen.{seen_way, seen_relation}
-use Rattle.osm_pack.specs.Cuts.{written_file, written_entities, pending_after, written_after}
+use Rattle.osm_pack.specs.Cuts.{written_entities, pending_after, written_after}
 use Rattle.osm_pack.specs.Packing.{Packing, Pending, IsPacking, has_header}
-use Rattle.pbf_header.specs.Header.{HeaderSpec}
-use Rattle.pbf_block.specs.declared.counts.Counts.{Counts}
 use Rattle.pbf_frame.specs.declared.device.Drain as drain
 use Rattle.pbf_frame.specs.declared.stop.Stop.{Stop}
 use Rattle.pbf_frame.specs.Devices.{IsFront}
 use Rattle.pbf_frame.specs.Transfers.{Added}
 use Rattle.pbf_frame.specs.Frames.{FrameSpec}
-use Rattle.pbf_frame.specs.Verdict.{Verdict, Says}
 use Rattle.pbf_wire.specs.declared.fault.Fault.{Fault}
 use Rattle.pbf_pass.specs.declared.pass.Pass.{Pass}
 use Rattle.pbfcut.specs.declared.pick.Selection.{Selection}
 use Rattle.pbfcut.specs.declared.pick.Selection.TheVariants as selection
 use Rattle.pbfcut.specs.declared.pick.Picker.{Picker}
 use Rattle.pbfcut.specs.declared.pick.Picker.TheVariants as picker
-use Rattle.pbf_pass.specs.Counting.{counts_of, stored_entities, entities_in}
+use Rattle.pbf_pass.specs.Counting.{entities_in}
 use Rattle.pbf_pass.specs.Judged.{fault_in}
 use Rattle.pbf_pass.specs.Pass.{TakesSome}
 use Rattle.pbf_pass.specs.Payload.{Payload, payload_of}
@@ -106,6 +103,11 @@ pub record StopsPacking {D S H : Type 0} (d : drain.Ghosts D) (fault : Option Fa
   pub cause : Caused (Only fault) ⊥ (WriteFailed d old.drain new.drain) unchanged stop
   pub front : (d.taken new.drain ≡ d.taken old.drain) ⊎ ((fault ≡ None) × Begins d old new es)
 
+-- the same of entities of which some are picked: one of them that is met can't be written; or a write failed, or memory was refused
+pub record StopsAmong {D S H : Type 0} (d : drain.Ghosts D) (number : ℕ) (pick : Pick) (es : List EntitySpec) (old new : Packing D S H) (stop : Stop) : Type 0 where
+  pub cause : Caused (λ e. ⊥) ⊥ (WriteFailed d old.drain new.drain) (λ pass. (pass ≡ number) × (AllByRecursion EntityFits es → ⊥)) stop
+  pub begins : Begins d old new (filter pick es)
+
 -- whatever a call answers
 pub record KeepsPacker {D S H : Type 0} (d : drain.Ghosts D) (old new : Packing D S H) : Type 0 where
   pub header : has_header new ≡ true
@@ -142,16 +144,3 @@ PacksFrame d pick old new before now f = PacksPayload d pick (payload_of f) old 
 
 abbrev pub FailsToPack : {D S H : Type 0} → drain.Ghosts D → Pick → Packing D S H → Packing D S H → FrameSpec → Stop → Type 0
 FailsToPack d pick old new f stop = FailsToPackPayload d pick (payload_of f) old new stop
-
--- ---- the pass that writes
-
--- the file has no fault, these bytes are the header and what is picked of its entities, and these are the numbers of those
-pub record Packed (pick : Pick) (h : HeaderSpec) (counts : Counts) (known : Option Verdict) (written : List ℕ) : Type 0 where
-  pub frames : List FrameSpec
-  pub says : Says known (frames, None)
-  pub counted : counts ≡ counts_of (filter pick (stored_entities frames))
-  pub is : written ≡ written_file h (filter pick (stored_entities frames))
-
--- a beginning of the header and of what is picked of the frames before the first fault went out
-abbrev pub PacksFront : Pick → HeaderSpec → Option Verdict → Option (List ℕ) → Option (List ℕ) → Type 0
-PacksFront pick h known old new = (all : Verdict) → known ≡ Some all → IsFront old new (written_file h (filter pick (stored_entities all.0)))

@@ -1,22 +1,12 @@
 -- Passes behind the first one: their bytes have to have its digest.
 use Rattle.std.specs.Prelude.{◌≡◌, ℕ, List, Option, Some, None}
-use Rattle.std.specs.List.{fold}
 use Rattle.sha2.specs.Sha256.{sha256}
-use Rattle.osm_entity.specs.Entity.{EntitySpec}
 use Rattle.pbf_frame.specs.declared.stop.Stop.{Stop}
 use Rattle.pbf_frame.specs.declared.stop.Stop.TheVariants.{Refused, Read, Write, Memory, Changed}
 use Rattle.pbf_frame.specs.Frames.{FrameSpec}
-use Rattle.pbf_frame.specs.Verdict.{Verdict, Says}
 use Rattle.pbfcut.specs.declared.repeat.Repeat.{Repeat}
-use Rattle.pbf_pass.specs.Counting.{stored_entities}
 use Rattle.pbf_pass.specs.Judged.{judged_file}
 use Rattle.pbf_pass.specs.Stops.{Caused}
-
--- the file has no fault, and its entities were gathered
-pub record GathersAgain {S : Type 0} (gathered : S → EntitySpec → S) (known : Option Verdict) (before now : S) : Type 0 where
-  pub frames : List FrameSpec
-  pub says : Says known (frames, None)
-  pub gathered_all : now ≡ fold gathered before (stored_entities frames)
 
 -- bytes without a fault that have this digest aren't those of the feed
 abbrev pub Unlike : Option (List ℕ) → List ℕ → Type 0

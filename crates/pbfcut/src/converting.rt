@@ -12,8 +12,9 @@ ghost use Rattle.pbf_pass.specs.Refused.{HaltsFile, stop_of};
 ghost use Rattle.pbfcut.specs.Repeat.{SameDigest};
 ghost use Rattle.pbf_pass.specs.Stops.{KeepsDrain, ReadFailed, WriteFailed};
 
-use crate::pick::{Selection, Writing};
+use crate::pick::Selection;
 use crate::repeat::Repeat;
+use crate::write::Writing;
 use pbf_block::Counts;
 use pbf_frame::{Drain, Feed, Stop};
 use pbf_pass::{Halt, HashedDrain, InputReceipt, Nothing, Receipt, judge, writable_header};

@@ -17,8 +17,9 @@ ghost use Rattle.pbf_pass.specs.Refused.{RefusesFile, Halts, HaltsFile, stop_of}
 ghost use Rattle.pbfcut.specs.Repeat.{SameDigest};
 ghost use Rattle.pbf_pass.specs.Stops.{Caused, FaultOf, KeepsDrain, ReadFailed, WriteFailed};
 
-use crate::pick::{Selection, Writing};
+use crate::pick::Selection;
 use crate::repeat::Repeat;
+use crate::write::Writing;
 use osm_entity::BoundingBox;
 use osm_ways::{Chosen, ChosenParents, NodePhase};
 use pbf_block::Counts;

@@ -8,6 +8,7 @@ pub mod laws;
 mod pick;
 mod repeat;
 mod showing;
+mod write;
 
 pub use blobs::list_blobs;
 pub use converting::{convert, convert_with_receipt};
@@ -16,7 +17,8 @@ pub use extracting::{
 };
 pub use pbf_pass::{
     Counts, Gather, Halt, InputReceipt, Nothing, Pass, Receipt, Refusal, check, check_with_receipt,
-    step_count, step_gather, step_nodes, step_relations, step_ways,
+    gather_again, step_again, step_count, step_gather, step_nodes, step_relations, step_ways,
 };
 pub use pick::{Selection, step_pack, step_write, step_write_parents};
 pub use showing::{show, show_with_receipt};
+pub use write::step_pack_again;

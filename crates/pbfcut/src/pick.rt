@@ -1,35 +1,32 @@
-//! Entities that are picked, on their way into the drain: frame by frame, and the loop that writes a whole file.
+//! Entities that are picked, on their way into the drain, and the steps that judge them.
 
-ghost use Rattle.std.specs.Prelude.{false, true, [], ◌≡◌, ◌<◌, ◌≤◌, ◌+◌, ◌^◌, Some, None, Err, IfOk, IfErr, OnOk, OnErr, length};
+ghost use Rattle.std.specs.Prelude.{false, true, [], ◌≡◌, ◌<◌, ◌≤◌, ◌+◌, ◌^◌, List, None, Err, IfOk, IfErr, OnOk, length};
 ghost use Rattle.std.specs.List.{AllByRecursion, filter, list_any};
 ghost use Rattle.std.specs.Option.{option_map};
+ghost use Rattle.osm_entity.specs.Entity.{EntitySpec};
 ghost use Rattle.osm_entity.specs.Ranges.{EntityFits};
 ghost use Rattle.osm_entity.specs.Views.{entity_of};
 ghost use Rattle.osm_pack.specs.Packing.{IsPacking, has_header, packer_held};
 ghost use Rattle.osm_pack.specs.Packing as packing;
 ghost use Rattle.pbf_wire.specs.Cursors.{sums_left};
 ghost use Rattle.pbf_block.specs.Cursors.{entities_left};
-ghost use Rattle.pbf_header.specs.Header.{header_of};
 ghost use Rattle.pbf_block.specs.Payload.{entities};
-ghost use Rattle.pbf_block.specs.Runs.{run_entities};
+ghost use Rattle.pbf_block.specs.Kinds.{is_among};
+ghost use Rattle.pbf_block.specs.Runs.{joined_runs, run_entities, runs_left};
 ghost use Rattle.pbf_frame.specs.declared.stop.Stop.{Stop};
-ghost use Rattle.pbf_frame.specs.Next.{IsReading, place_of, held_by, verdict};
+ghost use Rattle.pbf_frame.specs.Next.{place_of, held_by};
 ghost use Rattle.pbf_pass.specs.Counting.{counts_of};
-ghost use Rattle.pbf_pass.specs.Judged.{fault_in, fully_known, judged_file};
+ghost use Rattle.pbf_pass.specs.Judged.{fault_in};
 ghost use Rattle.pbf_pass.specs.Pass.{IsStep};
 ghost use Rattle.pbf_pass.specs.Payload.{primitive_block, lent_by};
-ghost use Rattle.pbfcut.specs.Pick.{pick_of, picks_of, picked_in, picks_id, is_node, picked_by_some, picked_with_parents, PacksAll, StopsPacking, KeepsPacker, IsFreshPacker, PacksPayload, FailsToPackPayload, PacksFrame, FailsToPack, Packed, PacksFront};
-ghost use Rattle.pbf_pass.specs.HeaderLimit.{IsShort};
-ghost use Rattle.pbf_pass.specs.Given.{GaveRest, GaveFile, Took};
-ghost use Rattle.pbf_pass.specs.Stops.{Caused, FaultOf, unchanged, KeepsFeed, KeepsDrain, ReadFailed, WriteFailed};
+ghost use Rattle.pbfcut.specs.Pick.{pick_of, picks_of, picked_in, picks_id, is_node, picked_by_some, picked_with_parents, PacksAll, StopsAmong, KeepsPacker, PacksPayload, FailsToPackPayload, PacksFrame, FailsToPack};
 
 use osm_entity::EntityRef;
 use osm_pack::Packer;
 use osm_ways::{Chooser, ChooserParents, Chosen, ChosenParents};
-use pbf_block::{Block, Counts, Entities, Kinds, Run};
+use pbf_block::{Block, Counts, Entities, Kinds, Run, Runs};
 use pbf_frame::{Drain, Feed, Frame, FrameKind, FrameReader, Stop};
-use pbf_header::Header;
-use pbf_pass::{HashedFeed, InputReceipt, Pass};
+use pbf_pass::Pass;
 use pbf_wire::Sums;
 use std::alloc::Global;
 use std::hash::BuildHasher;
@@ -60,7 +57,7 @@ impl<'a> Selection<'a> {
 }
 
 /// Nodes alone.
-const NODES: Kinds = Kinds {
+pub(crate) const NODES: Kinds = Kinds {
     nodes: true,
     ways: false,
     relations: false,
@@ -138,18 +135,31 @@ impl Picker<'_> {
     }
 }
 
-/// Whether a node of a block may be written; where this answers no, none is. Of dense nodes the ids are read, and nothing else.
-fn picks_node(block: &Block<'_>, selection: Selection<'_>) -> bool
-    ensures { result ≡ false → filter (pick_of selection.entry)
-        (filter is_node (entities block.now.at block.now.payload.now)) ≡ [] }
+/// Whether a node of these runs may be written; where this answers no, none is. Of dense nodes the ids are read, and nothing else.
+fn picks_node(runs: Runs<'_>, selection: Selection<'_>) -> bool
+    ensures { result ≡ false
+        → filter (pick_of selection.entry) (joined_runs (runs_left runs.entry)) ≡ [] }
 {
     let mut picker = selection.picker();
-    for run in block.runs_among(NODES) {
+    for run in runs {
         if picker.picks_in(&run) {
             return true;
         }
     }
     false
+}
+
+/// The kinds of entities that have to be made, of which these are the nodes: all, without nodes where none of them is written.
+pub(crate) fn wanted(nodes: Runs<'_>, selection: Selection<'_>) -> Kinds
+    ensures { (es : List EntitySpec) → joined_runs (runs_left nodes.entry) ≡ filter is_node es
+        → filter (pick_of selection.entry) (filter (is_among result) es)
+        ≡ filter (pick_of selection.entry) es }
+{
+    Kinds {
+        nodes: picks_node(nodes, selection),
+        ways: true,
+        relations: true,
+    }
 }
 
 /// The entities of a block, without its nodes where none of them is written.
@@ -158,35 +168,34 @@ fn candidates<'a>(block: &'a Block<'_>, selection: Selection<'_>) -> Entities<'a
         ≡ filter (pick_of selection.entry) (entities block.now.at block.now.payload.now) }
     ensures fits { AllByRecursion EntityFits (entities_left result) }
 {
-    let kinds = Kinds {
-        nodes: picks_node(block, selection),
-        ways: true,
-        relations: true,
-    };
-    block.entities_among(kinds)
+    block.entities_among(wanted(block.runs_among(NODES), selection))
 }
 
-/// Packs the entities that are picked, one by one, and answers their numbers.
-fn pack_entities<D: Drain, S: BuildHasher>(
+/// Packs the entities that are picked, one by one, and answers their numbers. One that can't be written is a change, in a pass of
+/// this number.
+pub(crate) fn pack_entities<D: Drain, S: BuildHasher>(
     entities: Entities<'_>,
     selection: Selection<'_>,
+    number: u8,
     packer: &mut Packer<D, S>,
 ) -> Result<Counts, Stop>
     requires begun { has_header packer.old ≡ true }
     requires packing { IsPacking packer.old }
-    requires fits { AllByRecursion EntityFits (entities_left entities) }
     ensures packed { OnOk result (PacksAll D.Drain None
         (filter (pick_of selection.entry) (entities_left entities.entry)) packer.old packer.new) }
     ensures counted { IfOk result (λ counts. counts
         ≡ counts_of (filter (pick_of selection.entry) (entities_left entities.entry))) }
-    ensures stopped { IfErr result (StopsPacking D.Drain None
-        (filter (pick_of selection.entry) (entities_left entities.entry)) packer.old packer.new) }
+    ensures stopped { IfErr result (StopsAmong D.Drain number (pick_of selection.entry)
+        (entities_left entities.entry) packer.old packer.new) }
     ensures keeps { KeepsPacker D.Drain packer.old packer.new }
 {
     let mut counts = Counts::none();
     let mut picker = selection.picker();
     for entity in entities {
         if picker.picks(&entity) {
+            if !entity.fits() {
+                return Err(Stop::Changed(number));
+            }
             packer.push(&entity)?;
             counts.take(&entity);
         }
@@ -217,7 +226,8 @@ fn pack_block<D: Drain, S: BuildHasher>(
     ensures keeps { KeepsPacker D.Drain packer.old packer.new }
 {
     let block = Block::read(alloc, payload, at)?;
-    pack_entities(candidates(&block, selection), selection, packer)
+    // Each entity of a block that was judged can be written, so this is no later pass.
+    pack_entities(candidates(&block, selection), selection, 0, packer)
 }
 
 /// Judges the payload of a frame, packs what is picked of it, and takes its header or the numbers of these entities.
@@ -348,78 +358,4 @@ pub fn step_write_parents<F: Feed, D: Drain, S: BuildHasher>(
     ensures space { held_by reader.new + packer_held packer.new ≤ 61620990 }
 {
     step_pack(alloc, reader, pass, selected_with_parents(chosen), packer)
-}
-
-/// What is written of a file.
-#[derive(Clone, Copy)]
-pub(crate) struct Writing<'a> {
-    /// The header.
-    pub(crate) header: &'a Header,
-    /// Which of the entities.
-    pub(crate) selection: Selection<'a>,
-}
-
-/// Writes a header and what is picked of the frames that are left, by steps, and answers the numbers of these entities: after each
-/// step its clause `space` bounds what the reader and the packer hold together.
-fn write_steps<F: Feed, D: Drain, S: BuildHasher>(
-    alloc: Global,
-    reader: &mut FrameReader<F>,
-    packer: &mut Packer<D, S>,
-    writing: Writing<'_>,
-) -> Result<Counts, Stop>
-    requires reading { IsReading reader.old }
-    requires fresh { IsFreshPacker packer.old }
-    requires short { IsShort (header_of writing.header.now) }
-    ensures packed { IfOk result (λ counts. GaveRest F.Feed reader.old reader.new
-        (λ known. Took D.Drain packer.old.drain packer.new.drain
-        (Packed (pick_of writing.entry.selection) (header_of writing.entry.header.now)
-        counts known))) }
-    ensures beginning { OnErr result (PacksFront (pick_of writing.entry.selection)
-        (header_of writing.entry.header.now) (fully_known (verdict F.remaining reader.old))
-        (D.taken packer.old.drain) (D.taken packer.new.drain)) }
-    ensures stops { IfErr result (Caused (FaultOf (fully_known (verdict F.remaining reader.old)))
-        (ReadFailed F.Feed reader.old.feed reader.new.feed)
-        (WriteFailed D.Drain packer.old.drain packer.new.drain) unchanged) }
-    ensures feed { KeepsFeed F.Feed reader.old.feed reader.new.feed }
-    ensures drain { KeepsDrain D.Drain packer.old.drain packer.new.drain }
-{
-    let mut pass = Pass::new();
-    packer.put_header(writing.header)?;
-    'frames: while step_pack(alloc, reader, &mut pass, writing.selection, packer)? {}
-    packer.finish()?;
-    Ok(pass.counts)
-}
-
-/// Writes a header and what is picked of a whole file.
-pub(crate) fn write<F: Feed, D: Drain, S: BuildHasher + Drop>(
-    alloc: Global,
-    feed: &mut F,
-    drain: &mut D,
-    hasher: S,
-    writing: Writing<'_>,
-) -> Result<InputReceipt, Stop>
-    requires { IsShort (header_of writing.header.now) }
-    ensures packed { IfOk result (λ wrote. GaveFile F.Feed feed.old feed.new wrote.input
-        (λ file. Took D.Drain drain.old drain.new
-        (Packed (pick_of writing.entry.selection) (header_of writing.entry.header.now)
-        wrote.counts (judged_file (Some file))))) }
-    ensures beginning { OnErr result (PacksFront (pick_of writing.entry.selection)
-        (header_of writing.entry.header.now) (judged_file (F.remaining feed.old))
-        (D.taken drain.old) (D.taken drain.new)) }
-    ensures stops { IfErr result (Caused (FaultOf (judged_file (F.remaining feed.old)))
-        (ReadFailed F.Feed feed.old feed.new) (WriteFailed D.Drain drain.old drain.new) unchanged) }
-    ensures drain { KeepsDrain D.Drain drain.old drain.new }
-{
-    let mut packer = Packer::new(alloc, &mut *drain, hasher);
-    let mut reader = FrameReader::new(alloc, HashedFeed::new(&mut *feed));
-    let outcome = write_steps(alloc, &mut reader, &mut packer, writing);
-    let digest = reader.feed.digest();
-    // What is known of the devices comes back with the references themselves.
-    let _feed = reader.into_feed().into_inner();
-    let _drain = packer.into_drain();
-    let counts = outcome?;
-    Ok(InputReceipt {
-        counts,
-        input: digest,
-    })
 }

@@ -3,17 +3,19 @@
 ghost use Rattle.std.specs.Prelude.{◌≡◌, IfOk, IfErr, OnOk, OnErr, Ok, Err, Some};
 ghost use Rattle.pbf_header.specs.Header.{header_of};
 ghost use Rattle.pbf_frame.specs.declared.stop.Stop.TheVariants.{Changed};
+ghost use Rattle.pbf_pass.specs.Again.{GathersFile};
 ghost use Rattle.pbf_pass.specs.Judged.{judged_file};
 ghost use Rattle.pbf_pass.specs.Given.{GaveFile, Took};
-ghost use Rattle.pbfcut.specs.Pick.{pick_of, Packed, PacksFront};
+ghost use Rattle.pbfcut.specs.Pick.{pick_of};
 ghost use Rattle.pbf_pass.specs.HeaderLimit.{IsShort};
 ghost use Rattle.pbf_pass.specs.Stops.{KeepsDrain, ReadFailed, WriteFailed};
-ghost use Rattle.pbfcut.specs.Repeat.{GathersAgain, StopsAgain, as_change};
+ghost use Rattle.pbfcut.specs.Repeat.{StopsAgain, as_change};
+ghost use Rattle.pbfcut.specs.Write.{Packed, PacksFront};
 
-use crate::pick::{Writing, write};
+use crate::write::{Writing, write};
 use pbf_block::Counts;
 use pbf_frame::{Drain, Feed, Stop};
-use pbf_pass::{Gather, judge};
+use pbf_pass::{Gather, gather_again};
 use std::alloc::Global;
 use std::hash::BuildHasher;
 
@@ -27,7 +29,7 @@ pub(crate) struct Repeat {
 }
 
 impl Repeat {
-    /// A fault that the pass which judges didn't meet is a change.
+    /// A fault of a frame that the pass which judges didn't meet is a change.
     pub(crate) fn changed(self, stop: Stop) -> Stop
         ensures { result ≡ as_change self.number stop }
     {
@@ -50,7 +52,7 @@ impl Repeat {
         }
     }
 
-    /// Gathers the entities of a whole file.
+    /// Gathers the entities of a whole file, whose payloads aren't judged again.
     pub(crate) fn gather<F: Feed, G: Gather>(
         self,
         alloc: Global,
@@ -58,14 +60,14 @@ impl Repeat {
         gathering: &mut G,
     ) -> Result<(), Stop>
         ensures gathered { OnOk result (GaveFile F.Feed feed.old feed.new self.digest
-            (λ file. GathersAgain G.gathered (judged_file (Some file))
+            (λ file. GathersFile G.gathered (judged_file (Some file))
             gathering.old gathering.new)) }
         ensures stops { IfErr result (StopsAgain self (F.remaining feed.old)
             (ReadFailed F.Feed feed.old feed.new) ⊥) }
     {
-        match judge(alloc, feed, gathering) {
-            Ok(told) => self.compare(told.digest),
-            Err(halt) => Err(self.changed(Stop::from(halt))),
+        match gather_again(alloc, feed, gathering, self.number) {
+            Ok(digest) => self.compare(digest),
+            Err(stop) => Err(self.changed(stop)),
         }
     }
 
@@ -90,7 +92,7 @@ impl Repeat {
             (ReadFailed F.Feed feed.old feed.new) (WriteFailed D.Drain drain.old drain.new)) }
         ensures drain { KeepsDrain D.Drain drain.old drain.new }
     {
-        match write(alloc, feed, drain, hasher, writing) {
+        match write(alloc, feed, drain, hasher, writing, self.number) {
             Ok(wrote) => {
                 self.compare(wrote.input)?;
                 Ok(wrote.counts)

@@ -1,12 +1,13 @@
-use Rattle.std.proofs.Common.{inr, [], ◌∷◌, ◌++◌, ◌∙◌, List, ap, arith, rules, refl, sym, subst}
+use Rattle.std.proofs.Common.{◌≡◌, [], ◌∷◌, ◌++◌, ◌∙◌, List, ap, arith, rules, refl, sym, subst}
 use Rattle.std.specs.List.{AllByRecursion}
 use Rattle.osm_entity.specs.Entity.{EntitySpec}
 use Rattle.osm_entity.specs.Ranges.{EntityFits}
 use Rattle.osm_entity.specs.Views.{entity_of}
+use Rattle.pbf_block.specs.Cursors.{entities_left}
 use Rattle.std.proofs.lemmas.Result.{err_from_is_err_and}
 use Rattle.pbfcut.specs.Pick.{Pick, pick_of, picks_of}
 use Rattle.pbfcut.proofs.ShowingLemmas.{entities_more}
-use Rattle.pbfcut.proofs.PickingLemmas.{none_gone, one_picked, one_left, stopped_here, pack_stop, count_picked, count_left}
+use Rattle.pbfcut.proofs.PickingLemmas.{none_gone, one_picked, one_left, stopped_here, changed_here, pack_stop, count_picked, count_left}
 use Rattle.pbfcut.proofs.pick.pack_entities.Goals as goal
 
 pub loop-entity-init : goal.loop-entity-init
@@ -16,7 +17,7 @@ loop-entity-init g c = record {
   picker = c.picker-picker.ensures;
   gone = [];
   split = search rules;
-  fits = search rules;
+  fits = λ all. (let same : entities_left c.into_iter-entity-iterator.result ≡ entities_left c.args.entities = search rules in subst (λ (l : List EntitySpec). AllByRecursion EntityFits l) (sym same) all);
   packed = λ start done h. none_gone g.D.Drain start done _ h;
   counted = search rules;
   going = c.requires.packing;
@@ -31,15 +32,14 @@ loop-entity-preserved-then-picks g c =
     let pick = pick_of c.args.selection in
     let e = entity_of c.in-Some.entity in
     let picked = ap (λ (p : Pick). p (entity_of c.in-Some.entity)) (sym so_far.picker) ∙ sym c.picks.ensures.picked ∙ c.if-picks.true in
-    let fits = subst (λ (l : List EntitySpec). AllByRecursion EntityFits l) c.in-Some.ensures.steps so_far.fits in
     record {
       can = search rules;
       ends = search rules;
       picker = ap picks_of c.picks.ensures.same ∙ so_far.picker;
       gone = so_far.gone ++ e ∷ [];
       split = entities_more so_far.gone _ _ _ e c.in-Some.ensures.steps so_far.split;
-      fits = fits.1;
-      packed = λ start done h. one_picked g.D.Drain pick start done so_far.gone e c.loop-entity.packer _ picked (so_far.packed start done h) fits.0 c.in_ok-push.ensures.pending c.in_ok-push.ensures.written;
+      fits = λ all. (subst (λ (l : List EntitySpec). AllByRecursion EntityFits l) c.in-Some.ensures.steps (so_far.fits all)).1;
+      packed = λ start done h. one_picked g.D.Drain pick start done so_far.gone e c.loop-entity.packer _ picked (so_far.packed start done h) (c.fits.ensures.0 c.if-not-fits.false) c.in_ok-push.ensures.pending c.in_ok-push.ensures.written;
       counted = count_picked pick _ _ e _ _ _ c.in-Some.ensures.steps picked c.take.ensures so_far.counted;
       going = c.in_ok-push.ensures.packing.1;
       begun = c.push.ensures.header;
@@ -53,14 +53,13 @@ loop-entity-preserved g c =
     let pick = pick_of c.args.selection in
     let e = entity_of c.in-Some.entity in
     let picked = ap (λ (p : Pick). p (entity_of c.in-Some.entity)) (sym so_far.picker) ∙ sym c.picks.ensures.picked ∙ c.if-picks.false in
-    let fits = subst (λ (l : List EntitySpec). AllByRecursion EntityFits l) c.in-Some.ensures.steps so_far.fits in
     record {
       can = search rules;
       ends = search rules;
       picker = ap picks_of c.picks.ensures.same ∙ so_far.picker;
       gone = so_far.gone ++ e ∷ [];
       split = entities_more so_far.gone _ _ _ e c.in-Some.ensures.steps so_far.split;
-      fits = fits.1;
+      fits = λ all. (subst (λ (l : List EntitySpec). AllByRecursion EntityFits l) c.in-Some.ensures.steps (so_far.fits all)).1;
       packed = λ start done h. one_left g.D.Drain pick start done so_far.gone e c.loop-entity.packer picked (so_far.packed start done h);
       counted = count_left pick _ e _ _ _ c.in-Some.ensures.steps picked so_far.counted;
       going = so_far.going;
@@ -75,14 +74,27 @@ returns-in_err-push-clause-stopped g c =
     let so_far = c.loop-entity.invariant in
     let pick = pick_of c.args.selection in
     let picked = ap (λ (p : Pick). p (entity_of c.in-Some.entity)) (sym so_far.picker) ∙ sym c.picks.ensures.picked ∙ c.if-picks.true in
-    let fits = subst (λ (l : List EntitySpec). AllByRecursion EntityFits l) c.in-Some.ensures.steps so_far.fits in
     rw (p.1, p.2) (record {
-      cause = pack_stop _ _ _ _ so_far.drain_counts (c.in_err-push.ensures.stops so_far.going);
-      front = inr (
-        refl,
-        record {
-          begun = λ start done h.
-              stopped_here g.D.Drain pick start done so_far.gone _ _ _ (entity_of c.in-Some.entity) c.loop-entity.packer c.push.new.self c.in-Some.ensures.steps so_far.split picked (so_far.packed start done h) fits.0 (c.in_err-push.ensures.front so_far.going);
-        },
-      );
+      cause = pack_stop _ _ _ _ _ so_far.drain_counts (c.in_err-push.ensures.stops so_far.going);
+      begins = record {
+        begun = λ start done h.
+            stopped_here g.D.Drain pick start done so_far.gone _ _ _ (entity_of c.in-Some.entity) c.loop-entity.packer c.push.new.self c.in-Some.ensures.steps so_far.split picked (so_far.packed start done h) (c.fits.ensures.0 c.if-not-fits.false) (c.in_err-push.ensures.front so_far.going);
+      };
     })
+
+pub returns-then-not-fits-clause-stopped : goal.returns-then-not-fits-clause-stopped
+returns-then-not-fits-clause-stopped g c =
+    let so_far = c.loop-entity.invariant in
+    record {
+      cause = (
+        refl,
+        λ all.
+        let fits = c.fits.ensures.1 (subst (λ (l : List EntitySpec). AllByRecursion EntityFits l) c.in-Some.ensures.steps (so_far.fits all)).0 in
+        let is = c.if-not-fits.true in
+        let bad : ⊥ = cc in
+        bad,
+      );
+      begins = record {
+        begun = λ start done h. changed_here g.D.Drain (pick_of c.args.selection) start done so_far.gone _ _ c.loop-entity.packer so_far.split (so_far.packed start done h);
+      };
+    }

@@ -16,7 +16,7 @@ invariant-loop-entity g l = record {
   picker : picks_of l.picker ≡ pick_of l.selection;
   gone : List EntitySpec;
   split : gone ++ entities_left l.entity-iterator ≡ entities_left l.fn.entities;
-  fits : AllByRecursion EntityFits (entities_left l.entity-iterator);
+  fits : AllByRecursion EntityFits (entities_left l.fn.entities) → AllByRecursion EntityFits (entities_left l.entity-iterator);
   packed : (start : g.row.D.Denot) (done : List EntitySpec) → HasPacked g.D.Drain start done l.initial.packer → HasPacked g.D.Drain start (done ++ filter (pick_of l.selection) gone) l.packer;
   counted : CountedOn l.counts (filter (pick_of l.selection) (entities_left l.entity-iterator)) (filter (pick_of l.selection) (entities_left l.fn.entities));
   going : IsPacking l.packer;

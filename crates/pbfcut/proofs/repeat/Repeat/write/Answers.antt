@@ -1,8 +1,10 @@
 use Rattle.std.proofs.lemmas.Result.{err_from_is_err_and}
 use Rattle.pbf_header.specs.Header.{header_of}
 use Rattle.pbfcut.specs.Pick.{pick_of}
+use Rattle.pbf_pass.specs.Stops.{ReadFailed, WriteFailed}
 use Rattle.pbf_pass.proofs.GivenLemmas.{tells_file}
-use Rattle.pbfcut.proofs.PickingLemmas.{packed_front, packed_told}
+use Rattle.pbfcut.proofs.RepeatLemmas.{stops_as_change}
+use Rattle.pbfcut.proofs.WritingLemmas.{packed_front, packed_told}
 use Rattle.pbfcut.proofs.repeat.Repeat.write.Goals as goal
 
 pub returns-in_err-compare-in-Ok-clause-beginning : goal.returns-in_err-compare-in-Ok-clause-beginning
@@ -12,3 +14,7 @@ returns-in_err-compare-in-Ok-clause-beginning g c =
     let took = given.holding in
     rw p.1 (packed_front (pick_of c.args.writing.selection) (header_of c.args.writing.header.now) _ _ _ _ took.written
     (packed_told _ _ _ _ given.file took.written (tells_file g.F.Feed _ _ _ _ given) took.holding) took.added.told)
+
+pub returns-in-Err-clause-stops : goal.returns-in-Err-clause-stops
+returns-in-Err-clause-stops g c =
+    rw c.changed.ensures (stops_as_change c.args.self (g.F.Feed.remaining c.args.feed.now) (ReadFailed g.F.Feed c.args.feed.now c.write.new.feed) (WriteFailed g.D.Drain c.args.drain.now c.write.new.drain) c.in-Err.stop c.in-Err.ensures.stops)

@@ -1,9 +1,10 @@
 use Rattle.std.proofs.Common.{zero, suc, [], rules}
 use Rattle.pbf_frame.proofs.Passed.{added_as}
 use Rattle.pbf_header.specs.Header.{header_of}
-use Rattle.pbfcut.specs.Pick.{Packed, pick_of}
+use Rattle.pbfcut.specs.Pick.{pick_of}
+use Rattle.pbfcut.specs.Write.{Packed}
 use Rattle.pbf_pass.proofs.GivenLemmas.{supplied_as, holds_of_file}
-use Rattle.pbfcut.proofs.pick.write.Goals as goal
+use Rattle.pbfcut.proofs.write.write.Goals as goal
 
 pub returns-clause-packed : goal.returns-clause-packed
 returns-clause-packed g c =

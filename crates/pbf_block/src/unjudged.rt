@@ -1,0 +1,86 @@
+//! A PrimitiveBlock that is read again, without being judged.
+
+ghost use Rattle.std.specs.Prelude.{◌≡◌, ◌+◌, ◌*◌, ◌≤◌, ◌<◌, ◌^◌, None, Ok, IfOk, IfSome, length, filter};
+ghost use Rattle.std.specs.List.{AllByRecursion};
+ghost use Rattle.pbf_wire.specs.Faults.{fields_in};
+ghost use Rattle.osm_entity.specs.Ranges.{EntityFits};
+ghost use Rattle.pbf_block.specs.Cursors.{entities_left};
+ghost use Rattle.pbf_block.specs.Judgement.{block_fault};
+ghost use Rattle.pbf_block.specs.Kinds.{is_among};
+ghost use Rattle.pbf_block.specs.Payload.{entities};
+ghost use Rattle.pbf_block.specs.Runs.{joined_runs, runs_left};
+ghost use Rattle.pbf_block.specs.Scale.{scale_of, table_of};
+
+use crate::block::bytes_in;
+use crate::entities::Entities;
+use crate::kinds::Kinds;
+use crate::message::STRINGTABLE;
+use crate::runs::Runs;
+use crate::scale::scale_in;
+use osm_entity::Scale;
+use pbf_strings::Table;
+use pbf_wire::last_field;
+use std::alloc::{AllocError, Global};
+
+/// A PrimitiveBlock that is opened and not judged, for a pass over bytes that another pass has judged. It borrows the payload, and
+/// holds the place of each text of its string table.
+#[derive(Drop)]
+pub struct UnjudgedBlock<'a> {
+    payload: &'a [u8],
+    at: u64,
+    table: Table<'a>,
+    scale: Scale,
+    ghost room: { at + length payload.now ≤ 2 ^ 63 },
+    ghost texts: { table ≡ table_of (fields_in at payload.now) },
+    ghost scaled: { scale ≡ scale_of (fields_in at payload.now) },
+}
+
+impl<'a> UnjudgedBlock<'a> {
+    /// Opens a PrimitiveBlock whose first byte stands at `at` in the file. Nothing is judged but what memory hangs on: `None` where
+    /// the string table has more texts than it may have.
+    ///
+    /// Memory is asked for the places of the table's texts alone.
+    pub fn open(
+        alloc: Global,
+        payload: &'a [u8],
+        at: u64,
+    ) -> Result<Option<UnjudgedBlock<'a>>, AllocError>
+        requires placed { at + length payload.now ≤ 2 ^ 63 }
+        requires short { length payload.now < 33554432 }
+        ensures payload { IfOk result (λ opened. IfSome opened
+            (λ block. (block.payload.now ≡ payload.now) × (block.at ≡ at))) }
+        ensures faulty { result ≡ Ok None → block_fault at payload.now ≡ None → ⊥ }
+    {
+        let texts = bytes_in(last_field(payload, at, STRINGTABLE));
+        if Table::judge_count(texts, at).is_err() {
+            return Ok(None);
+        }
+        let table = Table::open(alloc, texts)?;
+        Ok(Some(UnjudgedBlock {
+            payload,
+            at,
+            table,
+            scale: scale_in(payload, at),
+        }))
+    }
+
+    /// The entities of these kinds, in order, if the block has no fault; otherwise some entities, which may not be writable. Messages
+    /// of other kinds aren't looked into. Takes no memory.
+    pub fn entities_among(&self, kinds: Kinds) -> Entities<'_>
+        ensures exact { block_fault self.now.at self.now.payload.now ≡ None → entities_left result
+            ≡ filter (is_among kinds) (entities self.now.at self.now.payload.now) }
+        ensures fits { block_fault self.now.at self.now.payload.now ≡ None
+            → AllByRecursion EntityFits (entities_left result) }
+    {
+        Entities::over(self.payload, self.at, &self.table, self.scale, kinds)
+    }
+
+    /// The entities of these kinds, in order, those of a dense message together, if the block has no fault; otherwise some entities.
+    /// Messages of other kinds aren't looked into. Takes no memory.
+    pub fn runs_among(&self, kinds: Kinds) -> Runs<'_>
+        ensures { block_fault self.now.at self.now.payload.now ≡ None → joined_runs (runs_left result)
+            ≡ filter (is_among kinds) (entities self.now.at self.now.payload.now) }
+    {
+        Runs::over(self.payload, self.at, &self.table, self.scale, kinds)
+    }
+}

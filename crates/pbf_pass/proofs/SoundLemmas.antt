@@ -1,0 +1,90 @@
+-- Frames whose payloads have no fault.
+use Rattle.std.proofs.Common.{◌≡◌, List, [], ◌∷◌, ◌++◌, Option, Some, None, refl, sym, ap, ◌∙◌, subst}
+use Rattle.std.specs.List.{AllByRecursion}
+use Rattle.std.specs.Option.{option_map}
+use Rattle.pbf_wire.specs.declared.fault.Fault.{Fault}
+use Rattle.pbf_frame.specs.Frames.{FrameSpec}
+use Rattle.pbf_frame.specs.Verdict.{Verdict, with_first, with_first_known, with_all, Gone, Says}
+use Rattle.pbf_frame.proofs.Parting.{none_some, some_same}
+use Rattle.pbf_frame.proofs.VerdictLemmas.{gone_more, gone_split}
+use Rattle.pbf_pass.specs.Again.{IsSound, IsFaulty}
+use Rattle.pbf_pass.specs.Judged.{payload_fault, sound_first, sound_front, fully, fully_known}
+
+-- the first ones of such frames
+pub sound_first_ones : (fs gs : List FrameSpec) → AllByRecursion IsSound (fs ++ gs) → AllByRecursion IsSound fs
+sound_first_ones [] gs sound = tt
+sound_first_ones (f ∷ fs) gs sound = (sound.0, sound_first_ones fs gs sound.1)
+
+-- and the last one
+pub sound_last : (fs : List FrameSpec) (f : FrameSpec) → AllByRecursion IsSound (fs ++ f ∷ []) → IsSound f
+sound_last [] f sound = sound.0
+sound_last (g ∷ fs) f sound = sound_last fs f sound.1
+
+-- ---- the verdict of all phases
+
+-- on such frames it is that of frames alone
+pub front_of_sound : (fs : List FrameSpec) (e : Option Fault) → AllByRecursion IsSound fs → sound_front fs e ≡ (fs, e)
+front_of_sound [] e sound = refl
+front_of_sound (f ∷ fs) e sound = ap (λ (o : Option Fault). sound_first o f (sound_front fs e)) sound.0 ∙ ap (with_first f) (front_of_sound fs e sound.1)
+
+front_over : (fs gs : List FrameSpec) (e : Option Fault) → AllByRecursion IsSound fs → sound_front (fs ++ gs) e ≡ with_all fs (sound_front gs e)
+front_over [] gs e sound = refl
+front_over (f ∷ fs) gs e sound = ap (λ (o : Option Fault). sound_first o f (sound_front (fs ++ gs) e)) sound.0 ∙ ap (with_first f) (front_over fs gs e sound.1)
+
+-- such frames are gone by both verdicts
+pub fully_gone : (first rest : Option Verdict) (fs : List FrameSpec) → AllByRecursion IsSound fs → Gone first fs rest → Gone (fully_known first) fs (fully_known rest)
+fully_gone first rest fs sound gone = ap fully_known gone ∙ of rest where
+  of : (rest : Option Verdict) → fully_known (option_map (with_all fs) rest) ≡ option_map (with_all fs) (fully_known rest)
+  of None = refl
+  of (Some v) = ap (λ (v : Verdict). Some v) (front_over fs v.0 v.1 sound)
+
+-- where it has no fault, the frames are such
+pub sound_frames : (fs : List FrameSpec) (e : Option Fault) → (sound_front fs e).1 ≡ None → AllByRecursion IsSound fs
+sound_frames [] e is = tt
+sound_frames (f ∷ fs) e is = of (payload_fault f) refl (λ rest. sound_frames fs e rest) is where
+  of : (o : Option Fault) → payload_fault f ≡ o → ((sound_front fs e).1 ≡ None → AllByRecursion IsSound fs) → (sound_first o f (sound_front fs e)).1 ≡ None → AllByRecursion IsSound (f ∷ fs)
+  of None h later is = (h, later is)
+  of (Some x) h later is = absurd (none_some _ _ is refl)
+
+-- and there is no fault of frames
+pub ends_well : (fs : List FrameSpec) (e : Option Fault) → (sound_front fs e).1 ≡ None → e ≡ None
+ends_well fs e is = sym (ap (λ (v : Verdict). v.1) (front_of_sound fs e (sound_frames fs e is))) ∙ is
+
+-- these are the frames of a file without a fault
+pub all_sound : (fs all : List FrameSpec) → Some (fully (fs, None)) ≡ Some (all, None) → (fs ≡ all) × AllByRecursion IsSound fs
+all_sound fs all is =
+    let whole : fully (fs, None) ≡ (all, None) = some_same _ _ is in
+    let sound = sound_frames fs None (ap (λ (v : Verdict). v.1) whole) in (ap (λ (v : Verdict). v.0) (sym (front_of_sound fs None sound) ∙ whole), sound)
+
+-- what follows the frames done, in such a file
+pub rest_sound : (first mid : Option Verdict) (fs all : List FrameSpec) → Gone first fs mid → fully_known first ≡ Some (all, None) → (rest : Verdict) × (mid ≡ Some rest) × (all ≡ fs ++ rest.0) × AllByRecursion IsSound all
+rest_sound None mid fs all gone is = absurd (none_some _ _ refl is)
+rest_sound (Some v) mid fs all gone is =
+    let whole : fully v ≡ (all, None) = some_same _ _ is in
+    let sound = sound_frames v.0 v.1 (ap (λ (w : Verdict). w.1) whole) in
+    let same : v.0 ≡ all = ap (λ (w : Verdict). w.0) (sym (front_of_sound v.0 v.1 sound) ∙ whole) in
+    let (rest, follows, split) = gone_split (Some v) mid fs v gone refl in (rest, follows, sym same ∙ split, subst (λ (l : List FrameSpec). AllByRecursion IsSound l) same sound)
+
+-- ---- a file that has a fault
+
+faulty_known : (first : Option Verdict) → ((v : Verdict) → first ≡ Some v → (fully v).1 ≡ None → ⊥) → IsFaulty (fully_known first)
+faulty_known None wrong frames is = none_some _ _ refl is
+faulty_known (Some v) wrong frames is = wrong v refl (ap (λ (v : Verdict). v.1) (some_same _ _ is))
+
+-- in the frames after these
+pub faulty_rest : (first rest : Option Verdict) (fs : List FrameSpec) (e : Fault) → Gone first fs rest → Says rest ([], Some e) → IsFaulty (fully_known first)
+faulty_rest first rest fs e gone says = faulty_known first wrong where
+  wrong : (v : Verdict) → first ≡ Some v → (fully v).1 ≡ None → ⊥
+  wrong v is well =
+      let (left, follows, split) = gone_split first rest fs v gone is in
+      let whole : v ≡ with_all fs left = some_same _ _ (sym is ∙ gone ∙ ap (λ (k : Option Verdict). option_map (with_all fs) k) follows) in
+      let ends : left.1 ≡ Some e = ap (λ (k : Verdict). k.1) (subst (λ (k : Option Verdict). Says k ([], Some e)) follows says) in
+      none_some _ _ (ends_well v.0 v.1 well) (ap (λ (k : Verdict). k.1) whole ∙ ends)
+
+-- in the payload of the frame after these
+pub faulty_frame : (first mid rest : Option Verdict) (fs : List FrameSpec) (f : FrameSpec) → Gone first fs mid → mid ≡ with_first_known f rest → (IsSound f → ⊥) → IsFaulty (fully_known first)
+faulty_frame first mid rest fs f gone is unsound = faulty_known first wrong where
+  wrong : (v : Verdict) → first ≡ Some v → (fully v).1 ≡ None → ⊥
+  wrong v known well =
+      let (left, follows, split) = gone_split first rest (fs ++ f ∷ []) v (gone_more first mid rest fs f gone is) known in
+      unsound (sound_last fs f (sound_first_ones (fs ++ f ∷ []) left.0 (subst (λ (l : List FrameSpec). AllByRecursion IsSound l) split (sound_frames v.0 v.1 well))))

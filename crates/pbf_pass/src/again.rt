@@ -1,0 +1,126 @@
+//! A pass after the one that judged the file. It reads frames and gathers their entities, and judges no payload: that its bytes are
+//! those of the first pass is told by their digest, at the end.
+
+ghost use Rattle.std.specs.Prelude.{◌≡◌, ◌≤◌, ◌<◌, ◌+◌, ◌^◌, Some, IfOk, IfErr, OnOk, length};
+ghost use Rattle.pbf_frame.specs.Next.{IsReading, place_of, held_by, verdict};
+ghost use Rattle.pbf_pass.specs.Again.{GathersPayload, GathersFrame, GathersFile, StopsAtPayload, StopsAtFrame, StopsUnjudged};
+ghost use Rattle.pbf_pass.specs.Given.{GaveRest, GaveFile};
+ghost use Rattle.pbf_pass.specs.Judged.{fully_known, judged_file};
+ghost use Rattle.pbf_pass.specs.Pass.{IsStep};
+ghost use Rattle.pbf_pass.specs.Payload.{primitive_block, lent_by};
+ghost use Rattle.pbf_pass.specs.Stops.{KeepsFeed, ReadFailed};
+
+use crate::hashed::HashedFeed;
+use crate::pass::{Gather, gather_runs};
+use pbf_block::UnjudgedBlock;
+use pbf_frame::{Feed, Frame, FrameKind, FrameReader, Stop};
+use std::alloc::Global;
+
+/// Gathers those entities of a PrimitiveBlock that matter, if it has no fault, in a pass of this number.
+fn gather_block<G: Gather>(
+    alloc: Global,
+    payload: &[u8],
+    at: u64,
+    gathering: &mut G,
+    number: u8,
+) -> Result<(), Stop>
+    requires placed { at + length payload.now ≤ 2 ^ 63 }
+    requires short { length payload.now < 33554432 }
+    ensures gathered { OnOk result (GathersPayload G.gathered gathering.old gathering.new
+        (primitive_block at payload.now)) }
+    ensures stopped { IfErr result (StopsAtPayload number ⊥ (primitive_block at payload.now)) }
+{
+    let Some(block) = UnjudgedBlock::open(alloc, payload, at)? else {
+        return Err(Stop::Changed(number));
+    };
+    gather_runs(block.runs_among(G::kinds()), gathering)?;
+    Ok(())
+}
+
+/// Gathers the entities of a frame's payload, if it has no fault, in a pass of this number.
+fn gather_payload<G: Gather>(
+    alloc: Global,
+    frame: &Frame<'_>,
+    gathering: &mut G,
+    number: u8,
+) -> Result<(), Stop>
+    ensures gathered { OnOk result (GathersPayload G.gathered gathering.old gathering.new
+        (lent_by frame.now)) }
+    ensures stopped { IfErr result (StopsAtPayload number ⊥ (lent_by frame.now)) }
+{
+    match frame.kind {
+        FrameKind::Data => {
+            gather_block(alloc, frame.payload, frame.payload_at, gathering, number)
+        }
+        FrameKind::Header | FrameKind::Other => Ok(()),
+    }
+}
+
+/// Gathers the entities of the next frame in a pass of this number, after the one that judged the file; false at the end of an input
+/// that had its header.
+///
+/// The reader judges frames, but nothing judges their payloads: of a frame that has a fault anything may be gathered, or `Changed`
+/// with the number is answered. After a stop the reader and what was gathered may only be dropped, or the reader taken apart.
+pub fn step_again<F: Feed, G: Gather>(
+    alloc: Global,
+    reader: &mut FrameReader<F>,
+    gathering: &mut G,
+    number: u8,
+) -> Result<bool, Stop>
+    ensures step { IsStep F.Feed reader.old reader.new
+        (GathersFrame G.gathered gathering.old gathering.new)
+        (StopsAtFrame number ⊥) (gathering.new ≡ gathering.old) result }
+    ensures limited { place_of reader.new ≤ 2 ^ 62 }
+    ensures space { held_by reader.new ≤ 33620990 }
+{
+    let Some(frame) = reader.next()? else {
+        return Ok(false);
+    };
+    gather_payload(alloc, &frame, gathering, number)?;
+    Ok(true)
+}
+
+/// Gathers the entities of the frames that are left, by steps.
+fn steps_again<F: Feed, G: Gather>(
+    alloc: Global,
+    reader: &mut FrameReader<F>,
+    gathering: &mut G,
+    number: u8,
+) -> Result<(), Stop>
+    requires { IsReading reader.old }
+    ensures gathered { OnOk result (GaveRest F.Feed reader.old reader.new
+        (λ known. GathersFile G.gathered known gathering.old gathering.new)) }
+    ensures stops { IfErr result (StopsUnjudged number (fully_known (verdict F.remaining reader.old))
+        (ReadFailed F.Feed reader.old.feed reader.new.feed) ⊥) }
+    ensures keeps { KeepsFeed F.Feed reader.old.feed reader.new.feed }
+{
+    'frames: while step_again(alloc, reader, gathering, number)? {}
+    Ok(())
+}
+
+/// Gathers the entities of a whole file in a pass of this number, after the one that judged the file, and answers the digest of its
+/// bytes.
+///
+/// What was gathered has a meaning where the digest is that of the bytes which were judged. `Refused` and `Changed` say that the
+/// file has a fault, so that its bytes are others. Reads each byte once, to the file's end where it answers `Ok`, and holds one frame
+/// at a time. After a stop what was gathered may only be dropped.
+pub fn gather_again<F: Feed, G: Gather>(
+    alloc: Global,
+    feed: &mut F,
+    gathering: &mut G,
+    number: u8,
+) -> Result<[u8; 32], Stop>
+    ensures gathered { IfOk result (λ digest. GaveFile F.Feed feed.old feed.new digest
+        (λ file. GathersFile G.gathered (judged_file (Some file))
+        gathering.old gathering.new)) }
+    ensures stops { IfErr result (StopsUnjudged number (judged_file (F.remaining feed.old))
+        (ReadFailed F.Feed feed.old feed.new) ⊥) }
+{
+    let mut reader = FrameReader::new(alloc, HashedFeed::new(&mut *feed));
+    let outcome = steps_again(alloc, &mut reader, gathering, number);
+    let digest = reader.feed.digest();
+    // What is known of the feed comes back with the reference itself.
+    let _feed = reader.into_feed().into_inner();
+    outcome?;
+    Ok(digest)
+}

@@ -1,0 +1,46 @@
+use Rattle.std.proofs.Common.{◌≡◌, ℕ, List, ap, ap₂, refl, sym, ◌∙◌}
+use Rattle.std.specs.Prelude.{None}
+use Rattle.std.specs.List.{filter}
+use Rattle.std.proofs.lemmas.Result.{err_from_is_err_and}
+use Rattle.osm_entity.specs.Entity.{EntitySpec}
+use Rattle.pbf_block.specs.declared.counts.Counts.{Counts}
+use Rattle.pbf_block.specs.Cursors.{entities_left}
+use Rattle.pbf_block.specs.Judgement.{block_fault}
+use Rattle.pbf_block.specs.Payload.{entities}
+use Rattle.pbf_pass.specs.Counting.{counted_with, counts_of}
+use Rattle.pbf_pass.specs.Payload.{primitive_block}
+use Rattle.pbf_pass.proofs.CountLemmas.{counts_together}
+use Rattle.pbfcut.specs.Pick.{Pick, pick_of}
+use Rattle.pbfcut.proofs.PickingLemmas.{begins_none}
+use Rattle.pbfcut.proofs.WritingLemmas.{stops_again}
+use Rattle.pbfcut.proofs.write.pack_block.Goals as goal
+
+pub returns-in_err-block-clause-stopped : goal.returns-in_err-block-clause-stopped
+returns-in_err-block-clause-stopped g c =
+    let p = err_from_is_err_and c.from_residual.result c.from_residual.ensures.1 in
+    rw (p.1, p.2) (record { cause = tt; begins = λ sound. begins_none g.D.Drain _ _ _ refl })
+
+pub returns-in_err-packed-clause-stopped : goal.returns-in_err-packed-clause-stopped
+returns-in_err-packed-clause-stopped g c =
+    let p = err_from_is_err_and c.from_residual-in_err-packed.result c.from_residual-in_err-packed.ensures.1 in
+    let pick = pick_of c.args.selection in
+    let block = c.in-Some.block in
+    let is = rw c.in-Some.is at c.in_ok-block.ensures.payload in
+    let here : block_fault block.at block.payload.now ≡ block_fault c.args.at c.args.payload.now = ap₂ (λ (at : ℕ) (m : List ℕ). block_fault at m) is.1 is.0 in
+    rw (p.1, p.2) (stops_again g.D.Drain c.args.number pick (primitive_block c.args.at c.args.payload.now) (entities_left c.candidates.result) _ _ _ (λ sound. c.candidates.ensures.fits (here ∙ sound))
+    (λ sound. c.candidates.ensures.picked (here ∙ sound) ∙ ap₂ (λ (at : ℕ) (m : List ℕ). filter pick (entities at m)) is.1 is.0) c.in_err-packed.ensures.stopped)
+
+pub returns-clause-packed : goal.returns-clause-packed
+returns-clause-packed g c =
+    let pick = pick_of c.args.selection in
+    let block = c.in-Some.block in
+    let is = rw c.in-Some.is at c.in_ok-block.ensures.payload in
+    let here : block_fault block.at block.payload.now ≡ block_fault c.args.at c.args.payload.now = ap₂ (λ (at : ℕ) (m : List ℕ). block_fault at m) is.1 is.0 in
+    let es = filter pick (entities_left c.candidates.result) in
+    record {
+      es = es;
+      are = λ sound. c.candidates.ensures.picked (here ∙ sound) ∙ ap₂ (λ (at : ℕ) (m : List ℕ). filter pick (entities at m)) is.1 is.0;
+      packs = c.in_ok-packed.ensures.packed.packs;
+      going = c.in_ok-packed.ensures.packed.going;
+      counted = λ done before. c.add.ensures ∙ ap₂ (λ (a b : Counts). counted_with a b) before c.in_ok-packed.ensures.counted ∙ counts_together done es;
+    }

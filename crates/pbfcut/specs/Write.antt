@@ -1,0 +1,57 @@
+-- The pass that writes, over payloads that it doesn't judge: what is written is told of files without a fault.
+use Rattle.std.specs.Prelude.{◌≡◌, ℕ, List, ◌++◌, Option, Some, None}
+use Rattle.std.specs.List.{filter}
+use Rattle.osm_entity.specs.Entity.{EntitySpec}
+use Rattle.osm_pack.specs.Cuts.{written_file}
+use Rattle.osm_pack.specs.Packing.{Packing, IsPacking}
+use Rattle.pbf_header.specs.Header.{HeaderSpec}
+use Rattle.pbf_block.specs.declared.counts.Counts.{Counts}
+use Rattle.pbf_frame.specs.declared.device.Drain as drain
+use Rattle.pbf_frame.specs.declared.stop.Stop.{Stop}
+use Rattle.pbf_frame.specs.Devices.{IsFront}
+use Rattle.pbf_frame.specs.Frames.{FrameSpec}
+use Rattle.pbf_frame.specs.Verdict.{Verdict}
+use Rattle.pbf_pass.specs.Again.{StopsAtPayload}
+use Rattle.pbf_pass.specs.Counting.{counts_of, stored_entities}
+use Rattle.pbf_pass.specs.Judged.{fault_in}
+use Rattle.pbf_pass.specs.Payload.{Payload, payload_of}
+use Rattle.pbf_pass.specs.Stops.{WriteFailed}
+use Rattle.pbfcut.specs.Pick.{Pick, Packs, Begins, picked_in}
+
+-- ---- one payload, and one frame
+
+-- entities were packed, and counted with those before them; of a payload without a fault they are those that are picked
+pub record PacksAgain {D S H : Type 0} (d : drain.Ghosts D) (pick : Pick) (p : Payload) (old new : Packing D S H) (before now : Counts) : Type 0 where
+  pub es : List EntitySpec
+  pub are : fault_in p ≡ None → es ≡ picked_in pick p
+  pub packs : Packs d old new es
+  pub going : IsPacking new
+  pub counted : (done : List EntitySpec) → before ≡ counts_of done → now ≡ counts_of (done ++ es)
+
+-- a call stopped at a payload: it has a fault, which says that the bytes changed since they were judged; or a write failed, or memory was
+-- refused. If it has none, a beginning of what is picked of it went out
+pub record FailsAgain {D S H : Type 0} (d : drain.Ghosts D) (number : ℕ) (pick : Pick) (p : Payload) (old new : Packing D S H) (stop : Stop) : Type 0 where
+  pub cause : StopsAtPayload number (WriteFailed d old.drain new.drain) p stop
+  pub begins : fault_in p ≡ None → Begins d old new (picked_in pick p)
+
+-- the same of a frame
+abbrev pub PacksFrameAgain : {D S H : Type 0} → drain.Ghosts D → Pick → (old new : Packing D S H) → (before now : Counts) → FrameSpec → Type 0
+PacksFrameAgain d pick old new before now f = PacksAgain d pick (payload_of f) old new before now
+
+abbrev pub FailsAtFrame : {D S H : Type 0} → drain.Ghosts D → ℕ → Pick → Packing D S H → Packing D S H → FrameSpec → Stop → Type 0
+FailsAtFrame d number pick old new f stop = FailsAgain d number pick (payload_of f) old new stop
+
+-- ---- a file
+
+-- these bytes are the header and what is picked of the entities of these frames, and these are the numbers of those
+pub record IsPacked (pick : Pick) (h : HeaderSpec) (counts : Counts) (frames : List FrameSpec) (written : List ℕ) : Type 0 where
+  pub counted : counts ≡ counts_of (filter pick (stored_entities frames))
+  pub is : written ≡ written_file h (filter pick (stored_entities frames))
+
+-- if the file has no fault, they are those of its frames
+abbrev pub Packed : Pick → HeaderSpec → Counts → Option Verdict → List ℕ → Type 0
+Packed pick h counts known written = (frames : List FrameSpec) → known ≡ Some (frames, None) → IsPacked pick h counts frames written
+
+-- if the file has no fault, a beginning of the header and of what is picked went out
+abbrev pub PacksFront : Pick → HeaderSpec → Option Verdict → (old new : Option (List ℕ)) → Type 0
+PacksFront pick h known old new = (frames : List FrameSpec) → known ≡ Some (frames, None) → IsFront old new (written_file h (filter pick (stored_entities frames)))
