@@ -1,5 +1,5 @@
 -- Entities that are picked, on their way into the drain.
-use Rattle.std.proofs.Common.{◌≡◌, ◌⊎◌, Err, ℕ, ◌≤◌, List, [], ◌∷◌, ◌++◌, append_assoc, append-nil, Bool, true, false, Option, Some, None, subst, inl, inr, refl, sym, ap, ◌∙◌, arith}
+use Rattle.std.proofs.Common.{◌≡◌, ℕ, ◌≤◌, List, [], ◌∷◌, ◌++◌, append_assoc, append-nil, Bool, true, false, Option, None, subst, inr, refl, sym, ap, ◌∙◌, arith}
 use Rattle.std.specs.Prelude.{cond}
 use Rattle.std.proofs.lemmas.List.Elements.{filter-append}
 use Rattle.std.proofs.lemmas.List.Sums.{sum_by-cons}
@@ -24,10 +24,10 @@ use Rattle.osm_pack.proofs.CutLemmas.{push_keeps, kept_none}
 use Rattle.osm_pack.proofs.OpenLemmas.{alone}
 use Rattle.osm_pack.proofs.RunLemmas.{run_keeps, run_kept, run_ends, pending_push, written_push}
 use Rattle.std.proofs.lemmas.Grind.{flat_map-append}
-use Rattle.pbf_pass.specs.Counting.{nodes_of, ways_of, relations_of, count_one, counts_of, stored_entities, frame_entities}
+use Rattle.pbf_pass.specs.Counting.{nodes_of, ways_of, relations_of, count_one, stored_entities, frame_entities}
 use Rattle.pbf_pass.proofs.CountLemmas.{CountedOn, stored_one}
 use Rattle.pbf_block.specs.declared.counts.Counts.{Counts}
-use Rattle.pbfcut.specs.Pick.{Pick, HasPacked, BeginsAll, Packs, Begins, StopsPacking, StopsAmong}
+use Rattle.pbfcut.specs.Pick.{Pick, HasPacked, BeginsAll, Begins, StopsPacking, StopsAmong}
 use Rattle.pbf_pass.specs.Stops.{Caused, Only, unchanged, WriteFailed}
 
 all_push : {A : Type 0} (P : A → Type 0) (xs : List A) (x : A) → AllByRecursion P xs → P x → AllByRecursion P (xs ++ x ∷ [])

@@ -31,7 +31,7 @@ use Rattle.pbf_pass.proofs.GivenLemmas.{Tells}
 use Rattle.pbf_pass.proofs.SoundLemmas.{sound_first_ones, sound_last, all_sound, rest_sound}
 use Rattle.pbf_pass.proofs.StepLemmas.{StoppedStep}
 use Rattle.pbfcut.specs.Pick.{Pick, HasPacked, BeginsAll, Begins, StopsAmong, picked_in}
-use Rattle.pbfcut.specs.Write.{PacksAgain, FailsAgain, PacksFrameAgain, FailsAtFrame, IsPacked, Packed, PacksFront}
+use Rattle.pbfcut.specs.Write.{PacksAgain, FailsAgain, PacksFrameAgain, FailsAtFrame, Packed, PacksFront}
 use Rattle.pbfcut.proofs.PickingLemmas.{picked_one, front_of, begins_packed, none_gone}
 
 -- ---- the whole file

@@ -205,6 +205,7 @@ pub(crate) fn pack_entities<D: Drain, S: BuildHasher>(
 
 /// Judges a PrimitiveBlock whose first byte stands at `at` in the file, packs what is picked of it, and answers the numbers of
 /// these entities.
+#[tactic(auto, using(crate::proofs::PickingLemmas::stops_judged))]
 fn pack_block<D: Drain, S: BuildHasher>(
     alloc: Global,
     payload: &[u8],

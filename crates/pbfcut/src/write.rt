@@ -173,8 +173,14 @@ fn write_steps<F: Feed, D: Drain, S: BuildHasher>(
 {
     let mut counts = Counts::none();
     packer.put_header(writing.header)?;
-    'frames: while step_pack_again(alloc, reader, &mut counts, writing.selection, number, packer)? {
-    }
+    'frames: while step_pack_again(
+        alloc,
+        reader,
+        &mut counts,
+        writing.selection,
+        number,
+        packer,
+    )? {}
     packer.finish()?;
     Ok(counts)
 }

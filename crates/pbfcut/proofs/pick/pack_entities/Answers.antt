@@ -89,10 +89,10 @@ returns-then-not-fits-clause-stopped g c =
       cause = (
         refl,
         λ all.
-        let fits = c.fits.ensures.1 (subst (λ (l : List EntitySpec). AllByRecursion EntityFits l) c.in-Some.ensures.steps (so_far.fits all)).0 in
-        let is = c.if-not-fits.true in
-        let bad : ⊥ = cc in
-        bad,
+            let fits = c.fits.ensures.1 (subst (λ (l : List EntitySpec). AllByRecursion EntityFits l) c.in-Some.ensures.steps (so_far.fits all)).0 in
+            let is = c.if-not-fits.true in
+            let bad : ⊥ = cc in
+            bad,
       );
       begins = record {
         begun = λ start done h. changed_here g.D.Drain (pick_of c.args.selection) start done so_far.gone _ _ c.loop-entity.packer so_far.split (so_far.packed start done h);

@@ -1,16 +1,14 @@
-use Rattle.std.proofs.Common.{◌≡◌, ℕ, List, ap, ap₂, refl, sym, ◌∙◌}
-use Rattle.std.specs.Prelude.{None}
+use Rattle.std.proofs.Common.{◌≡◌, ℕ, List, ap₂, refl, ◌∙◌}
 use Rattle.std.specs.List.{filter}
 use Rattle.std.proofs.lemmas.Result.{err_from_is_err_and}
-use Rattle.osm_entity.specs.Entity.{EntitySpec}
 use Rattle.pbf_block.specs.declared.counts.Counts.{Counts}
 use Rattle.pbf_block.specs.Cursors.{entities_left}
 use Rattle.pbf_block.specs.Judgement.{block_fault}
 use Rattle.pbf_block.specs.Payload.{entities}
-use Rattle.pbf_pass.specs.Counting.{counted_with, counts_of}
+use Rattle.pbf_pass.specs.Counting.{counted_with}
 use Rattle.pbf_pass.specs.Payload.{primitive_block}
 use Rattle.pbf_pass.proofs.CountLemmas.{counts_together}
-use Rattle.pbfcut.specs.Pick.{Pick, pick_of}
+use Rattle.pbfcut.specs.Pick.{pick_of}
 use Rattle.pbfcut.proofs.PickingLemmas.{begins_none}
 use Rattle.pbfcut.proofs.WritingLemmas.{stops_again}
 use Rattle.pbfcut.proofs.write.pack_block.Goals as goal
