@@ -145,8 +145,8 @@ pub(crate) struct Writing<'a> {
     pub(crate) selection: Selection<'a>,
 }
 
-/// Writes a header and what is picked of the frames that are left, by steps of a pass of this number, and answers the numbers of these entities: after each
-/// step its clause `space` bounds what the reader and the packer hold together.
+/// Writes a header and what is picked of the frames that are left, by steps of a pass of this number, and answers the numbers of
+/// these entities: after each step its clause `space` bounds what the reader and the packer hold together.
 fn write_steps<F: Feed, D: Drain, S: BuildHasher>(
     alloc: Global,
     reader: &mut FrameReader<F>,
