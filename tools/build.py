@@ -109,13 +109,16 @@ def processor_flags():
     return ["--cpu", "x86-64-v3"] if VERSION_3 <= words else []
 
 
+def free_gigabytes():
+    try:
+        return int(re.search(r"^MemAvailable:\s*(\d+)", open("/proc/meminfo").read(), re.M).group(1)) >> 20
+    except (OSError, AttributeError):
+        return 4
+
+
 def lanes():
     """How many processors to fill: as many as there are, where each has 3 GB of free memory."""
-    try:
-        free = int(re.search(r"^MemAvailable:\s*(\d+)", open("/proc/meminfo").read(), re.M).group(1)) >> 20
-    except (OSError, AttributeError):
-        free = 4
-    return max(1, min(len(os.sched_getaffinity(0)), (free - 1) // 3))
+    return max(1, min(len(os.sched_getaffinity(0)), (free_gigabytes() - 1) // 3))
 
 
 class Build:

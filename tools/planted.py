@@ -9,8 +9,8 @@ in. One that it does not refuse so is tried by itself, and then has to be refuse
 bug took away is no refusal.
 
 FOLDER has the built libraries, FOLDER/NAME/out/rlib/NAME.rlib; with none they are those of this tree, built where they lack. With
---beside each crate waits for the libraries that it stands on, as long as the process PID goes on. N checks run at a time: as many as
-there are processors, where nothing else is said and memory allows.
+--beside each crate waits for the libraries that it stands on, as long as the process PID goes on, and N checks run at a time until it
+ends. Else, and then, as many run as there are processors, where memory allows.
 
 Exit status: 0 each bug was refused; 1 one was not, or cannot be tried; 2 this kit is not called in the way that this script knows,
 and `rt must-fail` and tests/more_edits.sh have to try them, one check for each.
@@ -24,11 +24,12 @@ import signal
 import subprocess
 import sys
 import tempfile
+import threading
 import time
 from concurrent.futures import ThreadPoolExecutor
 from dataclasses import dataclass
 
-from build import NOT_THIS_KIT, TOP, all_below, kit_folder, known_crates, lanes
+from build import NOT_THIS_KIT, TOP, all_below, free_gigabytes, kit_folder, known_crates, lanes
 
 FOLDERS = ("must-fail", "more-edits")
 PARTS = ("src", "specs", "proofs")
@@ -369,11 +370,36 @@ def wait_for(crate, process):
     return None not in ages()
 
 
-def try_crate(crate, process):
+class Lanes:
+    """How many crates are tried at a time: so many while the process beside goes on, and then as many as there are processors and memory."""
+
+    def __init__(self, beside, process):
+        self.beside, self.process, self.taken, self.changed = beside, process, 0, threading.Condition()
+
+    def is_free(self):
+        if self.taken < self.beside:
+            return True
+        is_alone = not self.process or not os.path.exists(f"/proc/{self.process}")
+        return is_alone and self.taken < len(os.sched_getaffinity(0)) and free_gigabytes() > 3
+
+    def __enter__(self):
+        with self.changed:
+            while not self.is_free():
+                self.changed.wait(5)
+            self.taken += 1
+
+    def __exit__(self, *_):
+        with self.changed:
+            self.taken -= 1
+            self.changed.notify()
+
+
+def try_crate(crate, process, lanes):
     try:
         if not wait_for(crate, process):
             return [("each", False, "the libraries that its crate stands on are not built")]
-        return crate.try_all()
+        with lanes:
+            return crate.try_all()
     except Unusable as why:
         return [("each", False, str(why))]
     finally:
@@ -404,8 +430,9 @@ def main():
     left = set(names)
     tried = [Crate(kit, crates, name, given.libraries or os.path.join(TOP, "crates"), left) for name in names]
     count, failed, started = 0, 0, time.monotonic()
-    with ThreadPoolExecutor(given.lanes) as pool:
-        for crate, told in zip(tried, pool.map(lambda crate: try_crate(crate, given.beside), tried)):
+    room = Lanes(given.lanes, given.beside)
+    with ThreadPoolExecutor(len(tried)) as pool:
+        for crate, told in zip(tried, pool.map(lambda crate: try_crate(crate, given.beside, room), tried)):
             for name, is_refused, found in told:
                 print(f"planted {crate.name}/{name}: {'refused, as it must be' if is_refused else 'NOT REFUSED'}: {found[:160]}", flush=True)
                 failed += not is_refused
