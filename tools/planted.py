@@ -9,8 +9,8 @@ in. One that it does not refuse so is tried by itself, and then has to be refuse
 bug took away is no refusal.
 
 FOLDER has the built libraries, FOLDER/NAME/out/rlib/NAME.rlib; with none they are those of this tree, built where they lack. With
---beside each crate waits for the libraries that it stands on, as long as the process PID goes on, and N checks run at a time until it
-ends. Else, and then, as many run as there are processors, where memory allows.
+--beside each crate waits for the libraries that it stands on, as long as the process PID goes on. N checks run at a time: as many as
+there are processors, where nothing else is said and memory allows; once PID has ended more of them, as both allow.
 
 Exit status: 0 each bug was refused; 1 one was not, or cannot be tried; 2 this kit is not called in the way that this script knows,
 and `rt must-fail` and tests/more_edits.sh have to try them, one check for each.
@@ -371,16 +371,17 @@ def wait_for(crate, process):
 
 
 class Lanes:
-    """How many crates are tried at a time: so many while the process beside goes on, and then as many as there are processors and memory."""
+    """How many crates are tried at a time: so many, and more once the process beside has ended, as processors and memory allow."""
 
-    def __init__(self, beside, process):
-        self.beside, self.process, self.taken, self.changed = beside, process, 0, threading.Condition()
+    def __init__(self, most, process):
+        self.most, self.process, self.taken, self.changed = most, process, 0, threading.Condition()
 
     def is_free(self):
-        if self.taken < self.beside:
-            return True
-        is_alone = not self.process or not os.path.exists(f"/proc/{self.process}")
-        return is_alone and self.taken < len(os.sched_getaffinity(0)) and free_gigabytes() > 3
+        if self.process and not os.path.exists(f"/proc/{self.process}"):
+            # counted once, at that time: checks that have just begun don't have their memory yet
+            self.process = None
+            self.most = min(len(os.sched_getaffinity(0)), self.most + max(0, (free_gigabytes() - 1) // 3))
+        return self.taken < self.most
 
     def __enter__(self):
         with self.changed:
