@@ -4,9 +4,9 @@
 usage: tools/planted.py [--libraries FOLDER] [--beside PID] [--lanes N] [CRATE..]
 
 The prover judges each function by the contracts of those that it calls, and names each function that it refuses. So one check of a
-crate tries many bugs, one in a function. A bug counts as refused where the prover leaves open a goal of the function that it stands
-in. One that it does not refuse so is tried by itself, and then has to be refused in some place. That a proof cites a name which the
-bug took away is no refusal.
+crate tries many bugs, one in a function, and asks for the proofs of these functions alone: the others have a hole in place of one. A
+bug counts as refused where the prover leaves open a goal of the function that it stands in. One that it does not refuse so is tried
+by itself, and then has to be refused in some place. That a proof cites a name which the bug took away is no refusal.
 
 FOLDER has the built libraries, FOLDER/NAME/out/rlib/NAME.rlib; with none they are those of this tree, built where they lack. With
 --beside each crate waits for the libraries that it stands on, as long as the process PID goes on. N checks run at a time: as many as
@@ -36,6 +36,12 @@ PARTS = ("src", "specs", "proofs")
 
 # What the prover says where a proof cannot be read since a name is gone, or waits for another: no refusal of a goal.
 OF_NAMES = re.compile(r"has no field|is not in scope|has no `|was not admitted|was not checked|is not proved")
+# The proof of a function that is not asked for: what cites it goes by the contract.
+HOLE = """use {module}.Statement.{{statement}}
+
+pub {name}_spec : {{M : Type 1}} → statement M
+{name}_spec = ?
+"""
 # What it says where an edited text itself cannot be read.
 UNREAD = re.compile(r"is not in scope|has no field|is no name|operand is missing|expected the end|cannot continue")
 
@@ -68,7 +74,7 @@ class Bug:
         return {(change.home, change.function) for change in self.changes}
 
     def is_placed(self):
-        """Whether all that it changes stands in functions, so that they alone are judged anew."""
+        """Whether all that it changes stands in functions."""
         return all(change.function for change in self.changes)
 
 
@@ -116,6 +122,22 @@ def contract_of(crate, text, place):
         return "", ""
     file, begin = found[0]
     return file, function_at(text_of(crate, file), begin + 1)
+
+
+def functions_of(file, text):
+    """The functions of a file of src/ with the folders of their proofs: those of the module itself, and the methods of the types that it
+    declares. The methods of traits are not among them."""
+    module, owner = module_of(file), ""
+    for line in text.split("\n"):
+        if line.startswith("impl"):
+            name = re.match(r"impl\b(?:<.*>)? ?(\w+)", line)[1]
+            is_here = re.search(rf"^(?:pub(?:\([a-z]+\))? )?(?:struct|enum) {name}\b", text, re.M)
+            owner = name if is_here and " for " not in line else None
+        elif line.startswith("}"):
+            owner = ""
+        found = re.match(r"( *)(?:pub(?:\([a-z]+\))? )?(?:const )?fn (\w+)", line)
+        if found and owner is not None and len(found[1]) == (4 if owner else 0):
+            yield found[2], "/".join(it for it in (module, owner, found[2]) if it)
 
 
 def homes_of(file, text):
@@ -236,7 +258,7 @@ def read_verdict(crate, status, said, texts):
         if wrong and (wrong[1] in texts or wrong[1].startswith(("src/", "specs/"))):
             if not wrong[3] or UNREAD.search(re.sub(r"`[^`]*`", "", wrong[4])):
                 unread = unread or line
-        if wrong and not OF_NAMES.search(wrong[4]):
+        if wrong and not OF_NAMES.search(wrong[4]) and not wrong[1].endswith("/Proof.antt"):  # those are holes
             elsewhere = elsewhere or line
             proof = re.fullmatch(r"proofs/(?:(\S+)/)?(\w+)/\w+\.antt", wrong[1])
             if proof:
@@ -253,7 +275,7 @@ def read_verdict(crate, status, said, texts):
             elsewhere = elsewhere or line
             refuse(searched[1] or "", searched[2], searched[3].removeprefix("`search`"))
     last = said.rstrip("\n").rpartition("\n")[2]
-    if status not in (0, 1) or (status == 1 and not unread and not last.startswith(("logic=not-proved", "only="))):
+    if status not in (0, 1) or (status == 1 and not unread and not last.startswith(("logic=not-proved", "only=", "holes="))):
         raise Unusable("the check gave no verdict:\n" + "\n".join(said.split("\n")[-6:]))
     return Verdict(status == 0, functions, refused, elsewhere, unread)
 
@@ -296,16 +318,34 @@ class Crate:
 
     def paths_of(self, change):
         """What the prover is asked to check for a change: the functions that it may stand in, by the names that a check before told, or
-        else the module."""
+        else by the folders of their proofs, or else the module."""
         named = [(path, name) for path, name in self.functions if name == change.function and change.is_in(path)]
-        return {f"{path}/{name}".lstrip("/").replace("/", "::") for path, name in named} or {module_of(change.home).replace("/", "::")}
+        folders = functions_of(change.home, text_of(self.folder, change.home))
+        known = [f"{path}/{name}".lstrip("/") for path, name in named] or [folder for name, folder in folders if name == change.function]
+        return {path.replace("/", "::") for path in known or [module_of(change.home)]}
 
-    def check(self, bugs, kept):
-        """Checks a copy of the crate that has these bugs, over what the checks before it proved. Where they stand in functions, only
-        those are checked, or their modules, and what they call."""
+    def leave_out(self, room, asked):
+        """Puts a hole in place of the proof of each function of a copy of the crate that is not asked for, in these files by these names."""
+        for file in [file for file in files_in(room) if file.startswith("src/")]:
+            for name, folder in functions_of(file, text_of(room, file)):
+                if (file, name) not in asked and (file, "") not in asked:
+                    proof = os.path.join(room, "proofs", folder)
+                    shutil.rmtree(proof, ignore_errors=True)
+                    os.makedirs(proof)
+                    module = f"Rattle.{self.name}.proofs.{folder.replace('/', '.')}"
+                    with open(os.path.join(proof, "Proof.antt"), "w", encoding="utf-8") as made:
+                        made.write(HOLE.format(module=module, name=name))
+
+    def check(self, bugs, kept, is_whole=False):
+        """Checks a copy of the crate that has these bugs, over what the checks before it proved: the functions that they stand in, and what has
+        no hole of what those call, or all of the crate. Of a bug that stands in no function the whole of its file is asked for."""
+        changes = [change for bug in bugs for change in bug.changes]
+        homes = {(change.home or change.file, change.function) for change in changes}
+        paths = {module_of(file).replace("/", "::") for file, function in homes if not function}
+        paths = sorted(paths.union(*[self.paths_of(change) for change in changes if change.function]))
+        is_whole = is_whole or not all(paths) or not all(file.startswith("src/") for file, _ in homes)
+        only = [] if is_whole else [word for path in paths for word in ("--only", path)] + ["--allow-holes", "--short-goals"]
         texts = edited(self.folder, bugs)
-        paths = sorted({path for bug in bugs for change in bug.changes if bug.is_placed() for path in self.paths_of(change)})
-        only = [word for path in paths for word in ("--only", path)] if all(paths) else []
         with tempfile.TemporaryDirectory(prefix="planted-") as room:
             for part in PARTS:
                 if os.path.isdir(os.path.join(self.folder, part)):
@@ -313,6 +353,8 @@ class Crate:
             for file, text in texts.items():
                 with open(os.path.join(room, file), "w", encoding="utf-8") as made:
                     made.write(text)
+            if not is_whole:
+                self.leave_out(room, homes)
             how = {"cwd": room, "stdin": subprocess.DEVNULL, "stdout": subprocess.PIPE, "stderr": subprocess.STDOUT, "errors": "replace"}
             ran = subprocess.run(self.words() + only + ["--incremental", kept], **how)
             if ran.returncode == -signal.SIGKILL:  # most often memory ran out: once more
@@ -323,13 +365,14 @@ class Crate:
         return verdict
 
     def try_alone(self, bug, kept):
-        """Tries one bug by itself. Answers whether it is refused, and where."""
-        verdict = self.check([bug], kept)
-        if verdict.unread:
-            return False, f"it cannot be read: {verdict.unread}"
-        found = verdict.refusal_of(bug) or verdict.elsewhere
-        if found:
-            return True, found
+        """Tries one bug by itself, with holes and then in the whole crate. Answers whether it is refused, and where."""
+        for is_whole in (False, True):
+            verdict = self.check([bug], kept, is_whole)
+            if verdict.unread:
+                return False, f"it cannot be read: {verdict.unread}"
+            found = verdict.refusal_of(bug) or verdict.elsewhere
+            if found:
+                return True, found
         return False, "THE CRATE IS STILL PROVED" if verdict.is_proved else "refused for a name alone"
 
     def try_all(self):

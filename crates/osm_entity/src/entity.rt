@@ -1,6 +1,6 @@
 //! Entities of any kind.
 
-ghost use Rattle.std.specs.Prelude.{◌≡◌, ◌↔◌, ◌-◌, ◌^◌, min, IsTrue};
+ghost use Rattle.std.specs.Prelude.{◌≡◌, ◌↔◌, ◌-◌, ◌^◌, min, IsTrue, SomeIff};
 ghost use Rattle.std.specs.Option.{option_map};
 ghost use Rattle.osm_entity.specs.Scale.{millis};
 ghost use Rattle.osm_entity.specs.Entity.{entity_id, entity_meta, entity_tags, entity_scale};
@@ -90,6 +90,18 @@ impl<'a> EntityRef<'a> {
             EntityRef::Node(node) => node.weight(),
             EntityRef::Way(way) => way.weight(),
             EntityRef::Relation(relation) => relation.weight(),
+        }
+    }
+
+    /// What the entity counts for in a block, if it fits as [`EntityRef::fits`] tells: all of it is gone over once.
+    pub fn weight_if_fits(&self) -> Option<u64>
+        ensures { SomeIff result (EntityFits (entity_of self.now))
+            (entity_weight (entity_of self.now)) }
+    {
+        match self {
+            EntityRef::Node(node) => node.weight_if_fits(),
+            EntityRef::Way(way) => way.weight_if_fits(),
+            EntityRef::Relation(relation) => relation.weight_if_fits(),
         }
     }
 

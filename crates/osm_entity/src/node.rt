@@ -1,6 +1,6 @@
 //! Nodes.
 
-ghost use Rattle.std.specs.Prelude.{◌≡◌, ◌↔◌, ◌-◌, ◌^◌, min, [], IsTrue, IfOk};
+ghost use Rattle.std.specs.Prelude.{◌≡◌, ◌↔◌, ◌-◌, ◌^◌, min, [], IsTrue, IfOk, SomeIff};
 ghost use Rattle.std.specs.Option.{option_map};
 ghost use Rattle.osm_entity.specs.Scale.{nano_lat, nano_lon, millis};
 ghost use Rattle.osm_entity.specs.Sources.{tags_left};
@@ -11,7 +11,7 @@ ghost use Rattle.osm_entity.specs.Views.{meta_of, node_of, owned_node};
 use crate::meta::{Meta, MetaRef};
 use crate::scale::Scale;
 use crate::tags::{OwnedTags, Tag, Tags, owned_tags};
-use crate::weight::{HIGHEST_WEIGHT, id_fits, tags_weight};
+use crate::weight::{id_fits, light, tags_weight};
 use std::alloc::{AllocError, Global};
 
 /// A node that owns its texts.
@@ -172,16 +172,26 @@ impl<'a> NodeRef<'a> {
             .saturating_add(160)
     }
 
+    /// What the node counts for in a block, if it fits as [`NodeRef::fits`] tells.
+    pub fn weight_if_fits(&self) -> Option<u64>
+        ensures { SomeIff result (NodeFits (node_of self.now)) (node_weight (node_of self.now)) }
+    {
+        let is_in_range = id_fits(self.id)
+            && id_fits(self.lat)
+            && id_fits(self.lon)
+            && self.meta.fits()
+            && self.scale.fits();
+        if !is_in_range {
+            return None;
+        }
+        light(self.weight())
+    }
+
     /// Whether all stored numbers are in their ranges, the weight is within its limit, and both granularities are at least 1.
     pub fn fits(&self) -> bool
         ensures { IsTrue result ↔ NodeFits (node_of self.now) }
     {
-        id_fits(self.id)
-            && id_fits(self.lat)
-            && id_fits(self.lon)
-            && self.meta.fits()
-            && self.scale.fits()
-            && self.weight() <= HIGHEST_WEIGHT
+        self.weight_if_fits().is_some()
     }
 
     /// The same node with texts of its own.

@@ -1,18 +1,18 @@
 //! Relations.
 
-ghost use Rattle.std.specs.Prelude.{◌≡◌, ◌↔◌, ◌-◌, ◌^◌, min, IsTrue, IfOk};
+ghost use Rattle.std.specs.Prelude.{◌≡◌, ◌↔◌, ◌-◌, ◌^◌, min, IsTrue, IfOk, SomeIff};
 ghost use Rattle.std.specs.Option.{option_map};
 ghost use Rattle.osm_entity.specs.Scale.{millis};
 ghost use Rattle.osm_entity.specs.Sources.{tags_left, members_left};
 ghost use Rattle.osm_entity.specs.Views.{meta_of, relation_of, owned_relation};
-ghost use Rattle.osm_entity.specs.Weight.{relation_weight};
+ghost use Rattle.osm_entity.specs.Weight.{members_weight, relation_weight};
 ghost use Rattle.osm_entity.specs.Ranges.{RelationFits};
 
 use crate::member::{Member, Members, OwnedMembers, owned_members};
 use crate::meta::{Meta, MetaRef};
 use crate::scale::Scale;
 use crate::tags::{OwnedTags, Tag, Tags, owned_tags};
-use crate::weight::{HIGHEST_WEIGHT, id_fits, members_fit, members_weight, tags_weight};
+use crate::weight::{id_fits, light, members_weight, stored_members_weight, tags_weight};
 use std::alloc::{AllocError, Global};
 
 /// A relation that owns its texts and members.
@@ -119,25 +119,41 @@ impl<'a> RelationRef<'a> {
         self.meta.millis(self.scale)
     }
 
+    /// The weight of the relation, whose members weigh this.
+    fn weight_with(&self, members: u64) -> u64
+        requires { members ≡ min (members_weight (relation_of self.now).members) (2 ^ 64 - 1) }
+        ensures { result ≡ min (relation_weight (relation_of self.now)) (2 ^ 64 - 1) }
+    {
+        tags_weight(self.tags)
+            .saturating_add(members)
+            .saturating_add(self.meta.user_weight())
+            .saturating_add(160)
+    }
+
     /// What the relation counts for in a block, or the greatest number where it is more.
     pub fn weight(&self) -> u64
         ensures { result ≡ min (relation_weight (relation_of self.now)) (2 ^ 64 - 1) }
     {
-        tags_weight(self.tags)
-            .saturating_add(members_weight(self.members))
-            .saturating_add(self.meta.user_weight())
-            .saturating_add(160)
+        self.weight_with(members_weight(self.members))
+    }
+
+    /// What the relation counts for in a block, if it fits as [`RelationRef::fits`] tells. The members are gone over once.
+    pub fn weight_if_fits(&self) -> Option<u64>
+        ensures { SomeIff result (RelationFits (relation_of self.now))
+            (relation_weight (relation_of self.now)) }
+    {
+        let members = stored_members_weight(self.members)?;
+        if !(id_fits(self.id) && self.meta.fits() && self.scale.fits()) {
+            return None;
+        }
+        light(self.weight_with(members))
     }
 
     /// Whether all stored numbers are in their ranges, the weight is within its limit, and both granularities are at least 1.
     pub fn fits(&self) -> bool
         ensures { IsTrue result ↔ RelationFits (relation_of self.now) }
     {
-        id_fits(self.id)
-            && self.meta.fits()
-            && self.scale.fits()
-            && members_fit(self.members)
-            && self.weight() <= HIGHEST_WEIGHT
+        self.weight_if_fits().is_some()
     }
 
     /// The same relation with texts and members of its own.

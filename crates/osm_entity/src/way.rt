@@ -1,6 +1,6 @@
 //! Ways.
 
-ghost use Rattle.std.specs.Prelude.{◌≡◌, ◌↔◌, ◌-◌, ◌^◌, min, map, length, IsTrue, IfOk};
+ghost use Rattle.std.specs.Prelude.{◌≡◌, ◌↔◌, ◌-◌, ◌*◌, ◌^◌, min, map, length, IsTrue, IfOk, SomeIff};
 ghost use Rattle.std.specs.Option.{option_map};
 ghost use Rattle.osm_entity.specs.Scale.{millis};
 ghost use Rattle.osm_entity.specs.Entity.{nano_location};
@@ -15,7 +15,7 @@ use crate::refs::{OwnedRefs, Refs, owned_refs};
 use crate::scale::Scale;
 use crate::tags::{OwnedTags, Tag, Tags, owned_tags};
 use crate::weight::{
-    HIGHEST_WEIGHT, id_fits, locations_fit, locations_weight, refs_fit, refs_weight, tags_weight,
+    id_fits, light, locations_fit, locations_weight, refs_weight, stored_refs_weight, tags_weight,
 };
 use std::alloc::{AllocError, Global};
 
@@ -146,15 +146,38 @@ impl<'a> WayRef<'a> {
         self.meta.millis(self.scale)
     }
 
+    /// The weight of the way, whose refs weigh this.
+    fn weight_with(&self, refs: u64) -> u64
+        requires { refs ≡ min (32 * length (way_of self.now).refs) (2 ^ 64 - 1) }
+        ensures { result ≡ min (way_weight (way_of self.now)) (2 ^ 64 - 1) }
+    {
+        let texts = tags_weight(self.tags).saturating_add(self.meta.user_weight());
+        refs.saturating_add(locations_weight(self.locations))
+            .saturating_add(texts)
+            .saturating_add(160)
+    }
+
     /// What the way counts for in a block, or the greatest number where it is more.
     pub fn weight(&self) -> u64
         ensures { result ≡ min (way_weight (way_of self.now)) (2 ^ 64 - 1) }
     {
-        let texts = tags_weight(self.tags).saturating_add(self.meta.user_weight());
-        refs_weight(self.refs)
-            .saturating_add(locations_weight(self.locations))
-            .saturating_add(texts)
-            .saturating_add(160)
+        self.weight_with(refs_weight(self.refs))
+    }
+
+    /// What the way counts for in a block, if it fits as [`WayRef::fits`] tells. The refs are gone over once.
+    pub fn weight_if_fits(&self) -> Option<u64>
+        ensures { SomeIff result (WayFits (way_of self.now)) (way_weight (way_of self.now)) }
+    {
+        let refs = stored_refs_weight(self.refs)?;
+        let is_in_range = id_fits(self.id)
+            && self.meta.fits()
+            && self.scale.fits()
+            && locations_fit(self.locations)
+            && located(self.refs, self.locations);
+        if !is_in_range {
+            return None;
+        }
+        light(self.weight_with(refs))
     }
 
     /// Whether all stored numbers are in their ranges, the weight is within its limit, both granularities are at least 1, and
@@ -162,13 +185,7 @@ impl<'a> WayRef<'a> {
     pub fn fits(&self) -> bool
         ensures { IsTrue result ↔ WayFits (way_of self.now) }
     {
-        id_fits(self.id)
-            && self.meta.fits()
-            && self.scale.fits()
-            && refs_fit(self.refs)
-            && locations_fit(self.locations)
-            && located(self.refs, self.locations)
-            && self.weight() <= HIGHEST_WEIGHT
+        self.weight_if_fits().is_some()
     }
 
     /// The same way with texts and lists of its own.

@@ -1,11 +1,12 @@
 //! What the parts of an entity weigh, and whether they are in their ranges.
 
-ghost use Rattle.std.specs.Prelude.{◌≡◌, ◌↔◌, ◌-◌, ◌*◌, ◌^◌, min, length, IsTrue, pos};
+ghost use Rattle.std.specs.Prelude.{◌≡◌, ◌↔◌, ◌+◌, ◌-◌, ◌*◌, ◌^◌, ◌≤◌, min, length, IsTrue, SomeIff, pos};
 ghost use Rattle.std.specs.List.{AllByRecursion};
 ghost use Rattle.pbf_wire.specs.Signed.{IsWithin};
 ghost use Rattle.osm_entity.specs.Sources.{tags_left, refs_left, locations_left, members_left};
 ghost use Rattle.osm_entity.specs.Weight.{tags_weight, members_weight};
 ghost use Rattle.osm_entity.specs.Ranges.{IsStored, LocationFits, MemberFits};
+ghost use Rattle.osm_entity.specs.declared.weight.TheConstants.{HIGHEST_WEIGHT};
 
 use crate::locations::Locations;
 use crate::member::Members;
@@ -20,6 +21,16 @@ pub const STORED_LIMIT: i64 = 1 << 62;
 
 /// The limit of uids, alike.
 pub const UID_LIMIT: i64 = 1 << 30;
+
+/// A weight that is within its limit.
+pub(crate) fn light(weight: u64) -> Option<u64>
+    ensures { SomeIff result (weight ≤ HIGHEST_WEIGHT) weight }
+{
+    if weight > HIGHEST_WEIGHT {
+        return None;
+    }
+    Some(weight)
+}
 
 /// What the tags weigh: 32 for each, and the lengths of its texts. Where it is more than a `u64` holds, the greatest.
 pub(crate) fn tags_weight(tags: Tags<'_>) -> u64
@@ -57,15 +68,20 @@ pub(crate) fn locations_weight(locations: Locations<'_>) -> u64
     weight
 }
 
+/// A weight with that of one more member: 32, and the length of its role.
+fn with_role(weight: u64, role: &[u8]) -> u64
+    ensures { result ≡ min (weight + 32 + length role.now) (2 ^ 64 - 1) }
+{
+    weight.saturating_add(32).saturating_add(role.len() as u64)
+}
+
 /// What the members weigh: 32 for each, and the length of its role.
 pub(crate) fn members_weight(members: Members<'_>) -> u64
     ensures { result ≡ min (members_weight (members_left members.entry)) (2 ^ 64 - 1) }
 {
     let mut weight: u64 = 0;
     for member in members {
-        weight = weight
-            .saturating_add(32)
-            .saturating_add(member.role.len() as u64);
+        weight = with_role(weight, member.role);
     }
     weight
 }
@@ -77,16 +93,19 @@ pub(crate) fn id_fits(number: i64) -> bool
     number.unsigned_abs() < STORED_LIMIT.unsigned_abs()
 }
 
-/// Whether each ref is in its range.
-pub(crate) fn refs_fit(refs: Refs<'_>) -> bool
-    ensures { IsTrue result ↔ AllByRecursion IsStored (refs_left refs.entry) }
+/// What the refs weigh, as [`refs_weight`] tells, if each is in its range.
+pub(crate) fn stored_refs_weight(refs: Refs<'_>) -> Option<u64>
+    ensures { SomeIff result (AllByRecursion IsStored (refs_left refs.entry))
+        (min (32 * length (refs_left refs.entry)) (2 ^ 64 - 1)) }
 {
+    let mut weight: u64 = 0;
     for reference in refs {
         if !id_fits(reference) {
-            return false;
+            return None;
         }
+        weight = weight.saturating_add(32);
     }
-    true
+    Some(weight)
 }
 
 /// Whether both numbers of each location are in their range.
@@ -101,14 +120,17 @@ pub(crate) fn locations_fit(locations: Locations<'_>) -> bool
     true
 }
 
-/// Whether the id of each member is in its range.
-pub(crate) fn members_fit(members: Members<'_>) -> bool
-    ensures { IsTrue result ↔ AllByRecursion MemberFits (members_left members.entry) }
+/// What the members weigh, as [`members_weight`] tells, if the id of each is in its range.
+pub(crate) fn stored_members_weight(members: Members<'_>) -> Option<u64>
+    ensures { SomeIff result (AllByRecursion MemberFits (members_left members.entry))
+        (min (members_weight (members_left members.entry)) (2 ^ 64 - 1)) }
 {
+    let mut weight: u64 = 0;
     for member in members {
         if !id_fits(member.id) {
-            return false;
+            return None;
         }
+        weight = with_role(weight, member.role);
     }
-    true
+    Some(weight)
 }

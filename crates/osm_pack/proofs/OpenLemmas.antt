@@ -225,6 +225,7 @@ light (relation r) h = h.light
 pub alone : (e : EntitySpec) → EntityFits e → is_block (e ∷ []) ≡ true
 alone e h = kept_one e (light e h)
 
+-- the weight of what fits is no more than a u64 holds
 pub exact : (e : EntitySpec) (n : ℕ) → EntityFits e → n ≡ min (entity_weight e) (2 ^ 64 - 1) → n ≡ entity_weight e
 exact e n h m = let l = light e h in omega (arith, m, l)
 
@@ -322,10 +323,10 @@ module _ {S H : Type 0} where
       (omega (arith, n.0, h.count, length_push es e), omega (arith, n.1, h.weight, sum_by_push entity_weight es e))
 
   -- whether an entity may join, as the code finds it
-  pub taken : (b : OpenBlock S H) (es : List EntitySpec) (e : EntitySpec) (alike : Bool) (more : ℕ) (answer : Bool) → Holds b es → EntityFits e → alike ≡ is_like b.likeness (likeness_of e) → more ≡ min (entity_weight e) (2 ^ 64 - 1)
+  pub taken : (b : OpenBlock S H) (es : List EntitySpec) (e : EntitySpec) (alike : Bool) (more : ℕ) (answer : Bool) → Holds b es → alike ≡ is_like b.likeness (likeness_of e) → more ≡ entity_weight e
       → answer ≡ (alike && (nat_le (b.count + 1) MOST_ENTITIES && nat_le (b.weight + more) HIGHEST_WEIGHT)) → answer ≡ is_block (es ++ e ∷ [])
-  taken b es e alike more answer h fits a m r =
-      r ∙ (rw (a, h.likeness, like es e, h.count, h.weight, exact e more fits m) refl ∙ joins es e h.block)
+  taken b es e alike more answer h a m r =
+      r ∙ (rw (a, h.likeness, like es e, h.count, h.weight, m) refl ∙ joins es e h.block)
 
   -- ---- a block that is closed
 

@@ -4,7 +4,7 @@ ghost use Rattle.std.specs.Prelude.{◌≡◌, ◌+◌, ◌≤◌, ◌++◌, ◌
 ghost use Rattle.osm_entity.specs.Entity.{EntitySpec};
 ghost use Rattle.osm_entity.specs.Ranges.{EntityFits};
 ghost use Rattle.osm_entity.specs.Views.{entity_of};
-ghost use Rattle.osm_entity.specs.Weight.{text_weight};
+ghost use Rattle.osm_entity.specs.Weight.{entity_weight, text_weight};
 ghost use Rattle.pbf_header.specs.Header.{header_of};
 ghost use Rattle.pbf_frame.specs.Devices.{IsFront};
 ghost use Rattle.pbf_frame.specs.Transfers.{Added};
@@ -41,15 +41,17 @@ pub(crate) fn close_into<D: Drain, S: BuildHasher>(
     Ok(())
 }
 
-/// The work of a push.
+/// The work of a push of an entity of this weight.
 pub(crate) fn push_into<D: Drain, S: BuildHasher>(
     alloc: Global,
     drain: &mut D,
     block: &mut OpenBlock<S>,
     entity: &EntityRef<'_>,
+    weight: u64,
 ) -> Result<(), Stop>
     requires open { IsOpen block.old }
     requires fits { EntityFits (entity_of entity.now) }
+    requires weighs { weight ≡ entity_weight (entity_of entity.now) }
     ensures open { OnOk result (IsOpen block.new) }
     ensures pending { (es : List EntitySpec) → Holds block.old es
         → OnOk result (Holds block.new (then_pending es (entity_of entity.now))) }
@@ -61,7 +63,6 @@ pub(crate) fn push_into<D: Drain, S: BuildHasher>(
     ensures counts { D.failures drain.old ≤ D.failures drain.new }
     ensures lender { D.lender drain.new ≡ D.lender drain.old }
 {
-    let weight = entity.weight();
     if !block.takes(entity, weight) {
         close_into(alloc, drain, block)?;
     }

@@ -104,11 +104,10 @@ impl<S: BuildHasher> OpenBlock<S> {
         }
     }
 
-    /// Whether one more entity of this weight may stand in the block. The weight is the caller's, as it goes through all of an
-    /// entity's texts and lists.
+    /// Whether one more entity of this weight may stand in the block. The weight is the caller's, as it takes going through all of
+    /// an entity's texts and lists.
     pub(crate) fn takes(&self, entity: &EntityRef<'_>, weight: u64) -> bool
-        requires fits { EntityFits (entity_of entity.now) }
-        requires weighs { weight ≡ min (entity_weight (entity_of entity.now)) (2 ^ 64 - 1) }
+        requires weighs { weight ≡ entity_weight (entity_of entity.now) }
         ensures { (es : List EntitySpec) → Holds self.now es
             → result ≡ is_block (es ++ entity_of entity.now ∷ []) }
     {
@@ -141,7 +140,7 @@ impl<S: BuildHasher> OpenBlock<S> {
     pub(crate) fn add(&mut self, entity: &EntityRef<'_>, weight: u64) -> Result<(), AllocError>
         requires open { IsOpen self.old }
         requires fits { EntityFits (entity_of entity.now) }
-        requires weighs { weight ≡ min (entity_weight (entity_of entity.now)) (2 ^ 64 - 1) }
+        requires weighs { weight ≡ entity_weight (entity_of entity.now) }
         requires joins { (es : List EntitySpec) → Holds self.old es
             → is_block (es ++ entity_of entity.now ∷ []) ≡ true }
         ensures { (es : List EntitySpec) → Holds self.old es

@@ -47,7 +47,7 @@ impl<D: Drain, S: BuildHasher> Packer<D, S> {
     ghost use Rattle.osm_entity.specs.Views.{entity_of};
     ghost use Rattle.pbf_header.specs.Header.{header_of};
     ghost use Rattle.pbf_block.specs.WrittenBlock.{is_block};
-    ghost use Rattle.osm_entity.specs.Weight.{text_weight};
+    ghost use Rattle.osm_entity.specs.Weight.{entity_weight, text_weight};
     ghost use Rattle.pbf_header.specs.declared.write.TheConstants.{MOST_HEADER_TEXT};
     ghost use Rattle.pbf_frame.specs.declared.stop.Stop.{Stop};
     ghost use Rattle.pbf_frame.specs.Devices.{IsFront};
@@ -131,6 +131,7 @@ impl<D: Drain, S: BuildHasher> Packer<D, S> {
     /// they are written. The caller sees that the entity fits, and that a header was put.
     ///
     /// After a stop nothing went out, or a prefix of the block that was to be written, and the packer is spent.
+    #[tactic(auto, using(crate::proofs::OpenLemmas::exact))]
     pub fn push(&mut self, entity: &EntityRef<'_>) -> Result<(), Stop>
         requires begun { has_header self.old ≡ true }
         requires fits { EntityFits (entity_of entity.now) }
@@ -152,10 +153,36 @@ impl<D: Drain, S: BuildHasher> Packer<D, S> {
         ensures spent { (stop : Stop) → HasStopped self.old stop
             → (result ≡ Err stop) × (self.new.drain ≡ self.old.drain) }
     {
+        self.push_weighed(entity, entity.weight())
+    }
+
+    /// [`Packer::push`] of an entity that the caller has weighed, as [`EntityRef::weight_if_fits`] does.
+    pub fn push_weighed(&mut self, entity: &EntityRef<'_>, weight: u64) -> Result<(), Stop>
+        requires begun { has_header self.old ≡ true }
+        requires fits { EntityFits (entity_of entity.now) }
+        requires weighs { weight ≡ entity_weight (entity_of entity.now) }
+        ensures header { has_header self.new ≡ true }
+        ensures pending { (es : List EntitySpec) → Pending self.old es
+            → OnOk result (Pending self.new (then_pending es (entity_of entity.now))) }
+        ensures written { (es : List EntitySpec) → Pending self.old es
+            → OnOk result (Added D.Drain self.old.drain
+            (then_written es (entity_of entity.now)) self.new.drain) }
+        ensures packing { OnOk result (IsPacking self.old × IsPacking self.new) }
+        ensures front { IsPacking self.old → (es : List EntitySpec) → Pending self.old es
+            → IsFront (D.taken self.old.drain) (D.taken self.new.drain)
+            (then_written es (entity_of entity.now)) }
+        ensures stopped { IfErr result (HasStopped self.new) }
+        ensures stops { IsPacking self.old
+            → IfErr result (IsPackStop (D.failures self.old.drain) (D.failures self.new.drain)) }
+        ensures counts { D.failures self.old.drain ≤ D.failures self.new.drain }
+        ensures lender { D.lender self.new.drain ≡ D.lender self.old.drain }
+        ensures spent { (stop : Stop) → HasStopped self.old stop
+            → (result ≡ Err stop) × (self.new.drain ≡ self.old.drain) }
+    {
         if let Some(stop) = self.stop {
             return Err(stop);
         }
-        let outcome = push_into(self.alloc, &mut self.drain, &mut self.block, entity);
+        let outcome = push_into(self.alloc, &mut self.drain, &mut self.block, entity, weight);
         if let Err(stop) = outcome {
             self.stop = Some(stop);
             self.block.clear(self.alloc);

@@ -21,13 +21,14 @@ ghost use Rattle.pbf_block.specs.Scale.{scale_of, table_of};
 ghost use Rattle.pbf_block.specs.StructureFaults.{structure_faults};
 ghost use Rattle.pbf_block.specs.WireFaults.{wire_faults};
 
-use crate::counts::{Counts, count_entities};
+use crate::counts::Counts;
 use crate::entities::Entities;
 use crate::kinds::Kinds;
 use crate::message::STRINGTABLE;
 use crate::runs::Runs;
 use crate::scale::scale_in;
 use crate::structure::judge_structure;
+use crate::unjudged::UnjudgedBlock;
 use crate::values::judge_values;
 use crate::weights::judge_weights;
 use crate::wire::judge_wire_form;
@@ -35,6 +36,7 @@ use osm_entity::Scale;
 use pbf_strings::Table;
 use pbf_wire::{Fault, Field, ReadFault, last_field};
 use std::alloc::{AllocError, Global};
+use std::marker::Model;
 
 /// The first fault of the phases that need no table: of the wire form, or else of structure.
 fn early_fault(payload: &[u8], at: u64) -> Option<Fault>
@@ -85,17 +87,23 @@ fn late_fault<'a>(payload: &'a [u8], at: u64, table: &'a Table<'a>, scale: Scale
     judge_weights(payload, at, table, scale)
 }
 
-/// A PrimitiveBlock without a fault. It borrows the payload, and holds the place of each text of its string table.
+/// A PrimitiveBlock without a fault. It borrows the payload, and holds the place of each text of its string table. Contracts see it as
+/// what was opened, of which is known that it has no fault.
 #[derive(Drop)]
 pub struct Block<'a> {
-    payload: &'a [u8],
-    at: u64,
-    table: Table<'a>,
-    scale: Scale,
-    ghost room: { at + length payload.now ≤ 2 ^ 63 },
-    ghost texts: { table ≡ table_of (fields_in at payload.now) },
-    ghost scaled: { scale ≡ scale_of (fields_in at payload.now) },
-    ghost sound: { block_fault at payload.now ≡ None },
+    opened: UnjudgedBlock<'a>,
+}
+
+impl<'a> Model for Block<'a> {
+    ghost use Rattle.std.specs.Prelude.{◌≡◌, None};
+    ghost use Rattle.pbf_block.specs.Judgement.{block_fault};
+    ghost use Rattle.pbf_block.specs.declared.unjudged.UnjudgedBlock.{UnjudgedBlock};
+
+    ghost Value = { UnjudgedBlock };
+
+    ghost view = { λ b. b.opened };
+
+    ghost invariant = { λ b. block_fault b.opened.at b.opened.payload.now ≡ None };
 }
 
 impl<'a> Block<'a> {
@@ -122,10 +130,7 @@ impl<'a> Block<'a> {
             return Err(ReadFault::Refused(fault));
         }
         Ok(Block {
-            payload,
-            at,
-            table,
-            scale,
+            opened: UnjudgedBlock::new(payload, at, table, scale),
         })
     }
 
@@ -143,7 +148,7 @@ impl<'a> Block<'a> {
             ≡ filter (is_among kinds) (entities self.now.at self.now.payload.now) }
         ensures fits { AllByRecursion EntityFits (entities_left result) }
     {
-        Entities::over(self.payload, self.at, &self.table, self.scale, kinds)
+        self.opened.entities_among(kinds)
     }
 
     /// The entities of these kinds, in order, those of a dense message together. Messages of other kinds aren't looked into. Takes no
@@ -152,7 +157,7 @@ impl<'a> Block<'a> {
         ensures { joined_runs (runs_left result)
             ≡ filter (is_among kinds) (entities self.now.at self.now.payload.now) }
     {
-        Runs::over(self.payload, self.at, &self.table, self.scale, kinds)
+        self.opened.runs_among(kinds)
     }
 
     /// How many entities there are. None is made, and of dense nodes the ids are counted by the bytes that end them. Takes no
@@ -160,7 +165,7 @@ impl<'a> Block<'a> {
     pub fn counts(&self) -> Counts
         ensures { result ≡ counts_of (entities self.now.at self.now.payload.now) }
     {
-        count_entities(self.payload, self.at)
+        self.opened.counts()
     }
 
     /// How many bytes the block holds beside the payload: four for each text of its table.
@@ -169,6 +174,6 @@ impl<'a> Block<'a> {
             ≡ 4 * length (table_of (fields_in self.now.at self.now.payload.now)) }
         ensures bound { result ≤ 4194304 }
     {
-        self.table.held()
+        self.opened.held()
     }
 }

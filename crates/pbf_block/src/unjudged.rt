@@ -1,17 +1,19 @@
 //! A PrimitiveBlock that is read again, without being judged.
 
-ghost use Rattle.std.specs.Prelude.{◌≡◌, ◌+◌, ◌≤◌, ◌<◌, ◌^◌, None, Ok, IfOk, IfSome, length, filter};
+ghost use Rattle.std.specs.Prelude.{◌≡◌, ◌+◌, ◌*◌, ◌≤◌, ◌<◌, ◌^◌, None, Ok, IfOk, IfSome, length, filter};
 ghost use Rattle.std.specs.List.{AllByRecursion};
 ghost use Rattle.pbf_wire.specs.Faults.{fields_in};
 ghost use Rattle.osm_entity.specs.Ranges.{EntityFits};
 ghost use Rattle.pbf_block.specs.Cursors.{entities_left};
 ghost use Rattle.pbf_block.specs.Judgement.{block_fault};
 ghost use Rattle.pbf_block.specs.Kinds.{is_among};
+ghost use Rattle.pbf_block.specs.Numbers.{counts_of};
 ghost use Rattle.pbf_block.specs.Payload.{entities};
 ghost use Rattle.pbf_block.specs.Runs.{joined_runs, runs_left};
 ghost use Rattle.pbf_block.specs.Scale.{scale_of, table_of};
 
 use crate::block::bytes_in;
+use crate::counts::{Counts, count_entities};
 use crate::entities::Entities;
 use crate::kinds::Kinds;
 use crate::message::STRINGTABLE;
@@ -36,6 +38,27 @@ pub struct UnjudgedBlock<'a> {
 }
 
 impl<'a> UnjudgedBlock<'a> {
+    /// What is opened already.
+    pub(crate) fn new(
+        payload: &'a [u8],
+        at: u64,
+        table: Table<'a>,
+        scale: Scale,
+    ) -> UnjudgedBlock<'a>
+        requires room { at + length payload.now ≤ 2 ^ 63 }
+        requires texts { table ≡ table_of (fields_in at payload.now) }
+        requires scaled { scale ≡ scale_of (fields_in at payload.now) }
+        ensures payload { result.payload.now ≡ payload.now }
+        ensures at { result.at ≡ at }
+    {
+        UnjudgedBlock {
+            payload,
+            at,
+            table,
+            scale,
+        }
+    }
+
     /// Opens a PrimitiveBlock whose first byte stands at `at` in the file. Nothing is judged but what memory hangs on: `None` where
     /// the string table has more texts than it may have.
     ///
@@ -56,12 +79,8 @@ impl<'a> UnjudgedBlock<'a> {
             return Ok(None);
         }
         let table = Table::open(alloc, texts)?;
-        Ok(Some(UnjudgedBlock {
-            payload,
-            at,
-            table,
-            scale: scale_in(payload, at),
-        }))
+        let scale = scale_in(payload, at);
+        Ok(Some(UnjudgedBlock::new(payload, at, table, scale)))
     }
 
     /// The entities of these kinds, in order, if the block has no fault; otherwise some entities, which may not be writable. Messages
@@ -82,5 +101,22 @@ impl<'a> UnjudgedBlock<'a> {
             ≡ filter (is_among kinds) (entities self.now.at self.now.payload.now) }
     {
         Runs::over(self.payload, self.at, &self.table, self.scale, kinds)
+    }
+
+    /// How many entities there are, if the block has no fault.
+    pub(crate) fn counts(&self) -> Counts
+        ensures { block_fault self.now.at self.now.payload.now ≡ None → result
+            ≡ counts_of (entities self.now.at self.now.payload.now) }
+    {
+        count_entities(self.payload, self.at)
+    }
+
+    /// How many bytes the table holds: four for each of its texts.
+    pub(crate) fn held(&self) -> u64
+        ensures value { result
+            ≡ 4 * length (table_of (fields_in self.now.at self.now.payload.now)) }
+        ensures bound { result ≤ 4194304 }
+    {
+        self.table.held()
     }
 }

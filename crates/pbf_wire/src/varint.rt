@@ -141,15 +141,14 @@ pub fn shortest_spelling(value: u64) -> ([u8; 10], usize)
     (spelling, length + 1)
 }
 
-/// Appends the shortest spelling, of one to ten bytes. An `Err` leaves the output as it was.
-pub fn put_varint(out: &mut Vec<u8>, value: u64) -> Result<(), AllocError>
+/// As [`put_varint`], of a number that takes two bytes or more: most of them take two or three, which are spelled at once.
+#[inline(never)]
+fn put_longer(out: &mut Vec<u8>, value: u64) -> Result<(), AllocError>
+    requires { 128 ≤ value }
     ensures ok { OnOk result (out.new.items ≡ out.old.items ++ shortest value) }
     ensures err { OnErr result (out.new.items ≡ out.old.items) }
 {
-    // Most numbers of a file take one byte, and most others two or three: those are spelled at once.
-    if value < 128 {
-        out.push(value as u8)?;
-    } else if value < 1 << 14 {
+    if value < 1 << 14 {
         out.extend_from_slice(&[(value % 128 + 128) as u8, (value / 128) as u8])?;
     } else if value < 1 << 21 {
         out.extend_from_slice(&[
@@ -160,6 +159,22 @@ pub fn put_varint(out: &mut Vec<u8>, value: u64) -> Result<(), AllocError>
     } else {
         let (spelling, length) = shortest_spelling(value);
         out.extend_from_slice(&spelling[..length])?;
+    }
+    Ok(())
+}
+
+/// Appends the shortest spelling, of one to ten bytes. An `Err` leaves the output as it was.
+///
+/// Most numbers of a file take one byte, which is written where it is asked for, without a call.
+#[inline(always)]
+pub fn put_varint(out: &mut Vec<u8>, value: u64) -> Result<(), AllocError>
+    ensures ok { OnOk result (out.new.items ≡ out.old.items ++ shortest value) }
+    ensures err { OnErr result (out.new.items ≡ out.old.items) }
+{
+    if value < 128 {
+        out.push(value as u8)?;
+    } else {
+        put_longer(out, value)?;
     }
     Ok(())
 }

@@ -193,10 +193,10 @@ pub(crate) fn pack_entities<D: Drain, S: BuildHasher>(
     let mut picker = selection.picker();
     for entity in entities {
         if picker.picks(&entity) {
-            if !entity.fits() {
+            let Some(weight) = entity.weight_if_fits() else {
                 return Err(Stop::Changed(number));
-            }
-            packer.push(&entity)?;
+            };
+            packer.push_weighed(&entity, weight)?;
             counts.take(&entity);
         }
     }

@@ -39,12 +39,12 @@ loop-entity-preserved-then-picks g c =
       gone = so_far.gone ++ e ∷ [];
       split = entities_more so_far.gone _ _ _ e c.in-Some.ensures.steps so_far.split;
       fits = λ all. (subst (λ (l : List EntitySpec). AllByRecursion EntityFits l) c.in-Some.ensures.steps (so_far.fits all)).1;
-      packed = λ start done h. one_picked g.D.Drain pick start done so_far.gone e c.loop-entity.packer _ picked (so_far.packed start done h) (c.fits.ensures.0 c.if-not-fits.false) c.in_ok-push.ensures.pending c.in_ok-push.ensures.written;
+      packed = λ start done h. one_picked g.D.Drain pick start done so_far.gone e c.loop-entity.packer _ picked (so_far.packed start done h) c.in-Some-weight_if_fits.ensures.0 c.in_ok-push_weighed.ensures.pending c.in_ok-push_weighed.ensures.written;
       counted = count_picked pick _ _ e _ _ _ c.in-Some.ensures.steps picked c.take.ensures so_far.counted;
-      going = c.in_ok-push.ensures.packing.1;
-      begun = c.push.ensures.header;
-      drain_counts = omega (arith, so_far.drain_counts, c.push.ensures.counts);
-      drain_lender = c.push.ensures.lender ∙ so_far.drain_lender;
+      going = c.in_ok-push_weighed.ensures.packing.1;
+      begun = c.push_weighed.ensures.header;
+      drain_counts = omega (arith, so_far.drain_counts, c.push_weighed.ensures.counts);
+      drain_lender = c.push_weighed.ensures.lender ∙ so_far.drain_lender;
     }
 
 pub loop-entity-preserved : goal.loop-entity-preserved
@@ -68,32 +68,26 @@ loop-entity-preserved g c =
       drain_lender = so_far.drain_lender;
     }
 
-pub returns-in_err-push-clause-stopped : goal.returns-in_err-push-clause-stopped
-returns-in_err-push-clause-stopped g c =
+pub returns-in_err-push_weighed-clause-stopped : goal.returns-in_err-push_weighed-clause-stopped
+returns-in_err-push_weighed-clause-stopped g c =
     let p = err_from_is_err_and c.from_residual.result c.from_residual.ensures.1 in
     let so_far = c.loop-entity.invariant in
     let pick = pick_of c.args.selection in
     let picked = ap (λ (p : Pick). p (entity_of c.in-Some.entity)) (sym so_far.picker) ∙ sym c.picks.ensures.picked ∙ c.if-picks.true in
     rw (p.1, p.2) (record {
-      cause = pack_stop _ _ _ _ _ so_far.drain_counts (c.in_err-push.ensures.stops so_far.going);
+      cause = pack_stop _ _ _ _ _ so_far.drain_counts (c.in_err-push_weighed.ensures.stops so_far.going);
       begins = record {
         begun = λ start done h.
-            stopped_here g.D.Drain pick start done so_far.gone _ _ _ (entity_of c.in-Some.entity) c.loop-entity.packer c.push.new.self c.in-Some.ensures.steps so_far.split picked (so_far.packed start done h) (c.fits.ensures.0 c.if-not-fits.false) (c.in_err-push.ensures.front so_far.going);
+            stopped_here g.D.Drain pick start done so_far.gone _ _ _ (entity_of c.in-Some.entity) c.loop-entity.packer c.push_weighed.new.self c.in-Some.ensures.steps so_far.split picked (so_far.packed start done h) c.in-Some-weight_if_fits.ensures.0 (c.in_err-push_weighed.ensures.front so_far.going);
       };
     })
 
-pub returns-then-not-fits-clause-stopped : goal.returns-then-not-fits-clause-stopped
-returns-then-not-fits-clause-stopped g c =
+pub returns-in_default-clause-stopped : goal.returns-in_default-clause-stopped
+returns-in_default-clause-stopped g c =
     let so_far = c.loop-entity.invariant in
+    let unfit : EntityFits (entity_of c.in-Some.entity) → ⊥ = rw c.in_default.is at c.weight_if_fits.ensures in
     record {
-      cause = (
-        refl,
-        λ all.
-            let fits = c.fits.ensures.1 (subst (λ (l : List EntitySpec). AllByRecursion EntityFits l) c.in-Some.ensures.steps (so_far.fits all)).0 in
-            let is = c.if-not-fits.true in
-            let bad : ⊥ = cc in
-            bad,
-      );
+      cause = (refl, λ all. unfit (subst (λ (l : List EntitySpec). AllByRecursion EntityFits l) c.in-Some.ensures.steps (so_far.fits all)).0);
       begins = record {
         begun = λ start done h. changed_here g.D.Drain (pick_of c.args.selection) start done so_far.gone _ _ c.loop-entity.packer so_far.split (so_far.packed start done h);
       };

@@ -30,12 +30,12 @@ returns-in-Some-late_fault-clause-refused c = λ fault e.
     let same : c.in-Some-late_fault.fault ≡ fault = cc in
     first_late (Some c.in-Some-late_fault.fault) c.args.at c.args.payload.now none.0 none.1 c.in-Some-late_fault.ensures ∙ ap Some same
 
+pub returns-clause-sound : goal.returns-clause-sound
+returns-clause-sound c =
+    let none = early_nil (wire_faults c.args.at c.args.payload.now) (structure_faults c.args.at c.args.payload.now) (sym c.in_default.is ∙ c.early_fault.ensures) in
+    first_late None c.args.at c.args.payload.now none.0 none.1 (sym c.in_default-late_fault.is ∙ c.late_fault.ensures)
+
 pub invariant_of-result : goal.invariant_of-result
 invariant_of-result c =
     let none = early_nil (wire_faults c.args.at c.args.payload.now) (structure_faults c.args.at c.args.payload.now) (sym c.in_default.is ∙ c.early_fault.ensures) in
-    record {
-      room = c.requires.placed;
-      texts = c.in_ok-table.ensures;
-      scaled = c.scale_in-scale.ensures;
-      sound = first_late None c.args.at c.args.payload.now none.0 none.1 (sym c.in_default-late_fault.is ∙ c.late_fault.ensures);
-    }
+    rw (c.new.ensures.at, c.new.ensures.payload) (first_late None c.args.at c.args.payload.now none.0 none.1 (sym c.in_default-late_fault.is ∙ c.late_fault.ensures))

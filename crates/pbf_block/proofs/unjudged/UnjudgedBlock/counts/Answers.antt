@@ -3,10 +3,10 @@ use Rattle.pbf_wire.specs.Faults.{fields_in}
 use Rattle.pbf_block.specs.Numbers.{counts_of}
 use Rattle.pbf_block.specs.Scale.{scale_of, table_of}
 use Rattle.pbf_block.proofs.EndsLemmas.{ends_same}
-use Rattle.pbf_block.proofs.block.Block.counts.Goals as goal
+use Rattle.pbf_block.proofs.unjudged.UnjudgedBlock.counts.Goals as goal
 
 pub returns : goal.returns
-returns c =
+returns c = λ sound.
     let block = c.args.self.now in
     let os = fields_in block.at block.payload.now in
-    c.count_entities.ensures (table_of os) (scale_of os) ∙ ap counts_of (ends_same block.at block.payload.now block.sound)
+    c.count_entities.ensures (table_of os) (scale_of os) ∙ ap counts_of (ends_same block.at block.payload.now sound)
