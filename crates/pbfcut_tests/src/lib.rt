@@ -4,6 +4,8 @@
 #[cfg(test)]
 mod check_tests;
 #[cfg(test)]
+mod later_pass_tests;
+#[cfg(test)]
 mod show_tests;
 #[cfg(test)]
 mod tests;
