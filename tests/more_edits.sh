@@ -1,32 +1,24 @@
 #!/usr/bin/env bash
-# Tries the planted bugs that the gate leaves out, crates/NAME/more-edits/*.edit: the prover must refuse each. They stand in the
-# place of must-fail/*.edit in a copy of the repository, and the repository itself stays as it is.
+# Tries the planted bugs that the gate leaves out, crates/NAME/more-edits/*.edit: the prover must refuse each.
 #
 # usage: tests/more_edits.sh [CRATE..]
 #
 # With no CRATE it tries those of each crate that has some. Proofs that lie in the folders out/ are taken up. Status 0: each was
-# refused; 1: one was not; 2: nothing to try.
+# refused; 1: one was not.
 set -eu
 cd "$(dirname "$0")/.."
-if [ "$#" -eq 0 ]; then
-  for folder in crates/*/more-edits; do
-    name=${folder#crates/}
-    set -- "$@" "${name%/more-edits}"
-  done
-fi
-for name in "$@"; do
-  if ! ls "crates/$name"/more-edits/*.edit >/dev/null 2>&1; then
-    echo "tests/more_edits.sh: crates/$name/more-edits holds no edit" >&2
-    exit 2
-  fi
-done
+status=0
+python3 tools/planted.py --set more-edits "$@" || status=$?
+[ "$status" = 2 ] || exit "$status"
 
+# This kit isn't the one that the script knows: by the kit's own command, one check for each, in a copy where they stand in the place
+# of must-fail/*.edit.
 room=$(mktemp -d)
 trap 'rm -rf "$room"' EXIT
 cp -a crates.txt HANDLES crates "$room"
-rm -rf "$room"/crates/*/must-fail
-for name in "$@"; do
-  mv "$room/crates/$name/more-edits" "$room/crates/$name/must-fail"
-done
 cd "$room"
+rm -rf crates/*/must-fail
+for folder in crates/*/more-edits; do
+  mv "$folder" "${folder%/*}/must-fail"
+done
 rt must-fail "$@" || exit 1

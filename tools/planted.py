@@ -1,7 +1,10 @@
 #!/usr/bin/env python3
-"""Tries every planted bug, crates/NAME/must-fail/*.edit and crates/NAME/more-edits/*.edit: the prover must refuse each.
+"""Tries planted bugs: the prover must refuse each.
 
-usage: tools/planted.py [--libraries FOLDER] [--beside PID] [--lanes N] [CRATE..]
+usage: tools/planted.py [--set must-fail|more-edits|all] [--libraries FOLDER] [--beside PID] [--lanes N] [CRATE..]
+
+Those of crates/NAME/must-fail/ are tried, where no other set is named. The edits that are not tried are read all the same: each has
+to fit the files that it changes.
 
 The prover judges each function by the contracts of those that it calls, and names each function that it refuses. So one check of a
 crate tries many bugs, one in a function, and asks for the proofs of these functions alone: the others have a hole in place of one. A
@@ -32,6 +35,7 @@ from dataclasses import dataclass
 from build import NOT_THIS_KIT, TOP, all_below, free_gigabytes, kit_folder, known_crates, lanes
 
 FOLDERS = ("must-fail", "more-edits")
+SETS = {"must-fail": FOLDERS[:1], "more-edits": FOLDERS[1:], "all": FOLDERS}
 PARTS = ("src", "specs", "proofs")
 
 # What the prover says where a proof cannot be read since a name is gone, or waits for another: no refusal of a goal.
@@ -375,9 +379,9 @@ class Crate:
                 return True, found
         return False, "THE CRATE IS STILL PROVED" if verdict.is_proved else "refused for a name alone"
 
-    def try_all(self):
-        """Tries the bugs of the crate. Answers for each its name, whether it is refused, and where."""
-        bugs = read_bugs(self.folder)
+    def try_all(self, folders):
+        """Tries the bugs of these folders of the crate. Answers for each its name, whether it is refused, and where."""
+        bugs = [bug for bug in read_bugs(self.folder) if bug.name.startswith(folders)]
         left, alone, told = [bug for bug in bugs if bug.is_placed()], [bug for bug in bugs if not bug.is_placed()], []
         with tempfile.TemporaryDirectory(prefix="planted-kept-") as kept:
             while len(left) > 1:
@@ -438,12 +442,12 @@ class Lanes:
             self.changed.notify()
 
 
-def try_crate(crate, process, lanes):
+def try_crate(crate, folders, process, lanes):
     try:
         if not wait_for(crate, process):
             return [("each", False, "the libraries that its crate stands on are not built")]
         with lanes:
-            return crate.try_all()
+            return crate.try_all(folders)
     except Unusable as why:
         return [("each", False, str(why))]
     finally:
@@ -459,7 +463,10 @@ def build_libraries(crates, names):
 
 
 def main():
-    asked = argparse.ArgumentParser(usage="tools/planted.py [--libraries FOLDER] [--beside PID] [--lanes N] [CRATE..]")
+    asked = argparse.ArgumentParser(
+        usage="tools/planted.py [--set must-fail|more-edits|all] [--libraries FOLDER] [--beside PID] [--lanes N] [CRATE..]"
+    )
+    asked.add_argument("--set", choices=SETS, default="must-fail")
     asked.add_argument("--libraries")
     asked.add_argument("--beside", type=int)
     asked.add_argument("--lanes", type=int, default=lanes())
@@ -468,7 +475,8 @@ def main():
     kit, crates = kit_folder(), known_crates()
     if kit is None:
         return NOT_THIS_KIT
-    names = given.crates or [name for name in crates if any(os.path.isdir(os.path.join(TOP, "crates", name, it)) for it in FOLDERS)]
+    folders = SETS[given.set]
+    names = given.crates or [name for name in crates if any(os.path.isdir(os.path.join(TOP, "crates", name, it)) for it in folders)]
     if not given.libraries:
         build_libraries(crates, names)
     left = set(names)
@@ -476,7 +484,7 @@ def main():
     count, failed, started = 0, 0, time.monotonic()
     room = Lanes(given.lanes, given.beside)
     with ThreadPoolExecutor(len(tried)) as pool:
-        for crate, told in zip(tried, pool.map(lambda crate: try_crate(crate, given.beside, room), tried)):
+        for crate, told in zip(tried, pool.map(lambda crate: try_crate(crate, folders, given.beside, room), tried)):
             for name, is_refused, found in told:
                 print(f"planted {crate.name}/{name}: {'refused, as it must be' if is_refused else 'NOT REFUSED'}: {found[:160]}", flush=True)
                 failed += not is_refused
