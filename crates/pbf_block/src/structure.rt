@@ -1,13 +1,11 @@
 //! The structure of a payload: messages that lack or repeat something, or whose columns don't fit together.
 
 ghost use Rattle.std.specs.Prelude.{◌≡◌, ◌+◌, ◌≤◌, ◌^◌, ◌==◌, not, List, length};
-ghost use Rattle.std.specs.List.{flat_map};
-ghost use Rattle.pbf_wire.specs.declared.fault.Reason.TheVariants.{TagColumns};
-ghost use Rattle.pbf_wire.specs.Fields.{occurrence};
+ghost use Rattle.pbf_wire.specs.declared.fault.Reason.TheVariants.{TagColumns, MixedGroup, Changesets};
 ghost use Rattle.pbf_wire.specs.Least.{least};
 ghost use Rattle.pbf_wire.specs.Occurrence.{Occurrence};
 ghost use Rattle.pbf_wire.specs.Faults.{fault_where, fields_in, missing, twice, column_count};
-ghost use Rattle.pbf_block.specs.declared.message.TheConstants.{ID, KEYS, VALS, INFO};
+ghost use Rattle.pbf_block.specs.declared.message.TheConstants.{ID, KEYS, VALS, INFO, CHANGESETS};
 ghost use Rattle.pbf_block.specs.Counts.{AreCounts};
 ghost use Rattle.pbf_block.specs.StructureFaults.{entity_structure, node_structure, are_located, way_structure, are_members, relation_structure, member_structure, is_member, first_member, is_other, mixed, changesets, group_structure, table_structure, part_structure, structure_faults};
 
@@ -19,7 +17,8 @@ use crate::message::{
 use pbf_dense::Dense;
 use pbf_strings::Table;
 use pbf_wire::{
-    Fault, Field, Fields, Payload, Reason, fault_where, judge_missing, judge_twice, lesser,
+    Fault, Field, Fields, Judge, Payload, Reason, fault_where, judge_fields, judge_missing,
+    judge_twice, lesser,
 };
 
 /// Whether an entity has an id.
@@ -112,19 +111,24 @@ fn judge_relation(message: &[u8], at: u64, tag: u64) -> Option<Fault>
     )
 }
 
-/// The least fault of structure of the entities that a field of a group holds.
-fn judge_member(field: Field<'_>) -> Option<Fault>
-    ensures { result ≡ least (member_structure (occurrence field.entry)) }
-{
-    let Payload::Bytes(bytes, begin) = field.payload else {
-        return None;
-    };
-    match field.number {
-        NODES => judge_node(bytes, begin, field.offset),
-        DENSE => Dense::judge_structure(bytes, begin, field.offset),
-        WAYS => judge_way(bytes, begin, field.offset),
-        RELATIONS => judge_relation(bytes, begin, field.offset),
-        _ => None,
+/// The structure of the entities that a field of a group holds.
+#[derive(Clone, Copy)]
+struct MemberStructure;
+
+impl Judge for MemberStructure {
+    ghost faults = { λ _. member_structure };
+
+    fn judge(&self, field: Field<'_>) -> Option<Fault> {
+        let Payload::Bytes(bytes, begin) = field.payload else {
+            return None;
+        };
+        match field.number {
+            NODES => judge_node(bytes, begin, field.offset),
+            DENSE => Dense::judge_structure(bytes, begin, field.offset),
+            WAYS => judge_way(bytes, begin, field.offset),
+            RELATIONS => judge_relation(bytes, begin, field.offset),
+            _ => None,
+        }
     }
 }
 
@@ -161,64 +165,46 @@ fn is_other(first: Option<u64>, number: u64) -> bool
     }
 }
 
-/// The least of the fields that hold entities of another kind than the first.
-#[tactic(auto, using(crate::proofs::Parts::least_next, crate::proofs::Parts::lesser_nothing))]
+/// The fields that hold entities of another kind than the first.
+#[derive(Clone, Copy)]
+struct Mixed {
+    first: Option<u64>,
+}
+
+impl Judge for Mixed {
+    ghost faults = { λ mixed o. fault_where (is_other mixed.first o.number) o.place MixedGroup };
+
+    fn judge(&self, field: Field<'_>) -> Option<Fault> {
+        let is_other = is_other(self.first, field.number);
+        fault_where(is_other, field.offset, Reason::MixedGroup)
+    }
+}
+
 fn judge_mixed(message: &[u8], at: u64) -> Option<Fault>
     requires { at + length message.now ≤ 2 ^ 63 }
     ensures { result ≡ least (mixed (fields_in at message.now)) }
 {
     let first = first_member(message, at);
-    let mut least = None;
-    for item in Fields::new(message, at) {
-        let Ok(field) = item else {
-            return least;
-        };
-        if is_other(first, field.number) {
-            let other = Fault {
-                offset: field.offset,
-                reason: Reason::MixedGroup,
-            };
-            least = lesser(least, Some(other));
-        }
-    }
-    least
+    judge_fields(message, at, &Mixed { first })
 }
 
-/// The least of the fields of changesets.
-#[tactic(auto, using(crate::proofs::Parts::least_next, crate::proofs::Parts::lesser_nothing))]
+/// The fields of changesets.
+#[derive(Clone, Copy)]
+struct AnyChangesets;
+
+impl Judge for AnyChangesets {
+    ghost faults = { λ _ o. fault_where (o.number == CHANGESETS) o.place Changesets };
+
+    fn judge(&self, field: Field<'_>) -> Option<Fault> {
+        fault_where(field.number == CHANGESETS, field.offset, Reason::Changesets)
+    }
+}
+
 fn judge_changesets(message: &[u8], at: u64) -> Option<Fault>
     requires { at + length message.now ≤ 2 ^ 63 }
     ensures { result ≡ least (changesets (fields_in at message.now)) }
 {
-    let mut least = None;
-    for item in Fields::new(message, at) {
-        let Ok(field) = item else {
-            return least;
-        };
-        if field.number == CHANGESETS {
-            let changeset = Fault {
-                offset: field.offset,
-                reason: Reason::Changesets,
-            };
-            least = lesser(least, Some(changeset));
-        }
-    }
-    least
-}
-
-#[tactic(auto, using(crate::proofs::Parts::least_more, crate::proofs::Parts::lesser_nothing))]
-fn judge_members(message: &[u8], at: u64) -> Option<Fault>
-    requires { at + length message.now ≤ 2 ^ 63 }
-    ensures { result ≡ least (flat_map member_structure (fields_in at message.now)) }
-{
-    let mut least = None;
-    for item in Fields::new(message, at) {
-        let Ok(field) = item else {
-            return least;
-        };
-        least = lesser(least, judge_member(field));
-    }
-    least
+    judge_fields(message, at, &AnyChangesets)
 }
 
 /// The least fault of structure of a group.
@@ -229,7 +215,7 @@ fn judge_group(message: &[u8], at: u64) -> Option<Fault>
 {
     let kinds = lesser(judge_twice(message, at, DENSE), judge_mixed(message, at));
     let known = lesser(kinds, judge_changesets(message, at));
-    lesser(known, judge_members(message, at))
+    lesser(known, judge_fields(message, at, &MemberStructure))
 }
 
 /// Whether a table has too many texts.
@@ -240,33 +226,23 @@ fn judge_table(message: &[u8], tag: u64) -> Option<Fault>
     Table::judge_count(message, tag).err()
 }
 
-/// The least fault of structure of a table or a group.
-fn judge_part(field: Field<'_>) -> Option<Fault>
-    ensures { result ≡ least (part_structure (occurrence field.entry)) }
-{
-    let Payload::Bytes(bytes, begin) = field.payload else {
-        return None;
-    };
-    match field.number {
-        STRINGTABLE => judge_table(bytes, field.offset),
-        PRIMITIVEGROUP => judge_group(bytes, begin),
-        _ => None,
-    }
-}
+/// The structure of the table or the group that a field of a payload holds.
+#[derive(Clone, Copy)]
+struct PartStructure;
 
-#[tactic(auto, using(crate::proofs::Parts::least_more, crate::proofs::Parts::lesser_nothing))]
-fn judge_parts(payload: &[u8], at: u64) -> Option<Fault>
-    requires { at + length payload.now ≤ 2 ^ 63 }
-    ensures { result ≡ least (flat_map part_structure (fields_in at payload.now)) }
-{
-    let mut least = None;
-    for item in Fields::new(payload, at) {
-        let Ok(field) = item else {
-            return least;
+impl Judge for PartStructure {
+    ghost faults = { λ _. part_structure };
+
+    fn judge(&self, field: Field<'_>) -> Option<Fault> {
+        let Payload::Bytes(bytes, begin) = field.payload else {
+            return None;
         };
-        least = lesser(least, judge_part(field));
+        match field.number {
+            STRINGTABLE => judge_table(bytes, field.offset),
+            PRIMITIVEGROUP => judge_group(bytes, begin),
+            _ => None,
+        }
     }
-    least
 }
 
 /// The least fault of structure of a payload and of the messages in it. Its first byte stands at `at` in the file.
@@ -279,5 +255,5 @@ pub(crate) fn judge_structure(payload: &[u8], at: u64) -> Option<Fault>
         judge_missing(payload, at, at, STRINGTABLE),
         judge_twice(payload, at, STRINGTABLE),
     );
-    lesser(table, judge_parts(payload, at))
+    lesser(table, judge_fields(payload, at, &PartStructure))
 }

@@ -3,22 +3,24 @@
 ghost use Rattle.std.specs.Prelude.{◌≡◌, ◌+◌, ◌≤◌, ◌^◌, length};
 ghost use Rattle.std.specs.List.{flat_map};
 ghost use Rattle.pbf_wire.specs.declared.fault.Reason.TheVariants.{MemberKind};
-ghost use Rattle.pbf_wire.specs.Fields.{occurrence};
 ghost use Rattle.pbf_wire.specs.Columns.{joined};
 ghost use Rattle.pbf_wire.specs.Least.{least};
 ghost use Rattle.pbf_wire.specs.Faults.{fields_in, below_fault};
-ghost use Rattle.pbf_block.specs.Groups.{in_group};
 ghost use Rattle.pbf_block.specs.ValueFaults.{node_values, way_values, relation_values, member_values, value_faults};
 
 use crate::column_values::{judge_sums, last_value, last_value_left};
 use crate::entity_values::entity_values;
+use crate::in_groups::InGroups;
 use crate::message::{
-    DATE_GRANULARITY, DENSE, GRANULARITY, MEMIDS, NODE_LAT, NODE_LON, NODES, PRIMITIVEGROUP, REFS,
-    RELATIONS, ROLES_SID, TYPES, WAY_LAT, WAY_LON, WAYS,
+    DATE_GRANULARITY, DENSE, GRANULARITY, MEMIDS, NODE_LAT, NODE_LON, NODES, REFS, RELATIONS,
+    ROLES_SID, TYPES, WAY_LAT, WAY_LON, WAYS,
 };
 use crate::ranges::{judge_positive, judge_signed, judge_wide};
 use pbf_dense::Dense;
-use pbf_wire::{Fault, Field, Fields, Payload, Reason, judge_indexes, judge_low_numbers, lesser};
+use pbf_wire::{
+    Fault, Field, Fields, Judge, Payload, Reason, judge_fields, judge_indexes, judge_low_numbers,
+    lesser,
+};
 
 #[tactic(auto, using(crate::proofs::Parts::lesser_parts))]
 fn judge_node(message: &[u8], at: u64, limit: u64) -> Option<Fault>
@@ -64,67 +66,28 @@ fn judge_relation(message: &[u8], at: u64, limit: u64) -> Option<Fault>
     lesser(ids, judge_kinds(message, at))
 }
 
-/// The least fault of values of the entities that a field of a group holds.
-fn judge_member(field: Field<'_>, limit: u64) -> Option<Fault>
-    requires { limit ≤ 2 ^ 62 }
-    ensures { result ≡ least (member_values limit (occurrence field.entry)) }
-{
-    let Payload::Bytes(bytes, begin) = field.payload else {
-        return None;
-    };
-    match field.number {
-        NODES => judge_node(bytes, begin, limit),
-        DENSE => Dense::judge_values(bytes, begin, limit),
-        WAYS => judge_way(bytes, begin, limit),
-        RELATIONS => judge_relation(bytes, begin, limit),
-        _ => None,
-    }
+/// The values of the entities that a field of a group holds, whose table has `limit` texts.
+#[derive(Clone, Copy)]
+struct MemberValues {
+    limit: u64,
+    ghost limited: { limit ≤ 2 ^ 62 },
 }
 
-#[tactic(auto, using(crate::proofs::Parts::least_more, crate::proofs::Parts::lesser_nothing))]
-fn judge_group(message: &[u8], at: u64, limit: u64) -> Option<Fault>
-    requires placed { at + length message.now ≤ 2 ^ 63 }
-    requires limited { limit ≤ 2 ^ 62 }
-    ensures { result ≡ least (flat_map (member_values limit) (fields_in at message.now)) }
-{
-    let mut least = None;
-    for item in Fields::new(message, at) {
-        let Ok(field) = item else {
-            return least;
+impl Judge for MemberValues {
+    ghost faults = { λ members. member_values members.limit };
+
+    fn judge(&self, field: Field<'_>) -> Option<Fault> {
+        let Payload::Bytes(bytes, begin) = field.payload else {
+            return None;
         };
-        least = lesser(least, judge_member(field, limit));
+        match field.number {
+            NODES => judge_node(bytes, begin, self.limit),
+            DENSE => Dense::judge_values(bytes, begin, self.limit),
+            WAYS => judge_way(bytes, begin, self.limit),
+            RELATIONS => judge_relation(bytes, begin, self.limit),
+            _ => None,
+        }
     }
-    least
-}
-
-/// The least fault of values of a group.
-fn judge_part(field: Field<'_>, limit: u64) -> Option<Fault>
-    requires { limit ≤ 2 ^ 62 }
-    ensures { result ≡ least (in_group (member_values limit) (occurrence field.entry)) }
-{
-    if field.number != PRIMITIVEGROUP {
-        return None;
-    }
-    match field.payload {
-        Payload::Bytes(bytes, begin) => judge_group(bytes, begin, limit),
-        _ => None,
-    }
-}
-
-#[tactic(auto, using(crate::proofs::Parts::least_more, crate::proofs::Parts::lesser_nothing))]
-fn judge_parts(payload: &[u8], at: u64, limit: u64) -> Option<Fault>
-    requires placed { at + length payload.now ≤ 2 ^ 63 }
-    requires limited { limit ≤ 2 ^ 62 }
-    ensures { result ≡ least (flat_map (in_group (member_values limit)) (fields_in at payload.now)) }
-{
-    let mut least = None;
-    for item in Fields::new(payload, at) {
-        let Ok(field) = item else {
-            return least;
-        };
-        least = lesser(least, judge_part(field, limit));
-    }
-    least
 }
 
 /// The least fault of values of a payload and of the messages in it, whose table has `limit` texts. Its first byte stands at
@@ -143,5 +106,8 @@ pub(crate) fn judge_values(payload: &[u8], at: u64, limit: u64) -> Option<Fault>
             Reason::DateGranularity,
         ),
     );
-    lesser(scale, judge_parts(payload, at, limit))
+    lesser(
+        scale,
+        judge_fields(payload, at, &InGroups(MemberValues { limit })),
+    )
 }

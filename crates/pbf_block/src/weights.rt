@@ -13,14 +13,15 @@ ghost use Rattle.pbf_block.specs.Groups.{in_group};
 ghost use Rattle.pbf_block.specs.Payload.{along};
 ghost use Rattle.pbf_block.specs.Weights.{weight_fault, member_weights};
 
-use crate::message::{DENSE, NODES, PRIMITIVEGROUP, RELATIONS, WAYS};
+use crate::in_groups::InGroups;
+use crate::message::{DENSE, NODES, RELATIONS, WAYS};
 use crate::node::node_in;
 use crate::relation::relation_in;
 use crate::way::way_in;
 use osm_entity::{EntityRef, HIGHEST_WEIGHT, Scale};
 use pbf_dense::{Dense, KEYS_VALS};
 use pbf_strings::Table;
-use pbf_wire::{Fault, Field, Fields, Payload, Reason, column_count, fault_where, lesser};
+use pbf_wire::{Fault, Field, Judge, Payload, Reason, column_count, fault_where, judge_fields};
 
 /// Whether an entity is too heavy.
 fn judge_weight(entity: EntityRef<'_>, place: u64) -> Option<Fault>
@@ -30,7 +31,6 @@ fn judge_weight(entity: EntityRef<'_>, place: u64) -> Option<Fault>
 }
 
 /// Whether a node of a dense message is too heavy.
-#[tactic(auto, using(crate::proofs::Parts::least_more, crate::proofs::Parts::lesser_nothing))]
 fn judge_dense_weight<'a>(
     message: &'a [u8],
     at: u64,
@@ -42,11 +42,7 @@ fn judge_dense_weight<'a>(
     ensures { result ≡ least (flat_map (weight_fault place)
         (map node (nodes_along table.now scale (fields_in at message.now)))) }
 {
-    let mut least = None;
-    for node in Dense::over(message, at, table, scale) {
-        least = lesser(least, judge_weight(EntityRef::Node(node), place));
-    }
-    least
+    Dense::over(message, at, table, scale).judge_nodes(place)
 }
 
 /// Whether entities of so many tags, refs, locations and members can't be too heavy, where no text is longer than `longest`.
@@ -97,69 +93,29 @@ fn judge_members<'a>(field: Field<'a>, table: &'a Table<'a>, scale: Scale) -> Op
     }
 }
 
-/// The same, where no text is longer than `longest`: most fields are short enough to be passed over.
-pub(crate) fn judge_member_weight<'a>(
-    field: Field<'a>,
+/// The same of each field of a group, where no text is longer than `longest`: most fields are short enough to be passed over.
+#[derive(Clone, Copy)]
+struct MemberWeights<'a> {
     table: &'a Table<'a>,
     scale: Scale,
     longest: u64,
-) -> Option<Fault>
-    requires { longest_of table.now ≤ longest }
-    ensures { result ≡ least (member_weights along table.now scale (occurrence field.entry)) }
-{
-    if is_light(field, longest) {
-        return None;
-    }
-    judge_members(field, table, scale)
+    ghost short: { longest_of table.now ≤ longest },
 }
 
-/// The least weight fault of a group whose first byte stands at `at` in the file.
-#[tactic(auto, using(crate::proofs::Parts::least_more, crate::proofs::Parts::lesser_nothing))]
-fn judge_group_weights<'a>(
-    message: &'a [u8],
-    at: u64,
-    table: &'a Table<'a>,
-    scale: Scale,
-    longest: u64,
-) -> Option<Fault>
-    requires placed { at + length message.now ≤ 2 ^ 63 }
-    requires short { longest_of table.now ≤ longest }
-    ensures { result
-        ≡ least (flat_map (member_weights along table.now scale) (fields_in at message.now)) }
-{
-    let mut least = None;
-    for item in Fields::new(message, at) {
-        let Ok(field) = item else {
-            return least;
-        };
-        least = lesser(least, judge_member_weight(field, table, scale, longest));
-    }
-    least
-}
+impl Judge for MemberWeights<'_> {
+    ghost faults = { λ members. member_weights along members.table.now members.scale };
 
-/// The least weight fault of a field of the payload, which may be a group.
-fn judge_field_weights<'a>(
-    field: Field<'a>,
-    table: &'a Table<'a>,
-    scale: Scale,
-    longest: u64,
-) -> Option<Fault>
-    requires { longest_of table.now ≤ longest }
-    ensures { result ≡ least (in_group (member_weights along table.now scale) (occurrence field.entry)) }
-{
-    if field.number != PRIMITIVEGROUP {
-        return None;
-    }
-    match field.payload {
-        Payload::Bytes(message, at) => judge_group_weights(message, at, table, scale, longest),
-        _ => None,
+    fn judge(&self, field: Field<'_>) -> Option<Fault> {
+        if is_light(field, self.longest) {
+            return None;
+        }
+        judge_members(field, self.table, self.scale)
     }
 }
 
 /// The least weight fault of a payload whose first byte stands at `at` in the file: `EntityLarge` at the first field of a
 /// group with an entity above [`HIGHEST_WEIGHT`]. Goes through the texts, and through those entities that may be too heavy by the
 /// length of their message. Takes no memory.
-#[tactic(auto, using(crate::proofs::Parts::least_more, crate::proofs::Parts::lesser_nothing))]
 pub(crate) fn judge_weights<'a>(
     payload: &'a [u8],
     at: u64,
@@ -170,13 +126,10 @@ pub(crate) fn judge_weights<'a>(
     ensures { result ≡ least
         (flat_map (in_group (member_weights along table.now scale)) (fields_in at payload.now)) }
 {
-    let longest = table.longest() as u64;
-    let mut least = None;
-    for item in Fields::new(payload, at) {
-        let Ok(field) = item else {
-            return least;
-        };
-        least = lesser(least, judge_field_weights(field, table, scale, longest));
-    }
-    least
+    let members = MemberWeights {
+        table,
+        scale,
+        longest: table.longest() as u64,
+    };
+    judge_fields(payload, at, &InGroups(members))
 }

@@ -11,10 +11,9 @@ use crate::message::{DENSE_KINDS, DENSEINFO, DENSEINFO_KINDS};
 use crate::phase::Phase;
 use crate::structure::judge_structure;
 use crate::values::judge_values;
-use crate::weights::judge_nodes;
 use osm_entity::Scale;
 use pbf_strings::Table;
-use pbf_wire::{Fault, judge_nested};
+use pbf_wire::{Fault, judge_nested, refuse};
 
 /// The scale of the stored numbers themselves.
 pub(crate) const AS_STORED: Scale = Scale {
@@ -66,16 +65,6 @@ fn dense_fault(message: &[u8], at: u64, tag: u64, table: &Table<'_>) -> Option<F
     }
 }
 
-/// An error, where there is a fault.
-fn refuse(fault: Option<Fault>) -> Result<(), Fault>
-    ensures { result ≡ judged fault }
-{
-    match fault {
-        Some(fault) => Err(fault),
-        None => Ok(()),
-    }
-}
-
 impl<'a> Dense<'a> {
     ghost use Rattle.std.specs.Prelude.{◌↔◌, ℕ, Some, None, Err, IfOk, OnOk};
     ghost use Rattle.pbf_wire.specs.declared.fault.Fault.{Fault};
@@ -120,7 +109,7 @@ impl<'a> Dense<'a> {
         ensures { result ≡ least (dense_weights tag
             (nodes_along table.now as_stored (fields_in at message.now))) }
     {
-        judge_nodes(Dense::over(message, at, table, AS_STORED), tag)
+        Dense::over(message, at, table, AS_STORED).judge_nodes(tag)
     }
 
     /// Judges a dense message by one phase. Its first byte stands at `at` in the file, and its field at `tag`; the table is

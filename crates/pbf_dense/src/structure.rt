@@ -1,7 +1,6 @@
 //! Whether the columns of a dense message fit together.
 
 ghost use Rattle.std.specs.Prelude.{◌≡◌, ◌+◌, ◌≤◌, ◌^◌, ◌==◌, map, length};
-ghost use Rattle.std.specs.List.{flat_map};
 ghost use Rattle.pbf_wire.specs.Columns.{column};
 ghost use Rattle.pbf_wire.specs.Cursors.{numbers_left};
 ghost use Rattle.pbf_wire.specs.Fields.{occurrence};
@@ -15,8 +14,8 @@ use crate::message::{
     CHANGESET, DENSEINFO, ID, KEYS_VALS, LAT, LON, TIMESTAMP, UID, USER_SID, VERSION, VISIBLE,
 };
 use pbf_wire::{
-    Column, Fault, Field, Fields, Payload, Reason, column_count, fault_where, judge_twice, lesser,
-    low_u32,
+    Column, Fault, Field, Judge, Payload, Reason, column_count, fault_where, judge_fields,
+    judge_twice, lesser, low_u32,
 };
 
 /// Whether a column has so many entries.
@@ -101,34 +100,24 @@ fn judge_info(info: &[u8], at: u64, tag: u64, nodes: usize) -> Option<Fault>
     fault_where(!fits, tag, Reason::ColumnLengths)
 }
 
-/// The same of a field of a dense message.
-fn judge_info_field(field: Field<'_>, nodes: usize) -> Option<Fault>
-    ensures { result ≡ least (entered DENSEINFO (info_counts nodes) (occurrence field.entry)) }
-{
-    if field.number != DENSEINFO {
-        return None;
-    }
-    match field.payload {
-        Payload::Bytes(info, begin) => judge_info(info, begin, field.offset, nodes),
-        _ => None,
-    }
+/// The counts of the DenseInfos of a message with so many nodes.
+#[derive(Clone, Copy)]
+struct InfoStructure {
+    nodes: usize,
 }
 
-/// The least fault of the counts of all DenseInfos.
-#[tactic(auto, using(crate::proofs::Parts::least_more, crate::proofs::Parts::lesser_nothing))]
-fn judge_infos(message: &[u8], at: u64, nodes: usize) -> Option<Fault>
-    requires { at + length message.now ≤ 2 ^ 63 }
-    ensures { result
-        ≡ least (flat_map (entered DENSEINFO (info_counts nodes)) (fields_in at message.now)) }
-{
-    let mut least = None;
-    for item in Fields::new(message, at) {
-        let Ok(field) = item else {
-            return least;
-        };
-        least = lesser(least, judge_info_field(field, nodes));
+impl Judge for InfoStructure {
+    ghost faults = { λ infos. entered DENSEINFO (info_counts infos.nodes) };
+
+    fn judge(&self, field: Field<'_>) -> Option<Fault> {
+        if field.number != DENSEINFO {
+            return None;
+        }
+        match field.payload {
+            Payload::Bytes(info, begin) => judge_info(info, begin, field.offset, self.nodes),
+            _ => None,
+        }
     }
-    least
 }
 
 /// The least fault of structure of a dense message whose first byte stands at `at` in the file, and its field at `tag`.
@@ -140,6 +129,9 @@ pub(crate) fn judge_structure(message: &[u8], at: u64, tag: u64) -> Option<Fault
     let counts = judge_coordinates(message, at, tag);
     let runs = judge_runs(message, at, tag);
     let twice = judge_twice(message, at, DENSEINFO);
-    let infos = judge_infos(message, at, column_count(message, at, ID));
-    lesser(counts, lesser(runs, lesser(twice, infos)))
+    let infos = InfoStructure {
+        nodes: column_count(message, at, ID),
+    };
+    let unlike = judge_fields(message, at, &infos);
+    lesser(counts, lesser(runs, lesser(twice, unlike)))
 }

@@ -1,7 +1,6 @@
 //! Whether the values of a dense message are in range, and the table has its texts.
 
 ghost use Rattle.std.specs.Prelude.{◌≡◌, ◌+◌, ◌≤◌, ◌^◌, false, length};
-ghost use Rattle.std.specs.List.{flat_map};
 ghost use Rattle.pbf_wire.specs.Columns.{joined};
 ghost use Rattle.pbf_wire.specs.Fields.{occurrence};
 ghost use Rattle.pbf_wire.specs.Least.{least};
@@ -12,8 +11,8 @@ use crate::entries::next_placed;
 use crate::message::{CHANGESET, DENSEINFO, ID, KEYS_VALS, LAT, LON, TIMESTAMP, UID, USER_SID};
 use osm_entity::{STORED_LIMIT, UID_LIMIT};
 use pbf_wire::{
-    Column, Fault, Field, Fields, Payload, judge_index, judge_index_sums, judge_sums, lesser,
-    low_u32,
+    Column, Fault, Field, Judge, Payload, judge_fields, judge_index, judge_index_sums, judge_sums,
+    lesser, low_u32,
 };
 
 /// The first value of a column of differences that is out of range.
@@ -60,36 +59,25 @@ fn judge_info(info: &[u8], at: u64, limit: u64, tag: u64) -> Option<Fault>
     lesser(timestamps, lesser(changesets, lesser(uids, users)))
 }
 
-/// The same of a field of a dense message.
-fn judge_info_field(field: Field<'_>, limit: u64) -> Option<Fault>
-    requires { limit ≤ 2 ^ 62 }
-    ensures { result ≡ least (entered DENSEINFO (info_values limit) (occurrence field.entry)) }
-{
-    if field.number != DENSEINFO {
-        return None;
-    }
-    match field.payload {
-        Payload::Bytes(info, begin) => judge_info(info, begin, limit, field.offset),
-        _ => None,
-    }
+/// The values of the DenseInfos of a message, of which texts are named in a table of `limit` texts.
+#[derive(Clone, Copy)]
+struct InfoValues {
+    limit: u64,
+    ghost limited: { limit ≤ 2 ^ 62 },
 }
 
-/// The least fault of the values of all DenseInfos.
-#[tactic(auto, using(crate::proofs::Parts::least_more, crate::proofs::Parts::lesser_nothing))]
-fn judge_infos(message: &[u8], at: u64, limit: u64) -> Option<Fault>
-    requires placed { at + length message.now ≤ 2 ^ 63 }
-    requires limited { limit ≤ 2 ^ 62 }
-    ensures { result
-        ≡ least (flat_map (entered DENSEINFO (info_values limit)) (fields_in at message.now)) }
-{
-    let mut least = None;
-    for item in Fields::new(message, at) {
-        let Ok(field) = item else {
-            return least;
-        };
-        least = lesser(least, judge_info_field(field, limit));
+impl Judge for InfoValues {
+    ghost faults = { λ infos. entered DENSEINFO (info_values infos.limit) };
+
+    fn judge(&self, field: Field<'_>) -> Option<Fault> {
+        if field.number != DENSEINFO {
+            return None;
+        }
+        match field.payload {
+            Payload::Bytes(info, begin) => judge_info(info, begin, self.limit, field.offset),
+            _ => None,
+        }
     }
-    least
 }
 
 /// The least fault of the values of a dense message whose first byte stands at `at` in the file, of which texts are named in a
@@ -104,6 +92,6 @@ pub(crate) fn judge_values(message: &[u8], at: u64, limit: u64) -> Option<Fault>
     let lats = judge_range(message, at, LAT);
     let lons = judge_range(message, at, LON);
     let texts = judge_texts(message, at, limit);
-    let infos = judge_infos(message, at, limit);
+    let infos = judge_fields(message, at, &InfoValues { limit });
     lesser(ids, lesser(lats, lesser(lons, lesser(texts, infos))))
 }

@@ -17,14 +17,16 @@ fn judge_node(node: NodeRef<'_>, tag: u64) -> Option<Fault>
     fault_where(node.weight() > HIGHEST_WEIGHT, tag, Reason::EntityLarge)
 }
 
-/// The least fault of the weights of these nodes.
-#[tactic(auto, using(crate::proofs::Parts::least_more, crate::proofs::Parts::lesser_nothing), unfolding(crate::specs::Judged::dense_weights))]
-pub(crate) fn judge_nodes(nodes: Dense<'_>, tag: u64) -> Option<Fault>
-    ensures { result ≡ least (dense_weights tag (dense_left nodes.entry)) }
-{
-    let mut least = None;
-    for node in nodes {
-        least = lesser(least, judge_node(node, tag));
+impl Dense<'_> {
+    /// `EntityLarge` at `tag`, where one of the nodes that are still to come is too heavy.
+    #[tactic(auto, using(crate::proofs::Parts::least_more, crate::proofs::Parts::lesser_nothing), unfolding(crate::specs::Judged::dense_weights))]
+    pub fn judge_nodes(self, tag: u64) -> Option<Fault>
+        ensures { result ≡ least (dense_weights tag (dense_left self.entry)) }
+    {
+        let mut least = None;
+        for node in self {
+            least = lesser(least, judge_node(node, tag));
+        }
+        least
     }
-    least
 }

@@ -15,8 +15,8 @@ use crate::header::{
     RIGHT, TOP,
 };
 use pbf_wire::{
-    Fault, Field, Fields, Payload, Reason, fault_where, judge_missing, judge_nested, judge_twice,
-    lesser,
+    Fault, Field, Judge, Payload, Reason, fault_where, judge_fields, judge_missing, judge_nested,
+    judge_twice, lesser, refuse,
 };
 
 /// The first of the edges that a box lacks. Its field stands at `place`.
@@ -32,33 +32,22 @@ fn judge_edges(message: &[u8], at: u64, place: u64) -> Option<Fault>
     lesser(left, lesser(right, lesser(top, bottom)))
 }
 
-/// What the box of a field lacks, if the field is a box.
-fn judge_box(field: Field<'_>) -> Option<Fault>
-    ensures { result ≡ least (entered BBOX edge_faults (occurrence field.entry)) }
-{
-    if field.number != BBOX {
-        return None;
-    }
-    match field.payload {
-        Payload::Bytes(bytes, begin) => judge_edges(bytes, begin, field.offset),
-        _ => None,
-    }
-}
+/// What the boxes of a header lack.
+#[derive(Clone, Copy)]
+struct Boxes;
 
-/// What the boxes lack.
-#[tactic(auto, using(crate::proofs::Parts::least_more, crate::proofs::Parts::lesser_nothing))]
-fn judge_boxes(payload: &[u8], at: u64) -> Option<Fault>
-    requires { at + length payload.now ≤ 2 ^ 63 }
-    ensures { result ≡ least (flat_map (entered BBOX edge_faults) (fields_in at payload.now)) }
-{
-    let mut least = None;
-    for item in Fields::new(payload, at) {
-        let Ok(field) = item else {
-            return least;
-        };
-        least = lesser(least, judge_box(field));
+impl Judge for Boxes {
+    ghost faults = { λ _. entered BBOX edge_faults };
+
+    fn judge(&self, field: Field<'_>) -> Option<Fault> {
+        if field.number != BBOX {
+            return None;
+        }
+        match field.payload {
+            Payload::Bytes(bytes, begin) => judge_edges(bytes, begin, field.offset),
+            _ => None,
+        }
     }
-    least
 }
 
 /// The least fault of structure.
@@ -67,7 +56,10 @@ fn judge_structure(payload: &[u8], at: u64) -> Option<Fault>
     requires { at + length payload.now ≤ 2 ^ 63 }
     ensures { result ≡ least (header_structure (fields_in at payload.now)) }
 {
-    lesser(judge_twice(payload, at, BBOX), judge_boxes(payload, at))
+    lesser(
+        judge_twice(payload, at, BBOX),
+        judge_fields(payload, at, &Boxes),
+    )
 }
 
 /// Whether a required feature is one that this crate can read.
@@ -77,33 +69,22 @@ fn is_known(feature: &[u8]) -> bool
     feature == OSM_SCHEMA || feature == DENSE_NODES
 }
 
-/// Whether a field is a required feature that isn't known.
-fn judge_feature(field: Field<'_>) -> Option<Fault>
-    ensures { result ≡ least (entered REQUIRED_FEATURES feature_faults (occurrence field.entry)) }
-{
-    if field.number != REQUIRED_FEATURES {
-        return None;
-    }
-    match field.payload {
-        Payload::Bytes(text, _) => fault_where(!is_known(text), field.offset, Reason::Feature),
-        _ => None,
-    }
-}
+/// The required features that are not known.
+#[derive(Clone, Copy)]
+struct Features;
 
-/// The least fault of values.
-#[tactic(auto, using(crate::proofs::Parts::least_more, crate::proofs::Parts::lesser_nothing))]
-fn judge_features(payload: &[u8], at: u64) -> Option<Fault>
-    requires { at + length payload.now ≤ 2 ^ 63 }
-    ensures { result ≡ least (header_values (fields_in at payload.now)) }
-{
-    let mut least = None;
-    for item in Fields::new(payload, at) {
-        let Ok(field) = item else {
-            return least;
-        };
-        least = lesser(least, judge_feature(field));
+impl Judge for Features {
+    ghost faults = { λ _. entered REQUIRED_FEATURES feature_faults };
+
+    fn judge(&self, field: Field<'_>) -> Option<Fault> {
+        if field.number != REQUIRED_FEATURES {
+            return None;
+        }
+        match field.payload {
+            Payload::Bytes(text, _) => fault_where(!is_known(text), field.offset, Reason::Feature),
+            _ => None,
+        }
     }
-    least
 }
 
 /// The first fault of a HeaderBlock whose first byte stands at `at` in the file. Takes no memory.
@@ -118,8 +99,5 @@ pub(crate) fn judge_header(payload: &[u8], at: u64) -> Result<(), Fault>
     if let Some(fault) = judge_structure(payload, at) {
         return Err(fault);
     }
-    match judge_features(payload, at) {
-        Some(fault) => Err(fault),
-        None => Ok(()),
-    }
+    refuse(judge_fields(payload, at, &Features))
 }

@@ -1,7 +1,6 @@
 -- Lists of faults, step by step.
-use Rattle.std.proofs.Common.{◌≡◌, ◌==◌, ℕ, zero, suc, ◌+◌, ◌-◌, ◌≤◌, Bool, true, false, List, [], ◌∷◌, length, map, drop, refl, ap, sym, ◌∙◌, arith}
+use Rattle.std.proofs.Common.{◌≡◌, ◌==◌, ℕ, zero, suc, ◌+◌, ◌-◌, ◌≤◌, Bool, true, false, List, [], ◌∷◌, ◌++◌, length, map, drop, refl, ap, sym, ◌∙◌, arith}
 use Rattle.std.specs.Prelude.{Option, Some, None, Result, Ok, Err, filter, nat_lt, if◌then◌else◌}
-use Rattle.std.specs.Result.{result_err}
 use Rattle.std.specs.List.{flat_map, count_by, AllByRecursion}
 use Rattle.std.proofs.lemmas.List.{length-append, length-map}
 use Rattle.std.proofs.lemmas.List.Sums.{length-filter, count_by-le-length}
@@ -12,10 +11,10 @@ use Rattle.pbf_wire.specs.declared.kind.Kind.{Kind}
 use Rattle.pbf_wire.specs.Varint.{IsVarint, varint_at}
 use Rattle.pbf_wire.specs.Occurrence.{Content, Number, Eight, Four, Bytes, Occurrence, Item, IsBody, IsSpelled, Joins, found}
 use Rattle.pbf_wire.specs.Columns.{Entry, entries_from, entries_past, read_entries, placed, numbers_in, column_of, joined}
-use Rattle.pbf_wire.specs.Wire.{kind_of, reason_in, or_at, wire, judged}
+use Rattle.pbf_wire.specs.Wire.{kind_of, reason_in, or_at, wire}
 use Rattle.pbf_wire.specs.Reading.{bytes_held}
 use Rattle.pbf_wire.specs.Least.{lesser, least, rank}
-use Rattle.pbf_wire.specs.Faults.{fault, or_more, message_faults, ends_in, ends_of, column_count, fields_in}
+use Rattle.pbf_wire.specs.Faults.{fault, fault_where, or_more, message_faults, ends_in, ends_of, column_count, fields_in}
 use Rattle.pbf_wire.proofs.Cutting.{is_cutting}
 use Rattle.pbf_wire.proofs.LeastLemmas.{lesser_joined}
 
@@ -29,9 +28,14 @@ leaf_is_wire kinds [] = refl
 leaf_is_wire kinds (Ok o ∷ rest) = elim (reason_in (kind_of kinds o.number) o.content) as (λ r. least (or_more o.place r (message_faults kinds (λ o. []) rest)) ≡ or_at o.place r (wire kinds rest)) [ Some reason ↦ refl | None ↦ leaf_is_wire kinds rest ]
 leaf_is_wire kinds (Err e ∷ rest) = refl
 
-pub err_is : {E : Type 0} (e : Option E) → result_err (judged e) ≡ e
-err_is None = refl
-err_is (Some e) = refl
+-- a fault at each occurrence for which a test holds
+pub fault_at_each : (test : Occurrence → Bool) (reason : Reason) (os : List Occurrence) → flat_map (λ o. fault_where (test o) o.place reason) os ≡ map (λ o. fault o.place reason) (filter test os)
+fault_at_each test reason [] = refl
+fault_at_each test reason (o ∷ os) =
+    elim (test o) as (λ b. fault_where b o.place reason ++ flat_map (λ o. fault_where (test o) o.place reason) os ≡ map (λ o. fault o.place reason) (if b then o ∷ filter test os else filter test os)) [
+      | true ↦ ap (λ w. fault o.place reason ∷ w) (fault_at_each test reason os)
+      | false ↦ fault_at_each test reason os
+    ]
 
 -- ---- each occurrence after the first
 

@@ -9,16 +9,18 @@ mod delta_out;
 mod fault;
 mod field;
 mod fields;
+mod form;
 mod judge;
-mod judging;
 mod kind;
 pub mod laws;
 mod least;
 mod reading;
 mod short;
 mod signed;
+mod structure;
 mod sum;
 mod sums;
+mod values;
 mod varint;
 mod writing;
 
@@ -29,18 +31,19 @@ pub use delta_out::DeltaOut;
 pub use fault::{Fault, ReadFault, Reason};
 pub use field::{Field, Payload};
 pub use fields::Fields;
-pub use judge::{judge_payload, judge_wire, kind_of};
-pub use judging::{
-    column_count, fault_where, judge_index, judge_index_sums, judge_indexes, judge_leaf,
-    judge_low_numbers, judge_missing, judge_nested, judge_range, judge_sums, judge_sums_left,
-    judge_twice,
-};
+pub use form::{judge_form, judge_leaf, judge_nested, judge_payload, judge_wire, kind_of};
+pub use judge::{Judge, fault_where, judge_fields, refuse};
 pub use kind::Kind;
 pub use least::{comes_before, lesser};
 pub use reading::{last_field, last_number};
 pub use short::{has_small_numbers, is_short};
 pub use signed::{low_i32, low_i64, low_sint32, low_u32, sign_extended, unzigzag, zigzag};
+pub use structure::{column_count, judge_missing, judge_twice};
 pub use sum::Sum;
 pub use sums::Sums;
+pub use values::{
+    judge_index, judge_index_sums, judge_indexes, judge_low_numbers, judge_range, judge_sums,
+    judge_sums_left,
+};
 pub use varint::{get_varint, put_varint, shortest_spelling, varint_len};
 pub use writing::{put_bytes, put_column, put_int64, put_number, put_unless_empty};

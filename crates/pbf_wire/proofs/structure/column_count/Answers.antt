@@ -1,0 +1,11 @@
+use Rattle.std.proofs.Common.{arith, rules}
+use Rattle.pbf_wire.proofs.FaultLemmas.{count_short}
+use Rattle.pbf_wire.proofs.structure.column_count.Goals as goal
+
+pub loop-item-init : goal.loop-item-init
+loop-item-init c = record {
+  can = tt;
+  ends = tt;
+  so_far = search rules;
+  room = omega (arith, count_short c.args.number c.args.at c.args.message.now, c.requires);
+}

@@ -1,0 +1,167 @@
+//! The wire form of messages: the kinds of the fields that are known, and the least fault of a message and of those in it.
+
+ghost use Rattle.std.specs.Prelude.{◌≡◌, ◌+◌, ◌≤◌, ◌^◌, ℕ, [], Ok, Err, length};
+ghost use Rattle.pbf_wire.specs.Occurrence.{items};
+ghost use Rattle.pbf_wire.specs.Payload.{content};
+ghost use Rattle.pbf_wire.specs.Columns.{entries, entry_fault};
+ghost use Rattle.pbf_wire.specs.Fields.{occurrence};
+ghost use Rattle.pbf_wire.specs.Least.{least};
+ghost use Rattle.pbf_wire.specs.Wire.{kind_of, reason_in, wire, judged};
+ghost use Rattle.pbf_wire.specs.Faults.{message_faults, leaf_faults, entered, nested_faults};
+
+use crate::fault::{Fault, Reason};
+use crate::field::{Field, Payload};
+use crate::fields::Fields;
+use crate::judge::{Judge, refuse};
+use crate::kind::Kind;
+use crate::least::lesser;
+use crate::short::is_short;
+use crate::varint::first_varint;
+
+/// Of so few bytes the numbers are read one by one.
+const FEW_BYTES: usize = 8;
+
+/// Whether the bytes are whole varints.
+fn judge_packed(packed: &[u8]) -> Result<(), Reason>
+    ensures { result ≡ judged (entry_fault (entries packed.now)) }
+{
+    // Most columns are short numbers throughout; a few numbers are as soon read.
+    if packed.len() > FEW_BYTES && is_short(packed) {
+        return Ok(());
+    }
+    let mut rest = packed;
+    while !rest.is_empty() {
+        let (_, length) = first_varint(rest)?;
+        rest = &rest[length..];
+    }
+    Ok(())
+}
+
+/// The kind of a field, if it is listed; the first, where it is listed twice. Looks through the list from its start.
+#[inline(always)]
+pub fn kind_of(kinds: &[(u64, Kind)], number: u64) -> Option<Kind>
+    ensures { result ≡ kind_of kinds.now number }
+{
+    let (_, kind) = kinds.iter().find(|(known, _)| *known == number)?;
+    Some(*kind)
+}
+
+/// Whether a field of this kind may have this payload: any payload where the kind is not known. The errors are `WrongType`,
+/// and for a packed column `VarintCut` or `VarintLong`, that of its first varint that fails.
+#[inline(always)]
+pub fn judge_payload(payload: Payload<'_>, kind: Option<Kind>) -> Result<(), Reason>
+    ensures { result ≡ judged (reason_in kind (content payload.entry)) }
+{
+    match (kind, payload) {
+        (None, _) => Ok(()),
+        (Some(Kind::Number | Kind::Column), Payload::Number(_)) => Ok(()),
+        (Some(Kind::Bytes), Payload::Bytes(..)) => Ok(()),
+        (Some(Kind::Column), Payload::Bytes(bytes, _)) => judge_packed(bytes),
+        _ => Err(Reason::WrongType),
+    }
+}
+
+/// The least wire fault of a message whose first byte stands at `at` in the file. `kinds` lists its known fields by their numbers;
+/// others may have any wire type. `inner` judges the messages that its fields hold. After a field with a fault of its own nothing
+/// is read.
+#[inline(always)]
+#[tactic(auto, using(crate::proofs::LeastLemmas::least_more, crate::proofs::LeastLemmas::lesser_nothing))]
+pub fn judge_form<J: Judge>(
+    message: &[u8],
+    at: u64,
+    kinds: &[(u64, Kind)],
+    inner: &J,
+) -> Option<Fault>
+    requires { at + length message.now ≤ 2 ^ 63 }
+    ensures { result ≡ least (message_faults kinds.now (J.faults inner.now) (items at message.now)) }
+{
+    let mut least = None;
+    for item in Fields::new(message, at) {
+        let field = match item {
+            Ok(field) => field,
+            Err(fault) => return lesser(least, Some(fault)),
+        };
+        if let Err(reason) = judge_payload(field.payload, kind_of(kinds, field.number)) {
+            let fault = Fault {
+                offset: field.offset,
+                reason,
+            };
+            return lesser(least, Some(fault));
+        }
+        least = lesser(least, inner.judge(field));
+    }
+    least
+}
+
+/// No messages: nothing is asked of what the fields hold.
+#[derive(Clone, Copy)]
+struct NoMessages;
+
+impl Judge for NoMessages {
+    ghost faults = { λ _ o. [] };
+
+    #[inline(always)]
+    fn judge(&self, _field: Field<'_>) -> Option<Fault> {
+        None
+    }
+}
+
+/// The first wire fault of a message without embedded messages, as [`judge_wire`] finds it.
+#[inline(always)]
+pub fn judge_leaf(message: &[u8], at: u64, kinds: &[(u64, Kind)]) -> Option<Fault>
+    requires { at + length message.now ≤ 2 ^ 63 }
+    ensures { result ≡ least (leaf_faults kinds.now 0 at message.now) }
+{
+    judge_form(message, at, kinds, &NoMessages)
+}
+
+/// The first wire fault of a message whose first byte stands at `at` in the file. `kinds` lists the known fields by their
+/// numbers; others may have any wire type. Embedded messages are not entered. Reads all bytes once and takes no memory.
+#[inline(always)]
+pub fn judge_wire(message: &[u8], at: u64, kinds: &[(u64, Kind)]) -> Result<(), Fault>
+    requires { at + length message.now ≤ 2 ^ 63 }
+    ensures { result ≡ judged (wire kinds.now (items at message.now)) }
+{
+    refuse(judge_leaf(message, at, kinds))
+}
+
+/// The wire form of the messages that one field holds.
+#[derive(Clone, Copy)]
+struct InnerForm<'a> {
+    number: u64,
+    kinds: &'a [(u64, Kind)],
+}
+
+impl Judge for InnerForm<'_> {
+    ghost faults = { λ inner. entered inner.number (leaf_faults inner.kinds.now) };
+
+    #[inline(always)]
+    fn judge(&self, field: Field<'_>) -> Option<Fault> {
+        if field.number != self.number {
+            return None;
+        }
+        match field.payload {
+            Payload::Bytes(bytes, begin) => judge_leaf(bytes, begin, self.kinds),
+            _ => None,
+        }
+    }
+}
+
+/// The least wire fault of a message with embedded messages at the field `number`, whose own fields `inner` lists.
+#[inline(always)]
+pub fn judge_nested(
+    message: &[u8],
+    at: u64,
+    kinds: &[(u64, Kind)],
+    number: u64,
+    inner: &[(u64, Kind)],
+) -> Option<Fault>
+    requires { at + length message.now ≤ 2 ^ 63 }
+    ensures { result ≡ least (nested_faults kinds.now number inner.now 0 at message.now) }
+{
+    let inner = InnerForm {
+        number,
+        kinds: inner,
+    };
+    judge_form(message, at, kinds, &inner)
+}
