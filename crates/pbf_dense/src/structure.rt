@@ -7,6 +7,7 @@ ghost use Rattle.pbf_wire.specs.Fields.{occurrence};
 ghost use Rattle.pbf_wire.specs.Least.{least};
 ghost use Rattle.pbf_wire.specs.Faults.{fault_where, entered, fields_in, column_count};
 ghost use Rattle.osm_entity.specs.Sources.{low_32};
+ghost use Rattle.pbf_dense.specs.declared.message.TheConstants.{DENSEINFO};
 ghost use Rattle.pbf_dense.specs.Judged.{coordinate_counts, are_runs, are_tags, run_faults, goes_with, info_counts, dense_structure};
 
 use crate::entries::next_number;

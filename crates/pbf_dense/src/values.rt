@@ -5,6 +5,7 @@ ghost use Rattle.pbf_wire.specs.Columns.{joined};
 ghost use Rattle.pbf_wire.specs.Fields.{occurrence};
 ghost use Rattle.pbf_wire.specs.Least.{least};
 ghost use Rattle.pbf_wire.specs.Faults.{entered, fields_in, index_faults};
+ghost use Rattle.pbf_dense.specs.declared.message.TheConstants.{DENSEINFO};
 ghost use Rattle.pbf_dense.specs.Judged.{texts_named, range_faults, info_values, dense_values};
 
 use crate::entries::next_placed;
