@@ -13,5 +13,5 @@ pub returns : goal.returns
 returns c =
     let os = fields_in c.args.at c.args.message.now in
     c.judge_fields.ensures
-    ∙ ap (λ (first : Option ℕ). least (flat_map (λ o. fault_where (is_other first o.number) o.place MixedGroup) os)) c.first_member.ensures
+    ∙ ap (λ (first : Option ℕ). least (flat_map (λ o. fault_where (is_other first o.number) o.place MixedGroup) os)) c.first_member-first.ensures
     ∙ ap (λ (faults : List Fault). least faults) (fault_at_each (λ o. is_other (first_member os) o.number) MixedGroup os)
