@@ -3,7 +3,6 @@
 ghost use Rattle.std.specs.Prelude.{◌≡◌, ◌+◌, ◌≤◌, ◌^◌, ◌==◌, map, length};
 ghost use Rattle.pbf_wire.specs.Columns.{column};
 ghost use Rattle.pbf_wire.specs.Cursors.{numbers_left};
-ghost use Rattle.pbf_wire.specs.Fields.{occurrence};
 ghost use Rattle.pbf_wire.specs.Least.{least};
 ghost use Rattle.pbf_wire.specs.Faults.{fault_where, entered, fields_in, column_count};
 ghost use Rattle.osm_entity.specs.Sources.{low_32};

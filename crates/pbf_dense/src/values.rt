@@ -2,7 +2,6 @@
 
 ghost use Rattle.std.specs.Prelude.{◌≡◌, ◌+◌, ◌≤◌, ◌^◌, false, length};
 ghost use Rattle.pbf_wire.specs.Columns.{joined};
-ghost use Rattle.pbf_wire.specs.Fields.{occurrence};
 ghost use Rattle.pbf_wire.specs.Least.{least};
 ghost use Rattle.pbf_wire.specs.Faults.{entered, fields_in, index_faults};
 ghost use Rattle.pbf_dense.specs.declared.message.TheConstants.{DENSEINFO};

@@ -1,14 +1,12 @@
 //! The judgement of a HeaderBlock.
 
 ghost use Rattle.std.specs.Prelude.{◌≡◌, ◌+◌, ◌≤◌, ◌^◌, length};
-ghost use Rattle.std.specs.List.{flat_map};
 ghost use Rattle.pbf_wire.specs.Faults.{entered, fields_in};
-ghost use Rattle.pbf_wire.specs.Fields.{occurrence};
 ghost use Rattle.pbf_wire.specs.Least.{least};
 ghost use Rattle.pbf_wire.specs.Wire.{judged};
 ghost use Rattle.pbf_strings.specs.TableOut.{has_text};
 ghost use Rattle.pbf_header.specs.declared.header.TheConstants.{BBOX, REQUIRED_FEATURES};
-ghost use Rattle.pbf_header.specs.HeaderFaults.{edge_faults, header_structure, feature_faults, header_values, header_fault};
+ghost use Rattle.pbf_header.specs.HeaderFaults.{edge_faults, header_structure, feature_faults, header_fault};
 ghost use Rattle.pbf_header.specs.WrittenHeader.{known_features};
 
 use crate::header::{

@@ -1,10 +1,9 @@
 //! The wire form of messages: the kinds of the fields that are known, and the least fault of a message and of those in it.
 
-ghost use Rattle.std.specs.Prelude.{◌≡◌, ◌+◌, ◌≤◌, ◌^◌, ℕ, [], Ok, Err, length};
+ghost use Rattle.std.specs.Prelude.{◌≡◌, ◌+◌, ◌≤◌, ◌^◌, [], Ok, Err, length};
 ghost use Rattle.pbf_wire.specs.Occurrence.{items};
 ghost use Rattle.pbf_wire.specs.Payload.{content};
 ghost use Rattle.pbf_wire.specs.Columns.{entries, entry_fault};
-ghost use Rattle.pbf_wire.specs.Fields.{occurrence};
 ghost use Rattle.pbf_wire.specs.Least.{least};
 ghost use Rattle.pbf_wire.specs.Wire.{kind_of, reason_in, wire, judged};
 ghost use Rattle.pbf_wire.specs.Faults.{message_faults, leaf_faults, entered, nested_faults};
