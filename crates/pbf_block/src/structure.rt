@@ -180,6 +180,7 @@ impl Judge for Mixed {
     }
 }
 
+/// `MixedGroup` at the least of them.
 fn judge_mixed(message: &[u8], at: u64) -> Option<Fault>
     requires { at + length message.now ≤ 2 ^ 63 }
     ensures { result ≡ least (mixed (fields_in at message.now)) }
@@ -200,6 +201,7 @@ impl Judge for AnyChangesets {
     }
 }
 
+/// `Changesets` at the least of them.
 fn judge_changesets(message: &[u8], at: u64) -> Option<Fault>
     requires { at + length message.now ≤ 2 ^ 63 }
     ensures { result ≡ least (changesets (fields_in at message.now)) }

@@ -93,7 +93,8 @@ fn judge_members<'a>(field: Field<'a>, table: &'a Table<'a>, scale: Scale) -> Op
     }
 }
 
-/// The same of each field of a group, where no text is longer than `longest`: most fields are short enough to be passed over.
+/// The weights of the entities that a field of a group holds, where no text is longer than `longest`: most fields are short enough
+/// to be passed over.
 #[derive(Clone, Copy)]
 struct MemberWeights<'a> {
     table: &'a Table<'a>,
