@@ -476,7 +476,10 @@ def main():
     if kit is None:
         return NOT_THIS_KIT
     folders = SETS[given.set]
-    names = given.crates or [name for name in crates if any(os.path.isdir(os.path.join(TOP, "crates", name, it)) for it in folders)]
+    known = [name for name in crates if any(os.path.isdir(os.path.join(TOP, "crates", name, it)) for it in folders)]
+    names = given.crates or known
+    if set(names) - set(known):
+        sys.exit(f"planted: no bugs in {' or '.join(folders)} of {', '.join(sorted(set(names) - set(known)))}")
     if not given.libraries:
         build_libraries(crates, names)
     left = set(names)

@@ -175,8 +175,8 @@ impl Judge for Mixed {
     ghost faults = { λ mixed o. fault_where (is_other mixed.first o.number) o.place MixedGroup };
 
     fn judge(&self, field: Field<'_>) -> Option<Fault> {
-        let is_other = is_other(self.first, field.number);
-        fault_where(is_other, field.offset, Reason::MixedGroup)
+        let wrong = is_other(self.first, field.number);
+        fault_where(wrong, field.offset, Reason::MixedGroup)
     }
 }
 
