@@ -154,8 +154,9 @@ impl<'a> Block<'a> {
     /// The entities of these kinds, in order, those of a dense message together. Messages of other kinds aren't looked into. Takes no
     /// memory.
     pub fn runs_among(&self, kinds: Kinds) -> Runs<'_>
-        ensures { joined_runs (runs_left result)
+        ensures exact { joined_runs (runs_left result)
             ≡ filter (is_among kinds) (entities self.now.at self.now.payload.now) }
+        ensures fits { AllByRecursion EntityFits (joined_runs (runs_left result)) }
     {
         self.opened.runs_among(kinds)
     }

@@ -97,8 +97,11 @@ impl<'a> UnjudgedBlock<'a> {
     /// The entities of these kinds, in order, those of a dense message together, if the block has no fault; otherwise some entities.
     /// Messages of other kinds aren't looked into. Takes no memory.
     pub fn runs_among(&self, kinds: Kinds) -> Runs<'_>
-        ensures { block_fault self.now.at self.now.payload.now ≡ None → joined_runs (runs_left result)
+        ensures exact { block_fault self.now.at self.now.payload.now ≡ None
+            → joined_runs (runs_left result)
             ≡ filter (is_among kinds) (entities self.now.at self.now.payload.now) }
+        ensures fits { block_fault self.now.at self.now.payload.now ≡ None
+            → AllByRecursion EntityFits (joined_runs (runs_left result)) }
     {
         Runs::over(self.payload, self.at, &self.table, self.scale, kinds)
     }

@@ -1,5 +1,5 @@
 -- The columns of metadata.
-use Rattle.std.proofs.Common.{◌≡◌, ℕ, Bool, true, false, ℤ, ◌+ℤ◌, List, [], ◌∷◌, refl, ap, rules}
+use Rattle.std.proofs.Common.{◌≡◌, ℕ, zero, suc, drop, Bool, true, false, ℤ, ◌+ℤ◌, List, [], ◌∷◌, refl, ap, rules}
 use Rattle.std.specs.List.{list_all}
 use Rattle.pbf_wire.specs.Faults.{fields_in}
 use Rattle.pbf_wire.specs.Occurrence.{found}
@@ -19,6 +19,11 @@ sums_are_within limit start (d ∷ ds) = by (is_within limit (start +ℤ d)) ref
 
 pub later_within : (limit z : ℤ) (zs : List ℤ) → list_all (is_within limit) (z ∷ zs) ≡ true → list_all (is_within limit) zs ≡ true
 later_within limit z zs h = search rules
+
+pub still_within : (limit : ℤ) (n : ℕ) (zs : List ℤ) → list_all (is_within limit) zs ≡ true → list_all (is_within limit) (drop n zs) ≡ true
+still_within limit zero zs h = h
+still_within limit (suc n) [] h = refl
+still_within limit (suc n) (z ∷ zs) h = still_within limit n zs (later_within limit z zs h)
 
 -- a message without bytes has no fields
 pub no_fields : (at : ℕ) → fields_in at [] ≡ []

@@ -14,3 +14,4 @@ pub mod DenseLaw
 pub mod NodesLaw
 pub mod FitsLemmas
 pub mod PlaceLemmas
+pub mod EntryLemmas

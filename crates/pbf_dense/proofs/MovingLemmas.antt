@@ -1,8 +1,8 @@
 -- Columns that move together give what indices into whole columns give.
-use Rattle.std.proofs.Common.{◌≡◌, ◌<◌, ℕ, zero, suc, ℤ, List, [], ◌∷◌, refl, arith}
+use Rattle.std.proofs.Common.{◌≡◌, ◌<◌, ℕ, zero, suc, ℤ, List, [], ◌∷◌, drop, refl, sym, ap, ◌∙◌, arith}
 use Rattle.osm_entity.specs.declared.scale.Scale.{Scale}
-use Rattle.pbf_dense.specs.Info.{InfoSpec}
-use Rattle.pbf_dense.specs.Runs.{after_run}
+use Rattle.pbf_dense.specs.Info.{InfoSpec, later, later_by}
+use Rattle.pbf_dense.specs.Runs.{after_run, after_runs}
 use Rattle.pbf_dense.specs.Nodes.{moving}
 
 pub no_lats : (table : List (List ℕ)) (scale : Scale) (ids lons : List ℤ) (info : InfoSpec) (keys_vals : List ℕ) → moving table scale ids [] lons info keys_vals ≡ []
@@ -13,6 +13,34 @@ pub no_lons : (table : List (List ℕ)) (scale : Scale) (ids lats : List ℤ) (i
 no_lons table scale [] lats info keys_vals = refl
 no_lons table scale (id ∷ ids) [] info keys_vals = refl
 no_lons table scale (id ∷ ids) (lat ∷ lats) info keys_vals = refl
+
+-- ---- many nodes at once
+
+-- one entry first, and then n more
+drop_one : {A : Type 0} (n : ℕ) (xs : List A) → drop (suc n) xs ≡ drop n (drop 1 xs)
+drop_one zero [] = refl
+drop_one (suc n) [] = refl
+drop_one n (x ∷ xs) = refl
+
+later_one : (n : ℕ) (info : InfoSpec) → later_by (suc n) info ≡ later_by n (later info)
+later_one n info =
+    simp drop_one
+
+run_first : (n : ℕ) (keys_vals : List ℕ) → after_runs (suc n) keys_vals ≡ after_runs n (after_run keys_vals)
+run_first zero keys_vals = refl
+run_first (suc n) keys_vals = ap after_run (run_first n keys_vals)
+
+-- columns that are moved on by n each give what is behind the first n nodes
+pub moving_on : (table : List (List ℕ)) (scale : Scale) (n : ℕ) (ids lats lons : List ℤ) (info : InfoSpec) (keys_vals : List ℕ)
+    → moving table scale (drop n ids) (drop n lats) (drop n lons) (later_by n info) (after_runs n keys_vals) ≡ drop n (moving table scale ids lats lons info keys_vals)
+moving_on table scale zero ids lats lons info keys_vals = refl
+moving_on table scale (suc n) [] lats lons info keys_vals = refl
+moving_on table scale (suc n) (id ∷ ids) [] lons info keys_vals = no_lats table scale (drop n ids) (drop (suc n) lons) (later_by (suc n) info) (after_runs (suc n) keys_vals)
+moving_on table scale (suc n) (id ∷ ids) (lat ∷ lats) [] info keys_vals = no_lons table scale (drop n ids) (drop n lats) (later_by (suc n) info) (after_runs (suc n) keys_vals)
+moving_on table scale (suc n) (id ∷ ids) (lat ∷ lats) (lon ∷ lons) info keys_vals =
+    ap (λ (i : InfoSpec). moving table scale (drop n ids) (drop n lats) (drop n lons) i (after_runs (suc n) keys_vals)) (later_one n info)
+    ∙ (ap (λ (k : List ℕ). moving table scale (drop n ids) (drop n lats) (drop n lons) (later_by n (later info)) k) (run_first n keys_vals)
+    ∙ moving_on table scale n ids lats lons (later info) (after_run keys_vals))
 
 -- ---- runs, step by step
 

@@ -70,3 +70,14 @@ later info = record {
   users = drop 1 info.users;
   visible = drop 1 info.visible;
 }
+
+-- the columns behind their first n entries
+abbrev pub later_by : ℕ → InfoSpec → InfoSpec
+later_by n info = record {
+  versions = drop n info.versions;
+  timestamps = drop n info.timestamps;
+  changesets = drop n info.changesets;
+  uids = drop n info.uids;
+  users = drop n info.users;
+  visible = drop n info.visible;
+}

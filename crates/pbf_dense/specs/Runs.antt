@@ -25,3 +25,8 @@ after_run [] = []
 after_run (zero ∷ rest) = rest
 after_run (suc key ∷ []) = []
 after_run (suc key ∷ value ∷ rest) = after_run rest
+
+-- what stands behind the next n of them
+abbrev pub after_runs : ℕ → List ℕ → List ℕ
+after_runs zero column = column
+after_runs (suc n) column = after_run (after_runs n column)

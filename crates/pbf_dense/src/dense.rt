@@ -3,9 +3,9 @@
 ghost use Rattle.std.specs.Prelude.{◌≡◌, map};
 ghost use Rattle.pbf_wire.specs.Cursors.{numbers_left};
 ghost use Rattle.osm_entity.specs.Sources.{low_32, run_tags, tags_left};
-ghost use Rattle.pbf_dense.specs.Runs.{after_run};
+ghost use Rattle.pbf_dense.specs.Runs.{after_run, after_runs};
 
-use crate::entries::next_number;
+use crate::entries::{next_number, pass_sums};
 use crate::info::InfoColumns;
 use crate::message::{ID, KEYS_VALS, LAT, LON};
 use crate::places::Places;
@@ -24,6 +24,16 @@ fn skip_run(numbers: &mut Column<'_>)
             break;
         }
         let _value = next_number(numbers);
+    }
+}
+
+/// Reads on to after as many zeros in key place.
+fn skip_runs(numbers: &mut Column<'_>, count: usize)
+    ensures { map low_32 (numbers_left numbers.new)
+        ≡ after_runs count (map low_32 (numbers_left numbers.old)) }
+{
+    for _passed in 0..count {
+        skip_run(numbers);
     }
 }
 
@@ -58,7 +68,7 @@ pub struct Dense<'a> {
 }
 
 impl<'a> Dense<'a> {
-    ghost use Rattle.std.specs.Prelude.{◌+◌, ◌≤◌, ◌^◌, [], ℕ, List, length};
+    ghost use Rattle.std.specs.Prelude.{◌+◌, ◌≤◌, ◌^◌, [], ℕ, List, length, drop};
     ghost use Rattle.pbf_wire.specs.Cursors.{sums_left};
     ghost use Rattle.pbf_wire.specs.Faults.{fields_in};
     ghost use Rattle.pbf_dense.specs.Judged.{id_count, dense_wire};
@@ -103,6 +113,18 @@ impl<'a> Dense<'a> {
         ensures { BeginWithIds (sums_left result) (dense_left self.now) }
     {
         self.ids
+    }
+
+    /// Passes over as many nodes, or over all where there are fewer. None is made: each column is moved on by itself, which takes half
+    /// the time.
+    pub fn pass(&mut self, count: usize)
+        ensures { dense_left self.new ≡ drop count (dense_left self.old) }
+    {
+        pass_sums(&mut self.ids, count);
+        pass_sums(&mut self.lats, count);
+        pass_sums(&mut self.lons, count);
+        self.info.pass(count);
+        skip_runs(&mut self.keys_vals, count);
     }
 
     /// How many nodes there are in a dense message without a wire fault, whose first byte stands at `at` in the file: as many as

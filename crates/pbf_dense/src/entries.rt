@@ -7,7 +7,6 @@ ghost use Rattle.pbf_wire.specs.Cursors.{column_left, numbers_left, sums_left};
 use pbf_wire::{Column, Sums};
 
 /// The next number of a column.
-
 pub(crate) fn next_number(numbers: &mut Column<'_>) -> Option<u64>
     ensures steps { YieldsFirst numbers_left numbers.old result numbers.new }
     ensures first { result ≡ slice_get (numbers_left numbers.old) 0 }
@@ -22,6 +21,32 @@ pub(crate) fn next_sum(sums: &mut Sums<'_>) -> Option<i64>
     ensures rest { sums_left sums.new ≡ drop 1 (sums_left sums.old) }
 {
     sums.next()
+}
+
+/// Passes over as many numbers of a column. They are read from a copy that stays near the processor.
+pub(crate) fn pass_numbers(numbers: &mut Column<'_>, count: usize)
+    ensures { numbers_left numbers.new ≡ drop count (numbers_left numbers.old) }
+{
+    let mut rest = *numbers;
+    for _passed in 0..count {
+        let Some(_) = next_number(&mut rest) else {
+            break;
+        };
+    }
+    *numbers = rest;
+}
+
+/// Passes over as many values of a column of differences.
+pub(crate) fn pass_sums(sums: &mut Sums<'_>, count: usize)
+    ensures { sums_left sums.new ≡ drop count (sums_left sums.old) }
+{
+    let mut rest = *sums;
+    for _passed in 0..count {
+        let Some(_) = next_sum(&mut rest) else {
+            break;
+        };
+    }
+    *sums = rest;
 }
 
 /// The next number of a column, and the place of the occurrence that holds it.

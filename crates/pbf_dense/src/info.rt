@@ -7,7 +7,7 @@ ghost use Rattle.pbf_wire.specs.Signed.{is_within, low_i32};
 ghost use Rattle.pbf_wire.specs.Cursors.{sums_left};
 ghost use Rattle.pbf_dense.specs.Info.{user_text};
 
-use crate::entries::{next_number, next_sum};
+use crate::entries::{next_number, next_sum, pass_numbers, pass_sums};
 use crate::message::{CHANGESET, DENSEINFO, TIMESTAMP, UID, USER_SID, VERSION, VISIBLE};
 use osm_entity::{MetaRef, STORED_LIMIT, UID_LIMIT};
 use pbf_strings::Table;
@@ -73,7 +73,7 @@ impl<'a> InfoColumns<'a> {
     ghost use Rattle.pbf_wire.specs.Fields.{occurrence};
     ghost use Rattle.pbf_wire.specs.Faults.{fields_in, fields_of, embedded};
     ghost use Rattle.osm_entity.specs.Views.{meta_of};
-    ghost use Rattle.pbf_dense.specs.Info.{meta_at, later, info_along};
+    ghost use Rattle.pbf_dense.specs.Info.{meta_at, later, later_by, info_along};
     ghost use Rattle.pbf_dense.specs.Cursors.{info_left};
 
     /// The columns of a DenseInfo whose first byte stands at `at` in the file.
@@ -130,5 +130,18 @@ impl<'a> InfoColumns<'a> {
             user: user_of(table, next_sum(&mut self.users)),
             visible: visible_of(next_number(&mut self.visible)),
         }
+    }
+
+    /// Passes over the metadata of as many nodes.
+    #[tactic(auto, using(crate::proofs::InfoLemmas::still_within))]
+    pub(crate) fn pass(&mut self, count: usize)
+        ensures { info_left self.new ≡ later_by count (info_left self.old) }
+    {
+        pass_numbers(&mut self.versions, count);
+        pass_sums(&mut self.timestamps, count);
+        pass_sums(&mut self.changesets, count);
+        pass_sums(&mut self.uids, count);
+        pass_sums(&mut self.users, count);
+        pass_numbers(&mut self.visible, count);
     }
 }

@@ -4,6 +4,7 @@ pub mod FaultLemmas
 pub mod ShowingLemmas
 pub mod FileLaw
 pub mod PickingLemmas
+pub mod PackingLemmas
 pub mod WritingLemmas
 pub mod RepeatLemmas
 pub mod ConvertingLemmas

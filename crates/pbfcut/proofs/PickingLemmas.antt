@@ -1,11 +1,9 @@
 -- Entities that are picked, on their way into the drain.
-use Rattle.std.proofs.Common.{◌≡◌, ℕ, ◌≤◌, List, [], ◌∷◌, ◌++◌, append_assoc, append-nil, Bool, true, false, Option, None, subst, inr, refl, sym, ap, ◌∙◌, arith}
-use Rattle.std.specs.Prelude.{cond}
+use Rattle.std.proofs.Common.{◌≡◌, ℕ, ◌≤◌, List, [], ◌∷◌, ◌++◌, append_assoc, append-nil, Option, None, subst, inr, sym, ap, ◌∙◌, arith}
 use Rattle.std.proofs.lemmas.List.Elements.{filter-append}
-use Rattle.std.proofs.lemmas.List.Sums.{sum_by-cons}
 use Rattle.std.specs.List.{AllByRecursion, filter}
 use Rattle.pbf_wire.specs.declared.fault.Fault.{Fault}
-use Rattle.osm_entity.specs.Entity.{EntitySpec, node, way, relation}
+use Rattle.osm_entity.specs.Entity.{EntitySpec}
 use Rattle.osm_entity.specs.Ranges.{EntityFits}
 use Rattle.pbf_header.specs.Header.{HeaderSpec}
 use Rattle.pbf_frame.specs.declared.stop.Stop.{Stop}
@@ -24,21 +22,14 @@ use Rattle.osm_pack.proofs.CutLemmas.{push_keeps, kept_none}
 use Rattle.osm_pack.proofs.OpenLemmas.{alone}
 use Rattle.osm_pack.proofs.RunLemmas.{run_keeps, run_kept, run_ends, pending_push, written_push}
 use Rattle.std.proofs.lemmas.Grind.{flat_map-append}
-use Rattle.pbf_pass.specs.Counting.{nodes_of, ways_of, relations_of, count_one, stored_entities, frame_entities}
-use Rattle.pbf_pass.proofs.CountLemmas.{CountedOn, stored_one}
-use Rattle.pbf_block.specs.declared.counts.Counts.{Counts}
+use Rattle.pbf_pass.specs.Counting.{stored_entities, frame_entities}
+use Rattle.pbf_pass.proofs.CountLemmas.{stored_one}
 use Rattle.pbfcut.specs.Pick.{Pick, HasPacked, BeginsAll, Begins, StopsPacking, StopsAmong}
 use Rattle.pbf_pass.specs.Stops.{Caused, Only, unchanged, WriteFailed}
 
 all_push : {A : Type 0} (P : A → Type 0) (xs : List A) (x : A) → AllByRecursion P xs → P x → AllByRecursion P (xs ++ x ∷ [])
 all_push P [] x h p = (p, tt)
 all_push P (y ∷ xs) x h p = (h.0, all_push P xs x h.1 p)
-
--- an entity stands behind those that are gone
-split_here : (done gone left later all rest : List EntitySpec) (e : EntitySpec) → left ≡ e ∷ later → gone ++ left ≡ all → (done ++ gone) ++ e ∷ (later ++ rest) ≡ (done ++ all) ++ rest
-split_here done gone left later all rest e is split =
-    append_assoc done gone (e ∷ (later ++ rest))
-    ∙ (ap (λ (l : List EntitySpec). done ++ l) (sym (append_assoc gone (e ∷ later) rest) ∙ ap (λ (l : List EntitySpec). l ++ rest) (ap (λ (l : List EntitySpec). gone ++ l) (sym is) ∙ split)) ∙ sym (append_assoc done all rest))
 
 -- what is picked of the frames
 pub picked_one : (pick : Pick) (fs : List FrameSpec) (f : FrameSpec) → filter pick (stored_entities (fs ++ f ∷ [])) ≡ filter pick (stored_entities fs) ++ filter pick (frame_entities f)
@@ -50,64 +41,9 @@ front_of pick start now fs rest all split begins =
     (sym (filter-append pick (stored_entities fs) (stored_entities rest)) ∙ ap (λ (l : List EntitySpec). filter pick l) (sym (flat_map-append frame_entities fs rest) ∙ ap stored_entities (sym split)))
     (begins (filter pick (stored_entities rest)))
 
--- ---- which are picked
-
-picked_next : (pick : Pick) (e : EntitySpec) (rest : List EntitySpec) → pick e ≡ true → filter pick (e ∷ rest) ≡ e ∷ filter pick rest
-picked_next pick e rest is = ap (λ (b : Bool). cond b (e ∷ filter pick rest) (filter pick rest)) is
-
-left_next : (pick : Pick) (e : EntitySpec) (rest : List EntitySpec) → pick e ≡ false → filter pick (e ∷ rest) ≡ filter pick rest
-left_next pick e rest is = ap (λ (b : Bool). cond b (e ∷ filter pick rest) (filter pick rest)) is
-
-pub picked_behind : (pick : Pick) (gone : List EntitySpec) (e : EntitySpec) → pick e ≡ true → filter pick (gone ++ e ∷ []) ≡ filter pick gone ++ e ∷ []
-picked_behind pick gone e is = filter-append pick gone (e ∷ []) ∙ ap (λ (l : List EntitySpec). filter pick gone ++ l) (picked_next pick e [] is)
-
-pub left_behind : (pick : Pick) (gone : List EntitySpec) (e : EntitySpec) → pick e ≡ false → filter pick (gone ++ e ∷ []) ≡ filter pick gone
-left_behind pick gone e is = filter-append pick gone (e ∷ []) ∙ (ap (λ (l : List EntitySpec). filter pick gone ++ l) (left_next pick e [] is) ∙ append-nil (filter pick gone))
-
--- an entity that is picked stands behind those that are gone
-picked_here : (pick : Pick) (gone left later all : List EntitySpec) (e : EntitySpec) → left ≡ e ∷ later → gone ++ left ≡ all → pick e ≡ true → filter pick gone ++ e ∷ filter pick later ≡ filter pick all
-picked_here pick gone left later all e is split picked =
-    ap (λ (l : List EntitySpec). filter pick gone ++ l) (sym (picked_next pick e later picked)) ∙ (sym (filter-append pick gone (e ∷ later)) ∙ ap (λ (l : List EntitySpec). filter pick l) (ap (λ (l : List EntitySpec). gone ++ l) (sym is) ∙ split))
-
--- ---- their numbers
-
-count_next : (now : Counts) (e : EntitySpec) (left all : List EntitySpec) → CountedOn now (e ∷ left) all → CountedOn (count_one now e) left all
-count_next now (node n) left all h = record {
-  nodes = omega (arith, h.nodes, h.few_nodes, sum_by-cons nodes_of (node n) left);
-  ways = omega (arith, h.ways, h.few_ways, sum_by-cons ways_of (node n) left);
-  relations = omega (arith, h.relations, h.few_relations, sum_by-cons relations_of (node n) left);
-  few_nodes = omega (arith, h.few_nodes);
-  few_ways = h.few_ways;
-  few_relations = h.few_relations;
-}
-count_next now (way w) left all h = record {
-  nodes = omega (arith, h.nodes, h.few_nodes, sum_by-cons nodes_of (way w) left);
-  ways = omega (arith, h.ways, h.few_ways, sum_by-cons ways_of (way w) left);
-  relations = omega (arith, h.relations, h.few_relations, sum_by-cons relations_of (way w) left);
-  few_nodes = h.few_nodes;
-  few_ways = omega (arith, h.few_ways);
-  few_relations = h.few_relations;
-}
-count_next now (relation r) left all h = record {
-  nodes = omega (arith, h.nodes, h.few_nodes, sum_by-cons nodes_of (relation r) left);
-  ways = omega (arith, h.ways, h.few_ways, sum_by-cons ways_of (relation r) left);
-  relations = omega (arith, h.relations, h.few_relations, sum_by-cons relations_of (relation r) left);
-  few_nodes = h.few_nodes;
-  few_ways = h.few_ways;
-  few_relations = omega (arith, h.few_relations);
-}
-
-pub count_picked : (pick : Pick) (now next : Counts) (e : EntitySpec) (left rest all : List EntitySpec) → left ≡ e ∷ rest → pick e ≡ true → next ≡ count_one now e → CountedOn now (filter pick left) all → CountedOn next (filter pick rest) all
-count_picked pick now next e left rest all is picked counts h =
-    subst (λ (c : Counts). CountedOn c (filter pick rest) all) (sym counts)
-    (count_next now e (filter pick rest) all (subst (λ (l : List EntitySpec). CountedOn now l all) (ap (λ (l : List EntitySpec). filter pick l) is ∙ picked_next pick e rest picked) h))
-
-pub count_left : (pick : Pick) (now : Counts) (e : EntitySpec) (left rest all : List EntitySpec) → left ≡ e ∷ rest → pick e ≡ false → CountedOn now (filter pick left) all → CountedOn now (filter pick rest) all
-count_left pick now e left rest all is picked h = subst (λ (l : List EntitySpec). CountedOn now l all) (ap (λ (l : List EntitySpec). filter pick l) is ∙ left_next pick e rest picked) h
-
 module _ {D S H : Type 0} (d : drain.Ghosts D) where
   -- one entity more is packed
-  packed_push : (start : D) (done : List EntitySpec) (e : EntitySpec) (old new : Packing D S H) → HasPacked d start done old → EntityFits e
+  pub packed_push : (start : D) (done : List EntitySpec) (e : EntitySpec) (old new : Packing D S H) → HasPacked d start done old → EntityFits e
       → ((es : List EntitySpec) → Pending old es → Pending new (then_pending es e)) → ((es : List EntitySpec) → Pending old es → Added d old.drain (then_written es e) new.drain) → HasPacked d start (done ++ e ∷ []) new
   packed_push start done e old new h fits p t = record {
     fits = all_push EntityFits done e h.fits fits;
@@ -122,7 +58,7 @@ module _ {D S H : Type 0} (d : drain.Ghosts D) where
       (front_longer (d.taken start) (d.taken packer.drain) (written_after [] done) (written_entities (pending_after [] done ++ rest)) (front_whole (d.taken start) (d.taken packer.drain) (written_after [] done) h.added.told))
 
   -- the same where a push stopped
-  begins_push : (start : D) (done : List EntitySpec) (e : EntitySpec) (packer new : Packing D S H) → HasPacked d start done packer → EntityFits e
+  pub begins_push : (start : D) (done : List EntitySpec) (e : EntitySpec) (packer new : Packing D S H) → HasPacked d start done packer → EntityFits e
       → ((es : List EntitySpec) → Pending packer es → IsFront (d.taken packer.drain) (d.taken new.drain) (then_written es e)) → (rest : List EntitySpec) → IsFront (d.taken start) (d.taken new.drain) (written_entities (done ++ e ∷ rest))
   begins_push start done e packer new h fits f rest =
       let es = pending_after [] done in
@@ -137,29 +73,6 @@ module _ {D S H : Type 0} (d : drain.Ghosts D) where
 
   pub none_gone : (start : D) (done : List EntitySpec) (packer : Packing D S H) → HasPacked d start done packer → HasPacked d start (done ++ []) packer
   none_gone start done packer h = subst (λ (l : List EntitySpec). HasPacked d start l packer) (sym (append-nil done)) h
-
-  pub one_picked : (pick : Pick) (start : D) (done gone : List EntitySpec) (e : EntitySpec) (old new : Packing D S H) → pick e ≡ true → HasPacked d start (done ++ filter pick gone) old → EntityFits e
-      → ((es : List EntitySpec) → Pending old es → Pending new (then_pending es e)) → ((es : List EntitySpec) → Pending old es → Added d old.drain (then_written es e) new.drain) → HasPacked d start (done ++ filter pick (gone ++ e ∷ [])) new
-  one_picked pick start done gone e old new is h fits p t =
-      subst (λ (l : List EntitySpec). HasPacked d start l new) (append_assoc done (filter pick gone) (e ∷ []) ∙ ap (λ (l : List EntitySpec). done ++ l) (sym (picked_behind pick gone e is))) (packed_push start (done ++ filter pick gone) e old new h fits p t)
-
-  pub one_left : (pick : Pick) (start : D) (done gone : List EntitySpec) (e : EntitySpec) (packer : Packing D S H) → pick e ≡ false → HasPacked d start (done ++ filter pick gone) packer → HasPacked d start (done ++ filter pick (gone ++ e ∷ [])) packer
-  one_left pick start done gone e packer is h = subst (λ (l : List EntitySpec). HasPacked d start (done ++ l) packer) (sym (left_behind pick gone e is)) h
-
-  pub stopped_here : (pick : Pick) (start : D) (done gone left later all : List EntitySpec) (e : EntitySpec) (packer new : Packing D S H) → left ≡ e ∷ later → gone ++ left ≡ all → pick e ≡ true
-      → HasPacked d start (done ++ filter pick gone) packer → EntityFits e → ((es : List EntitySpec) → Pending packer es → IsFront (d.taken packer.drain) (d.taken new.drain) (then_written es e)) → BeginsAll (d.taken start) (done ++ filter pick all) (d.taken new.drain)
-  stopped_here pick start done gone left later all e packer new is split picked h fits f rest =
-      subst (λ (l : List EntitySpec). IsFront (d.taken start) (d.taken new.drain) (written_entities l)) (split_here done (filter pick gone) (e ∷ filter pick later) (filter pick later) (filter pick all) rest e refl (picked_here pick gone left later all e is split picked))
-      (begins_push start (done ++ filter pick gone) e packer new h fits f (filter pick later ++ rest))
-
-  -- no more of them went out
-  pub changed_here : (pick : Pick) (start : D) (done gone left all : List EntitySpec) (packer : Packing D S H) → gone ++ left ≡ all → HasPacked d start (done ++ filter pick gone) packer → BeginsAll (d.taken start) (done ++ filter pick all) (d.taken packer.drain)
-  changed_here pick start done gone left all packer split h rest =
-      subst (λ (l : List EntitySpec). IsFront (d.taken start) (d.taken packer.drain) (written_entities l))
-      (append_assoc done (filter pick gone) (filter pick left ++ rest)
-      ∙ ap (λ (l : List EntitySpec). done ++ l) (sym (append_assoc (filter pick gone) (filter pick left) rest) ∙ ap (λ (l : List EntitySpec). l ++ rest) (sym (filter-append pick gone left) ∙ ap (filter pick) split))
-      ∙ sym (append_assoc done (filter pick all) rest))
-      (begins_packed start (done ++ filter pick gone) packer h (filter pick left ++ rest))
 
   -- nothing of them went out
   pub begins_none : (es : List EntitySpec) (old new : Packing D S H) → d.taken new.drain ≡ d.taken old.drain → Begins d old new es

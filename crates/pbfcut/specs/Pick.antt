@@ -19,7 +19,8 @@ use Rattle.pbfcut.specs.declared.pick.Selection.{Selection}
 use Rattle.pbfcut.specs.declared.pick.Selection.TheVariants as selection
 use Rattle.pbfcut.specs.declared.pick.Picker.{Picker}
 use Rattle.pbfcut.specs.declared.pick.Picker.TheVariants as picker
-use Rattle.pbf_pass.specs.Counting.{entities_in}
+use Rattle.pbf_block.specs.declared.counts.Counts.{Counts}
+use Rattle.pbf_pass.specs.Counting.{entities_in, counts_of}
 use Rattle.pbf_pass.specs.Judged.{fault_in}
 use Rattle.pbf_pass.specs.Pass.{TakesSome}
 use Rattle.pbf_pass.specs.Payload.{Payload, payload_of}
@@ -66,10 +67,6 @@ picks_id picker.Everything id = true
 picks_id (picker.Ways sets) id = set.contains sets.node_ids id
 picks_id (picker.Parents sets) id = set.contains sets.ways.node_ids id
 
-abbrev pub is_node : EntitySpec → Bool
-is_node (node n) = true
-is_node _ = false
-
 -- ---- entities on their way
 
 -- since the drain was at the start these entities were packed: the closed blocks went out, and the others wait
@@ -107,6 +104,12 @@ pub record StopsPacking {D S H : Type 0} (d : drain.Ghosts D) (fault : Option Fa
 pub record StopsAmong {D S H : Type 0} (d : drain.Ghosts D) (number : ℕ) (pick : Pick) (es : List EntitySpec) (old new : Packing D S H) (stop : Stop) : Type 0 where
   pub cause : Caused (λ e. ⊥) ⊥ (WriteFailed d old.drain new.drain) (λ pass. (pass ≡ number) × (AllByRecursion EntityFits es → ⊥)) stop
   pub begins : Begins d old new (filter pick es)
+
+-- of these entities those that are picked were packed, and counted with those before them
+pub record PacksPicked {D S H : Type 0} (d : drain.Ghosts D) (pick : Pick) (es : List EntitySpec) (old new : Packing D S H) (before now : Counts) : Type 0 where
+  pub packs : Packs d old new (filter pick es)
+  pub going : IsPacking new
+  pub counted : (done : List EntitySpec) → before ≡ counts_of done → now ≡ counts_of (done ++ filter pick es)
 
 -- whatever a call answers
 pub record KeepsPacker {D S H : Type 0} (d : drain.Ghosts D) (old new : Packing D S H) : Type 0 where

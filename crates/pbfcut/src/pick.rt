@@ -1,17 +1,12 @@
 //! Entities that are picked, on their way into the drain, and the steps that judge them.
 
-ghost use Rattle.std.specs.Prelude.{false, true, [], ◌≡◌, ◌<◌, ◌≤◌, ◌+◌, ◌^◌, List, None, Err, IfOk, IfErr, OnOk, length};
-ghost use Rattle.std.specs.List.{AllByRecursion, filter, list_any};
+ghost use Rattle.std.specs.Prelude.{true, [], ◌∷◌, ◌≡◌, ◌<◌, ◌≤◌, ◌+◌, ◌^◌, None, Err, IfOk, IfErr, OnOk, length, map};
 ghost use Rattle.std.specs.Option.{option_map};
-ghost use Rattle.osm_entity.specs.Entity.{EntitySpec};
-ghost use Rattle.osm_entity.specs.Ranges.{EntityFits};
+ghost use Rattle.osm_entity.specs.Entity.{node};
 ghost use Rattle.osm_entity.specs.Views.{entity_of};
 ghost use Rattle.osm_pack.specs.Packing.{IsPacking, has_header, packer_held};
 ghost use Rattle.osm_pack.specs.Packing as packing;
-ghost use Rattle.pbf_wire.specs.Cursors.{sums_left};
-ghost use Rattle.pbf_block.specs.Cursors.{entities_left};
-ghost use Rattle.pbf_block.specs.Payload.{entities};
-ghost use Rattle.pbf_block.specs.Kinds.{is_among};
+ghost use Rattle.pbf_dense.specs.Cursors.{dense_left};
 ghost use Rattle.pbf_block.specs.Runs.{joined_runs, run_entities, runs_left};
 ghost use Rattle.pbf_frame.specs.declared.stop.Stop.{Stop};
 ghost use Rattle.pbf_frame.specs.Next.{place_of, held_by};
@@ -19,15 +14,15 @@ ghost use Rattle.pbf_pass.specs.Counting.{counts_of};
 ghost use Rattle.pbf_pass.specs.Judged.{fault_in};
 ghost use Rattle.pbf_pass.specs.Pass.{IsStep};
 ghost use Rattle.pbf_pass.specs.Payload.{primitive_block, lent_by};
-ghost use Rattle.pbfcut.specs.Pick.{pick_of, picks_of, picked_in, picks_id, is_node, picked_by_some, picked_with_parents, PacksAll, StopsAmong, KeepsPacker, PacksPayload, FailsToPackPayload, PacksFrame, FailsToPack};
+ghost use Rattle.pbfcut.specs.Pick.{everything, pick_of, picks_of, picked_in, picks_id, picked_by_some, picked_with_parents, PacksAll, PacksPicked, StopsAmong, KeepsPacker, PacksPayload, FailsToPackPayload, PacksFrame, FailsToPack};
 
 use osm_entity::EntityRef;
 use osm_pack::Packer;
 use osm_ways::{Chooser, ChooserParents, Chosen, ChosenParents};
-use pbf_block::{Block, Counts, Entities, Kinds, Run, Runs};
+use pbf_block::{Block, Counts, Kinds, Run, Runs};
+use pbf_dense::Dense;
 use pbf_frame::{Drain, Feed, Frame, FrameKind, FrameReader, Stop};
 use pbf_pass::Pass;
-use pbf_wire::Sums;
 use std::alloc::Global;
 use std::hash::BuildHasher;
 
@@ -55,13 +50,6 @@ impl<'a> Selection<'a> {
         }
     }
 }
-
-/// Nodes alone.
-pub(crate) const NODES: Kinds = Kinds {
-    nodes: true,
-    ways: false,
-    relations: false,
-};
 
 /// Which entities are written, asked of many one after another: the look-ups of ids that lie close together are cheap.
 #[derive(Drop)]
@@ -108,104 +96,147 @@ impl Picker<'_> {
             Picker::Parents(chooser) => chooser.keeps_node(id),
         }
     }
+}
 
-    /// Whether nodes of one of these ids are written.
-    fn picks_some(&mut self, ids: Sums<'_>) -> bool
-        ensures picked { result ≡ list_any (picks_id self.old) (sums_left ids.entry) }
-        ensures same { self.new ≡ self.old }
-    {
-        for id in ids {
-            if self.picks_id(id) {
-                return true;
-            }
-        }
-        false
+/// Packs an entity, and counts it. One that can't be written is a change, in a pass of this number.
+#[inline(always)]
+fn pack<D: Drain, S: BuildHasher>(
+    entity: &EntityRef<'_>,
+    counts: &mut Counts,
+    number: u8,
+    packer: &mut Packer<D, S>,
+) -> Result<(), Stop>
+    requires begun { has_header packer.old ≡ true }
+    requires packing { IsPacking packer.old }
+    ensures packed { OnOk result (PacksPicked D.Drain everything (entity_of entity.now ∷ [])
+        packer.old packer.new counts.old counts.new) }
+    ensures stopped { IfErr result (StopsAmong D.Drain number everything
+        (entity_of entity.now ∷ []) packer.old packer.new) }
+    ensures keeps { KeepsPacker D.Drain packer.old packer.new }
+{
+    let Some(weight) = entity.weight_if_fits() else {
+        return Err(Stop::Changed(number));
+    };
+    packer.push_weighed(entity, weight)?;
+    counts.take(entity);
+    Ok(())
+}
+
+/// Packs an entity if it is picked.
+fn pack_entity<D: Drain, S: BuildHasher>(
+    entity: &EntityRef<'_>,
+    picker: &mut Picker<'_>,
+    counts: &mut Counts,
+    number: u8,
+    packer: &mut Packer<D, S>,
+) -> Result<(), Stop>
+    requires begun { has_header packer.old ≡ true }
+    requires packing { IsPacking packer.old }
+    ensures packed { OnOk result (PacksPicked D.Drain (picks_of picker.old)
+        (entity_of entity.now ∷ []) packer.old packer.new counts.old counts.new) }
+    ensures stopped { IfErr result (StopsAmong D.Drain number (picks_of picker.old)
+        (entity_of entity.now ∷ []) packer.old packer.new) }
+    ensures keeps { KeepsPacker D.Drain packer.old packer.new }
+    ensures same { picker.new ≡ picker.old }
+{
+    let is_picked = picker.picks(entity);
+    if is_picked {
+        pack(entity, counts, number, packer)?;
     }
+    Ok(())
+}
 
-    /// Whether an entity of a run may be written; where this answers no, none is. Of dense nodes the ids are read, and nothing else.
-    fn picks_in(&mut self, run: &Run<'_>) -> bool
-        ensures none { result ≡ false → filter (picks_of self.old) (run_entities run.now) ≡ [] }
-        ensures same { self.new ≡ self.old }
-    {
-        match run {
-            Run::Nothing => false,
-            Run::One(entity) => self.picks(entity),
-            Run::Dense(dense) => self.picks_some(dense.ids()),
+/// So many nodes at the most wait to be passed over together.
+const MOST_PASSED: usize = 8_000;
+
+/// Packs those nodes of a dense message that are picked. The ids tell which: the others are passed over together, and not made.
+fn pack_nodes<D: Drain, S: BuildHasher>(
+    dense: &Dense<'_>,
+    picker: &mut Picker<'_>,
+    counts: &mut Counts,
+    number: u8,
+    packer: &mut Packer<D, S>,
+) -> Result<(), Stop>
+    requires begun { has_header packer.old ≡ true }
+    requires packing { IsPacking packer.old }
+    ensures packed { OnOk result (PacksPicked D.Drain (picks_of picker.old)
+        (map node (dense_left dense.now)) packer.old packer.new counts.old counts.new) }
+    ensures stopped { IfErr result (StopsAmong D.Drain number (picks_of picker.old)
+        (map node (dense_left dense.now)) packer.old packer.new) }
+    ensures keeps { KeepsPacker D.Drain packer.old packer.new }
+    ensures same { picker.new ≡ picker.old }
+{
+    let mut nodes = *dense;
+    let mut passed = 0;
+    for id in dense.ids() {
+        if picker.picks_id(id) {
+            nodes.pass(passed);
+            passed = 0;
+            let Some(node) = nodes.next() else {
+                return Ok(());
+            };
+            pack(&EntityRef::Node(node), counts, number, packer)?;
+        } else {
+            if passed == MOST_PASSED {
+                nodes.pass(passed);
+                passed = 0;
+            }
+            passed += 1;
         }
+    }
+    Ok(())
+}
+
+/// Packs what is picked of a run.
+fn pack_run<D: Drain, S: BuildHasher>(
+    run: &Run<'_>,
+    picker: &mut Picker<'_>,
+    counts: &mut Counts,
+    number: u8,
+    packer: &mut Packer<D, S>,
+) -> Result<(), Stop>
+    requires begun { has_header packer.old ≡ true }
+    requires packing { IsPacking packer.old }
+    ensures packed { OnOk result (PacksPicked D.Drain (picks_of picker.old) (run_entities run.now)
+        packer.old packer.new counts.old counts.new) }
+    ensures stopped { IfErr result (StopsAmong D.Drain number (picks_of picker.old)
+        (run_entities run.now) packer.old packer.new) }
+    ensures keeps { KeepsPacker D.Drain packer.old packer.new }
+    ensures same { picker.new ≡ picker.old }
+{
+    match run {
+        Run::Nothing => Ok(()),
+        Run::One(entity) => pack_entity(entity, picker, counts, number, packer),
+        Run::Dense(dense) => pack_nodes(dense, picker, counts, number, packer),
     }
 }
 
-/// Whether a node of these runs may be written; where this answers no, none is. Of dense nodes the ids are read, and nothing else.
-fn picks_node(runs: Runs<'_>, selection: Selection<'_>) -> bool
-    ensures { result ≡ false
-        → filter (pick_of selection.entry) (joined_runs (runs_left runs.entry)) ≡ [] }
+/// Packs what is picked of the entities of these runs, one by one, and counts it. One that can't be written is a change, in a pass of
+/// this number.
+pub(crate) fn pack_runs<D: Drain, S: BuildHasher>(
+    runs: Runs<'_>,
+    selection: Selection<'_>,
+    counts: &mut Counts,
+    number: u8,
+    packer: &mut Packer<D, S>,
+) -> Result<(), Stop>
+    requires begun { has_header packer.old ≡ true }
+    requires packing { IsPacking packer.old }
+    ensures packed { OnOk result (PacksPicked D.Drain (pick_of selection.entry)
+        (joined_runs (runs_left runs.entry)) packer.old packer.new counts.old counts.new) }
+    ensures stopped { IfErr result (StopsAmong D.Drain number (pick_of selection.entry)
+        (joined_runs (runs_left runs.entry)) packer.old packer.new) }
+    ensures keeps { KeepsPacker D.Drain packer.old packer.new }
 {
     let mut picker = selection.picker();
     for run in runs {
-        if picker.picks_in(&run) {
-            return true;
-        }
+        pack_run(&run, &mut picker, counts, number, packer)?;
     }
-    false
-}
-
-/// The kinds of entities that have to be made, of which these are the nodes: all, without nodes where none of them is written.
-pub(crate) fn wanted(nodes: Runs<'_>, selection: Selection<'_>) -> Kinds
-    ensures { (es : List EntitySpec) → joined_runs (runs_left nodes.entry) ≡ filter is_node es
-        → filter (pick_of selection.entry) (filter (is_among result) es)
-        ≡ filter (pick_of selection.entry) es }
-{
-    Kinds {
-        nodes: picks_node(nodes, selection),
-        ways: true,
-        relations: true,
-    }
-}
-
-/// The entities of a block, without its nodes where none of them is written.
-fn candidates<'a>(block: &'a Block<'_>, selection: Selection<'_>) -> Entities<'a>
-    ensures picked { filter (pick_of selection.entry) (entities_left result)
-        ≡ filter (pick_of selection.entry) (entities block.now.at block.now.payload.now) }
-    ensures fits { AllByRecursion EntityFits (entities_left result) }
-{
-    block.entities_among(wanted(block.runs_among(NODES), selection))
-}
-
-/// Packs the entities that are picked, one by one, and answers their numbers. One that can't be written is a change, in a pass of
-/// this number.
-pub(crate) fn pack_entities<D: Drain, S: BuildHasher>(
-    entities: Entities<'_>,
-    selection: Selection<'_>,
-    number: u8,
-    packer: &mut Packer<D, S>,
-) -> Result<Counts, Stop>
-    requires begun { has_header packer.old ≡ true }
-    requires packing { IsPacking packer.old }
-    ensures packed { OnOk result (PacksAll D.Drain None
-        (filter (pick_of selection.entry) (entities_left entities.entry)) packer.old packer.new) }
-    ensures counted { IfOk result (λ counts. counts
-        ≡ counts_of (filter (pick_of selection.entry) (entities_left entities.entry))) }
-    ensures stopped { IfErr result (StopsAmong D.Drain number (pick_of selection.entry)
-        (entities_left entities.entry) packer.old packer.new) }
-    ensures keeps { KeepsPacker D.Drain packer.old packer.new }
-{
-    let mut counts = Counts::none();
-    let mut picker = selection.picker();
-    for entity in entities {
-        if picker.picks(&entity) {
-            let Some(weight) = entity.weight_if_fits() else {
-                return Err(Stop::Changed(number));
-            };
-            packer.push_weighed(&entity, weight)?;
-            counts.take(&entity);
-        }
-    }
-    Ok(counts)
+    Ok(())
 }
 
 /// Judges a PrimitiveBlock whose first byte stands at `at` in the file, packs what is picked of it, and answers the numbers of
 /// these entities.
-#[tactic(auto, using(crate::proofs::PickingLemmas::stops_judged))]
 fn pack_block<D: Drain, S: BuildHasher>(
     alloc: Global,
     payload: &[u8],
@@ -227,8 +258,10 @@ fn pack_block<D: Drain, S: BuildHasher>(
     ensures keeps { KeepsPacker D.Drain packer.old packer.new }
 {
     let block = Block::read(alloc, payload, at)?;
+    let mut counts = Counts::none();
     // Each entity of a block that was judged can be written, so this is no later pass.
-    pack_entities(candidates(&block, selection), selection, 0, packer)
+    pack_runs(block.runs_among(Kinds::all()), selection, &mut counts, 0, packer)?;
+    Ok(counts)
 }
 
 /// Judges the payload of a frame, packs what is picked of it, and takes its header or the numbers of these entities.

@@ -2,13 +2,8 @@
 //! pass is told by their digest, at the end.
 
 ghost use Rattle.std.specs.Prelude.{true, ◌≡◌, ◌<◌, ◌≤◌, ◌+◌, ◌^◌, None, Err, IfOk, IfErr, OnOk, OnErr, length};
-ghost use Rattle.std.specs.List.{AllByRecursion, filter};
-ghost use Rattle.osm_entity.specs.Ranges.{EntityFits};
 ghost use Rattle.osm_pack.specs.Packing.{IsPacking, has_header, packer_held};
 ghost use Rattle.osm_pack.specs.Packing as packing;
-ghost use Rattle.pbf_block.specs.Cursors.{entities_left};
-ghost use Rattle.pbf_block.specs.Judgement.{block_fault};
-ghost use Rattle.pbf_block.specs.Payload.{entities};
 ghost use Rattle.pbf_header.specs.Header.{header_of};
 ghost use Rattle.pbf_frame.specs.declared.stop.Stop.{Stop};
 ghost use Rattle.pbf_frame.specs.Next.{IsReading, place_of, held_by, verdict};
@@ -22,25 +17,14 @@ ghost use Rattle.pbf_pass.specs.Stops.{KeepsFeed, KeepsDrain, ReadFailed, WriteF
 ghost use Rattle.pbfcut.specs.Pick.{pick_of, KeepsPacker, IsFreshPacker};
 ghost use Rattle.pbfcut.specs.Write.{PacksAgain, FailsAgain, PacksFrameAgain, FailsAtFrame, Packed, PacksFront};
 
-use crate::pick::{NODES, Selection, pack_entities, wanted};
+use crate::pick::{Selection, pack_runs};
 use osm_pack::Packer;
-use pbf_block::{Counts, Entities, UnjudgedBlock};
+use pbf_block::{Counts, Kinds, UnjudgedBlock};
 use pbf_frame::{Drain, Feed, Frame, FrameKind, FrameReader, Stop};
 use pbf_header::Header;
 use pbf_pass::{HashedFeed, InputReceipt};
 use std::alloc::Global;
 use std::hash::BuildHasher;
-
-/// The entities of a block, without its nodes where none of them is written, if it has no fault.
-fn candidates<'a>(block: &'a UnjudgedBlock<'_>, selection: Selection<'_>) -> Entities<'a>
-    ensures picked { block_fault block.now.at block.now.payload.now ≡ None
-        → filter (pick_of selection.entry) (entities_left result)
-        ≡ filter (pick_of selection.entry) (entities block.now.at block.now.payload.now) }
-    ensures fits { block_fault block.now.at block.now.payload.now ≡ None
-        → AllByRecursion EntityFits (entities_left result) }
-{
-    block.entities_among(wanted(block.runs_among(NODES), selection))
-}
 
 /// Packs what is picked of a PrimitiveBlock whose first byte stands at `at` in the file, in a pass of this number, and counts it.
 fn pack_block<D: Drain, S: BuildHasher>(
@@ -65,8 +49,7 @@ fn pack_block<D: Drain, S: BuildHasher>(
     let Some(block) = UnjudgedBlock::open(alloc, payload, at)? else {
         return Err(Stop::Changed(number));
     };
-    let packed = pack_entities(candidates(&block, selection), selection, number, packer)?;
-    counts.add(packed);
+    pack_runs(block.runs_among(Kinds::all()), selection, counts, number, packer)?;
     Ok(())
 }
 

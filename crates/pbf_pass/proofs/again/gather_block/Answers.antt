@@ -13,6 +13,6 @@ returns-clause-gathered g c = λ sound.
     let is = rw c.in-Some.is at c.in_ok-block.ensures.payload in
     let here : block_fault block.at block.payload.now ≡ None = ap₂ (λ (at : ℕ) (m : List ℕ). block_fault at m) is.1 is.0 ∙ sound in
     c.in_ok-gather_runs.ensures
-    ∙ ap (fold gathered c.args.gathering.now) (c.runs_among.ensures here)
+    ∙ ap (fold gathered c.args.gathering.now) (c.runs_among.ensures.exact here)
     ∙ gathered_among gathered c.kinds.result c.kinds.ensures c.args.gathering.now (entities block.at block.payload.now)
     ∙ ap₂ (λ (at : ℕ) (m : List ℕ). fold gathered c.args.gathering.now (entities at m)) is.1 is.0

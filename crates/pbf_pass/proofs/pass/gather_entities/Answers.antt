@@ -9,5 +9,5 @@ returns g c =
     let gathered = g.G.Gather.gathered in
     let block = c.args.block.now in
     c.in_ok-gather_runs.ensures
-    ∙ ap (fold gathered c.args.gathering.now) c.runs_among.ensures
+    ∙ ap (fold gathered c.args.gathering.now) c.runs_among.ensures.exact
     ∙ gathered_among gathered c.kinds.result c.kinds.ensures c.args.gathering.now (entities block.at block.payload.now)

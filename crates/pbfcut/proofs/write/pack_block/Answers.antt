@@ -1,13 +1,11 @@
-use Rattle.std.proofs.Common.{◌≡◌, ℕ, List, ap₂, refl, ◌∙◌}
+use Rattle.std.proofs.Common.{◌≡◌, ℕ, List, ap, ap₂, refl, ◌∙◌}
 use Rattle.std.specs.List.{filter}
 use Rattle.std.proofs.lemmas.Result.{err_from_is_err_and}
-use Rattle.pbf_block.specs.declared.counts.Counts.{Counts}
-use Rattle.pbf_block.specs.Cursors.{entities_left}
 use Rattle.pbf_block.specs.Judgement.{block_fault}
 use Rattle.pbf_block.specs.Payload.{entities}
-use Rattle.pbf_pass.specs.Counting.{counted_with}
+use Rattle.pbf_block.specs.Runs.{joined_runs, runs_left}
+use Rattle.pbf_block.proofs.KindLemmas.{filter_every}
 use Rattle.pbf_pass.specs.Payload.{primitive_block}
-use Rattle.pbf_pass.proofs.CountLemmas.{counts_together}
 use Rattle.pbfcut.specs.Pick.{pick_of}
 use Rattle.pbfcut.proofs.PickingLemmas.{begins_none}
 use Rattle.pbfcut.proofs.WritingLemmas.{stops_again}
@@ -18,15 +16,15 @@ returns-in_err-block-clause-stopped g c =
     let p = err_from_is_err_and c.from_residual.result c.from_residual.ensures.1 in
     rw (p.1, p.2) (record { cause = tt; begins = λ sound. begins_none g.D.Drain _ _ _ refl })
 
-pub returns-in_err-packed-clause-stopped : goal.returns-in_err-packed-clause-stopped
-returns-in_err-packed-clause-stopped g c =
-    let p = err_from_is_err_and c.from_residual-in_err-packed.result c.from_residual-in_err-packed.ensures.1 in
+pub returns-in_err-pack_runs-clause-stopped : goal.returns-in_err-pack_runs-clause-stopped
+returns-in_err-pack_runs-clause-stopped g c =
+    let p = err_from_is_err_and c.from_residual-in_err-pack_runs.result c.from_residual-in_err-pack_runs.ensures.1 in
     let pick = pick_of c.args.selection in
     let block = c.in-Some.block in
     let is = rw c.in-Some.is at c.in_ok-block.ensures.payload in
     let here : block_fault block.at block.payload.now ≡ block_fault c.args.at c.args.payload.now = ap₂ (λ (at : ℕ) (m : List ℕ). block_fault at m) is.1 is.0 in
-    rw (p.1, p.2) (stops_again g.D.Drain c.args.number pick (primitive_block c.args.at c.args.payload.now) (entities_left c.candidates.result) _ _ _ (λ sound. c.candidates.ensures.fits (here ∙ sound))
-    (λ sound. c.candidates.ensures.picked (here ∙ sound) ∙ ap₂ (λ (at : ℕ) (m : List ℕ). filter pick (entities at m)) is.1 is.0) c.in_err-packed.ensures.stopped)
+    rw (p.1, p.2) (stops_again g.D.Drain c.args.number pick (primitive_block c.args.at c.args.payload.now) (joined_runs (runs_left c.runs_among.result)) _ _ _ (λ sound. c.runs_among.ensures.fits (here ∙ sound))
+    (λ sound. ap (filter pick) (c.runs_among.ensures.exact (here ∙ sound) ∙ filter_every _ c.all.ensures _) ∙ ap₂ (λ (at : ℕ) (m : List ℕ). filter pick (entities at m)) is.1 is.0) c.in_err-pack_runs.ensures.stopped)
 
 pub returns-clause-packed : goal.returns-clause-packed
 returns-clause-packed g c =
@@ -34,11 +32,11 @@ returns-clause-packed g c =
     let block = c.in-Some.block in
     let is = rw c.in-Some.is at c.in_ok-block.ensures.payload in
     let here : block_fault block.at block.payload.now ≡ block_fault c.args.at c.args.payload.now = ap₂ (λ (at : ℕ) (m : List ℕ). block_fault at m) is.1 is.0 in
-    let es = filter pick (entities_left c.candidates.result) in
+    let done = c.in_ok-pack_runs.ensures.packed in
     record {
-      es = es;
-      are = λ sound. c.candidates.ensures.picked (here ∙ sound) ∙ ap₂ (λ (at : ℕ) (m : List ℕ). filter pick (entities at m)) is.1 is.0;
-      packs = c.in_ok-packed.ensures.packed.packs;
-      going = c.in_ok-packed.ensures.packed.going;
-      counted = λ done before. c.add.ensures ∙ ap₂ (λ (a b : Counts). counted_with a b) before c.in_ok-packed.ensures.counted ∙ counts_together done es;
+      es = filter pick (joined_runs (runs_left c.runs_among.result));
+      are = λ sound. ap (filter pick) (c.runs_among.ensures.exact (here ∙ sound) ∙ filter_every _ c.all.ensures _) ∙ ap₂ (λ (at : ℕ) (m : List ℕ). filter pick (entities at m)) is.1 is.0;
+      packs = done.packs;
+      going = done.going;
+      counted = done.counted;
     }

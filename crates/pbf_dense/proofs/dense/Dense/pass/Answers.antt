@@ -1,0 +1,13 @@
+use Rattle.std.proofs.Common.{map, ◌∙◌}
+use Rattle.pbf_wire.specs.Cursors.{numbers_left, sums_left}
+use Rattle.osm_entity.specs.Sources.{low_32}
+use Rattle.pbf_dense.specs.Cursors.{dense_left, info_left}
+use Rattle.pbf_dense.proofs.MovingLemmas.{moving_on}
+use Rattle.pbf_dense.proofs.dense.Dense.pass.Goals as goal
+
+pub returns : goal.returns
+unfolding dense_left
+returns c =
+    let dense = c.args.self.now in
+    let on = moving_on dense.table.now dense.scale c.args.count (sums_left dense.ids) (sums_left dense.lats) (sums_left dense.lons) (info_left dense.info) (map low_32 (numbers_left dense.keys_vals)) in
+    rw (c.pass_sums.ensures, c.pass_sums-2.ensures, c.pass_sums-3.ensures, c.pass.ensures, c.skip_runs.ensures) on
