@@ -117,7 +117,19 @@ impl<'a> Dense<'a> {
 
     /// Passes over as many nodes, or over all where there are fewer. None is made: each column is moved on by itself, which takes half
     /// the time.
+    #[inline(always)]
     pub fn pass(&mut self, count: usize)
+        ensures { dense_left self.new ≡ drop count (dense_left self.old) }
+    {
+        if count == 0 {
+            return;
+        }
+        self.move_on(count);
+    }
+
+    /// As [`Dense::pass`], where there are some to pass over.
+    #[inline(never)]
+    fn move_on(&mut self, count: usize)
         ensures { dense_left self.new ≡ drop count (dense_left self.old) }
     {
         pass_sums(&mut self.ids, count);

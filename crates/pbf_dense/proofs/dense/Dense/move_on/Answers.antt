@@ -3,7 +3,7 @@ use Rattle.pbf_wire.specs.Cursors.{numbers_left, sums_left}
 use Rattle.osm_entity.specs.Sources.{low_32}
 use Rattle.pbf_dense.specs.Cursors.{dense_left, info_left}
 use Rattle.pbf_dense.proofs.MovingLemmas.{moving_on}
-use Rattle.pbf_dense.proofs.dense.Dense.pass.Goals as goal
+use Rattle.pbf_dense.proofs.dense.Dense.move_on.Goals as goal
 
 pub returns : goal.returns
 unfolding dense_left
