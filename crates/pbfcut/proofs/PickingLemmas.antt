@@ -1,5 +1,5 @@
 -- Entities that are picked, on their way into the drain.
-use Rattle.std.proofs.Common.{◌≡◌, ℕ, ◌≤◌, List, [], ◌∷◌, ◌++◌, append_assoc, append-nil, Option, None, subst, inr, sym, ap, ◌∙◌, arith}
+use Rattle.std.proofs.Common.{◌≡◌, ℕ, ◌≤◌, List, [], ◌∷◌, ◌++◌, append_assoc, append-nil, Option, None, subst, inr, sym, ap, ap₂, ◌∙◌, arith}
 use Rattle.std.proofs.lemmas.List.Elements.{filter-append}
 use Rattle.std.specs.List.{AllByRecursion, filter}
 use Rattle.pbf_wire.specs.declared.fault.Fault.{Fault}
@@ -40,6 +40,10 @@ front_of pick start now fs rest all split begins =
     subst (λ (l : List EntitySpec). IsFront start now (written_entities l))
     (sym (filter-append pick (stored_entities fs) (stored_entities rest)) ∙ ap (λ (l : List EntitySpec). filter pick l) (sym (flat_map-append frame_entities fs rest) ∙ ap stored_entities (sym split)))
     (begins (filter pick (stored_entities rest)))
+
+-- of runs of all kinds the same are picked as of all entities
+pub picked_runs : (pick : Pick) (kinds : Kinds) (es : List EntitySpec) (at here : ℕ) (m n : List ℕ) → ((e : EntitySpec) → is_among kinds e ≡ true) → (n ≡ m) × (here ≡ at) → es ≡ filter (is_among kinds) (entities here n) → filter pick es ≡ filter pick (entities at m)
+picked_runs pick kinds es at here m n every is are = ap (filter pick) (are ∙ filter_every (is_among kinds) every (entities here n)) ∙ ap₂ (λ (at : ℕ) (m : List ℕ). filter pick (entities at m)) is.1 is.0
 
 module _ {D S H : Type 0} (d : drain.Ghosts D) where
   -- one entity more is packed

@@ -8,7 +8,7 @@ use Rattle.pbf_pass.specs.Counting.{counts_of}
 use Rattle.pbf_pass.specs.Judged.{fault_in}
 use Rattle.pbf_pass.specs.Payload.{primitive_block}
 use Rattle.pbfcut.specs.Pick.{Packs, pick_of, picked_in}
-use Rattle.pbfcut.proofs.PickingLemmas.{stops_judged}
+use Rattle.pbfcut.proofs.PickingLemmas.{picked_runs, stops_judged}
 use Rattle.osm_entity.specs.Entity.{EntitySpec}
 use Rattle.pbfcut.proofs.pick.pack_block.Goals as goal
 
@@ -16,16 +16,14 @@ pub returns-in_err-pack_runs-clause-stopped : goal.returns-in_err-pack_runs-clau
 returns-in_err-pack_runs-clause-stopped g c =
     let p = err_from_is_err_and c.from_residual-in_err-pack_runs.result c.from_residual-in_err-pack_runs.ensures.1 in
     let pick = pick_of c.args.selection in
-    let is = c.in_ok-block.ensures.payload in
-    let same = ap (filter pick) (c.runs_among.ensures.exact ∙ filter_every _ c.all.ensures _) ∙ ap₂ (λ (at : ℕ) (m : List ℕ). filter pick (entities at m)) is.1 is.0 in
+    let same = picked_runs pick c.all.result (joined_runs (runs_left c.runs_among.result)) c.args.at _ c.args.payload.now _ c.all.ensures c.in_ok-block.ensures.payload c.runs_among.ensures.exact in
     let payload = primitive_block c.args.at c.args.payload.now in
     rw (p.1, p.2) (stops_judged g.D.Drain 0 pick (fault_in payload) (joined_runs (runs_left c.runs_among.result)) (picked_in pick payload) c.args.packer.now c.pack_runs.new.packer _ c.in_ok-block.ensures.sound c.runs_among.ensures.fits same c.in_err-pack_runs.ensures.stopped)
 
 pub returns-clause-packed : goal.returns-clause-packed
 returns-clause-packed g c =
     let pick = pick_of c.args.selection in
-    let is = c.in_ok-block.ensures.payload in
-    let same = ap (filter pick) (c.runs_among.ensures.exact ∙ filter_every _ c.all.ensures _) ∙ ap₂ (λ (at : ℕ) (m : List ℕ). filter pick (entities at m)) is.1 is.0 in
+    let same = picked_runs pick c.all.result (joined_runs (runs_left c.runs_among.result)) c.args.at _ c.args.payload.now _ c.all.ensures c.in_ok-block.ensures.payload c.runs_among.ensures.exact in
     record {
       sound = c.in_ok-block.ensures.sound;
       packs = subst (λ (l : List EntitySpec). Packs g.D.Drain c.args.packer.now c.pack_runs.new.packer l) same c.in_ok-pack_runs.ensures.packed.packs;
@@ -35,6 +33,5 @@ returns-clause-packed g c =
 pub returns-clause-counted : goal.returns-clause-counted
 returns-clause-counted g c =
     let pick = pick_of c.args.selection in
-    let is = c.in_ok-block.ensures.payload in
-    let same = ap (filter pick) (c.runs_among.ensures.exact ∙ filter_every _ c.all.ensures _) ∙ ap₂ (λ (at : ℕ) (m : List ℕ). filter pick (entities at m)) is.1 is.0 in
+    let same = picked_runs pick c.all.result (joined_runs (runs_left c.runs_among.result)) c.args.at _ c.args.payload.now _ c.all.ensures c.in_ok-block.ensures.payload c.runs_among.ensures.exact in
     c.in_ok-pack_runs.ensures.packed.counted [] c.none-counts.ensures ∙ ap counts_of same

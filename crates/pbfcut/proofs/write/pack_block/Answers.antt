@@ -7,7 +7,7 @@ use Rattle.pbf_block.specs.Runs.{joined_runs, runs_left}
 use Rattle.pbf_block.proofs.KindLemmas.{filter_every}
 use Rattle.pbf_pass.specs.Payload.{primitive_block}
 use Rattle.pbfcut.specs.Pick.{pick_of}
-use Rattle.pbfcut.proofs.PickingLemmas.{begins_none}
+use Rattle.pbfcut.proofs.PickingLemmas.{begins_none, picked_runs}
 use Rattle.pbfcut.proofs.WritingLemmas.{stops_again}
 use Rattle.pbfcut.proofs.write.pack_block.Goals as goal
 
@@ -24,7 +24,7 @@ returns-in_err-pack_runs-clause-stopped g c =
     let is = rw c.in-Some.is at c.in_ok-block.ensures.payload in
     let here : block_fault block.at block.payload.now ≡ block_fault c.args.at c.args.payload.now = ap₂ (λ (at : ℕ) (m : List ℕ). block_fault at m) is.1 is.0 in
     rw (p.1, p.2) (stops_again g.D.Drain c.args.number pick (primitive_block c.args.at c.args.payload.now) (joined_runs (runs_left c.runs_among.result)) _ _ _ (λ sound. c.runs_among.ensures.fits (here ∙ sound))
-    (λ sound. ap (filter pick) (c.runs_among.ensures.exact (here ∙ sound) ∙ filter_every _ c.all.ensures _) ∙ ap₂ (λ (at : ℕ) (m : List ℕ). filter pick (entities at m)) is.1 is.0) c.in_err-pack_runs.ensures.stopped)
+    (λ sound. picked_runs pick c.all.result (joined_runs (runs_left c.runs_among.result)) c.args.at block.at c.args.payload.now block.payload.now c.all.ensures is (c.runs_among.ensures.exact (here ∙ sound))) c.in_err-pack_runs.ensures.stopped)
 
 pub returns-clause-packed : goal.returns-clause-packed
 returns-clause-packed g c =
@@ -35,7 +35,7 @@ returns-clause-packed g c =
     let done = c.in_ok-pack_runs.ensures.packed in
     record {
       es = filter pick (joined_runs (runs_left c.runs_among.result));
-      are = λ sound. ap (filter pick) (c.runs_among.ensures.exact (here ∙ sound) ∙ filter_every _ c.all.ensures _) ∙ ap₂ (λ (at : ℕ) (m : List ℕ). filter pick (entities at m)) is.1 is.0;
+      are = λ sound. picked_runs pick c.all.result (joined_runs (runs_left c.runs_among.result)) c.args.at block.at c.args.payload.now block.payload.now c.all.ensures is (c.runs_among.ensures.exact (here ∙ sound));
       packs = done.packs;
       going = done.going;
       counted = done.counted;
