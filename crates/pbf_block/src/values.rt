@@ -12,8 +12,8 @@ use crate::column_values::{judge_sums, last_value, last_value_left};
 use crate::entity_values::entity_values;
 use crate::in_groups::InGroups;
 use crate::message::{
-    DATE_GRANULARITY, DENSE, GRANULARITY, MEMIDS, NODE_LAT, NODE_LON, NODES, REFS, RELATIONS,
-    ROLES_SID, TYPES, WAY_LAT, WAY_LON, WAYS,
+    DATE_GRANULARITY, DENSE, GRANULARITY, MEMIDS, NO_FIELD, NODE_LAT, NODE_LON, NODES, REFS,
+    RELATIONS, ROLES_SID, TYPES, WAY_LAT, WAY_LON, WAYS,
 };
 use crate::ranges::{judge_positive, judge_signed, judge_wide};
 use pbf_dense::Dense;
@@ -27,10 +27,11 @@ fn judge_node(message: &[u8], at: u64, limit: u64) -> Option<Fault>
     requires { at + length message.now ≤ 2 ^ 63 }
     ensures { result ≡ least (node_values limit 0 at message.now) }
 {
-    let values = entity_values(message, at, limit);
+    let own = (NODE_LAT, NODE_LON, NO_FIELD);
+    let (values, (lat, lon, _)) = entity_values(message, at, limit, own);
     let entity = lesser(judge_signed(values.id), values.judge());
-    let lat = lesser(entity, judge_signed(last_value(values.eighth, NODE_LAT)));
-    lesser(lat, judge_signed(last_value(values.ninth, NODE_LON)))
+    let lat = lesser(entity, judge_signed(last_value(lat, NODE_LAT)));
+    lesser(lat, judge_signed(last_value(lon, NODE_LON)))
 }
 
 #[tactic(auto, using(crate::proofs::Parts::lesser_parts))]
@@ -38,11 +39,12 @@ fn judge_way(message: &[u8], at: u64, limit: u64) -> Option<Fault>
     requires { at + length message.now ≤ 2 ^ 63 }
     ensures { result ≡ least (way_values limit 0 at message.now) }
 {
-    let values = entity_values(message, at, limit);
+    let own = (REFS, WAY_LAT, WAY_LON);
+    let (values, (refs, lats, lons)) = entity_values(message, at, limit, own);
     let entity = lesser(judge_wide(values.id), values.judge());
-    let refs = lesser(entity, judge_sums(values.eighth, REFS));
-    let lats = lesser(refs, judge_sums(values.ninth, WAY_LAT));
-    lesser(lats, judge_sums(values.tenth, WAY_LON))
+    let refs = lesser(entity, judge_sums(refs, REFS));
+    let lats = lesser(refs, judge_sums(lats, WAY_LAT));
+    lesser(lats, judge_sums(lons, WAY_LON))
 }
 
 /// The least of the kinds of members that are none.
@@ -59,10 +61,11 @@ fn judge_relation(message: &[u8], at: u64, limit: u64) -> Option<Fault>
     requires { at + length message.now ≤ 2 ^ 63 }
     ensures { result ≡ least (relation_values limit 0 at message.now) }
 {
-    let values = entity_values(message, at, limit);
+    let own = (ROLES_SID, MEMIDS, TYPES);
+    let (values, (_, ids, _)) = entity_values(message, at, limit, own);
     let entity = lesser(judge_wide(values.id), values.judge());
     let roles = lesser(entity, judge_indexes(message, at, ROLES_SID, limit));
-    let ids = lesser(roles, judge_sums(values.ninth, MEMIDS));
+    let ids = lesser(roles, judge_sums(ids, MEMIDS));
     lesser(ids, judge_kinds(message, at))
 }
 

@@ -12,9 +12,9 @@ loop-item-init c =
       ends = tt;
       id = refl;
       infos = λ e. refl;
-      keys = adds_all KEYS c.args.at c.args.message.now c.requires;
-      vals = adds_all VALS c.args.at c.args.message.now c.requires;
-      eighth = adds_all 8 c.args.at c.args.message.now c.requires;
-      ninth = adds_all 9 c.args.at c.args.message.now c.requires;
-      tenth = adds_all 10 c.args.at c.args.message.now c.requires;
+      keys = adds_all KEYS c.args.at c.args.message.now c.requires.placed;
+      vals = adds_all VALS c.args.at c.args.message.now c.requires.placed;
+      first = adds_all c.args.own.0 c.args.at c.args.message.now c.requires.placed;
+      second = adds_all c.args.own.1 c.args.at c.args.message.now c.requires.placed;
+      third = adds_all c.args.own.2 c.args.at c.args.message.now c.requires.placed;
     })

@@ -19,7 +19,7 @@ invariant-loop-item l =
       infos : InfosLeft l.counts.many_infos l.has_info left all;
       keys : Adds KEYS l.counts.keys left all;
       vals : Adds VALS l.counts.vals left all;
-      eighth : Adds 8 l.counts.eighth left all;
-      ninth : Adds 9 l.counts.ninth left all;
-      tenth : Adds 10 l.counts.tenth left all;
+      first : Adds l.own.0 l.first left all;
+      second : Adds l.own.1 l.second left all;
+      third : Adds l.own.2 l.third left all;
     }

@@ -19,9 +19,9 @@ invariant-fields l = record {
   info : last_or (option_map occurrence l.info) (only INFO (found (fields_left l.fields))) ≡ last_of INFO (fields_in l.at l.message);
   keys : only_from KEYS l.keys (found (fields_left l.fields)) ≡ only KEYS (fields_in l.at l.message);
   vals : only_from VALS l.vals (found (fields_left l.fields)) ≡ only VALS (fields_in l.at l.message);
-  eighth : only_from 8 l.eighth (found (fields_left l.fields)) ≡ only 8 (fields_in l.at l.message);
-  ninth : only_from 9 l.ninth (found (fields_left l.fields)) ≡ only 9 (fields_in l.at l.message);
-  tenth : only_from 10 l.tenth (found (fields_left l.fields)) ≡ only 10 (fields_in l.at l.message);
+  first : only_from l.own.0 l.first (found (fields_left l.fields)) ≡ only l.own.0 (fields_in l.at l.message);
+  second : only_from l.own.1 l.second (found (fields_left l.fields)) ≡ only l.own.1 (fields_in l.at l.message);
+  third : only_from l.own.2 l.third (found (fields_left l.fields)) ≡ only l.own.2 (fields_in l.at l.message);
 }
 
 abbrev pub decreases-fields : goal.decreases-fields

@@ -21,9 +21,9 @@ invariant-fields l =
       keys : lesser l.keys (least (flat_map (texts_of KEYS l.limit) left)) ≡ least (flat_map (texts_of KEYS l.limit) all);
       vals : lesser l.vals (least (flat_map (texts_of VALS l.limit) left)) ≡ least (flat_map (texts_of VALS l.limit) all);
       infos : lesser l.infos (least (flat_map (entered INFO (info_values l.limit)) left)) ≡ least (flat_map (entered INFO (info_values l.limit)) all);
-      eighth : only_from 8 l.eighth left ≡ only 8 all;
-      ninth : only_from 9 l.ninth left ≡ only 9 all;
-      tenth : only_from 10 l.tenth left ≡ only 10 all;
+      first : only_from l.own.0 l.first left ≡ only l.own.0 all;
+      second : only_from l.own.1 l.second left ≡ only l.own.1 all;
+      third : only_from l.own.2 l.third left ≡ only l.own.2 all;
     }
 
 abbrev pub decreases-fields : goal.decreases-fields
