@@ -9,9 +9,9 @@ ghost use Rattle.pbf_block.specs.Passes.{AreApart, AreOwn};
 ghost use Rattle.pbf_block.specs.ValueFaults.{entity_values};
 
 use crate::column_values::judge_texts;
-use crate::info_values::{judge_inner, value_in};
+use crate::info_values::{InfoRanges, value_in};
 use crate::message::{ID, INFO, KEYS, VALS};
-use pbf_wire::{Fault, Fields, lesser};
+use pbf_wire::{Fault, Fields, InField, Judge, lesser};
 
 /// What one pass over an entity's message judges.
 #[derive(Clone, Copy)]
@@ -64,7 +64,7 @@ pub(crate) fn entity_values(
             ID => id = value_in(field),
             KEYS => keys = lesser(keys, judge_texts(field, limit)),
             VALS => vals = lesser(vals, judge_texts(field, limit)),
-            INFO => infos = lesser(infos, judge_inner(field, limit)),
+            INFO => infos = lesser(infos, InField(INFO, InfoRanges { limit }).judge(field)),
             number if number == own.0 => first = first.or(Some(rest)),
             number if number == own.1 => second = second.or(Some(rest)),
             number if number == own.2 => third = third.or(Some(rest)),

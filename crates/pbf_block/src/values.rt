@@ -10,16 +10,15 @@ ghost use Rattle.pbf_block.specs.ValueFaults.{node_values, way_values, relation_
 
 use crate::column_values::{judge_sums, last_value, last_value_left};
 use crate::entity_values::entity_values;
-use crate::in_groups::InGroups;
 use crate::message::{
-    DATE_GRANULARITY, DENSE, GRANULARITY, MEMIDS, NO_FIELD, NODE_LAT, NODE_LON, NODES, REFS,
-    RELATIONS, ROLES_SID, TYPES, WAY_LAT, WAY_LON, WAYS,
+    DATE_GRANULARITY, DENSE, GRANULARITY, MEMIDS, NO_FIELD, NODE_LAT, NODE_LON, NODES,
+    PRIMITIVEGROUP, REFS, RELATIONS, ROLES_SID, TYPES, WAY_LAT, WAY_LON, WAYS,
 };
 use crate::ranges::{judge_positive, judge_signed, judge_wide};
 use pbf_dense::Dense;
 use pbf_wire::{
-    Fault, Field, Fields, Judge, Payload, Reason, judge_fields, judge_indexes, judge_low_numbers,
-    lesser,
+    EachField, Fault, Field, Fields, InField, Judge, Payload, Reason, judge_fields, judge_indexes,
+    judge_low_numbers, lesser,
 };
 
 #[tactic(auto, using(crate::proofs::Parts::lesser_parts))]
@@ -111,6 +110,10 @@ pub(crate) fn judge_values(payload: &[u8], at: u64, limit: u64) -> Option<Fault>
     );
     lesser(
         scale,
-        judge_fields(payload, at, &InGroups(MemberValues { limit })),
+        judge_fields(
+            payload,
+            at,
+            &InField(PRIMITIVEGROUP, EachField(MemberValues { limit })),
+        ),
     )
 }

@@ -32,7 +32,7 @@ pub use fault::{Fault, ReadFault, Reason};
 pub use field::{Field, Payload};
 pub use fields::Fields;
 pub use form::{judge_form, judge_leaf, judge_nested, judge_payload, judge_wire, kind_of};
-pub use judge::{Judge, fault_where, judge_fields, refuse};
+pub use judge::{EachField, InField, Judge, JudgeMessage, fault_where, judge_fields, refuse};
 pub use kind::Kind;
 pub use least::{comes_before, lesser};
 pub use reading::{last_field, last_number};
