@@ -19,7 +19,7 @@ use crate::info::meta_in;
 use crate::message::{ID, INFO, KEYS, VALS};
 use osm_entity::{MetaRef, PairedTags, STORED_LIMIT, Tags};
 use pbf_strings::Table;
-use pbf_wire::{Column, Field, Fields, Payload, Sums, low_i64, unzigzag};
+use pbf_wire::{Column, Field, Fields, Payload, Sums, last_number_left, low_i64, unzigzag};
 
 /// Where the fields are that all entities have. Those of a column begin at the first of its number, so that a column over them
 /// passes over no field before its own.
@@ -139,31 +139,13 @@ pub(crate) fn values(fields: Fields<'_>, number: u64) -> Sums<'_>
     Sums::new(column(fields, number), STORED_LIMIT)
 }
 
-/// The last number of these fields under this number.
-fn last_left(fields: Fields<'_>, number: u64) -> Option<u64>
-    ensures { result ≡ last_number number (found (fields_left fields.entry)) }
-{
-    let mut last = None;
-    for item in fields {
-        let Ok(field) = item else {
-            return last;
-        };
-        if let Payload::Number(value) = field.payload {
-            if field.number == number {
-                last = Some(value);
-            }
-        }
-    }
-    last
-}
-
 /// The signed number that these fields hold last under this number, and 0 where they hold none.
 #[tactic(auto, using(crate::proofs::PassLemmas::last_left_is))]
 pub(crate) fn last_signed(fields: Fields<'_>, number: u64) -> i64
     ensures { (os : List Occurrence) → only_left number fields.entry ≡ only number os
         → result ≡ number_or (pos 0) unzigzag number os }
 {
-    match last_left(fields, number) {
+    match last_number_left(fields, number) {
         Some(value) => unzigzag(value),
         None => 0,
     }
