@@ -7,7 +7,7 @@ ghost use Rattle.pbf_wire.specs.Occurrence.{Occurrence};
 ghost use Rattle.pbf_wire.specs.Faults.{fault_where, fields_in, missing, twice, column_count};
 ghost use Rattle.pbf_block.specs.declared.message.TheConstants.{ID, KEYS, VALS, INFO, CHANGESETS};
 ghost use Rattle.pbf_block.specs.Counts.{AreCounts, AreOwnCounts};
-ghost use Rattle.pbf_block.specs.StructureFaults.{entity_structure, node_structure, are_located, way_structure, are_members, relation_structure, member_structure, is_member, first_member, is_other, mixed, changesets, group_structure, table_structure, part_structure, structure_faults};
+ghost use Rattle.pbf_block.specs.StructureFaults.{entity_structure, node_structure, are_located, way_structure, are_members, relation_structure, member_structure, is_member, first_member, is_other, mixed, changesets, group_structure, part_structure, structure_faults};
 
 use crate::entity_counts::{EntityCounts, entity_counts};
 use crate::message::{
@@ -223,14 +223,6 @@ fn judge_group(message: &[u8], at: u64) -> Option<Fault>
     lesser(known, judge_fields(message, at, &MemberStructure))
 }
 
-/// Whether a table has too many texts.
-fn judge_table(message: &[u8], tag: u64) -> Option<Fault>
-    requires { length message.now ≤ 2 ^ 63 }
-    ensures { result ≡ least (table_structure tag 0 message.now) }
-{
-    Table::judge_count(message, tag).err()
-}
-
 /// The structure of the table or the group that a field of a payload holds.
 #[derive(Clone, Copy)]
 struct PartStructure;
@@ -243,7 +235,7 @@ impl Judge for PartStructure {
             return None;
         };
         match field.number {
-            STRINGTABLE => judge_table(bytes, field.offset),
+            STRINGTABLE => Table::judge_count(bytes, field.offset).err(),
             PRIMITIVEGROUP => judge_group(bytes, begin),
             _ => None,
         }

@@ -1,11 +1,7 @@
 //! The values of a payload: numbers out of range.
 
 ghost use Rattle.std.specs.Prelude.{◌≡◌, ◌+◌, ◌≤◌, ◌^◌, length};
-ghost use Rattle.std.specs.List.{flat_map};
-ghost use Rattle.pbf_wire.specs.declared.fault.Reason.TheVariants.{MemberKind};
-ghost use Rattle.pbf_wire.specs.Columns.{joined};
 ghost use Rattle.pbf_wire.specs.Least.{least};
-ghost use Rattle.pbf_wire.specs.Faults.{fields_in, below_fault};
 ghost use Rattle.pbf_block.specs.ValueFaults.{node_values, way_values, relation_values, member_values, value_faults};
 
 use crate::column_values::{judge_sums, last_value, last_value_left};
@@ -46,15 +42,6 @@ fn judge_way(message: &[u8], at: u64, limit: u64) -> Option<Fault>
     lesser(lats, judge_sums(lons, WAY_LON))
 }
 
-/// The least of the kinds of members that are none.
-fn judge_kinds(message: &[u8], at: u64) -> Option<Fault>
-    requires { at + length message.now ≤ 2 ^ 63 }
-    ensures { result ≡ least (flat_map (below_fault MemberKind 3)
-        (joined TYPES (fields_in at message.now))) }
-{
-    judge_low_numbers(message, at, TYPES, 3, Reason::MemberKind)
-}
-
 #[tactic(auto, using(crate::proofs::Parts::lesser_parts))]
 fn judge_relation(message: &[u8], at: u64, limit: u64) -> Option<Fault>
     requires { at + length message.now ≤ 2 ^ 63 }
@@ -65,7 +52,8 @@ fn judge_relation(message: &[u8], at: u64, limit: u64) -> Option<Fault>
     let entity = lesser(judge_wide(values.id), values.judge());
     let roles = lesser(entity, judge_indexes(message, at, ROLES_SID, limit));
     let ids = lesser(roles, judge_sums(ids, MEMIDS));
-    lesser(ids, judge_kinds(message, at))
+    let kinds = judge_low_numbers(message, at, TYPES, 3, Reason::MemberKind);
+    lesser(ids, kinds)
 }
 
 /// The values of the entities that a field of a group holds, whose table has `limit` texts.

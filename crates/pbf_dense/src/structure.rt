@@ -8,6 +8,7 @@ ghost use Rattle.pbf_wire.specs.Faults.{fault_where, fields_in, column_count};
 ghost use Rattle.osm_entity.specs.Sources.{low_32};
 ghost use Rattle.pbf_dense.specs.Judged.{coordinate_counts, are_runs, are_tags, run_faults, goes_with, info_counts, dense_structure};
 
+use crate::dense::Dense;
 use crate::entries::next_number;
 use crate::message::{
     CHANGESET, DENSEINFO, ID, KEYS_VALS, LAT, LON, TIMESTAMP, UID, USER_SID, VERSION, VISIBLE,
@@ -105,18 +106,22 @@ impl JudgeMessage for InfoStructure {
     }
 }
 
-/// The least fault of structure of a dense message whose first byte stands at `at` in the file, and its field at `tag`.
-#[tactic(auto, using(crate::proofs::Parts::lesser_parts), unfolding(crate::specs::Judged::dense_structure))]
-pub(crate) fn judge_structure(message: &[u8], at: u64, tag: u64) -> Option<Fault>
-    requires { at + length message.now ≤ 2 ^ 63 }
-    ensures { result ≡ least (dense_structure tag at message.now) }
-{
-    let counts = judge_coordinates(message, at, tag);
-    let runs = judge_runs(message, at, tag);
-    let twice = judge_twice(message, at, DENSEINFO);
-    let infos = InfoStructure {
-        nodes: column_count(message, at, ID),
-    };
-    let unlike = judge_fields(message, at, &InField(DENSEINFO, infos));
-    lesser(counts, lesser(runs, lesser(twice, unlike)))
+impl Dense<'_> {
+    /// The least fault of structure of a dense message, whose field stands at `tag`: columns of unlike counts, tags that are
+    /// not of their form, a second DenseInfo. Where the message has a wire fault, its fields before that count. Decodes no
+    /// column but that of the tags.
+    #[tactic(auto, using(crate::proofs::Parts::lesser_parts), unfolding(crate::specs::Judged::dense_structure))]
+    pub fn judge_structure(message: &[u8], at: u64, tag: u64) -> Option<Fault>
+        requires { at + length message.now ≤ 2 ^ 63 }
+        ensures { result ≡ least (dense_structure tag at message.now) }
+    {
+        let counts = judge_coordinates(message, at, tag);
+        let runs = judge_runs(message, at, tag);
+        let twice = judge_twice(message, at, DENSEINFO);
+        let infos = InfoStructure {
+            nodes: column_count(message, at, ID),
+        };
+        let unlike = judge_fields(message, at, &InField(DENSEINFO, infos));
+        lesser(counts, lesser(runs, lesser(twice, unlike)))
+    }
 }

@@ -1,11 +1,12 @@
 //! Whether the values of a dense message are in range, and the table has its texts.
 
-ghost use Rattle.std.specs.Prelude.{◌≡◌, ◌+◌, ◌≤◌, ◌^◌, false, length};
+ghost use Rattle.std.specs.Prelude.{◌≡◌, ◌+◌, ◌≤◌, ◌^◌, ℕ, false, length};
 ghost use Rattle.pbf_wire.specs.Columns.{joined};
 ghost use Rattle.pbf_wire.specs.Least.{least};
 ghost use Rattle.pbf_wire.specs.Faults.{fields_in, index_faults};
 ghost use Rattle.pbf_dense.specs.Judged.{texts_named, range_faults, info_values, dense_values};
 
+use crate::dense::Dense;
 use crate::entries::next_placed;
 use crate::message::{CHANGESET, DENSEINFO, ID, KEYS_VALS, LAT, LON, TIMESTAMP, UID, USER_SID};
 use osm_entity::{STORED_LIMIT, UID_LIMIT};
@@ -64,18 +65,20 @@ impl JudgeMessage for InfoValues {
     }
 }
 
-/// The least fault of the values of a dense message whose first byte stands at `at` in the file, of which texts are named in a
-/// table of `limit` texts.
-#[tactic(auto, using(crate::proofs::Parts::lesser_parts), unfolding(crate::specs::Judged::dense_values))]
-pub(crate) fn judge_values(message: &[u8], at: u64, limit: u64) -> Option<Fault>
-    requires placed { at + length message.now ≤ 2 ^ 63 }
-    requires limited { limit ≤ 2 ^ 62 }
-    ensures { result ≡ least (dense_values limit 0 at message.now) }
-{
-    let ids = judge_range(message, at, ID);
-    let lats = judge_range(message, at, LAT);
-    let lons = judge_range(message, at, LON);
-    let texts = judge_texts(message, at, limit);
-    let infos = judge_fields(message, at, &InField(DENSEINFO, InfoValues { limit }));
-    lesser(ids, lesser(lats, lesser(lons, lesser(texts, infos))))
+impl Dense<'_> {
+    /// The least fault of the values of a dense message, for a table of `limit` texts: a value out of its range, a number that
+    /// the table has no text for.
+    #[tactic(auto, using(crate::proofs::Parts::lesser_parts), unfolding(crate::specs::Judged::dense_values))]
+    pub fn judge_values(message: &[u8], at: u64, limit: u64) -> Option<Fault>
+        requires placed { at + length message.now ≤ 2 ^ 63 }
+        requires limited { limit ≤ 2 ^ 62 }
+        ensures { (place : ℕ) → result ≡ least (dense_values limit place at message.now) }
+    {
+        let ids = judge_range(message, at, ID);
+        let lats = judge_range(message, at, LAT);
+        let lons = judge_range(message, at, LON);
+        let texts = judge_texts(message, at, limit);
+        let infos = judge_fields(message, at, &InField(DENSEINFO, InfoValues { limit }));
+        lesser(ids, lesser(lats, lesser(lons, lesser(texts, infos))))
+    }
 }
