@@ -19,17 +19,17 @@ pub(crate) struct EntityCounts {
 }
 
 /// The counts of a message whose first byte stands at `at` in the file: of what all entities have, and of the numbers in the three
-/// columns that its kind has of its own. No packed payload is decoded.
-#[inline(always)]
-pub(crate) fn entity_counts(
+/// columns that its kind has of its own. No packed payload is decoded. As `entity_fields`, it is a function of its own for each kind.
+#[inline(never)]
+pub(crate) fn entity_counts<const FIRST: u64, const SECOND: u64, const THIRD: u64>(
     message: &[u8],
     at: u64,
-    own: (u64, u64, u64),
-) -> (EntityCounts, (usize, usize, usize))
+) -> (EntityCounts, usize, usize, usize)
     requires placed { at + length message.now ≤ 2 ^ 63 }
-    requires apart { AreApart own }
+    requires apart { AreApart (FIRST, SECOND, THIRD) }
     ensures alike { AreCounts result.0 (fields_in at message.now) }
-    ensures own { AreOwnCounts own result.1 (fields_in at message.now) }
+    ensures own { AreOwnCounts (FIRST, SECOND, THIRD) (result.1, result.2, result.3)
+        (fields_in at message.now) }
 {
     let mut counts = EntityCounts {
         has_id: false,
@@ -41,7 +41,7 @@ pub(crate) fn entity_counts(
     let mut has_info = false;
     for item in Fields::new(message, at) {
         let Ok(field) = item else {
-            return (counts, (first, second, third));
+            return (counts, first, second, third);
         };
         match field.number {
             ID => counts.has_id = true,
@@ -51,11 +51,11 @@ pub(crate) fn entity_counts(
             }
             KEYS => counts.keys += field.payload.count(),
             VALS => counts.vals += field.payload.count(),
-            number if number == own.0 => first += field.payload.count(),
-            number if number == own.1 => second += field.payload.count(),
-            number if number == own.2 => third += field.payload.count(),
+            number if number == FIRST => first += field.payload.count(),
+            number if number == SECOND => second += field.payload.count(),
+            number if number == THIRD => third += field.payload.count(),
             _ => {}
         }
     }
-    (counts, (first, second, third))
+    (counts, first, second, third)
 }

@@ -32,17 +32,18 @@ pub(crate) struct EntityFields<'a> {
 }
 
 /// The fields of a message whose first byte stands at `at` in the file: those that all entities have, and those of the three
-/// numbers that its kind has of its own, each from the first on.
-#[inline(always)]
-pub(crate) fn entity_fields(
+/// numbers that its kind has of its own, each from the first on. It is a function of its own for each kind: a caller that had it
+/// inlined would clear room for its locals before each dense node too.
+#[inline(never)]
+pub(crate) fn entity_fields<const FIRST: u64, const SECOND: u64, const THIRD: u64>(
     message: &[u8],
     at: u64,
-    own: (u64, u64, u64),
-) -> (EntityFields<'_>, (Fields<'_>, Fields<'_>, Fields<'_>))
+) -> (EntityFields<'_>, Fields<'_>, Fields<'_>, Fields<'_>)
     requires placed { at + length message.now ≤ 2 ^ 63 }
-    requires apart { AreApart own }
+    requires apart { AreApart (FIRST, SECOND, THIRD) }
     ensures alike { AreFields result.0 (fields_in at message.now) }
-    ensures own { AreOwn own result.1 (fields_in at message.now) }
+    ensures own { AreOwn (FIRST, SECOND, THIRD) (result.1, result.2, result.3)
+        (fields_in at message.now) }
 {
     let mut fields = Fields::new(message, at);
     let (mut id, mut info, mut keys, mut vals) = (None, None, None, None);
@@ -58,11 +59,9 @@ pub(crate) fn entity_fields(
             };
             return (
                 alike,
-                (
-                    first.unwrap_or(rest),
-                    second.unwrap_or(rest),
-                    third.unwrap_or(rest),
-                ),
+                first.unwrap_or(rest),
+                second.unwrap_or(rest),
+                third.unwrap_or(rest),
             );
         };
         match field.number {
@@ -74,9 +73,9 @@ pub(crate) fn entity_fields(
             KEYS => keys = keys.or(Some(rest)),
             VALS => vals = vals.or(Some(rest)),
             INFO => info = Some(field),
-            number if number == own.0 => first = first.or(Some(rest)),
-            number if number == own.1 => second = second.or(Some(rest)),
-            number if number == own.2 => third = third.or(Some(rest)),
+            number if number == FIRST => first = first.or(Some(rest)),
+            number if number == SECOND => second = second.or(Some(rest)),
+            number if number == THIRD => third = third.or(Some(rest)),
             _ => {}
         }
     }

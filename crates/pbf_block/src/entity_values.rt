@@ -24,20 +24,21 @@ pub(crate) struct EntityValues {
 }
 
 /// The values of a message whose first byte stands at `at` in the file, and whose texts are named in a table of `limit` texts: what
-/// is judged of all entities, and where what is judged after it is found, the fields of the three numbers that the message's kind
-/// has of its own. They begin at the first of their number, so that an absent column takes no pass.
-#[inline(always)]
+/// is judged of all entities, and the fields of the three numbers that its kind has of its own, which are judged after it. These
+/// begin at the first of their number, so that an absent column takes no pass. As `entity_fields`, it is a function of its own for
+/// each kind.
+#[inline(never)]
 #[tactic(auto, using(crate::proofs::Parts::least_more, crate::proofs::Parts::lesser_nothing, crate::proofs::ValueLemmas::last_is, crate::proofs::ValueLemmas::texts_are))]
-pub(crate) fn entity_values(
+pub(crate) fn entity_values<const FIRST: u64, const SECOND: u64, const THIRD: u64>(
     message: &[u8],
     at: u64,
     limit: u64,
-    own: (u64, u64, u64),
-) -> (EntityValues, (Fields<'_>, Fields<'_>, Fields<'_>))
+) -> (EntityValues, Fields<'_>, Fields<'_>, Fields<'_>)
     requires placed { at + length message.now ≤ 2 ^ 63 }
-    requires apart { AreApart own }
+    requires apart { AreApart (FIRST, SECOND, THIRD) }
     ensures alike { AreValues limit result.0 (fields_in at message.now) }
-    ensures own { AreOwn own result.1 (fields_in at message.now) }
+    ensures own { AreOwn (FIRST, SECOND, THIRD) (result.1, result.2, result.3)
+        (fields_in at message.now) }
 {
     let mut fields = Fields::new(message, at);
     let (mut id, mut keys, mut vals, mut infos) = (None, None, None, None);
@@ -53,11 +54,9 @@ pub(crate) fn entity_values(
             };
             return (
                 alike,
-                (
-                    first.unwrap_or(rest),
-                    second.unwrap_or(rest),
-                    third.unwrap_or(rest),
-                ),
+                first.unwrap_or(rest),
+                second.unwrap_or(rest),
+                third.unwrap_or(rest),
             );
         };
         match field.number {
@@ -65,9 +64,9 @@ pub(crate) fn entity_values(
             KEYS => keys = lesser(keys, judge_texts(field, limit)),
             VALS => vals = lesser(vals, judge_texts(field, limit)),
             INFO => infos = lesser(infos, InField(INFO, InfoRanges { limit }).judge(field)),
-            number if number == own.0 => first = first.or(Some(rest)),
-            number if number == own.1 => second = second.or(Some(rest)),
-            number if number == own.2 => third = third.or(Some(rest)),
+            number if number == FIRST => first = first.or(Some(rest)),
+            number if number == SECOND => second = second.or(Some(rest)),
+            number if number == THIRD => third = third.or(Some(rest)),
             _ => {}
         }
     }

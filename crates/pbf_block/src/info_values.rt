@@ -31,6 +31,7 @@ pub(crate) fn value_in(field: Field<'_>) -> Option<(u64, u64)>
 }
 
 /// The numbers of an Info whose first byte stands at `at` in the file.
+#[inline(always)]
 #[tactic(auto, using(crate::proofs::ValueLemmas::last_is))]
 pub(crate) fn info_values(message: &[u8], at: u64) -> InfoValues
     requires { at + length message.now ≤ 2 ^ 63 }
@@ -66,6 +67,7 @@ pub(crate) struct InfoRanges {
 impl JudgeMessage for InfoRanges {
     ghost faults = { λ info. info_values info.limit };
 
+    #[inline(always)]
     #[tactic(auto, using(crate::proofs::Parts::lesser_parts))]
     fn judge_message(&self, message: &[u8], at: u64, _place: u64) -> Option<Fault> {
         let values = info_values(message, at);

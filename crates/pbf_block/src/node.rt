@@ -21,7 +21,7 @@ pub(crate) fn node_in<'a>(
     requires { at + length message.now ≤ 2 ^ 63 }
     ensures { node_of result ≡ node_in table.now scale (fields_in at message.now) }
 {
-    let (fields, (lat, lon, _)) = entity_fields(message, at, (NODE_LAT, NODE_LON, NO_FIELD));
+    let (fields, lat, lon, _) = entity_fields::<NODE_LAT, NODE_LON, NO_FIELD>(message, at);
     NodeRef::new(
         fields.signed_id(),
         last_signed(lat, NODE_LAT),

@@ -22,7 +22,7 @@ pub(crate) fn relation_in<'a>(
     requires { at + length message.now ≤ 2 ^ 63 }
     ensures { relation_of result ≡ relation_in along table.now scale (fields_in at message.now) }
 {
-    let (fields, (roles, ids, kinds)) = entity_fields(message, at, (ROLES_SID, MEMIDS, TYPES));
+    let (fields, roles, ids, kinds) = entity_fields::<ROLES_SID, MEMIDS, TYPES>(message, at);
     let members = ColumnMembers::new(
         column(kinds, TYPES),
         values(ids, MEMIDS),

@@ -64,7 +64,7 @@ fn judge_node(message: &[u8], at: u64, tag: u64) -> Option<Fault>
     requires { at + length message.now ≤ 2 ^ 63 }
     ensures { result ≡ least (node_structure tag at message.now) }
 {
-    let (counts, _) = entity_counts(message, at, (NODE_LAT, NODE_LON, NO_FIELD));
+    let (counts, ..) = entity_counts::<NODE_LAT, NODE_LON, NO_FIELD>(message, at);
     let lat = lesser(
         judge_entity(message, at, tag, counts),
         judge_missing(message, at, tag, NODE_LAT),
@@ -85,7 +85,7 @@ fn judge_way(message: &[u8], at: u64, tag: u64) -> Option<Fault>
     requires { at + length message.now ≤ 2 ^ 63 }
     ensures { result ≡ least (way_structure tag at message.now) }
 {
-    let (counts, (refs, lats, lons)) = entity_counts(message, at, (REFS, WAY_LAT, WAY_LON));
+    let (counts, refs, lats, lons) = entity_counts::<REFS, WAY_LAT, WAY_LON>(message, at);
     let located = are_located(refs, lats, lons);
     lesser(
         judge_entity(message, at, tag, counts),
@@ -106,7 +106,7 @@ fn judge_relation(message: &[u8], at: u64, tag: u64) -> Option<Fault>
     requires { at + length message.now ≤ 2 ^ 63 }
     ensures { result ≡ least (relation_structure tag at message.now) }
 {
-    let (counts, (roles, ids, kinds)) = entity_counts(message, at, (ROLES_SID, MEMIDS, TYPES));
+    let (counts, roles, ids, kinds) = entity_counts::<ROLES_SID, MEMIDS, TYPES>(message, at);
     let members = are_members(roles, ids, kinds);
     lesser(
         judge_entity(message, at, tag, counts),

@@ -22,8 +22,7 @@ fn judge_node(message: &[u8], at: u64, limit: u64) -> Option<Fault>
     requires { at + length message.now ≤ 2 ^ 63 }
     ensures { result ≡ least (node_values limit 0 at message.now) }
 {
-    let own = (NODE_LAT, NODE_LON, NO_FIELD);
-    let (values, (lat, lon, _)) = entity_values(message, at, limit, own);
+    let (values, lat, lon, _) = entity_values::<NODE_LAT, NODE_LON, NO_FIELD>(message, at, limit);
     let entity = lesser(judge_signed(values.id), values.judge());
     let lat = lesser(entity, judge_signed(last_value(lat, NODE_LAT)));
     lesser(lat, judge_signed(last_value(lon, NODE_LON)))
@@ -34,8 +33,7 @@ fn judge_way(message: &[u8], at: u64, limit: u64) -> Option<Fault>
     requires { at + length message.now ≤ 2 ^ 63 }
     ensures { result ≡ least (way_values limit 0 at message.now) }
 {
-    let own = (REFS, WAY_LAT, WAY_LON);
-    let (values, (refs, lats, lons)) = entity_values(message, at, limit, own);
+    let (values, refs, lats, lons) = entity_values::<REFS, WAY_LAT, WAY_LON>(message, at, limit);
     let entity = lesser(judge_wide(values.id), values.judge());
     let refs = lesser(entity, judge_sums(refs, REFS));
     let lats = lesser(refs, judge_sums(lats, WAY_LAT));
@@ -47,8 +45,7 @@ fn judge_relation(message: &[u8], at: u64, limit: u64) -> Option<Fault>
     requires { at + length message.now ≤ 2 ^ 63 }
     ensures { result ≡ least (relation_values limit 0 at message.now) }
 {
-    let own = (ROLES_SID, MEMIDS, TYPES);
-    let (values, (_, ids, _)) = entity_values(message, at, limit, own);
+    let (values, _, ids, _) = entity_values::<ROLES_SID, MEMIDS, TYPES>(message, at, limit);
     let entity = lesser(judge_wide(values.id), values.judge());
     let roles = lesser(entity, judge_indexes(message, at, ROLES_SID, limit));
     let ids = lesser(roles, judge_sums(ids, MEMIDS));
