@@ -20,11 +20,11 @@ use Rattle.osm_entity.specs.declared.scale.Scale.{Scale}
 use Rattle.osm_entity.specs.Entity.{EntitySpec, node, way, relation}
 use Rattle.osm_entity.specs.Sources.{low_32, named, tag_of, run, member_of}
 use Rattle.osm_entity.specs.Weight.{tags_weight, members_weight, text_weight, node_weight, way_weight, relation_weight, entity_weight}
-use Rattle.pbf_dense.specs.declared.message.TheConstants.{KEYS_VALS}
 use Rattle.pbf_dense.specs.Info.{InfoSpec, meta_at, user_text, info_along, later}
 use Rattle.pbf_dense.specs.Nodes.{moving, nodes_along}
 use Rattle.pbf_dense.specs.Runs.{after_run}
-use Rattle.pbf_block.specs.declared.message.TheConstants.{NODES, DENSE, WAYS, RELATIONS, KEYS, VALS, INFO, REFS, WAY_LAT, WAY_LON, ROLES_SID, MEMIDS, TYPES, USER_SID}
+use Rattle.pbf_dense.specs.declared.message.TheConstants.{KEYS_VALS, USER_SID}
+use Rattle.pbf_block.specs.declared.message.TheConstants.{NODES, DENSE, WAYS, RELATIONS, KEYS, VALS, INFO, REFS, WAY_LAT, WAY_LON, ROLES_SID, MEMIDS, TYPES}
 use Rattle.pbf_block.specs.Members.{node_in, way_in, relation_in, values_in, message_entities}
 use Rattle.pbf_block.specs.Payload.{along}
 use Rattle.pbf_block.specs.Weights.{weight_fault}

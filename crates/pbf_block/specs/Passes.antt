@@ -1,5 +1,5 @@
 -- What one pass over a message finds.
-use Rattle.std.specs.Prelude.{◌≡◌, ℕ, ◌==◌, List, filter, Option, Some, None}
+use Rattle.std.specs.Prelude.{◌≡◌, ℕ, ◌==◌, ◌<◌, List, filter, Option, Some, None}
 use Rattle.std.specs.Option.{option_map}
 use Rattle.pbf_wire.specs.declared.fields.Fields.{Fields}
 use Rattle.pbf_wire.specs.Cursors.{fields_left}
@@ -8,7 +8,8 @@ use Rattle.pbf_wire.specs.Occurrence.{Occurrence, found}
 use Rattle.pbf_wire.specs.Reading.{last_of, last_number}
 use Rattle.pbf_block.specs.declared.entity_fields.EntityFields.{EntityFields}
 use Rattle.pbf_block.specs.declared.info.InfoNumbers.{InfoNumbers}
-use Rattle.pbf_block.specs.declared.message.TheConstants.{ID, KEYS, VALS, INFO, VERSION, TIMESTAMP, CHANGESET, UID, USER_SID, VISIBLE}
+use Rattle.pbf_dense.specs.declared.message.TheConstants.{VERSION, TIMESTAMP, CHANGESET, UID, USER_SID, VISIBLE}
+use Rattle.pbf_block.specs.declared.message.TheConstants.{ID, KEYS, VALS, INFO}
 
 -- the occurrences of the field k
 abbrev pub only : ℕ → List Occurrence → List Occurrence
@@ -23,15 +24,22 @@ abbrev pub only_from : ℕ → Option Fields → List Occurrence → List Occurr
 only_from k None os = only k os
 only_from k (Some fields) os = only_left k fields
 
--- what was found of the message with these occurrences
+-- each of the numbers that a kind of entity has of its own is above the one before, and all are above those that entities have alike
+abbrev pub AreApart : ℕ × ℕ × ℕ → Type 0
+AreApart own = (INFO < own.0) × (own.0 < own.1) × (own.1 < own.2)
+
+-- what was found of the fields of these numbers
+pub record AreOwn (own : ℕ × ℕ × ℕ) (found : Fields × Fields × Fields) (os : List Occurrence) : Type 0 where
+  pub first : only_left own.0 found.0 ≡ only own.0 os
+  pub second : only_left own.1 found.1 ≡ only own.1 os
+  pub third : only_left own.2 found.2 ≡ only own.2 os
+
+-- what was found of the fields that all entities have
 pub record AreFields (found : EntityFields) (os : List Occurrence) : Type 0 where
   pub id : found.id ≡ last_number ID os
   pub info : option_map occurrence found.info ≡ last_of INFO os
   pub keys : only_left KEYS found.keys ≡ only KEYS os
   pub vals : only_left VALS found.vals ≡ only VALS os
-  pub eighth : only_left 8 found.eighth ≡ only 8 os
-  pub ninth : only_left 9 found.ninth ≡ only 9 os
-  pub tenth : only_left 10 found.tenth ≡ only 10 os
 
 pub record AreNumbers (found : InfoNumbers) (os : List Occurrence) : Type 0 where
   pub version : found.version ≡ last_number VERSION os

@@ -12,7 +12,9 @@ ghost use Rattle.pbf_block.specs.Passes.{only, only_left};
 
 use crate::info_values::value_in;
 use osm_entity::STORED_LIMIT;
-use pbf_wire::{Fault, Field, Fields, Payload, first_number, judge_index, judge_sums_left};
+use pbf_wire::{
+    Fault, Field, Fields, Payload, first_number, judge_index, judge_sums_left, last_field_left,
+};
 
 /// The least fault of the numbers of a packed column that a table of `limit` texts has no text for. Its field stands at `place`,
 /// and so does each fault: it is reported at the first.
@@ -52,20 +54,10 @@ pub(crate) fn judge_sums(fields: Fields<'_>, number: u64) -> Option<Fault>
 }
 
 /// The last number of these fields under this number, and its place.
-#[tactic(auto, using(crate::proofs::ValueLemmas::last_is))]
 pub(crate) fn last_value_left(fields: Fields<'_>, number: u64) -> Option<(u64, u64)>
     ensures { result ≡ last_value number (found (fields_left fields.entry)) }
 {
-    let mut last = None;
-    for item in fields {
-        let Ok(field) = item else {
-            return last;
-        };
-        if field.number == number {
-            last = value_in(field);
-        }
-    }
-    last
+    value_in(last_field_left(fields, number)?)
 }
 
 /// The number that these fields hold last under this number, and its place.

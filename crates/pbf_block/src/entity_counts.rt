@@ -2,12 +2,13 @@
 
 ghost use Rattle.std.specs.Prelude.{◌≡◌, ◌+◌, ◌≤◌, ◌^◌, length};
 ghost use Rattle.pbf_wire.specs.Faults.{fields_in};
-ghost use Rattle.pbf_block.specs.Counts.{AreCounts};
+ghost use Rattle.pbf_block.specs.Counts.{AreCounts, AreOwnCounts};
+ghost use Rattle.pbf_block.specs.Passes.{AreApart};
 
 use crate::message::{ID, INFO, KEYS, VALS};
 use pbf_wire::Fields;
 
-/// The counts of a message. No packed payload is decoded.
+/// The counts of what all entities have.
 #[derive(Clone, Copy)]
 pub(crate) struct EntityCounts {
     pub(crate) has_id: bool,
@@ -15,32 +16,32 @@ pub(crate) struct EntityCounts {
     pub(crate) many_infos: bool,
     pub(crate) keys: usize,
     pub(crate) vals: usize,
-    /// The numbers of the field 8: a way's refs, the roles of a relation's members.
-    pub(crate) eighth: usize,
-    /// The numbers of the field 9: the latitudes of a way's nodes, the ids of a relation's members.
-    pub(crate) ninth: usize,
-    /// The numbers of the field 10: the longitudes of a way's nodes, the kinds of a relation's members.
-    pub(crate) tenth: usize,
 }
 
-/// The counts of a message whose first byte stands at `at` in the file.
-pub(crate) fn entity_counts(message: &[u8], at: u64) -> EntityCounts
-    requires { at + length message.now ≤ 2 ^ 63 }
-    ensures { AreCounts result (fields_in at message.now) }
+/// The counts of a message whose first byte stands at `at` in the file: of what all entities have, and of the numbers in the three
+/// columns that its kind has of its own. No packed payload is decoded. As `entity_fields`, it is a function of its own for each kind.
+#[inline(never)]
+pub(crate) fn entity_counts<const FIRST: u64, const SECOND: u64, const THIRD: u64>(
+    message: &[u8],
+    at: u64,
+) -> (EntityCounts, usize, usize, usize)
+    requires placed { at + length message.now ≤ 2 ^ 63 }
+    requires apart { AreApart (FIRST, SECOND, THIRD) }
+    ensures alike { AreCounts result.0 (fields_in at message.now) }
+    ensures own { AreOwnCounts (FIRST, SECOND, THIRD) (result.1, result.2, result.3)
+        (fields_in at message.now) }
 {
     let mut counts = EntityCounts {
         has_id: false,
         many_infos: false,
         keys: 0,
         vals: 0,
-        eighth: 0,
-        ninth: 0,
-        tenth: 0,
     };
+    let (mut first, mut second, mut third) = (0, 0, 0);
     let mut has_info = false;
     for item in Fields::new(message, at) {
         let Ok(field) = item else {
-            return counts;
+            return (counts, first, second, third);
         };
         match field.number {
             ID => counts.has_id = true,
@@ -50,11 +51,11 @@ pub(crate) fn entity_counts(message: &[u8], at: u64) -> EntityCounts
             }
             KEYS => counts.keys += field.payload.count(),
             VALS => counts.vals += field.payload.count(),
-            8 => counts.eighth += field.payload.count(),
-            9 => counts.ninth += field.payload.count(),
-            10 => counts.tenth += field.payload.count(),
+            number if number == FIRST => first += field.payload.count(),
+            number if number == SECOND => second += field.payload.count(),
+            number if number == THIRD => third += field.payload.count(),
             _ => {}
         }
     }
-    counts
+    (counts, first, second, third)
 }

@@ -12,16 +12,16 @@ ghost use Rattle.osm_entity.specs.Views.{meta_of};
 ghost use Rattle.pbf_block.specs.Info.{info_in};
 ghost use Rattle.pbf_block.specs.Members.{tags_in, values_in};
 ghost use Rattle.pbf_block.specs.Payload.{along};
-ghost use Rattle.pbf_block.specs.Passes.{AreFields, only, only_left};
+ghost use Rattle.pbf_block.specs.Passes.{AreApart, AreFields, AreOwn, only, only_left};
 ghost use Rattle.pbf_block.specs.Scale.{number_or};
 
 use crate::info::meta_in;
 use crate::message::{ID, INFO, KEYS, VALS};
 use osm_entity::{MetaRef, PairedTags, STORED_LIMIT, Tags};
 use pbf_strings::Table;
-use pbf_wire::{Column, Field, Fields, Payload, Sums, low_i64, unzigzag};
+use pbf_wire::{Column, Field, Fields, Payload, Sums, last_number_left, low_i64, unzigzag};
 
-/// Where the fields of an entity's message are. Those of a column begin at the first of its number, so that a column over them
+/// Where the fields are that all entities have. Those of a column begin at the first of its number, so that a column over them
 /// passes over no field before its own.
 #[derive(Clone, Copy)]
 pub(crate) struct EntityFields<'a> {
@@ -29,34 +29,40 @@ pub(crate) struct EntityFields<'a> {
     info: Option<Field<'a>>,
     keys: Fields<'a>,
     vals: Fields<'a>,
-    /// From the first field 8 on: a node's latitude, a way's refs, the roles of a relation's members.
-    pub(crate) eighth: Fields<'a>,
-    /// From the first field 9 on: a node's longitude, the latitudes of a way's nodes, the ids of a relation's members.
-    pub(crate) ninth: Fields<'a>,
-    /// From the first field 10 on: the longitudes of a way's nodes, the kinds of a relation's members.
-    pub(crate) tenth: Fields<'a>,
 }
 
-/// The fields of a message whose first byte stands at `at` in the file.
-pub(crate) fn entity_fields(message: &[u8], at: u64) -> EntityFields<'_>
-    requires { at + length message.now ≤ 2 ^ 63 }
-    ensures { AreFields result (fields_in at message.now) }
+/// The fields of a message whose first byte stands at `at` in the file: those that all entities have, and those of the three
+/// numbers that its kind has of its own, each from the first on. It is a function of its own for each kind: a caller that had it
+/// inlined would clear room for its locals before each dense node too.
+#[inline(never)]
+pub(crate) fn entity_fields<const FIRST: u64, const SECOND: u64, const THIRD: u64>(
+    message: &[u8],
+    at: u64,
+) -> (EntityFields<'_>, Fields<'_>, Fields<'_>, Fields<'_>)
+    requires placed { at + length message.now ≤ 2 ^ 63 }
+    requires apart { AreApart (FIRST, SECOND, THIRD) }
+    ensures alike { AreFields result.0 (fields_in at message.now) }
+    ensures own { AreOwn (FIRST, SECOND, THIRD) (result.1, result.2, result.3)
+        (fields_in at message.now) }
 {
     let mut fields = Fields::new(message, at);
     let (mut id, mut info, mut keys, mut vals) = (None, None, None, None);
-    let (mut eighth, mut ninth, mut tenth) = (None, None, None);
+    let (mut first, mut second, mut third) = (None, None, None);
     'fields: loop {
         let rest = fields;
         let Some(Ok(field)) = fields.next() else {
-            return EntityFields {
+            let alike = EntityFields {
                 id,
                 info,
                 keys: keys.unwrap_or(rest),
                 vals: vals.unwrap_or(rest),
-                eighth: eighth.unwrap_or(rest),
-                ninth: ninth.unwrap_or(rest),
-                tenth: tenth.unwrap_or(rest),
             };
+            return (
+                alike,
+                first.unwrap_or(rest),
+                second.unwrap_or(rest),
+                third.unwrap_or(rest),
+            );
         };
         match field.number {
             ID => {
@@ -67,9 +73,9 @@ pub(crate) fn entity_fields(message: &[u8], at: u64) -> EntityFields<'_>
             KEYS => keys = keys.or(Some(rest)),
             VALS => vals = vals.or(Some(rest)),
             INFO => info = Some(field),
-            8 => eighth = eighth.or(Some(rest)),
-            9 => ninth = ninth.or(Some(rest)),
-            10 => tenth = tenth.or(Some(rest)),
+            number if number == FIRST => first = first.or(Some(rest)),
+            number if number == SECOND => second = second.or(Some(rest)),
+            number if number == THIRD => third = third.or(Some(rest)),
             _ => {}
         }
     }
@@ -132,31 +138,13 @@ pub(crate) fn values(fields: Fields<'_>, number: u64) -> Sums<'_>
     Sums::new(column(fields, number), STORED_LIMIT)
 }
 
-/// The last number of these fields under this number.
-fn last_left(fields: Fields<'_>, number: u64) -> Option<u64>
-    ensures { result ≡ last_number number (found (fields_left fields.entry)) }
-{
-    let mut last = None;
-    for item in fields {
-        let Ok(field) = item else {
-            return last;
-        };
-        if let Payload::Number(value) = field.payload {
-            if field.number == number {
-                last = Some(value);
-            }
-        }
-    }
-    last
-}
-
 /// The signed number that these fields hold last under this number, and 0 where they hold none.
 #[tactic(auto, using(crate::proofs::PassLemmas::last_left_is))]
 pub(crate) fn last_signed(fields: Fields<'_>, number: u64) -> i64
     ensures { (os : List Occurrence) → only_left number fields.entry ≡ only number os
         → result ≡ number_or (pos 0) unzigzag number os }
 {
-    match last_left(fields, number) {
+    match last_number_left(fields, number) {
         Some(value) => unzigzag(value),
         None => 0,
     }

@@ -2,15 +2,13 @@
 
 ghost use Rattle.std.specs.Prelude.{◌≡◌, ◌+◌, ◌≤◌, ◌^◌, length};
 ghost use Rattle.pbf_wire.specs.Payload.{content};
-ghost use Rattle.pbf_wire.specs.Fields.{occurrence};
-ghost use Rattle.pbf_wire.specs.Faults.{fields_in, value_in, entered};
-ghost use Rattle.pbf_wire.specs.Least.{least};
+ghost use Rattle.pbf_wire.specs.Faults.{fields_in, value_in};
 ghost use Rattle.pbf_block.specs.InfoValues.{AreLast};
 ghost use Rattle.pbf_block.specs.ValueFaults.{info_values};
 
-use crate::message::{CHANGESET, INFO, TIMESTAMP, UID, USER_SID};
+use crate::message::{CHANGESET, TIMESTAMP, UID, USER_SID};
 use crate::ranges::{judge_uid, judge_user, judge_wide};
-use pbf_wire::{Fault, Field, Fields, Payload, lesser};
+use pbf_wire::{Fault, Field, Fields, JudgeMessage, Payload, lesser};
 
 /// The last time, changeset, uid and user of an Info, each with the place of its field; `None` where the last field of that
 /// number is absent or no number.
@@ -33,6 +31,7 @@ pub(crate) fn value_in(field: Field<'_>) -> Option<(u64, u64)>
 }
 
 /// The numbers of an Info whose first byte stands at `at` in the file.
+#[inline(always)]
 #[tactic(auto, using(crate::proofs::ValueLemmas::last_is))]
 pub(crate) fn info_values(message: &[u8], at: u64) -> InfoValues
     requires { at + length message.now ≤ 2 ^ 63 }
@@ -59,26 +58,21 @@ pub(crate) fn info_values(message: &[u8], at: u64) -> InfoValues
     values
 }
 
-#[tactic(auto, using(crate::proofs::Parts::lesser_parts))]
-fn judge_info(message: &[u8], at: u64, limit: u64) -> Option<Fault>
-    requires { at + length message.now ≤ 2 ^ 63 }
-    ensures { result ≡ least (info_values limit 0 at message.now) }
-{
-    let values = info_values(message, at);
-    let times = lesser(judge_wide(values.timestamp), judge_wide(values.changeset));
-    let numbers = lesser(times, judge_uid(values.uid));
-    lesser(numbers, judge_user(values.user_sid, limit))
+/// The values of an Info whose user is named in a table of `limit` texts.
+#[derive(Clone, Copy)]
+pub(crate) struct InfoRanges {
+    pub(crate) limit: u64,
 }
 
-/// The least fault of an embedded info, where the table has `limit` texts.
-pub(crate) fn judge_inner(field: Field<'_>, limit: u64) -> Option<Fault>
-    ensures { result ≡ least (entered INFO (info_values limit) (occurrence field.entry)) }
-{
-    if field.number != INFO {
-        return None;
-    }
-    match field.payload {
-        Payload::Bytes(bytes, begin) => judge_info(bytes, begin, limit),
-        _ => None,
+impl JudgeMessage for InfoRanges {
+    ghost faults = { λ info. info_values info.limit };
+
+    #[inline(always)]
+    #[tactic(auto, using(crate::proofs::Parts::lesser_parts))]
+    fn judge_message(&self, message: &[u8], at: u64, _place: u64) -> Option<Fault> {
+        let values = info_values(message, at);
+        let times = lesser(judge_wide(values.timestamp), judge_wide(values.changeset));
+        let numbers = lesser(times, judge_uid(values.uid));
+        lesser(numbers, judge_user(values.user_sid, self.limit))
     }
 }

@@ -12,7 +12,6 @@ mod entity_out;
 mod entity_values;
 mod entity_write;
 mod group;
-mod in_groups;
 mod info;
 mod info_values;
 mod kinds;

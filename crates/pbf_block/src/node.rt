@@ -6,7 +6,7 @@ ghost use Rattle.osm_entity.specs.Views.{node_of};
 ghost use Rattle.pbf_block.specs.Members.{node_in};
 
 use crate::entity_fields::{entity_fields, last_signed};
-use crate::message::{NODE_LAT, NODE_LON};
+use crate::message::{NO_FIELD, NODE_LAT, NODE_LON};
 use osm_entity::{NodeRef, Scale};
 use pbf_strings::Table;
 
@@ -21,11 +21,11 @@ pub(crate) fn node_in<'a>(
     requires { at + length message.now ≤ 2 ^ 63 }
     ensures { node_of result ≡ node_in table.now scale (fields_in at message.now) }
 {
-    let fields = entity_fields(message, at);
+    let (fields, lat, lon, _) = entity_fields::<NODE_LAT, NODE_LON, NO_FIELD>(message, at);
     NodeRef::new(
         fields.signed_id(),
-        last_signed(fields.eighth, NODE_LAT),
-        last_signed(fields.ninth, NODE_LON),
+        last_signed(lat, NODE_LAT),
+        last_signed(lon, NODE_LON),
         fields.meta(table),
         fields.tags(table),
         scale,

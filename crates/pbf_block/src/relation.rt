@@ -22,11 +22,11 @@ pub(crate) fn relation_in<'a>(
     requires { at + length message.now ≤ 2 ^ 63 }
     ensures { relation_of result ≡ relation_in along table.now scale (fields_in at message.now) }
 {
-    let fields = entity_fields(message, at);
+    let (fields, roles, ids, kinds) = entity_fields::<ROLES_SID, MEMIDS, TYPES>(message, at);
     let members = ColumnMembers::new(
-        column(fields.tenth, TYPES),
-        values(fields.ninth, MEMIDS),
-        column(fields.eighth, ROLES_SID),
+        column(kinds, TYPES),
+        values(ids, MEMIDS),
+        column(roles, ROLES_SID),
         table,
     );
     RelationRef::new(

@@ -6,13 +6,13 @@ ghost use Rattle.pbf_wire.specs.Least.{least};
 ghost use Rattle.pbf_wire.specs.Occurrence.{Occurrence};
 ghost use Rattle.pbf_wire.specs.Faults.{fault_where, fields_in, missing, twice, column_count};
 ghost use Rattle.pbf_block.specs.declared.message.TheConstants.{ID, KEYS, VALS, INFO, CHANGESETS};
-ghost use Rattle.pbf_block.specs.Counts.{AreCounts};
-ghost use Rattle.pbf_block.specs.StructureFaults.{entity_structure, node_structure, are_located, way_structure, are_members, relation_structure, member_structure, is_member, first_member, is_other, mixed, changesets, group_structure, table_structure, part_structure, structure_faults};
+ghost use Rattle.pbf_block.specs.Counts.{AreCounts, AreOwnCounts};
+ghost use Rattle.pbf_block.specs.StructureFaults.{entity_structure, node_structure, are_located, way_structure, are_members, relation_structure, member_structure, is_member, first_member, is_other, mixed, changesets, group_structure, part_structure, structure_faults};
 
 use crate::entity_counts::{EntityCounts, entity_counts};
 use crate::message::{
-    CHANGESETS, DENSE, ID, INFO, NODE_LAT, NODE_LON, NODES, PRIMITIVEGROUP, RELATIONS, STRINGTABLE,
-    WAYS,
+    CHANGESETS, DENSE, ID, INFO, MEMIDS, NO_FIELD, NODE_LAT, NODE_LON, NODES, PRIMITIVEGROUP, REFS,
+    RELATIONS, ROLES_SID, STRINGTABLE, TYPES, WAY_LAT, WAY_LON, WAYS,
 };
 use pbf_dense::Dense;
 use pbf_strings::Table;
@@ -64,18 +64,20 @@ fn judge_node(message: &[u8], at: u64, tag: u64) -> Option<Fault>
     requires { at + length message.now ≤ 2 ^ 63 }
     ensures { result ≡ least (node_structure tag at message.now) }
 {
+    let (counts, ..) = entity_counts::<NODE_LAT, NODE_LON, NO_FIELD>(message, at);
     let lat = lesser(
-        judge_entity(message, at, tag, entity_counts(message, at)),
+        judge_entity(message, at, tag, counts),
         judge_missing(message, at, tag, NODE_LAT),
     );
     lesser(lat, judge_missing(message, at, tag, NODE_LON))
 }
 
 /// Whether a way has no locations, or as many as refs.
-fn are_located(counts: EntityCounts) -> bool
-    ensures { (os : List Occurrence) → AreCounts counts os → result ≡ are_located os }
+fn are_located(refs: usize, lats: usize, lons: usize) -> bool
+    ensures { (os : List Occurrence) → AreOwnCounts (REFS, WAY_LAT, WAY_LON) (refs, lats, lons) os
+        → result ≡ are_located os }
 {
-    counts.ninth == counts.tenth && (counts.ninth == 0 || counts.ninth == counts.eighth)
+    lats == lons && (lats == 0 || lats == refs)
 }
 
 #[tactic(auto, using(crate::proofs::Parts::lesser_parts))]
@@ -83,8 +85,8 @@ fn judge_way(message: &[u8], at: u64, tag: u64) -> Option<Fault>
     requires { at + length message.now ≤ 2 ^ 63 }
     ensures { result ≡ least (way_structure tag at message.now) }
 {
-    let counts = entity_counts(message, at);
-    let located = are_located(counts);
+    let (counts, refs, lats, lons) = entity_counts::<REFS, WAY_LAT, WAY_LON>(message, at);
+    let located = are_located(refs, lats, lons);
     lesser(
         judge_entity(message, at, tag, counts),
         fault_where(!located, tag, Reason::LocationColumns),
@@ -92,10 +94,11 @@ fn judge_way(message: &[u8], at: u64, tag: u64) -> Option<Fault>
 }
 
 /// Whether the columns of a relation's members are of one count.
-fn are_members(counts: EntityCounts) -> bool
-    ensures { (os : List Occurrence) → AreCounts counts os → result ≡ are_members os }
+fn are_members(roles: usize, ids: usize, kinds: usize) -> bool
+    ensures { (os : List Occurrence) → AreOwnCounts (ROLES_SID, MEMIDS, TYPES) (roles, ids, kinds) os
+        → result ≡ are_members os }
 {
-    counts.eighth == counts.ninth && counts.tenth == counts.ninth
+    roles == ids && kinds == ids
 }
 
 #[tactic(auto, using(crate::proofs::Parts::lesser_parts))]
@@ -103,8 +106,8 @@ fn judge_relation(message: &[u8], at: u64, tag: u64) -> Option<Fault>
     requires { at + length message.now ≤ 2 ^ 63 }
     ensures { result ≡ least (relation_structure tag at message.now) }
 {
-    let counts = entity_counts(message, at);
-    let members = are_members(counts);
+    let (counts, roles, ids, kinds) = entity_counts::<ROLES_SID, MEMIDS, TYPES>(message, at);
+    let members = are_members(roles, ids, kinds);
     lesser(
         judge_entity(message, at, tag, counts),
         fault_where(!members, tag, Reason::MemberColumns),
@@ -220,14 +223,6 @@ fn judge_group(message: &[u8], at: u64) -> Option<Fault>
     lesser(known, judge_fields(message, at, &MemberStructure))
 }
 
-/// Whether a table has too many texts.
-fn judge_table(message: &[u8], tag: u64) -> Option<Fault>
-    requires { length message.now ≤ 2 ^ 63 }
-    ensures { result ≡ least (table_structure tag 0 message.now) }
-{
-    Table::judge_count(message, tag).err()
-}
-
 /// The structure of the table or the group that a field of a payload holds.
 #[derive(Clone, Copy)]
 struct PartStructure;
@@ -240,7 +235,7 @@ impl Judge for PartStructure {
             return None;
         };
         match field.number {
-            STRINGTABLE => judge_table(bytes, field.offset),
+            STRINGTABLE => Table::judge_count(bytes, field.offset).err(),
             PRIMITIVEGROUP => judge_group(bytes, begin),
             _ => None,
         }

@@ -1,25 +1,20 @@
 //! The values of a payload: numbers out of range.
 
 ghost use Rattle.std.specs.Prelude.{◌≡◌, ◌+◌, ◌≤◌, ◌^◌, length};
-ghost use Rattle.std.specs.List.{flat_map};
-ghost use Rattle.pbf_wire.specs.declared.fault.Reason.TheVariants.{MemberKind};
-ghost use Rattle.pbf_wire.specs.Columns.{joined};
 ghost use Rattle.pbf_wire.specs.Least.{least};
-ghost use Rattle.pbf_wire.specs.Faults.{fields_in, below_fault};
 ghost use Rattle.pbf_block.specs.ValueFaults.{node_values, way_values, relation_values, member_values, value_faults};
 
 use crate::column_values::{judge_sums, last_value, last_value_left};
 use crate::entity_values::entity_values;
-use crate::in_groups::InGroups;
 use crate::message::{
-    DATE_GRANULARITY, DENSE, GRANULARITY, MEMIDS, NODE_LAT, NODE_LON, NODES, REFS, RELATIONS,
-    ROLES_SID, TYPES, WAY_LAT, WAY_LON, WAYS,
+    DATE_GRANULARITY, DENSE, GRANULARITY, MEMIDS, NO_FIELD, NODE_LAT, NODE_LON, NODES,
+    PRIMITIVEGROUP, REFS, RELATIONS, ROLES_SID, TYPES, WAY_LAT, WAY_LON, WAYS,
 };
 use crate::ranges::{judge_positive, judge_signed, judge_wide};
 use pbf_dense::Dense;
 use pbf_wire::{
-    Fault, Field, Fields, Judge, Payload, Reason, judge_fields, judge_indexes, judge_low_numbers,
-    lesser,
+    EachField, Fault, Field, Fields, InField, Judge, Payload, Reason, judge_fields, judge_indexes,
+    judge_low_numbers, lesser,
 };
 
 #[tactic(auto, using(crate::proofs::Parts::lesser_parts))]
@@ -27,10 +22,10 @@ fn judge_node(message: &[u8], at: u64, limit: u64) -> Option<Fault>
     requires { at + length message.now ≤ 2 ^ 63 }
     ensures { result ≡ least (node_values limit 0 at message.now) }
 {
-    let values = entity_values(message, at, limit);
+    let (values, lat, lon, _) = entity_values::<NODE_LAT, NODE_LON, NO_FIELD>(message, at, limit);
     let entity = lesser(judge_signed(values.id), values.judge());
-    let lat = lesser(entity, judge_signed(last_value(values.eighth, NODE_LAT)));
-    lesser(lat, judge_signed(last_value(values.ninth, NODE_LON)))
+    let lat = lesser(entity, judge_signed(last_value(lat, NODE_LAT)));
+    lesser(lat, judge_signed(last_value(lon, NODE_LON)))
 }
 
 #[tactic(auto, using(crate::proofs::Parts::lesser_parts))]
@@ -38,20 +33,11 @@ fn judge_way(message: &[u8], at: u64, limit: u64) -> Option<Fault>
     requires { at + length message.now ≤ 2 ^ 63 }
     ensures { result ≡ least (way_values limit 0 at message.now) }
 {
-    let values = entity_values(message, at, limit);
+    let (values, refs, lats, lons) = entity_values::<REFS, WAY_LAT, WAY_LON>(message, at, limit);
     let entity = lesser(judge_wide(values.id), values.judge());
-    let refs = lesser(entity, judge_sums(values.eighth, REFS));
-    let lats = lesser(refs, judge_sums(values.ninth, WAY_LAT));
-    lesser(lats, judge_sums(values.tenth, WAY_LON))
-}
-
-/// The least of the kinds of members that are none.
-fn judge_kinds(message: &[u8], at: u64) -> Option<Fault>
-    requires { at + length message.now ≤ 2 ^ 63 }
-    ensures { result ≡ least (flat_map (below_fault MemberKind 3)
-        (joined TYPES (fields_in at message.now))) }
-{
-    judge_low_numbers(message, at, TYPES, 3, Reason::MemberKind)
+    let refs = lesser(entity, judge_sums(refs, REFS));
+    let lats = lesser(refs, judge_sums(lats, WAY_LAT));
+    lesser(lats, judge_sums(lons, WAY_LON))
 }
 
 #[tactic(auto, using(crate::proofs::Parts::lesser_parts))]
@@ -59,11 +45,12 @@ fn judge_relation(message: &[u8], at: u64, limit: u64) -> Option<Fault>
     requires { at + length message.now ≤ 2 ^ 63 }
     ensures { result ≡ least (relation_values limit 0 at message.now) }
 {
-    let values = entity_values(message, at, limit);
+    let (values, _, ids, _) = entity_values::<ROLES_SID, MEMIDS, TYPES>(message, at, limit);
     let entity = lesser(judge_wide(values.id), values.judge());
     let roles = lesser(entity, judge_indexes(message, at, ROLES_SID, limit));
-    let ids = lesser(roles, judge_sums(values.ninth, MEMIDS));
-    lesser(ids, judge_kinds(message, at))
+    let ids = lesser(roles, judge_sums(ids, MEMIDS));
+    let kinds = judge_low_numbers(message, at, TYPES, 3, Reason::MemberKind);
+    lesser(ids, kinds)
 }
 
 /// The values of the entities that a field of a group holds, whose table has `limit` texts.
@@ -108,6 +95,10 @@ pub(crate) fn judge_values(payload: &[u8], at: u64, limit: u64) -> Option<Fault>
     );
     lesser(
         scale,
-        judge_fields(payload, at, &InGroups(MemberValues { limit })),
+        judge_fields(
+            payload,
+            at,
+            &InField(PRIMITIVEGROUP, EachField(MemberValues { limit })),
+        ),
     )
 }

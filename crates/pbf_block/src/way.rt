@@ -22,16 +22,13 @@ pub(crate) fn way_in<'a>(
     requires { at + length message.now ≤ 2 ^ 63 }
     ensures { way_of result ≡ way_in along table.now scale (fields_in at message.now) }
 {
-    let fields = entity_fields(message, at);
-    let locations = SummedLocations::new(
-        values(fields.ninth, WAY_LAT),
-        values(fields.tenth, WAY_LON),
-    );
+    let (fields, refs, lats, lons) = entity_fields::<REFS, WAY_LAT, WAY_LON>(message, at);
+    let locations = SummedLocations::new(values(lats, WAY_LAT), values(lons, WAY_LON));
     WayRef::new(
         fields.wide_id(),
         fields.meta(table),
         fields.tags(table),
-        Refs::Summed(values(fields.eighth, REFS)),
+        Refs::Summed(values(refs, REFS)),
         Locations::Summed(locations),
         scale,
     )

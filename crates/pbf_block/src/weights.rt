@@ -13,15 +13,17 @@ ghost use Rattle.pbf_block.specs.Groups.{in_group};
 ghost use Rattle.pbf_block.specs.Payload.{along};
 ghost use Rattle.pbf_block.specs.Weights.{weight_fault, member_weights};
 
-use crate::in_groups::InGroups;
-use crate::message::{DENSE, NODES, RELATIONS, WAYS};
+use crate::message::{DENSE, NODES, PRIMITIVEGROUP, RELATIONS, WAYS};
 use crate::node::node_in;
 use crate::relation::relation_in;
 use crate::way::way_in;
 use osm_entity::{EntityRef, HIGHEST_WEIGHT, Scale};
 use pbf_dense::{Dense, KEYS_VALS};
 use pbf_strings::Table;
-use pbf_wire::{Fault, Field, Judge, Payload, Reason, column_count, fault_where, judge_fields};
+use pbf_wire::{
+    EachField, Fault, Field, InField, Judge, Payload, Reason, column_count, fault_where,
+    judge_fields,
+};
 
 /// Whether an entity is too heavy.
 fn judge_weight(entity: EntityRef<'_>, place: u64) -> Option<Fault>
@@ -132,5 +134,5 @@ pub(crate) fn judge_weights<'a>(
         scale,
         longest: table.longest() as u64,
     };
-    judge_fields(payload, at, &InGroups(members))
+    judge_fields(payload, at, &InField(PRIMITIVEGROUP, EachField(members)))
 }

@@ -9,8 +9,6 @@ ghost use Rattle.pbf_dense.specs.Judged.{early_fault, phase_faults, dense_fault}
 use crate::dense::Dense;
 use crate::message::{DENSE_KINDS, DENSEINFO, DENSEINFO_KINDS};
 use crate::phase::Phase;
-use crate::structure::judge_structure;
-use crate::values::judge_values;
 use osm_entity::Scale;
 use pbf_strings::Table;
 use pbf_wire::{Fault, judge_nested, refuse};
@@ -71,7 +69,7 @@ impl<'a> Dense<'a> {
     ghost use Rattle.pbf_wire.specs.Faults.{fields_in};
     ghost use Rattle.pbf_dense.specs.Nodes.{nodes, nodes_along};
     ghost use Rattle.pbf_dense.specs.Cursors.{dense_left};
-    ghost use Rattle.pbf_dense.specs.Judged.{IsSound, dense_wire, dense_structure, dense_values, dense_weights, as_stored};
+    ghost use Rattle.pbf_dense.specs.Judged.{IsSound, dense_wire, dense_weights, as_stored};
 
     /// The least wire fault of a dense message whose first byte stands at `at` in the file, and of the DenseInfos in it.
     #[tactic(auto, unfolding(crate::specs::Judged::dense_wire))]
@@ -80,27 +78,6 @@ impl<'a> Dense<'a> {
         ensures { (place : ℕ) → result ≡ least (dense_wire place at message.now) }
     {
         judge_nested(message, at, &DENSE_KINDS, DENSEINFO, &DENSEINFO_KINDS)
-    }
-
-    /// The least fault of structure of a dense message, whose field stands at `tag`: columns of unlike counts, tags that are
-    /// not of their form, a second DenseInfo. Where the message has a wire fault, its fields before that count. Decodes no
-    /// column but that of the tags.
-    pub fn judge_structure(message: &[u8], at: u64, tag: u64) -> Option<Fault>
-        requires { at + length message.now ≤ 2 ^ 63 }
-        ensures { result ≡ least (dense_structure tag at message.now) }
-    {
-        judge_structure(message, at, tag)
-    }
-
-    /// The least fault of the values of a dense message, for a table of `limit` texts: a value out of its range, a number that
-    /// the table has no text for.
-    #[tactic(auto, unfolding(crate::specs::Judged::dense_values))]
-    pub fn judge_values(message: &[u8], at: u64, limit: u64) -> Option<Fault>
-        requires placed { at + length message.now ≤ 2 ^ 63 }
-        requires limited { limit ≤ 2 ^ 62 }
-        ensures { (place : ℕ) → result ≡ least (dense_values limit place at message.now) }
-    {
-        judge_values(message, at, limit)
     }
 
     /// `EntityLarge` at `tag`, where a node is too heavy of those that [`Dense::over`] gives.

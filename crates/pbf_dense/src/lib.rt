@@ -8,7 +8,7 @@ mod info;
 mod info_out;
 mod judge;
 pub mod laws;
-mod message;
+pub mod message;
 mod phase;
 mod places;
 mod structure;

@@ -23,18 +23,18 @@ pub(crate) const DENSE_KINDS: [(u64, Kind); 5] = [
     (KEYS_VALS, Kind::Column),
 ];
 
-// The fields of a DenseInfo.
-pub(crate) const VERSION: u64 = 1;
+// The fields of a DenseInfo, and of an Info, which numbers them alike.
+pub const VERSION: u64 = 1;
 
-pub(crate) const TIMESTAMP: u64 = 2;
+pub const TIMESTAMP: u64 = 2;
 
-pub(crate) const CHANGESET: u64 = 3;
+pub const CHANGESET: u64 = 3;
 
-pub(crate) const UID: u64 = 4;
+pub const UID: u64 = 4;
 
-pub(crate) const USER_SID: u64 = 5;
+pub const USER_SID: u64 = 5;
 
-pub(crate) const VISIBLE: u64 = 6;
+pub const VISIBLE: u64 = 6;
 
 /// How the fields of a DenseInfo are stored.
 pub(crate) const DENSEINFO_KINDS: [(u64, Kind); 6] = [

@@ -4,17 +4,17 @@ ghost use Rattle.std.specs.Prelude.{◌≡◌, ◌+◌, ◌≤◌, ◌^◌, ◌=
 ghost use Rattle.pbf_wire.specs.Columns.{column};
 ghost use Rattle.pbf_wire.specs.Cursors.{numbers_left};
 ghost use Rattle.pbf_wire.specs.Least.{least};
-ghost use Rattle.pbf_wire.specs.Faults.{fault_where, entered, fields_in, column_count};
+ghost use Rattle.pbf_wire.specs.Faults.{fault_where, fields_in, column_count};
 ghost use Rattle.osm_entity.specs.Sources.{low_32};
-ghost use Rattle.pbf_dense.specs.declared.message.TheConstants.{DENSEINFO};
 ghost use Rattle.pbf_dense.specs.Judged.{coordinate_counts, are_runs, are_tags, run_faults, goes_with, info_counts, dense_structure};
 
+use crate::dense::Dense;
 use crate::entries::next_number;
 use crate::message::{
     CHANGESET, DENSEINFO, ID, KEYS_VALS, LAT, LON, TIMESTAMP, UID, USER_SID, VERSION, VISIBLE,
 };
 use pbf_wire::{
-    Column, Fault, Field, Judge, Payload, Reason, column_count, fault_where, judge_fields,
+    Column, Fault, InField, JudgeMessage, Reason, column_count, fault_where, judge_fields,
     judge_twice, lesser, low_u32,
 };
 
@@ -86,52 +86,42 @@ fn goes_with(message: &[u8], at: u64, number: u64, nodes: usize) -> bool
     has_count(message, at, number, 0) || has_count(message, at, number, nodes)
 }
 
-/// `ColumnLengths` at `tag`, where a column of the DenseInfo doesn't go with the nodes.
-fn judge_info(info: &[u8], at: u64, tag: u64, nodes: usize) -> Option<Fault>
-    requires { at + length info.now ≤ 2 ^ 63 }
-    ensures { result ≡ least (info_counts nodes tag at info.now) }
-{
-    let fits = goes_with(info, at, VERSION, nodes)
-        && goes_with(info, at, TIMESTAMP, nodes)
-        && goes_with(info, at, CHANGESET, nodes)
-        && goes_with(info, at, UID, nodes)
-        && goes_with(info, at, USER_SID, nodes)
-        && goes_with(info, at, VISIBLE, nodes);
-    fault_where(!fits, tag, Reason::ColumnLengths)
-}
-
-/// The counts of the DenseInfos of a message with so many nodes.
+/// The counts of a DenseInfo of so many nodes: `ColumnLengths`, where a column doesn't go with them.
 #[derive(Clone, Copy)]
 struct InfoStructure {
     nodes: usize,
 }
 
-impl Judge for InfoStructure {
-    ghost faults = { λ infos. entered DENSEINFO (info_counts infos.nodes) };
+impl JudgeMessage for InfoStructure {
+    ghost faults = { λ infos. info_counts infos.nodes };
 
-    fn judge(&self, field: Field<'_>) -> Option<Fault> {
-        if field.number != DENSEINFO {
-            return None;
-        }
-        match field.payload {
-            Payload::Bytes(info, begin) => judge_info(info, begin, field.offset, self.nodes),
-            _ => None,
-        }
+    fn judge_message(&self, info: &[u8], at: u64, place: u64) -> Option<Fault> {
+        let fits = goes_with(info, at, VERSION, self.nodes)
+            && goes_with(info, at, TIMESTAMP, self.nodes)
+            && goes_with(info, at, CHANGESET, self.nodes)
+            && goes_with(info, at, UID, self.nodes)
+            && goes_with(info, at, USER_SID, self.nodes)
+            && goes_with(info, at, VISIBLE, self.nodes);
+        fault_where(!fits, place, Reason::ColumnLengths)
     }
 }
 
-/// The least fault of structure of a dense message whose first byte stands at `at` in the file, and its field at `tag`.
-#[tactic(auto, using(crate::proofs::Parts::lesser_parts), unfolding(crate::specs::Judged::dense_structure))]
-pub(crate) fn judge_structure(message: &[u8], at: u64, tag: u64) -> Option<Fault>
-    requires { at + length message.now ≤ 2 ^ 63 }
-    ensures { result ≡ least (dense_structure tag at message.now) }
-{
-    let counts = judge_coordinates(message, at, tag);
-    let runs = judge_runs(message, at, tag);
-    let twice = judge_twice(message, at, DENSEINFO);
-    let infos = InfoStructure {
-        nodes: column_count(message, at, ID),
-    };
-    let unlike = judge_fields(message, at, &infos);
-    lesser(counts, lesser(runs, lesser(twice, unlike)))
+impl Dense<'_> {
+    /// The least fault of structure of a dense message, whose field stands at `tag`: columns of unlike counts, tags that are
+    /// not of their form, a second DenseInfo. Where the message has a wire fault, its fields before that count. Decodes no
+    /// column but that of the tags.
+    #[tactic(auto, using(crate::proofs::Parts::lesser_parts), unfolding(crate::specs::Judged::dense_structure))]
+    pub fn judge_structure(message: &[u8], at: u64, tag: u64) -> Option<Fault>
+        requires { at + length message.now ≤ 2 ^ 63 }
+        ensures { result ≡ least (dense_structure tag at message.now) }
+    {
+        let counts = judge_coordinates(message, at, tag);
+        let runs = judge_runs(message, at, tag);
+        let twice = judge_twice(message, at, DENSEINFO);
+        let infos = InfoStructure {
+            nodes: column_count(message, at, ID),
+        };
+        let unlike = judge_fields(message, at, &InField(DENSEINFO, infos));
+        lesser(counts, lesser(runs, lesser(twice, unlike)))
+    }
 }

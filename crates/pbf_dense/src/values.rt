@@ -1,17 +1,17 @@
 //! Whether the values of a dense message are in range, and the table has its texts.
 
-ghost use Rattle.std.specs.Prelude.{◌≡◌, ◌+◌, ◌≤◌, ◌^◌, false, length};
+ghost use Rattle.std.specs.Prelude.{◌≡◌, ◌+◌, ◌≤◌, ◌^◌, ℕ, false, length};
 ghost use Rattle.pbf_wire.specs.Columns.{joined};
 ghost use Rattle.pbf_wire.specs.Least.{least};
-ghost use Rattle.pbf_wire.specs.Faults.{entered, fields_in, index_faults};
-ghost use Rattle.pbf_dense.specs.declared.message.TheConstants.{DENSEINFO};
+ghost use Rattle.pbf_wire.specs.Faults.{fields_in, index_faults};
 ghost use Rattle.pbf_dense.specs.Judged.{texts_named, range_faults, info_values, dense_values};
 
+use crate::dense::Dense;
 use crate::entries::next_placed;
 use crate::message::{CHANGESET, DENSEINFO, ID, KEYS_VALS, LAT, LON, TIMESTAMP, UID, USER_SID};
 use osm_entity::{STORED_LIMIT, UID_LIMIT};
 use pbf_wire::{
-    Column, Fault, Field, Judge, Payload, judge_fields, judge_index, judge_index_sums, judge_sums,
+    Column, Fault, InField, JudgeMessage, judge_fields, judge_index, judge_index_sums, judge_sums,
     lesser, low_u32,
 };
 
@@ -45,53 +45,40 @@ fn judge_texts(message: &[u8], at: u64, limit: u64) -> Option<Fault>
     least
 }
 
-/// The least fault of the values of a DenseInfo.
-#[tactic(auto, using(crate::proofs::Parts::lesser_parts))]
-fn judge_info(info: &[u8], at: u64, limit: u64, tag: u64) -> Option<Fault>
-    requires placed { at + length info.now ≤ 2 ^ 63 }
-    requires limited { limit ≤ 2 ^ 62 }
-    ensures { result ≡ least (info_values limit tag at info.now) }
-{
-    let timestamps = judge_range(info, at, TIMESTAMP);
-    let changesets = judge_range(info, at, CHANGESET);
-    let uids = judge_sums(info, at, UID, UID_LIMIT.unsigned_abs(), true);
-    let users = judge_index_sums(info, at, USER_SID, limit);
-    lesser(timestamps, lesser(changesets, lesser(uids, users)))
-}
-
-/// The values of the DenseInfos of a message, of which texts are named in a table of `limit` texts.
+/// The values of a DenseInfo whose texts are named in a table of `limit` texts.
 #[derive(Clone, Copy)]
 struct InfoValues {
     limit: u64,
     ghost limited: { limit ≤ 2 ^ 62 },
 }
 
-impl Judge for InfoValues {
-    ghost faults = { λ infos. entered DENSEINFO (info_values infos.limit) };
+impl JudgeMessage for InfoValues {
+    ghost faults = { λ infos. info_values infos.limit };
 
-    fn judge(&self, field: Field<'_>) -> Option<Fault> {
-        if field.number != DENSEINFO {
-            return None;
-        }
-        match field.payload {
-            Payload::Bytes(info, begin) => judge_info(info, begin, self.limit, field.offset),
-            _ => None,
-        }
+    #[tactic(auto, using(crate::proofs::Parts::lesser_parts))]
+    fn judge_message(&self, info: &[u8], at: u64, _place: u64) -> Option<Fault> {
+        let timestamps = judge_range(info, at, TIMESTAMP);
+        let changesets = judge_range(info, at, CHANGESET);
+        let uids = judge_sums(info, at, UID, UID_LIMIT.unsigned_abs(), true);
+        let users = judge_index_sums(info, at, USER_SID, self.limit);
+        lesser(timestamps, lesser(changesets, lesser(uids, users)))
     }
 }
 
-/// The least fault of the values of a dense message whose first byte stands at `at` in the file, of which texts are named in a
-/// table of `limit` texts.
-#[tactic(auto, using(crate::proofs::Parts::lesser_parts), unfolding(crate::specs::Judged::dense_values))]
-pub(crate) fn judge_values(message: &[u8], at: u64, limit: u64) -> Option<Fault>
-    requires placed { at + length message.now ≤ 2 ^ 63 }
-    requires limited { limit ≤ 2 ^ 62 }
-    ensures { result ≡ least (dense_values limit 0 at message.now) }
-{
-    let ids = judge_range(message, at, ID);
-    let lats = judge_range(message, at, LAT);
-    let lons = judge_range(message, at, LON);
-    let texts = judge_texts(message, at, limit);
-    let infos = judge_fields(message, at, &InfoValues { limit });
-    lesser(ids, lesser(lats, lesser(lons, lesser(texts, infos))))
+impl Dense<'_> {
+    /// The least fault of the values of a dense message, for a table of `limit` texts: a value out of its range, a number that
+    /// the table has no text for.
+    #[tactic(auto, using(crate::proofs::Parts::lesser_parts), unfolding(crate::specs::Judged::dense_values))]
+    pub fn judge_values(message: &[u8], at: u64, limit: u64) -> Option<Fault>
+        requires placed { at + length message.now ≤ 2 ^ 63 }
+        requires limited { limit ≤ 2 ^ 62 }
+        ensures { (place : ℕ) → result ≡ least (dense_values limit place at message.now) }
+    {
+        let ids = judge_range(message, at, ID);
+        let lats = judge_range(message, at, LAT);
+        let lons = judge_range(message, at, LON);
+        let texts = judge_texts(message, at, limit);
+        let infos = judge_fields(message, at, &InField(DENSEINFO, InfoValues { limit }));
+        lesser(ids, lesser(lats, lesser(lons, lesser(texts, infos))))
+    }
 }

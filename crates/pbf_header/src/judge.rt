@@ -1,11 +1,10 @@
 //! The judgement of a HeaderBlock.
 
 ghost use Rattle.std.specs.Prelude.{◌≡◌, ◌+◌, ◌≤◌, ◌^◌, length};
-ghost use Rattle.pbf_wire.specs.Faults.{entered, fields_in};
+ghost use Rattle.pbf_wire.specs.Faults.{fields_in};
 ghost use Rattle.pbf_wire.specs.Least.{least};
 ghost use Rattle.pbf_wire.specs.Wire.{judged};
 ghost use Rattle.pbf_strings.specs.TableOut.{has_text};
-ghost use Rattle.pbf_header.specs.declared.header.TheConstants.{BBOX, REQUIRED_FEATURES};
 ghost use Rattle.pbf_header.specs.HeaderFaults.{edge_faults, header_structure, feature_faults, header_fault};
 ghost use Rattle.pbf_header.specs.WrittenHeader.{known_features};
 
@@ -14,38 +13,24 @@ use crate::header::{
     RIGHT, TOP,
 };
 use pbf_wire::{
-    Fault, Field, Judge, Payload, Reason, fault_where, judge_fields, judge_missing, judge_nested,
+    Fault, InField, JudgeMessage, Reason, fault_where, judge_fields, judge_missing, judge_nested,
     judge_twice, lesser, refuse,
 };
 
-/// The first of the edges that a box lacks. Its field stands at `place`.
-#[tactic(auto, using(crate::proofs::HeaderLemmas::edges_joined))]
-fn judge_edges(message: &[u8], at: u64, place: u64) -> Option<Fault>
-    requires { at + length message.now ≤ 2 ^ 63 }
-    ensures { result ≡ least (edge_faults place at message.now) }
-{
-    let left = judge_missing(message, at, place, LEFT);
-    let right = judge_missing(message, at, place, RIGHT);
-    let top = judge_missing(message, at, place, TOP);
-    let bottom = judge_missing(message, at, place, BOTTOM);
-    lesser(left, lesser(right, lesser(top, bottom)))
-}
-
-/// What the boxes of a header lack.
+/// The first of the edges that a box lacks.
 #[derive(Clone, Copy)]
-struct Boxes;
+struct BoxStructure;
 
-impl Judge for Boxes {
-    ghost faults = { λ _. entered BBOX edge_faults };
+impl JudgeMessage for BoxStructure {
+    ghost faults = { λ _. edge_faults };
 
-    fn judge(&self, field: Field<'_>) -> Option<Fault> {
-        if field.number != BBOX {
-            return None;
-        }
-        match field.payload {
-            Payload::Bytes(bytes, begin) => judge_edges(bytes, begin, field.offset),
-            _ => None,
-        }
+    #[tactic(auto, using(crate::proofs::HeaderLemmas::edges_joined))]
+    fn judge_message(&self, message: &[u8], at: u64, place: u64) -> Option<Fault> {
+        let left = judge_missing(message, at, place, LEFT);
+        let right = judge_missing(message, at, place, RIGHT);
+        let top = judge_missing(message, at, place, TOP);
+        let bottom = judge_missing(message, at, place, BOTTOM);
+        lesser(left, lesser(right, lesser(top, bottom)))
     }
 }
 
@@ -57,7 +42,7 @@ fn judge_structure(payload: &[u8], at: u64) -> Option<Fault>
 {
     lesser(
         judge_twice(payload, at, BBOX),
-        judge_fields(payload, at, &Boxes),
+        judge_fields(payload, at, &InField(BBOX, BoxStructure)),
     )
 }
 
@@ -68,21 +53,15 @@ fn is_known(feature: &[u8]) -> bool
     feature == OSM_SCHEMA || feature == DENSE_NODES
 }
 
-/// The required features that are not known.
+/// Whether a required feature is known.
 #[derive(Clone, Copy)]
-struct Features;
+struct FeatureValue;
 
-impl Judge for Features {
-    ghost faults = { λ _. entered REQUIRED_FEATURES feature_faults };
+impl JudgeMessage for FeatureValue {
+    ghost faults = { λ _. feature_faults };
 
-    fn judge(&self, field: Field<'_>) -> Option<Fault> {
-        if field.number != REQUIRED_FEATURES {
-            return None;
-        }
-        match field.payload {
-            Payload::Bytes(text, _) => fault_where(!is_known(text), field.offset, Reason::Feature),
-            _ => None,
-        }
+    fn judge_message(&self, feature: &[u8], _at: u64, place: u64) -> Option<Fault> {
+        fault_where(!is_known(feature), place, Reason::Feature)
     }
 }
 
@@ -98,5 +77,6 @@ pub(crate) fn judge_header(payload: &[u8], at: u64) -> Result<(), Fault>
     if let Some(fault) = judge_structure(payload, at) {
         return Err(fault);
     }
-    refuse(judge_fields(payload, at, &Features))
+    let features = InField(REQUIRED_FEATURES, FeatureValue);
+    refuse(judge_fields(payload, at, &features))
 }

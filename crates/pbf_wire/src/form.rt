@@ -6,12 +6,12 @@ ghost use Rattle.pbf_wire.specs.Payload.{content};
 ghost use Rattle.pbf_wire.specs.Columns.{entries, entry_fault};
 ghost use Rattle.pbf_wire.specs.Least.{least};
 ghost use Rattle.pbf_wire.specs.Wire.{kind_of, reason_in, wire, judged};
-ghost use Rattle.pbf_wire.specs.Faults.{message_faults, leaf_faults, entered, nested_faults};
+ghost use Rattle.pbf_wire.specs.Faults.{message_faults, leaf_faults, nested_faults};
 
 use crate::fault::{Fault, Reason};
 use crate::field::{Field, Payload};
 use crate::fields::Fields;
-use crate::judge::{Judge, refuse};
+use crate::judge::{InField, Judge, JudgeMessage, refuse};
 use crate::kind::Kind;
 use crate::least::lesser;
 use crate::short::is_short;
@@ -124,25 +124,16 @@ pub fn judge_wire(message: &[u8], at: u64, kinds: &[(u64, Kind)]) -> Result<(), 
     refuse(judge_leaf(message, at, kinds))
 }
 
-/// The wire form of the messages that one field holds.
+/// The wire form of messages with these fields.
 #[derive(Clone, Copy)]
-struct InnerForm<'a> {
-    number: u64,
-    kinds: &'a [(u64, Kind)],
-}
+struct LeafForm<'a>(&'a [(u64, Kind)]);
 
-impl Judge for InnerForm<'_> {
-    ghost faults = { λ inner. entered inner.number (leaf_faults inner.kinds.now) };
+impl JudgeMessage for LeafForm<'_> {
+    ghost faults = { λ leaf. leaf_faults leaf.0.now };
 
     #[inline(always)]
-    fn judge(&self, field: Field<'_>) -> Option<Fault> {
-        if field.number != self.number {
-            return None;
-        }
-        match field.payload {
-            Payload::Bytes(bytes, begin) => judge_leaf(bytes, begin, self.kinds),
-            _ => None,
-        }
+    fn judge_message(&self, message: &[u8], at: u64, _place: u64) -> Option<Fault> {
+        judge_leaf(message, at, self.0)
     }
 }
 
@@ -158,9 +149,5 @@ pub fn judge_nested(
     requires { at + length message.now ≤ 2 ^ 63 }
     ensures { result ≡ least (nested_faults kinds.now number inner.now 0 at message.now) }
 {
-    let inner = InnerForm {
-        number,
-        kinds: inner,
-    };
-    judge_form(message, at, kinds, &inner)
+    judge_form(message, at, kinds, &InField(number, LeafForm(inner)))
 }

@@ -3,20 +3,20 @@
 ghost use Rattle.std.specs.Prelude.{◌≡◌, ◌+◌, ◌≤◌, ◌^◌, length};
 ghost use Rattle.std.specs.Option.{option_map};
 ghost use Rattle.pbf_wire.specs.Occurrence.{items, found};
+ghost use Rattle.pbf_wire.specs.Cursors.{fields_left};
 ghost use Rattle.pbf_wire.specs.Fields.{occurrence};
 ghost use Rattle.pbf_wire.specs.Reading.{last_of, last_number};
 
 use crate::field::{Field, Payload};
 use crate::fields::Fields;
 
-/// The last occurrence of a field, of any wire type, in a message whose first byte stands at `at` in the file. Where the
-/// message has a fault, its fields before the fault count. Reads all fields once and takes no memory.
-pub fn last_field(message: &[u8], at: u64, number: u64) -> Option<Field<'_>>
-    requires { at + length message.now ≤ 2 ^ 63 }
-    ensures { option_map occurrence result ≡ last_of number (found (items at message.now)) }
+/// The last occurrence of a field, of any wire type, among the fields that are still to come. Where the message has a fault, its
+/// fields before the fault count. Reads all fields once and takes no memory.
+pub fn last_field_left(fields: Fields<'_>, number: u64) -> Option<Field<'_>>
+    ensures { option_map occurrence result ≡ last_of number (found (fields_left fields.entry)) }
 {
     let mut last = None;
-    for item in Fields::new(message, at) {
+    for item in fields {
         let Ok(field) = item else {
             return last;
         };
@@ -27,13 +27,20 @@ pub fn last_field(message: &[u8], at: u64, number: u64) -> Option<Field<'_>>
     last
 }
 
-/// The number of the last occurrence of a field that holds one. The rest is as for [`last_field`].
-pub fn last_number(message: &[u8], at: u64, number: u64) -> Option<u64>
+/// As [`last_field_left`], of all of a message whose first byte stands at `at` in the file.
+pub fn last_field(message: &[u8], at: u64, number: u64) -> Option<Field<'_>>
     requires { at + length message.now ≤ 2 ^ 63 }
-    ensures { result ≡ last_number number (found (items at message.now)) }
+    ensures { option_map occurrence result ≡ last_of number (found (items at message.now)) }
+{
+    last_field_left(Fields::new(message, at), number)
+}
+
+/// The number of the last occurrence of a field that holds one. The rest is as for [`last_field_left`].
+pub fn last_number_left(fields: Fields<'_>, number: u64) -> Option<u64>
+    ensures { result ≡ last_number number (found (fields_left fields.entry)) }
 {
     let mut last = None;
-    for item in Fields::new(message, at) {
+    for item in fields {
         let Ok(field) = item else {
             return last;
         };
@@ -44,4 +51,12 @@ pub fn last_number(message: &[u8], at: u64, number: u64) -> Option<u64>
         }
     }
     last
+}
+
+/// As [`last_number_left`], of all of a message whose first byte stands at `at` in the file.
+pub fn last_number(message: &[u8], at: u64, number: u64) -> Option<u64>
+    requires { at + length message.now ≤ 2 ^ 63 }
+    ensures { result ≡ last_number number (found (items at message.now)) }
+{
+    last_number_left(Fields::new(message, at), number)
 }

@@ -12,17 +12,17 @@ use Rattle.pbf_block.specs.declared.message.TheConstants.{ID, KEYS, VALS, INFO}
 use Rattle.pbf_block.proofs.entity_fields.entity_fields.Given as goal
 
 abbrev pub invariant-fields : goal.invariant-fields
-invariant-fields l = record {
-  can : (goal.iterator-fields).can_next l.fields;
-  ends : (goal.iterator-fields).is_finite l.fields;
+invariant-fields g l = record {
+  can : (goal.iterator-fields g).can_next l.fields;
+  ends : (goal.iterator-fields g).is_finite l.fields;
   id : last_or l.id (numbers ID (found (fields_left l.fields))) ≡ last_number ID (fields_in l.at l.message);
   info : last_or (option_map occurrence l.info) (only INFO (found (fields_left l.fields))) ≡ last_of INFO (fields_in l.at l.message);
   keys : only_from KEYS l.keys (found (fields_left l.fields)) ≡ only KEYS (fields_in l.at l.message);
   vals : only_from VALS l.vals (found (fields_left l.fields)) ≡ only VALS (fields_in l.at l.message);
-  eighth : only_from 8 l.eighth (found (fields_left l.fields)) ≡ only 8 (fields_in l.at l.message);
-  ninth : only_from 9 l.ninth (found (fields_left l.fields)) ≡ only 9 (fields_in l.at l.message);
-  tenth : only_from 10 l.tenth (found (fields_left l.fields)) ≡ only 10 (fields_in l.at l.message);
+  first : only_from g.row.FIRST l.first (found (fields_left l.fields)) ≡ only g.row.FIRST (fields_in l.at l.message);
+  second : only_from g.row.SECOND l.second (found (fields_left l.fields)) ≡ only g.row.SECOND (fields_in l.at l.message);
+  third : only_from g.row.THIRD l.third (found (fields_left l.fields)) ≡ only g.row.THIRD (fields_in l.at l.message);
 }
 
 abbrev pub decreases-fields : goal.decreases-fields
-decreases-fields l = length (fields_left l.fields)
+decreases-fields g l = length (fields_left l.fields)

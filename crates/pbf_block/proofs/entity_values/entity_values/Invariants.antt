@@ -11,20 +11,20 @@ use Rattle.pbf_block.proofs.ValueLemmas.{later_value, texts_of}
 use Rattle.pbf_block.proofs.entity_values.entity_values.Given as goal
 
 abbrev pub invariant-fields : goal.invariant-fields
-invariant-fields l =
+invariant-fields g l =
     let left = found (fields_left l.fields) in
     let all = fields_in l.at l.message in
     record {
-      can : (goal.iterator-fields).can_next l.fields;
-      ends : (goal.iterator-fields).is_finite l.fields;
+      can : (goal.iterator-fields g).can_next l.fields;
+      ends : (goal.iterator-fields g).is_finite l.fields;
       id : later_value ID l.id left ≡ later_value ID None all;
       keys : lesser l.keys (least (flat_map (texts_of KEYS l.limit) left)) ≡ least (flat_map (texts_of KEYS l.limit) all);
       vals : lesser l.vals (least (flat_map (texts_of VALS l.limit) left)) ≡ least (flat_map (texts_of VALS l.limit) all);
       infos : lesser l.infos (least (flat_map (entered INFO (info_values l.limit)) left)) ≡ least (flat_map (entered INFO (info_values l.limit)) all);
-      eighth : only_from 8 l.eighth left ≡ only 8 all;
-      ninth : only_from 9 l.ninth left ≡ only 9 all;
-      tenth : only_from 10 l.tenth left ≡ only 10 all;
+      first : only_from g.row.FIRST l.first left ≡ only g.row.FIRST all;
+      second : only_from g.row.SECOND l.second left ≡ only g.row.SECOND all;
+      third : only_from g.row.THIRD l.third left ≡ only g.row.THIRD all;
     }
 
 abbrev pub decreases-fields : goal.decreases-fields
-decreases-fields l = length (fields_left l.fields)
+decreases-fields g l = length (fields_left l.fields)
