@@ -1,5 +1,5 @@
 -- Entities that are picked, on their way into the drain.
-use Rattle.std.proofs.Common.{◌≡◌, ℕ, ◌≤◌, List, [], ◌∷◌, ◌++◌, append_assoc, append-nil, Option, None, subst, inr, sym, ap, ap₂, ◌∙◌, arith}
+use Rattle.std.proofs.Common.{◌≡◌, ℕ, ◌≤◌, List, [], ◌∷◌, ◌++◌, append_assoc, append-nil, true, Option, None, subst, inr, sym, ap, ap₂, ◌∙◌, arith}
 use Rattle.std.proofs.lemmas.List.Elements.{filter-append}
 use Rattle.std.specs.List.{AllByRecursion, filter}
 use Rattle.pbf_wire.specs.declared.fault.Fault.{Fault}
@@ -24,6 +24,10 @@ use Rattle.osm_pack.proofs.RunLemmas.{run_keeps, run_kept, run_ends, pending_pus
 use Rattle.std.proofs.lemmas.Grind.{flat_map-append}
 use Rattle.pbf_pass.specs.Counting.{stored_entities, frame_entities}
 use Rattle.pbf_pass.proofs.CountLemmas.{stored_one}
+use Rattle.pbf_block.specs.declared.kinds.Kinds.{Kinds}
+use Rattle.pbf_block.specs.Kinds.{is_among}
+use Rattle.pbf_block.specs.Payload.{entities}
+use Rattle.pbf_block.proofs.KindLemmas.{filter_every}
 use Rattle.pbfcut.specs.Pick.{Pick, HasPacked, BeginsAll, Begins, StopsPacking, StopsAmong}
 use Rattle.pbf_pass.specs.Stops.{Caused, Only, unchanged, WriteFailed}
 
