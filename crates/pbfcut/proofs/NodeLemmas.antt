@@ -1,5 +1,6 @@
 -- The nodes of a dense message, of which the ids tell which are picked.
-use Rattle.std.proofs.Common.{◌≡◌, ℕ, ℤ, true, false, List, [], ◌∷◌, ◌++◌, map, append_assoc, append-nil, drop, subst, refl, sym, ap, ◌∙◌}
+use Rattle.std.proofs.Common.{◌≡◌, ℕ, zero, suc, ◌+◌, ℤ, Bool, true, false, cond, List, [], ◌∷◌, ◌++◌, map, append_assoc, append-nil, take-append-drop, take, drop, add-one, subst, refl, sym, ap, ◌∙◌}
+use Rattle.std.specs.List.{filter}
 use Rattle.std.proofs.lemmas.List.{map-append}
 use Rattle.osm_entity.specs.Entity.{NodeSpec, EntitySpec, node}
 use Rattle.pbf_dense.specs.Places.{BeginWithIds}
@@ -10,7 +11,7 @@ use Rattle.osm_pack.specs.Packing.{Packing, IsPacking}
 use Rattle.pbfcut.specs.declared.pick.Picker.{Picker}
 use Rattle.pbfcut.specs.declared.pick.Picker.TheVariants as picker
 use Rattle.pbfcut.specs.Pick.{everything, picks_of, picks_id, PacksPicked, StopsAmong, KeepsPacker}
-use Rattle.pbfcut.proofs.PackingLemmas.{only_picked, none_picked, packs_none, packs_same, packs_more, stops_same, stops_later}
+use Rattle.pbfcut.proofs.PackingLemmas.{only_picked, packs_none, packs_same, packs_more, stops_same, stops_later}
 
 picked_by_id : (p : Picker) (n : NodeSpec) → picks_of p (node n) ≡ picks_id p n.id
 unfolding picks_of picks_id
@@ -18,73 +19,86 @@ picked_by_id picker.Everything n = refl
 picked_by_id (picker.Ways sets) n = refl
 picked_by_id (picker.Parents sets) n = refl
 
+-- ---- nodes that aren't picked, by their ids
+
 -- an id that comes next is that of the next node, if there is one
 first_id : (id : ℤ) (ids : List ℤ) (n : NodeSpec) (ns : List NodeSpec) → BeginWithIds (id ∷ ids) (n ∷ ns) → (id ≡ n.id) × BeginWithIds ids ns
 first_id id ids n ns (more, is) = (cc, (more, cc))
 
-pub no_more : (ids : List ℤ) (ns : List NodeSpec) → ids ≡ [] → BeginWithIds ids ns → ns ≡ []
-no_more ids [] none begin = refl
-no_more ids (n ∷ ns) none (more, is) = absurd cc
+not_picked : (b : Bool) (e : EntitySpec) (rest : List EntitySpec) → cond b (e ∷ rest) rest ≡ [] → (b ≡ false) × (rest ≡ [])
+not_picked true e rest h = absurd cc
+not_picked false e rest h = (refl, h)
 
-none_begin : (ids : List ℤ) → BeginWithIds ids []
-none_begin ids = (ids, refl)
+module _ (p : Picker) where
+  -- of the first n nodes none is picked
+  abbrev pub NonePicked : ℕ → List NodeSpec → Type 0
+  NonePicked n ns = filter (picks_of p) (map node (take n ns)) ≡ []
+
+  one_on : (id : ℤ) (ids : List ℤ) (n : ℕ) (ns : List NodeSpec) → picks_id p id ≡ false → BeginWithIds (id ∷ ids) (drop n ns) → NonePicked n ns → NonePicked (suc n) ns × BeginWithIds ids (drop (suc n) ns)
+  one_on id ids zero [] is begin none = (refl, (ids, refl))
+  one_on id ids zero (x ∷ xs) is begin none =
+      let at = first_id id ids x xs begin in
+      (ap (λ (b : Bool). cond b (node x ∷ []) []) (picked_by_id p x ∙ (ap (picks_id p) (sym at.0) ∙ is)), at.1)
+  one_on id ids (suc n) [] is begin none = (refl, (ids, refl))
+  one_on id ids (suc n) (x ∷ xs) is begin none =
+      let here = not_picked (picks_of p (node x)) (node x) (filter (picks_of p) (map node (take n xs))) none in
+      let rest = one_on id ids n xs is begin here.1 in
+      let all = filter (picks_of p) (map node (take (suc n) xs)) in
+      (ap (λ (b : Bool). cond b (node x ∷ all) all) here.0 ∙ rest.0, rest.1)
+
+  pub one_more : (id : ℤ) (ids : List ℤ) (n : ℕ) (ns : List NodeSpec) → picks_id p id ≡ false → BeginWithIds (id ∷ ids) (drop n ns) → NonePicked n ns → NonePicked (n + 1) ns × BeginWithIds ids (drop (n + 1) ns)
+  one_more id ids n ns is begin none = rw add-one (one_on id ids n ns is begin none)
+
+-- ---- in a dense message
 
 module _ {D S H : Type 0} (d : drain.Ghosts D) (p : Picker) (all : List NodeSpec) (first : Packing D S H) (before : Counts) where
-  -- what is picked of the nodes that are gone was packed and counted; these ids are those of the nodes that are left
-  pub record OnNodes (left : List NodeSpec) (ids : List ℤ) (packer : Packing D S H) (counts : Counts) : Type 0 where
+  -- what is picked of the nodes that are gone was packed and counted
+  pub record OnNodes (left : List NodeSpec) (packer : Packing D S H) (counts : Counts) : Type 0 where
     pub gone : List NodeSpec
     pub split : gone ++ left ≡ all
-    pub ids_are : BeginWithIds ids left
     pub packed : PacksPicked d (picks_of p) (map node gone) first packer before counts
 
-  pub at_first : (ids : List ℤ) → IsPacking first → BeginWithIds ids all → OnNodes all ids first before
-  at_first ids going begin = record { gone = []; split = refl; ids_are = begin; packed = packs_none d (picks_of p) first before going }
+  pub at_first : IsPacking first → OnNodes all first before
+  at_first going = record { gone = []; split = refl; packed = packs_none d (picks_of p) first before going }
 
-  -- a node more is gone
-  one_gone : (gone : List NodeSpec) (n : NodeSpec) (packer next : Packing D S H) (counts now : Counts)
-      → PacksPicked d (picks_of p) (map node gone) first packer before counts → PacksPicked d (picks_of p) (node n ∷ []) packer next counts now → PacksPicked d (picks_of p) (map node (gone ++ n ∷ [])) first next before now
-  one_gone gone n packer next counts now so_far one =
-      subst (λ (l : List EntitySpec). PacksPicked d (picks_of p) l first next before now) (sym (map-append node gone (n ∷ [])))
-      (packs_more d (picks_of p) (map node gone) (node n ∷ []) first packer next before counts now so_far one)
+  -- more nodes are gone
+  more_gone : (gone more : List NodeSpec) (packer next : Packing D S H) (counts now : Counts)
+      → PacksPicked d (picks_of p) (map node gone) first packer before counts → PacksPicked d (picks_of p) (map node more) packer next counts now → PacksPicked d (picks_of p) (map node (gone ++ more)) first next before now
+  more_gone gone more packer next counts now so_far then =
+      subst (λ (l : List EntitySpec). PacksPicked d (picks_of p) l first next before now) (sym (map-append node gone more))
+      (packs_more d (picks_of p) (map node gone) (map node more) first packer next before counts now so_far then)
 
-  -- the next isn't picked
-  pub one_waits : (left : List NodeSpec) (id : ℤ) (ids : List ℤ) (packer : Packing D S H) (counts : Counts) → picks_id p id ≡ false → OnNodes left (id ∷ ids) packer counts → OnNodes (drop 1 left) ids packer counts
-  one_waits [] id ids packer counts not_picked on = record { gone = on.gone; split = on.split; ids_are = none_begin ids; packed = on.packed }
-  one_waits (n ∷ ns) id ids packer counts not_picked on =
-      let at = first_id id ids n ns on.ids_are in
-      let is : picks_of p (node n) ≡ false = picked_by_id p n ∙ (ap (picks_id p) (sym at.0) ∙ not_picked) in
+  -- nodes that aren't picked
+  none_gone : (more : List NodeSpec) (packer : Packing D S H) (counts : Counts) → filter (picks_of p) (map node more) ≡ [] → IsPacking packer → PacksPicked d (picks_of p) (map node more) packer packer counts counts
+  none_gone more packer counts none going = packs_same d (picks_of p) (picks_of p) [] (map node more) packer packer counts counts (sym none) (packs_none d (picks_of p) packer counts going)
+
+  -- the next isn't picked, and so many after it aren't either
+  pub some_passed : (left ns : List NodeSpec) (n : NodeSpec) (count : ℕ) (packer : Packing D S H) (counts : Counts) → left ≡ n ∷ ns → picks_id p n.id ≡ false → NonePicked p count ns → OnNodes left packer counts → OnNodes (drop count ns) packer counts
+  some_passed left ns n count packer counts is here later on =
+      let none : filter (picks_of p) (map node (n ∷ take count ns)) ≡ [] = ap (λ (b : Bool). cond b (node n ∷ filter (picks_of p) (map node (take count ns))) (filter (picks_of p) (map node (take count ns)))) (picked_by_id p n ∙ here) ∙ later in
       record {
-        gone = on.gone ++ n ∷ [];
-        split = append_assoc on.gone (n ∷ []) ns ∙ on.split;
-        ids_are = at.1;
-        packed = one_gone on.gone n packer packer counts counts on.packed (packs_same d (picks_of p) (picks_of p) [] (node n ∷ []) packer packer counts counts (none_picked (picks_of p) (node n) is) (packs_none d (picks_of p) packer counts on.packed.going));
+        gone = on.gone ++ (n ∷ take count ns);
+        split = append_assoc on.gone (n ∷ take count ns) (drop count ns) ∙ (ap (λ (l : List NodeSpec). on.gone ++ (n ∷ l)) (take-append-drop count ns) ∙ (ap (λ (l : List NodeSpec). on.gone ++ l) (sym is) ∙ on.split));
+        packed = more_gone on.gone (n ∷ take count ns) packer packer counts counts on.packed (none_gone (n ∷ take count ns) packer counts none on.packed.going);
       }
 
   -- the next is picked
-  picked_node : (id : ℤ) (ids : List ℤ) (n : NodeSpec) (ns : List NodeSpec) → picks_id p id ≡ true → BeginWithIds (id ∷ ids) (n ∷ ns) → picks_of p (node n) ≡ true
-  picked_node id ids n ns picked begin = picked_by_id p n ∙ (ap (picks_id p) (sym (first_id id ids n ns begin).0) ∙ picked)
+  pub one_packed : (left ns : List NodeSpec) (n : NodeSpec) (packer next : Packing D S H) (counts now : Counts) → left ≡ n ∷ ns → picks_id p n.id ≡ true → OnNodes left packer counts → PacksPicked d everything (node n ∷ []) packer next counts now → OnNodes ns next now
+  one_packed left ns n packer next counts now is picked on one = record {
+    gone = on.gone ++ n ∷ [];
+    split = append_assoc on.gone (n ∷ []) ns ∙ (ap (λ (l : List NodeSpec). on.gone ++ l) (sym is) ∙ on.split);
+    packed = more_gone on.gone (n ∷ []) packer next counts now on.packed (packs_same d everything (picks_of p) (node n ∷ []) (node n ∷ []) packer next counts now (only_picked (picks_of p) (node n) (picked_by_id p n ∙ picked)) one);
+  }
 
-  pub one_packed : (left ns : List NodeSpec) (n : NodeSpec) (id : ℤ) (ids : List ℤ) (packer next : Packing D S H) (counts now : Counts) → left ≡ n ∷ ns → picks_id p id ≡ true → OnNodes left (id ∷ ids) packer counts
-      → PacksPicked d everything (node n ∷ []) packer next counts now → OnNodes ns ids next now
-  one_packed left ns n id ids packer next counts now is picked on one =
-      let begin = subst (λ (l : List NodeSpec). BeginWithIds (id ∷ ids) l) is on.ids_are in
-      record {
-        gone = on.gone ++ n ∷ [];
-        split = append_assoc on.gone (n ∷ []) ns ∙ (ap (λ (l : List NodeSpec). on.gone ++ l) (sym is) ∙ on.split);
-        ids_are = (first_id id ids n ns begin).1;
-        packed = one_gone on.gone n packer next counts now on.packed (packs_same d everything (picks_of p) (node n ∷ []) (node n ∷ []) packer next counts now (only_picked (picks_of p) (node n) (picked_node id ids n ns picked begin)) one);
-      }
-
-  pub one_stops : (number : ℕ) (left ns : List NodeSpec) (n : NodeSpec) (id : ℤ) (ids : List ℤ) (packer next : Packing D S H) (counts : Counts) (s : Stop) → left ≡ n ∷ ns → picks_id p id ≡ true → OnNodes left (id ∷ ids) packer counts
-      → KeepsPacker d first packer → StopsAmong d number everything (node n ∷ []) packer next s → StopsAmong d number (picks_of p) (map node all) first next s
-  one_stops number left ns n id ids packer next counts s is picked on keeps stops =
-      let begin = subst (λ (l : List NodeSpec). BeginWithIds (id ∷ ids) l) is on.ids_are in
+  pub one_stops : (number : ℕ) (left ns : List NodeSpec) (n : NodeSpec) (packer next : Packing D S H) (counts : Counts) (s : Stop) → left ≡ n ∷ ns → picks_id p n.id ≡ true → OnNodes left packer counts → KeepsPacker d first packer
+      → StopsAmong d number everything (node n ∷ []) packer next s → StopsAmong d number (picks_of p) (map node all) first next s
+  one_stops number left ns n packer next counts s is picked on keeps stops =
       let split = sym (map-append node on.gone (n ∷ ns)) ∙ ap (map node) (ap (λ (l : List NodeSpec). on.gone ++ l) (sym is) ∙ on.split) in
       stops_later d number (picks_of p) (map node on.gone) (node n ∷ []) (map node ns) (map node all) first packer next before counts s split on.packed keeps
-      (stops_same d number everything (picks_of p) (node n ∷ []) packer next s (only_picked (picks_of p) (node n) (picked_node id ids n ns picked begin)) stops)
+      (stops_same d number everything (picks_of p) (node n ∷ []) packer next s (only_picked (picks_of p) (node n) (picked_by_id p n ∙ picked)) stops)
 
   -- no node is left
-  pub all_gone : (left : List NodeSpec) (ids : List ℤ) (packer : Packing D S H) (counts : Counts) → left ≡ [] → OnNodes left ids packer counts → PacksPicked d (picks_of p) (map node all) first packer before counts
-  all_gone left ids packer counts none on =
+  pub all_gone : (left : List NodeSpec) (packer : Packing D S H) (counts : Counts) → left ≡ [] → OnNodes left packer counts → PacksPicked d (picks_of p) (map node all) first packer before counts
+  all_gone left packer counts none on =
       let is = sym (append-nil on.gone) ∙ (ap (λ (l : List NodeSpec). on.gone ++ l) (sym none) ∙ on.split) in
       subst (λ (l : List NodeSpec). PacksPicked d (picks_of p) (map node l) first packer before counts) is on.packed

@@ -129,10 +129,13 @@ module _ {D S H : Type 0} (d : drain.Ghosts D) where
   } where
     picked : filter pick xs ++ (filter pick ys ++ filter pick zs) ≡ filter pick all
     picked = ap (λ (l : List EntitySpec). filter pick xs ++ l) (sym (filter-append pick ys zs)) ∙ (sym (filter-append pick xs (ys ++ zs)) ∙ ap (λ (l : List EntitySpec). filter pick l) split)
+
     joined : (done rest : List EntitySpec) → ((done ++ filter pick xs) ++ filter pick ys) ++ (filter pick zs ++ rest) ≡ (done ++ filter pick all) ++ rest
     joined done rest = regrouped done (filter pick xs) (filter pick ys) (filter pick zs) rest ∙ ap (λ (l : List EntitySpec). (done ++ l) ++ rest) picked
+
     fits : AllByRecursion EntityFits all → AllByRecursion EntityFits ys
     fits every = all_part EntityFits xs ys zs (subst (λ (l : List EntitySpec). AllByRecursion EntityFits l) (sym split) every)
+
     of : (s : Stop) → Caused (λ e. ⊥) ⊥ (WriteFailed d b.drain c.drain) (λ pass. (pass ≡ number) × (AllByRecursion EntityFits ys → ⊥)) s
         → Caused (λ e. ⊥) ⊥ (WriteFailed d a.drain c.drain) (λ pass. (pass ≡ number) × (AllByRecursion EntityFits all → ⊥)) s
     of (stop.Refused e) h = absurd h

@@ -1,6 +1,6 @@
 //! Entities that are picked, on their way into the drain, and the steps that judge them.
 
-ghost use Rattle.std.specs.Prelude.{true, [], ◌∷◌, ◌≡◌, ◌<◌, ◌≤◌, ◌+◌, ◌^◌, None, Err, IfOk, IfErr, OnOk, length, map};
+ghost use Rattle.std.specs.Prelude.{true, [], ◌∷◌, ◌≡◌, ◌<◌, ◌≤◌, ◌+◌, ◌^◌, None, Err, IfOk, IfErr, OnOk, length, map, filter, take};
 ghost use Rattle.std.specs.Option.{option_map};
 ghost use Rattle.osm_entity.specs.Entity.{node};
 ghost use Rattle.osm_entity.specs.Views.{entity_of};
@@ -146,10 +146,27 @@ fn pack_entity<D: Drain, S: BuildHasher>(
     Ok(())
 }
 
-/// So many nodes at the most wait to be passed over together.
+/// So many nodes at the most are passed over at a time.
 const MOST_PASSED: usize = 8_000;
 
-/// Packs those nodes of a dense message that are picked. The ids tell which: the others are passed over together, and not made.
+/// How many nodes, of those that are still to come, stand before the next that is picked, or some of them. Their ids tell, and nothing
+/// else is read.
+fn unpicked(dense: &Dense<'_>, picker: &mut Picker<'_>) -> usize
+    ensures none { filter (picks_of picker.old) (map node (take result (dense_left dense.now))) ≡ [] }
+    ensures same { picker.new ≡ picker.old }
+{
+    let mut count = 0;
+    for id in dense.ids() {
+        if count == MOST_PASSED || picker.picks_id(id) {
+            return count;
+        }
+        count += 1;
+    }
+    count
+}
+
+/// Packs those nodes of a dense message that are picked. After one that is not, all up to the next that is are passed over together, and
+/// not made.
 fn pack_nodes<D: Drain, S: BuildHasher>(
     dense: &Dense<'_>,
     picker: &mut Picker<'_>,
@@ -167,21 +184,11 @@ fn pack_nodes<D: Drain, S: BuildHasher>(
     ensures same { picker.new ≡ picker.old }
 {
     let mut nodes = *dense;
-    let mut passed = 0;
-    for id in dense.ids() {
-        if picker.picks_id(id) {
-            nodes.pass(passed);
-            passed = 0;
-            let Some(node) = nodes.next() else {
-                return Ok(());
-            };
+    'nodes: while let Some(node) = nodes.next() {
+        if picker.picks_id(node.id()) {
             pack(&EntityRef::Node(node), counts, number, packer)?;
         } else {
-            if passed == MOST_PASSED {
-                nodes.pass(passed);
-                passed = 0;
-            }
-            passed += 1;
+            nodes.pass(unpicked(&nodes, picker));
         }
     }
     Ok(())
@@ -260,7 +267,13 @@ fn pack_block<D: Drain, S: BuildHasher>(
     let block = Block::read(alloc, payload, at)?;
     let mut counts = Counts::none();
     // Each entity of a block that was judged can be written, so this is no later pass.
-    pack_runs(block.runs_among(Kinds::all()), selection, &mut counts, 0, packer)?;
+    pack_runs(
+        block.runs_among(Kinds::all()),
+        selection,
+        &mut counts,
+        0,
+        packer,
+    )?;
     Ok(counts)
 }
 

@@ -49,7 +49,13 @@ fn pack_block<D: Drain, S: BuildHasher>(
     let Some(block) = UnjudgedBlock::open(alloc, payload, at)? else {
         return Err(Stop::Changed(number));
     };
-    pack_runs(block.runs_among(Kinds::all()), selection, counts, number, packer)?;
+    pack_runs(
+        block.runs_among(Kinds::all()),
+        selection,
+        counts,
+        number,
+        packer,
+    )?;
     Ok(())
 }
 
