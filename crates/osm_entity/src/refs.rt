@@ -47,6 +47,25 @@ pub enum Refs<'a> {
     Summed(Sums<'a>),
 }
 
+impl<'a> Refs<'a> {
+    ghost use Rattle.std.specs.Prelude.{⊤, MatchOption, length};
+    ghost use Rattle.std.specs.List.{AllByRecursion};
+    ghost use Rattle.osm_entity.specs.Ranges.{IsStored};
+
+    /// How many refs are still to come, if it is soon seen that each is in its range; `None` says nothing.
+    #[inline(always)]
+    pub(crate) fn count_stored(&self) -> Option<usize>
+        ensures counted { MatchOption result ⊤ (λ count. count ≡ length (refs_left self.now)) }
+        ensures stored { MatchOption result ⊤
+            (λ _. AllByRecursion IsStored (refs_left self.now)) }
+    {
+        match self {
+            Refs::Owned(_) => None,
+            Refs::Summed(refs) => refs.count_small(),
+        }
+    }
+}
+
 impl<'a> Iterator for Refs<'a> {
     ghost use Rattle.std.specs.Iterator.{YieldsFirst, item_count};
     ghost use Rattle.osm_entity.specs.Sources.{refs_left};

@@ -50,6 +50,9 @@ pub(crate) fn tags_weight(tags: Tags<'_>) -> u64
 pub(crate) fn refs_weight(refs: Refs<'_>) -> u64
     ensures { result ≡ min (32 * length (refs_left refs.entry)) (2 ^ 64 - 1) }
 {
+    if let Some(count) = refs.count_stored() {
+        return (count as u64).saturating_mul(32);
+    }
     let mut weight: u64 = 0;
     for _reference in refs {
         weight = weight.saturating_add(32);
@@ -98,6 +101,10 @@ pub(crate) fn stored_refs_weight(refs: Refs<'_>) -> Option<u64>
     ensures { SomeIff result (AllByRecursion IsStored (refs_left refs.entry))
         (min (32 * length (refs_left refs.entry)) (2 ^ 64 - 1)) }
 {
+    // The refs of most ways need not be decoded.
+    if let Some(count) = refs.count_stored() {
+        return Some((count as u64).saturating_mul(32));
+    }
     let mut weight: u64 = 0;
     for reference in refs {
         if !id_fits(reference) {

@@ -1,6 +1,6 @@
 -- Columns whose numbers take at most five bytes each have no wire fault, and their numbers and sums are small.
-use Rattle.std.proofs.Common.{◌≡◌, ℕ, zero, suc, ◌+◌, ◌-◌, ◌*◌, ◌/◌, ◌%◌, ◌^◌, ◌<◌, ◌≤◌, bit_and, bit_or, leb, eqb, ◌==◌, Bool, true, false, ℤ, pos, negsuc, ◌+ℤ◌, List, [], ◌∷◌, ◌++◌, length, get_or, take, drop, refl, sym, ap, subst, ◌∙◌, arith, inl, inr, ◌⊎◌}
-use Rattle.std.specs.Prelude.{Ok, None, IsBitSet, slice_index, ◌≤ℤ◌, neg_ℤ, not, if◌then◌else◌}
+use Rattle.std.proofs.Common.{◌≡◌, ℕ, zero, suc, ◌+◌, ◌-◌, ◌*◌, ◌/◌, ◌%◌, ◌^◌, ◌<◌, ◌≤◌, bit_and, bit_or, leb, eqb, ◌==◌, Bool, true, false, ℤ, pos, negsuc, ◌+ℤ◌, List, [], ◌∷◌, ◌++◌, length, map, get_or, take, drop, refl, sym, ap, subst, ◌∙◌, arith, eq-eqb, inl, inr, ◌⊎◌}
+use Rattle.std.specs.Prelude.{Ok, Option, None, Some, MatchOption, ⊤, IsBitSet, slice_index, ◌≤ℤ◌, neg_ℤ, not, if◌then◌else◌}
 use Rattle.std.specs.List.{prefix_len, AllByRecursion}
 use Rattle.std.specs.Int.{bit_at}
 use Rattle.std.proofs.lemmas.Nat.{bit_set_by_shift, and_mask, shr-shr}
@@ -9,21 +9,24 @@ use Rattle.std.proofs.Math.Pow.{pow_mono}
 use Rattle.std.proofs.lemmas.Bool.{cases_lt, leb-true, leb-false, eqb-true}
 use Rattle.std.proofs.lemmas.Int.{ints}
 use Rattle.std.proofs.lemmas.List.Sums.{prefix_len_passes, prefix_len_stops}
-use Rattle.std.proofs.lemmas.List.{get_or-take, get_or-drop, length-take, length-drop}
+use Rattle.std.proofs.lemmas.List.{get_or-take, get_or-drop, length-append, length-map, length-take, length-drop}
 use Rattle.pbf_wire.specs.Varint.{value_of, varint_at}
 use Rattle.pbf_wire.specs.declared.fault.Reason.TheVariants.{OutOfRange}
 use Rattle.pbf_wire.specs.declared.fields.Fields.{Fields}
-use Rattle.pbf_wire.specs.Cursors.{fields_left}
+use Rattle.pbf_wire.specs.declared.column.Column.{Column}
+use Rattle.pbf_wire.specs.declared.sums.Sums.{Sums}
+use Rattle.pbf_wire.specs.Cursors.{fields_left, column_left, sums_left}
 use Rattle.pbf_wire.specs.Occurrence.{Occurrence, Item, found}
 use Rattle.pbf_wire.specs.Columns.{Entry, entries, read_entries, entry_fault, placed, numbers_in, column_of, joined}
-use Rattle.pbf_wire.specs.Signed.{unzigzag, IsWithin, is_within}
+use Rattle.pbf_wire.specs.Signed.{delta_in, unzigzag, IsWithin, is_within}
 use Rattle.pbf_wire.specs.Faults.{fault_where, fields_in, sum_faults}
 use Rattle.pbf_wire.specs.Short.{EndsSoon, IsShort}
 use Rattle.pbf_wire.proofs.Varints.{pow_128, ended_at}
 use Rattle.pbf_wire.proofs.Spellings.{value_below}
 use Rattle.pbf_wire.proofs.Columns.{entries_none, entries_ok}
 use Rattle.pbf_wire.proofs.MessageLemmas.{all_append}
-use Rattle.pbf_wire.proofs.SumLemmas.{within_true}
+use Rattle.pbf_wire.specs.Sums.{sums_within}
+use Rattle.pbf_wire.proofs.SumLemmas.{within_true, added_within, then_more}
 use Rattle.pbf_wire.proofs.RisingLemmas.{running, running_is}
 use Rattle.pbf_wire.proofs.FaultLemmas.{column_short}
 
@@ -231,6 +234,30 @@ column_more k its rest o is here later = subst (λ (w : List Item). AllSmallPlac
   by true e = placed_small o.place (numbers_in o.content) (here (eqb-true _ _ e))
   by false e = tt
 
+-- and as many more as it has
+pub count_more : (k : ℕ) (its rest : List Item) (o : Occurrence) → its ≡ Ok o ∷ rest → o.number ≡ k → length (joined k (found its)) ≡ length (numbers_in o.content) + length (joined k (found rest))
+count_more k its rest o is same =
+    ap (λ (w : List Item). length (joined k (found w))) is
+    ∙ length-append (column_of k o) (joined k (found rest))
+    ∙ ap (λ (b : Bool). length (if b then placed o.place (numbers_in o.content) else []) + length (joined k (found rest))) (eq-eqb _ _ same)
+    ∙ ap (λ n. n + length (joined k (found rest))) (length-map {B = ℕ × ℕ} (numbers_in o.content) (λ v. (v, o.place)))
+
+-- where no packed occurrence is begun, the column is that of the fields
+pub nothing_begun : (column : Column) → length column.packed.now ≡ 0 → column_left column ≡ joined column.number (found (fields_left column.fields))
+unfolding column_left
+nothing_begun column none =
+    ap (λ es. placed column.packed_place (read_entries es) ++ joined column.number (found (fields_left column.fields))) (entries_none column.packed.now none)
+
+-- a count of few
+pub count_few : (r : Option ℕ) (xs ys : List (ℕ × ℕ)) → xs ≡ ys → length ys ≤ 2 ^ 26 → MatchOption r ⊤ (λ n. n ≡ length ys) → MatchOption r ⊤ (λ n. (n ≡ length xs) × (n ≤ 2 ^ 26))
+count_few None xs ys is few h = tt
+count_few (Some n) xs ys is few h = (h ∙ sym (ap (λ (zs : List (ℕ × ℕ)). length zs) is), omega (arith, h, few))
+
+-- they are no more than the bytes that are left
+pub left_short : (k : ℕ) (fields : Fields) → length (joined k (found (fields_left fields))) ≤ length fields.rest.now
+unfolding fields_left
+left_short k fields = column_short k fields.at fields.rest.now
+
 -- ---- their sums
 
 -- not beyond this distance
@@ -267,3 +294,46 @@ small_sums_in k at m few h =
 pub small_sums : (k : ℕ) (fields : Fields) → length fields.rest.now ≤ 2 ^ 26 → AllSmallPlaced (joined k (found (fields_left fields))) → sum_faults (pos (2 ^ 62)) false (joined k (found (fields_left fields))) ≡ []
 unfolding fields_left
 small_sums k fields few h = small_sums_in k fields.at fields.rest.now few h
+
+-- the values of such a column are as many as its numbers, and each is in range
+pub record HasAll (start : ℤ) (xs : List (ℕ × ℕ)) : Type 0 where
+  pub counted : length (sums_within limit start (map unzigzag (map (λ x. x.0) xs))) ≡ length xs
+  pub within : AllByRecursion (IsWithin limit) (sums_within limit start (map unzigzag (map (λ x. x.0) xs)))
+
+all_there : (start : ℤ) (xs : List (ℕ × ℕ)) (distance : ℕ) → IsNear distance start → distance + 2 ^ 35 * length xs < 2 ^ 62 → AllSmallPlaced xs → HasAll start xs
+all_there start [] distance near room h = record { counted = refl; within = tt }
+all_there start (x ∷ xs) distance near room h =
+    let step = small_delta x.0 h.0 in
+    let sum = start +ℤ unzigzag x.0 in
+    let next : IsNear (distance + 2 ^ 35) sum = record { above = omega (arith, ints, near.above, step.above); below = omega (arith, ints, near.below, step.below) } in
+    let inside : IsWithin limit sum = record { above = omega (arith, ints, next.above); below = omega (arith, ints, next.below) } in
+    let more = all_there sum xs (distance + 2 ^ 35) next (omega (arith, room)) h.1 in
+    let is = ap (then_more limit (map unzigzag (map (λ x. x.0) xs))) (added_within limit start (unzigzag x.0) inside) in
+    record {
+      counted = omega (arith, ap (λ (zs : List ℤ). length zs) is, more.counted);
+      within = subst (λ (zs : List ℤ). AllByRecursion (IsWithin limit) zs) (sym is) (inside, more.within);
+    }
+
+pub small_values : (xs : List (ℕ × ℕ)) → length xs ≤ 2 ^ 26 → AllSmallPlaced xs → HasAll (pos 0) xs
+small_values xs few h = all_there (pos 0) xs 0 (record { above = omega (arith, ints); below = omega (arith, ints) }) (omega (arith, few)) h
+
+-- a cursor over such a column from its start on
+module _ (values : Sums) (wide : values.narrow ≡ false) (none : values.total ≡ pos 0) (whole : values.limit ≡ pos (2 ^ 62)) where
+  abbrev numbers : List (ℕ × ℕ)
+  numbers = column_left values.entries
+
+  left_is : sums_left values ≡ sums_within limit (pos 0) (map unzigzag (map (λ x. x.0) numbers))
+  left_is =
+      ap (λ b. sums_within values.limit values.total (map (delta_in b) (map (λ x. x.0) numbers))) wide
+      ∙ ap (λ total. sums_within values.limit total (map unzigzag (map (λ x. x.0) numbers))) none
+      ∙ ap (λ most. sums_within most (pos 0) (map unzigzag (map (λ x. x.0) numbers))) whole
+
+  pub values_counted : (r : Option ℕ) → MatchOption r ⊤ (λ n. (n ≡ length numbers) × (n ≤ 2 ^ 26)) → MatchOption r ⊤ (λ _. AllSmallPlaced numbers) → MatchOption r ⊤ (λ n. n ≡ length (sums_left values))
+  values_counted None few h = tt
+  values_counted (Some n) few h =
+      omega (arith, few.0, (small_values numbers (omega (arith, few.0, few.1)) h).counted, ap (λ (zs : List ℤ). length zs) left_is)
+
+  pub values_within : (r : Option ℕ) → MatchOption r ⊤ (λ n. (n ≡ length numbers) × (n ≤ 2 ^ 26)) → MatchOption r ⊤ (λ _. AllSmallPlaced numbers) → MatchOption r ⊤ (λ _. AllByRecursion (IsWithin (pos (2 ^ 62))) (sums_left values))
+  values_within None few h = tt
+  values_within (Some n) few h =
+      subst (λ (zs : List ℤ). AllByRecursion (IsWithin limit) zs) (sym left_is) (small_values numbers (omega (arith, few.0, few.1)) h).within

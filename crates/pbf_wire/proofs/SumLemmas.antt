@@ -149,7 +149,7 @@ sums_of_deltas values = sym (running_sums (map unzigzag (deltas values))) ∙ su
 pub within_true : (limit n : ℤ) → IsWithin limit n → is_within limit n ≡ true
 within_true limit n h = search (rules, h.above, h.below)
 
-added_within : (limit total number : ℤ) → IsWithin limit (total +ℤ number) → added limit total number ≡ Some (total +ℤ number)
+pub added_within : (limit total number : ℤ) → IsWithin limit (total +ℤ number) → added limit total number ≡ Some (total +ℤ number)
 unfolding added
 added_within limit total number h = rw (within_true limit (total +ℤ number) h) refl
 
@@ -170,7 +170,7 @@ added_out limit total number h = by (is_within limit (total +ℤ number)) refl
     by true e = absurd (h (within_is limit (total +ℤ number) e))
     by false e = refl
 
-abbrev then_more : ℤ → List ℤ → Option ℤ → List ℤ
+abbrev pub then_more : ℤ → List ℤ → Option ℤ → List ℤ
 then_more limit ds sum = elim sum [ None ↦ [] | Some sum ↦ sum ∷ sums_within limit sum ds ]
 
 all_within : (limit start : ℤ) (ds : List ℤ) → AllByRecursion (IsWithin limit) (sums_from start ds) → sums_within limit start ds ≡ sums_from start ds

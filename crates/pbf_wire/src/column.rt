@@ -5,6 +5,7 @@ ghost use Rattle.pbf_wire.specs.Columns.{entries, read_entries};
 
 use crate::field::Payload;
 use crate::fields::Fields;
+use crate::short::{MOST_BYTES, count_small_left};
 use crate::varint::first_varint;
 
 /// The first number of a packed column, and the bytes after it; `None` where the bytes don't begin with a varint.
@@ -32,7 +33,8 @@ pub struct Column<'a> {
 }
 
 impl<'a> Column<'a> {
-    ghost use Rattle.std.specs.Prelude.{◌+◌, ◌≤◌, ◌^◌, length};
+    ghost use Rattle.std.specs.Prelude.{◌+◌, ◌<◌, ◌≤◌, ◌^◌, length};
+    ghost use Rattle.std.specs.List.{AllByRecursion};
     ghost use Rattle.pbf_wire.specs.Occurrence.{items, found};
     ghost use Rattle.pbf_wire.specs.Columns.{joined};
     ghost use Rattle.pbf_wire.specs.Cursors.{fields_left, column_left, place_of};
@@ -75,6 +77,22 @@ impl<'a> Column<'a> {
         ensures { result ≡ place_of self.now }
     {
         self.place
+    }
+
+    /// How many numbers are still to come, if it is soon seen that they are few and small: at most 2^26, each below 2^35. None is
+    /// decoded.
+    #[inline(always)]
+    pub(crate) fn count_small(&self) -> Option<usize>
+        ensures counted { MatchOption result ⊤
+            (λ count. (count ≡ length (column_left self.now)) × (count ≤ 2 ^ 26)) }
+        ensures small { MatchOption result ⊤
+            (λ _. AllByRecursion (λ x. x.0 < 2 ^ 35) (column_left self.now)) }
+    {
+        // Of a packed occurrence that was begun the numbers that were given are no longer to come.
+        if !self.packed.is_empty() || self.fields.len() > MOST_BYTES {
+            return None;
+        }
+        count_small_left(self.fields, self.number)
     }
 
     /// The next number of the packed occurrence that was begun. Where it has none nothing changes.

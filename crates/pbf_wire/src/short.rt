@@ -1,12 +1,12 @@
 //! Quick tests for columns whose numbers are short, which most columns are: many bytes at once, and no number decoded.
 
-ghost use Rattle.std.specs.Prelude.{◌≡◌, ◌+◌, ◌<◌, ◌≤◌, ◌^◌, ℕ, IsBitSet, IsTrue, length, slice_index, take};
+ghost use Rattle.std.specs.Prelude.{◌≡◌, ◌+◌, ◌<◌, ◌≤◌, ◌^◌, ⊤, ℕ, IsBitSet, IsTrue, MatchOption, length, slice_index, take};
 ghost use Rattle.std.specs.List.{AllByRecursion};
 ghost use Rattle.pbf_wire.specs.Payload.{content};
 ghost use Rattle.pbf_wire.specs.Columns.{numbers_in, joined};
 ghost use Rattle.pbf_wire.specs.Cursors.{fields_left};
 ghost use Rattle.pbf_wire.specs.Occurrence.{found};
-ghost use Rattle.pbf_wire.specs.Faults.{fields_in};
+ghost use Rattle.pbf_wire.specs.Faults.{ends_in, fields_in};
 ghost use Rattle.pbf_wire.specs.Short.{EndsSoon, IsShort};
 
 use crate::count::end_mask;
@@ -15,6 +15,10 @@ use crate::fields::Fields;
 
 /// How many bytes are looked at at once, of which all but the last four are judged: from these a varint may end further on.
 const WINDOW: usize = 64;
+
+/// Fields of at most so many bytes have no more than 2^26 numbers in a column. Where no entry is further than 2^34 from 0, their
+/// sums are no further than 2^60.
+pub(crate) const MOST_BYTES: usize = 1 << 26;
 
 /// The first 60 bits of a mask.
 const FIRST_SIXTY: u64 = (1 << 60) - 1;
@@ -82,10 +86,12 @@ pub fn is_short(bytes: &[u8]) -> bool
     end_soon(last) && last[63] < 128
 }
 
-/// Whether the numbers of an occurrence of a column are below 2^35, where that is soon seen.
+/// Whether the numbers of an occurrence of a column are below 2^35, where that is soon seen. Then they are as many as are counted.
 fn is_small(payload: Payload<'_>) -> bool
-    ensures { IsTrue result
+    ensures small { IsTrue result
         → AllByRecursion (λ v. v < 2 ^ 35) (numbers_in (content payload.entry)) }
+    ensures counted { IsTrue result
+        → length (ends_in (content payload.entry)) ≡ length (numbers_in (content payload.entry)) }
 {
     match payload {
         Payload::Number(value) => value < 1 << 35,
@@ -109,6 +115,41 @@ pub(crate) fn has_small_numbers_left(fields: Fields<'_>, number: u64) -> bool
         }
     }
     true
+}
+
+/// How many numbers an occurrence of a column has, if it is soon seen that they are below 2^35.
+#[inline(always)]
+fn count_small(payload: Payload<'_>) -> Option<usize>
+    ensures counted { MatchOption result ⊤
+        (λ count. count ≡ length (numbers_in (content payload.entry))) }
+    ensures small { MatchOption result ⊤
+        (λ _. AllByRecursion (λ v. v < 2 ^ 35) (numbers_in (content payload.entry))) }
+{
+    if is_small(payload) {
+        Some(payload.count())
+    } else {
+        None
+    }
+}
+
+/// How many numbers a column has in the fields that are still to come, if it is soon seen that they are below 2^35. As with
+/// [`has_small_numbers_left`], none of a packed occurrence is decoded.
+pub(crate) fn count_small_left(fields: Fields<'_>, number: u64) -> Option<usize>
+    ensures counted { MatchOption result ⊤
+        (λ count. count ≡ length (joined number (found (fields_left fields.entry)))) }
+    ensures small { MatchOption result ⊤ (λ _. AllByRecursion (λ x. x.0 < 2 ^ 35)
+        (joined number (found (fields_left fields.entry)))) }
+{
+    let mut count = 0;
+    for item in fields {
+        let Ok(field) = item else {
+            return Some(count);
+        };
+        if field.number == number {
+            count += count_small(field.payload)?;
+        }
+    }
+    Some(count)
 }
 
 /// As [`has_small_numbers_left`], of all of a message.

@@ -33,8 +33,9 @@ pub struct Sums<'a> {
 }
 
 impl<'a> Sums<'a> {
-    ghost use Rattle.std.specs.Prelude.{map};
-    ghost use Rattle.pbf_wire.specs.Signed.{unzigzag, low_sint32};
+    ghost use Rattle.std.specs.Prelude.{◌^◌, ⊤, MatchOption, length, map};
+    ghost use Rattle.std.specs.List.{AllByRecursion};
+    ghost use Rattle.pbf_wire.specs.Signed.{IsWithin, unzigzag, low_sint32};
     ghost use Rattle.pbf_wire.specs.Sums.{sums_within};
     ghost use Rattle.pbf_wire.specs.Cursors.{numbers_left, sums_left};
 
@@ -64,6 +65,19 @@ impl<'a> Sums<'a> {
             limit,
             narrow: true,
         }
+    }
+
+    /// How many values are still to come, if it is soon seen that each is in range; `None` says nothing. Only columns of `sint64`
+    /// of which no value was given yet are looked at, and of these those whose entries are few and small. No entry is decoded.
+    pub fn count_small(&self) -> Option<usize>
+        ensures counted { MatchOption result ⊤ (λ count. count ≡ length (sums_left self.now)) }
+        ensures within { MatchOption result ⊤
+            (λ _. AllByRecursion (IsWithin (pos (2 ^ 62))) (sums_left self.now)) }
+    {
+        if self.narrow || self.total != 0 || self.limit != 1 << 62 {
+            return None;
+        }
+        self.entries.count_small()
     }
 }
 

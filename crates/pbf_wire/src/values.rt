@@ -17,7 +17,7 @@ use crate::fault::{Fault, Reason};
 use crate::fields::Fields;
 use crate::judge::fault_where;
 use crate::least::lesser;
-use crate::short::has_small_numbers_left;
+use crate::short::{MOST_BYTES, has_small_numbers_left};
 use crate::signed::{low_sint32, low_u32};
 use crate::sum::Sum;
 use crate::sums::delta_in;
@@ -90,10 +90,6 @@ fn add_entry(sum: &mut Sum, narrow: bool, number: u64) -> Option<i64>
 {
     sum.add(delta_in(narrow, number))
 }
-
-/// Fields of at most so many bytes have no more than 2^26 numbers in a column. Where no entry is further than 2^34 from 0, their
-/// sums are no further than 2^60.
-const MOST_BYTES: usize = 1 << 26;
 
 /// Whether a column in the fields that are still to come has so small numbers that each sum of entries of 64 bits is strictly
 /// between -2^62 and 2^62. No sum is made.
