@@ -74,8 +74,8 @@ fn judge_node(message: &[u8], at: u64, tag: u64) -> Option<Fault>
 
 /// Whether a way has no locations, or as many as refs.
 fn are_located(refs: usize, lats: usize, lons: usize) -> bool
-    ensures { (os : List Occurrence) → AreOwnCounts (REFS, WAY_LAT, WAY_LON) (refs, lats, lons) os
-        → result ≡ are_located os }
+    ensures { (os : List Occurrence)
+        → AreOwnCounts (REFS, WAY_LAT, WAY_LON) (refs, lats, lons) os → result ≡ are_located os }
 {
     lats == lons && (lats == 0 || lats == refs)
 }
@@ -95,8 +95,8 @@ fn judge_way(message: &[u8], at: u64, tag: u64) -> Option<Fault>
 
 /// Whether the columns of a relation's members are of one count.
 fn are_members(roles: usize, ids: usize, kinds: usize) -> bool
-    ensures { (os : List Occurrence) → AreOwnCounts (ROLES_SID, MEMIDS, TYPES) (roles, ids, kinds) os
-        → result ≡ are_members os }
+    ensures { (os : List Occurrence)
+        → AreOwnCounts (ROLES_SID, MEMIDS, TYPES) (roles, ids, kinds) os → result ≡ are_members os }
 {
     roles == ids && kinds == ids
 }

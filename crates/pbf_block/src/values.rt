@@ -93,12 +93,6 @@ pub(crate) fn judge_values(payload: &[u8], at: u64, limit: u64) -> Option<Fault>
             Reason::DateGranularity,
         ),
     );
-    lesser(
-        scale,
-        judge_fields(
-            payload,
-            at,
-            &InField(PRIMITIVEGROUP, EachField(MemberValues { limit })),
-        ),
-    )
+    let members = InField(PRIMITIVEGROUP, EachField(MemberValues { limit }));
+    lesser(scale, judge_fields(payload, at, &members))
 }
