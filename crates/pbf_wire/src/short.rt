@@ -68,7 +68,7 @@ fn is_short_few(bytes: &[u8]) -> bool
     *last < 128 && end_soon(&window_of(bytes))
 }
 
-/// How many bytes end a varint, of bytes that one window has room for and that are short as [`is_short`] tells.
+/// As [`count_short`], for bytes that one window has room for.
 fn count_short_few(bytes: &[u8]) -> Option<usize>
     requires { length bytes.now < 64 }
     ensures short { MatchOption result ⊤ (λ _. IsShort bytes.now) }
@@ -105,7 +105,7 @@ pub fn is_short(bytes: &[u8]) -> bool
     end_soon(last) && last[63] < 128
 }
 
-/// How many bytes end a varint, of bytes that are short as [`is_short`] tells.
+/// How many bytes end a varint, if the bytes are short as [`is_short`] tells.
 fn count_short(bytes: &[u8]) -> Option<usize>
     ensures short { MatchOption result ⊤ (λ _. IsShort bytes.now) }
     ensures counted { MatchOption result ⊤
