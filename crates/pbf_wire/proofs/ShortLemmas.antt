@@ -1,6 +1,6 @@
 -- Columns whose numbers take at most five bytes each have no wire fault, and their numbers and sums are small.
 use Rattle.std.proofs.Common.{◌≡◌, ℕ, zero, suc, ◌+◌, ◌-◌, ◌*◌, ◌/◌, ◌%◌, ◌^◌, ◌<◌, ◌≤◌, bit_and, bit_or, leb, eqb, ◌==◌, Bool, true, false, ℤ, pos, negsuc, ◌+ℤ◌, List, [], ◌∷◌, ◌++◌, length, map, get_or, take, drop, refl, sym, ap, subst, ◌∙◌, arith, eq-eqb, inl, inr, ◌⊎◌}
-use Rattle.std.specs.Prelude.{Ok, Option, None, Some, MatchOption, ⊤, IsBitSet, slice_index, ◌≤ℤ◌, neg_ℤ, not, if◌then◌else◌}
+use Rattle.std.specs.Prelude.{Ok, Option, None, Some, MatchOption, ⊤, count_by, nat_lt, IsBitSet, slice_index, ◌≤ℤ◌, neg_ℤ, not, if◌then◌else◌}
 use Rattle.std.specs.List.{prefix_len, AllByRecursion}
 use Rattle.std.specs.Int.{bit_at}
 use Rattle.std.proofs.lemmas.Nat.{bit_set_by_shift, and_mask, shr-shr}
@@ -28,7 +28,8 @@ use Rattle.pbf_wire.proofs.MessageLemmas.{all_append}
 use Rattle.pbf_wire.specs.Sums.{sums_within}
 use Rattle.pbf_wire.proofs.SumLemmas.{within_true, added_within, then_more}
 use Rattle.pbf_wire.proofs.RisingLemmas.{running, running_is}
-use Rattle.pbf_wire.proofs.FaultLemmas.{column_short}
+use Rattle.pbf_wire.proofs.FaultLemmas.{column_short, ends_counted}
+use Rattle.pbf_wire.proofs.SoundLemmas.{ends_are_numbers}
 
 -- ---- a mask of ends
 
@@ -216,6 +217,15 @@ short_column bytes h = (all_small (length bytes) bytes (omega arith) h).0
 
 pub short_numbers : (bytes : List ℕ) → IsShort bytes → AllByRecursion (λ v. v < 2 ^ 35) (read_entries (entries bytes))
 short_numbers bytes h = (all_small (length bytes) bytes (omega arith) h).1
+
+-- they are as many as the bytes that end one
+pub short_counted : (r : Option ℕ) (bytes : List ℕ) → MatchOption r ⊤ (λ _. IsShort bytes) → MatchOption r ⊤ (λ n. n ≡ count_by (λ b. nat_lt b 128) bytes) → MatchOption r ⊤ (λ n. n ≡ length (read_entries (entries bytes)))
+short_counted None bytes h n = tt
+short_counted (Some count) bytes h n = n ∙ sym (ends_counted bytes) ∙ ends_are_numbers bytes (short_column bytes h)
+
+pub short_below : (r : Option ℕ) (bytes : List ℕ) → MatchOption r ⊤ (λ _. IsShort bytes) → MatchOption r ⊤ (λ _. AllByRecursion (λ v. v < 2 ^ 35) (read_entries (entries bytes)))
+short_below None bytes h = tt
+short_below (Some count) bytes h = short_numbers bytes h
 
 -- ---- columns of such numbers
 

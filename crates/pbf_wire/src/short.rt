@@ -1,15 +1,15 @@
 //! Quick tests for columns whose numbers are short, which most columns are: many bytes at once, and no number decoded.
 
-ghost use Rattle.std.specs.Prelude.{◌≡◌, ◌+◌, ◌<◌, ◌≤◌, ◌^◌, ⊤, ℕ, IsBitSet, IsTrue, MatchOption, length, slice_index, take};
+ghost use Rattle.std.specs.Prelude.{◌≡◌, ◌+◌, ◌-◌, ◌<◌, ◌≤◌, ◌^◌, ⊤, ℕ, IsBitSet, IsTrue, MatchOption, count_by, length, nat_lt, slice_index, take};
 ghost use Rattle.std.specs.List.{AllByRecursion};
 ghost use Rattle.pbf_wire.specs.Payload.{content};
 ghost use Rattle.pbf_wire.specs.Columns.{numbers_in, joined};
 ghost use Rattle.pbf_wire.specs.Cursors.{fields_left};
 ghost use Rattle.pbf_wire.specs.Occurrence.{found};
-ghost use Rattle.pbf_wire.specs.Faults.{ends_in, fields_in};
+ghost use Rattle.pbf_wire.specs.Faults.{fields_in};
 ghost use Rattle.pbf_wire.specs.Short.{EndsSoon, IsShort};
 
-use crate::count::end_mask;
+use crate::count::{count_ends, end_mask};
 use crate::field::Payload;
 use crate::fields::Fields;
 
@@ -48,7 +48,9 @@ fn end_soon(window: &[u8; WINDOW]) -> bool
 /// A window that begins with these bytes, and is filled up with bytes that end.
 fn window_of(bytes: &[u8]) -> [u8; WINDOW]
     requires { length bytes.now < 64 }
-    ensures { take (length bytes.now) result ≡ bytes.now }
+    ensures front { take (length bytes.now) result ≡ bytes.now }
+    ensures filled { count_by (λ b. nat_lt b 128) result
+        ≡ count_by (λ b. nat_lt b 128) bytes.now + (64 - length bytes.now) }
 {
     let mut window = [0; WINDOW];
     window[..bytes.len()].copy_from_slice(bytes);
@@ -64,6 +66,23 @@ fn is_short_few(bytes: &[u8]) -> bool
         return true;
     };
     *last < 128 && end_soon(&window_of(bytes))
+}
+
+/// As [`count_short`], for bytes that one window has room for.
+fn count_short_few(bytes: &[u8]) -> Option<usize>
+    requires { length bytes.now < 64 }
+    ensures short { MatchOption result ⊤ (λ _. IsShort bytes.now) }
+    ensures counted { MatchOption result ⊤
+        (λ count. count ≡ count_by (λ b. nat_lt b 128) bytes.now) }
+{
+    let Some(last) = bytes.last() else {
+        return Some(0);
+    };
+    let window = window_of(bytes);
+    if *last >= 128 || !end_soon(&window) {
+        return None;
+    }
+    Some(count_ends(&window) - (WINDOW - bytes.len()))
 }
 
 /// Whether each number takes at most five bytes, and the last one ends.
@@ -86,12 +105,25 @@ pub fn is_short(bytes: &[u8]) -> bool
     end_soon(last) && last[63] < 128
 }
 
-/// Whether the numbers of an occurrence of a column are below 2^35, where that is soon seen. Then they are as many as are counted.
+/// How many bytes end a varint, if the bytes are short as [`is_short`] tells.
+fn count_short(bytes: &[u8]) -> Option<usize>
+    ensures short { MatchOption result ⊤ (λ _. IsShort bytes.now) }
+    ensures counted { MatchOption result ⊤
+        (λ count. count ≡ count_by (λ b. nat_lt b 128) bytes.now) }
+{
+    if bytes.len() < WINDOW {
+        return count_short_few(bytes);
+    }
+    if !is_short(bytes) {
+        return None;
+    }
+    Some(count_ends(bytes))
+}
+
+/// Whether the numbers of an occurrence of a column are below 2^35, where that is soon seen.
 fn is_small(payload: Payload<'_>) -> bool
-    ensures small { IsTrue result
+    ensures { IsTrue result
         → AllByRecursion (λ v. v < 2 ^ 35) (numbers_in (content payload.entry)) }
-    ensures counted { IsTrue result
-        → length (ends_in (content payload.entry)) ≡ length (numbers_in (content payload.entry)) }
 {
     match payload {
         Payload::Number(value) => value < 1 << 35,
@@ -125,10 +157,11 @@ fn count_small(payload: Payload<'_>) -> Option<usize>
     ensures small { MatchOption result ⊤
         (λ _. AllByRecursion (λ v. v < 2 ^ 35) (numbers_in (content payload.entry))) }
 {
-    if is_small(payload) {
-        Some(payload.count())
-    } else {
-        None
+    match payload {
+        Payload::Number(value) if value >= 1 << 35 => None,
+        Payload::Number(_) => Some(1),
+        Payload::Bytes(bytes, _) => count_short(bytes),
+        _ => Some(0),
     }
 }
 

@@ -17,7 +17,7 @@ loop-item-preserved c =
     let next = c.in-Some.ensures.steps ∙ ap (λ (f : Result Field Fault). item f ∷ fields_left c.next.new.self) c.in-Ok.is in
     let small : field.number ≡ c.args.number → AllByRecursion (λ (v : ℕ). v < 2 ^ 35) (numbers_in (content field.payload)) =
     elim c.else-field-number.branch [
-      | else-field-number-via-then-field-number+else-not-is_small w ↦ λ _. w.is_small.ensures.small w.if-not-is_small.false
+      | else-field-number-via-then-field-number+else-not-is_small w ↦ λ _. w.is_small.ensures w.if-not-is_small.false
       | else-field-number-via-else-field-number w ↦ λ same. absurd (w.if-field-number.false same)
     ] in
     record {
