@@ -421,6 +421,23 @@ fn values_of_delta_columns(rt: HostRuntime) {
     );
 }
 
+/// Only at the start of a column of `sint64`, below the limit 2^62, and where each number takes at most five bytes.
+#[test]
+fn values_counted_without_decoding(rt: HostRuntime) {
+    let ids = Column::new(&TWO_OCCURRENCES, 44, 1);
+    let mut begun = Sums::new(ids, 1 << 62);
+    let first = begun.next();
+    let long = Column::new(&[0x08, 0x80, 0x80, 0x80, 0x80, 0x80, 0x01], 0, 1);
+    assert!(rt;
+        Sums::new(ids, 1 << 62).count_small() == Some(3)
+            && first == Some(10)
+            && begun.count_small().is_none()
+            && Sums::new(ids, 11).count_small().is_none()
+            && Sums::narrow(ids, 1 << 62).count_small().is_none()
+            && Sums::new(long, 1 << 62).count_small().is_none()
+    );
+}
+
 /// 2^32 + 2, of which a `sint32` takes the 2.
 #[test]
 fn values_of_32_bits(rt: HostRuntime) {
