@@ -1,5 +1,5 @@
 -- Entries that are passed over.
-use Rattle.std.proofs.Common.{◌≡◌, ◌≤◌, ℕ, zero, suc, List, [], ◌∷◌, drop, refl, sym, subst, ap, ◌∙◌, ◌+◌, add-one, arith}
+use Rattle.std.proofs.Common.{◌≡◌, ◌≤◌, ℕ, zero, suc, List, [], ◌∷◌, drop, refl, sym, ap, ◌∙◌, ◌+◌, add-one, arith}
 use Rattle.std.specs.Prelude.{slice_get, None}
 use Rattle.std.proofs.Math.Seq.{drop-nil}
 

@@ -1,4 +1,4 @@
-use Rattle.std.proofs.Common.{◌≡◌, ◌≤◌, ◌∙◌, ap, sym, drop, slice_get, arith}
+use Rattle.std.proofs.Common.{◌∙◌, ap, sym, drop, slice_get, arith}
 use Rattle.pbf_wire.specs.Cursors.{numbers_left}
 use Rattle.pbf_dense.proofs.EntryLemmas.{passed_one, all_passed}
 use Rattle.pbf_dense.proofs.entries.pass_numbers.Goals as goal

@@ -1,9 +1,6 @@
-use Rattle.std.proofs.Common.{ℕ, [], List, ap, ap₂, subst, ◌∙◌}
-use Rattle.std.specs.List.{filter}
+use Rattle.std.proofs.Common.{[], List, ap, subst, ◌∙◌}
 use Rattle.std.proofs.lemmas.Result.{err_from_is_err_and}
-use Rattle.pbf_block.specs.Payload.{entities}
 use Rattle.pbf_block.specs.Runs.{joined_runs, runs_left}
-use Rattle.pbf_block.proofs.KindLemmas.{filter_every}
 use Rattle.pbf_pass.specs.Counting.{counts_of}
 use Rattle.pbf_pass.specs.Judged.{fault_in}
 use Rattle.pbf_pass.specs.Payload.{primitive_block}

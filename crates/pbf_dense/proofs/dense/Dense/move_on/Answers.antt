@@ -1,4 +1,4 @@
-use Rattle.std.proofs.Common.{map, ◌∙◌}
+use Rattle.std.proofs.Common.{map}
 use Rattle.pbf_wire.specs.Cursors.{numbers_left, sums_left}
 use Rattle.osm_entity.specs.Sources.{low_32}
 use Rattle.pbf_dense.specs.Cursors.{dense_left, info_left}
