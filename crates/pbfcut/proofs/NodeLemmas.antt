@@ -25,6 +25,10 @@ picked_by_id (picker.Parents sets) n = refl
 first_id : (id : ℤ) (ids : List ℤ) (n : NodeSpec) (ns : List NodeSpec) → BeginWithIds (id ∷ ids) (n ∷ ns) → (id ≡ n.id) × BeginWithIds ids ns
 first_id id ids n ns (more, is) = (cc, (more, cc))
 
+no_node : (ids : List ℤ) (ns : List NodeSpec) → ids ≡ [] → BeginWithIds ids ns → ns ≡ []
+no_node ids [] ended begin = refl
+no_node ids (n ∷ ns) ended (more, is) = absurd cc
+
 not_picked : (b : Bool) (e : EntitySpec) (rest : List EntitySpec) → cond b (e ∷ rest) rest ≡ [] → (b ≡ false) × (rest ≡ [])
 not_picked true e rest h = absurd cc
 not_picked false e rest h = (refl, h)
@@ -48,6 +52,12 @@ module _ (p : Picker) where
 
   pub one_more : (id : ℤ) (ids : List ℤ) (n : ℕ) (ns : List NodeSpec) → picks_id p id ≡ false → BeginWithIds (id ∷ ids) (drop n ns) → NonePicked n ns → NonePicked (n + 1) ns × BeginWithIds ids (drop (n + 1) ns)
   one_more id ids n ns is begin none = rw add-one (one_on id ids n ns is begin none)
+
+  -- where no node stands behind them, none at all is picked
+  pub none_more : (n : ℕ) (ids : List ℤ) (ns : List NodeSpec) → ids ≡ [] → BeginWithIds ids (drop n ns) → NonePicked n ns → filter (picks_of p) (map node ns) ≡ []
+  none_more n ids ns ended begin none =
+      let all = sym (take-append-drop n ns) ∙ (ap (λ (l : List NodeSpec). take n ns ++ l) (no_node ids (drop n ns) ended begin) ∙ append-nil (take n ns)) in
+      ap (λ (l : List NodeSpec). filter (picks_of p) (map node l)) all ∙ none
 
 -- ---- in a dense message
 
@@ -81,6 +91,13 @@ module _ {D S H : Type 0} (d : drain.Ghosts D) (p : Picker) (all : List NodeSpec
         split = append_assoc on.gone (n ∷ take count ns) (drop count ns) ∙ (ap (λ (l : List NodeSpec). on.gone ++ (n ∷ l)) (take-append-drop count ns) ∙ (ap (λ (l : List NodeSpec). on.gone ++ l) (sym is) ∙ on.split));
         packed = more_gone on.gone (n ∷ take count ns) packer packer counts counts on.packed (none_gone (n ∷ take count ns) packer counts none on.packed.going);
       }
+
+  -- the next isn't picked, and none after it is either
+  pub rest_passed : (left ns : List NodeSpec) (n : NodeSpec) (packer : Packing D S H) (counts : Counts) → left ≡ n ∷ ns → picks_id p n.id ≡ false → filter (picks_of p) (map node ns) ≡ [] → OnNodes left packer counts → PacksPicked d (picks_of p) (map node all) first packer before counts
+  rest_passed left ns n packer counts is here later on =
+      let none : filter (picks_of p) (map node (n ∷ ns)) ≡ [] = ap (λ (b : Bool). cond b (node n ∷ filter (picks_of p) (map node ns)) (filter (picks_of p) (map node ns))) (picked_by_id p n ∙ here) ∙ later in
+      subst (λ (l : List NodeSpec). PacksPicked d (picks_of p) (map node l) first packer before counts) (ap (λ (l : List NodeSpec). on.gone ++ l) (sym is) ∙ on.split)
+      (more_gone on.gone (n ∷ ns) packer packer counts counts on.packed (none_gone (n ∷ ns) packer counts none on.packed.going))
 
   -- the next is picked
   pub one_packed : (left ns : List NodeSpec) (n : NodeSpec) (packer next : Packing D S H) (counts now : Counts) → left ≡ n ∷ ns → picks_id p n.id ≡ true → OnNodes left packer counts → PacksPicked d everything (node n ∷ []) packer next counts now → OnNodes ns next now

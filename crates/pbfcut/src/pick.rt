@@ -1,6 +1,6 @@
 //! Entities that are picked, on their way into the drain, and the steps that judge them.
 
-ghost use Rattle.std.specs.Prelude.{true, [], ◌∷◌, ◌≡◌, ◌<◌, ◌≤◌, ◌+◌, ◌^◌, None, Err, IfOk, IfErr, OnOk, length, map, filter, take};
+ghost use Rattle.std.specs.Prelude.{true, [], ◌∷◌, ◌≡◌, ◌<◌, ◌≤◌, ◌+◌, ◌^◌, None, Err, IfOk, IfErr, OnOk, MatchOption, length, map, filter, take};
 ghost use Rattle.std.specs.Option.{option_map};
 ghost use Rattle.osm_entity.specs.Entity.{node};
 ghost use Rattle.osm_entity.specs.Views.{entity_of};
@@ -149,24 +149,26 @@ fn pack_entity<D: Drain, S: BuildHasher>(
 /// So many nodes at the most are passed over at a time.
 const MOST_PASSED: usize = 8_000;
 
-/// How many nodes, of those that are still to come, stand before the next that is picked, or some of them. Their ids tell, and nothing
-/// else is read.
-fn unpicked(dense: &Dense<'_>, picker: &mut Picker<'_>) -> usize
-    ensures none { filter (picks_of picker.old) (map node (take result (dense_left dense.now))) ≡ [] }
+/// How many nodes, of those that are still to come, stand before the next that is picked, or some of them; `None` where none of them is
+/// picked. Their ids tell, and nothing else is read.
+fn unpicked(dense: &Dense<'_>, picker: &mut Picker<'_>) -> Option<usize>
+    ensures none { MatchOption result
+        (filter (picks_of picker.old) (map node (dense_left dense.now)) ≡ [])
+        (λ count. filter (picks_of picker.old) (map node (take count (dense_left dense.now))) ≡ []) }
     ensures same { picker.new ≡ picker.old }
 {
     let mut count = 0;
     for id in dense.ids() {
         if count == MOST_PASSED || picker.picks_id(id) {
-            return count;
+            return Some(count);
         }
         count += 1;
     }
-    count
+    None
 }
 
 /// Packs those nodes of a dense message that are picked. After one that is not, all up to the next that is are passed over together, and
-/// not made.
+/// not made; where there is none, nothing more is read.
 fn pack_nodes<D: Drain, S: BuildHasher>(
     dense: &Dense<'_>,
     picker: &mut Picker<'_>,
@@ -188,7 +190,10 @@ fn pack_nodes<D: Drain, S: BuildHasher>(
         if picker.picks_id(node.id()) {
             pack(&EntityRef::Node(node), counts, number, packer)?;
         } else {
-            nodes.pass(unpicked(&nodes, picker));
+            let Some(count) = unpicked(&nodes, picker) else {
+                return Ok(());
+            };
+            nodes.pass(count);
         }
     }
     Ok(())

@@ -7,7 +7,7 @@ use Rattle.pbf_dense.specs.Cursors.{dense_left}
 use Rattle.pbf_dense.specs.Places.{BeginWithIds}
 use Rattle.pbfcut.specs.declared.pick.Picker.{Picker}
 use Rattle.pbfcut.specs.Pick.{picks_id}
-use Rattle.pbfcut.proofs.NodeLemmas.{one_more}
+use Rattle.pbfcut.proofs.NodeLemmas.{one_more, none_more}
 use Rattle.pbfcut.proofs.pick.unpicked.Goals as goal
 
 pub loop-id-preserved : goal.loop-id-preserved
@@ -27,3 +27,8 @@ loop-id-preserved c =
       ids_are = more.1;
       none = more.0;
     }
+
+pub returns-clause-none : goal.returns-clause-none
+returns-clause-none c =
+    let so_far = c.loop-id.invariant in
+    none_more c.args.picker.now c.loop-id.count (sums_left c.loop-id.id-iterator) (dense_left c.args.dense.now) c.in-None.ensures.steps.0 so_far.ids_are so_far.none
