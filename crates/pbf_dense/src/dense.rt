@@ -115,8 +115,7 @@ impl<'a> Dense<'a> {
         self.ids
     }
 
-    /// Passes over as many nodes, or over all where there are fewer. None is made: each column is moved on by itself, which takes half
-    /// the time.
+    /// Passes over as many nodes, or over all where there are fewer. None is made: each column is moved on by itself.
     #[inline(always)]
     pub fn pass(&mut self, count: usize)
         ensures { dense_left self.new ≡ drop count (dense_left self.old) }

@@ -7,6 +7,7 @@ ghost use Rattle.pbf_wire.specs.Cursors.{column_left, numbers_left, sums_left};
 use pbf_wire::{Column, Sums};
 
 /// The next number of a column.
+#[inline(always)]
 pub(crate) fn next_number(numbers: &mut Column<'_>) -> Option<u64>
     ensures steps { YieldsFirst numbers_left numbers.old result numbers.new }
     ensures first { result ≡ slice_get (numbers_left numbers.old) 0 }
@@ -16,6 +17,7 @@ pub(crate) fn next_number(numbers: &mut Column<'_>) -> Option<u64>
 }
 
 /// The next value of a column of differences.
+#[inline(always)]
 pub(crate) fn next_sum(sums: &mut Sums<'_>) -> Option<i64>
     ensures first { result ≡ slice_get (sums_left sums.old) 0 }
     ensures rest { sums_left sums.new ≡ drop 1 (sums_left sums.old) }
