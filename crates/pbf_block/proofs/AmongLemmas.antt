@@ -7,7 +7,7 @@ use Rattle.osm_entity.specs.declared.scale.Scale.{Scale}
 use Rattle.osm_entity.specs.Entity.{EntitySpec}
 use Rattle.osm_entity.specs.Ranges.{EntityFits}
 use Rattle.pbf_block.specs.declared.kinds.Kinds.{Kinds}
-use Rattle.pbf_block.specs.Judgement.{block_fault}
+use Rattle.pbf_block.specs.PrimitiveBlock.{block_fault}
 use Rattle.pbf_block.specs.Kinds.{is_among, entities_among}
 use Rattle.pbf_block.specs.Payload.{along, entities}
 use Rattle.pbf_block.specs.Scale.{scale_of, table_of}

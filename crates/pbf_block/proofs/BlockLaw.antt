@@ -27,16 +27,12 @@ use Rattle.osm_entity.specs.declared.scale.Scale.{Scale}
 use Rattle.osm_entity.specs.Scale.{ScaleFits}
 use Rattle.osm_entity.specs.Ranges.{IsInt32, ScaleTyped}
 use Rattle.osm_entity.specs.Entity.{EntitySpec}
-use Rattle.pbf_block.specs.Groups.{in_group}
-use Rattle.pbf_block.specs.declared.message.TheConstants.{STRINGTABLE, PRIMITIVEGROUP, BLOCK_KINDS, GRANULARITY, DATE_GRANULARITY, LAT_OFFSET, LON_OFFSET}
+use Rattle.pbf_block.specs.Group.{in_group, group_wire, group_structure, member_values, member_weights, member_entities}
+use Rattle.pbf_block.specs.declared.primitive_block.TheConstants.{STRINGTABLE, PRIMITIVEGROUP, BLOCK_KINDS, GRANULARITY, DATE_GRANULARITY, LAT_OFFSET, LON_OFFSET}
 use Rattle.pbf_block.specs.Scale.{number_or, scale_of, table_of}
-use Rattle.pbf_block.specs.WireFaults.{group_wire, part_wire, wire_faults}
-use Rattle.pbf_block.specs.StructureFaults.{table_structure, group_structure, part_structure, structure_faults}
-use Rattle.pbf_block.specs.ValueFaults.{positive, value_faults, member_values}
-use Rattle.pbf_block.specs.Weights.{member_weights}
-use Rattle.pbf_block.specs.Members.{member_entities}
+use Rattle.pbf_block.specs.PrimitiveBlock.{part_wire, wire_faults, table_structure, part_structure, structure_faults, value_faults, payload_weights, block_fault}
+use Rattle.pbf_block.specs.Ranges.{positive}
 use Rattle.pbf_block.specs.Payload.{by_index, entities}
-use Rattle.pbf_block.specs.Judgement.{payload_weights, block_fault}
 use Rattle.pbf_block.specs.WrittenBlock.{unless_default, block_slots}
 use Rattle.pbf_block.specs.declared.scale.TheConstants.{DEFAULT_SCALE}
 use Rattle.pbf_wire.proofs.SlotLemmas.{none_of, scalar_given, last_given}

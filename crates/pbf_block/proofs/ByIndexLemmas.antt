@@ -13,11 +13,15 @@ use Rattle.osm_entity.specs.declared.scale.Scale.{Scale}
 use Rattle.osm_entity.specs.Entity.{WaySpec, node, way, relation}
 use Rattle.osm_entity.specs.Sources.{column_members}
 use Rattle.pbf_dense.specs.Nodes.{nodes, nodes_along}
-use Rattle.pbf_block.specs.Groups.{in_group}
-use Rattle.pbf_block.specs.declared.message.TheConstants.{PRIMITIVEGROUP, NODES, DENSE, WAYS, RELATIONS, REFS, WAY_LAT, WAY_LON, MEMIDS, ROLES_SID, TYPES}
-use Rattle.pbf_block.specs.Members.{values_in, way_in, relation_in, message_entities, member_entities}
+use Rattle.pbf_block.specs.Group.{in_group, message_entities, member_entities, weight_fault, member_weights}
+use Rattle.pbf_block.specs.declared.primitive_block.TheConstants.{PRIMITIVEGROUP}
+use Rattle.pbf_block.specs.declared.group.TheConstants.{NODES, DENSE, WAYS, RELATIONS}
+use Rattle.pbf_block.specs.declared.way.TheConstants.{REFS, WAY_LAT, WAY_LON}
+use Rattle.pbf_block.specs.declared.relation.TheConstants.{MEMIDS, ROLES_SID, TYPES}
+use Rattle.pbf_block.specs.Entity.{values_in}
+use Rattle.pbf_block.specs.Way.{way_in}
+use Rattle.pbf_block.specs.Relation.{relation_in}
 use Rattle.pbf_block.specs.Payload.{by_index, along}
-use Rattle.pbf_block.specs.Weights.{weight_fault, member_weights}
 
 -- ---- one message
 

@@ -4,7 +4,7 @@ use Rattle.std.specs.Prelude.{filter, if◌then◌else◌}
 use Rattle.pbf_wire.specs.Occurrence.{Occurrence}
 use Rattle.pbf_wire.specs.Faults.{fields_in, column_count}
 use Rattle.pbf_wire.proofs.FaultLemmas.{count_short}
-use Rattle.pbf_block.specs.declared.message.TheConstants.{INFO}
+use Rattle.pbf_block.specs.declared.entity.TheConstants.{INFO}
 
 -- what was counted, and what is left
 pub record Adds (k n : ℕ) (left all : List Occurrence) : Type 0 where

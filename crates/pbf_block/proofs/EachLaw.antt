@@ -14,10 +14,11 @@ use Rattle.osm_entity.specs.Entity.{WaySpec, RelationSpec, EntitySpec, way, rela
 use Rattle.osm_entity.specs.EntityTexts.{way_texts, relation_texts}
 use Rattle.osm_entity.specs.Ranges.{WayFits, RelationFits, EntityTyped}
 use Rattle.pbf_dense.specs.WrittenDense.{dense_message, info_message}
-use Rattle.pbf_block.specs.declared.message.TheConstants.{GROUP_KINDS, DENSE, WAYS, RELATIONS, CHANGESETS}
-use Rattle.pbf_block.specs.Members.{way_in, relation_in}
+use Rattle.pbf_block.specs.declared.group.TheConstants.{GROUP_KINDS, DENSE, WAYS, RELATIONS, CHANGESETS}
+use Rattle.pbf_block.specs.Way.{way_in}
+use Rattle.pbf_block.specs.Relation.{relation_in}
 use Rattle.pbf_block.specs.Payload.{by_index}
-use Rattle.pbf_block.specs.StructureFaults.{is_member}
+use Rattle.pbf_block.specs.Group.{is_member}
 use Rattle.pbf_block.specs.WrittenBlock.{nodes_among, ways_among, relations_among, group_message}
 use Rattle.pbf_block.specs.WrittenEntity.{way_message, relation_message}
 use Rattle.pbf_block.proofs.EntityLaw.{AreAmong}

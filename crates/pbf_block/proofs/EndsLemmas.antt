@@ -11,14 +11,19 @@ use Rattle.osm_entity.specs.Entity.{node, way, relation}
 use Rattle.pbf_dense.specs.Judged.{dense_wire}
 use Rattle.pbf_dense.specs.Nodes.{node_at, nodes}
 use Rattle.pbf_dense.proofs.SoundDense.{ids_counted}
-use Rattle.pbf_block.specs.Groups.{in_group}
-use Rattle.pbf_block.specs.declared.message.TheConstants.{PRIMITIVEGROUP, NODES, DENSE, WAYS, RELATIONS, BLOCK_KINDS, GROUP_KINDS, WAY_KINDS, RELATION_KINDS, INFO, INFO_KINDS}
-use Rattle.pbf_block.specs.Judgement.{block_fault}
-use Rattle.pbf_block.specs.Members.{way_in, relation_in, message_entities, member_entities}
+use Rattle.pbf_block.specs.Group.{in_group, message_entities, member_entities, member_wire, group_wire}
+use Rattle.pbf_block.specs.declared.primitive_block.TheConstants.{PRIMITIVEGROUP, BLOCK_KINDS}
+use Rattle.pbf_block.specs.declared.group.TheConstants.{NODES, DENSE, WAYS, RELATIONS, GROUP_KINDS}
+use Rattle.pbf_block.specs.declared.way.TheConstants.{WAY_KINDS}
+use Rattle.pbf_block.specs.declared.relation.TheConstants.{RELATION_KINDS}
+use Rattle.pbf_block.specs.declared.entity.TheConstants.{INFO}
+use Rattle.pbf_block.specs.declared.info.TheConstants.{INFO_KINDS}
+use Rattle.pbf_block.specs.PrimitiveBlock.{block_fault, part_wire, wire_faults}
+use Rattle.pbf_block.specs.Way.{way_in}
+use Rattle.pbf_block.specs.Relation.{relation_in}
 use Rattle.pbf_block.specs.Numbers.{by_ends}
 use Rattle.pbf_block.specs.Payload.{by_index, entities}
 use Rattle.pbf_block.specs.Scale.{table_of, scale_of}
-use Rattle.pbf_block.specs.WireFaults.{member_wire, group_wire, part_wire, wire_faults}
 use Rattle.pbf_block.proofs.ByIndexLemmas.{Inside, inside_same, cond_same, flat_same}
 use Rattle.pbf_block.proofs.PhaseLemmas.{no_fault}
 use Rattle.pbf_block.proofs.ReadsLemmas.{entered_nil}

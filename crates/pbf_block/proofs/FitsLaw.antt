@@ -23,20 +23,25 @@ use Rattle.osm_entity.specs.Weight.{entity_weight}
 use Rattle.pbf_dense.specs.Judged.{dense_wire, dense_structure, dense_values}
 use Rattle.osm_entity.proofs.RangeLemmas.{int32_typed, int64_typed}
 use Rattle.pbf_dense.proofs.FitsLemmas.{nodes_fit, nodes_typed, version_typed}
-use Rattle.pbf_block.specs.Groups.{in_group}
+use Rattle.pbf_block.specs.Group.{in_group, message_entities, member_entities, member_wire, group_wire, entities_structure, group_structure, member_values, weight_fault, member_weights}
 use Rattle.pbf_dense.specs.declared.message.TheConstants.{VERSION}
-use Rattle.pbf_block.specs.declared.message.TheConstants.{PRIMITIVEGROUP, GRANULARITY, DATE_GRANULARITY, BLOCK_KINDS, GROUP_KINDS, NODES, DENSE, WAYS, RELATIONS, INFO, LAT_OFFSET, LON_OFFSET, NODE_KINDS, WAY_KINDS, RELATION_KINDS, INFO_KINDS}
-use Rattle.pbf_block.specs.Members.{message_entities, member_entities, node_in, way_in, relation_in}
+use Rattle.pbf_block.specs.declared.primitive_block.TheConstants.{PRIMITIVEGROUP, GRANULARITY, DATE_GRANULARITY, BLOCK_KINDS, LAT_OFFSET, LON_OFFSET}
+use Rattle.pbf_block.specs.declared.group.TheConstants.{GROUP_KINDS, NODES, DENSE, WAYS, RELATIONS}
+use Rattle.pbf_block.specs.declared.entity.TheConstants.{INFO}
+use Rattle.pbf_block.specs.declared.node.TheConstants.{NODE_KINDS}
+use Rattle.pbf_block.specs.declared.way.TheConstants.{WAY_KINDS}
+use Rattle.pbf_block.specs.declared.relation.TheConstants.{RELATION_KINDS}
+use Rattle.pbf_block.specs.declared.info.TheConstants.{INFO_KINDS}
+use Rattle.pbf_block.specs.Node.{node_in, node_structure, node_values}
+use Rattle.pbf_block.specs.Way.{way_in, way_structure, way_values}
+use Rattle.pbf_block.specs.Relation.{relation_in, relation_structure, relation_values}
 use Rattle.pbf_block.specs.Payload.{by_index, entities}
 use Rattle.pbf_block.specs.Scale.{scale_of, table_of}
-use Rattle.pbf_block.specs.Judgement.{payload_weights, block_fault}
-use Rattle.pbf_block.specs.WireFaults.{member_wire, group_wire, part_wire, wire_faults}
-use Rattle.pbf_block.specs.StructureFaults.{node_structure, way_structure, relation_structure, member_structure, group_structure, part_structure, structure_faults}
-use Rattle.pbf_block.specs.ValueFaults.{positive, node_values, way_values, relation_values, member_values, value_faults}
-use Rattle.pbf_block.specs.Weights.{weight_fault, member_weights}
+use Rattle.pbf_block.specs.PrimitiveBlock.{payload_weights, block_fault, part_wire, wire_faults, part_structure, structure_faults, value_faults}
+use Rattle.pbf_block.specs.Ranges.{positive}
 use Rattle.pbf_block.specs.declared.scale.TheConstants.{DEFAULT_SCALE}
 use Rattle.pbf_block.proofs.EntityLaw.{all_such, map_of_all}
-use Rattle.pbf_block.proofs.ReadsLemmas.{entered_nil}
+use Rattle.pbf_block.proofs.ReadsLemmas.{entered_nil, entities_quiet}
 use Rattle.pbf_block.proofs.TableLemmas.{table_few}
 use Rattle.pbf_block.proofs.PhaseLemmas.{no_fault}
 use Rattle.pbf_block.proofs.FitsLemmas.{are_numbers, number_holds, or_else, IsLight, FitsLight, node_fits, way_fits, relation_fits}
@@ -144,7 +149,7 @@ module _ (table : List (List ℕ)) (few : length table ≤ 2 ^ 62) (scale : Scal
     relation_numbers = lv;
   })
 
-  member_fits : (o : Occurrence) → member_wire o ≡ [] → member_structure o ≡ [] → member_values limit o ≡ [] → AllByRecursion FitsLight (member_entities by_index table scale o)
+  member_fits : (o : Occurrence) → member_wire o ≡ [] → entities_structure o ≡ [] → member_values limit o ≡ [] → AllByRecursion FitsLight (member_entities by_index table scale o)
   member_fits o w s v =
       let w4 = both_nil _ (entered RELATIONS (nested_faults RELATION_KINDS INFO INFO_KINDS) o) w in
       let w3 = both_nil _ (entered WAYS (nested_faults WAY_KINDS INFO INFO_KINDS) o) w4.0 in
@@ -160,7 +165,7 @@ module _ (table : List (List ℕ)) (few : length table ≤ 2 ^ 62) (scale : Scal
       (entered_nil WAYS (nested_faults WAY_KINDS INFO INFO_KINDS) o w3.1) (entered_nil WAYS way_structure o s3.1) (entered_nil WAYS (way_values limit) o v3.1)
       (entered_nil RELATIONS (nested_faults RELATION_KINDS INFO INFO_KINDS) o w4.1) (entered_nil RELATIONS (relation_values limit) o v4.1)
 
-  members_fit : (os : List Occurrence) → AllByRecursion (IsSound GROUP_KINDS member_wire) os → AllByRecursion (λ o. member_structure o ≡ []) os → AllByRecursion (λ o. member_values limit o ≡ []) os
+  members_fit : (os : List Occurrence) → AllByRecursion (IsSound GROUP_KINDS member_wire) os → AllByRecursion (λ o. entities_structure o ≡ []) os → AllByRecursion (λ o. member_values limit o ≡ []) os
       → AllByRecursion FitsLight (flat_map (member_entities by_index table scale) os)
   members_fit [] w s v = tt
   members_fit (o ∷ os) w s v = all_append FitsLight (member_entities by_index table scale o) _ (member_fits o w.0.1 s.0 v.0) (members_fit os w.1 s.1 v.1)
@@ -174,7 +179,7 @@ module _ (table : List (List ℕ)) (few : length table ≤ 2 ^ 62) (scale : Scal
   group_fits place (Four bytes) w s u = tt
   group_fits place (Bytes bytes at) w s u =
       let os = fields_in at bytes in
-      members_fit os (fields_sound GROUP_KINDS member_wire (items at bytes) w) (all_nil member_structure os (both_nil _ (flat_map member_structure os) s).1) (all_nil (member_values limit) os u)
+      members_fit os (fields_sound GROUP_KINDS member_wire (items at bytes) w) (entities_quiet os s) (all_nil (member_values limit) os u)
 
   part_fits : (o : Occurrence) → part_wire o ≡ [] → part_structure o ≡ [] → in_group (member_values limit) o ≡ [] → AllByRecursion FitsLight (in_group (member_entities by_index table scale) o)
   part_fits o w s v = cond_all FitsLight (eqb o.number PRIMITIVEGROUP) _ _ (λ t.

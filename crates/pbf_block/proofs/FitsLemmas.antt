@@ -30,13 +30,19 @@ use Rattle.osm_entity.specs.Sources.{column_members}
 use Rattle.osm_entity.specs.Weight.{entity_weight}
 use Rattle.pbf_dense.specs.Judged.{range_faults}
 use Rattle.pbf_dense.specs.declared.message.TheConstants.{TIMESTAMP, CHANGESET, UID, USER_SID}
-use Rattle.pbf_block.specs.declared.message.TheConstants.{NODE_KINDS, WAY_KINDS, RELATION_KINDS, INFO_KINDS, ID, INFO, NODE_LAT, NODE_LON, REFS, WAY_LAT, WAY_LON, MEMIDS, TYPES, ROLES_SID}
-use Rattle.pbf_block.specs.Info.{info_in}
-use Rattle.pbf_block.specs.Members.{values_in, node_in, way_in, relation_in}
+use Rattle.pbf_block.specs.declared.node.TheConstants.{NODE_KINDS, NODE_LAT, NODE_LON}
+use Rattle.pbf_block.specs.declared.way.TheConstants.{WAY_KINDS, REFS, WAY_LAT, WAY_LON}
+use Rattle.pbf_block.specs.declared.relation.TheConstants.{RELATION_KINDS, MEMIDS, TYPES, ROLES_SID}
+use Rattle.pbf_block.specs.declared.info.TheConstants.{INFO_KINDS}
+use Rattle.pbf_block.specs.declared.entity.TheConstants.{ID, INFO}
+use Rattle.pbf_block.specs.Info.{info_in, info_values}
+use Rattle.pbf_block.specs.Entity.{values_in, entity_structure, entity_values}
+use Rattle.pbf_block.specs.Node.{node_in, node_values}
+use Rattle.pbf_block.specs.Way.{way_in, are_located, way_structure, way_values}
+use Rattle.pbf_block.specs.Relation.{relation_in, relation_values}
 use Rattle.pbf_block.specs.Payload.{by_index}
 use Rattle.pbf_block.specs.Scale.{number_or}
-use Rattle.pbf_block.specs.StructureFaults.{are_located, entity_structure, way_structure}
-use Rattle.pbf_block.specs.ValueFaults.{out_of_range, info_values, entity_values, node_values, way_values, relation_values}
+use Rattle.pbf_block.specs.Ranges.{out_of_range}
 use Rattle.pbf_wire.proofs.SlotLemmas.{IfSome}
 use Rattle.pbf_block.proofs.ValueLemmas.{later_value, last_is}
 use Rattle.pbf_block.proofs.ReadsLemmas.{entered_nil}

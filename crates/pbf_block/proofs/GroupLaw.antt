@@ -1,7 +1,6 @@
 -- A written group has no fault and holds the entities that it was written of, where each message in it does.
-use Rattle.pbf_wire.specs.declared.fault.Reason.TheVariants.{MixedGroup, Changesets}
 use Rattle.std.proofs.Common.{◌≡◌, ℕ, ◌+◌, ◌^◌, ◌<◌, ◌≤◌, ◌==◌, ◌&&◌, Bool, true, false, List, [], ◌∷◌, ◌++◌, length, map, Option, Some, refl, sym, ap, subst, ◌∙◌, arith}
-use Rattle.std.specs.Prelude.{not, filter, if◌then◌else◌}
+use Rattle.std.specs.Prelude.{not, if◌then◌else◌}
 use Rattle.std.specs.List.{flat_map, find, AllByRecursion}
 use Rattle.std.specs.Option.{option_map}
 use Rattle.std.proofs.lemmas.List.{append-nil}
@@ -10,24 +9,20 @@ use Rattle.pbf_wire.specs.declared.kind.Kind.TheVariants as kind
 use Rattle.pbf_wire.specs.Occurrence.{Bytes, Occurrence}
 use Rattle.pbf_wire.specs.Wire.{kind_of}
 use Rattle.pbf_wire.specs.Writing.{Whole, spelling, occurrences_of}
-use Rattle.pbf_wire.specs.Faults.{fields_in, twice, fault}
+use Rattle.pbf_wire.specs.Faults.{fields_in, twice}
 use Rattle.pbf_wire.specs.Message.{Slot, Each, message, SlotFits}
 use Rattle.pbf_wire.proofs.MessageLemmas.{fields_written}
 use Rattle.pbf_wire.proofs.QuietLemmas.{field_at, SlotQuiet, each_gives, fields_quiet, fields_give, no_fault_within, field_count, once_written}
 use Rattle.osm_entity.specs.declared.scale.Scale.{Scale}
 use Rattle.osm_entity.specs.Entity.{EntitySpec}
-use Rattle.pbf_block.specs.declared.message.TheConstants.{GROUP_KINDS, DENSE, CHANGESETS}
-use Rattle.pbf_block.specs.WireFaults.{member_wire, group_wire}
-use Rattle.pbf_block.specs.StructureFaults.{member_structure, is_member, first_member, is_other, mixed, changesets, group_structure}
-use Rattle.pbf_block.specs.ValueFaults.{member_values}
-use Rattle.pbf_block.specs.Weights.{weight_fault, member_weights}
-use Rattle.pbf_block.specs.Members.{member_entities}
+use Rattle.pbf_block.specs.declared.group.TheConstants.{GROUP_KINDS, DENSE, CHANGESETS}
+use Rattle.pbf_block.specs.Group.{member_wire, group_wire, member_structure, is_member, first_member, is_other, entities_structure, group_structure, member_values, weight_fault, member_weights, member_entities}
 use Rattle.pbf_block.specs.Payload.{by_index}
 
 -- a message at the field k of a group has no fault and holds these entities, wherever it stands
 pub record MemberGood (table : List (List ℕ)) (scale : Scale) (k : ℕ) (m : List ℕ) (es : List EntitySpec) : Type 0 where
   pub wire : (place begin : ℕ) → member_wire (field_at place k (Bytes m begin)) ≡ []
-  pub structure : (place begin : ℕ) → member_structure (field_at place k (Bytes m begin)) ≡ []
+  pub structure : (place begin : ℕ) → entities_structure (field_at place k (Bytes m begin)) ≡ []
   pub values : (place begin : ℕ) → member_values (length table) (field_at place k (Bytes m begin)) ≡ []
   pub entities : (place begin : ℕ) → member_entities by_index table scale (field_at place k (Bytes m begin)) ≡ es
   pub light : (place : ℕ) → flat_map (weight_fault place) es ≡ []
@@ -46,10 +41,6 @@ all_numbered : (k at : ℕ) (ms : List (List ℕ)) → AllByRecursion (λ o. o.n
 all_numbered k at [] = tt
 all_numbered k at (m ∷ ms) = (refl, all_numbered k (at + length (spelling (Whole k m))) ms)
 
-none_kept : (P : Occurrence → Bool) (k : ℕ) (os : List Occurrence) → ((o : Occurrence) → o.number ≡ k → P o ≡ false) → AllByRecursion (λ o. o.number ≡ k) os → filter P os ≡ []
-none_kept P k [] each h = refl
-none_kept P k (o ∷ os) each h = rw (each o h.0) (none_kept P k os each h.1)
-
 not_other : (k n : ℕ) → n ≡ k → is_other (Some k) n ≡ false
 not_other k n e = rw e (by (is_member k))
   where
@@ -65,15 +56,9 @@ first_is k o os member e =
     let there : is_member o.number ≡ true = ap is_member e ∙ member in
     ap (λ b. option_map (λ (o : Occurrence). o.number) (if b then Some o else find (λ o. is_member o.number) os)) there ∙ ap Some e
 
-not_mixed : (k : ℕ) (os : List Occurrence) → is_member k ≡ true → AllByRecursion (λ o. o.number ≡ k) os → mixed os ≡ []
-not_mixed k [] member h = refl
-not_mixed k (o ∷ os) member h =
-    ap (map (λ (o : Occurrence). fault o.place MixedGroup))
-    (none_kept (λ p. is_other (first_member (o ∷ os)) p.number) k (o ∷ os) (λ p e. ap (λ (first : Option ℕ). is_other first p.number) (first_is k o os member h.0) ∙ not_other k p.number e) h)
-
-no_changesets : (k : ℕ) (os : List Occurrence) → (k == CHANGESETS) ≡ false → AllByRecursion (λ o. o.number ≡ k) os → changesets os ≡ []
-no_changesets k os other h =
-    ap (map (λ (o : Occurrence). fault o.place Changesets)) (none_kept (λ o. o.number == CHANGESETS) k os (λ o e. ap (λ n. n == CHANGESETS) e ∙ other) h)
+not_mixed : (k : ℕ) (os : List Occurrence) → is_member k ≡ true → AllByRecursion (λ o. o.number ≡ k) os → is_other (first_member os) k ≡ false
+not_mixed k [] member h = not_other k k refl
+not_mixed k (o ∷ os) member h = ap (λ (first : Option ℕ). is_other first k) (first_is k o os member h.0) ∙ not_other k k refl
 
 -- ---- a group of one field
 
@@ -111,8 +96,9 @@ module _ (table : List (List ℕ)) (scale : Scale) (k : ℕ) where
     sound place at =
         let os = fields_in at (message slots) in
         let repeated : twice DENSE os ≡ [] = once_written DENSE at slots fits short once in
-        let members : flat_map member_structure os ≡ [] = fields_quiet member_structure at slots (all_quiet member_structure held (λ m es g. g.structure) h, tt) fits short in
-        rw (repeated, not_mixed k os member (numbered at), no_changesets k os other (numbered at), members) refl
+        let f = member_structure (first_member os) in
+        let members : flat_map f os ≡ [] = fields_quiet f at slots (all_quiet f held (λ m es g place begin. rw (not_mixed k os member (numbered at), other, g.structure place begin) refl) h, tt) fits short in
+        rw (repeated, members) refl
 
     group_entities_are : (at : ℕ) → flat_map (member_entities by_index table scale) (fields_in at (message slots)) ≡ flat_map (λ g. g.1) held
     group_entities_are at =

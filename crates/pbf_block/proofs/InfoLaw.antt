@@ -21,9 +21,9 @@ use Rattle.osm_entity.specs.Ranges.{IsInt32, IsStored, IsUid, IfPresent, MetaFit
 use Rattle.osm_entity.specs.Sources.{named}
 use Rattle.pbf_dense.specs.WrittenDense.{bit_of}
 use Rattle.pbf_dense.specs.declared.message.TheConstants.{VERSION, TIMESTAMP, CHANGESET, UID, USER_SID, VISIBLE}
-use Rattle.pbf_block.specs.declared.message.TheConstants.{INFO_KINDS}
-use Rattle.pbf_block.specs.ValueFaults.{out_of_range, info_values}
-use Rattle.pbf_block.specs.Info.{info_in}
+use Rattle.pbf_block.specs.declared.info.TheConstants.{INFO_KINDS}
+use Rattle.pbf_block.specs.Ranges.{out_of_range}
+use Rattle.pbf_block.specs.Info.{info_values, info_in}
 use Rattle.pbf_block.specs.WrittenEntity.{info_slots, info_message}
 use Rattle.osm_entity.proofs.RangeLemmas.{present}
 use Rattle.pbf_wire.proofs.SlotLemmas.{IfSome, scalar_given, given_all, option_read, scalar_fits, last_given}

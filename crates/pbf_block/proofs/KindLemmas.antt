@@ -7,10 +7,14 @@ use Rattle.pbf_wire.specs.Faults.{inside, fields_in}
 use Rattle.pbf_wire.specs.Occurrence.{Content, Number, Eight, Four, Bytes, Occurrence}
 use Rattle.osm_entity.specs.declared.scale.Scale.{Scale}
 use Rattle.osm_entity.specs.Entity.{NodeSpec, EntitySpec, node, way, relation}
-use Rattle.pbf_block.specs.Groups.{in_group}
+use Rattle.pbf_block.specs.Group.{in_group, message_entities, member_entities}
 use Rattle.pbf_block.specs.declared.kinds.Kinds.{Kinds}
-use Rattle.pbf_block.specs.declared.message.TheConstants.{PRIMITIVEGROUP, NODES, DENSE, WAYS, RELATIONS}
-use Rattle.pbf_block.specs.Members.{How, node_in, way_in, relation_in, message_entities, member_entities}
+use Rattle.pbf_block.specs.declared.primitive_block.TheConstants.{PRIMITIVEGROUP}
+use Rattle.pbf_block.specs.declared.group.TheConstants.{NODES, DENSE, WAYS, RELATIONS}
+use Rattle.pbf_block.specs.Entity.{How}
+use Rattle.pbf_block.specs.Node.{node_in}
+use Rattle.pbf_block.specs.Way.{way_in}
+use Rattle.pbf_block.specs.Relation.{relation_in}
 use Rattle.pbf_block.specs.Kinds.{is_among, holds_kind, member_entities_among, group_entities_among, entities_among}
 
 -- all are of all kinds
@@ -86,6 +90,10 @@ module _ (kinds : Kinds) (how : How) (table : List (List ℕ)) (scale : Scale) w
 
   pub all_kept : (os : List Occurrence) → entities_among kinds how table scale os ≡ filter (is_among kinds) (flat_map (in_group (member_entities how table scale)) os)
   all_kept os = kept_parts (is_among kinds) (in_group (member_entities how table scale)) (group_entities_among kinds how table scale) group_kept os
+
+-- where all kinds are asked for, a field gives all its entities
+pub member_of_all : (kinds : Kinds) (how : How) (table : List (List ℕ)) (scale : Scale) → ((e : EntitySpec) → is_among kinds e ≡ true) → (o : Occurrence) → member_entities_among kinds how table scale o ≡ member_entities how table scale o
+member_of_all kinds how table scale all o = member_kept kinds how table scale o ∙ filter_every (is_among kinds) all (member_entities how table scale o)
 
 -- what holds of all holds of those that are kept
 all_next : (P : EntitySpec → Type 0) (p : EntitySpec → Bool) (e : EntitySpec) (es : List EntitySpec) (b : Bool) → p e ≡ b → P e → AllByRecursion P (filter p es) → AllByRecursion P (filter p (e ∷ es))

@@ -24,10 +24,16 @@ use Rattle.pbf_dense.specs.Info.{InfoSpec, meta_at, user_text, info_along, later
 use Rattle.pbf_dense.specs.Nodes.{moving, nodes_along}
 use Rattle.pbf_dense.specs.Runs.{after_run}
 use Rattle.pbf_dense.specs.declared.message.TheConstants.{KEYS_VALS, USER_SID}
-use Rattle.pbf_block.specs.declared.message.TheConstants.{NODES, DENSE, WAYS, RELATIONS, KEYS, VALS, INFO, REFS, WAY_LAT, WAY_LON, ROLES_SID, MEMIDS, TYPES}
-use Rattle.pbf_block.specs.Members.{node_in, way_in, relation_in, values_in, message_entities}
+use Rattle.pbf_block.specs.declared.group.TheConstants.{NODES, DENSE, WAYS, RELATIONS}
+use Rattle.pbf_block.specs.declared.entity.TheConstants.{KEYS, VALS, INFO}
+use Rattle.pbf_block.specs.declared.way.TheConstants.{REFS, WAY_LAT, WAY_LON}
+use Rattle.pbf_block.specs.declared.relation.TheConstants.{ROLES_SID, MEMIDS, TYPES}
+use Rattle.pbf_block.specs.Node.{node_in}
+use Rattle.pbf_block.specs.Way.{way_in}
+use Rattle.pbf_block.specs.Relation.{relation_in}
+use Rattle.pbf_block.specs.Entity.{values_in}
+use Rattle.pbf_block.specs.Group.{message_entities, weight_fault}
 use Rattle.pbf_block.specs.Payload.{along}
-use Rattle.pbf_block.specs.Weights.{weight_fault}
 use Rattle.osm_entity.specs.declared.weight.TheConstants.{HIGHEST_WEIGHT}
 
 -- ---- texts

@@ -14,8 +14,8 @@ use Rattle.pbf_dense.specs.Nodes.{nodes}
 use Rattle.pbf_dense.specs.WrittenDense.{dense_message, NodesHeld}
 use Rattle.pbf_dense.proofs.DenseLaw.{wire_written, structure_written, values_written}
 use Rattle.pbf_dense.proofs.NodesLaw.{nodes_written}
-use Rattle.pbf_block.specs.declared.message.TheConstants.{DENSE}
-use Rattle.pbf_block.specs.Weights.{weight_fault}
+use Rattle.pbf_block.specs.declared.group.TheConstants.{DENSE}
+use Rattle.pbf_block.specs.Group.{weight_fault}
 use Rattle.pbf_block.specs.WrittenBlock.{nodes_among, ways_among, relations_among, group_message}
 use Rattle.pbf_block.proofs.GroupLaw.{MemberGood, GroupGood, group_good}
 

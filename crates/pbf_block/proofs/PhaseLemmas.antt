@@ -7,12 +7,9 @@ use Rattle.pbf_wire.specs.Least.{least_by, least}
 use Rattle.pbf_wire.specs.Phases.{first_fault, phase_rank}
 use Rattle.pbf_wire.proofs.PhaseLemmas.{phases_joined as joined}
 use Rattle.pbf_wire.proofs.SoundLemmas.{no_least}
-use Rattle.pbf_block.specs.WireFaults.{wire_faults}
-use Rattle.pbf_block.specs.StructureFaults.{structure_faults}
-use Rattle.pbf_block.specs.Judgement.{payload_weights, block_phases, block_fault, all_faults}
+use Rattle.pbf_block.specs.PrimitiveBlock.{wire_faults, structure_faults, payload_weights, block_phases, block_fault, all_faults, value_faults}
 use Rattle.pbf_wire.specs.Faults.{fields_in}
 use Rattle.pbf_block.specs.Scale.{table_of}
-use Rattle.pbf_block.specs.ValueFaults.{value_faults}
 
 -- ---- where the first two phases have no fault, and where they have one
 

@@ -1,18 +1,23 @@
 -- A payload without faults of the wire form, of structure and of values gives its readers what they ask for.
-use Rattle.std.proofs.Common.{◌≡◌, ◌==◌, ℕ, ◌^◌, ◌≤◌, Bool, true, List, [], ◌∷◌, length, ap, sym, ◌∙◌, arith}
-use Rattle.std.specs.Prelude.{if◌then◌else◌}
+use Rattle.std.proofs.Common.{◌≡◌, ◌==◌, ℕ, ◌^◌, ◌≤◌, Bool, true, List, [], ◌∷◌, ◌++◌, length, ap, sym, ◌∙◌, arith}
+use Rattle.std.specs.Prelude.{if◌then◌else◌, Option}
 use Rattle.std.specs.List.{flat_map, AllByRecursion}
 use Rattle.pbf_wire.specs.Occurrence.{Content, Number, Eight, Four, Bytes, Occurrence, items}
-use Rattle.pbf_wire.specs.Faults.{inside, entered, fields_in, nested_faults}
+use Rattle.pbf_wire.specs.Faults.{inside, entered, fields_in, nested_faults, twice}
 use Rattle.pbf_wire.proofs.SoundLemmas.{both_nil, all_nil, fields_sound, IsSound}
 use Rattle.osm_entity.specs.declared.scale.Scale.{Scale}
 use Rattle.pbf_dense.specs.Judged.{dense_wire, dense_structure, dense_values}
 use Rattle.pbf_dense.proofs.SoundDense.{nodes_same}
-use Rattle.pbf_block.specs.Groups.{in_group}
-use Rattle.pbf_block.specs.declared.message.TheConstants.{PRIMITIVEGROUP, DENSE, WAYS, RELATIONS, BLOCK_KINDS, GROUP_KINDS, REFS, WAY_LAT, WAY_LON, MEMIDS, WAY_KINDS, RELATION_KINDS, INFO, INFO_KINDS}
-use Rattle.pbf_block.specs.WireFaults.{member_wire, group_wire, part_wire, wire_faults}
-use Rattle.pbf_block.specs.StructureFaults.{way_structure, relation_structure, member_structure, group_structure, part_structure, structure_faults}
-use Rattle.pbf_block.specs.ValueFaults.{way_values, relation_values, member_values, value_faults}
+use Rattle.pbf_block.specs.Group.{in_group, member_wire, group_wire, first_member, entities_structure, member_structure, group_structure, member_values}
+use Rattle.pbf_block.specs.declared.primitive_block.TheConstants.{PRIMITIVEGROUP, BLOCK_KINDS}
+use Rattle.pbf_block.specs.declared.group.TheConstants.{DENSE, WAYS, RELATIONS, GROUP_KINDS}
+use Rattle.pbf_block.specs.declared.way.TheConstants.{REFS, WAY_LAT, WAY_LON, WAY_KINDS}
+use Rattle.pbf_block.specs.declared.relation.TheConstants.{MEMIDS, RELATION_KINDS}
+use Rattle.pbf_block.specs.declared.entity.TheConstants.{INFO}
+use Rattle.pbf_block.specs.declared.info.TheConstants.{INFO_KINDS}
+use Rattle.pbf_block.specs.PrimitiveBlock.{part_wire, wire_faults, part_structure, structure_faults, value_faults}
+use Rattle.pbf_block.specs.Way.{way_structure, way_values}
+use Rattle.pbf_block.specs.Relation.{relation_structure, relation_values}
 use Rattle.pbf_block.proofs.ByIndexLemmas.{Reads, Inside, InRange, MemberReads, GroupReads}
 
 -- ---- what is in a message that a field holds
@@ -21,6 +26,16 @@ pub entered_nil : {X : Type 0} (k : ℕ) (f : ℕ → ℕ → List ℕ → List 
 entered_nil k f o e same = let test : (o.number == k) ≡ true = grind arith in sym (ap (λ (b : Bool). if b then inside (f o.place) o.content else []) test) ∙ e
 
 -- ---- one field of a group
+
+-- entities are without faults of structure where their group is
+entities_in : (first : Option ℕ) (os : List Occurrence) → AllByRecursion (λ o. member_structure first o ≡ []) os → AllByRecursion (λ o. entities_structure o ≡ []) os
+entities_in first [] h = tt
+entities_in first (o ∷ os) h = ((both_nil _ (entities_structure o) h.0).1, entities_in first os h.1)
+
+pub entities_quiet : (os : List Occurrence) → twice DENSE os ++ flat_map (member_structure (first_member os)) os ≡ [] → AllByRecursion (λ o. entities_structure o ≡ []) os
+entities_quiet os s =
+    let f = member_structure (first_member os) in
+    entities_in (first_member os) os (all_nil f os (both_nil (twice DENSE os) (flat_map f os) s).1)
 
 way_reads : (limit place at : ℕ) (m : List ℕ) → way_values limit place at m ≡ [] → InRange REFS (fields_in at m) × InRange WAY_LAT (fields_in at m) × InRange WAY_LON (fields_in at m)
 way_reads limit place at m e =
@@ -62,7 +77,7 @@ module _ (table : List (List ℕ)) (scale : Scale) (few : length table ≤ 2 ^ 6
   inside_reads k place (Four bytes) a b d e f = tt
   inside_reads k place (Bytes bytes at) a b d e f = clean_reads k place at bytes (record { dense_form = a; dense_parts = b; dense_numbers = d; way_numbers = e; relation_numbers = f })
 
-  member_reads : (o : Occurrence) → member_wire o ≡ [] → member_structure o ≡ [] → member_values (length table) o ≡ [] → MemberReads table scale o
+  member_reads : (o : Occurrence) → member_wire o ≡ [] → entities_structure o ≡ [] → member_values (length table) o ≡ [] → MemberReads table scale o
   member_reads o w s v =
       let wire = both_nil _ (entered DENSE dense_wire o) (both_nil _ (entered WAYS (nested_faults WAY_KINDS INFO INFO_KINDS) o) (both_nil _ (entered RELATIONS (nested_faults RELATION_KINDS INFO INFO_KINDS) o) w).0).0 in
       let structure = both_nil _ (entered DENSE dense_structure o) (both_nil _ (entered WAYS way_structure o) (both_nil _ (entered RELATIONS relation_structure o) s).0).0 in
@@ -73,7 +88,7 @@ module _ (table : List (List ℕ)) (scale : Scale) (few : length table ≤ 2 ^ 6
       (entered_nil DENSE dense_wire o wire.1) (entered_nil DENSE dense_structure o structure.1) (entered_nil DENSE (dense_values (length table)) o values.1)
       (entered_nil WAYS (way_values (length table)) o ways.1) (entered_nil RELATIONS (relation_values (length table)) o relations.1)
 
-  members_read : (os : List Occurrence) → AllByRecursion (IsSound GROUP_KINDS member_wire) os → AllByRecursion (λ o. member_structure o ≡ []) os → AllByRecursion (λ o. member_values (length table) o ≡ []) os → AllByRecursion (MemberReads table scale) os
+  members_read : (os : List Occurrence) → AllByRecursion (IsSound GROUP_KINDS member_wire) os → AllByRecursion (λ o. entities_structure o ≡ []) os → AllByRecursion (λ o. member_values (length table) o ≡ []) os → AllByRecursion (MemberReads table scale) os
   members_read [] w s v = tt
   members_read (o ∷ os) w s v = (member_reads o w.0.1 s.0 v.0, members_read os w.1 s.1 v.1)
 
@@ -82,7 +97,7 @@ module _ (table : List (List ℕ)) (scale : Scale) (few : length table ≤ 2 ^ 6
   group_reads : (place at : ℕ) (m : List ℕ) → group_wire place at m ≡ [] → group_structure place at m ≡ [] → flat_map (member_values (length table)) (fields_in at m) ≡ [] → AllByRecursion (MemberReads table scale) (fields_in at m)
   group_reads place at m w s v =
       members_read (fields_in at m) (fields_sound GROUP_KINDS member_wire (items at m) w)
-      (all_nil member_structure (fields_in at m) (both_nil _ (flat_map member_structure (fields_in at m)) s).1) (all_nil (member_values (length table)) (fields_in at m) v)
+      (entities_quiet (fields_in at m) s) (all_nil (member_values (length table)) (fields_in at m) v)
 
   inside_group : (place : ℕ) (c : Content) → inside (group_wire place) c ≡ [] → inside (group_structure place) c ≡ [] → inside (λ at m. flat_map (member_values (length table)) (fields_in at m)) c ≡ [] → Inside (λ at m. AllByRecursion (MemberReads table scale) (fields_in at m)) c
   inside_group place (Number v) a b d = tt

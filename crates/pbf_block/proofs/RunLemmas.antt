@@ -9,9 +9,9 @@ use Rattle.pbf_wire.specs.Occurrence.{Content, Number, Eight, Four, Bytes, Occur
 use Rattle.osm_entity.specs.declared.scale.Scale.{Scale}
 use Rattle.osm_entity.specs.Entity.{EntitySpec}
 use Rattle.pbf_block.specs.declared.kinds.Kinds.{Kinds}
-use Rattle.pbf_block.specs.declared.message.TheConstants.{PRIMITIVEGROUP}
+use Rattle.pbf_block.specs.declared.primitive_block.TheConstants.{PRIMITIVEGROUP}
 use Rattle.pbf_block.specs.Kinds.{member_entities_among, group_entities_among, entities_among}
-use Rattle.pbf_block.specs.Members.{How}
+use Rattle.pbf_block.specs.Entity.{How}
 use Rattle.pbf_block.specs.Runs.{joined_runs, group_runs}
 
 module _ (kinds : Kinds) (how : How) (table : List (List ℕ)) (scale : Scale) where

@@ -13,9 +13,10 @@ use Rattle.pbf_wire.proofs.FaultLemmas.{held_short}
 use Rattle.pbf_wire.proofs.SoundLemmas.{both_nil, all_nil, not_wrong, last_holds}
 use Rattle.pbf_wire.specs.Wire.{judged}
 use Rattle.pbf_strings.specs.Texts.{texts, count_fault}
-use Rattle.pbf_block.specs.declared.message.TheConstants.{STRINGTABLE, PRIMITIVEGROUP}
+use Rattle.pbf_block.specs.declared.primitive_block.TheConstants.{STRINGTABLE, PRIMITIVEGROUP}
 use Rattle.pbf_block.specs.Scale.{table_of}
-use Rattle.pbf_block.specs.StructureFaults.{table_structure, part_structure, group_structure, structure_faults}
+use Rattle.pbf_block.specs.PrimitiveBlock.{table_structure, part_structure, structure_faults}
+use Rattle.pbf_block.specs.Group.{group_structure}
 use Rattle.pbf_block.proofs.ReadsLemmas.{entered_nil}
 
 -- ---- it is no longer than the payload

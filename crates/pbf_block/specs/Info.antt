@@ -1,14 +1,27 @@
--- The metadata of an entity.
-use Rattle.std.specs.Prelude.{ℕ, List, ◌==◌, not}
+-- An Info: what is judged of its values, and the metadata that it says.
+use Rattle.std.specs.Prelude.{◌≡◌, ℕ, List, ◌==◌, not, ◌++◌}
 use Rattle.std.specs.Option.{option_map}
+use Rattle.pbf_wire.specs.declared.fault.Fault.{Fault}
+use Rattle.pbf_wire.specs.declared.fault.Reason.TheVariants.{StringIndex}
+use Rattle.pbf_wire.specs.Faults.{below_fault, fields_in, in_last, last_value}
 use Rattle.pbf_wire.specs.Occurrence.{Occurrence}
 use Rattle.pbf_wire.specs.Reading.{last_number}
 use Rattle.pbf_wire.specs.Signed.{low_i32, low_i64}
 use Rattle.osm_entity.specs.Entity.{MetaSpec}
 use Rattle.osm_entity.specs.Sources.{named}
 use Rattle.pbf_dense.specs.declared.message.TheConstants.{VERSION, TIMESTAMP, CHANGESET, UID, USER_SID, VISIBLE}
+use Rattle.pbf_block.specs.declared.info.InfoNumbers.{InfoNumbers}
+use Rattle.pbf_block.specs.declared.info.InfoValues.{InfoValues}
+use Rattle.pbf_block.specs.Ranges.{out_of_range}
 
--- what the fields of an Info say; without fields nothing
+-- the faults of values, where the table has as many texts as the limit
+abbrev pub info_values : ℕ → ℕ → ℕ → List ℕ → List Fault
+info_values limit place at m =
+    let os = fields_in at m in
+    in_last TIMESTAMP (out_of_range 62 low_i64) os ++ in_last CHANGESET (out_of_range 62 low_i64) os
+    ++ in_last UID (out_of_range 30 low_i32) os ++ in_last USER_SID (λ place v. below_fault StringIndex limit (v, place)) os
+
+-- what the fields say; without fields nothing
 abbrev pub info_in : List (List ℕ) → List Occurrence → MetaSpec
 info_in table os = record {
   version = option_map low_i32 (last_number VERSION os);
@@ -18,3 +31,21 @@ info_in table os = record {
   user = option_map (named table) (last_number USER_SID os);
   visible = option_map (λ n. not (n == 0)) (last_number VISIBLE os);
 }
+
+-- ---- what one pass over an Info finds
+
+-- the numbers that are judged, each with its place
+pub record AreLast (values : InfoValues) (os : List Occurrence) : Type 0 where
+  pub timestamp : values.timestamp ≡ last_value TIMESTAMP os
+  pub changeset : values.changeset ≡ last_value CHANGESET os
+  pub uid : values.uid ≡ last_value UID os
+  pub user_sid : values.user_sid ≡ last_value USER_SID os
+
+-- the numbers that are read
+pub record AreNumbers (found : InfoNumbers) (os : List Occurrence) : Type 0 where
+  pub version : found.version ≡ last_number VERSION os
+  pub timestamp : found.timestamp ≡ last_number TIMESTAMP os
+  pub changeset : found.changeset ≡ last_number CHANGESET os
+  pub uid : found.uid ≡ last_number UID os
+  pub user : found.user ≡ last_number USER_SID os
+  pub visible : found.visible ≡ last_number VISIBLE os

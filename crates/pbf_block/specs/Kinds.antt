@@ -6,8 +6,10 @@ use Rattle.pbf_wire.specs.Occurrence.{Occurrence}
 use Rattle.osm_entity.specs.declared.scale.Scale.{Scale}
 use Rattle.osm_entity.specs.Entity.{EntitySpec, node, way, relation}
 use Rattle.pbf_block.specs.declared.kinds.Kinds.{Kinds}
-use Rattle.pbf_block.specs.declared.message.TheConstants.{PRIMITIVEGROUP, NODES, DENSE, WAYS, RELATIONS}
-use Rattle.pbf_block.specs.Members.{How, member_entities}
+use Rattle.pbf_block.specs.declared.primitive_block.TheConstants.{PRIMITIVEGROUP}
+use Rattle.pbf_block.specs.declared.group.TheConstants.{NODES, DENSE, WAYS, RELATIONS}
+use Rattle.pbf_block.specs.Entity.{How}
+use Rattle.pbf_block.specs.Group.{member_entities}
 
 -- an entity is of one of the kinds
 abbrev pub is_among : Kinds → EntitySpec → Bool

@@ -6,7 +6,7 @@ use Rattle.osm_entity.specs.Entity.{EntitySpec, node, way, relation}
 use Rattle.pbf_dense.specs.Judged.{id_count}
 use Rattle.pbf_dense.specs.Nodes.{node_at}
 use Rattle.pbf_block.specs.declared.counts.Counts.{Counts}
-use Rattle.pbf_block.specs.Members.{How}
+use Rattle.pbf_block.specs.Entity.{How}
 
 abbrev pub nodes_of : EntitySpec → ℕ
 nodes_of (node n) = 1

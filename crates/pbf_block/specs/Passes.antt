@@ -7,9 +7,7 @@ use Rattle.pbf_wire.specs.Fields.{occurrence}
 use Rattle.pbf_wire.specs.Occurrence.{Occurrence, found}
 use Rattle.pbf_wire.specs.Reading.{last_of, last_number}
 use Rattle.pbf_block.specs.declared.entity_fields.EntityFields.{EntityFields}
-use Rattle.pbf_block.specs.declared.info.InfoNumbers.{InfoNumbers}
-use Rattle.pbf_dense.specs.declared.message.TheConstants.{VERSION, TIMESTAMP, CHANGESET, UID, USER_SID, VISIBLE}
-use Rattle.pbf_block.specs.declared.message.TheConstants.{ID, KEYS, VALS, INFO}
+use Rattle.pbf_block.specs.declared.entity.TheConstants.{ID, KEYS, VALS, INFO}
 
 -- the occurrences of the field k
 abbrev pub only : ℕ → List Occurrence → List Occurrence
@@ -40,11 +38,3 @@ pub record AreFields (found : EntityFields) (os : List Occurrence) : Type 0 wher
   pub info : option_map occurrence found.info ≡ last_of INFO os
   pub keys : only_left KEYS found.keys ≡ only KEYS os
   pub vals : only_left VALS found.vals ≡ only VALS os
-
-pub record AreNumbers (found : InfoNumbers) (os : List Occurrence) : Type 0 where
-  pub version : found.version ≡ last_number VERSION os
-  pub timestamp : found.timestamp ≡ last_number TIMESTAMP os
-  pub changeset : found.changeset ≡ last_number CHANGESET os
-  pub uid : found.uid ≡ last_number UID os
-  pub user : found.user ≡ last_number USER_SID os
-  pub visible : found.visible ≡ last_number VISIBLE os

@@ -6,8 +6,8 @@ use Rattle.pbf_wire.specs.Sums.{sums, sums_within}
 use Rattle.osm_entity.specs.Entity.{EntitySpec}
 use Rattle.pbf_dense.specs.Nodes.{nodes, nodes_along}
 use Rattle.pbf_block.specs.Scale.{scale_of, table_of}
-use Rattle.pbf_block.specs.Groups.{in_group}
-use Rattle.pbf_block.specs.Members.{How, member_entities}
+use Rattle.pbf_block.specs.Group.{in_group, member_entities}
+use Rattle.pbf_block.specs.Entity.{How}
 
 -- each value of a column is the sum of all entries up to its own
 abbrev pub by_index : How

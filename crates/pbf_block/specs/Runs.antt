@@ -1,5 +1,5 @@
 -- The entities of a payload, those of one field together.
-use Rattle.std.specs.Prelude.{ℕ, List, [], ◌∷◌, ◌++◌, map}
+use Rattle.std.specs.Prelude.{ℕ, List, [], ◌∷◌, ◌++◌, map, Option, Some, None}
 use Rattle.std.specs.List.{flat_map}
 use Rattle.pbf_wire.specs.Cursors.{fields_left}
 use Rattle.pbf_wire.specs.Faults.{entered, fields_in}
@@ -7,14 +7,16 @@ use Rattle.pbf_wire.specs.Occurrence.{Occurrence, found}
 use Rattle.osm_entity.specs.declared.scale.Scale.{Scale}
 use Rattle.osm_entity.specs.Entity.{EntitySpec, node}
 use Rattle.osm_entity.specs.Views.{entity_of}
+use Rattle.pbf_dense.specs.declared.dense.Dense.{Dense}
 use Rattle.pbf_dense.specs.Cursors.{dense_left}
+use Rattle.pbf_block.specs.declared.entities.Entities.{Entities}
 use Rattle.pbf_block.specs.declared.kinds.Kinds.{Kinds}
-use Rattle.pbf_block.specs.declared.message.TheConstants.{PRIMITIVEGROUP}
+use Rattle.pbf_block.specs.declared.primitive_block.TheConstants.{PRIMITIVEGROUP}
 use Rattle.pbf_block.specs.declared.runs.Run.{Run}
 use Rattle.pbf_block.specs.declared.runs.Run.TheVariants as run
 use Rattle.pbf_block.specs.declared.runs.Runs.{Runs}
 use Rattle.pbf_block.specs.Kinds.{member_entities_among}
-use Rattle.pbf_block.specs.Members.{How}
+use Rattle.pbf_block.specs.Entity.{How}
 use Rattle.pbf_block.specs.Payload.{along}
 
 -- those that a run holds
@@ -35,3 +37,14 @@ group_runs kinds how table scale o = entered PRIMITIVEGROUP (λ place at m. map 
 unfoldable pub runs_left : Runs → List (List EntitySpec)
 runs_left it =
     map (member_entities_among it.kinds along it.table.now it.scale) (found (fields_left it.fields)) ++ flat_map (group_runs it.kinds along it.table.now it.scale) (found (fields_left it.groups))
+
+-- ---- one entity after the other
+
+-- of the dense message that was begun
+abbrev pub begun_dense : Option Dense → List EntitySpec
+begun_dense None = []
+begun_dense (Some dense) = map node (dense_left dense)
+
+-- the entities that are still to come
+abbrev pub entities_left : Entities → List EntitySpec
+entities_left it = begun_dense it.dense ++ joined_runs (runs_left it.runs)

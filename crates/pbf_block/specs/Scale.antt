@@ -6,7 +6,7 @@ use Rattle.pbf_wire.specs.Reading.{occurrence_text, last_of, last_number}
 use Rattle.pbf_wire.specs.Signed.{low_i32, low_i64}
 use Rattle.pbf_strings.specs.Texts.{texts}
 use Rattle.osm_entity.specs.declared.scale.Scale.{Scale}
-use Rattle.pbf_block.specs.declared.message.TheConstants.{STRINGTABLE, GRANULARITY, DATE_GRANULARITY, LAT_OFFSET, LON_OFFSET}
+use Rattle.pbf_block.specs.declared.primitive_block.TheConstants.{STRINGTABLE, GRANULARITY, DATE_GRANULARITY, LAT_OFFSET, LON_OFFSET}
 use Rattle.pbf_block.specs.declared.scale.TheConstants.{DEFAULT_SCALE}
 
 -- the last number of the field k, as it is read, and something else where it is absent

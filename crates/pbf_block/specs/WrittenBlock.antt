@@ -11,7 +11,8 @@ use Rattle.osm_entity.specs.Entity.{MetaSpec, NodeSpec, WaySpec, RelationSpec, E
 use Rattle.osm_entity.specs.EntityTexts.{entity_texts}
 use Rattle.osm_entity.specs.Weight.{entity_weight}
 use Rattle.pbf_dense.specs.WrittenDense.{dense_message}
-use Rattle.pbf_block.specs.declared.message.TheConstants.{STRINGTABLE, PRIMITIVEGROUP, GRANULARITY, DATE_GRANULARITY, LAT_OFFSET, LON_OFFSET, DENSE, WAYS, RELATIONS}
+use Rattle.pbf_block.specs.declared.primitive_block.TheConstants.{STRINGTABLE, PRIMITIVEGROUP, GRANULARITY, DATE_GRANULARITY, LAT_OFFSET, LON_OFFSET}
+use Rattle.pbf_block.specs.declared.group.TheConstants.{DENSE, WAYS, RELATIONS}
 use Rattle.pbf_block.specs.WrittenEntity.{way_message, relation_message}
 use Rattle.osm_entity.specs.declared.weight.TheConstants.{HIGHEST_WEIGHT}
 use Rattle.pbf_block.specs.declared.block_write.TheConstants.{MOST_ENTITIES}

@@ -9,29 +9,23 @@ ghost use Rattle.pbf_wire.specs.Faults.{fields_in};
 ghost use Rattle.pbf_wire.specs.Least.{least};
 ghost use Rattle.pbf_wire.specs.Reading.{occurrence_text};
 ghost use Rattle.osm_entity.specs.Ranges.{EntityFits};
-ghost use Rattle.pbf_block.specs.Judgement.{payload_weights, block_fault};
-ghost use Rattle.pbf_block.specs.ValueFaults.{value_faults};
-ghost use Rattle.pbf_block.specs.Cursors.{entities_left};
+ghost use Rattle.pbf_block.specs.PrimitiveBlock.{wire_faults, structure_faults, value_faults, payload_weights, block_fault};
 ghost use Rattle.pbf_block.specs.Payload.{entities};
 ghost use Rattle.pbf_block.specs.Kinds.{is_among};
 ghost use Rattle.pbf_block.specs.Numbers.{counts_of};
-ghost use Rattle.pbf_block.specs.Runs.{joined_runs, runs_left};
+ghost use Rattle.pbf_block.specs.Runs.{entities_left, joined_runs, runs_left};
 ghost use Rattle.pbf_wire.specs.Fields.{occurrence};
 ghost use Rattle.pbf_block.specs.Scale.{scale_of, table_of};
-ghost use Rattle.pbf_block.specs.StructureFaults.{structure_faults};
-ghost use Rattle.pbf_block.specs.WireFaults.{wire_faults};
 
 use crate::counts::Counts;
 use crate::entities::Entities;
 use crate::kinds::Kinds;
-use crate::message::STRINGTABLE;
+use crate::primitive_block::{
+    STRINGTABLE, judge_structure, judge_values, judge_weights, judge_wire,
+};
 use crate::runs::Runs;
 use crate::scale::scale_in;
-use crate::structure::judge_structure;
 use crate::unjudged::UnjudgedBlock;
-use crate::values::judge_values;
-use crate::weights::judge_weights;
-use crate::wire::judge_wire_form;
 use osm_entity::Scale;
 use pbf_strings::Table;
 use pbf_wire::{Fault, Field, ReadFault, last_field};
@@ -44,7 +38,7 @@ fn early_fault(payload: &[u8], at: u64) -> Option<Fault>
     ensures { result
         ≡ option_or (least (wire_faults at payload.now)) (least (structure_faults at payload.now)) }
 {
-    if let Some(fault) = judge_wire_form(payload, at) {
+    if let Some(fault) = judge_wire(payload, at) {
         return Some(fault);
     }
     judge_structure(payload, at)
@@ -96,7 +90,7 @@ pub struct Block<'a> {
 
 impl<'a> Model for Block<'a> {
     ghost use Rattle.std.specs.Prelude.{◌≡◌, None};
-    ghost use Rattle.pbf_block.specs.Judgement.{block_fault};
+    ghost use Rattle.pbf_block.specs.PrimitiveBlock.{block_fault};
     ghost use Rattle.pbf_block.specs.declared.unjudged.UnjudgedBlock.{UnjudgedBlock};
 
     ghost Value = { UnjudgedBlock };
@@ -139,16 +133,7 @@ impl<'a> Block<'a> {
         ensures exact { entities_left result ≡ entities self.now.at self.now.payload.now }
         ensures fits { AllByRecursion EntityFits (entities_left result) }
     {
-        self.entities_among(Kinds::all())
-    }
-
-    /// The entities of these kinds, in order. Messages of other kinds aren't looked into. Takes no memory.
-    pub fn entities_among(&self, kinds: Kinds) -> Entities<'_>
-        ensures exact { entities_left result
-            ≡ filter (is_among kinds) (entities self.now.at self.now.payload.now) }
-        ensures fits { AllByRecursion EntityFits (entities_left result) }
-    {
-        self.opened.entities_among(kinds)
+        Entities::of(self.runs_among(Kinds::all()))
     }
 
     /// The entities of these kinds, in order, those of a dense message together. Messages of other kinds aren't looked into. Takes no

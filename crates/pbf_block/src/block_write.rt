@@ -5,8 +5,9 @@ ghost use Rattle.pbf_wire.specs.Message.{Scalar, Each, slot_bytes, message, unle
 ghost use Rattle.pbf_strings.specs.TableOut.{table_message};
 ghost use Rattle.pbf_block.specs.WrittenBlock.{unless_default, block_slots};
 
-use crate::message::{
-    DATE_GRANULARITY, DENSE, GRANULARITY, LAT_OFFSET, LON_OFFSET, PRIMITIVEGROUP, STRINGTABLE,
+use crate::group::DENSE;
+use crate::primitive_block::{
+    DATE_GRANULARITY, GRANULARITY, LAT_OFFSET, LON_OFFSET, PRIMITIVEGROUP, STRINGTABLE,
 };
 use crate::scale::DEFAULT_SCALE;
 use osm_entity::Scale;

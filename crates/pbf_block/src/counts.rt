@@ -6,11 +6,11 @@ ghost use Rattle.pbf_wire.specs.Fields.{occurrence};
 ghost use Rattle.pbf_wire.specs.Faults.{fields_in};
 ghost use Rattle.osm_entity.specs.declared.scale.Scale.{Scale};
 ghost use Rattle.osm_entity.specs.Views.{entity_of};
-ghost use Rattle.pbf_block.specs.Groups.{in_group};
-ghost use Rattle.pbf_block.specs.Members.{member_entities};
+ghost use Rattle.pbf_block.specs.Group.{in_group, member_entities};
 ghost use Rattle.pbf_block.specs.Numbers.{counted_with, count_one, counts_of, by_ends};
 
-use crate::message::{DENSE, NODES, PRIMITIVEGROUP, RELATIONS, WAYS};
+use crate::group::{DENSE, NODES, RELATIONS, WAYS};
+use crate::primitive_block::PRIMITIVEGROUP;
 use osm_entity::EntityRef;
 use pbf_dense::Dense;
 use pbf_wire::{Field, Fields, Payload};

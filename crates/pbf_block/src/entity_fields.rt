@@ -10,13 +10,13 @@ ghost use Rattle.pbf_wire.specs.Signed.{unzigzag, low_i64};
 ghost use Rattle.osm_entity.specs.Sources.{tags_left};
 ghost use Rattle.osm_entity.specs.Views.{meta_of};
 ghost use Rattle.pbf_block.specs.Info.{info_in};
-ghost use Rattle.pbf_block.specs.Members.{tags_in, values_in};
+ghost use Rattle.pbf_block.specs.Entity.{tags_in, values_in};
 ghost use Rattle.pbf_block.specs.Payload.{along};
 ghost use Rattle.pbf_block.specs.Passes.{AreApart, AreFields, AreOwn, only, only_left};
 ghost use Rattle.pbf_block.specs.Scale.{number_or};
 
+use crate::entity::{ID, INFO, KEYS, VALS};
 use crate::info::meta_in;
-use crate::message::{ID, INFO, KEYS, VALS};
 use osm_entity::{MetaRef, PairedTags, STORED_LIMIT, Tags};
 use pbf_strings::Table;
 use pbf_wire::{Column, Field, Fields, Payload, Sums, last_number_left, low_i64, unzigzag};

@@ -13,7 +13,9 @@ ghost use Rattle.pbf_block.specs.WrittenEntity.{entity_slots, way_message, relat
 use crate::entity_write::{
     put_head, put_info, put_locations, put_members, put_refs, put_roles, put_tags,
 };
-use crate::message::{MEMIDS, REFS, RELATIONS, ROLES_SID, TYPES, WAY_LAT, WAY_LON, WAYS};
+use crate::group::{RELATIONS, WAYS};
+use crate::relation::{MEMIDS, ROLES_SID, TYPES};
+use crate::way::{REFS, WAY_LAT, WAY_LON};
 use osm_entity::{MetaRef, RelationRef, Tags, WayRef};
 use pbf_strings::TableOut;
 use pbf_wire::{ColumnOut, DeltaOut, put_bytes, put_column};

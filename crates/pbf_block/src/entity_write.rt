@@ -13,8 +13,9 @@ ghost use Rattle.osm_entity.specs.Views.{meta_of};
 ghost use Rattle.pbf_dense.specs.WrittenDense.{bit_of};
 ghost use Rattle.pbf_block.specs.WrittenEntity.{key_index, value_index, role_index, kind_number, info_message};
 
-use crate::message::{CHANGESET, ID, INFO, KEYS, TIMESTAMP, UID, USER_SID, VALS, VERSION, VISIBLE};
+use crate::entity::{ID, INFO, KEYS, VALS};
 use osm_entity::{Locations, MemberKind, Members, MetaRef, Refs, Tags};
+use pbf_dense::message::{CHANGESET, TIMESTAMP, UID, USER_SID, VERSION, VISIBLE};
 use pbf_strings::TableOut;
 use pbf_wire::{
     ColumnOut, DeltaOut, put_column, put_int64, put_number, put_unless_empty, sign_extended,

@@ -1,116 +1,244 @@
-//! The entities of a PrimitiveGroup.
+//! A PrimitiveGroup: its fields, and its rules phase by phase.
 
-ghost use Rattle.std.specs.Prelude.{◌≡◌, ◌∷◌, [], MatchOption};
-ghost use Rattle.pbf_wire.specs.Cursors.{fields_left};
+ghost use Rattle.std.specs.Prelude.{◌≡◌, ◌+◌, ◌*◌, ◌≤◌, ◌^◌, ℕ, List, [], IsTrue, length, map};
+ghost use Rattle.std.specs.List.{flat_map};
+ghost use Rattle.pbf_wire.specs.Least.{least};
 ghost use Rattle.pbf_wire.specs.Fields.{occurrence};
-ghost use Rattle.pbf_wire.specs.Occurrence.{found};
+ghost use Rattle.pbf_wire.specs.Faults.{fields_in};
+ghost use Rattle.pbf_strings.specs.Texts.{longest as longest_of};
+ghost use Rattle.osm_entity.specs.Entity.{node};
+ghost use Rattle.osm_entity.specs.Views.{entity_of};
+ghost use Rattle.pbf_dense.specs.Nodes.{nodes_along};
+ghost use Rattle.pbf_block.specs.Group.{member_wire, is_member, first_member, is_other, entities_structure, member_structure, group_structure, member_values, weight_fault, member_weights};
+ghost use Rattle.pbf_block.specs.Payload.{along};
 
+use crate::entity::INFO;
+use crate::info::INFO_KINDS;
 use crate::kinds::Kinds;
-use crate::message::{DENSE, NODES, RELATIONS, WAYS};
-use crate::node::node_in;
-use crate::relation::relation_in;
-use crate::way::way_in;
-use osm_entity::{EntityRef, Scale};
-use pbf_dense::Dense;
+use crate::node::{self, NODE_KINDS};
+use crate::relation::{self, RELATION_KINDS};
+use crate::runs::{Run, run_in};
+use crate::way::{self, WAY_KINDS};
+use osm_entity::{EntityRef, HIGHEST_WEIGHT, Scale};
+use pbf_dense::{Dense, KEYS_VALS};
 use pbf_strings::Table;
-use pbf_wire::{Field, Fields, Payload};
+use pbf_wire::{
+    Fault, Field, Fields, Judge, Kind, Payload, Reason, column_count, fault_where, judge_fields,
+    judge_nested, judge_twice, lesser,
+};
 
-/// The next field. After a fault there are no more.
-#[tactic(auto, unfolding(crate::proofs::Parts::items_past))]
-pub(crate) fn next_field<'a>(fields: &mut Fields<'a>) -> Option<Field<'a>>
-    ensures { MatchOption result
-        ((found (fields_left fields.old) ≡ []) × (found (fields_left fields.new) ≡ []))
-        (λ field. found (fields_left fields.old)
-        ≡ occurrence field ∷ found (fields_left fields.new)) }
-{
-    match fields.next() {
-        Some(Ok(field)) => Some(field),
-        _ => {
-            *fields = Fields::new(&[], 0);
-            None
-        }
-    }
-}
+pub(crate) const NODES: u64 = 1;
 
-/// The entities of a group that are still to come, of the kinds asked for: an iterator over the group's fields, which takes no
-/// memory. Fields that hold other kinds are passed over.
+pub(crate) const DENSE: u64 = 2;
+
+pub(crate) const WAYS: u64 = 3;
+
+pub(crate) const RELATIONS: u64 = 4;
+
+pub(crate) const CHANGESETS: u64 = 5;
+
+/// How the fields of a PrimitiveGroup are stored.
+pub(crate) const GROUP_KINDS: [(u64, Kind); 5] = [
+    (NODES, Kind::Bytes),
+    (DENSE, Kind::Bytes),
+    (WAYS, Kind::Bytes),
+    (RELATIONS, Kind::Bytes),
+    (CHANGESETS, Kind::Bytes),
+];
+
+/// The wire form of the entities that a field of a group holds.
 #[derive(Clone, Copy)]
-pub(crate) struct Group<'a> {
-    /// What is left of the dense message that was begun.
-    dense: Option<Dense<'a>>,
-    fields: Fields<'a>,
-    table: &'a Table<'a>,
-    scale: Scale,
-    kinds: Kinds,
-}
+pub(crate) struct MemberForm;
 
-impl<'a> Group<'a> {
-    ghost use Rattle.std.specs.Prelude.{◌+◌, ◌≤◌, ◌^◌, length};
-    ghost use Rattle.std.specs.List.{flat_map};
-    ghost use Rattle.pbf_wire.specs.Faults.{fields_in};
-    ghost use Rattle.pbf_block.specs.Kinds.{member_entities_among};
-    ghost use Rattle.pbf_block.specs.Payload.{along};
-    ghost use Rattle.pbf_block.specs.Cursors.{group_left};
+impl Judge for MemberForm {
+    ghost faults = { λ _. member_wire };
 
-    /// The entities of a group whose first byte stands at `at` in the file.
-    #[tactic(auto, unfolding(crate::specs::Cursors::group_left))]
-    pub(crate) fn over(
-        message: &'a [u8],
-        at: u64,
-        table: &'a Table<'a>,
-        scale: Scale,
-        kinds: Kinds,
-    ) -> Group<'a>
-        requires { at + length message.now ≤ 2 ^ 63 }
-        ensures { group_left result ≡ flat_map (member_entities_among kinds along table.now scale)
-            (fields_in at message.now) }
-    {
-        Group {
-            dense: None,
-            fields: Fields::new(message, at),
-            table,
-            scale,
-            kinds,
+    fn judge(&self, field: Field<'_>) -> Option<Fault> {
+        let Payload::Bytes(message, at) = field.payload else {
+            return None;
+        };
+        match field.number {
+            NODES => judge_nested(message, at, &NODE_KINDS, INFO, &INFO_KINDS),
+            DENSE => Dense::judge_wire(message, at),
+            WAYS => judge_nested(message, at, &WAY_KINDS, INFO, &INFO_KINDS),
+            RELATIONS => judge_nested(message, at, &RELATION_KINDS, INFO, &INFO_KINDS),
+            _ => None,
         }
     }
 }
 
-impl<'a> Iterator for Group<'a> {
-    ghost use Rattle.std.specs.Iterator.{YieldsFirstBy, item_count};
-    ghost use Rattle.osm_entity.specs.Views.{entity_of};
-    ghost use Rattle.pbf_block.specs.Cursors.{group_left};
+/// Whether a field of this number holds entities.
+fn is_member(number: u64) -> bool
+    ensures { result ≡ is_member number }
+{
+    number == NODES || number == DENSE || number == WAYS || number == RELATIONS
+}
 
-    type Item = EntityRef<'a>;
-
-    ghost next_gives = { YieldsFirstBy entity_of group_left };
-
-    ghost remaining = { item_count group_left };
-
-    #[inline(always)]
-    #[tactic(auto, unfolding(crate::specs::Cursors::group_left))]
-    fn next(&mut self) -> Option<EntityRef<'a>> {
-        'fields: loop {
-            if let Some(dense) = &mut self.dense {
-                if let Some(node) = dense.next() {
-                    return Some(EntityRef::Node(node));
-                }
-            }
-            let field = next_field(&mut self.fields)?;
-            if !self.kinds.are_in(field.number) {
-                continue 'fields;
-            }
-            let (table, scale) = (self.table, self.scale);
-            if let Payload::Bytes(message, at) = field.payload {
-                match field.number {
-                    NODES => return Some(EntityRef::Node(node_in(message, at, table, scale))),
-                    DENSE => self.dense = Some(Dense::over(message, at, table, scale)),
-                    WAYS => return Some(EntityRef::Way(way_in(message, at, table, scale))),
-                    RELATIONS => {
-                        return Some(EntityRef::Relation(relation_in(message, at, table, scale)));
-                    }
-                    _ => {}
-                }
-            }
+/// The number of the first field that holds entities.
+fn first_member(message: &[u8], at: u64) -> Option<u64>
+    requires { at + length message.now ≤ 2 ^ 63 }
+    ensures { result ≡ first_member (fields_in at message.now) }
+{
+    for item in Fields::new(message, at) {
+        let Ok(field) = item else {
+            return None;
+        };
+        if is_member(field.number) {
+            return Some(field.number);
         }
+    }
+    None
+}
+
+/// Whether a field holds entities of another kind than the first.
+fn is_other(first: Option<u64>, number: u64) -> bool
+    ensures { result ≡ is_other first number }
+{
+    match first {
+        Some(first) => is_member(number) && number != first,
+        None => false,
+    }
+}
+
+/// The least fault of structure of the entities that a field of a group holds.
+fn judge_entities(field: Field<'_>) -> Option<Fault>
+    ensures { result ≡ least (entities_structure (occurrence field.entry)) }
+{
+    let Payload::Bytes(message, at) = field.payload else {
+        return None;
+    };
+    match field.number {
+        NODES => node::judge_structure(message, at, field.offset),
+        DENSE => Dense::judge_structure(message, at, field.offset),
+        WAYS => way::judge_structure(message, at, field.offset),
+        RELATIONS => relation::judge_structure(message, at, field.offset),
+        _ => None,
+    }
+}
+
+/// The structure of a field of a group, whose first field of entities has the number `first`.
+#[derive(Clone, Copy)]
+struct MemberStructure {
+    first: Option<u64>,
+}
+
+impl Judge for MemberStructure {
+    ghost faults = { λ members. member_structure members.first };
+
+    #[tactic(auto, using(crate::proofs::Parts::lesser_parts))]
+    fn judge(&self, field: Field<'_>) -> Option<Fault> {
+        let number = field.number;
+        let mixed = is_other(self.first, number);
+        let kinds = lesser(
+            fault_where(mixed, field.offset, Reason::MixedGroup),
+            fault_where(number == CHANGESETS, field.offset, Reason::Changesets),
+        );
+        lesser(kinds, judge_entities(field))
+    }
+}
+
+/// The least fault of structure of a group: a second dense message, entities of two kinds, changesets, and what its entities lack.
+#[tactic(auto, using(crate::proofs::Parts::lesser_parts))]
+pub(crate) fn judge_structure(message: &[u8], at: u64) -> Option<Fault>
+    requires { at + length message.now ≤ 2 ^ 63 }
+    ensures { result ≡ least (group_structure 0 at message.now) }
+{
+    let members = MemberStructure {
+        first: first_member(message, at),
+    };
+    lesser(
+        judge_twice(message, at, DENSE),
+        judge_fields(message, at, &members),
+    )
+}
+
+/// The values of the entities that a field of a group holds, whose table has `limit` texts.
+#[derive(Clone, Copy)]
+pub(crate) struct MemberValues {
+    pub(crate) limit: u64,
+    ghost limited: { limit ≤ 2 ^ 62 },
+}
+
+impl Judge for MemberValues {
+    ghost faults = { λ members. member_values members.limit };
+
+    fn judge(&self, field: Field<'_>) -> Option<Fault> {
+        let Payload::Bytes(message, at) = field.payload else {
+            return None;
+        };
+        match field.number {
+            NODES => node::judge_values(message, at, self.limit),
+            DENSE => Dense::judge_values(message, at, self.limit),
+            WAYS => way::judge_values(message, at, self.limit),
+            RELATIONS => relation::judge_values(message, at, self.limit),
+            _ => None,
+        }
+    }
+}
+
+/// Whether an entity is too heavy.
+fn judge_weight(entity: EntityRef<'_>, place: u64) -> Option<Fault>
+    ensures { result ≡ least (weight_fault place (entity_of entity.entry)) }
+{
+    fault_where(entity.weight() > HIGHEST_WEIGHT, place, Reason::EntityLarge)
+}
+
+/// Whether entities of so many tags, refs, locations and members can't be too heavy, where no text is longer than `longest`.
+#[tactic(auto, using(crate::proofs::LightLemmas::product_small))]
+fn are_light(parts: u64, longest: u64) -> bool
+    ensures { IsTrue result → 160 + longest + parts * (32 + 2 * longest) ≤ HIGHEST_WEIGHT }
+{
+    parts <= HIGHEST_WEIGHT
+        && longest <= HIGHEST_WEIGHT
+        && 160 + longest + parts * (32 + 2 * longest) <= HIGHEST_WEIGHT
+}
+
+/// Whether no entity of a field can be too heavy, by how much there is of it, where no text is longer than `longest`. None is
+/// looked at.
+#[tactic(auto, using(crate::proofs::LightLemmas::dense_member, crate::proofs::LightLemmas::other_member))]
+fn is_light(field: Field<'_>, longest: u64) -> bool
+    ensures { (table : List (List ℕ)) (scale : Scale) → longest_of table ≤ longest → IsTrue result
+        → member_weights along table scale (occurrence field.entry) ≡ [] }
+{
+    let Payload::Bytes(message, at) = field.payload else {
+        return false;
+    };
+    if field.number == DENSE {
+        let numbers = column_count(message, at, KEYS_VALS) as u64;
+        return are_light(numbers / 2, longest);
+    }
+    let length = message.len() as u64;
+    length <= HIGHEST_WEIGHT && are_light(3 * length, longest)
+}
+
+/// `EntityLarge` at a field of a group, where one of its entities is too heavy.
+fn judge_members<'a>(field: Field<'a>, table: &'a Table<'a>, scale: Scale) -> Option<Fault>
+    ensures { result ≡ least (member_weights along table.now scale (occurrence field.entry)) }
+{
+    match run_in(field, table, scale, Kinds::all()) {
+        Run::Nothing => None,
+        Run::One(entity) => judge_weight(entity, field.offset),
+        Run::Dense(dense) => dense.judge_nodes(field.offset),
+    }
+}
+
+/// The weights of the entities that a field of a group holds, where no text is longer than `longest`: most fields are short enough
+/// to be passed over.
+#[derive(Clone, Copy)]
+pub(crate) struct MemberWeights<'a> {
+    pub(crate) table: &'a Table<'a>,
+    pub(crate) scale: Scale,
+    pub(crate) longest: u64,
+    ghost short: { longest_of table.now ≤ longest },
+}
+
+impl Judge for MemberWeights<'_> {
+    ghost faults = { λ members. member_weights along members.table.now members.scale };
+
+    fn judge(&self, field: Field<'_>) -> Option<Fault> {
+        if is_light(field, self.longest) {
+            return None;
+        }
+        judge_members(field, self.table, self.scale)
     }
 }

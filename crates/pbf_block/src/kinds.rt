@@ -4,7 +4,7 @@ ghost use Rattle.std.specs.Prelude.{◌≡◌, true};
 ghost use Rattle.osm_entity.specs.Entity.{EntitySpec};
 ghost use Rattle.pbf_block.specs.Kinds.{holds_kind, is_among};
 
-use crate::message::{DENSE, NODES, RELATIONS, WAYS};
+use crate::group::{DENSE, NODES, RELATIONS, WAYS};
 
 /// Which kinds of entities are asked for.
 #[derive(Clone, Copy, Debug)]

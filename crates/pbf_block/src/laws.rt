@@ -12,12 +12,14 @@ ghost use Rattle.osm_entity.specs.Entity.{WaySpec, RelationSpec, EntitySpec, way
 ghost use Rattle.osm_entity.specs.EntityTexts.{way_texts, relation_texts};
 ghost use Rattle.osm_entity.specs.Ranges.{WayFits, RelationFits, EntityFits, EntityTyped};
 ghost use Rattle.osm_entity.specs.Weight.{entity_weight};
-ghost use Rattle.pbf_block.specs.declared.message.TheConstants.{WAY_KINDS, RELATION_KINDS, INFO, INFO_KINDS};
-ghost use Rattle.pbf_block.specs.Judgement.{block_fault, all_faults};
-ghost use Rattle.pbf_block.specs.Members.{way_in, relation_in};
+ghost use Rattle.pbf_block.specs.declared.way.TheConstants.{WAY_KINDS};
+ghost use Rattle.pbf_block.specs.declared.relation.TheConstants.{RELATION_KINDS};
+ghost use Rattle.pbf_block.specs.declared.entity.TheConstants.{INFO};
+ghost use Rattle.pbf_block.specs.declared.info.TheConstants.{INFO_KINDS};
+ghost use Rattle.pbf_block.specs.PrimitiveBlock.{block_fault, all_faults};
+ghost use Rattle.pbf_block.specs.Way.{way_in, way_structure, way_values};
+ghost use Rattle.pbf_block.specs.Relation.{relation_in, relation_structure, relation_values};
 ghost use Rattle.pbf_block.specs.Payload.{by_index, entities};
-ghost use Rattle.pbf_block.specs.StructureFaults.{way_structure, relation_structure};
-ghost use Rattle.pbf_block.specs.ValueFaults.{way_values, relation_values};
 ghost use Rattle.pbf_block.specs.WrittenBlock.{is_block, block_message};
 ghost use Rattle.pbf_block.specs.WrittenEntity.{way_message, relation_message};
 

@@ -3,31 +3,24 @@
 
 mod block;
 mod block_write;
-mod column_values;
 mod counts;
 mod entities;
-mod entity_counts;
+mod entity;
 mod entity_fields;
 mod entity_out;
-mod entity_values;
 mod entity_write;
 mod group;
 mod info;
-mod info_values;
 mod kinds;
 pub mod laws;
-mod message;
 mod node;
+mod primitive_block;
 mod ranges;
 mod relation;
 mod runs;
 mod scale;
-mod structure;
 mod unjudged;
-mod values;
 mod way;
-mod weights;
-mod wire;
 
 pub use block::Block;
 pub use block_write::{MOST_ENTITIES, put_block, put_dense};

@@ -1,17 +1,59 @@
-//! Nodes that have a message of their own.
+//! A Node: its fields, its rules phase by phase, and how it is read. Its rule of wire form is [`NODE_KINDS`].
 
 ghost use Rattle.std.specs.Prelude.{◌≡◌, ◌+◌, ◌≤◌, ◌^◌, length};
 ghost use Rattle.pbf_wire.specs.Faults.{fields_in};
+ghost use Rattle.pbf_wire.specs.Least.{least};
 ghost use Rattle.osm_entity.specs.Views.{node_of};
-ghost use Rattle.pbf_block.specs.Members.{node_in};
+ghost use Rattle.pbf_block.specs.Node.{node_structure, node_values, node_in};
 
+use crate::entity::{ID, INFO, KEYS, NO_FIELD, VALS, entity_counts, entity_values};
 use crate::entity_fields::{entity_fields, last_signed};
-use crate::message::{NO_FIELD, NODE_LAT, NODE_LON};
+use crate::ranges::{judge_signed, last_value};
 use osm_entity::{NodeRef, Scale};
 use pbf_strings::Table;
+use pbf_wire::{Fault, Kind, judge_missing, lesser};
+
+// The fields of a Node beside those that all entities have.
+pub(crate) const NODE_LAT: u64 = 8;
+
+pub(crate) const NODE_LON: u64 = 9;
+
+/// How the fields of a Node are stored.
+pub(crate) const NODE_KINDS: [(u64, Kind); 6] = [
+    (ID, Kind::Number),
+    (KEYS, Kind::Column),
+    (VALS, Kind::Column),
+    (INFO, Kind::Bytes),
+    (NODE_LAT, Kind::Number),
+    (NODE_LON, Kind::Number),
+];
+
+/// The least fault of structure: what all entities have, and a place.
+#[tactic(auto, using(crate::proofs::Parts::lesser_parts))]
+pub(crate) fn judge_structure(message: &[u8], at: u64, place: u64) -> Option<Fault>
+    requires { at + length message.now ≤ 2 ^ 63 }
+    ensures { result ≡ least (node_structure place at message.now) }
+{
+    let (counts, ..) = entity_counts::<NODE_LAT, NODE_LON, NO_FIELD>(message, at);
+    let alike = counts.judge(message, at, place);
+    let lat = lesser(alike, judge_missing(message, at, place, NODE_LAT));
+    lesser(lat, judge_missing(message, at, place, NODE_LON))
+}
+
+/// The least fault of values, where the table has `limit` texts.
+#[tactic(auto, using(crate::proofs::Parts::lesser_parts))]
+pub(crate) fn judge_values(message: &[u8], at: u64, limit: u64) -> Option<Fault>
+    requires { at + length message.now ≤ 2 ^ 63 }
+    ensures { result ≡ least (node_values limit 0 at message.now) }
+{
+    let (values, lat, lon, _) = entity_values::<NODE_LAT, NODE_LON, NO_FIELD>(message, at, limit);
+    let alike = lesser(judge_signed(values.id), values.judge());
+    let lat = lesser(alike, judge_signed(last_value(lat, NODE_LAT)));
+    lesser(lat, judge_signed(last_value(lon, NODE_LON)))
+}
 
 /// The node of a message whose first byte stands at `at` in the file. Reads the message's fields once and takes no memory.
-#[tactic(auto, unfolding(crate::specs::Members::node_in))]
+#[tactic(auto, unfolding(crate::specs::Node::node_in))]
 pub(crate) fn node_in<'a>(
     message: &'a [u8],
     at: u64,

@@ -1,18 +1,77 @@
-//! Relations.
+//! A Relation: its fields, its rules phase by phase, and how it is read. Its rule of wire form is [`RELATION_KINDS`].
 
-ghost use Rattle.std.specs.Prelude.{◌≡◌, ◌+◌, ◌≤◌, ◌^◌, length};
+ghost use Rattle.std.specs.Prelude.{◌≡◌, ◌+◌, ◌≤◌, ◌^◌, List, length};
 ghost use Rattle.pbf_wire.specs.Faults.{fields_in};
+ghost use Rattle.pbf_wire.specs.Least.{least};
+ghost use Rattle.pbf_wire.specs.Occurrence.{Occurrence};
 ghost use Rattle.osm_entity.specs.Views.{relation_of};
-ghost use Rattle.pbf_block.specs.Members.{relation_in};
+ghost use Rattle.pbf_block.specs.Entity.{AreOwnCounts};
 ghost use Rattle.pbf_block.specs.Payload.{along};
+ghost use Rattle.pbf_block.specs.Relation.{are_members, relation_structure, relation_values, relation_in};
 
+use crate::entity::{ID, INFO, KEYS, VALS, entity_counts, entity_values};
 use crate::entity_fields::{column, entity_fields, values};
-use crate::message::{MEMIDS, ROLES_SID, TYPES};
+use crate::ranges::{judge_sums, judge_wide};
 use osm_entity::{ColumnMembers, Members, RelationRef, Scale};
 use pbf_strings::Table;
+use pbf_wire::{Fault, Kind, Reason, fault_where, judge_indexes, judge_low_numbers, lesser};
+
+// The fields of a Relation beside those that all entities have: the columns of its members.
+pub(crate) const ROLES_SID: u64 = 8;
+
+pub(crate) const MEMIDS: u64 = 9;
+
+pub(crate) const TYPES: u64 = 10;
+
+/// How the fields of a Relation are stored.
+pub(crate) const RELATION_KINDS: [(u64, Kind); 7] = [
+    (ID, Kind::Number),
+    (KEYS, Kind::Column),
+    (VALS, Kind::Column),
+    (INFO, Kind::Bytes),
+    (ROLES_SID, Kind::Column),
+    (MEMIDS, Kind::Column),
+    (TYPES, Kind::Column),
+];
+
+/// Whether the columns of a relation's members are of one count.
+fn are_members(roles: usize, ids: usize, kinds: usize) -> bool
+    ensures { (os : List Occurrence)
+        → AreOwnCounts (ROLES_SID, MEMIDS, TYPES) (roles, ids, kinds) os → result ≡ are_members os }
+{
+    roles == ids && kinds == ids
+}
+
+/// The least fault of structure: what all entities have, and the columns of members.
+#[tactic(auto, using(crate::proofs::Parts::lesser_parts))]
+pub(crate) fn judge_structure(message: &[u8], at: u64, place: u64) -> Option<Fault>
+    requires { at + length message.now ≤ 2 ^ 63 }
+    ensures { result ≡ least (relation_structure place at message.now) }
+{
+    let (counts, roles, ids, kinds) = entity_counts::<ROLES_SID, MEMIDS, TYPES>(message, at);
+    let members = are_members(roles, ids, kinds);
+    lesser(
+        counts.judge(message, at, place),
+        fault_where(!members, place, Reason::MemberColumns),
+    )
+}
+
+/// The least fault of values, where the table has `limit` texts.
+#[tactic(auto, using(crate::proofs::Parts::lesser_parts))]
+pub(crate) fn judge_values(message: &[u8], at: u64, limit: u64) -> Option<Fault>
+    requires { at + length message.now ≤ 2 ^ 63 }
+    ensures { result ≡ least (relation_values limit 0 at message.now) }
+{
+    let (values, _, ids, _) = entity_values::<ROLES_SID, MEMIDS, TYPES>(message, at, limit);
+    let alike = lesser(judge_wide(values.id), values.judge());
+    let roles = lesser(alike, judge_indexes(message, at, ROLES_SID, limit));
+    let ids = lesser(roles, judge_sums(ids, MEMIDS));
+    let kinds = judge_low_numbers(message, at, TYPES, 3, Reason::MemberKind);
+    lesser(ids, kinds)
+}
 
 /// The relation of a message whose first byte stands at `at` in the file. Reads the message's fields once and takes no memory.
-#[tactic(auto, unfolding(crate::specs::Members::relation_in))]
+#[tactic(auto, unfolding(crate::specs::Relation::relation_in))]
 pub(crate) fn relation_in<'a>(
     message: &'a [u8],
     at: u64,

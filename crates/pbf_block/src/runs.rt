@@ -1,15 +1,17 @@
 //! The entities of a PrimitiveBlock, those of a dense message together.
 
-ghost use Rattle.std.specs.Prelude.{◌≡◌};
+ghost use Rattle.std.specs.Prelude.{◌≡◌, ◌∷◌, [], MatchOption};
+ghost use Rattle.pbf_wire.specs.Cursors.{fields_left};
 ghost use Rattle.pbf_wire.specs.Fields.{occurrence};
+ghost use Rattle.pbf_wire.specs.Occurrence.{found};
 ghost use Rattle.pbf_block.specs.Kinds.{member_entities_among};
 ghost use Rattle.pbf_block.specs.Payload.{along};
 ghost use Rattle.pbf_block.specs.Runs.{run_entities};
 
-use crate::group::next_field;
+use crate::group::{DENSE, NODES, RELATIONS, WAYS};
 use crate::kinds::Kinds;
-use crate::message::{DENSE, NODES, PRIMITIVEGROUP, RELATIONS, WAYS};
 use crate::node::node_in;
+use crate::primitive_block::PRIMITIVEGROUP;
 use crate::relation::relation_in;
 use crate::way::way_in;
 use osm_entity::{EntityRef, Scale};
@@ -30,7 +32,12 @@ pub enum Run<'a> {
 
 /// What a field of a group holds, if it is of these kinds.
 #[inline(always)]
-fn run_in<'a>(field: Field<'a>, table: &'a Table<'a>, scale: Scale, kinds: Kinds) -> Run<'a>
+pub(crate) fn run_in<'a>(
+    field: Field<'a>,
+    table: &'a Table<'a>,
+    scale: Scale,
+    kinds: Kinds,
+) -> Run<'a>
     ensures { run_entities result
         ≡ member_entities_among kinds along table.now scale (occurrence field.entry) }
 {
@@ -46,6 +53,23 @@ fn run_in<'a>(field: Field<'a>, table: &'a Table<'a>, scale: Scale, kinds: Kinds
         WAYS => Run::One(EntityRef::Way(way_in(message, at, table, scale))),
         RELATIONS => Run::One(EntityRef::Relation(relation_in(message, at, table, scale))),
         _ => Run::Nothing,
+    }
+}
+
+/// The next field. After a fault there are no more.
+#[tactic(auto, unfolding(crate::proofs::Parts::items_past))]
+fn next_field<'a>(fields: &mut Fields<'a>) -> Option<Field<'a>>
+    ensures { MatchOption result
+        ((found (fields_left fields.old) ≡ []) × (found (fields_left fields.new) ≡ []))
+        (λ field. found (fields_left fields.old)
+        ≡ occurrence field ∷ found (fields_left fields.new)) }
+{
+    match fields.next() {
+        Some(Ok(field)) => Some(field),
+        _ => {
+            *fields = Fields::new(&[], 0);
+            None
+        }
     }
 }
 

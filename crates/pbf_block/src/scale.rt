@@ -4,7 +4,7 @@ ghost use Rattle.std.specs.Prelude.{◌≡◌, ◌+◌, ◌≤◌, ◌^◌, leng
 ghost use Rattle.pbf_wire.specs.Faults.{fields_in};
 ghost use Rattle.pbf_block.specs.Scale.{scale_of};
 
-use crate::message::{DATE_GRANULARITY, GRANULARITY, LAT_OFFSET, LON_OFFSET};
+use crate::primitive_block::{DATE_GRANULARITY, GRANULARITY, LAT_OFFSET, LON_OFFSET};
 use osm_entity::Scale;
 use pbf_wire::{last_number, low_i32, low_i64};
 

@@ -4,8 +4,7 @@ ghost use Rattle.std.specs.Prelude.{◌≡◌, ◌+◌, ◌*◌, ◌≤◌, ◌<
 ghost use Rattle.std.specs.List.{AllByRecursion};
 ghost use Rattle.pbf_wire.specs.Faults.{fields_in};
 ghost use Rattle.osm_entity.specs.Ranges.{EntityFits};
-ghost use Rattle.pbf_block.specs.Cursors.{entities_left};
-ghost use Rattle.pbf_block.specs.Judgement.{block_fault};
+ghost use Rattle.pbf_block.specs.PrimitiveBlock.{block_fault};
 ghost use Rattle.pbf_block.specs.Kinds.{is_among};
 ghost use Rattle.pbf_block.specs.Numbers.{counts_of};
 ghost use Rattle.pbf_block.specs.Payload.{entities};
@@ -14,9 +13,8 @@ ghost use Rattle.pbf_block.specs.Scale.{scale_of, table_of};
 
 use crate::block::bytes_in;
 use crate::counts::{Counts, count_entities};
-use crate::entities::Entities;
 use crate::kinds::Kinds;
-use crate::message::STRINGTABLE;
+use crate::primitive_block::STRINGTABLE;
 use crate::runs::Runs;
 use crate::scale::scale_in;
 use osm_entity::Scale;
@@ -83,19 +81,8 @@ impl<'a> UnjudgedBlock<'a> {
         Ok(Some(UnjudgedBlock::new(payload, at, table, scale)))
     }
 
-    /// The entities of these kinds, in order, if the block has no fault; otherwise some entities, which may not be writable. Messages
-    /// of other kinds aren't looked into. Takes no memory.
-    pub fn entities_among(&self, kinds: Kinds) -> Entities<'_>
-        ensures exact { block_fault self.now.at self.now.payload.now ≡ None → entities_left result
-            ≡ filter (is_among kinds) (entities self.now.at self.now.payload.now) }
-        ensures fits { block_fault self.now.at self.now.payload.now ≡ None
-            → AllByRecursion EntityFits (entities_left result) }
-    {
-        Entities::over(self.payload, self.at, &self.table, self.scale, kinds)
-    }
-
-    /// The entities of these kinds, in order, those of a dense message together, if the block has no fault; otherwise some entities.
-    /// Messages of other kinds aren't looked into. Takes no memory.
+    /// The entities of these kinds, in order, those of a dense message together, if the block has no fault; otherwise some entities,
+    /// which may not be writable. Messages of other kinds aren't looked into. Takes no memory.
     pub fn runs_among(&self, kinds: Kinds) -> Runs<'_>
         ensures exact { block_fault self.now.at self.now.payload.now ≡ None
             → joined_runs (runs_left result)

@@ -1,18 +1,76 @@
-//! Ways.
+//! A Way: its fields, its rules phase by phase, and how it is read. Its rule of wire form is [`WAY_KINDS`].
 
-ghost use Rattle.std.specs.Prelude.{◌≡◌, ◌+◌, ◌≤◌, ◌^◌, length};
+ghost use Rattle.std.specs.Prelude.{◌≡◌, ◌+◌, ◌≤◌, ◌^◌, List, length};
 ghost use Rattle.pbf_wire.specs.Faults.{fields_in};
+ghost use Rattle.pbf_wire.specs.Least.{least};
+ghost use Rattle.pbf_wire.specs.Occurrence.{Occurrence};
 ghost use Rattle.osm_entity.specs.Views.{way_of};
-ghost use Rattle.pbf_block.specs.Members.{way_in};
+ghost use Rattle.pbf_block.specs.Entity.{AreOwnCounts};
 ghost use Rattle.pbf_block.specs.Payload.{along};
+ghost use Rattle.pbf_block.specs.Way.{are_located, way_structure, way_values, way_in};
 
+use crate::entity::{ID, INFO, KEYS, VALS, entity_counts, entity_values};
 use crate::entity_fields::{entity_fields, values};
-use crate::message::{REFS, WAY_LAT, WAY_LON};
+use crate::ranges::{judge_sums, judge_wide};
 use osm_entity::{Locations, Refs, Scale, SummedLocations, WayRef};
 use pbf_strings::Table;
+use pbf_wire::{Fault, Kind, Reason, fault_where, lesser};
+
+// The fields of a Way beside those that all entities have: its refs, and their locations.
+pub(crate) const REFS: u64 = 8;
+
+pub(crate) const WAY_LAT: u64 = 9;
+
+pub(crate) const WAY_LON: u64 = 10;
+
+/// How the fields of a Way are stored.
+pub(crate) const WAY_KINDS: [(u64, Kind); 7] = [
+    (ID, Kind::Number),
+    (KEYS, Kind::Column),
+    (VALS, Kind::Column),
+    (INFO, Kind::Bytes),
+    (REFS, Kind::Column),
+    (WAY_LAT, Kind::Column),
+    (WAY_LON, Kind::Column),
+];
+
+/// Whether a way has no locations, or as many as refs.
+fn are_located(refs: usize, lats: usize, lons: usize) -> bool
+    ensures { (os : List Occurrence)
+        → AreOwnCounts (REFS, WAY_LAT, WAY_LON) (refs, lats, lons) os → result ≡ are_located os }
+{
+    lats == lons && (lats == 0 || lats == refs)
+}
+
+/// The least fault of structure: what all entities have, and locations.
+#[tactic(auto, using(crate::proofs::Parts::lesser_parts))]
+pub(crate) fn judge_structure(message: &[u8], at: u64, place: u64) -> Option<Fault>
+    requires { at + length message.now ≤ 2 ^ 63 }
+    ensures { result ≡ least (way_structure place at message.now) }
+{
+    let (counts, refs, lats, lons) = entity_counts::<REFS, WAY_LAT, WAY_LON>(message, at);
+    let located = are_located(refs, lats, lons);
+    lesser(
+        counts.judge(message, at, place),
+        fault_where(!located, place, Reason::LocationColumns),
+    )
+}
+
+/// The least fault of values, where the table has `limit` texts.
+#[tactic(auto, using(crate::proofs::Parts::lesser_parts))]
+pub(crate) fn judge_values(message: &[u8], at: u64, limit: u64) -> Option<Fault>
+    requires { at + length message.now ≤ 2 ^ 63 }
+    ensures { result ≡ least (way_values limit 0 at message.now) }
+{
+    let (values, refs, lats, lons) = entity_values::<REFS, WAY_LAT, WAY_LON>(message, at, limit);
+    let alike = lesser(judge_wide(values.id), values.judge());
+    let refs = lesser(alike, judge_sums(refs, REFS));
+    let lats = lesser(refs, judge_sums(lats, WAY_LAT));
+    lesser(lats, judge_sums(lons, WAY_LON))
+}
 
 /// The way of a message whose first byte stands at `at` in the file. Reads the message's fields once and takes no memory.
-#[tactic(auto, unfolding(crate::specs::Members::way_in))]
+#[tactic(auto, unfolding(crate::specs::Way::way_in))]
 pub(crate) fn way_in<'a>(
     message: &'a [u8],
     at: u64,

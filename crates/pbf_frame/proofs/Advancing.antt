@@ -6,7 +6,7 @@ use Rattle.pbf_frame.specs.declared.frame.FrameKind.{FrameKind}
 use Rattle.pbf_frame.specs.declared.reader.FrameReader.{FrameReader}
 use Rattle.pbf_frame.specs.declared.reader.State.{State}
 use Rattle.pbf_frame.specs.declared.reader.State.TheVariants.{Reading, Ended, Stopped}
-use Rattle.pbf_frame.specs.declared.reading.Seen.{Seen}
+use Rattle.pbf_frame.specs.declared.frame_parts.Seen.{Seen}
 use Rattle.pbf_frame.specs.declared.stop.Stop.{Stop}
 use Rattle.pbf_frame.specs.declared.stop.Stop.TheVariants.{Refused, Read, Write, Memory, Changed}
 use Rattle.pbf_frame.specs.Frames.{FrameSpec, is_header, frame_kind, frame_end, blob_at, next_of}

@@ -4,7 +4,7 @@ use Rattle.std.specs.Prelude.{unwrap_or}
 use Rattle.pbf_wire.specs.declared.fault.Fault.{Fault}
 use Rattle.pbf_frame.specs.declared.frame.FrameKind.{FrameKind}
 use Rattle.pbf_frame.specs.declared.header.Head.{Head}
-use Rattle.pbf_frame.specs.declared.reading.Seen.{Seen}
+use Rattle.pbf_frame.specs.declared.frame_parts.Seen.{Seen}
 use Rattle.pbf_frame.specs.Devices.{IsAtEnd, Passes}
 use Rattle.pbf_wire.specs.Least.{least}
 use Rattle.pbf_wire.specs.Occurrence.{items, found}

@@ -2,7 +2,7 @@
 use Rattle.std.specs.Prelude.{◌≡◌, ℕ, ◌+◌, ◌<◌, ◌≤◌, List, [], Bool, ◌||◌, true, Option, Some, None, Result, Ok, Err, length}
 use Rattle.std.specs.Borrow.{GName}
 use Rattle.pbf_frame.specs.declared.frame.Frame.{Frame}
-use Rattle.pbf_frame.specs.declared.reading.Seen.{Seen}
+use Rattle.pbf_frame.specs.declared.frame_parts.Seen.{Seen}
 use Rattle.pbf_frame.specs.declared.reader.FrameReader.{FrameReader}
 use Rattle.pbf_frame.specs.declared.reader.State.TheVariants.{Reading, Ended, Stopped}
 use Rattle.pbf_frame.specs.declared.stop.Stop.{Stop}

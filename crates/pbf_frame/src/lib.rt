@@ -4,12 +4,12 @@
 mod blob;
 mod device;
 mod frame;
+mod frame_parts;
 mod header;
 pub mod laws;
 mod memory;
 mod put;
 mod reader;
-mod reading;
 mod std_device;
 mod stop;
 mod transfer;

@@ -6,8 +6,8 @@ ghost use Rattle.pbf_frame.specs.declared.header.TheConstants.{HEADER_LIMIT, LAR
 use crate::blob::payload_in;
 use crate::device::Feed;
 use crate::frame::{Frame, FrameKind};
+use crate::frame_parts::{Seen, read_frame};
 use crate::header::{TYPE, occurrence_text};
-use crate::reading::{Seen, read_frame};
 use crate::stop::Stop;
 use pbf_wire::last_field;
 use std::alloc::Global;

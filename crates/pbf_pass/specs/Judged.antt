@@ -5,7 +5,7 @@ use Rattle.pbf_wire.specs.declared.fault.Fault.{Fault}
 use Rattle.pbf_frame.specs.Frames.{FrameSpec}
 use Rattle.pbf_frame.specs.Verdict.{Verdict, with_first, judged_known}
 use Rattle.pbf_header.specs.HeaderFaults.{header_fault}
-use Rattle.pbf_block.specs.Judgement.{block_fault}
+use Rattle.pbf_block.specs.PrimitiveBlock.{block_fault}
 use Rattle.pbf_pass.specs.Payload.{Payload, header_block, primitive_block, unknown, payload_of}
 
 -- the first fault of a payload

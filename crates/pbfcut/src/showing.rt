@@ -3,7 +3,7 @@
 ghost use Rattle.std.specs.Prelude.{◌≡◌, ◌+◌, ◌<◌, ◌≤◌, ◌^◌, ◌⊎◌, None, Some, IfOk, IfErr, OnOk, OnErr, length};
 ghost use Rattle.std.specs.List.{flat_map};
 ghost use Rattle.osm_entity.specs.Views.{entity_of};
-ghost use Rattle.pbf_block.specs.Cursors.{entities_left};
+ghost use Rattle.pbf_block.specs.Runs.{entities_left};
 ghost use Rattle.pbf_header.specs.Header.{header_in};
 ghost use Rattle.pbf_header.specs.HeaderFaults.{header_fault};
 ghost use Rattle.osm_text.specs.EntityText.{entity_line};

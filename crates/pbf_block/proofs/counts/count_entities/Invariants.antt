@@ -4,8 +4,7 @@ use Rattle.pbf_wire.specs.Cursors.{fields_left}
 use Rattle.pbf_wire.specs.Faults.{fields_in}
 use Rattle.pbf_wire.specs.Occurrence.{found}
 use Rattle.osm_entity.specs.declared.scale.Scale.{Scale}
-use Rattle.pbf_block.specs.Groups.{in_group}
-use Rattle.pbf_block.specs.Members.{member_entities}
+use Rattle.pbf_block.specs.Group.{in_group, member_entities}
 use Rattle.pbf_block.specs.Numbers.{counted_with, counts_of, by_ends}
 use Rattle.pbf_block.proofs.counts.count_entities.Given as goal
 

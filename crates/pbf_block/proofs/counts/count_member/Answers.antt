@@ -7,7 +7,7 @@ use Rattle.pbf_wire.specs.Faults.{fields_in}
 use Rattle.pbf_dense.specs.Judged.{id_count}
 use Rattle.pbf_dense.specs.Nodes.{node_at}
 use Rattle.pbf_block.specs.declared.counts.Counts.{Counts}
-use Rattle.pbf_block.specs.Members.{member_entities}
+use Rattle.pbf_block.specs.Group.{member_entities}
 use Rattle.pbf_block.specs.Numbers.{counts_of, by_ends}
 use Rattle.pbf_block.proofs.NumberLemmas.{nodes_counted}
 use Rattle.pbf_block.proofs.counts.count_member.Goals as goal

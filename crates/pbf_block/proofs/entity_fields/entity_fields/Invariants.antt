@@ -8,7 +8,7 @@ use Rattle.pbf_wire.specs.Occurrence.{found}
 use Rattle.pbf_wire.specs.Reading.{last_of, last_number}
 use Rattle.pbf_wire.proofs.MessageLemmas.{numbers}
 use Rattle.pbf_block.specs.Passes.{only, only_from}
-use Rattle.pbf_block.specs.declared.message.TheConstants.{ID, KEYS, VALS, INFO}
+use Rattle.pbf_block.specs.declared.entity.TheConstants.{ID, KEYS, VALS, INFO}
 use Rattle.pbf_block.proofs.entity_fields.entity_fields.Given as goal
 
 abbrev pub invariant-fields : goal.invariant-fields

@@ -1,7 +1,7 @@
 use Rattle.std.proofs.Common.{◌≡◌, ◌++◌, ◌≤◌, List}
 use Rattle.std.specs.List.{flat_map}
 use Rattle.osm_entity.specs.Entity.{EntitySpec}
-use Rattle.pbf_block.specs.Cursors.{entities_left}
+use Rattle.pbf_block.specs.Runs.{entities_left}
 use Rattle.pbf_frame.specs.Transfers.{Added}
 use Rattle.osm_text.specs.EntityText.{entity_line}
 use Rattle.pbfcut.proofs.showing.write_entities.Given as goal

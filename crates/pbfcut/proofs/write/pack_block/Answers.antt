@@ -1,7 +1,7 @@
 use Rattle.std.proofs.Common.{◌≡◌, ℕ, List, ap₂, refl, ◌∙◌}
 use Rattle.std.specs.List.{filter}
 use Rattle.std.proofs.lemmas.Result.{err_from_is_err_and}
-use Rattle.pbf_block.specs.Judgement.{block_fault}
+use Rattle.pbf_block.specs.PrimitiveBlock.{block_fault}
 use Rattle.pbf_block.specs.Runs.{joined_runs, runs_left}
 use Rattle.pbf_pass.specs.Payload.{primitive_block}
 use Rattle.pbfcut.specs.Pick.{pick_of}

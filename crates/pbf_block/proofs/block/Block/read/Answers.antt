@@ -1,8 +1,7 @@
 use Rattle.std.proofs.Common.{◌≡◌, ap, sym, ◌∙◌}
 use Rattle.std.specs.Prelude.{Some, None, Err}
 use Rattle.std.proofs.lemmas.Result.{err_from_is_err_and}
-use Rattle.pbf_block.specs.WireFaults.{wire_faults}
-use Rattle.pbf_block.specs.StructureFaults.{structure_faults}
+use Rattle.pbf_block.specs.PrimitiveBlock.{wire_faults, structure_faults}
 use Rattle.pbf_block.proofs.PhaseLemmas.{early_nil, first_early, first_late}
 use Rattle.pbf_block.proofs.block.Block.read.Goals as goal
 

@@ -1,11 +1,9 @@
 use Rattle.std.proofs.Common.{◌≡◌, length}
-use Rattle.pbf_wire.specs.Cursors.{fields_left}
-use Rattle.pbf_wire.specs.Occurrence.{found}
-use Rattle.pbf_block.specs.Cursors.{entities_left}
+use Rattle.pbf_block.specs.Runs.{entities_left, runs_left}
 use Rattle.pbf_block.proofs.entities.EntitiesIterator.next.Given as goal
 
-abbrev pub invariant-groups : goal.invariant-groups
-invariant-groups l = entities_left l.self ≡ entities_left l.fn.self
+abbrev pub invariant-runs : goal.invariant-runs
+invariant-runs l = entities_left l.self ≡ entities_left l.fn.self
 
-abbrev pub decreases-groups : goal.decreases-groups
-decreases-groups l = length (found (fields_left l.self.groups))
+abbrev pub decreases-runs : goal.decreases-runs
+decreases-runs l = length (runs_left l.self.runs)

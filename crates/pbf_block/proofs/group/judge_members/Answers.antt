@@ -1,0 +1,36 @@
+use Rattle.std.proofs.Common.{List, ap, sym, ◌∙◌}
+use Rattle.std.specs.List.{flat_map}
+use Rattle.std.proofs.lemmas.List.{append-nil}
+use Rattle.std.proofs.lemmas.List.Folds.{flat_map-map}
+use Rattle.pbf_wire.specs.declared.fault.Fault.{Fault}
+use Rattle.pbf_wire.specs.Fields.{occurrence}
+use Rattle.pbf_wire.specs.Least.{least}
+use Rattle.osm_entity.specs.Entity.{EntitySpec, node}
+use Rattle.osm_entity.specs.Views.{entity_of}
+use Rattle.pbf_dense.specs.Cursors.{dense_left}
+use Rattle.pbf_dense.specs.Judged.{dense_weights}
+use Rattle.pbf_block.specs.Group.{weight_fault}
+use Rattle.pbf_block.specs.Payload.{along}
+use Rattle.pbf_block.specs.Runs.{run_entities}
+use Rattle.pbf_block.proofs.KindLemmas.{member_of_all}
+use Rattle.pbf_block.proofs.group.judge_members.Goals as goal
+
+pub returns-in-Nothing : goal.returns-in-Nothing
+returns-in-Nothing c =
+    let o = occurrence c.args.field in
+    let held = ap run_entities (sym c.in-Nothing.is) ∙ c.run_in.ensures ∙ member_of_all c.all.result along c.args.table.now c.args.scale c.all.ensures o in
+    ap (λ (es : List EntitySpec). least (flat_map (weight_fault o.place) es)) held
+
+pub returns-in-One : goal.returns-in-One
+returns-in-One c =
+    let o = occurrence c.args.field in
+    let held = ap run_entities (sym c.in-One.is) ∙ c.run_in.ensures ∙ member_of_all c.all.result along c.args.table.now c.args.scale c.all.ensures o in
+    c.judge_weight.ensures ∙ ap (λ (faults : List Fault). least faults) (sym (append-nil (weight_fault o.place (entity_of c.in-One.entity)))) ∙ ap (λ (es : List EntitySpec). least (flat_map (weight_fault o.place) es)) held
+
+pub returns-in-Dense : goal.returns-in-Dense
+unfolding dense_weights
+returns-in-Dense c =
+    let o = occurrence c.args.field in
+    let held = ap run_entities (sym c.in-Dense.is) ∙ c.run_in.ensures ∙ member_of_all c.all.result along c.args.table.now c.args.scale c.all.ensures o in
+    c.judge_nodes.ensures ∙ ap (λ (faults : List Fault). least faults) (sym (flat_map-map (weight_fault o.place) node (dense_left c.in-Dense.dense)))
+    ∙ ap (λ (es : List EntitySpec). least (flat_map (weight_fault o.place) es)) held

@@ -1,0 +1,61 @@
+-- A PrimitiveBlock: its faults phase by phase, and the first of them.
+use Rattle.std.specs.Prelude.{ℕ, nat_lt, List, [], ◌∷◌, ◌++◌, length, Option}
+use Rattle.std.specs.List.{flat_map}
+use Rattle.pbf_wire.specs.declared.fault.Fault.{Fault}
+use Rattle.pbf_wire.specs.declared.fault.Reason.TheVariants.{TooManyStrings, Granularity, DateGranularity}
+use Rattle.pbf_wire.specs.Occurrence.{Occurrence, items}
+use Rattle.pbf_wire.specs.Faults.{fault_where, entered, fields_in, in_last, leaf_faults, message_faults, missing, twice}
+use Rattle.pbf_wire.specs.Phases.{first_fault, in_phases}
+use Rattle.pbf_strings.specs.Texts.{texts, table_kinds}
+use Rattle.pbf_block.specs.declared.primitive_block.TheConstants.{STRINGTABLE, PRIMITIVEGROUP, GRANULARITY, DATE_GRANULARITY, BLOCK_KINDS}
+use Rattle.pbf_block.specs.Group.{group_wire, group_structure, in_group, member_values, member_weights}
+use Rattle.pbf_block.specs.Payload.{by_index}
+use Rattle.pbf_block.specs.Ranges.{positive}
+use Rattle.pbf_block.specs.Scale.{scale_of, table_of}
+
+-- ---- wire form
+
+abbrev pub part_wire : Occurrence → List Fault
+part_wire o = entered STRINGTABLE (leaf_faults table_kinds) o ++ entered PRIMITIVEGROUP group_wire o
+
+-- of a payload that begins at this place, and of all messages in it
+unfoldable pub wire_faults : ℕ → List ℕ → List Fault
+wire_faults at m = message_faults BLOCK_KINDS part_wire (items at m)
+
+-- ---- structure: messages that lack or repeat something, or whose columns don't fit together
+
+-- a table has too many texts
+abbrev pub table_structure : ℕ → ℕ → List ℕ → List Fault
+table_structure place at m = fault_where (nat_lt 1048576 (length (texts m))) place TooManyStrings
+
+abbrev pub part_structure : Occurrence → List Fault
+part_structure o = entered STRINGTABLE table_structure o ++ entered PRIMITIVEGROUP group_structure o
+
+unfoldable pub structure_faults : ℕ → List ℕ → List Fault
+structure_faults at m = let os = fields_in at m in missing STRINGTABLE at os ++ twice STRINGTABLE os ++ flat_map part_structure os
+
+-- ---- values: numbers out of range, each at the field that holds it, where the table has as many texts as the limit
+
+unfoldable pub value_faults : ℕ → ℕ → List ℕ → List Fault
+value_faults limit at m =
+    let os = fields_in at m in
+    in_last GRANULARITY (positive Granularity) os ++ in_last DATE_GRANULARITY (positive DateGranularity) os ++ flat_map (in_group (member_values limit)) os
+
+-- ---- weights: entities that are too heavy to be written
+
+unfoldable pub payload_weights : ℕ → List ℕ → List Fault
+payload_weights at m = let os = fields_in at m in flat_map (in_group (member_weights by_index (table_of os) (scale_of os))) os
+
+-- ---- all phases
+
+-- phase by phase, where texts are those of the last table wherever it stands
+abbrev pub block_phases : ℕ → List ℕ → List (List Fault)
+block_phases at m = wire_faults at m ∷ structure_faults at m ∷ value_faults (length (table_of (fields_in at m))) at m ∷ payload_weights at m ∷ []
+
+-- the first of them: the least of the first phase that has one
+unfoldable pub block_fault : ℕ → List ℕ → Option Fault
+block_fault at m = first_fault (block_phases at m)
+
+-- all of them, each with its phase; a frame has seven before them
+abbrev pub all_faults : ℕ → List ℕ → List (ℕ × Fault)
+all_faults at m = in_phases 8 (block_phases at m)

@@ -1,0 +1,141 @@
+//! A PrimitiveBlock: its fields, and its rules phase by phase.
+
+ghost use Rattle.std.specs.Prelude.{◌≡◌, ◌+◌, ◌≤◌, ◌^◌, length};
+ghost use Rattle.std.specs.List.{flat_map};
+ghost use Rattle.pbf_wire.specs.Faults.{fields_in};
+ghost use Rattle.pbf_wire.specs.Least.{least};
+ghost use Rattle.pbf_block.specs.Group.{member_weights, in_group};
+ghost use Rattle.pbf_block.specs.Payload.{along};
+ghost use Rattle.pbf_block.specs.PrimitiveBlock.{part_wire, wire_faults, part_structure, structure_faults, value_faults};
+
+use crate::group::{self, GROUP_KINDS, MemberForm, MemberValues, MemberWeights};
+use crate::ranges::{judge_positive, last_value_left};
+use osm_entity::Scale;
+use pbf_strings::{TABLE_KINDS, Table};
+use pbf_wire::{
+    EachField, Fault, Field, Fields, InField, Judge, Kind, Payload, Reason, judge_fields,
+    judge_form, judge_leaf, judge_missing, judge_twice, lesser,
+};
+
+pub(crate) const STRINGTABLE: u64 = 1;
+
+pub(crate) const PRIMITIVEGROUP: u64 = 2;
+
+pub(crate) const GRANULARITY: u64 = 17;
+
+pub(crate) const DATE_GRANULARITY: u64 = 18;
+
+pub(crate) const LAT_OFFSET: u64 = 19;
+
+pub(crate) const LON_OFFSET: u64 = 20;
+
+/// How the fields of a PrimitiveBlock are stored.
+pub(crate) const BLOCK_KINDS: [(u64, Kind); 6] = [
+    (STRINGTABLE, Kind::Bytes),
+    (PRIMITIVEGROUP, Kind::Bytes),
+    (GRANULARITY, Kind::Number),
+    (DATE_GRANULARITY, Kind::Number),
+    (LAT_OFFSET, Kind::Number),
+    (LON_OFFSET, Kind::Number),
+];
+
+/// The wire form of the table or the group that a field of a block holds.
+#[derive(Clone, Copy)]
+struct PartForm;
+
+impl Judge for PartForm {
+    ghost faults = { λ _. part_wire };
+
+    fn judge(&self, field: Field<'_>) -> Option<Fault> {
+        let Payload::Bytes(message, at) = field.payload else {
+            return None;
+        };
+        match field.number {
+            STRINGTABLE => judge_leaf(message, at, &TABLE_KINDS),
+            PRIMITIVEGROUP => judge_form(message, at, &GROUP_KINDS, &MemberForm),
+            _ => None,
+        }
+    }
+}
+
+/// The least wire fault of a block whose first byte stands at `at` in the file, and of the messages in it.
+#[tactic(auto, unfolding(crate::specs::PrimitiveBlock::wire_faults))]
+pub(crate) fn judge_wire(payload: &[u8], at: u64) -> Option<Fault>
+    requires { at + length payload.now ≤ 2 ^ 63 }
+    ensures { result ≡ least (wire_faults at payload.now) }
+{
+    judge_form(payload, at, &BLOCK_KINDS, &PartForm)
+}
+
+/// The structure of the table or the group that a field of a block holds.
+#[derive(Clone, Copy)]
+struct PartStructure;
+
+impl Judge for PartStructure {
+    ghost faults = { λ _. part_structure };
+
+    fn judge(&self, field: Field<'_>) -> Option<Fault> {
+        let Payload::Bytes(message, at) = field.payload else {
+            return None;
+        };
+        match field.number {
+            STRINGTABLE => Table::judge_count(message, field.offset).err(),
+            PRIMITIVEGROUP => group::judge_structure(message, at),
+            _ => None,
+        }
+    }
+}
+
+/// The least fault of structure of a block whose first byte stands at `at` in the file, and of the messages in it.
+#[tactic(auto, using(crate::proofs::Parts::lesser_parts), unfolding(crate::specs::PrimitiveBlock::structure_faults))]
+pub(crate) fn judge_structure(payload: &[u8], at: u64) -> Option<Fault>
+    requires { at + length payload.now ≤ 2 ^ 63 }
+    ensures { result ≡ least (structure_faults at payload.now) }
+{
+    let table = lesser(
+        judge_missing(payload, at, at, STRINGTABLE),
+        judge_twice(payload, at, STRINGTABLE),
+    );
+    lesser(table, judge_fields(payload, at, &PartStructure))
+}
+
+/// The least fault of values of a block whose first byte stands at `at` in the file, and of the messages in it; its table has
+/// `limit` texts.
+#[tactic(auto, using(crate::proofs::Parts::lesser_parts), unfolding(crate::specs::PrimitiveBlock::value_faults))]
+pub(crate) fn judge_values(payload: &[u8], at: u64, limit: u64) -> Option<Fault>
+    requires placed { at + length payload.now ≤ 2 ^ 63 }
+    requires limited { limit ≤ 2 ^ 62 }
+    ensures { result ≡ least (value_faults limit at payload.now) }
+{
+    let fields = Fields::new(payload, at);
+    let scale = lesser(
+        judge_positive(last_value_left(fields, GRANULARITY), Reason::Granularity),
+        judge_positive(
+            last_value_left(fields, DATE_GRANULARITY),
+            Reason::DateGranularity,
+        ),
+    );
+    let members = InField(PRIMITIVEGROUP, EachField(MemberValues { limit }));
+    lesser(scale, judge_fields(payload, at, &members))
+}
+
+/// The least weight fault of a payload whose first byte stands at `at` in the file: `EntityLarge` at the first field of a
+/// group with an entity above [`HIGHEST_WEIGHT`]. Goes through the texts, and through those entities that may be too heavy by the
+/// length of their message. Takes no memory.
+pub(crate) fn judge_weights<'a>(
+    payload: &'a [u8],
+    at: u64,
+    table: &'a Table<'a>,
+    scale: Scale,
+) -> Option<Fault>
+    requires { at + length payload.now ≤ 2 ^ 63 }
+    ensures { result ≡ least
+        (flat_map (in_group (member_weights along table.now scale)) (fields_in at payload.now)) }
+{
+    let members = MemberWeights {
+        table,
+        scale,
+        longest: table.longest() as u64,
+    };
+    judge_fields(payload, at, &InField(PRIMITIVEGROUP, EachField(members)))
+}
