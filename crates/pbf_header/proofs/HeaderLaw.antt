@@ -17,7 +17,7 @@ use Rattle.osm_entity.specs.Weight.{text_weight}
 use Rattle.osm_entity.specs.Ranges.{IsInt64, IfPresent}
 use Rattle.pbf_strings.specs.TableOut.{has_text}
 use Rattle.pbf_header.specs.declared.header.HeaderBox.{HeaderBox}
-use Rattle.pbf_header.specs.declared.header.TheConstants.{HEADER_KINDS, BBOX_KINDS, BBOX, REQUIRED_FEATURES, OPTIONAL_FEATURES, WRITINGPROGRAM, SOURCE, REPLICATION_TIMESTAMP, REPLICATION_SEQUENCE, REPLICATION_URL, LEFT, RIGHT, TOP, BOTTOM}
+use Rattle.pbf_header.specs.declared.header_block.TheConstants.{HEADER_KINDS, BBOX_KINDS, BBOX, REQUIRED_FEATURES, OPTIONAL_FEATURES, WRITINGPROGRAM, SOURCE, REPLICATION_TIMESTAMP, REPLICATION_SEQUENCE, REPLICATION_URL, LEFT, RIGHT, TOP, BOTTOM}
 use Rattle.pbf_header.specs.Header.{HeaderSpec, edge, box_in, last_text, header_in}
 use Rattle.pbf_header.specs.HeaderFaults.{edge_faults, header_structure, feature_faults, header_values, header_fault}
 use Rattle.pbf_header.specs.WrittenHeader.{known_features, header_out, header_out_for_convert, kept_features, EdgesTyped, BoxTyped, HeaderFits, box_slots, box_message, header_slots, header_message}

@@ -13,7 +13,7 @@ use Rattle.pbf_wire.proofs.Cutting.{is_cutting}
 use Rattle.osm_entity.specs.Ranges.{IsInt64, IfPresent}
 use Rattle.osm_box.specs.declared.bounding_box.BoundingBox.{BoundingBox}
 use Rattle.osm_entity.proofs.RangeLemmas.{int64_typed}
-use Rattle.pbf_header.specs.declared.header.TheConstants.{LEFT, RIGHT, TOP, BOTTOM, REPLICATION_TIMESTAMP, REPLICATION_SEQUENCE, BBOX}
+use Rattle.pbf_header.specs.declared.header_block.TheConstants.{LEFT, RIGHT, TOP, BOTTOM, REPLICATION_TIMESTAMP, REPLICATION_SEQUENCE, BBOX}
 use Rattle.pbf_header.specs.Header.{edge, box_in, last_text, header_in}
 use Rattle.pbf_header.specs.WrittenHeader.{edges_of, header_out_for_box, header_out_for_convert, EdgesTyped, BoxTyped, HeaderFits}
 use Rattle.pbf_header.proofs.HeaderLaw.{out_fits}

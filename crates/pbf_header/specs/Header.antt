@@ -9,7 +9,7 @@ use Rattle.pbf_wire.specs.Reading.{last_number, each}
 use Rattle.pbf_wire.specs.Signed.{unzigzag, low_i64}
 use Rattle.pbf_header.specs.declared.header.Header.{Header}
 use Rattle.pbf_header.specs.declared.header.HeaderBox.{HeaderBox}
-use Rattle.pbf_header.specs.declared.header.TheConstants.{BBOX, REQUIRED_FEATURES, OPTIONAL_FEATURES, WRITINGPROGRAM, SOURCE, REPLICATION_TIMESTAMP, REPLICATION_SEQUENCE, REPLICATION_URL, LEFT, RIGHT, TOP, BOTTOM}
+use Rattle.pbf_header.specs.declared.header_block.TheConstants.{BBOX, REQUIRED_FEATURES, OPTIONAL_FEATURES, WRITINGPROGRAM, SOURCE, REPLICATION_TIMESTAMP, REPLICATION_SEQUENCE, REPLICATION_URL, LEFT, RIGHT, TOP, BOTTOM}
 
 -- a header, its texts as bytes
 pub record HeaderSpec : Type 0 where

@@ -6,7 +6,7 @@ use Rattle.pbf_wire.specs.declared.fault.Reason.TheVariants.{Feature}
 use Rattle.pbf_wire.specs.Faults.{fault_where, entered, fields_in, nested_faults, missing, twice}
 use Rattle.pbf_wire.specs.Occurrence.{Occurrence}
 use Rattle.pbf_strings.specs.TableOut.{has_text}
-use Rattle.pbf_header.specs.declared.header.TheConstants.{BBOX, HEADER_KINDS, BBOX_KINDS, REQUIRED_FEATURES, LEFT, RIGHT, TOP, BOTTOM}
+use Rattle.pbf_header.specs.declared.header_block.TheConstants.{BBOX, HEADER_KINDS, BBOX_KINDS, REQUIRED_FEATURES, LEFT, RIGHT, TOP, BOTTOM}
 use Rattle.pbf_wire.specs.Phases.{first_fault, in_phases}
 use Rattle.pbf_header.specs.WrittenHeader.{known_features}
 

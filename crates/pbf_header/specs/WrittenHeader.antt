@@ -7,7 +7,7 @@ use Rattle.pbf_wire.specs.Message.{Slot, Scalar, Each, message}
 use Rattle.pbf_wire.specs.Signed.{zigzag, sign_extended}
 use Rattle.pbf_strings.specs.TableOut.{has_text}
 use Rattle.pbf_header.specs.declared.header.HeaderBox.{HeaderBox}
-use Rattle.pbf_header.specs.declared.header.TheConstants.{BBOX, REQUIRED_FEATURES, OPTIONAL_FEATURES, WRITINGPROGRAM, SOURCE, REPLICATION_TIMESTAMP, REPLICATION_SEQUENCE, REPLICATION_URL, LEFT, RIGHT, TOP, BOTTOM}
+use Rattle.pbf_header.specs.declared.header_block.TheConstants.{BBOX, REQUIRED_FEATURES, OPTIONAL_FEATURES, WRITINGPROGRAM, SOURCE, REPLICATION_TIMESTAMP, REPLICATION_SEQUENCE, REPLICATION_URL, LEFT, RIGHT, TOP, BOTTOM}
 use Rattle.pbf_header.specs.Header.{HeaderSpec}
 
 -- the required features that are known, in the order in which they are written

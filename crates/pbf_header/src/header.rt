@@ -1,4 +1,4 @@
-//! The HeaderBlock of a file, owned, and the one that is written in its place.
+//! The header of a file, owned, and the one that is written in its place.
 
 ghost use Rattle.std.specs.Prelude.{◌≡◌, IfOk, Some, codes, map};
 ghost use Rattle.std.specs.Option.{option_map};
@@ -7,54 +7,7 @@ ghost use Rattle.pbf_header.specs.Header.{header_of, text_of};
 ghost use Rattle.pbf_header.specs.WrittenHeader.{kept_features, known_features, header_out, header_out_for_box, header_out_for_convert};
 
 use osm_entity::BoundingBox;
-use pbf_wire::Kind;
 use std::alloc::{AllocError, Global};
-
-// The fields of a HeaderBlock.
-pub(crate) const BBOX: u64 = 1;
-
-pub(crate) const REQUIRED_FEATURES: u64 = 4;
-
-pub(crate) const OPTIONAL_FEATURES: u64 = 5;
-
-pub(crate) const WRITINGPROGRAM: u64 = 16;
-
-pub(crate) const SOURCE: u64 = 17;
-
-pub(crate) const REPLICATION_TIMESTAMP: u64 = 32;
-
-pub(crate) const REPLICATION_SEQUENCE: u64 = 33;
-
-pub(crate) const REPLICATION_URL: u64 = 34;
-
-/// How the fields of a HeaderBlock are stored.
-pub(crate) const HEADER_KINDS: [(u64, Kind); 8] = [
-    (BBOX, Kind::Bytes),
-    (REQUIRED_FEATURES, Kind::Bytes),
-    (OPTIONAL_FEATURES, Kind::Bytes),
-    (WRITINGPROGRAM, Kind::Bytes),
-    (SOURCE, Kind::Bytes),
-    (REPLICATION_TIMESTAMP, Kind::Number),
-    (REPLICATION_SEQUENCE, Kind::Number),
-    (REPLICATION_URL, Kind::Bytes),
-];
-
-// The fields of a HeaderBBox.
-pub(crate) const LEFT: u64 = 1;
-
-pub(crate) const RIGHT: u64 = 2;
-
-pub(crate) const TOP: u64 = 3;
-
-pub(crate) const BOTTOM: u64 = 4;
-
-/// How the fields of a HeaderBBox are stored.
-pub(crate) const BBOX_KINDS: [(u64, Kind); 4] = [
-    (LEFT, Kind::Number),
-    (RIGHT, Kind::Number),
-    (TOP, Kind::Number),
-    (BOTTOM, Kind::Number),
-];
 
 // The required features that are known. Both are written.
 pub(crate) const OSM_SCHEMA: &[u8] = b"OsmSchema-V0.6";

@@ -2,7 +2,7 @@
 #![tactic(auto)]
 
 mod header;
-mod judge;
+mod header_block;
 pub mod laws;
 mod read;
 mod write;

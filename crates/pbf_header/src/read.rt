@@ -10,11 +10,11 @@ ghost use Rattle.pbf_wire.specs.Signed.{low_i64};
 ghost use Rattle.pbf_header.specs.Header.{header_of, header_in, text_of, edge, box_in, last_text};
 ghost use Rattle.pbf_header.specs.HeaderFaults.{header_fault};
 
-use crate::header::{
-    BBOX, BOTTOM, Header, HeaderBox, LEFT, OPTIONAL_FEATURES, REPLICATION_SEQUENCE,
-    REPLICATION_TIMESTAMP, REPLICATION_URL, REQUIRED_FEATURES, RIGHT, SOURCE, TOP, WRITINGPROGRAM,
+use crate::header::{Header, HeaderBox};
+use crate::header_block::{
+    BBOX, BOTTOM, LEFT, OPTIONAL_FEATURES, REPLICATION_SEQUENCE, REPLICATION_TIMESTAMP,
+    REPLICATION_URL, REQUIRED_FEATURES, RIGHT, SOURCE, TOP, WRITINGPROGRAM, judge_header,
 };
-use crate::judge::judge_header;
 use pbf_wire::{Fields, Payload, ReadFault, last_number, low_i64, unzigzag};
 use std::alloc::{AllocError, Global};
 

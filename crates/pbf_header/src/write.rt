@@ -10,9 +10,12 @@ ghost use Rattle.pbf_header.specs.Header.{header_of, text_of};
 ghost use Rattle.pbf_header.specs.WrittenHeader.{box_message, known_features, kept_features, header_out_for_convert, header_message};
 
 use crate::header::{
-    BBOX, BOTTOM, DENSE_NODES, HAS_METADATA, Header, HeaderBox, LEFT, LOCATIONS_ON_WAYS,
-    OPTIONAL_FEATURES, OSM_SCHEMA, PROGRAM, REPLICATION_SEQUENCE, REPLICATION_TIMESTAMP,
-    REPLICATION_URL, REQUIRED_FEATURES, RIGHT, SORTED, SOURCE, TOP, WRITINGPROGRAM, has,
+    DENSE_NODES, HAS_METADATA, Header, HeaderBox, LOCATIONS_ON_WAYS, OSM_SCHEMA, PROGRAM, SORTED,
+    has,
+};
+use crate::header_block::{
+    BBOX, BOTTOM, LEFT, OPTIONAL_FEATURES, REPLICATION_SEQUENCE, REPLICATION_TIMESTAMP,
+    REPLICATION_URL, REQUIRED_FEATURES, RIGHT, SOURCE, TOP, WRITINGPROGRAM,
 };
 use pbf_wire::{put_bytes, put_int64, put_number, put_varint, varint_len, zigzag};
 use std::alloc::AllocError;

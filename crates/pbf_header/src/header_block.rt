@@ -1,4 +1,4 @@
-//! The judgement of a HeaderBlock.
+//! A HeaderBlock and the HeaderBBox in it: their fields, and their rules phase by phase.
 
 ghost use Rattle.std.specs.Prelude.{◌≡◌, ◌+◌, ◌≤◌, ◌^◌, length};
 ghost use Rattle.pbf_wire.specs.Faults.{fields_in};
@@ -8,14 +8,57 @@ ghost use Rattle.pbf_strings.specs.TableOut.{has_text};
 ghost use Rattle.pbf_header.specs.HeaderFaults.{edge_faults, header_structure, feature_faults, header_fault};
 ghost use Rattle.pbf_header.specs.WrittenHeader.{known_features};
 
-use crate::header::{
-    BBOX, BBOX_KINDS, BOTTOM, DENSE_NODES, HEADER_KINDS, LEFT, OSM_SCHEMA, REQUIRED_FEATURES,
-    RIGHT, TOP,
-};
+use crate::header::{DENSE_NODES, OSM_SCHEMA};
 use pbf_wire::{
-    Fault, InField, JudgeMessage, Reason, fault_where, judge_fields, judge_missing, judge_nested,
-    judge_twice, lesser, refuse,
+    Fault, InField, JudgeMessage, Kind, Reason, fault_where, judge_fields, judge_missing,
+    judge_nested, judge_twice, lesser, refuse,
 };
+
+// The fields of a HeaderBlock.
+pub(crate) const BBOX: u64 = 1;
+
+pub(crate) const REQUIRED_FEATURES: u64 = 4;
+
+pub(crate) const OPTIONAL_FEATURES: u64 = 5;
+
+pub(crate) const WRITINGPROGRAM: u64 = 16;
+
+pub(crate) const SOURCE: u64 = 17;
+
+pub(crate) const REPLICATION_TIMESTAMP: u64 = 32;
+
+pub(crate) const REPLICATION_SEQUENCE: u64 = 33;
+
+pub(crate) const REPLICATION_URL: u64 = 34;
+
+/// How the fields of a HeaderBlock are stored.
+pub(crate) const HEADER_KINDS: [(u64, Kind); 8] = [
+    (BBOX, Kind::Bytes),
+    (REQUIRED_FEATURES, Kind::Bytes),
+    (OPTIONAL_FEATURES, Kind::Bytes),
+    (WRITINGPROGRAM, Kind::Bytes),
+    (SOURCE, Kind::Bytes),
+    (REPLICATION_TIMESTAMP, Kind::Number),
+    (REPLICATION_SEQUENCE, Kind::Number),
+    (REPLICATION_URL, Kind::Bytes),
+];
+
+// The fields of a HeaderBBox.
+pub(crate) const LEFT: u64 = 1;
+
+pub(crate) const RIGHT: u64 = 2;
+
+pub(crate) const TOP: u64 = 3;
+
+pub(crate) const BOTTOM: u64 = 4;
+
+/// How the fields of a HeaderBBox are stored.
+pub(crate) const BBOX_KINDS: [(u64, Kind); 4] = [
+    (LEFT, Kind::Number),
+    (RIGHT, Kind::Number),
+    (TOP, Kind::Number),
+    (BOTTOM, Kind::Number),
+];
 
 /// The first of the edges that a box lacks.
 #[derive(Clone, Copy)]
