@@ -10,7 +10,7 @@ use Rattle.pbf_block.specs.Payload.{along, entities}
 use Rattle.pbf_block.specs.Scale.{table_of, scale_of}
 use Rattle.pbf_block.proofs.ByIndexLemmas.{entities_same}
 use Rattle.pbf_block.proofs.PhaseLemmas.{no_fault}
-use Rattle.pbf_block.proofs.ReadsLemmas.{payload_reads}
+use Rattle.pbf_block.proofs.MemberLemmas.{payload_clean}
 use Rattle.pbf_block.proofs.TableLemmas.{table_few}
 
 pub along_same : (at : ℕ) (m : List ℕ) → block_fault at m ≡ None → (table : List (List ℕ)) (scale : Scale) → table ≡ table_of (fields_in at m) → scale ≡ scale_of (fields_in at m)
@@ -21,4 +21,4 @@ along_same at m sound table scale texts scaled =
     let os = fields_in at m in
     let few : length (table_of os) ≤ 2 ^ 62 = omega (arith, table_few at m none.1) in
     ap₂ (λ (t : List (List ℕ)) (s : Scale). flat_map (in_group (member_entities along t s)) os) texts scaled
-    ∙ entities_same (table_of os) (scale_of os) os (payload_reads (table_of os) (scale_of os) few at m none.0 none.1 none.2)
+    ∙ entities_same (table_of os) few (scale_of os) os (payload_clean (length (table_of os)) at m none.0 none.1 none.2)

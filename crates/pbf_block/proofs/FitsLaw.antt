@@ -1,5 +1,5 @@
 -- The entities of a payload without faults can be written again, and their numbers have the types of the format.
-use Rattle.std.proofs.Common.{◌≡◌, ℕ, ◌≤◌, ◌^◌, ℤ, pos, Bool, true, false, cond, eqb, List, [], ◌∷◌, length, refl, arith}
+use Rattle.std.proofs.Common.{◌≡◌, ℕ, ◌≤◌, ◌^◌, ℤ, pos, false, eqb, List, [], ◌∷◌, length, refl, arith}
 use Rattle.std.specs.Prelude.{◌≤ℤ◌, int_lt, None, Option, Some}
 use Rattle.std.specs.Option.{option_map_or}
 use Rattle.std.specs.List.{flat_map, AllByRecursion}
@@ -11,50 +11,35 @@ use Rattle.pbf_wire.specs.declared.fault.Reason.TheVariants.{Granularity, DateGr
 use Rattle.pbf_wire.specs.Occurrence.{Content, Number, Eight, Four, Bytes, Occurrence, items}
 use Rattle.pbf_wire.specs.Reading.{last_number}
 use Rattle.pbf_wire.specs.Signed.{low_i32, low_i64}
-use Rattle.pbf_wire.specs.Faults.{inside, entered, fields_in, in_last, embedded, nested_faults}
+use Rattle.pbf_wire.specs.Faults.{inside, fields_in, in_last, embedded}
 use Rattle.pbf_wire.proofs.MessageLemmas.{all_append}
-use Rattle.pbf_wire.proofs.SoundLemmas.{both_nil, all_nil, not_wrong, fields_sound, IsSound}
+use Rattle.pbf_wire.proofs.SoundLemmas.{both_nil, all_nil, not_wrong, fields_sound}
 use Rattle.osm_entity.specs.declared.scale.Scale.{Scale}
 use Rattle.osm_entity.specs.declared.weight.TheConstants.{HIGHEST_WEIGHT}
 use Rattle.osm_entity.specs.Scale.{ScaleFits}
 use Rattle.osm_entity.specs.Entity.{EntitySpec, node, way, relation}
 use Rattle.osm_entity.specs.Ranges.{EntityFits, IsInt32, IsInt64, ScaleTyped, EntityTyped}
 use Rattle.osm_entity.specs.Weight.{entity_weight}
-use Rattle.pbf_dense.specs.Judged.{dense_wire, dense_structure, dense_values}
 use Rattle.osm_entity.proofs.RangeLemmas.{int32_typed, int64_typed}
 use Rattle.pbf_dense.proofs.FitsLemmas.{nodes_fit, nodes_typed, version_typed}
-use Rattle.pbf_block.specs.Group.{in_group, message_entities, member_entities, member_wire, group_wire, entities_structure, group_structure, member_values, weight_fault, member_weights}
+use Rattle.pbf_block.specs.Group.{in_group, message_entities, member_entities, member_values, weight_fault, member_weights}
 use Rattle.pbf_dense.specs.declared.message.TheConstants.{VERSION}
 use Rattle.pbf_block.specs.declared.primitive_block.TheConstants.{PRIMITIVEGROUP, GRANULARITY, DATE_GRANULARITY, BLOCK_KINDS, LAT_OFFSET, LON_OFFSET}
-use Rattle.pbf_block.specs.declared.group.TheConstants.{GROUP_KINDS, NODES, DENSE, WAYS, RELATIONS}
+use Rattle.pbf_block.specs.declared.group.TheConstants.{NODES, DENSE, WAYS, RELATIONS}
 use Rattle.pbf_block.specs.declared.entity.TheConstants.{INFO}
-use Rattle.pbf_block.specs.declared.node.TheConstants.{NODE_KINDS}
-use Rattle.pbf_block.specs.declared.way.TheConstants.{WAY_KINDS}
-use Rattle.pbf_block.specs.declared.relation.TheConstants.{RELATION_KINDS}
-use Rattle.pbf_block.specs.declared.info.TheConstants.{INFO_KINDS}
-use Rattle.pbf_block.specs.Node.{node_in, node_structure, node_values}
-use Rattle.pbf_block.specs.Way.{way_in, way_structure, way_values}
-use Rattle.pbf_block.specs.Relation.{relation_in, relation_structure, relation_values}
+use Rattle.pbf_block.specs.Node.{node_in}
+use Rattle.pbf_block.specs.Way.{way_in}
+use Rattle.pbf_block.specs.Relation.{relation_in}
 use Rattle.pbf_block.specs.Payload.{by_index, entities}
 use Rattle.pbf_block.specs.Scale.{scale_of, table_of}
-use Rattle.pbf_block.specs.PrimitiveBlock.{payload_weights, block_fault, part_wire, wire_faults, part_structure, structure_faults, value_faults}
+use Rattle.pbf_block.specs.PrimitiveBlock.{payload_weights, block_fault, part_wire, wire_faults, value_faults}
 use Rattle.pbf_block.specs.Ranges.{positive}
 use Rattle.pbf_block.specs.declared.scale.TheConstants.{DEFAULT_SCALE}
 use Rattle.pbf_block.proofs.EntityLaw.{all_such, map_of_all}
-use Rattle.pbf_block.proofs.ReadsLemmas.{entered_nil, entities_quiet}
+use Rattle.pbf_block.proofs.MemberLemmas.{cond_all, inside_all, InGroup, groups_all, groups_nil, IsClean, HoldsClean, payload_clean}
 use Rattle.pbf_block.proofs.TableLemmas.{table_few}
 use Rattle.pbf_block.proofs.PhaseLemmas.{no_fault}
 use Rattle.pbf_block.proofs.FitsLemmas.{are_numbers, number_holds, or_else, IsLight, FitsLight, node_fits, way_fits, relation_fits}
-
--- a test, and what holds of all that it lets through
-cond_all : {X : Type 0} (P : X → Type 0) (b : Bool) (xs ys : List X) → (b ≡ true → AllByRecursion P xs) → AllByRecursion P ys → AllByRecursion P (cond b xs ys)
-cond_all P true xs ys h k = h refl
-cond_all P false xs ys h k = k
-
--- what is there where a list of faults is empty
-all_where : {X Y : Type 0} (P : Y → Type 0) (f : X → List Y) (g : X → List Fault) (xs : List X) → ((x : X) → g x ≡ [] → AllByRecursion P (f x)) → flat_map g xs ≡ [] → AllByRecursion P (flat_map f xs)
-all_where P f g [] each e = tt
-all_where P f g (x ∷ xs) each e = let both = both_nil (g x) (flat_map g xs) e in all_append P (f x) (flat_map f xs) (each x both.0) (all_where P f g xs each both.1)
 
 -- ---- weights
 
@@ -71,17 +56,8 @@ module _ (table : List (List ℕ)) (scale : Scale) where
   member_light : (o : Occurrence) → weights o ≡ [] → AllByRecursion IsLight (held o)
   member_light o e = all_such (λ x. weight_fault o.place x ≡ []) IsLight (light o.place) (held o) (all_nil (weight_fault o.place) (held o) e)
 
-  inside_light : (c : Content) → inside (λ at m. flat_map weights (fields_in at m)) c ≡ [] → AllByRecursion IsLight (inside (λ at m. flat_map held (fields_in at m)) c)
-  inside_light (Number v) e = tt
-  inside_light (Eight bytes) e = tt
-  inside_light (Four bytes) e = tt
-  inside_light (Bytes bytes at) e = all_where IsLight held weights (fields_in at bytes) member_light e
-
-  group_light : (o : Occurrence) → in_group (member_weights by_index table scale) o ≡ [] → AllByRecursion IsLight (in_group (member_entities by_index table scale) o)
-  group_light o e = cond_all IsLight (eqb o.number PRIMITIVEGROUP) _ _ (λ t. inside_light o.content (entered_nil PRIMITIVEGROUP (λ place at m. flat_map weights (fields_in at m)) o e (eqb-true o.number PRIMITIVEGROUP t))) tt
-
-  payload_light : (os : List Occurrence) → flat_map (in_group (member_weights by_index table scale)) os ≡ [] → AllByRecursion IsLight (flat_map (in_group (member_entities by_index table scale)) os)
-  payload_light os e = all_where IsLight (in_group (member_entities by_index table scale)) (in_group (member_weights by_index table scale)) os group_light e
+  payload_light : (os : List Occurrence) → flat_map (in_group weights) os ≡ [] → AllByRecursion IsLight (flat_map (in_group held) os)
+  payload_light os e = groups_all IsLight held (λ o. weights o ≡ []) member_light os (groups_nil weights os e)
 
 -- ---- the scale
 
@@ -107,20 +83,7 @@ module _ (table : List (List ℕ)) (few : length table ≤ 2 ^ 62) (scale : Scal
   abbrev limit : ℕ
   limit = length table
 
-  -- a message without faults, under the number of its field
-  record Clean (k place at : ℕ) (m : List ℕ) : Type 0 where
-    node_form : k ≡ NODES → nested_faults NODE_KINDS INFO INFO_KINDS place at m ≡ []
-    node_numbers : k ≡ NODES → node_values limit place at m ≡ []
-    dense_form : k ≡ DENSE → dense_wire place at m ≡ []
-    dense_parts : k ≡ DENSE → dense_structure place at m ≡ []
-    dense_numbers : k ≡ DENSE → dense_values limit place at m ≡ []
-    way_form : k ≡ WAYS → nested_faults WAY_KINDS INFO INFO_KINDS place at m ≡ []
-    way_parts : k ≡ WAYS → way_structure place at m ≡ []
-    way_numbers : k ≡ WAYS → way_values limit place at m ≡ []
-    relation_form : k ≡ RELATIONS → nested_faults RELATION_KINDS INFO INFO_KINDS place at m ≡ []
-    relation_numbers : k ≡ RELATIONS → relation_values limit place at m ≡ []
-
-  message_fits : (k place at : ℕ) (m : List ℕ) → Clean k place at m → AllByRecursion FitsLight (message_entities by_index table scale k (fields_in at m))
+  message_fits : (k place at : ℕ) (m : List ℕ) → IsClean limit k place at m → AllByRecursion FitsLight (message_entities by_index table scale k (fields_in at m))
   message_fits k place at m h =
       cond_all FitsLight (eqb k NODES) _ _ (λ t. let is = eqb-true k NODES t in (node_fits limit table scale scaled place at m (h.node_form is) (h.node_numbers is), tt))
       (cond_all FitsLight (eqb k DENSE) _ _
@@ -128,76 +91,9 @@ module _ (table : List (List ℕ)) (few : length table ≤ 2 ^ 62) (scale : Scal
       (cond_all FitsLight (eqb k WAYS) _ _ (λ t. let is = eqb-true k WAYS t in (way_fits limit table scale scaled place at m (h.way_form is) (h.way_parts is) (h.way_numbers is), tt))
       (cond_all FitsLight (eqb k RELATIONS) _ _ (λ t. let is = eqb-true k RELATIONS t in (relation_fits limit table scale scaled place at m (h.relation_form is) (h.relation_numbers is), tt)) tt)))
 
-  inside_fits : (k place : ℕ) (c : Content) → (k ≡ NODES → inside (nested_faults NODE_KINDS INFO INFO_KINDS place) c ≡ []) → (k ≡ NODES → inside (node_values limit place) c ≡ [])
-      → (k ≡ DENSE → inside (dense_wire place) c ≡ []) → (k ≡ DENSE → inside (dense_structure place) c ≡ []) → (k ≡ DENSE → inside (dense_values limit place) c ≡ [])
-      → (k ≡ WAYS → inside (nested_faults WAY_KINDS INFO INFO_KINDS place) c ≡ []) → (k ≡ WAYS → inside (way_structure place) c ≡ []) → (k ≡ WAYS → inside (way_values limit place) c ≡ [])
-      → (k ≡ RELATIONS → inside (nested_faults RELATION_KINDS INFO INFO_KINDS place) c ≡ []) → (k ≡ RELATIONS → inside (relation_values limit place) c ≡ [])
-      → AllByRecursion FitsLight (inside (λ at m. message_entities by_index table scale k (fields_in at m)) c)
-  inside_fits k place (Number v) nw nv dw ds dv ww ws wv lw lv = tt
-  inside_fits k place (Eight bytes) nw nv dw ds dv ww ws wv lw lv = tt
-  inside_fits k place (Four bytes) nw nv dw ds dv ww ws wv lw lv = tt
-  inside_fits k place (Bytes bytes at) nw nv dw ds dv ww ws wv lw lv = message_fits k place at bytes (record {
-    node_form = nw;
-    node_numbers = nv;
-    dense_form = dw;
-    dense_parts = ds;
-    dense_numbers = dv;
-    way_form = ww;
-    way_parts = ws;
-    way_numbers = wv;
-    relation_form = lw;
-    relation_numbers = lv;
-  })
-
-  member_fits : (o : Occurrence) → member_wire o ≡ [] → entities_structure o ≡ [] → member_values limit o ≡ [] → AllByRecursion FitsLight (member_entities by_index table scale o)
-  member_fits o w s v =
-      let w4 = both_nil _ (entered RELATIONS (nested_faults RELATION_KINDS INFO INFO_KINDS) o) w in
-      let w3 = both_nil _ (entered WAYS (nested_faults WAY_KINDS INFO INFO_KINDS) o) w4.0 in
-      let w2 = both_nil (entered NODES (nested_faults NODE_KINDS INFO INFO_KINDS) o) (entered DENSE dense_wire o) w3.0 in
-      let s4 = both_nil _ (entered RELATIONS relation_structure o) s in
-      let s3 = both_nil _ (entered WAYS way_structure o) s4.0 in
-      let s2 = both_nil (entered NODES node_structure o) (entered DENSE dense_structure o) s3.0 in
-      let v4 = both_nil _ (entered RELATIONS (relation_values limit) o) v in
-      let v3 = both_nil _ (entered WAYS (way_values limit) o) v4.0 in
-      let v2 = both_nil (entered NODES (node_values limit) o) (entered DENSE (dense_values limit) o) v3.0 in
-      inside_fits o.number o.place o.content (entered_nil NODES (nested_faults NODE_KINDS INFO INFO_KINDS) o w2.0) (entered_nil NODES (node_values limit) o v2.0)
-      (entered_nil DENSE dense_wire o w2.1) (entered_nil DENSE dense_structure o s2.1) (entered_nil DENSE (dense_values limit) o v2.1)
-      (entered_nil WAYS (nested_faults WAY_KINDS INFO INFO_KINDS) o w3.1) (entered_nil WAYS way_structure o s3.1) (entered_nil WAYS (way_values limit) o v3.1)
-      (entered_nil RELATIONS (nested_faults RELATION_KINDS INFO INFO_KINDS) o w4.1) (entered_nil RELATIONS (relation_values limit) o v4.1)
-
-  members_fit : (os : List Occurrence) → AllByRecursion (IsSound GROUP_KINDS member_wire) os → AllByRecursion (λ o. entities_structure o ≡ []) os → AllByRecursion (λ o. member_values limit o ≡ []) os
-      → AllByRecursion FitsLight (flat_map (member_entities by_index table scale) os)
-  members_fit [] w s v = tt
-  members_fit (o ∷ os) w s v = all_append FitsLight (member_entities by_index table scale o) _ (member_fits o w.0.1 s.0 v.0) (members_fit os w.1 s.1 v.1)
-
-  -- ---- the entities of a payload
-
-  group_fits : (place : ℕ) (c : Content) → inside (group_wire place) c ≡ [] → inside (group_structure place) c ≡ [] → inside (λ at m. flat_map (member_values limit) (fields_in at m)) c ≡ []
-      → AllByRecursion FitsLight (inside (λ at m. flat_map (member_entities by_index table scale) (fields_in at m)) c)
-  group_fits place (Number v) w s u = tt
-  group_fits place (Eight bytes) w s u = tt
-  group_fits place (Four bytes) w s u = tt
-  group_fits place (Bytes bytes at) w s u =
-      let os = fields_in at bytes in
-      members_fit os (fields_sound GROUP_KINDS member_wire (items at bytes) w) (entities_quiet os s) (all_nil (member_values limit) os u)
-
-  part_fits : (o : Occurrence) → part_wire o ≡ [] → part_structure o ≡ [] → in_group (member_values limit) o ≡ [] → AllByRecursion FitsLight (in_group (member_entities by_index table scale) o)
-  part_fits o w s v = cond_all FitsLight (eqb o.number PRIMITIVEGROUP) _ _ (λ t.
-      let is = eqb-true o.number PRIMITIVEGROUP t in
-      group_fits o.place o.content (entered_nil PRIMITIVEGROUP group_wire o (both_nil _ (entered PRIMITIVEGROUP group_wire o) w).1 is)
-      (entered_nil PRIMITIVEGROUP group_structure o (both_nil _ (entered PRIMITIVEGROUP group_structure o) s).1 is) (entered_nil PRIMITIVEGROUP (λ place at m. flat_map (member_values limit) (fields_in at m)) o v is)) tt
-
-  parts_fit : (os : List Occurrence) → AllByRecursion (IsSound BLOCK_KINDS part_wire) os → AllByRecursion (λ o. part_structure o ≡ []) os → AllByRecursion (λ o. in_group (member_values limit) o ≡ []) os
-      → AllByRecursion FitsLight (flat_map (in_group (member_entities by_index table scale)) os)
-  parts_fit [] w s v = tt
-  parts_fit (o ∷ os) w s v = all_append FitsLight (in_group (member_entities by_index table scale) o) _ (part_fits o w.0.1 s.0 v.0) (parts_fit os w.1 s.1 v.1)
-
-  payload_fits : (at : ℕ) (m : List ℕ) → wire_faults at m ≡ [] → structure_faults at m ≡ [] → value_faults limit at m ≡ [] → AllByRecursion FitsLight (flat_map (in_group (member_entities by_index table scale)) (fields_in at m))
-  unfolding wire_faults structure_faults value_faults
-  payload_fits at m w s v =
-      let os = fields_in at m in
-      parts_fit os (fields_sound BLOCK_KINDS part_wire (items at m) w) (all_nil part_structure os (both_nil _ (flat_map part_structure os) s).1)
-      (all_nil (in_group (member_values limit)) os (both_nil _ (flat_map (in_group (member_values limit)) os) v).1)
+  payload_fits : (os : List Occurrence) → AllByRecursion (InGroup (HoldsClean limit)) os → AllByRecursion FitsLight (flat_map (in_group (member_entities by_index table scale)) os)
+  payload_fits os clean =
+      groups_all FitsLight (member_entities by_index table scale) (HoldsClean limit) (λ o h. inside_all FitsLight _ _ o.content (λ at m p. message_fits o.number o.place at m p) h) os clean
 
 both : (es : List EntitySpec) → AllByRecursion FitsLight es → AllByRecursion IsLight es → AllByRecursion EntityFits es
 both [] f l = tt
@@ -210,7 +106,7 @@ entities_fit at m e =
     let none = no_fault at m e in
     let few : length (table_of os) ≤ 2 ^ 62 = omega (arith, table_few at m none.1) in
     let scaled = scale_fits (length (table_of os)) at m none.0 none.2 in
-    both (flat_map (in_group (member_entities by_index (table_of os) (scale_of os))) os) (payload_fits (table_of os) few (scale_of os) scaled at m none.0 none.1 none.2) (payload_light (table_of os) (scale_of os) os none.3)
+    both (flat_map (in_group (member_entities by_index (table_of os) (scale_of os))) os) (payload_fits (table_of os) few (scale_of os) scaled os (payload_clean (length (table_of os)) at m none.0 none.1 none.2)) (payload_light (table_of os) (scale_of os) os none.3)
 
 -- ---- types
 

@@ -45,7 +45,7 @@ use Rattle.pbf_block.specs.Scale.{number_or}
 use Rattle.pbf_block.specs.Ranges.{out_of_range}
 use Rattle.pbf_wire.proofs.SlotLemmas.{IfSome}
 use Rattle.pbf_block.proofs.ValueLemmas.{later_value, last_is}
-use Rattle.pbf_block.proofs.ReadsLemmas.{entered_nil}
+use Rattle.pbf_block.proofs.MemberLemmas.{entered_nil}
 use Rattle.osm_entity.specs.declared.weight.TheConstants.{HIGHEST_WEIGHT}
 
 -- ---- the last number of a field

@@ -17,7 +17,7 @@ use Rattle.pbf_block.specs.declared.primitive_block.TheConstants.{STRINGTABLE, P
 use Rattle.pbf_block.specs.Scale.{table_of}
 use Rattle.pbf_block.specs.PrimitiveBlock.{table_structure, part_structure, structure_faults}
 use Rattle.pbf_block.specs.Group.{group_structure}
-use Rattle.pbf_block.proofs.ReadsLemmas.{entered_nil}
+use Rattle.pbf_block.proofs.MemberLemmas.{entered_nil}
 
 -- ---- it is no longer than the payload
 

@@ -10,7 +10,7 @@ use Rattle.osm_entity.specs.declared.scale.Scale.{Scale}
 use Rattle.pbf_block.specs.Scale.{scale_of, table_of}
 use Rattle.pbf_block.specs.Payload.{by_index}
 use Rattle.pbf_block.proofs.ByIndexLemmas.{weights_same}
-use Rattle.pbf_block.proofs.ReadsLemmas.{payload_reads}
+use Rattle.pbf_block.proofs.MemberLemmas.{payload_clean}
 use Rattle.pbf_block.proofs.block.late_fault.Goals as goal
 
 module _ (table : List (List ℕ)) (at : ℕ) (m : List ℕ) (texts : table ≡ table_of (fields_in at m)) where
@@ -35,6 +35,6 @@ returns c =
     let table = c.args.table.now in
     let none : value_faults (length table) at m ≡ [] = no_least _ (sym (c.judge_values.ensures ∙ ap (λ n. least (value_faults n at m)) c.len.ensures.exact) ∙ c.in_default.is) in
     let few : length table ≤ 2 ^ 62 = omega (arith, c.len.ensures.exact, c.len.ensures.few) in
-    let same = weights_same table c.args.scale (fields_in at m) (payload_reads table c.args.scale few at m c.requires.wire c.requires.structure none) in
+    let same = weights_same table few c.args.scale (fields_in at m) (payload_clean (length table) at m c.requires.wire c.requires.structure none) in
     c.judge_weights.ensures ∙ ap least same ∙ ap least (weights_are table at m c.requires.texts c.args.scale c.requires.scale)
     ∙ sym (ap (λ f. option_or (least f) (least (payload_weights at m))) (sym (values_are table at m c.requires.texts) ∙ none))
