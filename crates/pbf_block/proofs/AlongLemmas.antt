@@ -5,8 +5,7 @@ use Rattle.osm_entity.specs.declared.scale.Scale.{Scale}
 use Rattle.std.specs.List.{flat_map}
 use Rattle.pbf_wire.specs.Faults.{fields_in}
 use Rattle.pbf_block.specs.Group.{in_group, member_entities}
-use Rattle.pbf_block.specs.PrimitiveBlock.{block_fault}
-use Rattle.pbf_block.specs.Payload.{along, entities}
+use Rattle.pbf_block.specs.PrimitiveBlock.{block_fault, along, entities}
 use Rattle.pbf_block.specs.Scale.{table_of, scale_of}
 use Rattle.pbf_block.proofs.ByIndexLemmas.{entities_same}
 use Rattle.pbf_block.proofs.PhaseLemmas.{no_fault}

@@ -7,9 +7,8 @@ use Rattle.osm_entity.specs.declared.scale.Scale.{Scale}
 use Rattle.osm_entity.specs.Entity.{EntitySpec}
 use Rattle.osm_entity.specs.Ranges.{EntityFits}
 use Rattle.pbf_block.specs.declared.kinds.Kinds.{Kinds}
-use Rattle.pbf_block.specs.PrimitiveBlock.{block_fault}
+use Rattle.pbf_block.specs.PrimitiveBlock.{block_fault, along, entities}
 use Rattle.pbf_block.specs.Kinds.{is_among, entities_among}
-use Rattle.pbf_block.specs.Payload.{along, entities}
 use Rattle.pbf_block.specs.Scale.{scale_of, table_of}
 use Rattle.pbf_block.proofs.AlongLemmas.{along_same}
 use Rattle.pbf_block.proofs.FitsLaw.{entities_fit}

@@ -30,9 +30,7 @@ use Rattle.osm_entity.specs.Entity.{EntitySpec}
 use Rattle.pbf_block.specs.Group.{in_group, group_wire, group_structure, member_values, member_weights, member_entities}
 use Rattle.pbf_block.specs.declared.primitive_block.TheConstants.{STRINGTABLE, PRIMITIVEGROUP, BLOCK_KINDS, GRANULARITY, DATE_GRANULARITY, LAT_OFFSET, LON_OFFSET}
 use Rattle.pbf_block.specs.Scale.{number_or, scale_of, table_of}
-use Rattle.pbf_block.specs.PrimitiveBlock.{part_wire, wire_faults, table_structure, part_structure, structure_faults, value_faults, payload_weights, block_fault}
-use Rattle.pbf_block.specs.Ranges.{positive}
-use Rattle.pbf_block.specs.Payload.{by_index, entities}
+use Rattle.pbf_block.specs.PrimitiveBlock.{part_wire, wire_faults, table_structure, part_structure, structure_faults, value_faults, payload_weights, block_fault, positive, by_index, entities}
 use Rattle.pbf_block.specs.WrittenBlock.{unless_default, block_slots}
 use Rattle.pbf_block.specs.declared.scale.TheConstants.{DEFAULT_SCALE}
 use Rattle.pbf_wire.proofs.SlotLemmas.{none_of, scalar_given, last_given}

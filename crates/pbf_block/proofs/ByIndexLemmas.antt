@@ -20,7 +20,7 @@ use Rattle.pbf_block.specs.declared.relation.TheConstants.{MEMIDS, ROLES_SID, TY
 use Rattle.pbf_block.specs.Entity.{values_in}
 use Rattle.pbf_block.specs.Way.{way_in, way_values}
 use Rattle.pbf_block.specs.Relation.{relation_in, relation_values}
-use Rattle.pbf_block.specs.Payload.{by_index, along}
+use Rattle.pbf_block.specs.PrimitiveBlock.{by_index, along}
 use Rattle.pbf_block.proofs.MemberLemmas.{inside_same, cond_same, InGroup, groups_same, IsClean, HoldsClean}
 
 -- ---- one message

@@ -17,7 +17,7 @@ use Rattle.pbf_dense.specs.WrittenDense.{dense_message, info_message}
 use Rattle.pbf_block.specs.declared.group.TheConstants.{GROUP_KINDS, DENSE, WAYS, RELATIONS, CHANGESETS}
 use Rattle.pbf_block.specs.Way.{way_in}
 use Rattle.pbf_block.specs.Relation.{relation_in}
-use Rattle.pbf_block.specs.Payload.{by_index}
+use Rattle.pbf_block.specs.PrimitiveBlock.{by_index}
 use Rattle.pbf_block.specs.Group.{is_member}
 use Rattle.pbf_block.specs.WrittenBlock.{nodes_among, ways_among, relations_among, group_message}
 use Rattle.pbf_block.specs.WrittenEntity.{way_message, relation_message}

@@ -12,11 +12,10 @@ use Rattle.pbf_dense.specs.Nodes.{node_at, nodes}
 use Rattle.pbf_dense.proofs.SoundDense.{ids_counted}
 use Rattle.pbf_block.specs.Group.{in_group, message_entities, member_entities}
 use Rattle.pbf_block.specs.declared.group.TheConstants.{NODES, DENSE, WAYS, RELATIONS}
-use Rattle.pbf_block.specs.PrimitiveBlock.{block_fault}
+use Rattle.pbf_block.specs.PrimitiveBlock.{block_fault, by_index, entities}
 use Rattle.pbf_block.specs.Way.{way_in}
 use Rattle.pbf_block.specs.Relation.{relation_in}
 use Rattle.pbf_block.specs.Numbers.{by_ends}
-use Rattle.pbf_block.specs.Payload.{by_index, entities}
 use Rattle.pbf_block.specs.Scale.{table_of, scale_of}
 use Rattle.pbf_block.proofs.MemberLemmas.{inside_same, cond_same, groups_same, IsClean, HoldsClean, payload_clean}
 use Rattle.pbf_block.proofs.PhaseLemmas.{no_fault}

@@ -25,11 +25,10 @@ use Rattle.osm_entity.specs.Ranges.{IsStored}
 use Rattle.osm_entity.specs.Sources.{paired_tags}
 use Rattle.pbf_block.specs.declared.entity.TheConstants.{ID, KEYS, VALS, INFO}
 use Rattle.pbf_block.specs.declared.info.TheConstants.{INFO_KINDS}
-use Rattle.pbf_block.specs.Info.{info_in, info_values}
+use Rattle.pbf_block.specs.Info.{info_in, info_values, out_of_range}
 use Rattle.pbf_block.specs.Entity.{values_in, tags_in, entity_structure, entity_values}
-use Rattle.pbf_block.specs.Payload.{by_index}
+use Rattle.pbf_block.specs.PrimitiveBlock.{by_index}
 use Rattle.pbf_block.specs.Scale.{number_or}
-use Rattle.pbf_block.specs.Ranges.{out_of_range}
 use Rattle.pbf_block.specs.WrittenEntity.{key_index, value_index, info_message, entity_slots}
 use Rattle.pbf_block.proofs.InfoLaw.{IsAmong, MetaReady, named_read, stored_fits, stored_read, info_read, info_wire, info_quiet}
 use Rattle.pbf_wire.proofs.SlotLemmas.{IfSome}

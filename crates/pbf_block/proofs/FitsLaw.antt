@@ -30,10 +30,8 @@ use Rattle.pbf_block.specs.declared.entity.TheConstants.{INFO}
 use Rattle.pbf_block.specs.Node.{node_in}
 use Rattle.pbf_block.specs.Way.{way_in}
 use Rattle.pbf_block.specs.Relation.{relation_in}
-use Rattle.pbf_block.specs.Payload.{by_index, entities}
+use Rattle.pbf_block.specs.PrimitiveBlock.{by_index, entities, payload_weights, block_fault, part_wire, wire_faults, value_faults, positive}
 use Rattle.pbf_block.specs.Scale.{scale_of, table_of}
-use Rattle.pbf_block.specs.PrimitiveBlock.{payload_weights, block_fault, part_wire, wire_faults, value_faults}
-use Rattle.pbf_block.specs.Ranges.{positive}
 use Rattle.pbf_block.specs.declared.scale.TheConstants.{DEFAULT_SCALE}
 use Rattle.pbf_block.proofs.EntityLaw.{all_such, map_of_all}
 use Rattle.pbf_block.proofs.MemberLemmas.{cond_all, inside_all, InGroup, groups_all, groups_nil, IsClean, HoldsClean, payload_clean}

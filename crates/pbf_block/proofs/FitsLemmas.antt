@@ -35,14 +35,13 @@ use Rattle.pbf_block.specs.declared.way.TheConstants.{WAY_KINDS, REFS, WAY_LAT, 
 use Rattle.pbf_block.specs.declared.relation.TheConstants.{RELATION_KINDS, MEMIDS, TYPES, ROLES_SID}
 use Rattle.pbf_block.specs.declared.info.TheConstants.{INFO_KINDS}
 use Rattle.pbf_block.specs.declared.entity.TheConstants.{ID, INFO}
-use Rattle.pbf_block.specs.Info.{info_in, info_values}
+use Rattle.pbf_block.specs.Info.{info_in, info_values, out_of_range}
 use Rattle.pbf_block.specs.Entity.{values_in, entity_structure, entity_values}
 use Rattle.pbf_block.specs.Node.{node_in, node_values}
 use Rattle.pbf_block.specs.Way.{way_in, are_located, way_structure, way_values}
 use Rattle.pbf_block.specs.Relation.{relation_in, relation_values}
-use Rattle.pbf_block.specs.Payload.{by_index}
+use Rattle.pbf_block.specs.PrimitiveBlock.{by_index}
 use Rattle.pbf_block.specs.Scale.{number_or}
-use Rattle.pbf_block.specs.Ranges.{out_of_range}
 use Rattle.pbf_wire.proofs.SlotLemmas.{IfSome}
 use Rattle.pbf_block.proofs.ValueLemmas.{later_value, last_is}
 use Rattle.pbf_block.proofs.MemberLemmas.{entered_nil}

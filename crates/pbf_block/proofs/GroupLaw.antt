@@ -17,7 +17,7 @@ use Rattle.osm_entity.specs.declared.scale.Scale.{Scale}
 use Rattle.osm_entity.specs.Entity.{EntitySpec}
 use Rattle.pbf_block.specs.declared.group.TheConstants.{GROUP_KINDS, DENSE, CHANGESETS}
 use Rattle.pbf_block.specs.Group.{member_wire, group_wire, member_structure, is_member, first_member, is_other, entities_structure, group_structure, member_values, weight_fault, member_weights, member_entities}
-use Rattle.pbf_block.specs.Payload.{by_index}
+use Rattle.pbf_block.specs.PrimitiveBlock.{by_index}
 
 -- a message at the field k of a group has no fault and holds these entities, wherever it stands
 pub record MemberGood (table : List (List ℕ)) (scale : Scale) (k : ℕ) (m : List ℕ) (es : List EntitySpec) : Type 0 where

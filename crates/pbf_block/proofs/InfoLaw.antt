@@ -22,8 +22,7 @@ use Rattle.osm_entity.specs.Sources.{named}
 use Rattle.pbf_dense.specs.WrittenDense.{bit_of}
 use Rattle.pbf_dense.specs.declared.message.TheConstants.{VERSION, TIMESTAMP, CHANGESET, UID, USER_SID, VISIBLE}
 use Rattle.pbf_block.specs.declared.info.TheConstants.{INFO_KINDS}
-use Rattle.pbf_block.specs.Ranges.{out_of_range}
-use Rattle.pbf_block.specs.Info.{info_values, info_in}
+use Rattle.pbf_block.specs.Info.{out_of_range, info_values, info_in}
 use Rattle.pbf_block.specs.WrittenEntity.{info_slots, info_message}
 use Rattle.osm_entity.proofs.RangeLemmas.{present}
 use Rattle.pbf_wire.proofs.SlotLemmas.{IfSome, scalar_given, given_all, option_read, scalar_fits, last_given}

@@ -33,7 +33,7 @@ use Rattle.pbf_block.specs.Way.{way_in}
 use Rattle.pbf_block.specs.Relation.{relation_in}
 use Rattle.pbf_block.specs.Entity.{values_in}
 use Rattle.pbf_block.specs.Group.{message_entities, weight_fault}
-use Rattle.pbf_block.specs.Payload.{along}
+use Rattle.pbf_block.specs.PrimitiveBlock.{along}
 use Rattle.osm_entity.specs.declared.weight.TheConstants.{HIGHEST_WEIGHT}
 
 -- ---- texts

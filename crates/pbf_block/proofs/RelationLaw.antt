@@ -25,7 +25,7 @@ use Rattle.pbf_block.specs.declared.relation.TheConstants.{RELATION_KINDS, ROLES
 use Rattle.pbf_block.specs.declared.entity.TheConstants.{INFO}
 use Rattle.pbf_block.specs.declared.info.TheConstants.{INFO_KINDS}
 use Rattle.pbf_block.specs.Relation.{relation_in, are_members, relation_structure, relation_values}
-use Rattle.pbf_block.specs.Payload.{by_index}
+use Rattle.pbf_block.specs.PrimitiveBlock.{by_index}
 use Rattle.pbf_block.specs.WrittenEntity.{kind_number, role_index, relation_slots, relation_message}
 use Rattle.pbf_block.proofs.InfoLaw.{named_read}
 use Rattle.pbf_block.proofs.EntityLaw.{AreAmong, IsNamed, AreKnown, IsOwn, IsReady, all_such, user_among, named_fit, named_good, values_read, count_is, sums_good, entity_fits, id_read, tags_read, meta_read, entity_wire, no_structure, id_quiet, no_value}

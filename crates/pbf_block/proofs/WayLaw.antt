@@ -19,7 +19,7 @@ use Rattle.pbf_block.specs.declared.way.TheConstants.{WAY_KINDS, REFS, WAY_LAT, 
 use Rattle.pbf_block.specs.declared.entity.TheConstants.{INFO}
 use Rattle.pbf_block.specs.declared.info.TheConstants.{INFO_KINDS}
 use Rattle.pbf_block.specs.Way.{way_in, are_located, way_structure, way_values}
-use Rattle.pbf_block.specs.Payload.{by_index}
+use Rattle.pbf_block.specs.PrimitiveBlock.{by_index}
 use Rattle.pbf_block.specs.WrittenEntity.{way_slots, way_message}
 use Rattle.pbf_block.proofs.EntityLaw.{AreAmong, AreKnown, IsOwn, IsReady, user_among, values_read, count_is, sums_good, entity_fits, id_read, tags_read, meta_read, entity_wire, no_structure, id_quiet, no_value}
 

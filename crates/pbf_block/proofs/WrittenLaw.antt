@@ -22,8 +22,7 @@ use Rattle.osm_entity.specs.Weight.{entity_weight}
 use Rattle.osm_entity.proofs.TextCounts.{node_count, way_count, relation_count}
 use Rattle.pbf_dense.specs.WrittenDense.{dense_message, AreAlike}
 use Rattle.pbf_block.specs.declared.group.TheConstants.{DENSE}
-use Rattle.pbf_block.specs.PrimitiveBlock.{block_fault}
-use Rattle.pbf_block.specs.Payload.{entities}
+use Rattle.pbf_block.specs.PrimitiveBlock.{block_fault, entities}
 use Rattle.pbf_block.specs.WrittenBlock.{same_scale, both, same_fields, are_alike, all_alike, is_block, scale_among, texts_of_all, group_message, block_slots, block_message}
 use Rattle.pbf_block.proofs.EntityLaw.{all_such, AreAmong, map_of_all}
 use Rattle.pbf_block.proofs.GroupLaw.{GroupGood}

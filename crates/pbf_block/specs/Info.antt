@@ -1,9 +1,9 @@
 -- An Info: what is judged of its values, and the metadata that it says.
-use Rattle.std.specs.Prelude.{◌≡◌, ℕ, List, ◌==◌, not, ◌++◌}
+use Rattle.std.specs.Prelude.{◌≡◌, ℕ, ℤ, pos, ◌^◌, List, ◌==◌, not, ◌++◌}
 use Rattle.std.specs.Option.{option_map}
 use Rattle.pbf_wire.specs.declared.fault.Fault.{Fault}
 use Rattle.pbf_wire.specs.declared.fault.Reason.TheVariants.{StringIndex}
-use Rattle.pbf_wire.specs.Faults.{below_fault, fields_in, in_last, last_value}
+use Rattle.pbf_wire.specs.Faults.{below_fault, fields_in, in_last, last_value, range_fault}
 use Rattle.pbf_wire.specs.Occurrence.{Occurrence}
 use Rattle.pbf_wire.specs.Reading.{last_number}
 use Rattle.pbf_wire.specs.Signed.{low_i32, low_i64}
@@ -12,7 +12,10 @@ use Rattle.osm_entity.specs.Sources.{named}
 use Rattle.pbf_dense.specs.declared.message.TheConstants.{VERSION, TIMESTAMP, CHANGESET, UID, USER_SID, VISIBLE}
 use Rattle.pbf_block.specs.declared.info.InfoNumbers.{InfoNumbers}
 use Rattle.pbf_block.specs.declared.info.InfoValues.{InfoValues}
-use Rattle.pbf_block.specs.Ranges.{out_of_range}
+
+-- a number, as it is read, isn't strictly between -2^bits and 2^bits
+abbrev pub out_of_range : ℕ → (ℕ → ℤ) → ℕ → ℕ → List Fault
+out_of_range bits read place v = range_fault (pos (2 ^ bits)) place (read v)
 
 -- the faults of values, where the table has as many texts as the limit
 abbrev pub info_values : ℕ → ℕ → ℕ → List ℕ → List Fault

@@ -1,12 +1,10 @@
 pub mod Scale
-pub mod Ranges
 pub mod Info
 pub mod Entity
 pub mod Node
 pub mod Way
 pub mod Relation
 pub mod Group
-pub mod Payload
 pub mod PrimitiveBlock
 pub mod Passes
 pub mod Kinds

@@ -9,8 +9,7 @@ use Rattle.osm_entity.specs.Entity.{NodeSpec}
 use Rattle.pbf_block.specs.declared.entity.TheConstants.{ID, INFO}
 use Rattle.pbf_block.specs.declared.node.TheConstants.{NODE_LAT, NODE_LON}
 use Rattle.pbf_block.specs.Entity.{entity_structure, entity_values, tags_in}
-use Rattle.pbf_block.specs.Info.{info_in}
-use Rattle.pbf_block.specs.Ranges.{out_of_range}
+use Rattle.pbf_block.specs.Info.{info_in, out_of_range}
 use Rattle.pbf_block.specs.Scale.{number_or}
 
 abbrev pub node_structure : ℕ → ℕ → List ℕ → List Fault

@@ -1,17 +1,36 @@
--- A PrimitiveBlock: its faults phase by phase, and the first of them.
-use Rattle.std.specs.Prelude.{ℕ, nat_lt, List, [], ◌∷◌, ◌++◌, length, Option}
+-- A PrimitiveBlock: the entities in it, its faults phase by phase, and the first of them.
+use Rattle.std.specs.Prelude.{ℕ, pos, ◌^◌, nat_lt, int_lt, List, [], ◌∷◌, ◌++◌, length, Option}
 use Rattle.std.specs.List.{flat_map}
 use Rattle.pbf_wire.specs.declared.fault.Fault.{Fault}
+use Rattle.pbf_wire.specs.declared.fault.Reason.{Reason}
 use Rattle.pbf_wire.specs.declared.fault.Reason.TheVariants.{TooManyStrings, Granularity, DateGranularity}
 use Rattle.pbf_wire.specs.Occurrence.{Occurrence, items}
 use Rattle.pbf_wire.specs.Faults.{fault_where, entered, fields_in, in_last, leaf_faults, message_faults, missing, twice}
 use Rattle.pbf_wire.specs.Phases.{first_fault, in_phases}
+use Rattle.pbf_wire.specs.Signed.{low_i32}
+use Rattle.pbf_wire.specs.Sums.{sums, sums_within}
 use Rattle.pbf_strings.specs.Texts.{texts, table_kinds}
+use Rattle.osm_entity.specs.Entity.{EntitySpec}
+use Rattle.pbf_dense.specs.Nodes.{nodes, nodes_along}
 use Rattle.pbf_block.specs.declared.primitive_block.TheConstants.{STRINGTABLE, PRIMITIVEGROUP, GRANULARITY, DATE_GRANULARITY, BLOCK_KINDS}
-use Rattle.pbf_block.specs.Group.{group_wire, group_structure, in_group, member_values, member_weights}
-use Rattle.pbf_block.specs.Payload.{by_index}
-use Rattle.pbf_block.specs.Ranges.{positive}
+use Rattle.pbf_block.specs.Entity.{How}
+use Rattle.pbf_block.specs.Group.{group_wire, group_structure, in_group, member_values, member_entities, member_weights}
 use Rattle.pbf_block.specs.Scale.{scale_of, table_of}
+
+-- ---- entities
+
+-- each value of a column is the sum of all entries up to its own
+abbrev pub by_index : How
+by_index = record { values = sums; dense = nodes }
+
+-- running sums, up to the first that is out of range
+abbrev pub along : How
+along = record { values = sums_within (pos (2 ^ 62)) (pos 0); dense = nodes_along }
+
+-- the entities of a payload that begins at this place: group by group, in a group field by field, of a dense message node by
+-- node
+unfoldable pub entities : ℕ → List ℕ → List EntitySpec
+entities at payload = let os = fields_in at payload in flat_map (in_group (member_entities by_index (table_of os) (scale_of os))) os
 
 -- ---- wire form
 
@@ -35,6 +54,10 @@ unfoldable pub structure_faults : ℕ → List ℕ → List Fault
 structure_faults at m = let os = fields_in at m in missing STRINGTABLE at os ++ twice STRINGTABLE os ++ flat_map part_structure os
 
 -- ---- values: numbers out of range, each at the field that holds it, where the table has as many texts as the limit
+
+-- a number that must be at least 1
+abbrev pub positive : Reason → ℕ → ℕ → List Fault
+positive reason place v = fault_where (int_lt (low_i32 v) (pos 1)) place reason
 
 unfoldable pub value_faults : ℕ → ℕ → List ℕ → List Fault
 value_faults limit at m =

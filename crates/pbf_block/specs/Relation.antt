@@ -14,8 +14,7 @@ use Rattle.pbf_dense.specs.Judged.{range_faults}
 use Rattle.pbf_block.specs.declared.entity.TheConstants.{ID, INFO}
 use Rattle.pbf_block.specs.declared.relation.TheConstants.{ROLES_SID, MEMIDS, TYPES}
 use Rattle.pbf_block.specs.Entity.{How, entity_structure, entity_values, tags_in, values_in}
-use Rattle.pbf_block.specs.Info.{info_in}
-use Rattle.pbf_block.specs.Ranges.{out_of_range}
+use Rattle.pbf_block.specs.Info.{info_in, out_of_range}
 use Rattle.pbf_block.specs.Scale.{number_or}
 
 -- the three columns of members are of one count

@@ -17,7 +17,7 @@ use Rattle.pbf_block.specs.declared.runs.Run.TheVariants as run
 use Rattle.pbf_block.specs.declared.runs.Runs.{Runs}
 use Rattle.pbf_block.specs.Kinds.{member_entities_among}
 use Rattle.pbf_block.specs.Entity.{How}
-use Rattle.pbf_block.specs.Payload.{along}
+use Rattle.pbf_block.specs.PrimitiveBlock.{along}
 
 -- those that a run holds
 abbrev pub run_entities : Run → List EntitySpec

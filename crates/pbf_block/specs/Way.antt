@@ -12,8 +12,7 @@ use Rattle.pbf_dense.specs.Judged.{goes_with, range_faults}
 use Rattle.pbf_block.specs.declared.entity.TheConstants.{ID, INFO}
 use Rattle.pbf_block.specs.declared.way.TheConstants.{REFS, WAY_LAT, WAY_LON}
 use Rattle.pbf_block.specs.Entity.{How, entity_structure, entity_values, tags_in, values_in}
-use Rattle.pbf_block.specs.Info.{info_in}
-use Rattle.pbf_block.specs.Ranges.{out_of_range}
+use Rattle.pbf_block.specs.Info.{info_in, out_of_range}
 use Rattle.pbf_block.specs.Scale.{number_or}
 
 -- there are as many latitudes as longitudes, and no locations or as many as refs

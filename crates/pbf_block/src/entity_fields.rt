@@ -11,7 +11,7 @@ ghost use Rattle.osm_entity.specs.Sources.{tags_left};
 ghost use Rattle.osm_entity.specs.Views.{meta_of};
 ghost use Rattle.pbf_block.specs.Info.{info_in};
 ghost use Rattle.pbf_block.specs.Entity.{tags_in, values_in};
-ghost use Rattle.pbf_block.specs.Payload.{along};
+ghost use Rattle.pbf_block.specs.PrimitiveBlock.{along};
 ghost use Rattle.pbf_block.specs.Passes.{AreApart, AreFields, AreOwn, only, only_left};
 ghost use Rattle.pbf_block.specs.Scale.{number_or};
 

@@ -10,7 +10,7 @@ ghost use Rattle.osm_entity.specs.Entity.{node};
 ghost use Rattle.osm_entity.specs.Views.{entity_of};
 ghost use Rattle.pbf_dense.specs.Nodes.{nodes_along};
 ghost use Rattle.pbf_block.specs.Group.{member_wire, is_member, first_member, is_other, entities_structure, member_structure, group_structure, member_values, weight_fault, member_weights};
-ghost use Rattle.pbf_block.specs.Payload.{along};
+ghost use Rattle.pbf_block.specs.PrimitiveBlock.{along};
 
 use crate::entity::INFO;
 use crate::info::INFO_KINDS;

@@ -16,10 +16,9 @@ ghost use Rattle.pbf_block.specs.declared.way.TheConstants.{WAY_KINDS};
 ghost use Rattle.pbf_block.specs.declared.relation.TheConstants.{RELATION_KINDS};
 ghost use Rattle.pbf_block.specs.declared.entity.TheConstants.{INFO};
 ghost use Rattle.pbf_block.specs.declared.info.TheConstants.{INFO_KINDS};
-ghost use Rattle.pbf_block.specs.PrimitiveBlock.{block_fault, all_faults};
+ghost use Rattle.pbf_block.specs.PrimitiveBlock.{block_fault, all_faults, by_index, entities};
 ghost use Rattle.pbf_block.specs.Way.{way_in, way_structure, way_values};
 ghost use Rattle.pbf_block.specs.Relation.{relation_in, relation_structure, relation_values};
-ghost use Rattle.pbf_block.specs.Payload.{by_index, entities};
 ghost use Rattle.pbf_block.specs.WrittenBlock.{is_block, block_message};
 ghost use Rattle.pbf_block.specs.WrittenEntity.{way_message, relation_message};
 

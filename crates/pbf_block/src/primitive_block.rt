@@ -5,8 +5,7 @@ ghost use Rattle.std.specs.List.{flat_map};
 ghost use Rattle.pbf_wire.specs.Faults.{fields_in};
 ghost use Rattle.pbf_wire.specs.Least.{least};
 ghost use Rattle.pbf_block.specs.Group.{member_weights, in_group};
-ghost use Rattle.pbf_block.specs.Payload.{along};
-ghost use Rattle.pbf_block.specs.PrimitiveBlock.{part_wire, wire_faults, part_structure, structure_faults, value_faults};
+ghost use Rattle.pbf_block.specs.PrimitiveBlock.{along, part_wire, wire_faults, part_structure, structure_faults, value_faults};
 
 use crate::group::{self, GROUP_KINDS, MemberForm, MemberValues, MemberWeights};
 use crate::ranges::{judge_positive, last_value_left};

@@ -6,7 +6,7 @@ ghost use Rattle.pbf_wire.specs.Least.{least};
 ghost use Rattle.pbf_wire.specs.Occurrence.{Occurrence};
 ghost use Rattle.osm_entity.specs.Views.{relation_of};
 ghost use Rattle.pbf_block.specs.Entity.{AreOwnCounts};
-ghost use Rattle.pbf_block.specs.Payload.{along};
+ghost use Rattle.pbf_block.specs.PrimitiveBlock.{along};
 ghost use Rattle.pbf_block.specs.Relation.{are_members, relation_structure, relation_values, relation_in};
 
 use crate::entity::{ID, INFO, KEYS, VALS, entity_counts, entity_values};

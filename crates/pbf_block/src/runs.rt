@@ -5,7 +5,7 @@ ghost use Rattle.pbf_wire.specs.Cursors.{fields_left};
 ghost use Rattle.pbf_wire.specs.Fields.{occurrence};
 ghost use Rattle.pbf_wire.specs.Occurrence.{found};
 ghost use Rattle.pbf_block.specs.Kinds.{member_entities_among};
-ghost use Rattle.pbf_block.specs.Payload.{along};
+ghost use Rattle.pbf_block.specs.PrimitiveBlock.{along};
 ghost use Rattle.pbf_block.specs.Runs.{run_entities};
 
 use crate::group::{DENSE, NODES, RELATIONS, WAYS};

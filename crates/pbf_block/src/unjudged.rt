@@ -4,10 +4,9 @@ ghost use Rattle.std.specs.Prelude.{◌≡◌, ◌+◌, ◌*◌, ◌≤◌, ◌<
 ghost use Rattle.std.specs.List.{AllByRecursion};
 ghost use Rattle.pbf_wire.specs.Faults.{fields_in};
 ghost use Rattle.osm_entity.specs.Ranges.{EntityFits};
-ghost use Rattle.pbf_block.specs.PrimitiveBlock.{block_fault};
+ghost use Rattle.pbf_block.specs.PrimitiveBlock.{block_fault, entities};
 ghost use Rattle.pbf_block.specs.Kinds.{is_among};
 ghost use Rattle.pbf_block.specs.Numbers.{counts_of};
-ghost use Rattle.pbf_block.specs.Payload.{entities};
 ghost use Rattle.pbf_block.specs.Runs.{joined_runs, runs_left};
 ghost use Rattle.pbf_block.specs.Scale.{scale_of, table_of};
 

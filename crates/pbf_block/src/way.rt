@@ -6,7 +6,7 @@ ghost use Rattle.pbf_wire.specs.Least.{least};
 ghost use Rattle.pbf_wire.specs.Occurrence.{Occurrence};
 ghost use Rattle.osm_entity.specs.Views.{way_of};
 ghost use Rattle.pbf_block.specs.Entity.{AreOwnCounts};
-ghost use Rattle.pbf_block.specs.Payload.{along};
+ghost use Rattle.pbf_block.specs.PrimitiveBlock.{along};
 ghost use Rattle.pbf_block.specs.Way.{are_located, way_structure, way_values, way_in};
 
 use crate::entity::{ID, INFO, KEYS, VALS, entity_counts, entity_values};

@@ -3,7 +3,7 @@ use Rattle.std.specs.Prelude.{List, []}
 use Rattle.std.specs.List.{flat_map}
 use Rattle.osm_entity.specs.Entity.{EntitySpec}
 pub use Rattle.pbf_block.specs.Numbers.{nodes_of, ways_of, relations_of, capped, counted_with, counts_of, count_one}
-use Rattle.pbf_block.specs.Payload.{entities}
+use Rattle.pbf_block.specs.PrimitiveBlock.{entities}
 use Rattle.pbf_frame.specs.Frames.{FrameSpec}
 use Rattle.pbf_pass.specs.Payload.{Payload, primitive_block, payload_of}
 

@@ -5,7 +5,7 @@ ghost use Rattle.std.specs.List.{fold};
 ghost use Rattle.osm_entity.specs.Entity.{EntitySpec, node};
 ghost use Rattle.osm_entity.specs.Views.{entity_of};
 ghost use Rattle.pbf_block.specs.Kinds.{is_among};
-ghost use Rattle.pbf_block.specs.Payload.{entities};
+ghost use Rattle.pbf_block.specs.PrimitiveBlock.{entities};
 ghost use Rattle.pbf_block.specs.Runs.{joined_runs, run_entities, runs_left};
 ghost use Rattle.pbf_dense.specs.Cursors.{dense_left};
 ghost use Rattle.pbf_frame.specs.Next.{IsReading, place_of, held_by, verdict};

@@ -23,8 +23,7 @@ use Rattle.pbf_frame.proofs.Longest.{frames_then_rest}
 use Rattle.pbf_frame.proofs.ReadBack.{written_is_frame, written_kind, written_payload, written_bytes}
 use Rattle.pbf_header.specs.Header.{HeaderSpec}
 use Rattle.pbf_header.specs.HeaderFaults.{header_fault}
-use Rattle.pbf_block.specs.PrimitiveBlock.{block_fault}
-use Rattle.pbf_block.specs.Payload.{entities}
+use Rattle.pbf_block.specs.PrimitiveBlock.{block_fault, entities}
 use Rattle.pbf_block.specs.WrittenBlock.{is_block, block_message}
 use Rattle.pbf_header.specs.WrittenHeader.{HeaderFits, header_message, header_out_for_convert}
 use Rattle.pbf_header.proofs.HeaderLaw.{header_short, light_read, light_sound}

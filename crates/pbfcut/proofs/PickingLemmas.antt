@@ -26,7 +26,7 @@ use Rattle.pbf_pass.specs.Counting.{stored_entities, frame_entities}
 use Rattle.pbf_pass.proofs.CountLemmas.{stored_one}
 use Rattle.pbf_block.specs.declared.kinds.Kinds.{Kinds}
 use Rattle.pbf_block.specs.Kinds.{is_among}
-use Rattle.pbf_block.specs.Payload.{entities}
+use Rattle.pbf_block.specs.PrimitiveBlock.{entities}
 use Rattle.pbf_block.proofs.KindLemmas.{filter_every}
 use Rattle.pbfcut.specs.Pick.{Pick, HasPacked, BeginsAll, Begins, StopsPacking, StopsAmong}
 use Rattle.pbf_pass.specs.Stops.{Caused, Only, unchanged, WriteFailed}

@@ -5,10 +5,9 @@ use Rattle.pbf_wire.specs.Least.{least}
 use Rattle.pbf_wire.specs.Faults.{fields_in}
 use Rattle.pbf_wire.proofs.SoundLemmas.{no_least}
 use Rattle.pbf_block.specs.Group.{in_group, member_weights}
-use Rattle.pbf_block.specs.PrimitiveBlock.{payload_weights, value_faults}
+use Rattle.pbf_block.specs.PrimitiveBlock.{payload_weights, value_faults, by_index}
 use Rattle.osm_entity.specs.declared.scale.Scale.{Scale}
 use Rattle.pbf_block.specs.Scale.{scale_of, table_of}
-use Rattle.pbf_block.specs.Payload.{by_index}
 use Rattle.pbf_block.proofs.ByIndexLemmas.{weights_same}
 use Rattle.pbf_block.proofs.MemberLemmas.{payload_clean}
 use Rattle.pbf_block.proofs.block.late_fault.Goals as goal

@@ -10,7 +10,7 @@ use Rattle.osm_entity.specs.Views.{entity_of}
 use Rattle.pbf_dense.specs.Cursors.{dense_left}
 use Rattle.pbf_dense.specs.Judged.{dense_weights}
 use Rattle.pbf_block.specs.Group.{weight_fault}
-use Rattle.pbf_block.specs.Payload.{along}
+use Rattle.pbf_block.specs.PrimitiveBlock.{along}
 use Rattle.pbf_block.specs.Runs.{run_entities}
 use Rattle.pbf_block.proofs.KindLemmas.{member_of_all}
 use Rattle.pbf_block.proofs.group.judge_members.Goals as goal

@@ -1,8 +1,7 @@
 use Rattle.std.proofs.Common.{◌≡◌, ℕ, List, ap, ap₂, ◌∙◌}
 use Rattle.std.specs.Prelude.{None}
 use Rattle.std.specs.List.{fold}
-use Rattle.pbf_block.specs.PrimitiveBlock.{block_fault}
-use Rattle.pbf_block.specs.Payload.{entities}
+use Rattle.pbf_block.specs.PrimitiveBlock.{block_fault, entities}
 use Rattle.pbf_pass.proofs.GatherLemmas.{gathered_among}
 use Rattle.pbf_pass.proofs.again.gather_block.Goals as goal
 

@@ -1,6 +1,6 @@
 use Rattle.std.proofs.Common.{ap, ◌∙◌}
 use Rattle.std.specs.List.{fold}
-use Rattle.pbf_block.specs.Payload.{entities}
+use Rattle.pbf_block.specs.PrimitiveBlock.{entities}
 use Rattle.pbf_pass.proofs.GatherLemmas.{gathered_among}
 use Rattle.pbf_pass.proofs.pass.gather_entities.Goals as goal
 

@@ -1,6 +1,6 @@
 use Rattle.std.proofs.Common.{◌∙◌}
 use Rattle.pbf_block.specs.Kinds.{is_among}
-use Rattle.pbf_block.specs.Payload.{entities}
+use Rattle.pbf_block.specs.PrimitiveBlock.{entities}
 use Rattle.pbf_block.proofs.KindLemmas.{filter_every}
 use Rattle.pbf_block.proofs.block.Block.entities.Goals as goal
 

@@ -3,7 +3,7 @@ use Rattle.std.specs.List.{flat_map}
 use Rattle.pbf_wire.specs.Faults.{fields_in}
 use Rattle.pbf_wire.specs.Occurrence.{Occurrence, found}
 use Rattle.pbf_block.specs.Kinds.{member_entities_among}
-use Rattle.pbf_block.specs.Payload.{along}
+use Rattle.pbf_block.specs.PrimitiveBlock.{along}
 use Rattle.pbf_block.specs.Runs.{joined_runs, group_runs, runs_left}
 use Rattle.pbf_wire.specs.Occurrence as P
 use Rattle.pbf_block.proofs.RunLemmas.{all_joined}
