@@ -24,7 +24,7 @@ use Rattle.pbf_dense.specs.Judged.{dense_wire, dense_structure, dense_values}
 use Rattle.osm_entity.proofs.RangeLemmas.{int32_typed, int64_typed}
 use Rattle.pbf_dense.proofs.FitsLemmas.{nodes_fit, nodes_typed, version_typed}
 use Rattle.pbf_block.specs.Groups.{in_group}
-use Rattle.pbf_dense.specs.declared.message.TheConstants.{VERSION}
+use Rattle.pbf_dense.specs.declared.info_rules.TheConstants.{VERSION}
 use Rattle.pbf_block.specs.declared.message.TheConstants.{PRIMITIVEGROUP, GRANULARITY, DATE_GRANULARITY, BLOCK_KINDS, GROUP_KINDS, NODES, DENSE, WAYS, RELATIONS, INFO, LAT_OFFSET, LON_OFFSET, NODE_KINDS, WAY_KINDS, RELATION_KINDS, INFO_KINDS}
 use Rattle.pbf_block.specs.Members.{message_entities, member_entities, node_in, way_in, relation_in}
 use Rattle.pbf_block.specs.Payload.{by_index, entities}

@@ -29,7 +29,7 @@ use Rattle.osm_entity.specs.Ranges.{IsStored, IsUid, IfPresent, MetaFits, Locati
 use Rattle.osm_entity.specs.Sources.{column_members}
 use Rattle.osm_entity.specs.Weight.{entity_weight}
 use Rattle.pbf_dense.specs.Judged.{range_faults}
-use Rattle.pbf_dense.specs.declared.message.TheConstants.{TIMESTAMP, CHANGESET, UID, USER_SID}
+use Rattle.pbf_dense.specs.declared.info_rules.TheConstants.{TIMESTAMP, CHANGESET, UID, USER_SID}
 use Rattle.pbf_block.specs.declared.message.TheConstants.{NODE_KINDS, WAY_KINDS, RELATION_KINDS, INFO_KINDS, ID, INFO, NODE_LAT, NODE_LON, REFS, WAY_LAT, WAY_LON, MEMIDS, TYPES, ROLES_SID}
 use Rattle.pbf_block.specs.Info.{info_in}
 use Rattle.pbf_block.specs.Members.{values_in, node_in, way_in, relation_in}

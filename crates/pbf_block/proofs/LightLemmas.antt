@@ -23,7 +23,8 @@ use Rattle.osm_entity.specs.Weight.{tags_weight, members_weight, text_weight, no
 use Rattle.pbf_dense.specs.Info.{InfoSpec, meta_at, user_text, info_along, later}
 use Rattle.pbf_dense.specs.Nodes.{moving, nodes_along}
 use Rattle.pbf_dense.specs.Runs.{after_run}
-use Rattle.pbf_dense.specs.declared.message.TheConstants.{KEYS_VALS, USER_SID}
+use Rattle.pbf_dense.specs.declared.dense_rules.TheConstants.{KEYS_VALS}
+use Rattle.pbf_dense.specs.declared.info_rules.TheConstants.{USER_SID}
 use Rattle.pbf_block.specs.declared.message.TheConstants.{NODES, DENSE, WAYS, RELATIONS, KEYS, VALS, INFO, REFS, WAY_LAT, WAY_LON, ROLES_SID, MEMIDS, TYPES}
 use Rattle.pbf_block.specs.Members.{node_in, way_in, relation_in, values_in, message_entities}
 use Rattle.pbf_block.specs.Payload.{along}

@@ -2,7 +2,7 @@
 use Rattle.std.specs.Prelude.{◌≡◌, List}
 use Rattle.pbf_wire.specs.Occurrence.{Occurrence}
 use Rattle.pbf_wire.specs.Faults.{last_value}
-use Rattle.pbf_dense.specs.declared.message.TheConstants.{TIMESTAMP, CHANGESET, UID, USER_SID}
+use Rattle.pbf_dense.specs.declared.info_rules.TheConstants.{TIMESTAMP, CHANGESET, UID, USER_SID}
 use Rattle.pbf_block.specs.declared.info_values.InfoValues.{InfoValues}
 
 -- these are the last of their fields

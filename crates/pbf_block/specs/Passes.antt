@@ -8,7 +8,7 @@ use Rattle.pbf_wire.specs.Occurrence.{Occurrence, found}
 use Rattle.pbf_wire.specs.Reading.{last_of, last_number}
 use Rattle.pbf_block.specs.declared.entity_fields.EntityFields.{EntityFields}
 use Rattle.pbf_block.specs.declared.info.InfoNumbers.{InfoNumbers}
-use Rattle.pbf_dense.specs.declared.message.TheConstants.{VERSION, TIMESTAMP, CHANGESET, UID, USER_SID, VISIBLE}
+use Rattle.pbf_dense.specs.declared.info_rules.TheConstants.{VERSION, TIMESTAMP, CHANGESET, UID, USER_SID, VISIBLE}
 use Rattle.pbf_block.specs.declared.message.TheConstants.{ID, KEYS, VALS, INFO}
 
 -- the occurrences of the field k

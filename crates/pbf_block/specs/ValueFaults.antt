@@ -9,7 +9,7 @@ use Rattle.pbf_wire.specs.Columns.{joined}
 use Rattle.pbf_wire.specs.Signed.{is_within, unzigzag, low_i32, low_i64}
 use Rattle.pbf_wire.specs.Faults.{fault_where, entered, fields_in, in_last, below_fault, index_faults}
 use Rattle.pbf_dense.specs.Judged.{range_faults, dense_values}
-use Rattle.pbf_dense.specs.declared.message.TheConstants.{TIMESTAMP, CHANGESET, UID, USER_SID}
+use Rattle.pbf_dense.specs.declared.info_rules.TheConstants.{TIMESTAMP, CHANGESET, UID, USER_SID}
 use Rattle.pbf_block.specs.declared.message.TheConstants.{GRANULARITY, DATE_GRANULARITY, NODES, DENSE, WAYS, RELATIONS, ID, KEYS, VALS, INFO, NODE_LAT, NODE_LON, REFS, WAY_LAT, WAY_LON, ROLES_SID, MEMIDS, TYPES}
 use Rattle.pbf_block.specs.Groups.{in_group}
 
