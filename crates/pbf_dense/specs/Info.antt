@@ -60,17 +60,6 @@ info_along os = record {
   visible = column VISIBLE os;
 }
 
--- the columns behind their first entries
-abbrev pub later : InfoSpec → InfoSpec
-later info = record {
-  versions = drop 1 info.versions;
-  timestamps = drop 1 info.timestamps;
-  changesets = drop 1 info.changesets;
-  uids = drop 1 info.uids;
-  users = drop 1 info.users;
-  visible = drop 1 info.visible;
-}
-
 -- the columns behind their first n entries
 abbrev pub later_by : ℕ → InfoSpec → InfoSpec
 later_by n info = record {
@@ -81,3 +70,6 @@ later_by n info = record {
   users = drop n info.users;
   visible = drop n info.visible;
 }
+
+abbrev pub later : InfoSpec → InfoSpec
+later info = later_by 1 info

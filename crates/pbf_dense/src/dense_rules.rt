@@ -9,7 +9,7 @@ ghost use Rattle.osm_entity.specs.Sources.{low_32};
 ghost use Rattle.osm_entity.specs.Views.{node_of};
 ghost use Rattle.pbf_dense.specs.Cursors.{dense_left};
 ghost use Rattle.pbf_dense.specs.Nodes.{nodes_along};
-ghost use Rattle.pbf_dense.specs.Judged.{coordinate_counts, are_runs, are_tags, run_faults, texts_named, weight_fault, dense_wire, dense_structure, dense_values, dense_weights, as_stored};
+ghost use Rattle.pbf_dense.specs.Judged.{coordinate_counts, are_runs, are_tags, texts_named, weight_fault, dense_wire, dense_structure, dense_values, dense_weights, as_stored};
 
 use crate::dense::Dense;
 use crate::entries::{next_number, next_placed};
@@ -99,16 +99,6 @@ fn are_tags(keys_vals: Column<'_>, nodes: usize) -> bool
     next_number(&mut numbers).is_none() || are_runs(keys_vals, nodes)
 }
 
-/// `KeysVals` at `place`, where the tags are not of their form.
-fn judge_runs(message: &[u8], at: u64, place: u64) -> Option<Fault>
-    requires { at + length message.now ≤ 2 ^ 63 }
-    ensures { result ≡ least (run_faults place (fields_in at message.now)) }
-{
-    let keys_vals = Column::new(message, at, KEYS_VALS);
-    let fits = are_tags(keys_vals, column_count(message, at, ID));
-    fault_where(!fits, place, Reason::KeysVals)
-}
-
 impl Dense<'_> {
     /// The least fault of structure of a dense message, whose field stands at `place`: columns of unlike counts, tags that are
     /// not of their form, a second DenseInfo. Where the message has a wire fault, its fields before that count. Decodes no
@@ -119,13 +109,12 @@ impl Dense<'_> {
         ensures { result ≡ least (dense_structure place at message.now) }
     {
         let counts = judge_coordinates(message, at, place);
-        let runs = judge_runs(message, at, place);
+        let nodes = column_count(message, at, ID);
+        let formed = are_tags(Column::new(message, at, KEYS_VALS), nodes);
+        let tags = fault_where(!formed, place, Reason::KeysVals);
         let twice = judge_twice(message, at, DENSEINFO);
-        let infos = InfoStructure {
-            nodes: column_count(message, at, ID),
-        };
-        let unlike = judge_fields(message, at, &InField(DENSEINFO, infos));
-        lesser(counts, lesser(runs, lesser(twice, unlike)))
+        let infos = judge_fields(message, at, &InField(DENSEINFO, InfoStructure { nodes }));
+        lesser(counts, lesser(tags, lesser(twice, infos)))
     }
 }
 

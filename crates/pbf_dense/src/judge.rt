@@ -32,6 +32,7 @@ fn early_fault(message: &[u8], at: u64, place: u64, table: &Table<'_>) -> Option
 }
 
 /// The least fault of the weights, where there is none before them.
+#[tactic(auto, using(crate::proofs::Phases::weights_last))]
 fn late_fault(
     early: Option<Fault>,
     message: &[u8],
