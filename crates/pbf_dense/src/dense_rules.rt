@@ -42,7 +42,7 @@ pub(crate) const DENSE_KINDS: [(u64, Kind); 5] = [
     (KEYS_VALS, Kind::Column),
 ];
 
-// ---- wire form
+// Its wire form.
 
 impl Dense<'_> {
     /// The least wire fault of a dense message whose first byte stands at `at` in the file, and of the DenseInfos in it.
@@ -55,7 +55,7 @@ impl Dense<'_> {
     }
 }
 
-// ---- structure
+// Its structure.
 
 /// `ColumnLengths` at `place`, where there aren't as many latitudes and as many longitudes as ids.
 fn judge_coordinates(message: &[u8], at: u64, place: u64) -> Option<Fault>
@@ -118,7 +118,7 @@ impl Dense<'_> {
     }
 }
 
-// ---- values
+// Its values.
 
 /// The first number of the tags that a table of this length has no text for. A 0 in key place names none.
 #[tactic(auto, using(crate::proofs::Parts::least_more, crate::proofs::Parts::lesser_nothing))]
@@ -160,7 +160,7 @@ impl Dense<'_> {
     }
 }
 
-// ---- weights
+// The weights of its nodes.
 
 /// The scale of the stored numbers themselves.
 const AS_STORED: Scale = Scale {

@@ -1,4 +1,4 @@
-//! The rules of a DenseInfo, phase by phase. It has no weight of its own: its nodes are weighed with their metadata.
+//! The rules of a DenseInfo, phase by phase. It has none of weight: the weight of a node counts the text of its user.
 
 ghost use Rattle.std.specs.Prelude.{◌≡◌, ◌+◌, ◌≤◌, ◌^◌, length};
 ghost use Rattle.pbf_wire.specs.Least.{least};
@@ -34,6 +34,8 @@ pub(crate) const DENSEINFO_KINDS: [(u64, Kind); 6] = [
     (VISIBLE, Kind::Column),
 ];
 
+// Its structure.
+
 /// Whether a column is empty or has an entry for each node.
 fn goes_with(message: &[u8], at: u64, number: u64, nodes: usize) -> bool
     requires { at + length message.now ≤ 2 ^ 63 }
@@ -62,6 +64,8 @@ impl JudgeMessage for InfoStructure {
         fault_where(!fits, place, Reason::ColumnLengths)
     }
 }
+
+// Its values.
 
 /// The first value of a column of differences that is out of range.
 pub(crate) fn judge_range(message: &[u8], at: u64, number: u64) -> Option<Fault>
