@@ -27,7 +27,8 @@ use Rattle.osm_entity.specs.EntityTexts.{tag_texts, node_texts}
 use Rattle.osm_entity.specs.Ranges.{NodeFits, MetaFits, IfPresent, IsInt32, IsStored, IsUid}
 use Rattle.osm_entity.specs.Sources.{low_32}
 use Rattle.osm_entity.specs.declared.scale.Scale.{Scale}
-use Rattle.pbf_dense.specs.declared.message.TheConstants.{DENSE_KINDS, DENSEINFO_KINDS, ID, DENSEINFO, LAT, LON, KEYS_VALS}
+use Rattle.pbf_dense.specs.declared.dense_rules.TheConstants.{DENSE_KINDS, ID, DENSEINFO, LAT, LON, KEYS_VALS}
+use Rattle.pbf_dense.specs.declared.info_rules.TheConstants.{DENSEINFO_KINDS}
 use Rattle.pbf_dense.specs.Judged.{dense_wire, dense_structure, dense_values, coordinate_counts, are_runs, are_tags, run_faults, info_counts, texts_named, info_values}
 use Rattle.pbf_dense.specs.WrittenDense.{bit_of, info_columns, info_slots, info_message, tag_numbers, run_of, DenseColumns, columns_of, dense_slots, dense_message, AreAlike, NodesHeld}
 use Rattle.pbf_dense.proofs.InfoLaw.{InfoFits, InfoCounts, no_faults_joined, wide_good, deltas_length, info_leaf, info_counted, info_valued}
@@ -228,16 +229,16 @@ module _ (texts : List (List ℕ)) (scale : Scale) (ns : List NodeSpec) (h : Nod
   dense_are = (refl, (refl, (refl, (refl, (refl, tt)))))
 
   -- what is asked of DenseInfos is asked of the written one
-  only_info : (g : ℕ → ℕ → List ℕ → List Fault) → ((place begin : ℕ) → g place begin (info_message written.info) ≡ []) → AllByRecursion (SlotQuiet (entered DENSEINFO g)) (dense_slots written)
+  only_info : (g : ℕ → ℕ → List ℕ → List Fault) → ((place at : ℕ) → g place at (info_message written.info) ≡ []) → AllByRecursion (SlotQuiet (entered DENSEINFO g)) (dense_slots written)
   only_info g e = (
-    column_quiet (entered DENSEINFO g) ID (deltas written.ids) (λ place begin bytes. refl),
+    column_quiet (entered DENSEINFO g) ID (deltas written.ids) (λ place at bytes. refl),
     (
-      unless_all (λ m. (place begin : ℕ) → entered DENSEINFO g (field_at place DENSEINFO (Bytes m begin)) ≡ []) (info_message written.info) e,
+      unless_all (λ m. (place at : ℕ) → entered DENSEINFO g (field_at place DENSEINFO (Bytes m at)) ≡ []) (info_message written.info) e,
       (
-        column_quiet (entered DENSEINFO g) LAT (deltas written.lats) (λ place begin bytes. refl),
+        column_quiet (entered DENSEINFO g) LAT (deltas written.lats) (λ place at bytes. refl),
         (
-          column_quiet (entered DENSEINFO g) LON (deltas written.lons) (λ place begin bytes. refl),
-          (column_quiet (entered DENSEINFO g) KEYS_VALS (written_runs written.tagged written.runs) (λ place begin bytes. refl), tt),
+          column_quiet (entered DENSEINFO g) LON (deltas written.lons) (λ place at bytes. refl),
+          (column_quiet (entered DENSEINFO g) KEYS_VALS (written_runs written.tagged written.runs) (λ place at bytes. refl), tt),
         ),
       ),
     ),
@@ -297,7 +298,7 @@ module _ (texts : List (List ℕ)) (scale : Scale) (ns : List NodeSpec) (h : Nod
   infos_sound : (at : ℕ) → flat_map (entered DENSEINFO (info_counts (column_count ID (fields_in at (message (dense_slots written)))))) (fields_in at (message (dense_slots written))) ≡ []
   infos_sound at =
       let n = column_count ID (fields_in at (message (dense_slots written))) in
-      fields_quiet (entered DENSEINFO (info_counts n)) at (dense_slots written) (only_info (info_counts n) (λ place begin. info_sound n place begin (ids_counted at))) dense_fits short
+      fields_quiet (entered DENSEINFO (info_counts n)) at (dense_slots written) (only_info (info_counts n) (λ place inner. info_sound n place inner (ids_counted at))) dense_fits short
 
   pub structure_written : (place at : ℕ) → dense_structure place at (dense_message texts ns) ≡ []
   unfolding dense_structure dense_message

@@ -41,11 +41,3 @@ pub weights_last : (table : List (List ℕ)) (place at : ℕ) (m : List ℕ) →
 weights_last table place at m few e =
     ap (λ (ns : List NodeSpec). least (dense_weights place ns)) (nodes_same table as_stored at m (early_sound table place at m few e))
     ∙ ap (λ (f : Option Fault). least (if_none f (dense_weights place (nodes table as_stored (fields_in at m))))) (sym e)
-
--- and the first fault of all phases
-pub weights_decide : (table : List (List ℕ)) (place at : ℕ) (m : List ℕ) → length table ≤ 2 ^ 62 → early_fault (length table) place at m ≡ None
-    → least (dense_weights place (nodes_along table as_stored (fields_in at m))) ≡ dense_fault place at table m
-unfolding dense_fault
-weights_decide table place at m few e =
-    weights_last table place at m few e
-    ∙ ap (λ (f : Option Fault). option_or f (least (if_none (early_fault (length table) place at m) (dense_weights place (nodes table as_stored (fields_in at m)))))) (sym e)

@@ -16,19 +16,20 @@ use Rattle.pbf_wire.specs.Wire.{kind_of}
 use Rattle.pbf_wire.specs.Faults.{inside, entered, fields_in, fields_of, embedded, leaf_faults, column_count, index_faults, sum_faults, index_sum_faults, is_index}
 use Rattle.pbf_wire.proofs.SoundLemmas.{both_nil, all_nil, is_right, sums_good, sums_within_limit, fields_sound, count_is_length}
 use Rattle.osm_entity.specs.declared.scale.Scale.{Scale}
-use Rattle.pbf_dense.specs.declared.message.TheConstants.{DENSE_KINDS, DENSEINFO_KINDS, ID, DENSEINFO, LAT, LON, KEYS_VALS, TIMESTAMP, CHANGESET, UID, USER_SID}
+use Rattle.pbf_dense.specs.declared.dense_rules.TheConstants.{DENSE_KINDS, ID, DENSEINFO, LAT, LON, KEYS_VALS}
+use Rattle.pbf_dense.specs.declared.info_rules.TheConstants.{DENSEINFO_KINDS, TIMESTAMP, CHANGESET, UID, USER_SID}
 use Rattle.pbf_dense.specs.Nodes.{node_at, nodes, nodes_along}
 use Rattle.pbf_dense.specs.Judged.{id_count, dense_wire, dense_structure, dense_values, coordinate_counts, info_values, range_faults, texts_named, IsSound}
 use Rattle.pbf_dense.proofs.ReadableLemmas.{InRange, InfoReads, DenseReads, reads_same}
 
 -- ---- the last message that a field holds
 
-module _ (k : ℕ) (f : ℕ → ℕ → List ℕ → List Fault) (Q : List Occurrence → Type 0) (step : (place begin : ℕ) (bytes : List ℕ) → f place begin bytes ≡ [] → Q (fields_in begin bytes)) (none : Q []) where
+module _ (k : ℕ) (f : ℕ → ℕ → List ℕ → List Fault) (Q : List Occurrence → Type 0) (step : (place at : ℕ) (bytes : List ℕ) → f place at bytes ≡ [] → Q (fields_in at bytes)) (none : Q []) where
   held : (place : ℕ) (c : Content) → inside (f place) c ≡ [] → Q (inside fields_in c)
   held place (Number v) e = none
   held place (Eight bytes) e = none
   held place (Four bytes) e = none
-  held place (Bytes bytes begin) e = step place begin bytes e
+  held place (Bytes bytes at) e = step place at bytes e
 
   of_kept : (os : List Occurrence) (s : Option Occurrence) → AllByRecursion (λ o. entered k f o ≡ []) os → Q (fields_of s) → Q (fields_of (last_or s (filter (λ o. o.number == k) os)))
   of_kept [] s h q = q
@@ -56,9 +57,9 @@ indexes_small : (limit : ℕ) (zs : List ℤ) → limit ≤ 2 ^ 62 → AllByRecu
 indexes_small limit [] few h = tt
 indexes_small limit (z ∷ zs) few h = (index_small limit z few h.0, indexes_small limit zs few h.1)
 
-info_reads : (limit : ℕ) → limit ≤ 2 ^ 62 → (place begin : ℕ) (bytes : List ℕ) → info_values limit place begin bytes ≡ [] → InfoReads (fields_in begin bytes)
-info_reads limit few place begin bytes e =
-    let os = fields_in begin bytes in
+info_reads : (limit : ℕ) → limit ≤ 2 ^ 62 → (place at : ℕ) (bytes : List ℕ) → info_values limit place at bytes ≡ [] → InfoReads (fields_in at bytes)
+info_reads limit few place at bytes e =
+    let os = fields_in at bytes in
     let first = both_nil (range_faults TIMESTAMP os) _ e in
     let second = both_nil (range_faults CHANGESET os) _ first.1 in
     let third = both_nil (sum_faults (pos (2 ^ 30)) true (joined UID os)) (index_sum_faults limit (joined USER_SID os)) second.1 in

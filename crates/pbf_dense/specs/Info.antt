@@ -7,7 +7,7 @@ use Rattle.pbf_wire.specs.Signed.{unzigzag, low_sint32, low_i32}
 use Rattle.pbf_wire.specs.Sums.{sums, sums_within}
 use Rattle.pbf_strings.specs.Texts.{text}
 use Rattle.osm_entity.specs.Entity.{MetaSpec}
-use Rattle.pbf_dense.specs.declared.message.TheConstants.{VERSION, TIMESTAMP, CHANGESET, UID, USER_SID, VISIBLE}
+use Rattle.pbf_dense.specs.declared.info_rules.TheConstants.{VERSION, TIMESTAMP, CHANGESET, UID, USER_SID, VISIBLE}
 
 -- the text of an index, and the empty text where it is negative
 abbrev pub user_text : List (List ℕ) → ℤ → List ℕ
@@ -60,17 +60,6 @@ info_along os = record {
   visible = column VISIBLE os;
 }
 
--- the columns behind their first entries
-abbrev pub later : InfoSpec → InfoSpec
-later info = record {
-  versions = drop 1 info.versions;
-  timestamps = drop 1 info.timestamps;
-  changesets = drop 1 info.changesets;
-  uids = drop 1 info.uids;
-  users = drop 1 info.users;
-  visible = drop 1 info.visible;
-}
-
 -- the columns behind their first n entries
 abbrev pub later_by : ℕ → InfoSpec → InfoSpec
 later_by n info = record {
@@ -81,3 +70,6 @@ later_by n info = record {
   users = drop n info.users;
   visible = drop n info.visible;
 }
+
+abbrev pub later : InfoSpec → InfoSpec
+later info = later_by 1 info

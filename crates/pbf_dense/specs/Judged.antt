@@ -1,4 +1,4 @@
--- The faults of a dense message, phase by phase. `place` is that of its field in the file, `at` that of its first byte.
+-- The faults of a DenseInfo and of a DenseNodes, phase by phase. `place` is that of its field in the file, `at` where its first byte stands.
 use Rattle.std.specs.Prelude.{ℕ, zero, suc, ◌^◌, ◌==◌, ◌&&◌, ◌||◌, pos, Bool, true, false, not, nat_lt, if◌then◌else◌, ◌≡◌, ◌≤◌, List, [], ◌∷◌, ◌++◌, length, map, Option, Some, None}
 use Rattle.std.specs.List.{flat_map}
 use Rattle.std.specs.Option.{option_or}
@@ -12,19 +12,44 @@ use Rattle.osm_entity.specs.declared.scale.Scale.{Scale}
 use Rattle.osm_entity.specs.Entity.{NodeSpec}
 use Rattle.osm_entity.specs.Sources.{low_32}
 use Rattle.osm_entity.specs.Weight.{node_weight}
-use Rattle.pbf_dense.specs.declared.message.TheConstants.{DENSE_KINDS, DENSEINFO_KINDS, ID, DENSEINFO, LAT, LON, KEYS_VALS, VERSION, TIMESTAMP, CHANGESET, UID, USER_SID, VISIBLE}
+use Rattle.pbf_dense.specs.declared.dense_rules.TheConstants.{DENSE_KINDS, ID, DENSEINFO, LAT, LON, KEYS_VALS}
+use Rattle.pbf_dense.specs.declared.info_rules.TheConstants.{DENSEINFO_KINDS, VERSION, TIMESTAMP, CHANGESET, UID, USER_SID, VISIBLE}
 use Rattle.pbf_dense.specs.declared.phase.Phase.{Phase}
 use Rattle.pbf_dense.specs.declared.phase.Phase.TheVariants as phase
 use Rattle.pbf_dense.specs.Nodes.{nodes}
 use Rattle.osm_entity.specs.declared.weight.TheConstants.{HIGHEST_WEIGHT}
 
--- ---- wire form
+-- ---- a DenseInfo: structure
+
+-- the column k is empty, or has this many entries
+abbrev pub goes_with : ℕ → ℕ → List Occurrence → Bool
+goes_with n k os = column_count k os == 0 || column_count k os == n
+
+-- a column of a DenseInfo is neither empty nor has an entry for each node
+abbrev pub info_counts : ℕ → ℕ → ℕ → List ℕ → List Fault
+info_counts n place at m =
+    let os = fields_in at m in
+    fault_where (not (goes_with n VERSION os && (goes_with n TIMESTAMP os && (goes_with n CHANGESET os && (goes_with n UID os && (goes_with n USER_SID os && goes_with n VISIBLE os)))))) place ColumnLengths
+
+-- ---- a DenseInfo: values
+
+-- the values of the column k of differences that are out of range
+abbrev pub range_faults : ℕ → List Occurrence → List Fault
+range_faults k os = sum_faults (pos (2 ^ 62)) false (joined k os)
+
+-- the values of a DenseInfo that are out of range, and users that the table has no text for
+abbrev pub info_values : ℕ → ℕ → ℕ → List ℕ → List Fault
+info_values limit place at m =
+    let os = fields_in at m in
+    range_faults TIMESTAMP os ++ (range_faults CHANGESET os ++ (sum_faults (pos (2 ^ 30)) true (joined UID os) ++ index_sum_faults limit (joined USER_SID os)))
+
+-- ---- a DenseNodes: wire form
 
 -- the wire faults of the message and of its DenseInfos
 unfoldable pub dense_wire : ℕ → ℕ → List ℕ → List Fault
 dense_wire place at m = nested_faults DENSE_KINDS DENSEINFO DENSEINFO_KINDS place at m
 
--- ---- structure
+-- ---- a DenseNodes: structure
 
 -- how many ids there are, by the bytes that end a varint
 abbrev pub id_count : List Occurrence → ℕ
@@ -48,23 +73,13 @@ are_tags n column = are_runs 0 column || are_runs n column
 abbrev pub run_faults : ℕ → List Occurrence → List Fault
 run_faults place os = fault_where (not (are_tags (column_count ID os) (map low_32 (column KEYS_VALS os)))) place KeysVals
 
--- the column k is empty, or has this many entries
-abbrev pub goes_with : ℕ → ℕ → List Occurrence → Bool
-goes_with n k os = column_count k os == 0 || column_count k os == n
-
--- a column of a DenseInfo is neither empty nor has an entry for each node
-abbrev pub info_counts : ℕ → ℕ → ℕ → List ℕ → List Fault
-info_counts n place at m =
-    let os = fields_in at m in
-    fault_where (not (goes_with n VERSION os && (goes_with n TIMESTAMP os && (goes_with n CHANGESET os && (goes_with n UID os && (goes_with n USER_SID os && goes_with n VISIBLE os)))))) place ColumnLengths
-
 -- the faults of counts, of the tags' form, and of more than one DenseInfo
 unfoldable pub dense_structure : ℕ → ℕ → List ℕ → List Fault
 dense_structure place at m =
     let os = fields_in at m in
     coordinate_counts place os ++ (run_faults place os ++ (twice DENSEINFO os ++ flat_map (entered DENSEINFO (info_counts (column_count ID os))) os))
 
--- ---- values
+-- ---- a DenseNodes: values
 
 -- the numbers that name texts: all but the zeros in key place
 abbrev pub texts_named : Bool → List (ℕ × ℕ) → List (ℕ × ℕ)
@@ -72,23 +87,13 @@ texts_named in_value [] = []
 texts_named true (x ∷ xs) = x ∷ texts_named false xs
 texts_named false (x ∷ xs) = if low_32 x.0 == 0 then texts_named false xs else x ∷ texts_named true xs
 
--- the values of the column k of differences that are out of range
-abbrev pub range_faults : ℕ → List Occurrence → List Fault
-range_faults k os = sum_faults (pos (2 ^ 62)) false (joined k os)
-
--- the values of a DenseInfo that are out of range, and users that the table has no text for
-abbrev pub info_values : ℕ → ℕ → ℕ → List ℕ → List Fault
-info_values limit place at m =
-    let os = fields_in at m in
-    range_faults TIMESTAMP os ++ (range_faults CHANGESET os ++ (sum_faults (pos (2 ^ 30)) true (joined UID os) ++ index_sum_faults limit (joined USER_SID os)))
-
 -- the values that are out of range, and the numbers that a table of this length has no text for
 unfoldable pub dense_values : ℕ → ℕ → ℕ → List ℕ → List Fault
 dense_values limit place at m =
     let os = fields_in at m in
     range_faults ID os ++ (range_faults LAT os ++ (range_faults LON os ++ (index_faults limit (texts_named false (joined KEYS_VALS os)) ++ flat_map (entered DENSEINFO (info_values limit)) os)))
 
--- ---- weights
+-- ---- a DenseNodes: weights
 
 abbrev pub weight_fault : ℕ → NodeSpec → List Fault
 weight_fault place n = fault_where (nat_lt HIGHEST_WEIGHT (node_weight n)) place EntityLarge
@@ -101,7 +106,7 @@ dense_weights place nodes = flat_map (weight_fault place) nodes
 abbrev pub as_stored : Scale
 as_stored = record { granularity = pos 1; date_granularity = pos 1; lat_offset = pos 0; lon_offset = pos 0 }
 
--- ---- phase by phase
+-- ---- the phases of both together
 
 -- the first fault of the phases before the weights
 unfoldable pub early_fault : ℕ → ℕ → ℕ → List ℕ → Option Fault

@@ -11,8 +11,8 @@ ghost use Rattle.osm_entity.specs.Sources.{tags_left};
 ghost use Rattle.osm_entity.specs.Views.{node_of};
 ghost use Rattle.pbf_dense.specs.WrittenDense.{HoldsNodes, are_some, run_of, columns_held, dense_slots, dense_message, dense_length};
 
+use crate::dense_rules::{DENSEINFO, ID, KEYS_VALS, LAT, LON};
 use crate::info_out::InfoOut;
-use crate::message::{DENSEINFO, ID, KEYS_VALS, LAT, LON};
 use osm_entity::{NodeRef, Tags};
 use pbf_strings::TableOut;
 use pbf_wire::{ColumnOut, DeltaOut, put_column, put_unless_empty};

@@ -3,20 +3,18 @@
 
 mod dense;
 mod dense_out;
+mod dense_rules;
 mod entries;
 mod info;
 mod info_out;
+pub mod info_rules;
 mod judge;
 pub mod laws;
-pub mod message;
 mod phase;
 mod places;
-mod structure;
-mod values;
-mod weights;
 
 pub use dense::Dense;
 pub use dense_out::DenseOut;
-pub use message::KEYS_VALS;
+pub use dense_rules::KEYS_VALS;
 pub use phase::Phase;
 pub use places::{Place, Places};

@@ -120,16 +120,16 @@ box_edges place at b h room =
     rw (there LEFT (omega arith), there RIGHT (omega arith), there TOP (omega arith), there BOTTOM (omega arith)) refl
 
 abbrev features_known : List (List ℕ) → Type 0
-features_known texts = AllByRecursion (λ text. (place begin : ℕ) → feature_faults place begin text ≡ []) texts
+features_known texts = AllByRecursion (λ text. (place at : ℕ) → feature_faults place at text ≡ []) texts
 
 all_known : features_known known_features
-all_known = (λ place begin. refl, (λ place begin. refl, tt))
+all_known = (λ place at. refl, (λ place at. refl, tt))
 
 abbrev BoxFaults : Type 0
 BoxFaults = ℕ → ℕ → List ℕ → List Fault
 
 -- where no box has a fault there is none
-box_alone : (f : BoxFaults) (h : HeaderSpec) → AllByRecursion (λ m. (place begin : ℕ) → f place begin m ≡ []) (option_to_list (option_map box_message h.bbox)) → AllByRecursion (SlotQuiet (entered BBOX f)) (header_slots h)
+box_alone : (f : BoxFaults) (h : HeaderSpec) → AllByRecursion (λ m. (place at : ℕ) → f place at m ≡ []) (option_to_list (option_map box_message h.bbox)) → AllByRecursion (SlotQuiet (entered BBOX f)) (header_slots h)
 box_alone f h boxes =
     let inner = entered BBOX f in
     let required = each_quiet inner REQUIRED_FEATURES h.required (λ _ _ _. refl) in
@@ -142,7 +142,7 @@ box_alone f h boxes =
     (boxes, (required, (optional, (program, (source, (timestamp, (sequence, (url, tt))))))))
 
 -- where each required feature is known there is none
-features_alone : (h : HeaderSpec) → AllByRecursion (λ text. (place begin : ℕ) → feature_faults place begin text ≡ []) h.required → AllByRecursion (SlotQuiet (entered REQUIRED_FEATURES feature_faults)) (header_slots h)
+features_alone : (h : HeaderSpec) → AllByRecursion (λ text. (place at : ℕ) → feature_faults place at text ≡ []) h.required → AllByRecursion (SlotQuiet (entered REQUIRED_FEATURES feature_faults)) (header_slots h)
 features_alone h known =
     let inner = entered REQUIRED_FEATURES feature_faults in
     let bbox = each_quiet inner BBOX (option_to_list (option_map box_message h.bbox)) (λ _ _ _. refl) in
@@ -163,7 +163,7 @@ module _ (at : ℕ) (h : HeaderSpec) (fits : HeaderFits h) (room : length (heade
   unfolding header_message
   no_wire =
       let f = leaf_faults BBOX_KINDS in
-      let box = each_box (λ m. (place begin : ℕ) → leaf_faults BBOX_KINDS place begin m ≡ []) h.bbox (λ b e lt place begin. box_wire place begin b e lt) boxes in
+      let box = each_box (λ m. (place at : ℕ) → leaf_faults BBOX_KINDS place at m ≡ []) h.bbox (λ b e lt place at. box_wire place at b e lt) boxes in
       no_fault_within HEADER_KINDS (entered BBOX f) at (header_slots h) (refl, (refl, (refl, (refl, (refl, (refl, (refl, (refl, tt))))))))
       (box_alone f h box)
       (header_slots_fit h fits) room
@@ -174,7 +174,7 @@ module _ (at : ℕ) (h : HeaderSpec) (fits : HeaderFits h) (room : length (heade
       let slots = header_slots h in
       let good = header_slots_fit h fits in
       let f = edge_faults in
-      let box = each_box (λ m. (place begin : ℕ) → edge_faults place begin m ≡ []) h.bbox (λ b e lt place begin. box_edges place begin b e lt) boxes in
+      let box = each_box (λ m. (place at : ℕ) → edge_faults place at m ≡ []) h.bbox (λ b e lt place at. box_edges place at b e lt) boxes in
       let few = option_few (option_map box_message h.bbox) in
       let none = none_given BBOX slots (tt, (tt, (tt, (tt, (tt, (refl, (refl, (tt, tt)))))))) in
       let once : twice BBOX (fields_in at (message slots)) ≡ [] = once_written BBOX at slots good room (omega (arith, few, none)) in

@@ -31,11 +31,11 @@ HoldsWide (Eight bytes) = Unit {0}
 HoldsWide (Four bytes) = Unit {0}
 HoldsWide (Bytes bytes at) = Unit {0}
 
-body_wide : (c : Content) (kind at : ℕ) (s : List ℕ) → IsBody c kind at s → HoldsWide c
-body_wide (Number v) kind at s h = h.1.fits
-body_wide (Eight bytes) kind at s h = tt
-body_wide (Four bytes) kind at s h = tt
-body_wide (Bytes bytes begin) kind at s h = tt
+body_wide : (c : Content) (kind end : ℕ) (s : List ℕ) → IsBody c kind end s → HoldsWide c
+body_wide (Number v) kind end s h = h.1.fits
+body_wide (Eight bytes) kind end s h = tt
+body_wide (Four bytes) kind end s h = tt
+body_wide (Bytes bytes at) kind end s h = tt
 
 abbrev AllWide : List Occurrence → Type 0
 AllWide os = AllByRecursion (λ o. HoldsWide o.content) os

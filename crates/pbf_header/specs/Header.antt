@@ -53,7 +53,7 @@ box_in m = let os = fields_in 0 m in record { left = edge LEFT os; right = edge 
 abbrev pub last_text : ℕ → List Occurrence → Option (List ℕ)
 last_text k os = last_or None (each k os)
 
--- the header that a payload holds whose first byte stands at this place
+-- the header that a payload holds whose first byte stands here in the file
 unfoldable pub header_in : ℕ → List ℕ → HeaderSpec
 header_in at m = let os = fields_in at m in record {
   bbox = option_map box_in (last_text BBOX os);

@@ -29,8 +29,8 @@ table_written texts old first all e h =
 pub written_texts : (written : List (List ℕ)) → length (table_message written) < 2 ^ 64 → texts (table_message written) ≡ table_of written
 written_texts written lt = each_written 1 0 (Each 1 (table_of written) ∷ []) ((omega arith, omega arith), tt) lt ∙ append-nil (table_of written)
 
-pub written_sound : (at tag : ℕ) (written : List (List ℕ)) → length (table_message written) < 2 ^ 64 → length written ≤ 1048575 → table_fault at tag (table_message written) ≡ None
-written_sound at tag written lt few =
+pub written_sound : (at place : ℕ) (written : List (List ℕ)) → length (table_message written) < 2 ^ 64 → length written ≤ 1048575 → table_fault at place (table_message written) ≡ None
+written_sound at place written lt few =
     let wire_none = no_wire_fault table_kinds at (Each 1 (table_of written) ∷ []) (refl, tt) ((omega arith, omega arith), tt) lt in
     let count : nat_lt 1048576 (length (texts (table_message written))) ≡ false = le-ltb _ _ (omega (arith, ap (λ (ts : List (List ℕ)). length ts) (written_texts written lt))) in
-    ap (λ (f : Option Fault). option_or f (count_fault tag (table_message written))) wire_none ∙ rw count refl
+    ap (λ (f : Option Fault). option_or f (count_fault place (table_message written))) wire_none ∙ rw count refl

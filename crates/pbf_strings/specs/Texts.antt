@@ -28,11 +28,11 @@ table_kinds = (1, kind.Bytes) ∷ []
 
 -- there are too many texts
 abbrev pub count_fault : ℕ → List ℕ → Option Fault
-count_fault tag message = if nat_lt 1048576 (length (texts message)) then Some (record { offset = tag; reason = TooManyStrings }) else None
+count_fault place message = if nat_lt 1048576 (length (texts message)) then Some (record { offset = place; reason = TooManyStrings }) else None
 
 -- the first wire fault, or else the count
 abbrev pub table_fault : ℕ → ℕ → List ℕ → Option Fault
-table_fault at tag message = option_or (wire table_kinds (items at message)) (count_fault tag message)
+table_fault at place message = option_or (wire table_kinds (items at message)) (count_fault place message)
 
 -- ---- as the table holds them
 

@@ -11,8 +11,8 @@ ghost use Rattle.pbf_strings.specs.TableOut.{has_text, texts_after, index_in, ta
 pub fn written_table_is_read()
     ensures texts { (written : List (List ℕ)) → length (table_message written) < 2 ^ 64
         → texts (table_message written) ≡ table_of written }
-    ensures sound { (at tag : ℕ) (written : List (List ℕ)) → length (table_message written) < 2 ^ 64
-        → length written ≤ 1048575 → table_fault at tag (table_message written) ≡ None }
+    ensures sound { (at place : ℕ) (written : List (List ℕ)) → length (table_message written) < 2 ^ 64
+        → length written ≤ 1048575 → table_fault at place (table_message written) ≡ None }
 {}
 
 /// The texts that are written have all texts that are used. A text that is among them has an index in the table, and the

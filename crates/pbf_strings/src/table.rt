@@ -139,36 +139,41 @@ impl<'a> Model for Table<'a> {
 }
 
 impl<'a> Table<'a> {
-    /// Judges the count of the texts alone: `TooManyStrings` at `tag`, the place of the table's field in the file, where there
+    /// Judges the count of the texts alone: `TooManyStrings` at `place`, that of the table's field in the file, where there
     /// are more than [`MOST_TEXTS`]. Takes no memory.
-    pub fn judge_count(message: &[u8], tag: u64) -> Result<(), Fault>
+    pub fn judge_count(message: &[u8], place: u64) -> Result<(), Fault>
         requires { length message.now ≤ 2 ^ 63 }
-        ensures { result ≡ judged (count_fault tag message.now) }
+        ensures { result ≡ judged (count_fault place message.now) }
     {
         if are_too_many(message) {
             return Err(Fault {
-                offset: tag,
+                offset: place,
                 reason: Reason::TooManyStrings,
             });
         }
         Ok(())
     }
 
-    /// Reads a StringTable whose first byte stands at `at` in the file, and its field at `tag`.
+    /// Reads a StringTable whose first byte stands at `at` in the file, and its field at `place`.
     ///
     /// Refuses the message's first wire fault, or else more than [`MOST_TEXTS`] texts. A refusal comes before memory is
     /// asked for.
-    pub fn read(alloc: Global, message: &'a [u8], at: u64, tag: u64) -> Result<Table<'a>, ReadFault>
+    pub fn read(
+        alloc: Global,
+        message: &'a [u8],
+        at: u64,
+        place: u64,
+    ) -> Result<Table<'a>, ReadFault>
         requires placed { at + length message.now ≤ 2 ^ 63 }
-        requires tagged { tag ≤ at }
+        requires tagged { place ≤ at }
         requires short { length message.now < 33554432 }
         ensures texts { IfOk result (λ table. table ≡ texts message.now) }
-        ensures sound { OnOk result (table_fault at tag message.now ≡ None) }
+        ensures sound { OnOk result (table_fault at place message.now ≡ None) }
         ensures refused { (fault : Fault)
-            → result ≡ Err (Refused fault) ↔ table_fault at tag message.now ≡ Some fault }
+            → result ≡ Err (Refused fault) ↔ table_fault at place message.now ≡ Some fault }
     {
         judge_wire(message, at, &TABLE_KINDS)?;
-        Table::judge_count(message, tag)?;
+        Table::judge_count(message, place)?;
         Ok(Table::open(alloc, message)?)
     }
 

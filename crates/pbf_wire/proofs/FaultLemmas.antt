@@ -70,11 +70,11 @@ spelled_long : (v : ℕ) (s : List ℕ) → IsVarint v s → 1 ≤ length s
 spelled_long v [] h = absurd h.ended
 spelled_long v (b ∷ bs) h = omega arith
 
-ends_short : (c : Content) (kind at : ℕ) (s : List ℕ) → IsBody c kind at s → length (ends_in c) ≤ length s
-ends_short (Number v) kind at s h = spelled_long v s h.1
-ends_short (Eight bytes) kind at s h = omega arith
-ends_short (Four bytes) kind at s h = omega arith
-ends_short (Bytes bytes begin) kind at s h =
+ends_short : (c : Content) (kind end : ℕ) (s : List ℕ) → IsBody c kind end s → length (ends_in c) ≤ length s
+ends_short (Number v) kind end s h = spelled_long v s h.1
+ends_short (Eight bytes) kind end s h = omega arith
+ends_short (Four bytes) kind end s h = omega arith
+ends_short (Bytes bytes at) kind end s h =
     omega (arith, ends_counted bytes, count_by-le-length (λ b. nat_lt b 128) bytes, ap length h.1.3, length-append h.1.0 bytes)
 
 one_short : (k : ℕ) (o : Occurrence) (s : List ℕ) → IsSpelled o s → length (ends_of k o) ≤ length s
@@ -94,11 +94,11 @@ numbers_within skip [] = omega arith
 numbers_within (suc skip) (b ∷ bs) = omega (arith, numbers_within skip bs)
 numbers_within zero (b ∷ bs) = front_within (varint_at (b ∷ bs)) (λ skip. entries_past skip bs) (length bs) (λ skip. numbers_within skip bs)
 
-numbers_short : (c : Content) (kind at : ℕ) (s : List ℕ) → IsBody c kind at s → length (numbers_in c) ≤ length s
-numbers_short (Number v) kind at s h = spelled_long v s h.1
-numbers_short (Eight bytes) kind at s h = omega arith
-numbers_short (Four bytes) kind at s h = omega arith
-numbers_short (Bytes bytes begin) kind at s h = omega (arith, numbers_within 0 bytes, ap length h.1.3, length-append h.1.0 bytes)
+numbers_short : (c : Content) (kind end : ℕ) (s : List ℕ) → IsBody c kind end s → length (numbers_in c) ≤ length s
+numbers_short (Number v) kind end s h = spelled_long v s h.1
+numbers_short (Eight bytes) kind end s h = omega arith
+numbers_short (Four bytes) kind end s h = omega arith
+numbers_short (Bytes bytes at) kind end s h = omega (arith, numbers_within 0 bytes, ap length h.1.3, length-append h.1.0 bytes)
 
 one_column_short : (k : ℕ) (o : Occurrence) (s : List ℕ) → IsSpelled o s → length (column_of k o) ≤ length s
 one_column_short k o s h =
@@ -128,11 +128,11 @@ column_short k at m = all_within (column_of k) (one_column_short k) at m
 
 -- ---- how long the bytes in a message are
 
-body_short : (c : Content) (kind at : ℕ) (s : List ℕ) → IsBody c kind at s → length (bytes_held c) ≤ length s
-body_short (Number v) kind at s h = omega arith
-body_short (Eight bytes) kind at s h = omega arith
-body_short (Four bytes) kind at s h = omega arith
-body_short (Bytes bytes begin) kind at s h = omega (arith, ap length h.1.3, length-append h.1.0 bytes)
+body_short : (c : Content) (kind end : ℕ) (s : List ℕ) → IsBody c kind end s → length (bytes_held c) ≤ length s
+body_short (Number v) kind end s h = omega arith
+body_short (Eight bytes) kind end s h = omega arith
+body_short (Four bytes) kind end s h = omega arith
+body_short (Bytes bytes at) kind end s h = omega (arith, ap length h.1.3, length-append h.1.0 bytes)
 
 abbrev ShorterThan : ℕ → Occurrence → Type 0
 ShorterThan n o = length (bytes_held o.content) ≤ n

@@ -38,27 +38,27 @@ module _ {X : Type 0} (f : Occurrence → List X) where
   -- the field gives nothing, wherever it stands
   abbrev PartQuiet : Part → Type 0
   PartQuiet (Single number value) = (place : ℕ) → f (field_at place number (Number value)) ≡ []
-  PartQuiet (Whole number bytes) = (place begin : ℕ) → f (field_at place number (Bytes bytes begin)) ≡ []
+  PartQuiet (Whole number bytes) = (place at : ℕ) → f (field_at place number (Bytes bytes at)) ≡ []
 
   -- the fields of the slot give nothing, wherever they stand
   abbrev pub SlotQuiet : Slot → Type 0
   SlotQuiet (Scalar number None) = Unit {0}
   SlotQuiet (Scalar number (Some value)) = (place : ℕ) → f (field_at place number (Number value)) ≡ []
   SlotQuiet (Column number []) = Unit {0}
-  SlotQuiet (Column number (v ∷ vs)) = (place begin : ℕ) → f (field_at place number (Bytes (packed (v ∷ vs)) begin)) ≡ []
-  SlotQuiet (Each number messages) = AllByRecursion (λ m. (place begin : ℕ) → f (field_at place number (Bytes m begin)) ≡ []) messages
+  SlotQuiet (Column number (v ∷ vs)) = (place at : ℕ) → f (field_at place number (Bytes (packed (v ∷ vs)) at)) ≡ []
+  SlotQuiet (Each number messages) = AllByRecursion (λ m. (place at : ℕ) → f (field_at place number (Bytes m at)) ≡ []) messages
 
   pub scalar_quiet : (number : ℕ) (value : Option ℕ) → ((place value : ℕ) → f (field_at place number (Number value)) ≡ []) → SlotQuiet (Scalar number value)
   scalar_quiet number None h = tt
   scalar_quiet number (Some value) h = λ place. h place value
 
-  pub column_quiet : (number : ℕ) (values : List ℕ) → ((place begin : ℕ) (bytes : List ℕ) → f (field_at place number (Bytes bytes begin)) ≡ []) → SlotQuiet (Column number values)
+  pub column_quiet : (number : ℕ) (values : List ℕ) → ((place at : ℕ) (bytes : List ℕ) → f (field_at place number (Bytes bytes at)) ≡ []) → SlotQuiet (Column number values)
   column_quiet number [] h = tt
-  column_quiet number (v ∷ vs) h = λ place begin. h place begin (packed (v ∷ vs))
+  column_quiet number (v ∷ vs) h = λ place at. h place at (packed (v ∷ vs))
 
-  pub each_quiet : (number : ℕ) (messages : List (List ℕ)) → ((place begin : ℕ) (bytes : List ℕ) → f (field_at place number (Bytes bytes begin)) ≡ []) → SlotQuiet (Each number messages)
+  pub each_quiet : (number : ℕ) (messages : List (List ℕ)) → ((place at : ℕ) (bytes : List ℕ) → f (field_at place number (Bytes bytes at)) ≡ []) → SlotQuiet (Each number messages)
   each_quiet number [] h = tt
-  each_quiet number (m ∷ ms) h = (λ place begin. h place begin m, each_quiet number ms h)
+  each_quiet number (m ∷ ms) h = (λ place at. h place at m, each_quiet number ms h)
 
   parts_quiet : (at : ℕ) (ps : List Part) → AllByRecursion PartQuiet ps → flat_map f (occurrences_of at ps) ≡ []
   parts_quiet at [] h = refl
@@ -67,7 +67,7 @@ module _ {X : Type 0} (f : Occurrence → List X) where
   parts_quiet at (Whole number bytes ∷ ps) h =
       ap₂ (λ (xs ys : List X). xs ++ ys) (h.0 at (at + length (shortest (number * 8 + 2)) + length (shortest (length bytes)))) (parts_quiet (at + length (spelling (Whole number bytes))) ps h.1)
 
-  wholes_quiet : (number : ℕ) (ms : List (List ℕ)) → AllByRecursion (λ m. (place begin : ℕ) → f (field_at place number (Bytes m begin)) ≡ []) ms → AllByRecursion PartQuiet (map (Whole number) ms)
+  wholes_quiet : (number : ℕ) (ms : List (List ℕ)) → AllByRecursion (λ m. (place at : ℕ) → f (field_at place number (Bytes m at)) ≡ []) ms → AllByRecursion PartQuiet (map (Whole number) ms)
   wholes_quiet number [] h = tt
   wholes_quiet number (m ∷ ms) h = (h.0, wholes_quiet number ms h.1)
 
@@ -93,7 +93,7 @@ module _ {X : Type 0} (f : Occurrence → List X) where
   pub quiet_gives : (s : Slot) → SlotQuiet s → SlotGives s []
   quiet_gives s h at = parts_quiet at (parts_of s) (slot_quiet s h)
 
-  pub each_gives : {W : Type 0} (message_of : W → List ℕ) (out : W → List X) (number : ℕ) (ws : List W) → AllByRecursion (λ w. (place begin : ℕ) → f (field_at place number (Bytes (message_of w) begin)) ≡ out w) ws
+  pub each_gives : {W : Type 0} (message_of : W → List ℕ) (out : W → List X) (number : ℕ) (ws : List W) → AllByRecursion (λ w. (place at : ℕ) → f (field_at place number (Bytes (message_of w) at)) ≡ out w) ws
       → SlotGives (Each number (map message_of ws)) (flat_map out ws)
   each_gives message_of out number [] h at = refl
   each_gives message_of out number (w ∷ ws) h at =
@@ -257,7 +257,7 @@ no_fields k at ps e h = none (all_of k (occurrences_of at ps)) (parts_counted k 
 
 -- the field k with these bytes, somewhere
 abbrev pub Holds : ℕ → List ℕ → Option Occurrence → Type 0
-Holds k m o = (place : ℕ) × (begin : ℕ) × (o ≡ Some (field_at place k (Bytes m begin)))
+Holds k m o = (place : ℕ) × (at : ℕ) × (o ≡ Some (field_at place k (Bytes m at)))
 
 abbrev last_from : Option Occurrence → List Occurrence → Option Occurrence
 last_from before os = last_or before os
@@ -276,8 +276,8 @@ one_field k at m (Whole number bytes ∷ ps) before e h = by (number == k) refl 
     next : ℕ
     next = at + length (spelling (Whole number bytes))
 
-    begin : ℕ
-    begin = at + length (shortest (number * 8 + 2)) + length (shortest (length bytes))
+    inner : ℕ
+    inner = at + length (shortest (number * 8 + 2)) + length (shortest (length bytes))
 
     by : (b : Bool) → (number == k) ≡ b → (if b then bytes ∷ [] else []) ++ flat_map (part_messages k) ps ≡ m ∷ []
         → (flat_map (part_messages k) ps ≡ m ∷ [] → Holds k m (last_from before (all_of k (occurrences_of next ps))))
@@ -287,7 +287,7 @@ one_field k at m (Whole number bytes ∷ ps) before e h = by (number == k) refl 
         let none : flat_map (part_messages k) ps ≡ [] = cc in
         let left = no_fields k next ps none h in
         let numbered : number ≡ k = grind arith in
-        (at, begin, rw (is, left) (ap₂ (λ (n : ℕ) (w : List ℕ). Some (field_at at n (Bytes w begin))) numbered same))
+        (at, inner, rw (is, left) (ap₂ (λ (n : ℕ) (w : List ℕ). Some (field_at at n (Bytes w inner))) numbered same))
     by false is e more = rw is (more e)
 
 -- the last field of a number whose only message was written holds it
@@ -299,7 +299,7 @@ last_held k at slots m fits lt e h =
 
 -- and is read where it begins
 pub embedded_written : (k at : ℕ) (slots : List Slot) (m : List ℕ) → AllByRecursion SlotFits slots → length (message slots) < 2 ^ 64 → flat_map (messages_at k) slots ≡ m ∷ [] → flat_map (scalars_at k) slots ≡ []
-    → (begin : ℕ) × (embedded k (fields_in at (message slots)) ≡ fields_in begin m)
+    → (inner : ℕ) × (embedded k (fields_in at (message slots)) ≡ fields_in inner m)
 embedded_written k at slots m fits lt e h = let held = last_held k at slots m fits lt e h in (held.1, ap fields_of held.2)
 
 -- and nothing where there is none
@@ -314,7 +314,7 @@ no_items = refl
 
 -- a message that is left out where it is empty reads as one that is empty
 pub embedded_or_none : (k at : ℕ) (slots : List Slot) (m : List ℕ) → AllByRecursion SlotFits slots → length (message slots) < 2 ^ 64 → flat_map (messages_at k) slots ≡ unless_empty m → flat_map (scalars_at k) slots ≡ []
-    → (begin : ℕ) × (embedded k (fields_in at (message slots)) ≡ fields_in begin m)
+    → (inner : ℕ) × (embedded k (fields_in at (message slots)) ≡ fields_in inner m)
 embedded_or_none k at slots [] fits lt e h = (0, embedded_none k at slots fits lt e h ∙ sym no_items)
 embedded_or_none k at slots (b ∷ bs) fits lt e h = embedded_written k at slots (b ∷ bs) fits lt e h
 

@@ -43,17 +43,17 @@ all_nil f [] e = tt
 all_nil f (x ∷ xs) e = let both = both_nil (f x) (flat_map f xs) e in (both.0, all_nil f xs both.1)
 
 -- a test that would be a fault doesn't hold
-pub not_wrong : (wrong : Bool) (offset : ℕ) (reason : Reason) → fault_where wrong offset reason ≡ [] → wrong ≡ false
-not_wrong true offset reason e = absurd (cc)
-not_wrong false offset reason e = refl
+pub not_wrong : (wrong : Bool) (place : ℕ) (reason : Reason) → fault_where wrong place reason ≡ [] → wrong ≡ false
+not_wrong true place reason e = absurd (cc)
+not_wrong false place reason e = refl
 
 is_true : (b : Bool) → not b ≡ false → b ≡ true
 is_true true e = refl
 is_true false e = absurd (cc)
 
 -- a test without which there would be a fault holds
-pub is_right : (right : Bool) (offset : ℕ) (reason : Reason) → fault_where (not right) offset reason ≡ [] → right ≡ true
-is_right right offset reason e = is_true right (not_wrong (not right) offset reason e)
+pub is_right : (right : Bool) (place : ℕ) (reason : Reason) → fault_where (not right) place reason ≡ [] → right ≡ true
+is_right right place reason e = is_true right (not_wrong (not right) place reason e)
 
 -- ---- the values of a column of differences
 

@@ -13,12 +13,12 @@ use Rattle.pbf_wire.specs.Sums.{sums}
 use Rattle.pbf_wire.specs.Wire.{kind_of, reason_in}
 
 abbrev pub fault : ℕ → Reason → Fault
-fault offset reason = record { offset = offset; reason = reason }
+fault place reason = record { offset = place; reason = reason }
 
 -- the fault, where the test holds
 abbrev pub fault_where : Bool → ℕ → Reason → List Fault
-fault_where true offset reason = fault offset reason ∷ []
-fault_where false offset reason = []
+fault_where true place reason = fault place reason ∷ []
+fault_where false place reason = []
 
 -- ---- embedded messages
 

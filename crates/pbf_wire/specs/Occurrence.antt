@@ -5,7 +5,7 @@ use Rattle.pbf_wire.specs.declared.fault.Reason.TheVariants.{NumberZero, TagLarg
 use Rattle.pbf_wire.specs.declared.fault.Fault.{Fault}
 use Rattle.pbf_wire.specs.Varint.{IsVarint, varint_at}
 
--- what stands behind a tag; of bytes also the place of the first one in the file
+-- what stands behind a tag; of bytes also where in the file the first one stands
 pub data Content : Type 0 where
   Number : (value : ℕ) → Content
   Eight : (bytes : List ℕ) → Content
@@ -19,12 +19,12 @@ pub record Occurrence : Type 0 where
 
 -- ---- the format
 
--- s is a spelling of the content, behind a tag of this wire type, and begins at this place
+-- s is a spelling of the content, behind a tag of this wire type, which ends here
 abbrev pub IsBody : Content → ℕ → ℕ → List ℕ → Type 0
-IsBody (Number v) kind at s = (kind ≡ 0) × IsVarint v s
-IsBody (Eight bytes) kind at s = (kind ≡ 1) × (length bytes ≡ 8) × (s ≡ bytes)
-IsBody (Bytes bytes begin) kind at s = (kind ≡ 2) × ((size : List ℕ) × IsVarint (length bytes) size × (begin ≡ at + length size) × (s ≡ size ++ bytes))
-IsBody (Four bytes) kind at s = (kind ≡ 5) × (length bytes ≡ 4) × (s ≡ bytes)
+IsBody (Number v) kind end s = (kind ≡ 0) × IsVarint v s
+IsBody (Eight bytes) kind end s = (kind ≡ 1) × (length bytes ≡ 8) × (s ≡ bytes)
+IsBody (Bytes bytes at) kind end s = (kind ≡ 2) × ((size : List ℕ) × IsVarint (length bytes) size × (at ≡ end + length size) × (s ≡ size ++ bytes))
+IsBody (Four bytes) kind end s = (kind ≡ 5) × (length bytes ≡ 4) × (s ≡ bytes)
 
 -- s is a spelling of the occurrence
 pub record IsSpelled (o : Occurrence) (s : List ℕ) : Type 0 where
@@ -37,7 +37,7 @@ pub record IsSpelled (o : Occurrence) (s : List ℕ) : Type 0 where
   pub small : o.number * 8 + kind < 2 ^ 32
   pub holds : IsBody o.content kind (o.place + length tag) body
 
--- the spellings of the occurrences, joined, are the message, which begins at this place
+-- the spellings of the occurrences, joined, are the message, whose first byte stands here in the file
 abbrev pub Joins : ℕ → List ℕ → List Occurrence → Type 0
 Joins at m [] = m ≡ []
 Joins at m (o ∷ os) = (s : List ℕ) × (rest : List ℕ) × (m ≡ s ++ rest) × (o.place ≡ at) × IsSpelled o s × Joins (at + length s) rest os
@@ -60,11 +60,11 @@ body_at kind at bytes =
 
 -- the occurrence at the front of the bytes and its length, or the first reason why there is none
 unfoldable pub occurrence_at : ℕ → List ℕ → Result (Occurrence × ℕ) Reason
-occurrence_at at bytes =
+occurrence_at place bytes =
     varint_at bytes >>= λ tag.
     if nat_lt tag.0 (2 ^ 32)
     then (if tag.0 / 8 == 0 then Err NumberZero
-    else (body_at (tag.0 % 8) (at + tag.1) (drop tag.1 bytes) >>= λ body. Ok (record { place = at; number = tag.0 / 8; content = body.0 }, tag.1 + body.1)))
+    else (body_at (tag.0 % 8) (place + tag.1) (drop tag.1 bytes) >>= λ body. Ok (record { place = place; number = tag.0 / 8; content = body.0 }, tag.1 + body.1)))
     else Err TagLarge
 
 -- an occurrence, or the fault at which the message can't be read on
@@ -73,8 +73,8 @@ Item = Result Occurrence Fault
 
 -- what follows once the front is judged
 abbrev pub items_from : ℕ → Result (Occurrence × ℕ) Reason → (ℕ → List Item) → List Item
-items_from at (Ok front) more = Ok front.0 ∷ more (front.1 - 1)
-items_from at (Err reason) more = Err (record { offset = at; reason = reason }) ∷ []
+items_from place (Ok front) more = Ok front.0 ∷ more (front.1 - 1)
+items_from place (Err reason) more = Err (record { offset = place; reason = reason }) ∷ []
 
 -- the items of a message of which some bytes are still to be passed over
 unfoldable pub items_past : ℕ → ℕ → List ℕ → List Item
@@ -82,7 +82,7 @@ items_past skip at [] = []
 items_past (suc skip) at (b ∷ bs) = items_past skip (at + 1) bs
 items_past zero at (b ∷ bs) = items_from at (occurrence_at at (b ∷ bs)) (λ skip. items_past skip (at + 1) bs)
 
--- the items of a message that begins at this place
+-- the items of a message whose first byte stands here in the file
 abbrev pub items : ℕ → List ℕ → List Item
 items at m = items_past 0 at m
 

@@ -71,7 +71,7 @@ impl<'a> Column<'a> {
         }
     }
 
-    /// Where the occurrence of the last number given stands in the file. Before the first it is the message's place, or 0 for
+    /// Where the occurrence of the last number given stands in the file. Before the first it is where the message does, or 0 for
     /// a column over fields.
     pub fn place(&self) -> u64
         ensures { result ≡ place_of self.now }

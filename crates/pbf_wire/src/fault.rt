@@ -232,9 +232,9 @@ pub struct Fault {
 /// As `refused at 36: 25 Missing(1)`.
 impl fmt::Display for Fault {
     fn fmt<W: fmt::Write>(&self, f: &mut fmt::Formatter<W>) -> fmt::Result {
-        let offset = self.offset;
+        let place = self.offset;
         let reason = self.reason;
-        write!(f, "refused at {offset}: {reason}")
+        write!(f, "refused at {place}: {reason}")
     }
 }
 

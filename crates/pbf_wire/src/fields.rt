@@ -56,9 +56,9 @@ fn payload_at(bytes: &[u8], kind: u64, at: u64) -> Result<(Payload<'_>, usize), 
 /// The field at the start of the bytes, and its length.
 #[inline(always)]
 #[tactic(auto, unfolding(crate::specs::Occurrence::occurrence_at))]
-fn field_at(bytes: &[u8], at: u64) -> Result<(Field<'_>, usize), Reason>
-    requires { at + length bytes.now ≤ 2 ^ 63 }
-    ensures exact { seen occurrence result ≡ occurrence_at at bytes.now }
+fn field_at(bytes: &[u8], place: u64) -> Result<(Field<'_>, usize), Reason>
+    requires { place + length bytes.now ≤ 2 ^ 63 }
+    ensures exact { seen occurrence result ≡ occurrence_at place bytes.now }
     ensures taken { IfOk result (λ found. (0 < found.1) × (found.1 ≤ length bytes.now)) }
 {
     let (tag, length) = first_varint(bytes)?;
@@ -69,10 +69,10 @@ fn field_at(bytes: &[u8], at: u64) -> Result<(Field<'_>, usize), Reason>
     if number == 0 {
         return Err(Reason::NumberZero);
     }
-    let (payload, size) = payload_at(&bytes[length..], tag % 8, at + length as u64)?;
+    let (payload, size) = payload_at(&bytes[length..], tag % 8, place + length as u64)?;
     Ok((
         Field {
-            offset: at,
+            offset: place,
             number,
             payload,
         },
@@ -127,16 +127,16 @@ fn short_payload(bytes: &[u8], kind: u64, at: u64) -> Option<(Payload<'_>, usize
 /// asked for, without a call.
 #[inline(always)]
 #[tactic(auto, unfolding(crate::specs::Occurrence::occurrence_at))]
-fn short_field(bytes: &[u8], at: u64) -> Option<(Field<'_>, usize)>
-    requires { at + length bytes.now ≤ 2 ^ 63 }
-    ensures exact { MatchOption result ⊤ (λ found. occurrence_at at bytes.now
+fn short_field(bytes: &[u8], place: u64) -> Option<(Field<'_>, usize)>
+    requires { place + length bytes.now ≤ 2 ^ 63 }
+    ensures exact { MatchOption result ⊤ (λ found. occurrence_at place bytes.now
         ≡ Ok (occurrence found.0, found.1)) }
     ensures taken { MatchOption result ⊤ (λ found. (0 < found.1) × (found.1 ≤ length bytes.now)) }
 {
     let tag = short_tag(bytes)?;
-    let (payload, size) = short_payload(&bytes[1..], tag % 8, at + 1)?;
+    let (payload, size) = short_payload(&bytes[1..], tag % 8, place + 1)?;
     let field = Field {
-        offset: at,
+        offset: place,
         number: tag / 8,
         payload,
     };
@@ -193,8 +193,8 @@ impl<'a> Fields<'a> {
         if self.rest.is_empty() {
             return None;
         }
-        let offset = self.at;
-        match field_at(self.rest, offset) {
+        let place = self.at;
+        match field_at(self.rest, place) {
             Ok((field, length)) => {
                 self.rest = &self.rest[length..];
                 self.at += length as u64;
@@ -202,7 +202,10 @@ impl<'a> Fields<'a> {
             }
             Err(reason) => {
                 self.rest = &[];
-                Some(Err(Fault { offset, reason }))
+                Some(Err(Fault {
+                    offset: place,
+                    reason,
+                }))
             }
         }
     }

@@ -85,7 +85,7 @@ pub fn sums_undo_differences()
         → AllByRecursion (λ n. n < 2 ^ 64) (deltas values) }
 {}
 
-/// A message in written form is read back, at any place: its occurrences are the written fields in order, each field number
+/// A message in written form is read back, wherever in the file it stands: its occurrences are the written fields in order, each field number
 /// reads as what was written there, its embedded messages are shorter than it is, and where its slots have the types of the
 /// known fields it has no wire fault.
 pub fn written_message_is_read()

@@ -8,5 +8,5 @@ abbrev pub invariant-loop-node : goal.invariant-loop-node
 invariant-loop-node l = record {
   can : (goal.iterator-loop-node).can_next l.node-iterator;
   ends : (goal.iterator-loop-node).is_finite l.node-iterator;
-  so_far : lesser l.least (least (dense_weights l.tag (dense_left l.node-iterator))) ≡ least (dense_weights l.tag (dense_left l.self));
+  so_far : lesser l.least (least (dense_weights l.place (dense_left l.node-iterator))) ≡ least (dense_weights l.place (dense_left l.self));
 }

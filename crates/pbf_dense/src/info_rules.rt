@@ -1,0 +1,96 @@
+//! The rules of a DenseInfo, phase by phase. It has none of weight: the weight of a node counts the text of its user.
+
+ghost use Rattle.std.specs.Prelude.{◌≡◌, ◌+◌, ◌≤◌, ◌^◌, length};
+ghost use Rattle.pbf_wire.specs.Least.{least};
+ghost use Rattle.pbf_wire.specs.Faults.{fields_in};
+ghost use Rattle.pbf_dense.specs.Judged.{goes_with, info_counts, range_faults, info_values};
+
+use osm_entity::{STORED_LIMIT, UID_LIMIT};
+use pbf_wire::{
+    Fault, JudgeMessage, Kind, Reason, column_count, fault_where, judge_index_sums, judge_sums,
+    lesser,
+};
+
+// The fields of a DenseInfo, and of an Info, which numbers them alike.
+pub const VERSION: u64 = 1;
+
+pub const TIMESTAMP: u64 = 2;
+
+pub const CHANGESET: u64 = 3;
+
+pub const UID: u64 = 4;
+
+pub const USER_SID: u64 = 5;
+
+pub const VISIBLE: u64 = 6;
+
+/// How the fields of a DenseInfo are stored. By them its wire form is judged, with that of the DenseNodes that holds it.
+pub(crate) const DENSEINFO_KINDS: [(u64, Kind); 6] = [
+    (VERSION, Kind::Column),
+    (TIMESTAMP, Kind::Column),
+    (CHANGESET, Kind::Column),
+    (UID, Kind::Column),
+    (USER_SID, Kind::Column),
+    (VISIBLE, Kind::Column),
+];
+
+// Its structure.
+
+/// Whether a column is empty or has an entry for each node.
+fn goes_with(message: &[u8], at: u64, number: u64, nodes: usize) -> bool
+    requires { at + length message.now ≤ 2 ^ 63 }
+    ensures { result ≡ goes_with nodes number (fields_in at message.now) }
+{
+    let count = column_count(message, at, number);
+    count == 0 || count == nodes
+}
+
+/// The structure of a DenseInfo of so many nodes: `ColumnLengths`, where a column doesn't go with them.
+#[derive(Clone, Copy)]
+pub(crate) struct InfoStructure {
+    pub(crate) nodes: usize,
+}
+
+impl JudgeMessage for InfoStructure {
+    ghost faults = { λ infos. info_counts infos.nodes };
+
+    fn judge_message(&self, info: &[u8], at: u64, place: u64) -> Option<Fault> {
+        let fits = goes_with(info, at, VERSION, self.nodes)
+            && goes_with(info, at, TIMESTAMP, self.nodes)
+            && goes_with(info, at, CHANGESET, self.nodes)
+            && goes_with(info, at, UID, self.nodes)
+            && goes_with(info, at, USER_SID, self.nodes)
+            && goes_with(info, at, VISIBLE, self.nodes);
+        fault_where(!fits, place, Reason::ColumnLengths)
+    }
+}
+
+// Its values.
+
+/// The first value of a column of differences that is out of range.
+pub(crate) fn judge_range(message: &[u8], at: u64, number: u64) -> Option<Fault>
+    requires { at + length message.now ≤ 2 ^ 63 }
+    ensures { result ≡ least (range_faults number (fields_in at message.now)) }
+{
+    judge_sums(message, at, number, STORED_LIMIT.unsigned_abs(), false)
+}
+
+/// The values of a DenseInfo whose users are named in a table of `limit` texts.
+#[derive(Clone, Copy)]
+pub(crate) struct InfoValues {
+    pub(crate) limit: u64,
+    ghost limited: { limit ≤ 2 ^ 62 },
+}
+
+impl JudgeMessage for InfoValues {
+    ghost faults = { λ infos. info_values infos.limit };
+
+    #[tactic(auto, using(crate::proofs::Parts::lesser_parts))]
+    fn judge_message(&self, info: &[u8], at: u64, _place: u64) -> Option<Fault> {
+        let timestamps = judge_range(info, at, TIMESTAMP);
+        let changesets = judge_range(info, at, CHANGESET);
+        let uids = judge_sums(info, at, UID, UID_LIMIT.unsigned_abs(), true);
+        let users = judge_index_sums(info, at, USER_SID, self.limit);
+        lesser(timestamps, lesser(changesets, lesser(uids, users)))
+    }
+}
