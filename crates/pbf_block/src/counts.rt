@@ -10,10 +10,11 @@ ghost use Rattle.pbf_block.specs.Group.{in_group, member_entities};
 ghost use Rattle.pbf_block.specs.Numbers.{counted_with, count_one, counts_of, by_ends};
 
 use crate::group::{DENSE, NODES, RELATIONS, WAYS};
+use crate::members::Members;
 use crate::primitive_block::PRIMITIVEGROUP;
 use osm_entity::EntityRef;
 use pbf_dense::Dense;
-use pbf_wire::{Field, Fields, Payload};
+use pbf_wire::{Field, Payload};
 
 /// The numbers of nodes, ways and relations, each the greatest `u64` where there are more.
 #[derive(Clone, Copy, Debug, PartialEq, Eq)]
@@ -74,38 +75,6 @@ fn count_member(field: Field<'_>) -> Counts
     counts
 }
 
-/// Counts the entities of a group whose first byte stands at `at` in the file.
-#[tactic(auto, using(crate::proofs::NumberLemmas::counts_more, crate::proofs::NumberLemmas::counts_nothing))]
-fn count_group(message: &[u8], at: u64) -> Counts
-    requires { at + length message.now ≤ 2 ^ 63 }
-    ensures { (table : List (List ℕ)) (scale : Scale)
-        → result ≡ counts_of
-        (flat_map (member_entities by_ends table scale) (fields_in at message.now)) }
-{
-    let mut counts = Counts::none();
-    for item in Fields::new(message, at) {
-        let Ok(field) = item else {
-            return counts;
-        };
-        counts.add(count_member(field));
-    }
-    counts
-}
-
-/// Counts the entities of a field of the payload, which may be a group.
-fn count_part(field: Field<'_>) -> Counts
-    ensures { (table : List (List ℕ)) (scale : Scale)
-        → result ≡ counts_of (in_group (member_entities by_ends table scale) (occurrence field.entry)) }
-{
-    if field.number != PRIMITIVEGROUP {
-        return Counts::none();
-    }
-    match field.payload {
-        Payload::Bytes(message, at) => count_group(message, at),
-        _ => Counts::none(),
-    }
-}
-
 /// Counts the entities of a payload whose first byte stands at `at` in the file, as they are where it has no wire fault. No entity
 /// is made.
 #[tactic(auto, using(crate::proofs::NumberLemmas::counts_more, crate::proofs::NumberLemmas::counts_nothing))]
@@ -116,11 +85,8 @@ pub(crate) fn count_entities(payload: &[u8], at: u64) -> Counts
         (flat_map (in_group (member_entities by_ends table scale)) (fields_in at payload.now)) }
 {
     let mut counts = Counts::none();
-    for item in Fields::new(payload, at) {
-        let Ok(field) = item else {
-            return counts;
-        };
-        counts.add(count_part(field));
+    for field in Members::over(payload, at) {
+        counts.add(count_member(field));
     }
     counts
 }

@@ -13,6 +13,7 @@ mod group;
 mod info;
 mod kinds;
 pub mod laws;
+mod members;
 mod node;
 mod primitive_block;
 mod ranges;

@@ -1,23 +1,21 @@
 //! The entities of a PrimitiveBlock, those of a dense message together.
 
-ghost use Rattle.std.specs.Prelude.{◌≡◌, ◌∷◌, [], MatchOption};
-ghost use Rattle.pbf_wire.specs.Cursors.{fields_left};
+ghost use Rattle.std.specs.Prelude.{◌≡◌};
 ghost use Rattle.pbf_wire.specs.Fields.{occurrence};
-ghost use Rattle.pbf_wire.specs.Occurrence.{found};
 ghost use Rattle.pbf_block.specs.Kinds.{member_entities_among};
 ghost use Rattle.pbf_block.specs.PrimitiveBlock.{along};
 ghost use Rattle.pbf_block.specs.Runs.{run_entities};
 
 use crate::group::{DENSE, NODES, RELATIONS, WAYS};
 use crate::kinds::Kinds;
+use crate::members::Members;
 use crate::node::node_in;
-use crate::primitive_block::PRIMITIVEGROUP;
 use crate::relation::relation_in;
 use crate::way::way_in;
 use osm_entity::{EntityRef, Scale};
 use pbf_dense::Dense;
 use pbf_strings::Table;
-use pbf_wire::{Field, Fields, Payload};
+use pbf_wire::{Field, Payload};
 
 /// Entities that one field of a group holds.
 #[derive(Clone, Copy)]
@@ -56,30 +54,11 @@ pub(crate) fn run_in<'a>(
     }
 }
 
-/// The next field. After a fault there are no more.
-#[tactic(auto, unfolding(crate::proofs::Parts::items_past))]
-fn next_field<'a>(fields: &mut Fields<'a>) -> Option<Field<'a>>
-    ensures { MatchOption result
-        ((found (fields_left fields.old) ≡ []) × (found (fields_left fields.new) ≡ []))
-        (λ field. found (fields_left fields.old)
-        ≡ occurrence field ∷ found (fields_left fields.new)) }
-{
-    match fields.next() {
-        Some(Ok(field)) => Some(field),
-        _ => {
-            *fields = Fields::new(&[], 0);
-            None
-        }
-    }
-}
-
 /// The runs of a block that are still to come, one for each field of its groups, in order: an iterator over the payload, which
 /// takes no memory.
 #[derive(Clone, Copy)]
 pub struct Runs<'a> {
-    /// What is left of the group that was begun.
-    fields: Fields<'a>,
-    groups: Fields<'a>,
+    members: Members<'a>,
     table: &'a Table<'a>,
     scale: Scale,
     kinds: Kinds,
@@ -104,8 +83,7 @@ impl<'a> Runs<'a> {
             ≡ entities_among kinds along table.now scale (fields_in at payload.now) }
     {
         Runs {
-            fields: Fields::new(&[], 0),
-            groups: Fields::new(payload, at),
+            members: Members::over(payload, at),
             table,
             scale,
             kinds,
@@ -126,16 +104,7 @@ impl<'a> Iterator for Runs<'a> {
     #[inline(always)]
     #[tactic(auto, unfolding(crate::specs::Runs::runs_left))]
     fn next(&mut self) -> Option<Run<'a>> {
-        'groups: loop {
-            if let Some(field) = next_field(&mut self.fields) {
-                return Some(run_in(field, self.table, self.scale, self.kinds));
-            }
-            let field = next_field(&mut self.groups)?;
-            if field.number == PRIMITIVEGROUP {
-                if let Payload::Bytes(message, at) = field.payload {
-                    self.fields = Fields::new(message, at);
-                }
-            }
-        }
+        let field = self.members.next()?;
+        Some(run_in(field, self.table, self.scale, self.kinds))
     }
 }

@@ -1,17 +1,16 @@
 use Rattle.std.proofs.Common.{◌≡◌, [], ℕ, List}
 use Rattle.std.specs.List.{flat_map}
-use Rattle.pbf_wire.specs.Cursors.{fields_left}
 use Rattle.pbf_wire.specs.Faults.{fields_in}
-use Rattle.pbf_wire.specs.Occurrence.{found}
 use Rattle.osm_entity.specs.declared.scale.Scale.{Scale}
-use Rattle.pbf_block.specs.Group.{in_group, member_entities}
+use Rattle.pbf_block.specs.Group.{member_entities}
 use Rattle.pbf_block.specs.Numbers.{counted_with, counts_of, by_ends}
+use Rattle.pbf_block.specs.Runs.{group_members, members_left}
 use Rattle.pbf_block.proofs.counts.count_entities.Given as goal
 
-abbrev pub invariant-loop-item : goal.invariant-loop-item
-invariant-loop-item l = record {
-  can : (goal.iterator-loop-item).can_next l.item-iterator;
-  ends : (goal.iterator-loop-item).is_finite l.item-iterator;
-  so_far : (table : List (List ℕ)) (scale : Scale) → counted_with l.counts (counts_of (flat_map (in_group (member_entities by_ends table scale)) (found (fields_left l.item-iterator)))) ≡ counts_of (flat_map (in_group (member_entities by_ends table scale)) (fields_in l.at l.payload));
+abbrev pub invariant-loop-field : goal.invariant-loop-field
+invariant-loop-field l = record {
+  can : (goal.iterator-loop-field).can_next l.field-iterator;
+  ends : (goal.iterator-loop-field).is_finite l.field-iterator;
+  so_far : (table : List (List ℕ)) (scale : Scale) → counted_with l.counts (counts_of (flat_map (member_entities by_ends table scale) (members_left l.field-iterator))) ≡ counts_of (flat_map (member_entities by_ends table scale) (flat_map group_members (fields_in l.at l.payload)));
   capped : counted_with l.counts (counts_of []) ≡ l.counts;
 }

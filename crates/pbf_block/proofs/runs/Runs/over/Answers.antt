@@ -1,19 +1,18 @@
-use Rattle.std.proofs.Common.{List, ◌++◌, map, ap, ap₂, ◌∙◌}
+use Rattle.std.proofs.Common.{List, map, ap, ◌∙◌}
 use Rattle.std.specs.List.{flat_map}
+use Rattle.std.proofs.lemmas.List.Folds.{flat_map-map}
 use Rattle.pbf_wire.specs.Faults.{fields_in}
-use Rattle.pbf_wire.specs.Occurrence.{Occurrence, found}
+use Rattle.pbf_wire.specs.Occurrence.{Occurrence}
+use Rattle.osm_entity.specs.Entity.{EntitySpec}
 use Rattle.pbf_block.specs.Kinds.{member_entities_among}
 use Rattle.pbf_block.specs.PrimitiveBlock.{along}
-use Rattle.pbf_block.specs.Runs.{joined_runs, group_runs, runs_left}
-use Rattle.pbf_wire.specs.Occurrence as P
-use Rattle.pbf_block.proofs.RunLemmas.{all_joined}
+use Rattle.pbf_block.specs.Runs.{joined_runs, group_members, runs_left}
+use Rattle.pbf_block.proofs.RunLemmas.{members_give}
 use Rattle.pbf_block.proofs.runs.Runs.over.Goals as goal
 
 pub returns : goal.returns
-unfolding runs_left P.items_past
+unfolding runs_left
 returns c =
-    let kinds = c.args.kinds in
-    let table = c.args.table.now in
-    let scale = c.args.scale in
-    ap₂ (λ (a b : List Occurrence). joined_runs (map (member_entities_among kinds along table scale) a ++ flat_map (group_runs kinds along table scale) b)) (ap found c.new.ensures) (ap found c.new-2.ensures)
-    ∙ all_joined kinds along table scale (fields_in c.args.at c.args.payload.now)
+    let f = member_entities_among c.args.kinds along c.args.table.now c.args.scale in
+    let os = fields_in c.args.at c.args.payload.now in
+    ap (λ (ms : List Occurrence). joined_runs (map f ms)) c.over.ensures ∙ flat_map-map (λ (es : List EntitySpec). es) f (flat_map group_members os) ∙ members_give f os
