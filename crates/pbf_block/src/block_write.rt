@@ -1,6 +1,6 @@
 //! A PrimitiveBlock, written from its parts.
 
-ghost use Rattle.std.specs.Prelude.{◌≡◌, ◌++◌, ◌∷◌, [], ◌<◌, ◌^◌, ℕ, List, OnOk};
+ghost use Rattle.std.specs.Prelude.{◌≡◌, ◌++◌, ◌<◌, ◌^◌, ℕ, List, OnOk};
 ghost use Rattle.pbf_wire.specs.Message.{Scalar, Each, slot_bytes, message, unless_empty};
 ghost use Rattle.pbf_strings.specs.TableOut.{table_message};
 ghost use Rattle.pbf_block.specs.WrittenBlock.{unless_default, block_slots};

@@ -2,10 +2,9 @@
 
 ghost use Rattle.std.specs.Prelude.{◌≡◌, ◌+◌, ◌≤◌, ◌^◌, pos, List, length};
 ghost use Rattle.pbf_wire.specs.Columns.{column};
-ghost use Rattle.pbf_wire.specs.Cursors.{fields_left, numbers_left, sums_left};
+ghost use Rattle.pbf_wire.specs.Cursors.{numbers_left, sums_left};
 ghost use Rattle.pbf_wire.specs.Faults.{fields_in, embedded};
-ghost use Rattle.pbf_wire.specs.Occurrence.{Occurrence, found};
-ghost use Rattle.pbf_wire.specs.Reading.{last_number};
+ghost use Rattle.pbf_wire.specs.Occurrence.{Occurrence};
 ghost use Rattle.pbf_wire.specs.Signed.{unzigzag, low_i64};
 ghost use Rattle.osm_entity.specs.Sources.{tags_left};
 ghost use Rattle.osm_entity.specs.Views.{meta_of};

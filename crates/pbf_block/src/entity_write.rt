@@ -1,8 +1,8 @@
 //! The parts that ways and relations are written of.
 
-ghost use Rattle.std.specs.Prelude.{◌≡◌, ◌++◌, ◌∷◌, [], ◌*◌, ◌+◌, ◌≤◌, ◌^◌, ◌<◌, ℕ, List, OnOk, Some, length, map};
+ghost use Rattle.std.specs.Prelude.{◌≡◌, ◌++◌, ◌∷◌, [], ◌+◌, ◌≤◌, ◌^◌, ◌<◌, ℕ, List, OnOk, Some, length, map};
 ghost use Rattle.std.specs.List.{AllByRecursion};
-ghost use Rattle.std.specs.Option.{option_map, option_to_list};
+ghost use Rattle.std.specs.Option.{option_map};
 ghost use Rattle.pbf_wire.specs.Message.{Scalar, Column, Each, slot_bytes, message, unless_empty};
 ghost use Rattle.pbf_wire.specs.Signed.{sign_extended};
 ghost use Rattle.pbf_strings.specs.TableOut.{texts_after, index_in};

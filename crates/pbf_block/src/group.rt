@@ -1,14 +1,11 @@
 //! A PrimitiveGroup: its fields, and its rules phase by phase.
 
-ghost use Rattle.std.specs.Prelude.{◌≡◌, ◌+◌, ◌*◌, ◌≤◌, ◌^◌, ℕ, List, [], IsTrue, length, map};
-ghost use Rattle.std.specs.List.{flat_map};
+ghost use Rattle.std.specs.Prelude.{◌≡◌, ◌+◌, ◌*◌, ◌≤◌, ◌^◌, ℕ, List, [], IsTrue, length};
 ghost use Rattle.pbf_wire.specs.Least.{least};
 ghost use Rattle.pbf_wire.specs.Fields.{occurrence};
 ghost use Rattle.pbf_wire.specs.Faults.{fields_in};
 ghost use Rattle.pbf_strings.specs.Texts.{longest as longest_of};
-ghost use Rattle.osm_entity.specs.Entity.{node};
 ghost use Rattle.osm_entity.specs.Views.{entity_of};
-ghost use Rattle.pbf_dense.specs.Nodes.{nodes_along};
 ghost use Rattle.pbf_block.specs.Group.{member_wire, is_member, first_member, is_other, entities_structure, member_structure, group_structure, member_values, weight_fault, member_weights};
 ghost use Rattle.pbf_block.specs.PrimitiveBlock.{along};
 
@@ -46,6 +43,8 @@ pub(crate) const GROUP_KINDS: [(u64, Kind); 5] = [
     (CHANGESETS, Kind::Bytes),
 ];
 
+// Wire form: that of the entities, beside the group's own fields.
+
 /// The wire form of the entities that a field of a group holds.
 #[derive(Clone, Copy)]
 pub(crate) struct MemberForm;
@@ -66,6 +65,8 @@ impl Judge for MemberForm {
         }
     }
 }
+
+// Structure.
 
 /// Whether a field of this number holds entities.
 fn is_member(number: u64) -> bool
@@ -152,6 +153,8 @@ pub(crate) fn judge_structure(message: &[u8], at: u64) -> Option<Fault>
     )
 }
 
+// Values: those of the entities.
+
 /// The values of the entities that a field of a group holds, whose table has `limit` texts.
 #[derive(Clone, Copy)]
 pub(crate) struct MemberValues {
@@ -175,6 +178,8 @@ impl Judge for MemberValues {
         }
     }
 }
+
+// Weights of the entities.
 
 /// Whether an entity is too heavy.
 fn judge_weight(entity: EntityRef<'_>, place: u64) -> Option<Fault>
