@@ -130,6 +130,7 @@ impl DenseOut {
     }
 
     /// Appends the runs of tags, if a node has one.
+    #[tactic(auto, using(crate::proofs::DenseOutLemmas::no_runs))]
     fn put_runs(&self, out: &mut Vec<u8>) -> Result<(), AllocError>
         ensures { OnOk result (out.new.items
             ≡ out.old.items ++ slot_bytes
