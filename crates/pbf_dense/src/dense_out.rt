@@ -159,6 +159,7 @@ impl DenseOut {
     }
 
     /// The bytes of the message. Its indexes name the same texts in each later state of the table.
+    #[tactic(auto, using(crate::proofs::DenseOutLemmas::finished))]
     pub fn finish(self, alloc: Global) -> Result<Vec<u8>, AllocError>
         ensures { (texts used : List (List ℕ)) (ns : List NodeSpec) → HoldsNodes self texts ns
             → IfOk result (λ bytes. bytes.items ≡ dense_message (texts_after texts used) ns) }
