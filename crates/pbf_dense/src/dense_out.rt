@@ -143,6 +143,7 @@ impl DenseOut {
     }
 
     /// Appends the fields of the message, with these as those of its DenseInfo.
+    #[tactic(auto, using(crate::proofs::Parts::one_more, crate::proofs::Parts::last_slot))]
     fn put_fields(&self, out: &mut Vec<u8>, info: &[u8]) -> Result<(), AllocError>
         ensures { OnOk result (out.new.items
             ≡ out.old.items ++ message (Column ID (deltas self.now.ids)
