@@ -170,3 +170,5 @@ module _ (texts : List (List ℕ)) (scale : Scale) (ns : List NodeSpec) (h : Nod
   pub dense_sound : (place at : ℕ) → dense_fault place at (table_of texts) (dense_message texts ns) ≡ None
   unfolding dense_fault early_fault
   dense_sound place at = rw (wire_written texts scale ns h place at, structure_written texts scale ns h place at, values_written texts scale ns h place at, weights_written place at) refl
+
+pub ruleset clauses = (wire_written, structure_written, values_written, nodes_written, dense_sound)

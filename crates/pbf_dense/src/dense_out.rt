@@ -130,6 +130,7 @@ impl DenseOut {
     }
 
     /// Appends the runs of tags, if a node has one.
+    #[tactic(auto, using(crate::proofs::DenseOutLemmas::no_runs))]
     fn put_runs(&self, out: &mut Vec<u8>) -> Result<(), AllocError>
         ensures { OnOk result (out.new.items
             ≡ out.old.items ++ slot_bytes
@@ -142,6 +143,7 @@ impl DenseOut {
     }
 
     /// Appends the fields of the message, with these as those of its DenseInfo.
+    #[tactic(auto, using(crate::proofs::Parts::one_more, crate::proofs::Parts::last_slot))]
     fn put_fields(&self, out: &mut Vec<u8>, info: &[u8]) -> Result<(), AllocError>
         ensures { OnOk result (out.new.items
             ≡ out.old.items ++ message (Column ID (deltas self.now.ids)
@@ -158,6 +160,7 @@ impl DenseOut {
     }
 
     /// The bytes of the message. Its indexes name the same texts in each later state of the table.
+    #[tactic(auto, using(crate::proofs::DenseOutLemmas::finished))]
     pub fn finish(self, alloc: Global) -> Result<Vec<u8>, AllocError>
         ensures { (texts used : List (List ℕ)) (ns : List NodeSpec) → HoldsNodes self texts ns
             → IfOk result (λ bytes. bytes.items ≡ dense_message (texts_after texts used) ns) }

@@ -124,6 +124,7 @@ impl InfoOut {
     }
 
     /// Appends the fields of the DenseInfo.
+    #[tactic(auto, using(crate::proofs::Parts::one_more, crate::proofs::Parts::last_slot), unfolding(crate::specs::WrittenDense::info_message))]
     pub(crate) fn write(&self, out: &mut Vec<u8>) -> Result<(), AllocError>
         ensures { OnOk result (out.new.items ≡ out.old.items ++ info_message (info_held self.now)) }
     {

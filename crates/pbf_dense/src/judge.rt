@@ -97,6 +97,7 @@ impl<'a> Dense<'a> {
 
     /// The nodes of a dense message that was judged to have no fault before its weights. Judges nothing; the rest is as for
     /// [`Dense::over`].
+    #[tactic(auto, using(crate::proofs::SoundDense::nodes_same))]
     pub fn open(message: &'a [u8], at: u64, table: &'a Table<'a>, scale: Scale) -> Dense<'a>
         requires placed { at + length message.now ≤ 2 ^ 63 }
         requires sound { IsSound table.now at message.now }

@@ -1,10 +1,7 @@
 use Rattle.std.proofs.Common.{◌∙◌, ap, sym, drop, slice_get, arith}
 use Rattle.pbf_wire.specs.Cursors.{sums_left}
-use Rattle.pbf_dense.proofs.EntryLemmas.{passed_one, all_passed}
+use Rattle.pbf_dense.proofs.EntryLemmas.{all_passed}
 use Rattle.pbf_dense.proofs.entries.pass_sums.Goals as goal
-
-pub loop-passed-preserved : goal.loop-passed-preserved
-loop-passed-preserved c = c.next_sum.ensures.rest ∙ (ap (drop 1) c.loop-passed.invariant ∙ passed_one c.loop-passed._passed (sums_left c.args.sums.now))
 
 pub returns-in_default : goal.returns-in_default
 returns-in_default c =
