@@ -19,8 +19,8 @@ pub(crate) struct EntityCounts {
 }
 
 /// The counts of a message whose first byte stands at `at` in the file: of what all entities have, and of the numbers in the three
-/// columns that its kind has of its own. No packed payload is decoded. As `entity_fields`, it is a function of its own for each kind.
-#[inline(never)]
+/// columns that its kind has of its own. No packed payload is decoded. It is part of what judges a kind, so that the answer is not moved.
+#[inline(always)]
 pub(crate) fn entity_counts<const FIRST: u64, const SECOND: u64, const THIRD: u64>(
     message: &[u8],
     at: u64,

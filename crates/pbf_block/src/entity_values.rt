@@ -25,9 +25,9 @@ pub(crate) struct EntityValues {
 
 /// The values of a message whose first byte stands at `at` in the file, and whose texts are named in a table of `limit` texts: what
 /// is judged of all entities, and the fields of the three numbers that its kind has of its own, which are judged after it. These
-/// begin at the first of their number, so that an absent column takes no pass. As `entity_fields`, it is a function of its own for
-/// each kind.
-#[inline(never)]
+/// begin at the first of their number, so that an absent column takes no pass. It is part of what judges a kind, so that the answer
+/// is not moved.
+#[inline(always)]
 #[tactic(auto, using(crate::proofs::Parts::least_more, crate::proofs::Parts::lesser_nothing, crate::proofs::ValueLemmas::last_is, crate::proofs::ValueLemmas::texts_are))]
 pub(crate) fn entity_values<const FIRST: u64, const SECOND: u64, const THIRD: u64>(
     message: &[u8],
@@ -74,6 +74,7 @@ pub(crate) fn entity_values<const FIRST: u64, const SECOND: u64, const THIRD: u6
 
 impl EntityValues {
     /// The least fault of what all entities have alike: tags and an info.
+    #[inline(always)]
     #[tactic(auto, using(crate::proofs::Parts::lesser_parts))]
     pub(crate) fn judge(&self) -> Option<Fault>
         ensures { (limit : ℕ) (os : List Occurrence) → AreValues limit self.now os

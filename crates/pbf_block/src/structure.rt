@@ -49,6 +49,7 @@ fn judge_tags(counts: EntityCounts, tag: u64) -> Option<Fault>
 }
 
 /// The least fault of what all entities have alike: an id, at most one info, and tags.
+#[inline(always)]
 #[tactic(auto, using(crate::proofs::Parts::lesser_parts))]
 fn judge_entity(message: &[u8], at: u64, tag: u64, counts: EntityCounts) -> Option<Fault>
     requires placed { at + length message.now ≤ 2 ^ 63 }
@@ -59,6 +60,7 @@ fn judge_entity(message: &[u8], at: u64, tag: u64, counts: EntityCounts) -> Opti
     lesser(once, judge_tags(counts, tag))
 }
 
+#[inline(never)]
 #[tactic(auto, using(crate::proofs::Parts::lesser_parts))]
 fn judge_node(message: &[u8], at: u64, tag: u64) -> Option<Fault>
     requires { at + length message.now ≤ 2 ^ 63 }
@@ -80,6 +82,7 @@ fn are_located(refs: usize, lats: usize, lons: usize) -> bool
     lats == lons && (lats == 0 || lats == refs)
 }
 
+#[inline(never)]
 #[tactic(auto, using(crate::proofs::Parts::lesser_parts))]
 fn judge_way(message: &[u8], at: u64, tag: u64) -> Option<Fault>
     requires { at + length message.now ≤ 2 ^ 63 }
@@ -101,6 +104,7 @@ fn are_members(roles: usize, ids: usize, kinds: usize) -> bool
     roles == ids && kinds == ids
 }
 
+#[inline(never)]
 #[tactic(auto, using(crate::proofs::Parts::lesser_parts))]
 fn judge_relation(message: &[u8], at: u64, tag: u64) -> Option<Fault>
     requires { at + length message.now ≤ 2 ^ 63 }

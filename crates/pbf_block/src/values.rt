@@ -17,6 +17,7 @@ use pbf_wire::{
     judge_low_numbers, lesser,
 };
 
+#[inline(never)]
 #[tactic(auto, using(crate::proofs::Parts::lesser_parts))]
 fn judge_node(message: &[u8], at: u64, limit: u64) -> Option<Fault>
     requires { at + length message.now ≤ 2 ^ 63 }
@@ -28,6 +29,7 @@ fn judge_node(message: &[u8], at: u64, limit: u64) -> Option<Fault>
     lesser(lat, judge_signed(last_value(lon, NODE_LON)))
 }
 
+#[inline(never)]
 #[tactic(auto, using(crate::proofs::Parts::lesser_parts))]
 fn judge_way(message: &[u8], at: u64, limit: u64) -> Option<Fault>
     requires { at + length message.now ≤ 2 ^ 63 }
@@ -40,6 +42,7 @@ fn judge_way(message: &[u8], at: u64, limit: u64) -> Option<Fault>
     lesser(lats, judge_sums(lons, WAY_LON))
 }
 
+#[inline(never)]
 #[tactic(auto, using(crate::proofs::Parts::lesser_parts))]
 fn judge_relation(message: &[u8], at: u64, limit: u64) -> Option<Fault>
     requires { at + length message.now ≤ 2 ^ 63 }
