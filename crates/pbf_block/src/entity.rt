@@ -35,8 +35,8 @@ pub(crate) struct EntityCounts {
 }
 
 /// The counts of a message whose first byte stands at `at` in the file: of what all entities have, and of the numbers in the three
-/// columns that its kind has of its own. No packed payload is decoded. As `entity_fields`, it is a function of its own for each kind.
-#[inline(never)]
+/// columns that its kind has of its own. No packed payload is decoded. It is part of what judges a kind, so that the answer is not moved.
+#[inline(always)]
 pub(crate) fn entity_counts<const FIRST: u64, const SECOND: u64, const THIRD: u64>(
     message: &[u8],
     at: u64,
@@ -91,6 +91,7 @@ impl EntityCounts {
 
     /// The least fault of structure of what all entities have, in the message that was counted: an id, at most one info, and as many
     /// keys as values.
+    #[inline(always)]
     #[tactic(auto, using(crate::proofs::Parts::lesser_parts))]
     pub(crate) fn judge(self, message: &[u8], at: u64, place: u64) -> Option<Fault>
         requires placed { at + length message.now ≤ 2 ^ 63 }
@@ -116,9 +117,9 @@ pub(crate) struct EntityValues {
 
 /// The values of a message whose first byte stands at `at` in the file, and whose texts are named in a table of `limit` texts: what
 /// is judged of all entities, and the fields of the three numbers that its kind has of its own, which are judged after it. These
-/// begin at the first of their number, so that an absent column takes no pass. As `entity_fields`, it is a function of its own for
-/// each kind.
-#[inline(never)]
+/// begin at the first of their number, so that an absent column takes no pass. It is part of what judges a kind, so that the answer
+/// is not moved.
+#[inline(always)]
 #[tactic(auto, using(crate::proofs::Parts::least_more, crate::proofs::Parts::lesser_nothing, crate::proofs::ValueLemmas::last_is, crate::proofs::ValueLemmas::texts_are))]
 pub(crate) fn entity_values<const FIRST: u64, const SECOND: u64, const THIRD: u64>(
     message: &[u8],
@@ -165,6 +166,7 @@ pub(crate) fn entity_values<const FIRST: u64, const SECOND: u64, const THIRD: u6
 
 impl EntityValues {
     /// The least fault of the values of the tags and the info.
+    #[inline(always)]
     #[tactic(auto, using(crate::proofs::Parts::lesser_parts))]
     pub(crate) fn judge(&self) -> Option<Fault>
         ensures { (limit : ℕ) (os : List Occurrence) → AreValues limit self.now os

@@ -29,6 +29,7 @@ pub(crate) const NODE_KINDS: [(u64, Kind); 6] = [
 ];
 
 /// The least fault of structure: what all entities have, and a place.
+#[inline(never)]
 #[tactic(auto, using(crate::proofs::Parts::lesser_parts))]
 pub(crate) fn judge_structure(message: &[u8], at: u64, place: u64) -> Option<Fault>
     requires { at + length message.now ≤ 2 ^ 63 }
@@ -41,6 +42,7 @@ pub(crate) fn judge_structure(message: &[u8], at: u64, place: u64) -> Option<Fau
 }
 
 /// The least fault of values, where the table has `limit` texts.
+#[inline(never)]
 #[tactic(auto, using(crate::proofs::Parts::lesser_parts))]
 pub(crate) fn judge_values(message: &[u8], at: u64, limit: u64) -> Option<Fault>
     requires { at + length message.now ≤ 2 ^ 63 }

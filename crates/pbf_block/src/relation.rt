@@ -43,6 +43,7 @@ fn are_members(roles: usize, ids: usize, kinds: usize) -> bool
 }
 
 /// The least fault of structure: what all entities have, and the columns of members.
+#[inline(never)]
 #[tactic(auto, using(crate::proofs::Parts::lesser_parts))]
 pub(crate) fn judge_structure(message: &[u8], at: u64, place: u64) -> Option<Fault>
     requires { at + length message.now ≤ 2 ^ 63 }
@@ -57,6 +58,7 @@ pub(crate) fn judge_structure(message: &[u8], at: u64, place: u64) -> Option<Fau
 }
 
 /// The least fault of values, where the table has `limit` texts.
+#[inline(never)]
 #[tactic(auto, using(crate::proofs::Parts::lesser_parts))]
 pub(crate) fn judge_values(message: &[u8], at: u64, limit: u64) -> Option<Fault>
     requires { at + length message.now ≤ 2 ^ 63 }

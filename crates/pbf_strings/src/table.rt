@@ -100,42 +100,48 @@ fn are_too_many(message: &[u8]) -> bool
     message.len() > MOST_TEXTS && text_count(message) > MOST_TEXTS
 }
 
-/// Where each text of a StringTable stands in the message.
-fn places(alloc: Global, message: &[u8]) -> Result<Vec<u32>, AllocError>
+/// Where each text of a StringTable stands in the message, and the length of the longest.
+fn places(alloc: Global, message: &[u8]) -> Result<(Vec<u32>, usize), AllocError>
     requires { length message.now < 33554432 }
-    ensures { IfOk result (λ places. map (text_at message.now) places.items ≡ texts message.now) }
+    ensures exact { IfOk result (λ found. map (text_at message.now) found.0.items
+        ≡ texts message.now) }
+    ensures longest { IfOk result (λ found. found.1 ≡ longest (texts message.now)) }
 {
     let mut places = Vec::new(alloc);
+    let mut longest = 0;
     for item in Fields::new(message, 0) {
         let Ok(field) = item else {
-            return Ok(places);
+            return Ok((places, longest));
         };
         if field.number == TEXT {
-            if let Payload::Bytes(..) = field.payload {
+            if let Payload::Bytes(text, _) = field.payload {
                 places.push(field.offset as u32)?;
+                longest = longest.max(text.len());
             }
         }
     }
-    Ok(places)
+    Ok((places, longest))
 }
 
-/// The texts of a StringTable. It borrows the message and holds the place of each text in it, four bytes a text. Contracts
-/// see it as the list of its texts.
+/// The texts of a StringTable. It borrows the message and holds the place of each text in it, four bytes a text, and the length of
+/// the longest. Contracts see it as the list of its texts.
 #[derive(Drop)]
 pub struct Table<'a> {
     message: &'a [u8],
     places: Vec<u32>,
+    longest: usize,
 }
 
 impl<'a> Model for Table<'a> {
-    ghost use Rattle.std.specs.Prelude.{ℕ, List, map};
-    ghost use Rattle.pbf_strings.specs.Texts.{text_at, IsSmall};
+    ghost use Rattle.std.specs.Prelude.{◌≡◌, ℕ, List, map};
+    ghost use Rattle.pbf_strings.specs.Texts.{text_at, longest as longest_of, IsSmall};
 
     ghost Value = { List (List ℕ) };
 
     ghost view = { λ t. map (text_at t.message.now) t.places.items };
 
-    ghost invariant = { λ t. IsSmall t.message.now t.places };
+    ghost invariant = { λ t. IsSmall t.message.now t.places
+        × (t.longest ≡ longest_of (map (text_at t.message.now) t.places.items)) };
 }
 
 impl<'a> Table<'a> {
@@ -184,9 +190,11 @@ impl<'a> Table<'a> {
         requires few { length (texts message.now) ≤ MOST_TEXTS }
         ensures { IfOk result (λ table. table ≡ texts message.now) }
     {
+        let (places, longest) = places(alloc, message)?;
         Ok(Table {
             message,
-            places: places(alloc, message)?,
+            places,
+            longest,
         })
     }
 
@@ -220,15 +228,11 @@ impl<'a> Table<'a> {
         self.get(index).unwrap_or(&[])
     }
 
-    /// The length of the longest text, and 0 where there is none. Goes through all texts and takes no memory.
+    /// The length of the longest text, and 0 where there is none.
     pub fn longest(&self) -> usize
         ensures { result ≡ longest self.now }
     {
-        let mut longest = 0;
-        for place in self.places.iter() {
-            longest = longest.max(text_at(self.message, *place as usize).len());
-        }
-        longest
+        self.longest
     }
 
     /// How many bytes the table holds: four for each text.

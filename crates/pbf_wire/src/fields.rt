@@ -1,10 +1,9 @@
 //! The fields of a message, one after the other.
 
-ghost use Rattle.std.specs.Prelude.{◌≡◌, ◌+◌, ◌≤◌, ◌<◌, ◌^◌, Ok, IfOk, MatchOption, ⊤, length};
+ghost use Rattle.std.specs.Prelude.{◌≡◌, ◌+◌, ◌≤◌, ◌<◌, ◌^◌, Ok, IfOk, length};
 ghost use Rattle.pbf_wire.specs.Occurrence.{body_at, occurrence_at};
 ghost use Rattle.pbf_wire.specs.Payload.{content, end_of};
 ghost use Rattle.pbf_wire.specs.Fields.{occurrence, seen};
-ghost use Rattle.pbf_wire.specs.Varint.{varint_at};
 
 use crate::fault::{Fault, Reason};
 use crate::field::{Field, Payload};
@@ -80,69 +79,6 @@ fn field_at(bytes: &[u8], place: u64) -> Result<(Field<'_>, usize), Reason>
     ))
 }
 
-/// The tag at the start of the bytes, if it is one byte and its number isn't 0.
-#[inline(always)]
-fn short_tag(bytes: &[u8]) -> Option<u64>
-    ensures { MatchOption result ⊤ (λ tag. (varint_at bytes.now ≡ Ok (tag, 1)) × (8 ≤ tag)
-        × (tag < 128) × (0 < length bytes.now)) }
-{
-    let [first, ..] = bytes else {
-        return None;
-    };
-    let tag = u64::from(*first);
-    if tag < 8 || tag >= 128 {
-        return None;
-    }
-    Some(tag)
-}
-
-/// As [`payload_at`], if it is a number or bytes.
-#[inline(always)]
-#[tactic(auto, unfolding(crate::specs::Occurrence::body_at))]
-fn short_payload(bytes: &[u8], kind: u64, at: u64) -> Option<(Payload<'_>, usize)>
-    requires { at + length bytes.now ≤ 2 ^ 63 }
-    ensures exact { MatchOption result ⊤ (λ found. body_at kind at bytes.now
-        ≡ Ok (content found.0, found.1)) }
-    ensures taken { MatchOption result ⊤ (λ found. (found.1 ≤ length bytes.now)
-        × (end_of found.0 ≤ 2 ^ 63)) }
-{
-    let Ok((value, length)) = first_varint(bytes) else {
-        return None;
-    };
-    if kind == 0 {
-        return Some((Payload::Number(value), length));
-    }
-    let after = &bytes[length..];
-    if kind != 2 || (after.len() as u64) < value {
-        return None;
-    }
-    let size = value as usize;
-    Some((
-        Payload::Bytes(&after[..size], at + length as u64),
-        length + size,
-    ))
-}
-
-/// As [`field_at`], if the tag is one byte, and a number or bytes follow: nearly all fields are so. They are read where they are
-/// asked for, without a call.
-#[inline(always)]
-#[tactic(auto, unfolding(crate::specs::Occurrence::occurrence_at))]
-fn short_field(bytes: &[u8], place: u64) -> Option<(Field<'_>, usize)>
-    requires { place + length bytes.now ≤ 2 ^ 63 }
-    ensures exact { MatchOption result ⊤ (λ found. occurrence_at place bytes.now
-        ≡ Ok (occurrence found.0, found.1)) }
-    ensures taken { MatchOption result ⊤ (λ found. (0 < found.1) × (found.1 ≤ length bytes.now)) }
-{
-    let tag = short_tag(bytes)?;
-    let (payload, size) = short_payload(&bytes[1..], tag % 8, place + 1)?;
-    let field = Field {
-        offset: place,
-        number: tag / 8,
-        payload,
-    };
-    Some((field, 1 + size))
-}
-
 /// The fields of a message, in order: an iterator over the bytes, which takes no memory. A fault ends it: after an `Err`
 /// there are no more items.
 #[derive(Clone, Copy)]
@@ -184,12 +120,22 @@ impl<'a> Fields<'a> {
     {
         self.rest.len()
     }
+}
 
-    /// The next item, whatever its tag.
-    #[inline(never)]
-    fn advance(&mut self) -> Option<Result<Field<'a>, Fault>>
-        ensures { YieldsFirstBy item fields_left self.old result self.new }
-    {
+impl<'a> Iterator for Fields<'a> {
+    ghost use Rattle.std.specs.Iterator.{YieldsFirstBy, item_count};
+    ghost use Rattle.pbf_wire.specs.Fields.{item};
+    ghost use Rattle.pbf_wire.specs.Cursors.{fields_left};
+
+    type Item = Result<Field<'a>, Fault>;
+
+    ghost next_gives = { YieldsFirstBy item fields_left };
+
+    ghost remaining = { item_count fields_left };
+
+    /// A field is read where it is asked for, without a call: so the cursor of a loop stays in registers.
+    #[inline(always)]
+    fn next(&mut self) -> Option<Result<Field<'a>, Fault>> {
         if self.rest.is_empty() {
             return None;
         }
@@ -208,30 +154,5 @@ impl<'a> Fields<'a> {
                 }))
             }
         }
-    }
-}
-
-impl<'a> Iterator for Fields<'a> {
-    ghost use Rattle.std.specs.Iterator.{YieldsFirstBy, item_count};
-    ghost use Rattle.pbf_wire.specs.Fields.{item};
-    ghost use Rattle.pbf_wire.specs.Cursors.{fields_left};
-
-    type Item = Result<Field<'a>, Fault>;
-
-    ghost next_gives = { YieldsFirstBy item fields_left };
-
-    ghost remaining = { item_count fields_left };
-
-    #[inline(always)]
-    fn next(&mut self) -> Option<Result<Field<'a>, Fault>> {
-        if self.rest.is_empty() {
-            return None;
-        }
-        if let Some((field, taken)) = short_field(self.rest, self.at) {
-            self.rest = &self.rest[taken..];
-            self.at += taken as u64;
-            return Some(Ok(field));
-        }
-        self.advance()
     }
 }

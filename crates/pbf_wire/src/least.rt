@@ -24,15 +24,16 @@ pub fn comes_before(one: Fault, other: Fault) -> bool
 pub fn lesser(one: Option<Fault>, other: Option<Fault>) -> Option<Fault>
     ensures { result ≡ lesser one other }
 {
-    match (one, other) {
-        (None, _) => other,
-        (Some(_), None) => one,
-        (Some(first), Some(second)) => {
-            if comes_before(second, first) {
-                other
-            } else {
-                one
-            }
-        }
+    // Mostly there is no other: then nothing moves.
+    let Some(second) = other else {
+        return one;
+    };
+    let Some(first) = one else {
+        return other;
+    };
+    if comes_before(second, first) {
+        other
+    } else {
+        one
     }
 }

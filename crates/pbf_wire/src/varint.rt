@@ -1,34 +1,35 @@
 //! Varints: numbers of 64 bits, seven bits a byte, the lowest first. The top bit is set on every byte but the last.
 
 ghost use Rattle.std.specs.Prelude.{◌≡◌, ◌≤◌, ◌<◌, ◌^◌, ℕ, IfOk, MatchOption, OnOk, OnErr, ⊤, Result, Ok, Err, ◌↔◌, ◌++◌, List, length, take, drop, slice_range};
-ghost use Rattle.pbf_wire.specs.Varint.{IsVarint, IsCut, IsLong, varint_at, moved_by, shortest};
+ghost use Rattle.pbf_wire.specs.Varint.{IsVarint, IsCut, IsLong, told, varint_at, moved_by, shortest};
 
 use crate::fault::Reason;
 use std::alloc::AllocError;
 
-/// The number that the bytes begin with, and how many bytes it takes, byte by byte.
-fn any_varint(bytes: &[u8]) -> Result<(u64, usize), Reason>
-    ensures exact { result ≡ varint_at bytes.now }
-    ensures taken { IfOk result (λ found. (0 < found.1) × (found.1 ≤ length bytes.now)) }
+/// The number that the bytes begin with, and how many bytes it takes, byte by byte. A length of 0 says that there is none: so two plain
+/// numbers are answered, for which no room in memory is cleared where it is called.
+fn any_varint(bytes: &[u8]) -> (u64, usize)
+    ensures exact { told bytes.now result ≡ varint_at bytes.now }
+    ensures taken { result.1 ≤ length bytes.now }
 {
     let mut value = 0;
     for (i, &byte) in bytes.iter().enumerate() {
         if i == 9 && byte > 1 {
-            return Err(Reason::VarintLong);
+            return (0, 0);
         }
         value |= u64::from(byte & 127) << (7 * i);
         if byte < 128 {
-            return Ok((value, i + 1));
+            return (value, i + 1);
         }
     }
-    Err(Reason::VarintCut)
+    (0, 0)
 }
 
 /// As [`any_varint`], for numbers that take four bytes or more: most of them take four or five.
 #[inline(never)]
-fn longer_varint(bytes: &[u8]) -> Result<(u64, usize), Reason>
-    ensures exact { result ≡ varint_at bytes.now }
-    ensures taken { IfOk result (λ found. (0 < found.1) × (found.1 ≤ length bytes.now)) }
+fn longer_varint(bytes: &[u8]) -> (u64, usize)
+    ensures exact { told bytes.now result ≡ varint_at bytes.now }
+    ensures taken { result.1 ≤ length bytes.now }
 {
     let [first, second, third, fourth, ..] = bytes else {
         return any_varint(bytes);
@@ -41,14 +42,14 @@ fn longer_varint(bytes: &[u8]) -> Result<(u64, usize), Reason>
     let three = two - 128 * 128 + u64::from(*third) * (128 * 128);
     let four = three - 128 * 128 * 128 + u64::from(*fourth) * (128 * 128 * 128);
     if *fourth < 128 {
-        return Ok((four, 4));
+        return (four, 4);
     }
     let [_, _, _, _, fifth, ..] = bytes else {
         return any_varint(bytes);
     };
     if *fifth < 128 {
         let five = four - 128 * 128 * 128 * 128 + u64::from(*fifth) * (128 * 128 * 128 * 128);
-        return Ok((five, 5));
+        return (five, 5);
     }
     any_varint(bytes)
 }
@@ -94,9 +95,18 @@ pub(crate) fn first_varint(bytes: &[u8]) -> Result<(u64, usize), Reason>
     if bytes.is_empty() {
         return Err(Reason::VarintCut);
     }
-    match short_varint(bytes) {
-        Some(found) => Ok(found),
-        None => longer_varint(bytes),
+    if let Some(found) = short_varint(bytes) {
+        return Ok(found);
+    }
+    let found = longer_varint(bytes);
+    if found.1 > 0 {
+        return Ok(found);
+    }
+    // Of ten bytes one ends the number, or it is too long.
+    if bytes.len() < 10 {
+        Err(Reason::VarintCut)
+    } else {
+        Err(Reason::VarintLong)
     }
 }
 

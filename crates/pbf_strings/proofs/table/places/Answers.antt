@@ -10,5 +10,6 @@ loop-item-init c = record {
   can = tt;
   ends = tt;
   so_far = search rules;
+  most = search rules;
   placed = subst (λ (its : List Item). AllByRecursion (IsAtPlace c.args.message.now) (found its)) (sym (ap fields_left c.into_iter-item-iterator.ensures.into_iter_gives ∙ c.new-item-items.ensures)) (all_at_place c.args.message.now);
 }

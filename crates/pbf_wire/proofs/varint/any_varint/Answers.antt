@@ -1,4 +1,5 @@
-use Rattle.std.proofs.Common.{get_or, refl, sym, ap, arith, below_more, inl, inr}
+use Rattle.std.proofs.Common.{◌≡◌, ◌+◌, true, false, ltb, length, get_or, refl, sym, ap, arith, below_more, inl, inr}
+use Rattle.std.proofs.lemmas.Bool.{lt-ltb, le-ltb}
 use Rattle.pbf_wire.specs.Varint.{value_of}
 use Rattle.pbf_wire.proofs.Varints as lemmas
 use Rattle.pbf_wire.proofs.varint.any_varint.Goals as goal
@@ -9,14 +10,17 @@ unfolding value_of
 loop-i-init c = record { short = omega arith; below = omega arith; value = refl; goes_on = λ k h. absurd (omega arith) }
 
 pub returns-then-byte-gt1-clause-exact : goal.returns-then-byte-gt1-clause-exact
-returns-then-byte-gt1-clause-exact c = sym (lemmas.long_at c.args.bytes.now (omega arith) (λ k h. c.loop-i.invariant.goes_on k (omega arith)) (let e = c.if-i-eq9.true in omega (arith, ap (λ k. get_or c.args.bytes.now k 0) e)))
+returns-then-byte-gt1-clause-exact c =
+    let long : ltb (length c.args.bytes.now) 10 ≡ false = le-ltb _ _ (omega arith) in
+    rw long (sym (lemmas.long_at c.args.bytes.now (omega arith) (λ k h. c.loop-i.invariant.goes_on k (omega arith)) (let e = c.if-i-eq9.true in omega (arith, ap (λ k. get_or c.args.bytes.now k 0) e))))
 
 pub returns-then-byte-lt128-clause-exact : goal.returns-then-byte-lt128-clause-exact
 returns-then-byte-lt128-clause-exact c =
     let i = c.loop-i.i in
     let inv = c.loop-i.invariant in
     let t = lemmas.turn c.args.bytes.now i c.loop-i.value c.from.result c.loop-i-test.true inv.short inv.below inv.value (omega (arith, c.type_inv.bytes i)) c.else-i-eq9.either c.from.ensures in
-    sym (lemmas.ended_at c.args.bytes.now i _ c.loop-i-test.true (omega arith) inv.goes_on c.if-byte-lt128.true t.0 t.2)
+    let some : ltb 0 (i + 1) ≡ true = lt-ltb _ _ (omega arith) in
+    rw some (sym (lemmas.ended_at c.args.bytes.now i _ c.loop-i-test.true (omega arith) inv.goes_on c.if-byte-lt128.true t.0 t.2))
 
 pub loop-i-preserved : goal.loop-i-preserved
 loop-i-preserved c =
@@ -31,4 +35,6 @@ loop-i-preserved c =
     }
 
 pub returns-clause-exact : goal.returns-clause-exact
-returns-clause-exact c = sym (lemmas.cut_at c.args.bytes.now c.loop-i.i (omega arith) (omega arith) c.loop-i.invariant.goes_on)
+returns-clause-exact c =
+    let short : ltb (length c.args.bytes.now) 10 ≡ true = lt-ltb _ _ (omega arith) in
+    rw short (sym (lemmas.cut_at c.args.bytes.now c.loop-i.i (omega arith) (omega arith) c.loop-i.invariant.goes_on))
