@@ -178,6 +178,7 @@ fn put_flag(out: &mut Vec<u8>, number: u64, flag: Option<bool>) -> Result<(), Al
 }
 
 /// Appends the fields of an Info, of which `user` is the index of the user's text.
+#[tactic(auto, using(crate::proofs::Parts::one_more, crate::proofs::Parts::last_slot), unfolding(crate::specs::WrittenEntity::info_message))]
 pub(crate) fn put_info(
     out: &mut Vec<u8>,
     meta: &MetaRef<'_>,
@@ -196,6 +197,7 @@ pub(crate) fn put_info(
 }
 
 /// Appends the fields that ways and relations have alike: the id, the columns of keys and values, and the Info.
+#[tactic(auto, using(crate::proofs::Parts::one_more, crate::proofs::Parts::last_slot, crate::proofs::WritingLemmas::same))]
 pub(crate) fn put_head(
     out: &mut Vec<u8>,
     id: i64,

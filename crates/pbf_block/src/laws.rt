@@ -28,6 +28,7 @@ pub use pbf_header::laws::{
 
 /// The first fault of a payload, phase by phase, is the least of all its faults by phase, then offset, then the reason's
 /// number, then the field that is missing.
+#[tactic(auto, using(crate::proofs::PhaseLemmas::phases_joined))]
 pub fn phases_are_one_order()
     ensures { (at : ℕ) (m : List ℕ)
         → option_map (λ p. p.1) (least_by phase_rank (all_faults at m)) ≡ block_fault at m }
@@ -76,6 +77,7 @@ pub fn written_relation_is_read()
 {}
 
 /// A written block is at most 380 bytes longer than twice its weight; so entities that may stand in one block fit a frame.
+#[tactic(auto, using(crate::proofs::LengthLaw::block_short, crate::proofs::LengthLaw::block_fits))]
 pub fn written_block_fits()
     ensures short { (es : List EntitySpec)
         → length (block_message es) ≤ 380 + 2 * sum_by entity_weight es }
@@ -85,6 +87,7 @@ pub fn written_block_fits()
 
 /// Entities that may stand in one block are written as a block that has no fault of any phase, and that holds those entities,
 /// wherever in a file it stands.
+#[tactic(auto, using(crate::proofs::WrittenLaw::written_sound, crate::proofs::WrittenLaw::written_read))]
 pub fn written_block_is_read()
     ensures sound { (at : ℕ) (es : List EntitySpec) → is_block es ≡ true
         → AllByRecursion EntityFits es → AllByRecursion EntityTyped es
@@ -96,6 +99,7 @@ pub fn written_block_is_read()
 
 /// The entities of a payload without a fault are in their ranges and light enough to be written, and their numbers have the types
 /// of the format.
+#[tactic(auto, using(crate::proofs::FitsLaw::entities_fit, crate::proofs::FitsLaw::entities_typed))]
 pub fn sound_entities_fit()
     ensures fits { (at : ℕ) (m : List ℕ) → block_fault at m ≡ None
         → AllByRecursion EntityFits (entities at m) }

@@ -1,12 +1,10 @@
 //! The columns of a DenseInfo, written.
 
-ghost use Rattle.std.specs.Prelude.{◌≡◌, ◌++◌, ◌∷◌, [], ◌-◌, ◌^◌, min, pos, ℕ, List, OnOk, map};
+ghost use Rattle.std.specs.Prelude.{◌≡◌, ◌++◌, [], ◌-◌, ◌^◌, min, pos, ℕ, List, OnOk};
 ghost use Rattle.std.specs.Option.{option_map, option_to_list};
 ghost use Rattle.pbf_wire.specs.Signed.{sign_extended};
-ghost use Rattle.pbf_strings.specs.TableOut.{index_in};
 ghost use Rattle.osm_entity.specs.Ranges.{IsStored, IsUid, IfPresent, MetaFits};
 ghost use Rattle.osm_entity.specs.Views.{meta_of};
-ghost use Rattle.pbf_dense.specs.Info.{InfoSpec};
 ghost use Rattle.pbf_dense.specs.WrittenDense.{bit_of, info_columns, info_message, info_held, info_length};
 
 use crate::info_rules::{CHANGESET, TIMESTAMP, UID, USER_SID, VERSION, VISIBLE};

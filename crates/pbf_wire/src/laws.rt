@@ -1,7 +1,7 @@
 //! The laws of the wire encoding. Each is the contract of a function that does nothing: a proof that needs the law calls it,
 //! or takes the lemma of that name from this crate's `proofs/`.
 
-ghost use Rattle.std.specs.Prelude.{◌≡◌, ◌+◌, ◌*◌, ◌^◌, ◌<◌, ◌≤◌, ◌<ℤ◌, ◌≤ℤ◌, neg_ℤ, ◌++◌, ℕ, ℤ, pos, negsuc, List, [], ◌∷◌, Ok, None, Some, length, map};
+ghost use Rattle.std.specs.Prelude.{◌≡◌, ◌+◌, ◌^◌, ◌<◌, ◌≤◌, ◌<ℤ◌, ◌≤ℤ◌, neg_ℤ, ◌++◌, ℕ, ℤ, pos, negsuc, List, [], ◌∷◌, Ok, None, Some, length, map};
 ghost use Rattle.std.specs.List.{AllByRecursion, flat_map, last_or};
 ghost use Rattle.std.specs.Option.{option_map};
 ghost use Rattle.pbf_wire.specs.declared.fault.Fault.{Fault};

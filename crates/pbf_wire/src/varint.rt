@@ -1,6 +1,6 @@
 //! Varints: numbers of 64 bits, seven bits a byte, the lowest first. The top bit is set on every byte but the last.
 
-ghost use Rattle.std.specs.Prelude.{◌≡◌, ◌≤◌, ◌<◌, ◌^◌, ℕ, IfOk, MatchOption, OnOk, OnErr, ⊤, Result, Ok, Err, ◌↔◌, ◌++◌, List, length, take, drop, slice_range};
+ghost use Rattle.std.specs.Prelude.{◌≡◌, ◌≤◌, ◌<◌, ℕ, IfOk, MatchOption, OnOk, OnErr, ⊤, Result, Ok, Err, ◌↔◌, ◌++◌, length, take, drop, slice_range};
 ghost use Rattle.pbf_wire.specs.Varint.{IsVarint, IsCut, IsLong, told, varint_at, moved_by, shortest};
 
 use crate::fault::Reason;
