@@ -1,12 +1,11 @@
 -- Without a wire fault a dense message has a node for each byte that ends a varint in its column of ids.
-use Rattle.std.proofs.Common.{◌≡◌, ℕ, List, [], ◌∷◌, eqb, length, map, refl, ap}
+use Rattle.std.proofs.Common.{◌≡◌, ℕ, List, [], eqb, length, map, refl, ap}
 use Rattle.std.specs.Prelude.{None}
 use Rattle.std.specs.List.{flat_map, range_with_len}
 use Rattle.std.proofs.lemmas.Bool.{eqb-true}
-use Rattle.pbf_wire.specs.Occurrence.{Occurrence}
 use Rattle.pbf_wire.specs.Faults.{fields_in}
 use Rattle.osm_entity.specs.declared.scale.Scale.{Scale}
-use Rattle.osm_entity.specs.Entity.{node, way, relation}
+use Rattle.osm_entity.specs.Entity.{node}
 use Rattle.pbf_dense.specs.Judged.{dense_wire}
 use Rattle.pbf_dense.specs.Nodes.{node_at, nodes}
 use Rattle.pbf_dense.proofs.SoundDense.{ids_counted}
@@ -27,20 +26,13 @@ module _ (table : List (List ℕ)) (scale : Scale) where
   unfolding nodes
   dense_same place at m e = ap (λ n. map (node_at table scale (fields_in at m)) (range_with_len 0 n)) (ids_counted place at m e)
 
-  way_same : (os : List Occurrence) → way_in by_ends table scale os ≡ way_in by_index table scale os
-  unfolding way_in
-  way_same os = refl
-
-  relation_same : (os : List Occurrence) → relation_in by_ends table scale os ≡ relation_in by_index table scale os
-  unfolding relation_in
-  relation_same os = refl
-
   message_same : (limit k place at : ℕ) (m : List ℕ) → IsClean limit k place at m → message_entities by_ends table scale k (fields_in at m) ≡ message_entities by_index table scale k (fields_in at m)
+  unfolding way_in relation_in
   message_same limit k place at m h =
       cond_same (eqb k NODES) _ _ _ _ (λ t. refl)
       (cond_same (eqb k DENSE) _ _ _ _ (λ t. ap (map node) (dense_same place at m (h.dense_form (eqb-true k DENSE t))))
-      (cond_same (eqb k WAYS) _ _ _ _ (λ t. ap (λ w. way w ∷ []) (way_same (fields_in at m)))
-      (cond_same (eqb k RELATIONS) _ _ _ _ (λ t. ap (λ r. relation r ∷ []) (relation_same (fields_in at m))) refl)))
+      (cond_same (eqb k WAYS) _ _ _ _ (λ t. refl)
+      (cond_same (eqb k RELATIONS) _ _ _ _ (λ t. refl) refl)))
 
 -- so its entities are as many as are counted
 pub ends_same : (at : ℕ) (m : List ℕ) → block_fault at m ≡ None → flat_map (in_group (member_entities by_ends (table_of (fields_in at m)) (scale_of (fields_in at m)))) (fields_in at m) ≡ entities at m

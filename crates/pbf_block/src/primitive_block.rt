@@ -119,8 +119,8 @@ pub(crate) fn judge_values(payload: &[u8], at: u64, limit: u64) -> Option<Fault>
 }
 
 /// The least weight fault of a payload whose first byte stands at `at` in the file: `EntityLarge` at the first field of a
-/// group with an entity above [`HIGHEST_WEIGHT`]. Goes through the texts, and through those entities that may be too heavy by the
-/// length of their message. Takes no memory.
+/// group with an entity above [`HIGHEST_WEIGHT`]. Goes through those entities that may be too heavy by the length of their message.
+/// Takes no memory.
 pub(crate) fn judge_weights<'a>(
     payload: &'a [u8],
     at: u64,
