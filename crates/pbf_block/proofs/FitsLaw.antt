@@ -23,7 +23,7 @@ use Rattle.osm_entity.specs.Weight.{entity_weight}
 use Rattle.osm_entity.proofs.RangeLemmas.{int32_typed, int64_typed}
 use Rattle.pbf_dense.proofs.FitsLemmas.{nodes_fit, nodes_typed, version_typed}
 use Rattle.pbf_block.specs.Group.{in_group, message_entities, member_entities, member_values, weight_fault, member_weights}
-use Rattle.pbf_dense.specs.declared.info_rules.TheConstants.{VERSION}
+use Rattle.pbf_dense.specs.declared.dense_info.TheConstants.{VERSION}
 use Rattle.pbf_block.specs.declared.primitive_block.TheConstants.{PRIMITIVEGROUP, GRANULARITY, DATE_GRANULARITY, BLOCK_KINDS, LAT_OFFSET, LON_OFFSET}
 use Rattle.pbf_block.specs.declared.group.TheConstants.{NODES, DENSE, WAYS, RELATIONS}
 use Rattle.pbf_block.specs.declared.entity.TheConstants.{INFO}

@@ -29,7 +29,7 @@ use Rattle.osm_entity.specs.Ranges.{IsStored, IsUid, IfPresent, MetaFits, Locati
 use Rattle.osm_entity.specs.Sources.{column_members}
 use Rattle.osm_entity.specs.Weight.{entity_weight}
 use Rattle.pbf_dense.specs.Judged.{range_faults}
-use Rattle.pbf_dense.specs.declared.info_rules.TheConstants.{TIMESTAMP, CHANGESET, UID, USER_SID}
+use Rattle.pbf_dense.specs.declared.dense_info.TheConstants.{TIMESTAMP, CHANGESET, UID, USER_SID}
 use Rattle.pbf_block.specs.declared.node.TheConstants.{NODE_KINDS, NODE_LAT, NODE_LON}
 use Rattle.pbf_block.specs.declared.way.TheConstants.{WAY_KINDS, REFS, WAY_LAT, WAY_LON}
 use Rattle.pbf_block.specs.declared.relation.TheConstants.{RELATION_KINDS, MEMIDS, TYPES, ROLES_SID}

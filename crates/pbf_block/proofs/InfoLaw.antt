@@ -20,7 +20,7 @@ use Rattle.osm_entity.specs.Entity.{MetaSpec}
 use Rattle.osm_entity.specs.Ranges.{IsInt32, IsStored, IsUid, IfPresent, MetaFits}
 use Rattle.osm_entity.specs.Sources.{named}
 use Rattle.pbf_dense.specs.WrittenDense.{bit_of}
-use Rattle.pbf_dense.specs.declared.info_rules.TheConstants.{VERSION, TIMESTAMP, CHANGESET, UID, USER_SID, VISIBLE}
+use Rattle.pbf_dense.specs.declared.dense_info.TheConstants.{VERSION, TIMESTAMP, CHANGESET, UID, USER_SID, VISIBLE}
 use Rattle.pbf_block.specs.declared.info.TheConstants.{INFO_KINDS}
 use Rattle.pbf_block.specs.Info.{out_of_range, info_values, info_in}
 use Rattle.pbf_block.specs.WrittenEntity.{info_slots, info_message}

@@ -23,8 +23,8 @@ use Rattle.osm_entity.specs.Weight.{tags_weight, members_weight, text_weight, no
 use Rattle.pbf_dense.specs.Info.{InfoSpec, meta_at, user_text, info_along, later}
 use Rattle.pbf_dense.specs.Nodes.{moving, nodes_along}
 use Rattle.pbf_dense.specs.Runs.{after_run}
-use Rattle.pbf_dense.specs.declared.dense_rules.TheConstants.{KEYS_VALS}
-use Rattle.pbf_dense.specs.declared.info_rules.TheConstants.{USER_SID}
+use Rattle.pbf_dense.specs.declared.dense_nodes.TheConstants.{KEYS_VALS}
+use Rattle.pbf_dense.specs.declared.dense_info.TheConstants.{USER_SID}
 use Rattle.pbf_block.specs.declared.group.TheConstants.{NODES, DENSE, WAYS, RELATIONS}
 use Rattle.pbf_block.specs.declared.entity.TheConstants.{KEYS, VALS, INFO}
 use Rattle.pbf_block.specs.declared.way.TheConstants.{REFS, WAY_LAT, WAY_LON}

@@ -15,7 +15,7 @@ ghost use Rattle.pbf_block.specs.WrittenEntity.{key_index, value_index, role_ind
 
 use crate::entity::{ID, INFO, KEYS, VALS};
 use osm_entity::{Locations, MemberKind, Members, MetaRef, Refs, Tags};
-use pbf_dense::info_rules::{CHANGESET, TIMESTAMP, UID, USER_SID, VERSION, VISIBLE};
+use pbf_dense::dense_info::{CHANGESET, TIMESTAMP, UID, USER_SID, VERSION, VISIBLE};
 use pbf_strings::TableOut;
 use pbf_wire::{
     ColumnOut, DeltaOut, put_column, put_int64, put_number, put_unless_empty, sign_extended,

@@ -11,7 +11,7 @@ ghost use Rattle.pbf_block.specs.Info.{AreLast, info_in, info_values, AreNumbers
 
 use crate::ranges::{judge_uid, judge_user, judge_wide, value_in};
 use osm_entity::MetaRef;
-use pbf_dense::info_rules::{CHANGESET, TIMESTAMP, UID, USER_SID, VERSION, VISIBLE};
+use pbf_dense::dense_info::{CHANGESET, TIMESTAMP, UID, USER_SID, VERSION, VISIBLE};
 use pbf_strings::Table;
 use pbf_wire::{
     Fault, Field, Fields, JudgeMessage, Kind, Payload, lesser, low_i32, low_i64, low_u32,

@@ -15,8 +15,8 @@ use Rattle.osm_entity.specs.Entity.{NodeSpec, node}
 use Rattle.osm_entity.specs.Ranges.{IsStored, IsUid, IfPresent, IsInt32, MetaFits, NodeFits, ScaleTyped, EntityTyped}
 use Rattle.osm_entity.specs.Weight.{node_weight}
 use Rattle.osm_entity.proofs.RangeLemmas.{int32_typed}
-use Rattle.pbf_dense.specs.declared.dense_rules.TheConstants.{ID, DENSEINFO, LAT, LON}
-use Rattle.pbf_dense.specs.declared.info_rules.TheConstants.{VERSION}
+use Rattle.pbf_dense.specs.declared.dense_nodes.TheConstants.{ID, DENSEINFO, LAT, LON}
+use Rattle.pbf_dense.specs.declared.dense_info.TheConstants.{VERSION}
 use Rattle.pbf_dense.specs.Info.{dense_meta}
 use Rattle.pbf_dense.specs.Nodes.{value_at, node_at, nodes}
 use Rattle.pbf_dense.specs.Judged.{IsSound}

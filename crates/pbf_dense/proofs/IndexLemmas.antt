@@ -9,7 +9,7 @@ use Rattle.pbf_wire.specs.Sums.{sums}
 use Rattle.osm_entity.specs.declared.scale.Scale.{Scale}
 use Rattle.osm_entity.specs.Entity.{TagSpec, MetaSpec, NodeSpec}
 use Rattle.osm_entity.specs.Sources.{tag_of, run}
-use Rattle.pbf_dense.specs.declared.info_rules.TheConstants.{VERSION, TIMESTAMP, CHANGESET, UID, USER_SID, VISIBLE}
+use Rattle.pbf_dense.specs.declared.dense_info.TheConstants.{VERSION, TIMESTAMP, CHANGESET, UID, USER_SID, VISIBLE}
 use Rattle.pbf_dense.specs.Info.{InfoSpec, meta_at, later}
 use Rattle.pbf_dense.specs.Runs.{with_pair, runs_in, tags_at, after_run}
 use Rattle.pbf_dense.specs.Nodes.{moving}

@@ -18,7 +18,7 @@ use Rattle.pbf_wire.proofs.MessageLemmas.{column_written}
 use Rattle.pbf_wire.proofs.SumLemmas.{IsSmall, deltas_fit, sums_of_deltas}
 use Rattle.pbf_wire.proofs.QuietLemmas.{leaf_quiet, counted_written, sums_good_written, index_sums_good}
 use Rattle.osm_entity.specs.Ranges.{IsStored, IsUid}
-use Rattle.pbf_dense.specs.declared.info_rules.TheConstants.{DENSEINFO_KINDS, VERSION, TIMESTAMP, CHANGESET, UID, USER_SID, VISIBLE}
+use Rattle.pbf_dense.specs.declared.dense_info.TheConstants.{DENSEINFO_KINDS, VERSION, TIMESTAMP, CHANGESET, UID, USER_SID, VISIBLE}
 use Rattle.pbf_dense.specs.Info.{InfoSpec}
 use Rattle.pbf_dense.specs.Judged.{goes_with, info_counts, info_values}
 use Rattle.pbf_dense.specs.WrittenDense.{info_slots}

@@ -21,7 +21,7 @@ use Rattle.osm_entity.specs.Entity.{TagSpec, MetaSpec, NodeSpec}
 use Rattle.osm_entity.specs.EntityTexts.{tag_texts}
 use Rattle.osm_entity.specs.Ranges.{IfPresent, IsInt32, NodeFits}
 use Rattle.osm_entity.specs.Sources.{low_32, tag_of, run}
-use Rattle.pbf_dense.specs.declared.dense_rules.TheConstants.{ID, DENSEINFO, LAT, LON, KEYS_VALS}
+use Rattle.pbf_dense.specs.declared.dense_nodes.TheConstants.{ID, DENSEINFO, LAT, LON, KEYS_VALS}
 use Rattle.pbf_dense.specs.Info.{InfoSpec}
 use Rattle.pbf_dense.specs.Runs.{after_run}
 use Rattle.pbf_dense.specs.Nodes.{nodes, moving}

@@ -10,8 +10,8 @@ use Rattle.pbf_wire.specs.Sums.{sums, sum_at}
 use Rattle.pbf_wire.proofs.SumLemmas.{sums_in_range}
 use Rattle.osm_entity.specs.declared.scale.Scale.{Scale}
 use Rattle.osm_entity.specs.Sources.{low_32}
-use Rattle.pbf_dense.specs.declared.dense_rules.TheConstants.{ID, DENSEINFO, LAT, LON, KEYS_VALS}
-use Rattle.pbf_dense.specs.declared.info_rules.TheConstants.{TIMESTAMP, CHANGESET, UID, USER_SID}
+use Rattle.pbf_dense.specs.declared.dense_nodes.TheConstants.{ID, DENSEINFO, LAT, LON, KEYS_VALS}
+use Rattle.pbf_dense.specs.declared.dense_info.TheConstants.{TIMESTAMP, CHANGESET, UID, USER_SID}
 use Rattle.pbf_dense.specs.Info.{info_along}
 use Rattle.pbf_dense.specs.Nodes.{nodes, nodes_along, values_along}
 use Rattle.pbf_dense.proofs.IndexLemmas.{info_of, moving_same, moving_by_index}

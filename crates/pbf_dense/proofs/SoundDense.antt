@@ -16,8 +16,8 @@ use Rattle.pbf_wire.specs.Wire.{kind_of}
 use Rattle.pbf_wire.specs.Faults.{inside, entered, fields_in, fields_of, embedded, leaf_faults, column_count, index_faults, sum_faults, index_sum_faults, is_index}
 use Rattle.pbf_wire.proofs.SoundLemmas.{both_nil, all_nil, is_right, sums_good, sums_within_limit, fields_sound, count_is_length}
 use Rattle.osm_entity.specs.declared.scale.Scale.{Scale}
-use Rattle.pbf_dense.specs.declared.dense_rules.TheConstants.{DENSE_KINDS, ID, DENSEINFO, LAT, LON, KEYS_VALS}
-use Rattle.pbf_dense.specs.declared.info_rules.TheConstants.{DENSEINFO_KINDS, TIMESTAMP, CHANGESET, UID, USER_SID}
+use Rattle.pbf_dense.specs.declared.dense_nodes.TheConstants.{DENSE_KINDS, ID, DENSEINFO, LAT, LON, KEYS_VALS}
+use Rattle.pbf_dense.specs.declared.dense_info.TheConstants.{DENSEINFO_KINDS, TIMESTAMP, CHANGESET, UID, USER_SID}
 use Rattle.pbf_dense.specs.Nodes.{node_at, nodes, nodes_along}
 use Rattle.pbf_dense.specs.Judged.{id_count, dense_wire, dense_structure, dense_values, coordinate_counts, info_values, range_faults, texts_named, IsSound}
 use Rattle.pbf_dense.proofs.ReadableLemmas.{InRange, InfoReads, DenseReads, reads_same}

@@ -5,7 +5,7 @@ use Rattle.pbf_wire.specs.declared.fault.Fault.{Fault}
 use Rattle.pbf_wire.specs.Occurrence.{Occurrence}
 use Rattle.pbf_wire.specs.Columns.{column}
 use Rattle.osm_entity.specs.declared.scale.Scale.{Scale}
-use Rattle.pbf_dense.specs.declared.dense_rules.TheConstants.{ID}
+use Rattle.pbf_dense.specs.declared.dense_nodes.TheConstants.{ID}
 use Rattle.pbf_dense.specs.Nodes.{node_at, nodes}
 use Rattle.pbf_dense.specs.Judged.{weight_fault, dense_weights}
 

@@ -7,7 +7,7 @@ use Rattle.pbf_wire.specs.Signed.{unzigzag, low_sint32, low_i32}
 use Rattle.pbf_wire.specs.Sums.{sums, sums_within}
 use Rattle.pbf_strings.specs.Texts.{text}
 use Rattle.osm_entity.specs.Entity.{MetaSpec}
-use Rattle.pbf_dense.specs.declared.info_rules.TheConstants.{VERSION, TIMESTAMP, CHANGESET, UID, USER_SID, VISIBLE}
+use Rattle.pbf_dense.specs.declared.dense_info.TheConstants.{VERSION, TIMESTAMP, CHANGESET, UID, USER_SID, VISIBLE}
 
 -- the text of an index, and the empty text where it is negative
 abbrev pub user_text : List (List ℕ) → ℤ → List ℕ

@@ -12,8 +12,8 @@ use Rattle.osm_entity.specs.declared.scale.Scale.{Scale}
 use Rattle.osm_entity.specs.Entity.{NodeSpec}
 use Rattle.osm_entity.specs.Sources.{low_32}
 use Rattle.osm_entity.specs.Weight.{node_weight}
-use Rattle.pbf_dense.specs.declared.dense_rules.TheConstants.{DENSE_KINDS, ID, DENSEINFO, LAT, LON, KEYS_VALS}
-use Rattle.pbf_dense.specs.declared.info_rules.TheConstants.{DENSEINFO_KINDS, VERSION, TIMESTAMP, CHANGESET, UID, USER_SID, VISIBLE}
+use Rattle.pbf_dense.specs.declared.dense_nodes.TheConstants.{DENSE_KINDS, ID, DENSEINFO, LAT, LON, KEYS_VALS}
+use Rattle.pbf_dense.specs.declared.dense_info.TheConstants.{DENSEINFO_KINDS, VERSION, TIMESTAMP, CHANGESET, UID, USER_SID, VISIBLE}
 use Rattle.pbf_dense.specs.declared.phase.Phase.{Phase}
 use Rattle.pbf_dense.specs.declared.phase.Phase.TheVariants as phase
 use Rattle.pbf_dense.specs.Nodes.{nodes}

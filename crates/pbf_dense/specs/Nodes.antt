@@ -9,7 +9,7 @@ use Rattle.pbf_wire.specs.Faults.{embedded}
 use Rattle.osm_entity.specs.declared.scale.Scale.{Scale}
 use Rattle.osm_entity.specs.Entity.{NodeSpec}
 use Rattle.osm_entity.specs.Sources.{low_32, tag_of, run}
-use Rattle.pbf_dense.specs.declared.dense_rules.TheConstants.{ID, DENSEINFO, LAT, LON, KEYS_VALS}
+use Rattle.pbf_dense.specs.declared.dense_nodes.TheConstants.{ID, DENSEINFO, LAT, LON, KEYS_VALS}
 use Rattle.pbf_dense.specs.Info.{dense_meta, InfoSpec, meta_at, info_along, later}
 use Rattle.pbf_dense.specs.Runs.{tags_at, after_run}
 

@@ -11,8 +11,8 @@ use Rattle.pbf_wire.specs.Signed.{sign_extended}
 use Rattle.pbf_wire.specs.Sums.{deltas}
 use Rattle.pbf_strings.specs.TableOut.{texts_after, index_in, has_text, table_of}
 use Rattle.osm_entity.specs.Entity.{TagSpec, MetaSpec, NodeSpec}
-use Rattle.pbf_dense.specs.declared.dense_rules.TheConstants.{ID, DENSEINFO, LAT, LON, KEYS_VALS}
-use Rattle.pbf_dense.specs.declared.info_rules.TheConstants.{VERSION, TIMESTAMP, CHANGESET, UID, USER_SID, VISIBLE}
+use Rattle.pbf_dense.specs.declared.dense_nodes.TheConstants.{ID, DENSEINFO, LAT, LON, KEYS_VALS}
+use Rattle.pbf_dense.specs.declared.dense_info.TheConstants.{VERSION, TIMESTAMP, CHANGESET, UID, USER_SID, VISIBLE}
 use Rattle.pbf_dense.specs.declared.info_out.InfoOut.{InfoOut}
 use Rattle.pbf_dense.specs.declared.dense_out.DenseOut.{DenseOut}
 use Rattle.pbf_dense.specs.Info.{InfoSpec}

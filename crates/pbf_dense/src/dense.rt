@@ -5,7 +5,7 @@ ghost use Rattle.pbf_wire.specs.Cursors.{numbers_left};
 ghost use Rattle.osm_entity.specs.Sources.{low_32, run_tags, tags_left};
 ghost use Rattle.pbf_dense.specs.Runs.{after_run, after_runs};
 
-use crate::dense_rules::{ID, KEYS_VALS, LAT, LON};
+use crate::dense_nodes::{ID, KEYS_VALS, LAT, LON};
 use crate::entries::{next_number, pass_sums};
 use crate::info::InfoColumns;
 use crate::places::Places;

@@ -11,7 +11,7 @@ ghost use Rattle.osm_entity.specs.Sources.{tags_left};
 ghost use Rattle.osm_entity.specs.Views.{node_of};
 ghost use Rattle.pbf_dense.specs.WrittenDense.{HoldsNodes, are_some, run_of, columns_held, dense_message, dense_length};
 
-use crate::dense_rules::{DENSEINFO, ID, KEYS_VALS, LAT, LON};
+use crate::dense_nodes::{DENSEINFO, ID, KEYS_VALS, LAT, LON};
 use crate::info_out::InfoOut;
 use osm_entity::{NodeRef, Tags};
 use pbf_strings::TableOut;

@@ -7,9 +7,9 @@ ghost use Rattle.pbf_wire.specs.Signed.{is_within, low_i32};
 ghost use Rattle.pbf_wire.specs.Cursors.{sums_left};
 ghost use Rattle.pbf_dense.specs.Info.{user_text};
 
-use crate::dense_rules::DENSEINFO;
+use crate::dense_info::{CHANGESET, TIMESTAMP, UID, USER_SID, VERSION, VISIBLE};
+use crate::dense_nodes::DENSEINFO;
 use crate::entries::{next_number, next_sum, pass_numbers, pass_sums};
-use crate::info_rules::{CHANGESET, TIMESTAMP, UID, USER_SID, VERSION, VISIBLE};
 use osm_entity::{MetaRef, STORED_LIMIT, UID_LIMIT};
 use pbf_strings::Table;
 use pbf_wire::{Column, Field, Payload, Sums, last_field, low_i32};

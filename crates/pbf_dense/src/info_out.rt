@@ -7,7 +7,7 @@ ghost use Rattle.osm_entity.specs.Ranges.{IsStored, IsUid, IfPresent, MetaFits};
 ghost use Rattle.osm_entity.specs.Views.{meta_of};
 ghost use Rattle.pbf_dense.specs.WrittenDense.{bit_of, info_columns, info_message, info_held, info_length};
 
-use crate::info_rules::{CHANGESET, TIMESTAMP, UID, USER_SID, VERSION, VISIBLE};
+use crate::dense_info::{CHANGESET, TIMESTAMP, UID, USER_SID, VERSION, VISIBLE};
 use osm_entity::MetaRef;
 use pbf_wire::{ColumnOut, DeltaOut, put_column, sign_extended};
 use std::alloc::{AllocError, Global};

@@ -5,7 +5,7 @@ use Rattle.pbf_wire.specs.Faults.{fields_in}
 use Rattle.pbf_wire.specs.Occurrence.{found}
 use Rattle.pbf_wire.specs.Reading.{last_number}
 use Rattle.pbf_wire.proofs.MessageLemmas.{numbers}
-use Rattle.pbf_dense.specs.declared.info_rules.TheConstants.{VERSION, TIMESTAMP, CHANGESET, UID, USER_SID, VISIBLE}
+use Rattle.pbf_dense.specs.declared.dense_info.TheConstants.{VERSION, TIMESTAMP, CHANGESET, UID, USER_SID, VISIBLE}
 use Rattle.pbf_block.proofs.info.info_numbers.Given as goal
 
 abbrev pub invariant-loop-item : goal.invariant-loop-item

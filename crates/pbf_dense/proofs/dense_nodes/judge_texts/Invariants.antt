@@ -3,9 +3,9 @@ use Rattle.pbf_wire.specs.Least.{lesser, least}
 use Rattle.pbf_wire.specs.Columns.{joined}
 use Rattle.pbf_wire.specs.Cursors.{column_left}
 use Rattle.pbf_wire.specs.Faults.{index_faults, fields_in}
-use Rattle.pbf_dense.specs.declared.dense_rules.TheConstants.{KEYS_VALS}
+use Rattle.pbf_dense.specs.declared.dense_nodes.TheConstants.{KEYS_VALS}
 use Rattle.pbf_dense.specs.Judged.{texts_named}
-use Rattle.pbf_dense.proofs.dense_rules.judge_texts.Given as goal
+use Rattle.pbf_dense.proofs.dense_nodes.judge_texts.Given as goal
 
 abbrev pub invariant-numbers : goal.invariant-numbers
 invariant-numbers l = lesser l.least (least (index_faults l.limit (texts_named l.in_value (column_left l.keys_vals)))) ≡ least (index_faults l.limit (texts_named false (joined KEYS_VALS (fields_in l.at l.message))))

@@ -12,8 +12,8 @@ ghost use Rattle.pbf_dense.specs.Nodes.{nodes_along};
 ghost use Rattle.pbf_dense.specs.Judged.{coordinate_counts, are_runs, are_tags, texts_named, weight_fault, dense_wire, dense_structure, dense_values, dense_weights, as_stored};
 
 use crate::dense::Dense;
+use crate::dense_info::{DENSEINFO_KINDS, InfoStructure, InfoValues, judge_range};
 use crate::entries::{next_number, next_placed};
-use crate::info_rules::{DENSEINFO_KINDS, InfoStructure, InfoValues, judge_range};
 use osm_entity::{HIGHEST_WEIGHT, NodeRef, Scale};
 use pbf_strings::Table;
 use pbf_wire::{
