@@ -99,104 +99,69 @@ pub enum Reason {
 }
 
 impl Reason {
+    /// The reason's number and its name.
+    fn row(&self) -> (u32, &'static str)
+        ensures number { result.0 ≡ reason_number self.now }
+        ensures name { result.1.now ≡ reason_name self.now }
+    {
+        match self {
+            Reason::VarintCut => (1, "VarintCut"),
+            Reason::VarintLong => (2, "VarintLong"),
+            Reason::NumberZero => (3, "NumberZero"),
+            Reason::TagLarge => (4, "TagLarge"),
+            Reason::Group => (5, "Group"),
+            Reason::WireType => (6, "WireType"),
+            Reason::LengthPast => (7, "LengthPast"),
+            Reason::FixedCut => (8, "FixedCut"),
+            Reason::WrongType => (9, "WrongType"),
+            Reason::PrefixCut => (10, "PrefixCut"),
+            Reason::HeaderLong => (11, "HeaderLong"),
+            Reason::HeaderCut => (12, "HeaderCut"),
+            Reason::BlobCut => (13, "BlobCut"),
+            Reason::DataSize => (14, "DataSize"),
+            Reason::NoRaw => (15, "NoRaw"),
+            Reason::RawLong => (16, "RawLong"),
+            Reason::Zlib => (17, "Zlib"),
+            Reason::Lzma => (18, "Lzma"),
+            Reason::Bzip2 => (19, "Bzip2"),
+            Reason::Lz4 => (20, "Lz4"),
+            Reason::Zstd => (21, "Zstd"),
+            Reason::NoHeader => (22, "NoHeader"),
+            Reason::SecondHeader => (23, "SecondHeader"),
+            Reason::DataFirst => (24, "DataFirst"),
+            Reason::Missing(_) => (25, "Missing"),
+            Reason::FileLong => (26, "FileLong"),
+            Reason::TooManyStrings => (30, "TooManyStrings"),
+            Reason::StringIndex => (31, "StringIndex"),
+            Reason::ColumnLengths => (40, "ColumnLengths"),
+            Reason::KeysVals => (41, "KeysVals"),
+            Reason::OutOfRange => (42, "OutOfRange"),
+            Reason::EntityLarge => (43, "EntityLarge"),
+            Reason::TwiceMessage => (50, "TwiceMessage"),
+            Reason::MixedGroup => (51, "MixedGroup"),
+            Reason::Changesets => (52, "Changesets"),
+            Reason::Granularity => (53, "Granularity"),
+            Reason::DateGranularity => (54, "DateGranularity"),
+            Reason::Feature => (55, "Feature"),
+            Reason::TagColumns => (57, "TagColumns"),
+            Reason::MemberColumns => (58, "MemberColumns"),
+            Reason::MemberKind => (59, "MemberKind"),
+            Reason::LocationColumns => (60, "LocationColumns"),
+        }
+    }
+
     /// The reason's number. No two reasons share one, and the number of one never changes.
     pub fn number(&self) -> u32
         ensures { result ≡ reason_number self.now }
     {
-        match self {
-            Reason::VarintCut => 1,
-            Reason::VarintLong => 2,
-            Reason::NumberZero => 3,
-            Reason::TagLarge => 4,
-            Reason::Group => 5,
-            Reason::WireType => 6,
-            Reason::LengthPast => 7,
-            Reason::FixedCut => 8,
-            Reason::WrongType => 9,
-            Reason::PrefixCut => 10,
-            Reason::HeaderLong => 11,
-            Reason::HeaderCut => 12,
-            Reason::BlobCut => 13,
-            Reason::DataSize => 14,
-            Reason::NoRaw => 15,
-            Reason::RawLong => 16,
-            Reason::Zlib => 17,
-            Reason::Lzma => 18,
-            Reason::Bzip2 => 19,
-            Reason::Lz4 => 20,
-            Reason::Zstd => 21,
-            Reason::NoHeader => 22,
-            Reason::SecondHeader => 23,
-            Reason::DataFirst => 24,
-            Reason::Missing(_) => 25,
-            Reason::FileLong => 26,
-            Reason::TooManyStrings => 30,
-            Reason::StringIndex => 31,
-            Reason::ColumnLengths => 40,
-            Reason::KeysVals => 41,
-            Reason::OutOfRange => 42,
-            Reason::EntityLarge => 43,
-            Reason::TwiceMessage => 50,
-            Reason::MixedGroup => 51,
-            Reason::Changesets => 52,
-            Reason::Granularity => 53,
-            Reason::DateGranularity => 54,
-            Reason::Feature => 55,
-            Reason::TagColumns => 57,
-            Reason::MemberColumns => 58,
-            Reason::MemberKind => 59,
-            Reason::LocationColumns => 60,
-        }
+        self.row().0
     }
 
     /// The reason's name, without the field of `Missing`.
     pub fn name(&self) -> &'static str
         ensures { result.now ≡ reason_name self.now }
     {
-        match self {
-            Reason::VarintCut => "VarintCut",
-            Reason::VarintLong => "VarintLong",
-            Reason::NumberZero => "NumberZero",
-            Reason::TagLarge => "TagLarge",
-            Reason::Group => "Group",
-            Reason::WireType => "WireType",
-            Reason::LengthPast => "LengthPast",
-            Reason::FixedCut => "FixedCut",
-            Reason::WrongType => "WrongType",
-            Reason::PrefixCut => "PrefixCut",
-            Reason::HeaderLong => "HeaderLong",
-            Reason::HeaderCut => "HeaderCut",
-            Reason::BlobCut => "BlobCut",
-            Reason::DataSize => "DataSize",
-            Reason::NoRaw => "NoRaw",
-            Reason::RawLong => "RawLong",
-            Reason::Zlib => "Zlib",
-            Reason::Lzma => "Lzma",
-            Reason::Bzip2 => "Bzip2",
-            Reason::Lz4 => "Lz4",
-            Reason::Zstd => "Zstd",
-            Reason::NoHeader => "NoHeader",
-            Reason::SecondHeader => "SecondHeader",
-            Reason::DataFirst => "DataFirst",
-            Reason::Missing(_) => "Missing",
-            Reason::FileLong => "FileLong",
-            Reason::TooManyStrings => "TooManyStrings",
-            Reason::StringIndex => "StringIndex",
-            Reason::ColumnLengths => "ColumnLengths",
-            Reason::KeysVals => "KeysVals",
-            Reason::OutOfRange => "OutOfRange",
-            Reason::EntityLarge => "EntityLarge",
-            Reason::TwiceMessage => "TwiceMessage",
-            Reason::MixedGroup => "MixedGroup",
-            Reason::Changesets => "Changesets",
-            Reason::Granularity => "Granularity",
-            Reason::DateGranularity => "DateGranularity",
-            Reason::Feature => "Feature",
-            Reason::TagColumns => "TagColumns",
-            Reason::MemberColumns => "MemberColumns",
-            Reason::MemberKind => "MemberKind",
-            Reason::LocationColumns => "LocationColumns",
-        }
+        self.row().1
     }
 
     /// The field that `Missing` names, and 0 for every other reason.
@@ -213,8 +178,7 @@ impl Reason {
 /// The number and the name, as `22 NoHeader` or `25 Missing(1)`.
 impl fmt::Display for Reason {
     fn fmt<W: fmt::Write>(&self, f: &mut fmt::Formatter<W>) -> fmt::Result {
-        let number = self.number();
-        let name = self.name();
+        let (number, name) = self.row();
         match self {
             Reason::Missing(field) => write!(f, "{number} {name}({field})"),
             _ => write!(f, "{number} {name}"),

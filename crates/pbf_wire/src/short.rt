@@ -120,35 +120,6 @@ fn count_short(bytes: &[u8]) -> Option<usize>
     Some(count_ends(bytes))
 }
 
-/// Whether the numbers of an occurrence of a column are below 2^35, where that is soon seen.
-fn is_small(payload: Payload<'_>) -> bool
-    ensures { IsTrue result
-        → AllByRecursion (λ v. v < 2 ^ 35) (numbers_in (content payload.entry)) }
-{
-    match payload {
-        Payload::Number(value) => value < 1 << 35,
-        Payload::Bytes(bytes, _) => is_short(bytes),
-        _ => true,
-    }
-}
-
-/// Whether the numbers of a column in the fields that are still to come are below 2^35, where that is soon seen. No number of a
-/// packed occurrence is decoded.
-pub(crate) fn has_small_numbers_left(fields: Fields<'_>, number: u64) -> bool
-    ensures { IsTrue result
-        → AllByRecursion (λ x. x.0 < 2 ^ 35) (joined number (found (fields_left fields.entry))) }
-{
-    for item in fields {
-        let Ok(field) = item else {
-            return true;
-        };
-        if field.number == number && !is_small(field.payload) {
-            return false;
-        }
-    }
-    true
-}
-
 /// How many numbers an occurrence of a column has, if it is soon seen that they are below 2^35.
 #[inline(always)]
 fn count_small(payload: Payload<'_>) -> Option<usize>
@@ -165,8 +136,8 @@ fn count_small(payload: Payload<'_>) -> Option<usize>
     }
 }
 
-/// How many numbers a column has in the fields that are still to come, if it is soon seen that they are below 2^35. As with
-/// [`has_small_numbers_left`], none of a packed occurrence is decoded.
+/// How many numbers a column has in the fields that are still to come, if it is soon seen that they are below 2^35. No number of a
+/// packed occurrence is decoded.
 pub(crate) fn count_small_left(fields: Fields<'_>, number: u64) -> Option<usize>
     ensures counted { MatchOption result ⊤
         (λ count. count ≡ length (joined number (found (fields_left fields.entry)))) }
@@ -183,13 +154,4 @@ pub(crate) fn count_small_left(fields: Fields<'_>, number: u64) -> Option<usize>
         }
     }
     Some(count)
-}
-
-/// As [`has_small_numbers_left`], of all of a message.
-pub fn has_small_numbers(message: &[u8], at: u64, number: u64) -> bool
-    requires { at + length message.now ≤ 2 ^ 63 }
-    ensures { IsTrue result
-        → AllByRecursion (λ x. x.0 < 2 ^ 35) (joined number (fields_in at message.now)) }
-{
-    has_small_numbers_left(Fields::new(message, at), number)
 }

@@ -2,7 +2,7 @@
 
 use pbf_wire::{
     Column, ColumnOut, DeltaOut, Fault, Fields, Kind, Payload, ReadFault, Reason, Sum, Sums,
-    comes_before, count_ends, end_mask, get_varint, has_small_numbers, is_short, judge_payload,
+    comes_before, count_ends, end_mask, get_varint, is_short, judge_payload,
     judge_sums, judge_wire, kind_of, last_field, last_number, laws, lesser, low_i32, low_i64,
     low_sint32, low_u32, put_bytes, put_column, put_number, put_varint, sign_extended, unzigzag,
     varint_len, zigzag,
@@ -283,7 +283,8 @@ fn has_small_sums(alloc: Global, column: &[u8]) -> Result<bool, AllocError> {
     if message.len() > 1 << 20 {
         return Ok(false);
     }
-    Ok(has_small_numbers(&message, 0, 8) && judge_sums(&message, 0, 8, 1 << 62, false).is_none())
+    let sums = Sums::new(Column::new(&message, 0, 8), 1 << 62);
+    Ok(sums.count_small().is_some() && judge_sums(&message, 0, 8, 1 << 62, false).is_none())
 }
 
 /// Whether the quick tests say yes to short numbers.
