@@ -9,7 +9,7 @@ use Rattle.pbf_wire.specs.declared.fault.Reason.{Reason}
 use Rattle.pbf_wire.specs.declared.fault.Reason.TheVariants.{TwiceMessage}
 use Rattle.pbf_wire.specs.declared.kind.Kind.{Kind}
 use Rattle.pbf_wire.specs.Varint.{IsVarint, varint_at}
-use Rattle.pbf_wire.specs.Occurrence.{Content, Number, Eight, Four, Bytes, Occurrence, Item, IsBody, IsSpelled, Joins, found}
+use Rattle.pbf_wire.specs.Occurrence.{Content, Number, Eight, Four, Bytes, Occurrence, Item, IsBody, IsSpelled, Joins}
 use Rattle.pbf_wire.specs.Columns.{Entry, entries_from, entries_past, read_entries, placed, numbers_in, column_of, joined}
 use Rattle.pbf_wire.specs.Wire.{kind_of, reason_in, or_at, wire}
 use Rattle.pbf_wire.specs.Reading.{bytes_held}
@@ -46,15 +46,15 @@ all_next : (k : ℕ) (o : Occurrence) (os : List Occurrence) → o.number ≡ k 
 all_next k o os same = grind arith
 
 -- the second or a later occurrence
-pub again : (seen : Bool) (so_far : Option Fault) (k : ℕ) (its t : List Item) (o : Occurrence) (all : Option Fault) → seen ≡ true → its ≡ Ok o ∷ t → o.number ≡ k
-    → lesser so_far (least (map (λ o. fault o.place TwiceMessage) (if seen then all_of k (found its) else drop 1 (all_of k (found its))))) ≡ all
-    → lesser (lesser so_far (Some (fault o.place TwiceMessage))) (least (map (λ o. fault o.place TwiceMessage) (all_of k (found t)))) ≡ all
-again seen so_far k its t o all e next same h =
-    let left : Bool → List Item → List Occurrence = λ b w. if b then all_of k (found w) else drop 1 (all_of k (found w)) in
+pub again : (seen : Bool) (so_far : Option Fault) (k : ℕ) (os t : List Occurrence) (o : Occurrence) (all : Option Fault) → seen ≡ true → os ≡ o ∷ t → o.number ≡ k
+    → lesser so_far (least (map (λ o. fault o.place TwiceMessage) (if seen then all_of k os else drop 1 (all_of k os)))) ≡ all
+    → lesser (lesser so_far (Some (fault o.place TwiceMessage))) (least (map (λ o. fault o.place TwiceMessage) (all_of k t))) ≡ all
+again seen so_far k os t o all e next same h =
+    let left : Bool → List Occurrence → List Occurrence = λ b w. if b then all_of k w else drop 1 (all_of k w) in
     let whole : List Occurrence → Option Fault = λ w. lesser so_far (least (map (λ o. fault o.place TwiceMessage) w)) in
-    least_next so_far (fault o.place TwiceMessage) (map (λ o. fault o.place TwiceMessage) (all_of k (found t)))
-    ∙ ap whole (sym (all_next k o (found t) same))
-    ∙ sym (ap (λ w. whole (left seen w)) next ∙ ap (λ b. whole (left b (Ok o ∷ t))) e)
+    least_next so_far (fault o.place TwiceMessage) (map (λ o. fault o.place TwiceMessage) (all_of k t))
+    ∙ ap whole (sym (all_next k o t same))
+    ∙ sym (ap (λ w. whole (left seen w)) next ∙ ap (λ b. whole (left b (o ∷ t))) e)
     ∙ h
 
 -- ---- how many numbers a column has

@@ -16,7 +16,7 @@ use Rattle.pbf_wire.specs.declared.fields.Fields.{Fields}
 use Rattle.pbf_wire.specs.declared.column.Column.{Column}
 use Rattle.pbf_wire.specs.declared.sums.Sums.{Sums}
 use Rattle.pbf_wire.specs.Cursors.{fields_left, column_left, sums_left}
-use Rattle.pbf_wire.specs.Occurrence.{Occurrence, Item, found}
+use Rattle.pbf_wire.specs.Occurrence.{Occurrence, found}
 use Rattle.pbf_wire.specs.Columns.{Entry, entries, read_entries, entry_fault, placed, numbers_in, column_of, joined}
 use Rattle.pbf_wire.specs.Signed.{delta_in, unzigzag, IsWithin, is_within}
 use Rattle.pbf_wire.specs.Faults.{fault_where, fields_in, sum_faults}
@@ -237,20 +237,20 @@ placed_small place [] h = tt
 placed_small place (n ∷ ns) h = (h.0, placed_small place ns h.1)
 
 -- one field more, whose numbers are small where they are the column's
-pub column_more : (k : ℕ) (its rest : List Item) (o : Occurrence) → its ≡ Ok o ∷ rest → (o.number ≡ k → AllByRecursion (λ v. v < 2 ^ 35) (numbers_in o.content))
-    → AllSmallPlaced (joined k (found rest)) → AllSmallPlaced (joined k (found its))
-column_more k its rest o is here later = subst (λ (w : List Item). AllSmallPlaced (joined k (found w))) (sym is) (all_append _ (column_of k o) (joined k (found rest)) (by (o.number == k) refl) later) where
+pub column_more : (k : ℕ) (os rest : List Occurrence) (o : Occurrence) → os ≡ o ∷ rest → (o.number ≡ k → AllByRecursion (λ v. v < 2 ^ 35) (numbers_in o.content))
+    → AllSmallPlaced (joined k rest) → AllSmallPlaced (joined k os)
+column_more k os rest o is here later = subst (λ (w : List Occurrence). AllSmallPlaced (joined k w)) (sym is) (all_append _ (column_of k o) (joined k rest) (by (o.number == k) refl) later) where
   by : (b : Bool) → (o.number == k) ≡ b → AllSmallPlaced (if b then placed o.place (numbers_in o.content) else [])
   by true e = placed_small o.place (numbers_in o.content) (here (eqb-true _ _ e))
   by false e = tt
 
 -- and as many more as it has
-pub count_more : (k : ℕ) (its rest : List Item) (o : Occurrence) → its ≡ Ok o ∷ rest → o.number ≡ k → length (joined k (found its)) ≡ length (numbers_in o.content) + length (joined k (found rest))
-count_more k its rest o is same =
-    ap (λ (w : List Item). length (joined k (found w))) is
-    ∙ length-append (column_of k o) (joined k (found rest))
-    ∙ ap (λ (b : Bool). length (if b then placed o.place (numbers_in o.content) else []) + length (joined k (found rest))) (eq-eqb _ _ same)
-    ∙ ap (λ n. n + length (joined k (found rest))) (length-map {B = ℕ × ℕ} (numbers_in o.content) (λ v. (v, o.place)))
+pub count_more : (k : ℕ) (os rest : List Occurrence) (o : Occurrence) → os ≡ o ∷ rest → o.number ≡ k → length (joined k os) ≡ length (numbers_in o.content) + length (joined k rest)
+count_more k os rest o is same =
+    ap (λ (w : List Occurrence). length (joined k w)) is
+    ∙ length-append (column_of k o) (joined k rest)
+    ∙ ap (λ (b : Bool). length (if b then placed o.place (numbers_in o.content) else []) + length (joined k rest)) (eq-eqb _ _ same)
+    ∙ ap (λ n. n + length (joined k rest)) (length-map {B = ℕ × ℕ} (numbers_in o.content) (λ v. (v, o.place)))
 
 -- where no packed occurrence is begun, the column is that of the fields
 pub nothing_begun : (column : Column) → length column.packed.now ≡ 0 → column_left column ≡ joined column.number (found (fields_left column.fields))

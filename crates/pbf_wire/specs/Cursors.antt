@@ -1,16 +1,21 @@
 -- What the cursors over a message have still to give.
 use Rattle.std.specs.Prelude.{ℕ, ℤ, List, ◌++◌, map}
 use Rattle.pbf_wire.specs.declared.fields.Fields.{Fields}
+use Rattle.pbf_wire.specs.declared.fields.FoundFields.{FoundFields}
 use Rattle.pbf_wire.specs.declared.column.Column.{Column}
 use Rattle.pbf_wire.specs.declared.sums.Sums.{Sums}
 use Rattle.pbf_wire.specs.Signed.{delta_in}
 use Rattle.pbf_wire.specs.Sums.{sums_within}
-use Rattle.pbf_wire.specs.Occurrence.{Item, items, found}
+use Rattle.pbf_wire.specs.Occurrence.{Occurrence, Item, items, found}
 use Rattle.pbf_wire.specs.Columns.{entries, read_entries, placed, joined}
 
 -- the items that are left
 unfoldable pub fields_left : Fields → List Item
 fields_left fields = items fields.at fields.rest.now
+
+-- those before the first fault
+abbrev pub found_left : FoundFields → List Occurrence
+found_left fields = found (fields_left fields.0)
 
 -- the numbers that are left, each beside the place of its occurrence
 unfoldable pub column_left : Column → List (ℕ × ℕ)

@@ -91,8 +91,8 @@ pub struct Fields<'a> {
 impl<'a> Fields<'a> {
     ghost use Rattle.std.specs.Prelude.{[], IsTrue};
     ghost use Rattle.std.specs.Iterator.{YieldsFirstBy};
-    ghost use Rattle.pbf_wire.specs.Occurrence.{items};
-    ghost use Rattle.pbf_wire.specs.Cursors.{fields_left};
+    ghost use Rattle.pbf_wire.specs.Occurrence.{items, found};
+    ghost use Rattle.pbf_wire.specs.Cursors.{fields_left, found_left};
     ghost use Rattle.pbf_wire.specs.Fields.{item};
 
     /// The fields of a message whose first byte stands at `at` in the file.
@@ -102,6 +102,14 @@ impl<'a> Fields<'a> {
         ensures { fields_left result ≡ items at message.now }
     {
         Fields { rest: message, at }
+    }
+
+    /// The fields before the first fault.
+    #[inline(always)]
+    pub fn found(self) -> FoundFields<'a>
+        ensures { found_left result ≡ found (fields_left self.entry) }
+    {
+        FoundFields(self)
     }
 
     /// Whether no byte is left.
@@ -152,6 +160,33 @@ impl<'a> Iterator for Fields<'a> {
                     offset: place,
                     reason,
                 }))
+            }
+        }
+    }
+}
+
+/// The fields of a message that stand before its first fault, in order. It takes no memory.
+#[derive(Clone, Copy)]
+pub struct FoundFields<'a>(Fields<'a>);
+
+impl<'a> Iterator for FoundFields<'a> {
+    ghost use Rattle.std.specs.Iterator.{YieldsFirstBy, item_count};
+    ghost use Rattle.pbf_wire.specs.Cursors.{found_left};
+
+    type Item = Field<'a>;
+
+    ghost next_gives = { YieldsFirstBy occurrence found_left };
+
+    ghost remaining = { item_count found_left };
+
+    #[inline(always)]
+    #[tactic(auto, unfolding(crate::specs::Occurrence::items_past))]
+    fn next(&mut self) -> Option<Field<'a>> {
+        match self.0.next() {
+            Some(Ok(field)) => Some(field),
+            _ => {
+                self.0 = Fields::new(&[], 0);
+                None
             }
         }
     }

@@ -33,7 +33,7 @@ pub use count::{count_ends, end_mask};
 pub use delta_out::DeltaOut;
 pub use fault::{Fault, ReadFault, Reason};
 pub use field::{Field, Payload};
-pub use fields::Fields;
+pub use fields::{Fields, FoundFields};
 pub use form::{judge_form, judge_leaf, judge_nested, judge_payload, judge_wire, kind_of};
 pub use judge::{EachField, InField, Judge, JudgeMessage, fault_where, judge_fields, refuse};
 pub use kind::Kind;

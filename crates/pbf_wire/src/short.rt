@@ -145,10 +145,7 @@ pub(crate) fn count_small_left(fields: Fields<'_>, number: u64) -> Option<usize>
         (joined number (found (fields_left fields.entry)))) }
 {
     let mut count = 0;
-    for item in fields {
-        let Ok(field) = item else {
-            return Some(count);
-        };
+    for field in fields.found() {
         if field.number == number {
             count += count_small(field.payload)?;
         }

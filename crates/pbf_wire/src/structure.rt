@@ -17,10 +17,7 @@ fn has_field(message: &[u8], at: u64, number: u64) -> bool
     requires { at + length message.now ≤ 2 ^ 63 }
     ensures { result ≡ list_any (λ o. o.number == number) (fields_in at message.now) }
 {
-    for item in Fields::new(message, at) {
-        let Ok(field) = item else {
-            return false;
-        };
+    for field in Fields::new(message, at).found() {
         if field.number == number {
             return true;
         }
@@ -48,10 +45,7 @@ pub fn judge_twice(message: &[u8], at: u64, number: u64) -> Option<Fault>
 {
     let mut least = None;
     let mut seen = false;
-    for item in Fields::new(message, at) {
-        let Ok(field) = item else {
-            return least;
-        };
+    for field in Fields::new(message, at).found() {
         if field.number == number {
             if seen {
                 let again = Fault {
@@ -73,10 +67,7 @@ pub fn column_count(message: &[u8], at: u64, number: u64) -> usize
     ensures { result ≡ column_count number (fields_in at message.now) }
 {
     let mut count = 0;
-    for item in Fields::new(message, at) {
-        let Ok(field) = item else {
-            return count;
-        };
+    for field in Fields::new(message, at).found() {
         if field.number == number {
             count += field.payload.count();
         }

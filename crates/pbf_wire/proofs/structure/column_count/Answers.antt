@@ -2,8 +2,8 @@ use Rattle.std.proofs.Common.{arith, rules}
 use Rattle.pbf_wire.proofs.FaultLemmas.{count_short}
 use Rattle.pbf_wire.proofs.structure.column_count.Goals as goal
 
-pub loop-item-init : goal.loop-item-init
-loop-item-init c = record {
+pub loop-field-init : goal.loop-field-init
+loop-field-init c = record {
   can = tt;
   ends = tt;
   so_far = search rules;

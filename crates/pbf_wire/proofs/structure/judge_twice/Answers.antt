@@ -1,17 +1,11 @@
-use Rattle.std.proofs.Common.{◌∙◌, ◌∷◌, ap}
-use Rattle.std.specs.Prelude.{Result}
-use Rattle.pbf_wire.specs.declared.fault.Fault.{Fault}
-use Rattle.pbf_wire.specs.declared.field.Field.{Field}
-use Rattle.pbf_wire.specs.Cursors.{fields_left}
-use Rattle.pbf_wire.specs.Fields.{occurrence, item}
+use Rattle.pbf_wire.specs.Cursors.{found_left}
+use Rattle.pbf_wire.specs.Fields.{occurrence}
 use Rattle.pbf_wire.proofs.FaultLemmas.{again}
 use Rattle.pbf_wire.proofs.structure.judge_twice.Goals as goal
 
-pub loop-item-preserved-then-seen : goal.loop-item-preserved-then-seen
-loop-item-preserved-then-seen c =
-    let next = c.in-Some.ensures.steps ∙ ap (λ (f : Result Field Fault). item f ∷ fields_left c.next.new.self) c.in-Ok.is in
-    record {
-      can = tt;
-      ends = tt;
-      so_far = rw c.lesser-least.ensures (again c.loop-item.seen c.loop-item.least c.args.number (fields_left c.loop-item.item-iterator) (fields_left c.next.new.self) (occurrence c.in-Ok.field) _ c.if-seen.true next c.if-field-number.true c.loop-item.invariant.so_far);
-    }
+pub loop-field-preserved-then-seen : goal.loop-field-preserved-then-seen
+loop-field-preserved-then-seen c = record {
+  can = tt;
+  ends = tt;
+  so_far = rw c.lesser-least.ensures (again c.loop-field.seen c.loop-field.least c.args.number (found_left c.loop-field.field-iterator) (found_left c.next.new.self) (occurrence c.in-Some.field) _ c.if-seen.true c.in-Some.ensures.steps c.if-field-number.true c.loop-field.invariant.so_far);
+}
