@@ -2,8 +2,7 @@
 //!
 //! A message of which these calls read one field may have a wire fault; its fields before the fault count.
 
-ghost use Rattle.std.specs.Prelude.{◌≡◌, ◌+◌, ◌≤◌, ◌^◌, ◌==◌, length};
-ghost use Rattle.std.specs.List.{list_any};
+ghost use Rattle.std.specs.Prelude.{◌≡◌, ◌+◌, ◌≤◌, ◌^◌, length};
 ghost use Rattle.pbf_wire.specs.Least.{least};
 ghost use Rattle.pbf_wire.specs.Faults.{fields_in, missing, twice, column_count};
 
@@ -12,29 +11,15 @@ use crate::fields::Fields;
 use crate::judge::fault_where;
 use crate::least::lesser;
 
-/// Whether a message has a field.
-fn has_field(message: &[u8], at: u64, number: u64) -> bool
-    requires { at + length message.now ≤ 2 ^ 63 }
-    ensures { result ≡ list_any (λ o. o.number == number) (fields_in at message.now) }
-{
-    for field in Fields::new(message, at).found() {
-        if field.number == number {
-            return true;
-        }
-    }
-    false
-}
-
 /// `Missing` at `place`, where the message has no field of this number.
 pub fn judge_missing(message: &[u8], at: u64, place: u64, number: u64) -> Option<Fault>
     requires { at + length message.now ≤ 2 ^ 63 }
     ensures { result ≡ least (missing number place (fields_in at message.now)) }
 {
-    fault_where(
-        !has_field(message, at, number),
-        place,
-        Reason::Missing(number),
-    )
+    let is_there = Fields::new(message, at)
+        .found()
+        .any(|field| field.number == number);
+    fault_where(!is_there, place, Reason::Missing(number))
 }
 
 /// `TwiceMessage` at the least of the occurrences after the first.
