@@ -1,9 +1,9 @@
 -- The entities of a payload, those of one field together.
 use Rattle.std.specs.Prelude.{List, [], ◌∷◌, ◌++◌, map, Option, Some, None}
 use Rattle.std.specs.List.{flat_map}
-use Rattle.pbf_wire.specs.Cursors.{fields_left}
+use Rattle.pbf_wire.specs.Cursors.{found_left}
 use Rattle.pbf_wire.specs.Faults.{entered, fields_in}
-use Rattle.pbf_wire.specs.Occurrence.{Occurrence, found}
+use Rattle.pbf_wire.specs.Occurrence.{Occurrence}
 use Rattle.osm_entity.specs.Entity.{EntitySpec, node}
 use Rattle.osm_entity.specs.Views.{entity_of}
 use Rattle.pbf_dense.specs.declared.dense.Dense.{Dense}
@@ -34,7 +34,7 @@ abbrev pub group_members : Occurrence → List Occurrence
 group_members o = entered PRIMITIVEGROUP (λ place. fields_in) o
 
 abbrev pub members_left : Members → List Occurrence
-members_left it = found (fields_left it.fields) ++ flat_map group_members (found (fields_left it.groups))
+members_left it = found_left it.fields ++ flat_map group_members (found_left it.groups)
 
 unfoldable pub runs_left : Runs → List (List EntitySpec)
 runs_left it = map (member_entities_among it.kinds along it.table.now it.scale) (members_left it.members)

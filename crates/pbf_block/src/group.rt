@@ -80,25 +80,16 @@ fn first_member(message: &[u8], at: u64) -> Option<u64>
     requires { at + length message.now ≤ 2 ^ 63 }
     ensures { result ≡ first_member (fields_in at message.now) }
 {
-    for item in Fields::new(message, at) {
-        let Ok(field) = item else {
-            return None;
-        };
-        if is_member(field.number) {
-            return Some(field.number);
-        }
-    }
-    None
+    let mut fields = Fields::new(message, at).found();
+    let first = fields.find(|field| is_member(field.number));
+    first.map(|field| field.number)
 }
 
 /// Whether a field holds entities of another kind than the first.
 fn is_other(first: Option<u64>, number: u64) -> bool
     ensures { result ≡ is_other first number }
 {
-    match first {
-        Some(first) => is_member(number) && number != first,
-        None => false,
-    }
+    is_member(number) && number != first.unwrap_or(number)
 }
 
 /// The least fault of structure of the entities that a field of a group holds.

@@ -1,6 +1,5 @@
 use Rattle.std.proofs.Common.{◌≡◌, length}
-use Rattle.pbf_wire.specs.Cursors.{fields_left}
-use Rattle.pbf_wire.specs.Occurrence.{found}
+use Rattle.pbf_wire.specs.Cursors.{found_left}
 use Rattle.pbf_block.specs.Runs.{members_left}
 use Rattle.pbf_block.proofs.members.MembersIterator.next.Given as goal
 
@@ -8,4 +7,4 @@ abbrev pub invariant-groups : goal.invariant-groups
 invariant-groups l = members_left l.self ≡ members_left l.fn.self
 
 abbrev pub decreases-groups : goal.decreases-groups
-decreases-groups l = length (found (fields_left l.self.groups))
+decreases-groups l = length (found_left l.self.groups)
