@@ -15,7 +15,7 @@ use Rattle.pbf_wire.specs.declared.fault.Reason.TheVariants.{OutOfRange}
 use Rattle.pbf_wire.specs.declared.fields.Fields.{Fields}
 use Rattle.pbf_wire.specs.declared.column.Column.{Column}
 use Rattle.pbf_wire.specs.declared.sums.Sums.{Sums}
-use Rattle.pbf_wire.specs.Cursors.{fields_left, column_left, sums_left}
+use Rattle.pbf_wire.specs.Cursors.{fields_left, column_left, sums_left, found_left}
 use Rattle.pbf_wire.specs.Occurrence.{Occurrence, found}
 use Rattle.pbf_wire.specs.Columns.{Entry, entries, read_entries, entry_fault, placed, numbers_in, column_of, joined}
 use Rattle.pbf_wire.specs.Signed.{delta_in, unzigzag, IsWithin, is_within}
@@ -253,10 +253,10 @@ count_more k os rest o is same =
     ∙ ap (λ n. n + length (joined k rest)) (length-map {B = ℕ × ℕ} (numbers_in o.content) (λ v. (v, o.place)))
 
 -- where no packed occurrence is begun, the column is that of the fields
-pub nothing_begun : (column : Column) → length column.packed.now ≡ 0 → column_left column ≡ joined column.number (found (fields_left column.fields))
+pub nothing_begun : (column : Column) → length column.packed.now ≡ 0 → column_left column ≡ joined column.number (found_left column.fields)
 unfolding column_left
 nothing_begun column none =
-    ap (λ es. placed column.packed_place (read_entries es) ++ joined column.number (found (fields_left column.fields))) (entries_none column.packed.now none)
+    ap (λ es. placed column.packed_place (read_entries es) ++ joined column.number (found_left column.fields)) (entries_none column.packed.now none)
 
 -- a count of few
 pub count_few : (r : Option ℕ) (xs ys : List (ℕ × ℕ)) → xs ≡ ys → length ys ≤ 2 ^ 26 → MatchOption r ⊤ (λ n. n ≡ length ys) → MatchOption r ⊤ (λ n. (n ≡ length xs) × (n ≤ 2 ^ 26))

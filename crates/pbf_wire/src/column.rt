@@ -4,7 +4,7 @@ ghost use Rattle.std.specs.Prelude.{◌≡◌, ◌∷◌, [], MatchOption, ⊤, 
 ghost use Rattle.pbf_wire.specs.Columns.{entries, read_entries};
 
 use crate::field::Payload;
-use crate::fields::Fields;
+use crate::fields::{Fields, FoundFields};
 use crate::short::{MOST_BYTES, count_small_left};
 use crate::varint::first_varint;
 
@@ -24,7 +24,7 @@ pub fn first_number(packed: &[u8]) -> Option<(u64, &[u8])>
 /// of the last one stands. It takes no memory, and a copy of it goes on by itself.
 #[derive(Clone, Copy)]
 pub struct Column<'a> {
-    fields: Fields<'a>,
+    fields: FoundFields<'a>,
     number: u64,
     /// What is left of the packed occurrence that was begun, and its place.
     packed: &'a [u8],
@@ -47,7 +47,7 @@ impl<'a> Column<'a> {
         ensures place { place_of result ≡ at }
     {
         Column {
-            fields: Fields::new(message, at),
+            fields: Fields::new(message, at).found(),
             number,
             packed: &[],
             packed_place: at,
@@ -63,7 +63,7 @@ impl<'a> Column<'a> {
         ensures place { place_of result ≡ 0 }
     {
         Column {
-            fields,
+            fields: fields.found(),
             number,
             packed: &[],
             packed_place: 0,
@@ -89,10 +89,10 @@ impl<'a> Column<'a> {
             (λ _. AllByRecursion (λ x. x.0 < 2 ^ 35) (column_left self.now)) }
     {
         // Of a packed occurrence that was begun the numbers that were given are no longer to come.
-        if !self.packed.is_empty() || self.fields.len() > MOST_BYTES {
+        if !self.packed.is_empty() || self.fields.0.len() > MOST_BYTES {
             return None;
         }
-        count_small_left(self.fields, self.number)
+        count_small_left(self.fields.0, self.number)
     }
 
     /// The next number of the packed occurrence that was begun. Where it has none nothing changes.
@@ -129,7 +129,7 @@ impl<'a> Column<'a> {
     }
 
     /// The next number, by what is left of the packed occurrence that was begun, and then by the fields after it.
-    #[tactic(auto, unfolding(crate::specs::Cursors::column_left, crate::specs::Occurrence::items_past))]
+    #[tactic(auto, unfolding(crate::specs::Cursors::column_left))]
     fn advance(&mut self) -> Option<u64>
         ensures { MatchOption result ((column_left self.old ≡ []) × (column_left self.new ≡ [])
             × (place_of self.new ≡ place_of self.old))
@@ -139,14 +139,7 @@ impl<'a> Column<'a> {
             if let Some(value) = self.advance_packed() {
                 return Some(value);
             }
-            let field = match self.fields.next() {
-                Some(Ok(field)) => field,
-                Some(Err(_)) => {
-                    self.fields = Fields::new(&[], 0);
-                    return None;
-                }
-                None => return None,
-            };
+            let field = self.fields.next()?;
             if field.number == self.number {
                 match field.payload {
                     Payload::Number(value) => {
@@ -189,7 +182,7 @@ impl<'a> Iterator for Column<'a> {
         if let Some(value) = self.advance_packed() {
             return Some(value);
         }
-        if self.fields.is_done() {
+        if self.fields.0.is_done() {
             return None;
         }
         self.advance()

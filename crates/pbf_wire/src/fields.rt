@@ -167,7 +167,7 @@ impl<'a> Iterator for Fields<'a> {
 
 /// The fields of a message that stand before its first fault, in order. It takes no memory.
 #[derive(Clone, Copy)]
-pub struct FoundFields<'a>(Fields<'a>);
+pub struct FoundFields<'a>(pub(crate) Fields<'a>);
 
 impl<'a> Iterator for FoundFields<'a> {
     ghost use Rattle.std.specs.Iterator.{YieldsFirstBy, item_count};

@@ -1,5 +1,5 @@
 use Rattle.std.proofs.Common.{◌≡◌, length}
-use Rattle.pbf_wire.specs.Cursors.{fields_left, column_left, place_of}
+use Rattle.pbf_wire.specs.Cursors.{column_left, place_of, found_left}
 use Rattle.pbf_wire.proofs.column.Column.advance.Given as goal
 
 abbrev pub invariant-loop-value : goal.invariant-loop-value
@@ -10,4 +10,4 @@ invariant-loop-value l =
     }
 
 abbrev pub decreases-loop-value : goal.decreases-loop-value
-decreases-loop-value l = length (fields_left l.self.fields)
+decreases-loop-value l = length (found_left l.self.fields)

@@ -1,8 +1,7 @@
 use Rattle.std.proofs.Common.{◌≡◌, ◌∙◌, arith, length, sym}
 use Rattle.std.proofs.lemmas.Bool.{eqb-true}
 use Rattle.pbf_wire.specs.Columns.{joined}
-use Rattle.pbf_wire.specs.Occurrence.{found}
-use Rattle.pbf_wire.specs.Cursors.{fields_left, column_left}
+use Rattle.pbf_wire.specs.Cursors.{column_left, found_left}
 use Rattle.pbf_wire.proofs.ShortLemmas.{nothing_begun, count_few, left_short}
 use Rattle.pbf_wire.proofs.column.Column.count_small.Goals as goal
 
@@ -10,8 +9,8 @@ pub returns-clause-counted : goal.returns-clause-counted
 returns-clause-counted c =
     let column = c.args.self.now in
     let none : length column.packed.now ≡ 0 = eqb-true _ _ (sym c.is_empty.ensures ∙ c.if-not-is_empty.false) in
-    let left = joined column.number (found (fields_left column.fields)) in
-    count_few c.count_small_left.result (column_left column) left (nothing_begun column none) (omega (arith, left_short column.number column.fields)) c.count_small_left.ensures.counted
+    let left = joined column.number (found_left column.fields) in
+    count_few c.count_small_left.result (column_left column) left (nothing_begun column none) (omega (arith, left_short column.number column.fields.0)) c.count_small_left.ensures.counted
 
 pub returns-clause-small : goal.returns-clause-small
 returns-clause-small c =

@@ -5,4 +5,4 @@ use Rattle.pbf_wire.proofs.column.Column.new.Goals as goal
 
 pub returns-clause-left : goal.returns-clause-left
 unfolding column_left entries_past
-returns-clause-left c = rw c.new.ensures refl
+returns-clause-left c = rw (c.found.ensures, c.new.ensures) refl
