@@ -172,20 +172,8 @@ part_messages k (Whole number bytes) = cond (eqb number k) (bytes ∷ []) []
 
 message_parts : (k at : ℕ) (ps : List Part) → each k (occurrences_of at ps) ≡ flat_map (part_messages k) ps
 message_parts k at [] = refl
-message_parts k at (Single number value ∷ ps) =
-    let more = message_parts k (at + length (spelling (Single number value))) ps in
-    by (eqb number k) refl more
-  where
-    by : (b : Bool) → eqb number k ≡ b → each k (occurrences_of (at + length (spelling (Single number value))) ps) ≡ flat_map (part_messages k) ps → each k (occurrences_of at (Single number value ∷ ps)) ≡ flat_map (part_messages k) (Single number value ∷ ps)
-    by true e more = rw e more
-    by false e more = rw e more
-message_parts k at (Whole number bytes ∷ ps) =
-    let more = message_parts k (at + length (spelling (Whole number bytes))) ps in
-    by (eqb number k) refl more
-  where
-    by : (b : Bool) → eqb number k ≡ b → each k (occurrences_of (at + length (spelling (Whole number bytes))) ps) ≡ flat_map (part_messages k) ps → each k (occurrences_of at (Whole number bytes ∷ ps)) ≡ flat_map (part_messages k) (Whole number bytes ∷ ps)
-    by true e more = rw e (ap (λ (xs : List (List ℕ)). bytes ∷ xs) more)
-    by false e more = rw e more
+message_parts k at (Single number value ∷ ps) = grind (arith, message_parts k (at + length (spelling (Single number value))) ps)
+message_parts k at (Whole number bytes ∷ ps) = grind (arith, message_parts k (at + length (spelling (Whole number bytes))) ps)
 
 whole_messages : (k number : ℕ) (ms : List (List ℕ)) (b : Bool) → eqb number k ≡ b → flat_map (part_messages k) (map (Whole number) ms) ≡ cond b ms []
 whole_messages k number [] true e = refl

@@ -196,18 +196,8 @@ all_of k os = filter (λ o. o.number == k) os
 
 parts_counted : (k at : ℕ) (ps : List Part) → length (all_of k (occurrences_of at ps)) ≡ length (flat_map (part_messages k) ps) + length (flat_map (part_scalars k) ps)
 parts_counted k at [] = refl
-parts_counted k at (Single number value ∷ ps) = by (number == k) refl (parts_counted k (at + length (spelling (Single number value))) ps)
-  where
-    by : (b : Bool) → (number == k) ≡ b → length (all_of k (occurrences_of (at + length (spelling (Single number value))) ps)) ≡ length (flat_map (part_messages k) ps) + length (flat_map (part_scalars k) ps)
-        → length (all_of k (occurrences_of at (Single number value ∷ ps))) ≡ length (flat_map (part_messages k) (Single number value ∷ ps)) + length (flat_map (part_scalars k) (Single number value ∷ ps))
-    by true e more = rw e (omega (arith, more))
-    by false e more = rw e more
-parts_counted k at (Whole number bytes ∷ ps) = by (number == k) refl (parts_counted k (at + length (spelling (Whole number bytes))) ps)
-  where
-    by : (b : Bool) → (number == k) ≡ b → length (all_of k (occurrences_of (at + length (spelling (Whole number bytes))) ps)) ≡ length (flat_map (part_messages k) ps) + length (flat_map (part_scalars k) ps)
-        → length (all_of k (occurrences_of at (Whole number bytes ∷ ps))) ≡ length (flat_map (part_messages k) (Whole number bytes ∷ ps)) + length (flat_map (part_scalars k) (Whole number bytes ∷ ps))
-    by true e more = rw e (omega (arith, more))
-    by false e more = rw e more
+parts_counted k at (Single number value ∷ ps) = grind (arith, parts_counted k (at + length (spelling (Single number value))) ps)
+parts_counted k at (Whole number bytes ∷ ps) = grind (arith, parts_counted k (at + length (spelling (Whole number bytes))) ps)
 
 -- how many fields of the number k are written for these slots
 abbrev pub field_count : ℕ → List Slot → ℕ
