@@ -6,8 +6,7 @@ use Rattle.std.specs.List.{last_or, cons_option, AllByRecursion}
 use Rattle.std.proofs.lemmas.Int.{ints}
 use Rattle.pbf_wire.specs.Faults.{fields_in}
 use Rattle.pbf_wire.specs.Occurrence.{Content, Number, Eight, Four, Bytes, Occurrence, IsBody, Joins}
-use Rattle.pbf_wire.specs.Reading.{number_in, last_number}
-use Rattle.pbf_wire.proofs.MessageLemmas.{numbers}
+use Rattle.pbf_wire.specs.Reading.{value_in, values, last_number}
 use Rattle.pbf_wire.specs.Signed.{unzigzag, low_i64}
 use Rattle.pbf_wire.proofs.Cutting.{is_cutting}
 use Rattle.osm_entity.specs.Ranges.{IsInt64, IfPresent}
@@ -47,18 +46,21 @@ joined_wide (o ∷ os) at m h = (body_wide o.content h.4.kind (o.place + length 
 fields_wide : (at : ℕ) (m : List ℕ) → AllWide (fields_in at m)
 fields_wide at m = let cut = is_cutting at m in joined_wide (fields_in at m) at cut.front cut.joins
 
--- the last number of a field, where one came before or none
-number_wide : (b : Bool) (c : Content) (ns : List ℕ) (before : Option ℕ) → HoldsWide c → IfSome IsWide before → ((before : Option ℕ) → IfSome IsWide before → IfSome IsWide (last_or before ns))
-    → IfSome IsWide (last_or before (cons_option (if b then number_in c else None) ns))
-number_wide false c ns before wide h more = more before h
-number_wide true (Number v) ns before wide h more = more (Some v) wide
-number_wide true (Eight bytes) ns before wide h more = more before h
-number_wide true (Four bytes) ns before wide h more = more before h
-number_wide true (Bytes bytes at) ns before wide h more = more before h
+abbrev IsValueWide : Option (ℕ × ℕ) → Type 0
+IsValueWide value = IfSome IsWide (option_map (λ p. p.1) value)
 
-last_from : (k : ℕ) (os : List Occurrence) (before : Option ℕ) → AllWide os → IfSome IsWide before → IfSome IsWide (last_or before (numbers k os))
+-- the last number of a field, where one came before or none
+number_wide : (b : Bool) (place : ℕ) (c : Content) (vs : List (ℕ × ℕ)) (before : Option (ℕ × ℕ)) → HoldsWide c → IsValueWide before → ((before : Option (ℕ × ℕ)) → IsValueWide before → IsValueWide (last_or before vs))
+    → IsValueWide (last_or before (cons_option (if b then value_in place c else None) vs))
+number_wide false place c vs before wide h more = more before h
+number_wide true place (Number v) vs before wide h more = more (Some (place, v)) wide
+number_wide true place (Eight bytes) vs before wide h more = more before h
+number_wide true place (Four bytes) vs before wide h more = more before h
+number_wide true place (Bytes bytes at) vs before wide h more = more before h
+
+last_from : (k : ℕ) (os : List Occurrence) (before : Option (ℕ × ℕ)) → AllWide os → IsValueWide before → IsValueWide (last_or before (values k os))
 last_from k [] before all h = h
-last_from k (o ∷ os) before all h = number_wide (o.number == k) o.content (numbers k os) before all.0 h (λ before h. last_from k os before all.1 h)
+last_from k (o ∷ os) before all h = number_wide (o.number == k) o.place o.content (values k os) before all.0 h (λ before h. last_from k os before all.1 h)
 
 last_wide : (k at : ℕ) (m : List ℕ) → IfSome IsWide (last_number k (fields_in at m))
 last_wide k at m = last_from k (fields_in at m) None (fields_wide at m) tt

@@ -1,7 +1,8 @@
 -- What a written message reads as, field by field.
 use Rattle.std.proofs.Common.{◌≡◌, ℕ, ◌+◌, ◌*◌, ◌^◌, ◌<◌, Bool, true, false, cond, eqb, List, [], ◌∷◌, ◌++◌, length, map, Option, Some, None, refl, ap, ◌∙◌, arith, length-append}
 use Rattle.std.specs.Prelude.{Ok}
-use Rattle.std.specs.List.{filter_map, flat_map, last_or, AllByRecursion}
+use Rattle.std.specs.List.{flat_map, last_or, AllByRecursion}
+use Rattle.std.specs.Option.{option_map}
 use Rattle.std.proofs.lemmas.List.{append-nil, map-append}
 use Rattle.std.proofs.lemmas.Grind.{flat_map-append}
 use Rattle.pbf_wire.specs.declared.fault.Reason.{Reason}
@@ -10,16 +11,12 @@ use Rattle.pbf_wire.specs.declared.kind.Kind.TheVariants as kind
 use Rattle.pbf_wire.specs.Varint.{shortest}
 use Rattle.pbf_wire.specs.Occurrence.{Number, Bytes, Occurrence, Item, items, found}
 use Rattle.pbf_wire.specs.Columns.{Entry, entries, read_entries, entry_fault, packed, placed, column_of, joined, column}
-use Rattle.pbf_wire.specs.Reading.{number_of, last_number, each}
+use Rattle.pbf_wire.specs.Reading.{values, last_number, each}
 use Rattle.pbf_wire.specs.Wire.{reason_in, kind_of, or_at, wire}
 use Rattle.pbf_wire.specs.Writing.{Part, Single, Whole, spelling, written, IsWritable, occurrence_of, occurrences_of}
 use Rattle.pbf_wire.specs.Message.{Slot, Scalar, Column, Each, parts_of, message, SlotFits, SlotIs, SlotBelow, numbers_at, scalars_at, messages_at}
 use Rattle.pbf_wire.proofs.Written.{reads_back, column_reads_back}
 use Rattle.pbf_wire.proofs.PackedLemmas.{column_read}
-
--- the numbers of the field k, in order
-abbrev pub numbers : ℕ → List Occurrence → List ℕ
-numbers k os = filter_map (number_of k) os
 
 -- ---- all fields can be written
 
@@ -129,22 +126,13 @@ abbrev pub part_scalars : ℕ → Part → List ℕ
 part_scalars k (Single number value) = cond (eqb number k) (value ∷ []) []
 part_scalars k (Whole number bytes) = []
 
-scalar_parts : (k at : ℕ) (ps : List Part) → numbers k (occurrences_of at ps) ≡ flat_map (part_scalars k) ps
+abbrev pub numbers : List (ℕ × ℕ) → List ℕ
+numbers vs = map (λ p. p.1) vs
+
+scalar_parts : (k at : ℕ) (ps : List Part) → numbers (values k (occurrences_of at ps)) ≡ flat_map (part_scalars k) ps
 scalar_parts k at [] = refl
-scalar_parts k at (Single number value ∷ ps) =
-    let more = scalar_parts k (at + length (spelling (Single number value))) ps in
-    by (eqb number k) refl more
-  where
-    by : (b : Bool) → eqb number k ≡ b → numbers k (occurrences_of (at + length (spelling (Single number value))) ps) ≡ flat_map (part_scalars k) ps → numbers k (occurrences_of at (Single number value ∷ ps)) ≡ flat_map (part_scalars k) (Single number value ∷ ps)
-    by true e more = rw e (ap (λ (xs : List ℕ). value ∷ xs) more)
-    by false e more = rw e more
-scalar_parts k at (Whole number bytes ∷ ps) =
-    let more = scalar_parts k (at + length (spelling (Whole number bytes))) ps in
-    by (eqb number k) refl more
-  where
-    by : (b : Bool) → eqb number k ≡ b → numbers k (occurrences_of (at + length (spelling (Whole number bytes))) ps) ≡ flat_map (part_scalars k) ps → numbers k (occurrences_of at (Whole number bytes ∷ ps)) ≡ flat_map (part_scalars k) (Whole number bytes ∷ ps)
-    by true e more = rw e more
-    by false e more = rw e more
+scalar_parts k at (Single number value ∷ ps) = grind (arith, scalar_parts k (at + length (spelling (Single number value))) ps)
+scalar_parts k at (Whole number bytes ∷ ps) = grind (arith, scalar_parts k (at + length (spelling (Whole number bytes))) ps)
 
 no_scalars : (k number : ℕ) (ms : List (List ℕ)) → flat_map (part_scalars k) (map (Whole number) ms) ≡ []
 no_scalars k number [] = refl
@@ -164,9 +152,17 @@ slots_scalars k (s ∷ slots) =
     ∙ ap (λ (xs : List ℕ). xs ++ flat_map (part_scalars k) (flat_map parts_of slots)) (slot_scalars k s)
     ∙ ap (λ (xs : List ℕ). scalars_at k s ++ xs) (slots_scalars k slots)
 
+pub values_written : (k at : ℕ) (slots : List Slot) → numbers (values k (occurrences_of at (flat_map parts_of slots))) ≡ flat_map (scalars_at k) slots
+values_written k at slots = scalar_parts k at (flat_map parts_of slots) ∙ slots_scalars k slots
+
+last_number_is : (before : Option (ℕ × ℕ)) (vs : List (ℕ × ℕ)) → option_map (λ p. p.1) (last_or before vs) ≡ last_or (option_map (λ p. p.1) before) (numbers vs)
+last_number_is before [] = refl
+last_number_is before (v ∷ vs) = last_number_is (Some v) vs
+
 pub last_written : (k at : ℕ) (slots : List Slot) → AllByRecursion SlotFits slots → length (message slots) < 2 ^ 64 → last_number k (found (items at (message slots))) ≡ last_or None (flat_map (scalars_at k) slots)
 last_written k at slots h lt =
-    ap (last_number k) (fields_written at slots h lt) ∙ ap (last_or None) (scalar_parts k at (flat_map parts_of slots) ∙ slots_scalars k slots)
+    let os = occurrences_of at (flat_map parts_of slots) in
+    ap (last_number k) (fields_written at slots h lt) ∙ last_number_is None (values k os) ∙ ap (last_or None) (values_written k at slots)
 
 -- ---- texts and embedded messages
 
@@ -176,20 +172,8 @@ part_messages k (Whole number bytes) = cond (eqb number k) (bytes ∷ []) []
 
 message_parts : (k at : ℕ) (ps : List Part) → each k (occurrences_of at ps) ≡ flat_map (part_messages k) ps
 message_parts k at [] = refl
-message_parts k at (Single number value ∷ ps) =
-    let more = message_parts k (at + length (spelling (Single number value))) ps in
-    by (eqb number k) refl more
-  where
-    by : (b : Bool) → eqb number k ≡ b → each k (occurrences_of (at + length (spelling (Single number value))) ps) ≡ flat_map (part_messages k) ps → each k (occurrences_of at (Single number value ∷ ps)) ≡ flat_map (part_messages k) (Single number value ∷ ps)
-    by true e more = rw e more
-    by false e more = rw e more
-message_parts k at (Whole number bytes ∷ ps) =
-    let more = message_parts k (at + length (spelling (Whole number bytes))) ps in
-    by (eqb number k) refl more
-  where
-    by : (b : Bool) → eqb number k ≡ b → each k (occurrences_of (at + length (spelling (Whole number bytes))) ps) ≡ flat_map (part_messages k) ps → each k (occurrences_of at (Whole number bytes ∷ ps)) ≡ flat_map (part_messages k) (Whole number bytes ∷ ps)
-    by true e more = rw e (ap (λ (xs : List (List ℕ)). bytes ∷ xs) more)
-    by false e more = rw e more
+message_parts k at (Single number value ∷ ps) = grind (arith, message_parts k (at + length (spelling (Single number value))) ps)
+message_parts k at (Whole number bytes ∷ ps) = grind (arith, message_parts k (at + length (spelling (Whole number bytes))) ps)
 
 whole_messages : (k number : ℕ) (ms : List (List ℕ)) (b : Bool) → eqb number k ≡ b → flat_map (part_messages k) (map (Whole number) ms) ≡ cond b ms []
 whole_messages k number [] true e = refl

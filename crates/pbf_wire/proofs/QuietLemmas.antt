@@ -1,10 +1,9 @@
 -- A written message gives no faults where its slots give none.
-use Rattle.pbf_wire.specs.Reading.{last_of}
+use Rattle.pbf_wire.specs.Reading.{last_of, values}
 use Rattle.std.proofs.lemmas.Grind.{flat_map-append}
 use Rattle.std.proofs.Common.{◌≡◌, ℕ, ◌+◌, ◌*◌, ◌%◌, ◌^◌, ◌<◌, ℤ, pos, ◌+ℤ◌, Bool, true, List, [], ◌∷◌, ◌++◌, length, map, Option, Some, None, refl, sym, ap, ap₂, subst, ◌∙◌, ◌||◌, drop, ◌==◌, arith, ◌≤◌, false}
 use Rattle.std.specs.Prelude.{Ok, Err, not, filter, if◌then◌else◌}
 use Rattle.std.specs.List.{flat_map, AllByRecursion, list_any, last_or}
-use Rattle.std.specs.Option.{option_and_then}
 use Rattle.std.proofs.lemmas.Bool.{lt-ltb}
 use Rattle.std.proofs.lemmas.List.{length-map}
 use Rattle.pbf_wire.specs.declared.fault.Fault.{Fault}
@@ -20,16 +19,13 @@ use Rattle.pbf_wire.specs.Writing.{Part, Single, Whole, spelling, occurrences_of
 use Rattle.pbf_wire.specs.Message.{Slot, Scalar, Column, Each, parts_of, message, SlotFits, SlotIs, numbers_at, unless_empty, messages_at, scalars_at}
 use Rattle.pbf_wire.specs.Signed.{delta_in, IsWithin, is_within}
 use Rattle.pbf_wire.specs.Sums.{sums, sums_from}
-use Rattle.pbf_wire.specs.Faults.{fault_where, or_more, message_faults, leaf_faults, fields_in, column_count, below_fault, index_faults, faults_of_sums, sum_faults, index_sum_faults, is_index, fault, fields_of, embedded, missing, twice, value_in, of_value, in_last}
-use Rattle.pbf_wire.proofs.MessageLemmas.{all_append, fields_written, column_written, no_wire_fault, part_scalars, part_messages, slots_scalars, slots_messages}
+use Rattle.pbf_wire.specs.Faults.{fault_where, or_more, message_faults, leaf_faults, fields_in, column_count, below_fault, index_faults, faults_of_sums, sum_faults, index_sum_faults, is_index, fault, fields_of, embedded, missing, twice, of_value, in_last}
+use Rattle.pbf_wire.proofs.MessageLemmas.{all_append, fields_written, column_written, no_wire_fault, part_scalars, part_messages, slots_scalars, slots_messages, numbers, values_written}
 use Rattle.pbf_wire.proofs.SumLemmas.{running_sums, within_true}
 use Rattle.pbf_wire.proofs.SoundLemmas.{both_nil, whole_count}
 use Rattle.pbf_wire.proofs.RisingLemmas.{running, running_is}
 
 -- ---- what the fields give
-
-abbrev pub value_of_last : Option Occurrence → Option (ℕ × ℕ)
-value_of_last last = option_and_then (λ o. value_in o.place o.content) last
 
 abbrev pub field_at : ℕ → ℕ → Content → Occurrence
 field_at place number content = record { place = place; number = number; content = content }
@@ -200,18 +196,8 @@ all_of k os = filter (λ o. o.number == k) os
 
 parts_counted : (k at : ℕ) (ps : List Part) → length (all_of k (occurrences_of at ps)) ≡ length (flat_map (part_messages k) ps) + length (flat_map (part_scalars k) ps)
 parts_counted k at [] = refl
-parts_counted k at (Single number value ∷ ps) = by (number == k) refl (parts_counted k (at + length (spelling (Single number value))) ps)
-  where
-    by : (b : Bool) → (number == k) ≡ b → length (all_of k (occurrences_of (at + length (spelling (Single number value))) ps)) ≡ length (flat_map (part_messages k) ps) + length (flat_map (part_scalars k) ps)
-        → length (all_of k (occurrences_of at (Single number value ∷ ps))) ≡ length (flat_map (part_messages k) (Single number value ∷ ps)) + length (flat_map (part_scalars k) (Single number value ∷ ps))
-    by true e more = rw e (omega (arith, more))
-    by false e more = rw e more
-parts_counted k at (Whole number bytes ∷ ps) = by (number == k) refl (parts_counted k (at + length (spelling (Whole number bytes))) ps)
-  where
-    by : (b : Bool) → (number == k) ≡ b → length (all_of k (occurrences_of (at + length (spelling (Whole number bytes))) ps)) ≡ length (flat_map (part_messages k) ps) + length (flat_map (part_scalars k) ps)
-        → length (all_of k (occurrences_of at (Whole number bytes ∷ ps))) ≡ length (flat_map (part_messages k) (Whole number bytes ∷ ps)) + length (flat_map (part_scalars k) (Whole number bytes ∷ ps))
-    by true e more = rw e (omega (arith, more))
-    by false e more = rw e more
+parts_counted k at (Single number value ∷ ps) = grind (arith, parts_counted k (at + length (spelling (Single number value))) ps)
+parts_counted k at (Whole number bytes ∷ ps) = grind (arith, parts_counted k (at + length (spelling (Whole number bytes))) ps)
 
 -- how many fields of the number k are written for these slots
 abbrev pub field_count : ℕ → List Slot → ℕ
@@ -338,31 +324,15 @@ column_passed k number (v ∷ vs) rest e = rw e refl
 -- ---- the last number of a field
 
 module _ (k : ℕ) (f : ℕ → ℕ → List Fault) where
-  last_quiet : (at : ℕ) (ps : List Part) (before : Option Occurrence) → AllByRecursion (λ v. (place : ℕ) → f place v ≡ []) (flat_map (part_scalars k) ps) → of_value f (value_of_last before) ≡ []
-      → of_value f (value_of_last (last_from before (all_of k (occurrences_of at ps)))) ≡ []
-  last_quiet at [] before h e = e
-  last_quiet at (Single number value ∷ ps) before h e = by (number == k) refl h
-      (last_quiet (at + length (spelling (Single number value))) ps (Some (occurrence_of at (Single number value)))) (λ h. last_quiet (at + length (spelling (Single number value))) ps before h e)
-    where
-      by : (b : Bool) → (number == k) ≡ b → AllByRecursion (λ v. (place : ℕ) → f place v ≡ []) ((if b then value ∷ [] else []) ++ flat_map (part_scalars k) ps)
-          → (AllByRecursion (λ v. (place : ℕ) → f place v ≡ []) (flat_map (part_scalars k) ps) → f at value ≡ []
-          → of_value f (value_of_last (last_from (Some (occurrence_of at (Single number value))) (all_of k (occurrences_of (at + length (spelling (Single number value))) ps)))) ≡ [])
-          → (AllByRecursion (λ v. (place : ℕ) → f place v ≡ []) (flat_map (part_scalars k) ps) → of_value f (value_of_last (last_from before (all_of k (occurrences_of (at + length (spelling (Single number value))) ps)))) ≡ [])
-          → of_value f (value_of_last (last_from before (all_of k (occurrences_of at (Single number value ∷ ps))))) ≡ []
-      by true is h taken skipped = rw is (taken h.1 (h.0 at))
-      by false is h taken skipped = rw is (skipped h)
-  last_quiet at (Whole number bytes ∷ ps) before h e = by (number == k) refl
-      (last_quiet (at + length (spelling (Whole number bytes))) ps (Some (occurrence_of at (Whole number bytes))) h refl) (last_quiet (at + length (spelling (Whole number bytes))) ps before h e)
-    where
-      by : (b : Bool) → (number == k) ≡ b
-          → of_value f (value_of_last (last_from (Some (occurrence_of at (Whole number bytes))) (all_of k (occurrences_of (at + length (spelling (Whole number bytes))) ps)))) ≡ []
-          → of_value f (value_of_last (last_from before (all_of k (occurrences_of (at + length (spelling (Whole number bytes))) ps)))) ≡ []
-          → of_value f (value_of_last (last_from before (all_of k (occurrences_of at (Whole number bytes ∷ ps))))) ≡ []
-      by true is taken skipped = rw is taken
-      by false is taken skipped = rw is skipped
+  abbrev AllQuiet : List ℕ → Type 0
+  AllQuiet vs = AllByRecursion (λ v. (place : ℕ) → f place v ≡ []) vs
+
+  last_quiet : (vs : List (ℕ × ℕ)) (before : Option (ℕ × ℕ)) → AllQuiet (numbers vs) → of_value f before ≡ [] → of_value f (last_or before vs) ≡ []
+  last_quiet [] before h e = e
+  last_quiet (v ∷ vs) before h e = last_quiet vs (Some v) h.1 (h.0 v.0)
 
   -- the last number gives nothing where no number at the field does
-  pub in_last_written : (at : ℕ) (slots : List Slot) → AllByRecursion SlotFits slots → length (message slots) < 2 ^ 64 → AllByRecursion (λ v. (place : ℕ) → f place v ≡ []) (flat_map (scalars_at k) slots) → in_last k f (fields_in at (message slots)) ≡ []
+  pub in_last_written : (at : ℕ) (slots : List Slot) → AllByRecursion SlotFits slots → length (message slots) < 2 ^ 64 → AllQuiet (flat_map (scalars_at k) slots) → in_last k f (fields_in at (message slots)) ≡ []
   in_last_written at slots fits lt h =
       ap (in_last k f) (fields_written at slots fits lt)
-      ∙ last_quiet at (flat_map parts_of slots) None (subst (λ (vs : List ℕ). AllByRecursion (λ v. (place : ℕ) → f place v ≡ []) vs) (sym (slots_scalars k slots)) h) refl
+      ∙ last_quiet (values k (occurrences_of at (flat_map parts_of slots))) None (subst AllQuiet (sym (values_written k at slots)) h) refl

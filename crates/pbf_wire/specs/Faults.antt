@@ -1,13 +1,13 @@
 -- Faults of messages as lists: the words that the judgement of every message is put together from.
 use Rattle.std.specs.Prelude.{ℕ, ℤ, pos, negsuc, ◌%◌, ◌^◌, ◌==◌, if◌then◌else◌, Bool, true, false, not, nat_lt, List, [], ◌∷◌, ◌++◌, length, map, drop, filter, Option, Some, None, Ok, Err}
 use Rattle.std.specs.List.{flat_map, list_any, zip}
-use Rattle.std.specs.Option.{option_and_then, option_map_or}
+use Rattle.std.specs.Option.{option_map_or}
 use Rattle.pbf_wire.specs.declared.fault.Fault.{Fault}
 use Rattle.pbf_wire.specs.declared.fault.Reason.{Reason}
 use Rattle.pbf_wire.specs.declared.fault.Reason.TheVariants.{Missing, TwiceMessage, StringIndex, OutOfRange}
 use Rattle.pbf_wire.specs.declared.kind.Kind.{Kind}
 use Rattle.pbf_wire.specs.Occurrence.{Content, Number, Bytes, Occurrence, Item, items, found}
-use Rattle.pbf_wire.specs.Reading.{last_of}
+use Rattle.pbf_wire.specs.Reading.{last_of, last_value}
 use Rattle.pbf_wire.specs.Signed.{delta_in, is_within}
 use Rattle.pbf_wire.specs.Sums.{sums}
 use Rattle.pbf_wire.specs.Wire.{kind_of, reason_in}
@@ -123,17 +123,9 @@ is_good signed limit n = if signed then is_within (pos limit) n else is_index li
 abbrev pub index_sum_faults : ℕ → List (ℕ × ℕ) → List Fault
 index_sum_faults limit entries = faults_of_sums (is_index limit) StringIndex true entries
 
-abbrev pub value_in : ℕ → Content → Option (ℕ × ℕ)
-value_in place (Number v) = Some (place, v)
-value_in _ _ = None
-
--- the place of the last occurrence of the field k, and its number
-abbrev pub last_value : ℕ → List Occurrence → Option (ℕ × ℕ)
-last_value k os = option_and_then (λ o. value_in o.place o.content) (last_of k os)
-
 abbrev pub of_value : {X : Type 0} → (ℕ → ℕ → List X) → Option (ℕ × ℕ) → List X
 of_value f last = option_map_or (λ p. f p.0 p.1) last []
 
--- what they give
+-- what the last number of the field k gives, with its place
 abbrev pub in_last : {X : Type 0} → ℕ → (ℕ → ℕ → List X) → List Occurrence → List X
 in_last k f os = of_value f (last_value k os)

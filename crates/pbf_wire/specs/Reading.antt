@@ -1,24 +1,27 @@
 -- What the occurrences of a message say of one field.
 use Rattle.std.specs.Prelude.{ℕ, ◌==◌, if◌then◌else◌, List, [], Option, Some, None, unwrap_or, filter}
 use Rattle.std.specs.List.{filter_map, last_or}
-use Rattle.std.specs.Option.{option_map_or}
+use Rattle.std.specs.Option.{option_map, option_map_or}
 use Rattle.pbf_wire.specs.Occurrence.{Content, Number, Bytes, Occurrence}
 
 -- the last occurrence of the field k
 abbrev pub last_of : ℕ → List Occurrence → Option Occurrence
 last_of k os = last_or None (filter (λ o. o.number == k) os)
 
-abbrev pub number_in : Content → Option ℕ
-number_in (Number v) = Some v
-number_in _ = None
+abbrev pub value_in : ℕ → Content → Option (ℕ × ℕ)
+value_in place (Number v) = Some (place, v)
+value_in _ _ = None
 
--- the number that an occurrence gives the field k
-abbrev pub number_of : ℕ → Occurrence → Option ℕ
-number_of k o = if o.number == k then number_in o.content else None
+-- the numbers of the field k, each behind the place of its occurrence
+abbrev pub values : ℕ → List Occurrence → List (ℕ × ℕ)
+values k os = filter_map (λ o. if o.number == k then value_in o.place o.content else None) os
+
+abbrev pub last_value : ℕ → List Occurrence → Option (ℕ × ℕ)
+last_value k os = last_or None (values k os)
 
 -- the last number of the field k
 abbrev pub last_number : ℕ → List Occurrence → Option ℕ
-last_number k os = last_or None (filter_map (number_of k) os)
+last_number k os = option_map (λ p. p.1) (last_value k os)
 
 abbrev pub bytes_in : Content → Option (List ℕ)
 bytes_in (Bytes bytes at) = Some bytes

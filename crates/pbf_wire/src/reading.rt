@@ -5,7 +5,7 @@ ghost use Rattle.std.specs.Option.{option_map};
 ghost use Rattle.pbf_wire.specs.Occurrence.{items, found};
 ghost use Rattle.pbf_wire.specs.Cursors.{fields_left};
 ghost use Rattle.pbf_wire.specs.Fields.{occurrence};
-ghost use Rattle.pbf_wire.specs.Reading.{last_of, last_number};
+ghost use Rattle.pbf_wire.specs.Reading.{last_of, last_value, last_number};
 
 use crate::field::{Field, Payload};
 use crate::fields::Fields;
@@ -16,10 +16,7 @@ pub fn last_field_left(fields: Fields<'_>, number: u64) -> Option<Field<'_>>
     ensures { option_map occurrence result ≡ last_of number (found (fields_left fields.entry)) }
 {
     let mut last = None;
-    for item in fields {
-        let Ok(field) = item else {
-            return last;
-        };
+    for field in fields.found() {
         if field.number == number {
             last = Some(field);
         }
@@ -35,22 +32,27 @@ pub fn last_field(message: &[u8], at: u64, number: u64) -> Option<Field<'_>>
     last_field_left(Fields::new(message, at), number)
 }
 
-/// The number of the last occurrence of a field that holds one. The rest is as for [`last_field_left`].
-pub fn last_number_left(fields: Fields<'_>, number: u64) -> Option<u64>
-    ensures { result ≡ last_number number (found (fields_left fields.entry)) }
+/// The place of the last occurrence of a field that holds a number, and the number. The rest is as for [`last_field_left`].
+pub fn last_value_left(fields: Fields<'_>, number: u64) -> Option<(u64, u64)>
+    ensures { result ≡ last_value number (found (fields_left fields.entry)) }
 {
     let mut last = None;
-    for item in fields {
-        let Ok(field) = item else {
-            return last;
-        };
+    for field in fields.found() {
         if let Payload::Number(value) = field.payload {
             if field.number == number {
-                last = Some(value);
+                last = Some((field.offset, value));
             }
         }
     }
     last
+}
+
+/// As [`last_value_left`], the number alone.
+pub fn last_number_left(fields: Fields<'_>, number: u64) -> Option<u64>
+    ensures { result ≡ last_number number (found (fields_left fields.entry)) }
+{
+    let (_, value) = last_value_left(fields, number)?;
+    Some(value)
 }
 
 /// As [`last_number_left`], of all of a message whose first byte stands at `at` in the file.
