@@ -119,15 +119,13 @@ impl Header {
         ensures { IfOk result (λ header. header_of header
             ≡ header_out_for_box area (header_of self.now)) }
     {
-        self.written(
-            alloc,
-            Some(HeaderBox {
-                left: area.left,
-                right: area.right,
-                top: area.top,
-                bottom: area.bottom,
-            }),
-        )
+        let bbox = HeaderBox {
+            left: area.left,
+            right: area.right,
+            top: area.top,
+            bottom: area.bottom,
+        };
+        self.written(alloc, Some(bbox))
     }
 
     /// The header of a file with the same entities in canonical form: as for [`Header::for_box`], with the box of this header,

@@ -106,12 +106,8 @@ pub(crate) fn judge_header(payload: &[u8], at: u64) -> Result<(), Fault>
     requires { at + length payload.now ≤ 2 ^ 63 }
     ensures { result ≡ judged (header_fault at payload.now) }
 {
-    if let Some(fault) = judge_nested(payload, at, &HEADER_KINDS, BBOX, &BBOX_KINDS) {
-        return Err(fault);
-    }
-    if let Some(fault) = judge_structure(payload, at) {
-        return Err(fault);
-    }
+    refuse(judge_nested(payload, at, &HEADER_KINDS, BBOX, &BBOX_KINDS))?;
+    refuse(judge_structure(payload, at))?;
     let features = InField(REQUIRED_FEATURES, FeatureValue);
     refuse(judge_fields(payload, at, &features))
 }
