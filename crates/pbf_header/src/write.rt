@@ -1,10 +1,8 @@
 //! A HeaderBlock, written.
 
-ghost use Rattle.std.specs.Prelude.{◌≡◌, ◌++◌, ◌∷◌, [], ◌+◌, ◌^◌, ◌<◌, ◌≤◌, OnOk, length, map, filter};
+ghost use Rattle.std.specs.Prelude.{◌≡◌, ◌++◌, ◌∷◌, [], ◌^◌, ◌<◌, OnOk, map, filter};
 ghost use Rattle.std.specs.Option.{option_map, option_to_list};
 ghost use Rattle.pbf_wire.specs.Message.{Each, slot_bytes};
-ghost use Rattle.pbf_wire.specs.Signed.{zigzag};
-ghost use Rattle.pbf_wire.specs.Varint.{shortest};
 ghost use Rattle.pbf_strings.specs.TableOut.{has_text};
 ghost use Rattle.pbf_header.specs.Header.{header_of, text_of};
 ghost use Rattle.pbf_header.specs.WrittenHeader.{box_message, known_features, kept_features, header_out_for_convert, header_message};
@@ -17,26 +15,11 @@ use crate::header_block::{
     BBOX, BOTTOM, LEFT, OPTIONAL_FEATURES, REPLICATION_SEQUENCE, REPLICATION_TIMESTAMP,
     REPLICATION_URL, REQUIRED_FEATURES, RIGHT, SOURCE, TOP, WRITINGPROGRAM,
 };
-use pbf_wire::{put_bytes, put_int64, put_number, put_varint, varint_len, zigzag};
+use pbf_wire::{put_bytes, put_int64, put_number, zigzag};
 use std::alloc::AllocError;
 
 /// The most bytes that the source and the base URL of a written header have together: it fits a frame then.
 pub const MOST_HEADER_TEXT: u64 = 12_000_000;
-
-/// The length of an edge in a HeaderBBox: a byte for its field number, and the number.
-fn edge_len(edge: i64) -> usize
-    ensures exact { result ≡ 1 + length (shortest (zigzag edge)) }
-    ensures few { result ≤ 11 }
-{
-    1 + varint_len(zigzag(edge))
-}
-
-/// The length of a HeaderBBox.
-fn box_len(bbox: HeaderBox) -> usize
-    ensures { result ≡ length (box_message bbox) }
-{
-    edge_len(bbox.left) + edge_len(bbox.right) + edge_len(bbox.top) + edge_len(bbox.bottom)
-}
 
 /// Appends a HeaderBBox.
 fn put_edges(out: &mut Vec<u8>, bbox: HeaderBox) -> Result<(), AllocError>
@@ -49,15 +32,15 @@ fn put_edges(out: &mut Vec<u8>, bbox: HeaderBox) -> Result<(), AllocError>
     Ok(())
 }
 
-/// Appends the box of a header, if it has one: its length first.
+/// Appends the box of a header, if it has one.
 fn put_box(out: &mut Vec<u8>, bbox: Option<HeaderBox>) -> Result<(), AllocError>
     ensures { OnOk result (out.new.items
         ≡ out.old.items ++ slot_bytes (Each BBOX (option_to_list (option_map box_message bbox)))) }
 {
     if let Some(bbox) = bbox {
-        put_varint(out, BBOX * 8 + 2)?;
-        put_varint(out, box_len(bbox) as u64)?;
-        put_edges(out, bbox)?;
+        let mut edges = Vec::new(*out.allocator());
+        put_edges(&mut edges, bbox)?;
+        put_bytes(out, BBOX, &edges)?;
     }
     Ok(())
 }
