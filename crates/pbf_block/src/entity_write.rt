@@ -10,7 +10,6 @@ ghost use Rattle.osm_entity.specs.EntityTexts.{tag_texts};
 ghost use Rattle.osm_entity.specs.Ranges.{IsStored, LocationFits, MemberFits};
 ghost use Rattle.osm_entity.specs.Sources.{tags_left, refs_left, locations_left, members_left};
 ghost use Rattle.osm_entity.specs.Views.{meta_of};
-ghost use Rattle.pbf_dense.specs.WrittenDense.{bit_of};
 ghost use Rattle.pbf_block.specs.WrittenEntity.{key_index, value_index, role_index, kind_number, info_message};
 
 use crate::entity::{ID, INFO, KEYS, VALS};
@@ -18,7 +17,8 @@ use osm_entity::{Locations, MemberKind, Members, MetaRef, Refs, Tags};
 use pbf_dense::dense_info::{CHANGESET, TIMESTAMP, UID, USER_SID, VERSION, VISIBLE};
 use pbf_strings::TableOut;
 use pbf_wire::{
-    ColumnOut, DeltaOut, put_column, put_int64, put_number, put_unless_empty, sign_extended,
+    ColumnOut, DeltaOut, put_column, put_if_some, put_int64, put_number, put_unless_empty,
+    sign_extended,
 };
 use std::alloc::AllocError;
 use std::hash::BuildHasher;
@@ -131,54 +131,7 @@ pub(crate) fn put_roles<S: BuildHasher>(
     Ok(())
 }
 
-/// A number of 32 bits as one of 64.
-fn wide(number: Option<i32>) -> Option<i64>
-    ensures { result ≡ number }
-{
-    match number {
-        Some(number) => Some(i64::from(number)),
-        None => None,
-    }
-}
-
-/// Appends a number of 32 bits in two's complement, if there is one.
-fn put_int32(out: &mut Vec<u8>, number: u64, value: Option<i32>) -> Result<(), AllocError>
-    requires { number < 2 ^ 29 }
-    ensures { OnOk result (out.new.items
-        ≡ out.old.items ++ slot_bytes (Scalar number (option_map sign_extended value))) }
-{
-    put_int64(out, number, wide(value))?;
-    Ok(())
-}
-
-/// Appends the index of a text, if there is one.
-fn put_index(out: &mut Vec<u8>, number: u64, index: Option<u32>) -> Result<(), AllocError>
-    requires { number < 2 ^ 29 }
-    ensures { OnOk result (out.new.items ≡ out.old.items ++ slot_bytes (Scalar number index)) }
-{
-    match index {
-        Some(index) => put_number(out, number, u64::from(index))?,
-        None => {}
-    }
-    Ok(())
-}
-
-/// Appends 0 or 1, if there is a value.
-fn put_flag(out: &mut Vec<u8>, number: u64, flag: Option<bool>) -> Result<(), AllocError>
-    requires { number < 2 ^ 29 }
-    ensures { OnOk result
-        (out.new.items ≡ out.old.items ++ slot_bytes (Scalar number (option_map bit_of flag))) }
-{
-    match flag {
-        Some(true) => put_number(out, number, 1)?,
-        Some(false) => put_number(out, number, 0)?,
-        None => {}
-    }
-    Ok(())
-}
-
 /// Appends the fields of an Info, of which `user` is the index of the user's text.
-#[tactic(auto, using(crate::proofs::Parts::one_more, crate::proofs::Parts::last_slot), unfolding(crate::specs::WrittenEntity::info_message))]
 pub(crate) fn put_info(
     out: &mut Vec<u8>,
     meta: &MetaRef<'_>,
@@ -187,12 +140,12 @@ pub(crate) fn put_info(
     ensures { (texts : List (List ℕ)) → user ≡ option_map (index_in texts) (meta_of meta.now).user
         → OnOk result (out.new.items ≡ out.old.items ++ info_message texts (meta_of meta.now)) }
 {
-    put_int32(out, VERSION, meta.version)?;
+    put_int64(out, VERSION, meta.version.map(|version| i64::from(version)))?;
     put_int64(out, TIMESTAMP, meta.timestamp)?;
     put_int64(out, CHANGESET, meta.changeset)?;
-    put_int32(out, UID, meta.uid)?;
-    put_index(out, USER_SID, user)?;
-    put_flag(out, VISIBLE, meta.visible)?;
+    put_int64(out, UID, meta.uid.map(|uid| i64::from(uid)))?;
+    put_if_some(out, USER_SID, user.map(|user| u64::from(user)))?;
+    put_if_some(out, VISIBLE, meta.visible.map(|visible| u64::from(visible)))?;
     Ok(())
 }
 
