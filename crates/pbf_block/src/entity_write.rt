@@ -13,7 +13,7 @@ ghost use Rattle.osm_entity.specs.Views.{meta_of};
 ghost use Rattle.pbf_block.specs.WrittenEntity.{key_index, value_index, role_index, kind_number, info_message};
 
 use crate::entity::{ID, INFO, KEYS, VALS};
-use osm_entity::{Locations, MemberKind, Members, MetaRef, Refs, Tags};
+use osm_entity::{Locations, Members, MetaRef, Refs, Tags};
 use pbf_dense::dense_info::{CHANGESET, TIMESTAMP, UID, USER_SID, VERSION, VISIBLE};
 use pbf_strings::TableOut;
 use pbf_wire::{
@@ -80,53 +80,33 @@ pub(crate) fn put_locations(
     Ok(())
 }
 
-/// The number of a kind.
-fn kind_number(kind: MemberKind) -> u64
-    ensures { result ≡ kind_number kind }
-{
-    match kind {
-        MemberKind::Node => 0,
-        MemberKind::Way => 1,
-        MemberKind::Relation => 2,
-    }
-}
-
-/// Puts the ids and the kinds of members into two columns.
-pub(crate) fn put_members(
+/// Puts the indexes of the roles, the ids and the kinds of members into three columns.
+pub(crate) fn put_members<S: BuildHasher>(
+    roles: &mut ColumnOut,
     ids: &mut DeltaOut,
     kinds: &mut ColumnOut,
     members: Members<'_>,
-) -> Result<(), AllocError>
-    requires { AllByRecursion MemberFits (members_left members) }
-    ensures ids { OnOk result (ids.new ≡ map (λ m. m.id) (members_left members.entry)) }
-    ensures kinds { OnOk result
-        (kinds.new ≡ map (λ m. kind_number m.kind) (members_left members.entry)) }
-{
-    ids.clear();
-    kinds.clear();
-    for member in members {
-        ids.push(member.id)?;
-        kinds.push(kind_number(member.kind))?;
-    }
-    Ok(())
-}
-
-/// Puts the indexes of the roles into a column.
-pub(crate) fn put_roles<S: BuildHasher>(
-    roles: &mut ColumnOut,
-    members: Members<'_>,
     table: &mut TableOut<S>,
 ) -> Result<(), AllocError>
-    requires { length table.old + length (members_left members) ≤ 1048575 }
+    requires fits { AllByRecursion MemberFits (members_left members) }
+    requires room { length table.old + length (members_left members) ≤ 1048575 }
     ensures texts { OnOk result
         (table.new ≡ texts_after table.old (map (λ m. m.role) (members_left members.entry))) }
     ensures roles { (used : List (List ℕ))
         → OnOk result (roles.new
         ≡ map (role_index (texts_after table.new used)) (members_left members.entry)) }
+    ensures ids { OnOk result (ids.new ≡ map (λ m. m.id) (members_left members.entry)) }
+    ensures kinds { OnOk result
+        (kinds.new ≡ map (λ m. kind_number m.kind) (members_left members.entry)) }
 {
     roles.clear();
+    ids.clear();
+    kinds.clear();
     for member in members {
         roles.push(u64::from(table.index_of(member.role)?))?;
+        ids.push(member.id)?;
+        // The format numbers the kinds in their order.
+        kinds.push(member.kind as u64)?;
     }
     Ok(())
 }
