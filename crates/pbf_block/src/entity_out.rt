@@ -10,13 +10,16 @@ ghost use Rattle.osm_entity.specs.Sources.{tags_left};
 ghost use Rattle.osm_entity.specs.Views.{meta_of, way_of, relation_of};
 ghost use Rattle.pbf_block.specs.WrittenEntity.{entity_slots, way_message, relation_message, writer_length};
 
-use crate::entity_write::{put_head, put_info, put_locations, put_members, put_refs, put_tags};
+use crate::entity::{ID, INFO, KEYS, VALS};
+use crate::entity_write::{put_info, put_locations, put_members, put_refs, put_tags};
 use crate::group::{RELATIONS, WAYS};
 use crate::relation::{MEMIDS, ROLES_SID, TYPES};
 use crate::way::{REFS, WAY_LAT, WAY_LON};
 use osm_entity::{MetaRef, RelationRef, Tags, WayRef};
 use pbf_strings::TableOut;
-use pbf_wire::{ColumnOut, DeltaOut, put_bytes, put_column};
+use pbf_wire::{
+    ColumnOut, DeltaOut, put_bytes, put_column, put_number, put_unless_empty, sign_extended,
+};
 use std::alloc::{AllocError, Global};
 use std::hash::BuildHasher;
 
@@ -111,7 +114,10 @@ impl EntityOut {
         self.info.clear();
         put_info(&mut self.info, meta, user)?;
         self.message.clear();
-        put_head(&mut self.message, id, &self.keys, &self.values, &self.info)?;
+        put_number(&mut self.message, ID, sign_extended(id))?;
+        put_column(&mut self.message, KEYS, self.keys.bytes())?;
+        put_column(&mut self.message, VALS, self.values.bytes())?;
+        put_unless_empty(&mut self.message, INFO, &self.info)?;
         Ok(())
     }
 

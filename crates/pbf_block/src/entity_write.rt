@@ -1,10 +1,8 @@
 //! The parts that ways and relations are written of.
 
-ghost use Rattle.std.specs.Prelude.{◌≡◌, ◌++◌, ◌∷◌, [], ◌+◌, ◌≤◌, ◌^◌, ◌<◌, ℕ, List, OnOk, Some, length, map};
+ghost use Rattle.std.specs.Prelude.{◌≡◌, ◌++◌, ◌+◌, ◌≤◌, ℕ, List, OnOk, length, map};
 ghost use Rattle.std.specs.List.{AllByRecursion};
 ghost use Rattle.std.specs.Option.{option_map};
-ghost use Rattle.pbf_wire.specs.Message.{Scalar, Column, Each, slot_bytes, message, unless_empty};
-ghost use Rattle.pbf_wire.specs.Signed.{sign_extended};
 ghost use Rattle.pbf_strings.specs.TableOut.{texts_after, index_in};
 ghost use Rattle.osm_entity.specs.EntityTexts.{tag_texts};
 ghost use Rattle.osm_entity.specs.Ranges.{IsStored, LocationFits, MemberFits};
@@ -12,14 +10,10 @@ ghost use Rattle.osm_entity.specs.Sources.{tags_left, refs_left, locations_left,
 ghost use Rattle.osm_entity.specs.Views.{meta_of};
 ghost use Rattle.pbf_block.specs.WrittenEntity.{key_index, value_index, role_index, kind_number, info_message};
 
-use crate::entity::{ID, INFO, KEYS, VALS};
 use osm_entity::{Locations, Members, MetaRef, Refs, Tags};
 use pbf_dense::dense_info::{CHANGESET, TIMESTAMP, UID, USER_SID, VERSION, VISIBLE};
 use pbf_strings::TableOut;
-use pbf_wire::{
-    ColumnOut, DeltaOut, put_column, put_if_some, put_int64, put_number, put_unless_empty,
-    sign_extended,
-};
+use pbf_wire::{ColumnOut, DeltaOut, put_if_some, put_int64};
 use std::alloc::AllocError;
 use std::hash::BuildHasher;
 
@@ -126,25 +120,5 @@ pub(crate) fn put_info(
     put_int64(out, UID, meta.uid.map(|uid| i64::from(uid)))?;
     put_if_some(out, USER_SID, user.map(|user| u64::from(user)))?;
     put_if_some(out, VISIBLE, meta.visible.map(|visible| u64::from(visible)))?;
-    Ok(())
-}
-
-/// Appends the fields that ways and relations have alike: the id, the columns of keys and values, and the Info.
-#[tactic(auto, using(crate::proofs::Parts::one_more, crate::proofs::Parts::last_slot, crate::proofs::WritingLemmas::same))]
-pub(crate) fn put_head(
-    out: &mut Vec<u8>,
-    id: i64,
-    keys: &ColumnOut,
-    values: &ColumnOut,
-    info: &[u8],
-) -> Result<(), AllocError>
-    ensures { OnOk result (out.new.items
-        ≡ out.old.items ++ message (Scalar ID (Some (sign_extended id)) ∷ Column KEYS keys.now
-        ∷ Column VALS values.now ∷ Each INFO (unless_empty info.now) ∷ [])) }
-{
-    put_number(out, ID, sign_extended(id))?;
-    put_column(out, KEYS, keys.bytes())?;
-    put_column(out, VALS, values.bytes())?;
-    put_unless_empty(out, INFO, info)?;
     Ok(())
 }
