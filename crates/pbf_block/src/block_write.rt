@@ -11,7 +11,7 @@ use crate::primitive_block::{
 };
 use crate::scale::DEFAULT_SCALE;
 use osm_entity::Scale;
-use pbf_wire::{put_bytes, put_number, put_unless_empty, sign_extended};
+use pbf_wire::{put_bytes, put_int64, put_unless_empty};
 use std::alloc::AllocError;
 
 /// The most entities that a block has. Together they weigh no more than one entity may.
@@ -28,9 +28,7 @@ fn put_unless_default(
     ensures { OnOk result (out.new.items
         ≡ out.old.items ++ slot_bytes (Scalar number (unless_default default value))) }
 {
-    if value != default {
-        put_number(out, number, sign_extended(value))?;
-    }
+    put_int64(out, number, (value != default).then_some(value))?;
     Ok(())
 }
 
