@@ -28,8 +28,7 @@ fn put_unless_default(
     ensures { OnOk result (out.new.items
         ≡ out.old.items ++ slot_bytes (Scalar number (unless_default default value))) }
 {
-    put_int64(out, number, (value != default).then_some(value))?;
-    Ok(())
+    put_int64(out, number, (value != default).then_some(value))
 }
 
 /// Appends the message of dense nodes to a group, if there are nodes in it.
@@ -37,8 +36,7 @@ pub fn put_dense(group: &mut Vec<u8>, dense: &[u8]) -> Result<(), AllocError>
     ensures { OnOk result
         (group.new.items ≡ group.old.items ++ slot_bytes (Each DENSE (unless_empty dense.now))) }
 {
-    put_unless_empty(group, DENSE, dense)?;
-    Ok(())
+    put_unless_empty(group, DENSE, dense)
 }
 
 /// Appends a PrimitiveBlock: the message of its string table, one group with these bytes, and those numbers of the scale that

@@ -42,8 +42,7 @@ pub fn put_int64(out: &mut Vec<u8>, number: u64, value: Option<i64>) -> Result<(
     ensures { OnOk result (out.new.items
         ≡ out.old.items ++ slot_bytes (Scalar number (option_map sign_extended value))) }
 {
-    put_if_some(out, number, value.map(|value| sign_extended(value)))?;
-    Ok(())
+    put_if_some(out, number, value.map(|value| sign_extended(value)))
 }
 
 /// Appends a field that holds a text or an embedded message (wire type 2).
@@ -77,6 +76,5 @@ pub fn put_column(out: &mut Vec<u8>, number: u64, column: &[u8]) -> Result<(), A
     ensures { (values : List ℕ) → column.now ≡ packed values
         → OnOk result (out.new.items ≡ out.old.items ++ slot_bytes (Column number values)) }
 {
-    put_unless_empty(out, number, column)?;
-    Ok(())
+    put_unless_empty(out, number, column)
 }
