@@ -11,7 +11,7 @@ use crate::primitive_block::{
 };
 use crate::scale::DEFAULT_SCALE;
 use osm_entity::Scale;
-use pbf_wire::{put_bytes, put_number, put_unless_empty, sign_extended};
+use pbf_wire::{put_bytes, put_int64, put_unless_empty};
 use std::alloc::AllocError;
 
 /// The most entities that a block has. Together they weigh no more than one entity may.
@@ -28,10 +28,7 @@ fn put_unless_default(
     ensures { OnOk result (out.new.items
         ≡ out.old.items ++ slot_bytes (Scalar number (unless_default default value))) }
 {
-    if value != default {
-        put_number(out, number, sign_extended(value))?;
-    }
-    Ok(())
+    put_int64(out, number, (value != default).then_some(value))
 }
 
 /// Appends the message of dense nodes to a group, if there are nodes in it.
@@ -39,8 +36,7 @@ pub fn put_dense(group: &mut Vec<u8>, dense: &[u8]) -> Result<(), AllocError>
     ensures { OnOk result
         (group.new.items ≡ group.old.items ++ slot_bytes (Each DENSE (unless_empty dense.now))) }
 {
-    put_unless_empty(group, DENSE, dense)?;
-    Ok(())
+    put_unless_empty(group, DENSE, dense)
 }
 
 /// Appends a PrimitiveBlock: the message of its string table, one group with these bytes, and those numbers of the scale that

@@ -85,20 +85,14 @@ impl<'a> EntityFields<'a> {
     pub(crate) fn signed_id(&self) -> i64
         ensures { (os : List Occurrence) → AreFields self.now os → result ≡ number_or (pos 0) unzigzag ID os }
     {
-        match self.id {
-            Some(number) => unzigzag(number),
-            None => 0,
-        }
+        unzigzag(self.id.unwrap_or(0))
     }
 
     /// The id as an `int64`, which it is of a way or a relation, and 0 where it is absent.
     pub(crate) fn wide_id(&self) -> i64
         ensures { (os : List Occurrence) → AreFields self.now os → result ≡ number_or (pos 0) low_i64 ID os }
     {
-        match self.id {
-            Some(number) => low_i64(number),
-            None => 0,
-        }
+        low_i64(self.id.unwrap_or(0))
     }
 
     /// The metadata.
@@ -143,8 +137,5 @@ pub(crate) fn last_signed(fields: Fields<'_>, number: u64) -> i64
     ensures { (os : List Occurrence) → only_left number fields.entry ≡ only number os
         → result ≡ number_or (pos 0) unzigzag number os }
 {
-    match last_number_left(fields, number) {
-        Some(value) => unzigzag(value),
-        None => 0,
-    }
+    unzigzag(last_number_left(fields, number).unwrap_or(0))
 }

@@ -10,15 +10,16 @@ ghost use Rattle.osm_entity.specs.Sources.{tags_left};
 ghost use Rattle.osm_entity.specs.Views.{meta_of, way_of, relation_of};
 ghost use Rattle.pbf_block.specs.WrittenEntity.{entity_slots, way_message, relation_message, writer_length};
 
-use crate::entity_write::{
-    put_head, put_info, put_locations, put_members, put_refs, put_roles, put_tags,
-};
+use crate::entity::{ID, INFO, KEYS, VALS};
+use crate::entity_write::{put_info, put_locations, put_members, put_refs, put_tags};
 use crate::group::{RELATIONS, WAYS};
 use crate::relation::{MEMIDS, ROLES_SID, TYPES};
 use crate::way::{REFS, WAY_LAT, WAY_LON};
 use osm_entity::{MetaRef, RelationRef, Tags, WayRef};
 use pbf_strings::TableOut;
-use pbf_wire::{ColumnOut, DeltaOut, put_bytes, put_column};
+use pbf_wire::{
+    ColumnOut, DeltaOut, put_bytes, put_column, put_number, put_unless_empty, sign_extended,
+};
 use std::alloc::{AllocError, Global};
 use std::hash::BuildHasher;
 
@@ -113,54 +114,10 @@ impl EntityOut {
         self.info.clear();
         put_info(&mut self.info, meta, user)?;
         self.message.clear();
-        put_head(&mut self.message, id, &self.keys, &self.values, &self.info)?;
-        Ok(())
-    }
-
-    /// Makes the message of a way.
-    fn make_way<S: BuildHasher>(
-        &mut self,
-        way: &WayRef<'_>,
-        table: &mut TableOut<S>,
-    ) -> Result<(), AllocError>
-        requires fits { WayFits (way_of way.now) }
-        requires room { length table.old + length (way_texts (way_of way.now)) ≤ 1048575 }
-        ensures texts { OnOk result
-            (table.new ≡ texts_after table.old (way_texts (way_of way.now))) }
-        ensures made { (used : List (List ℕ))
-            → OnOk result (self.new.message.items
-            ≡ way_message (texts_after table.new used) (way_of way.now)) }
-    {
-        self.begin(way.id(), &way.meta(), way.tags(), table)?;
-        put_refs(&mut self.refs, way.refs())?;
-        put_locations(&mut self.lats, &mut self.lons, way.locations())?;
-        put_column(&mut self.message, REFS, self.refs.bytes())?;
-        put_column(&mut self.message, WAY_LAT, self.lats.bytes())?;
-        put_column(&mut self.message, WAY_LON, self.lons.bytes())?;
-        Ok(())
-    }
-
-    /// Makes the message of a relation.
-    fn make_relation<S: BuildHasher>(
-        &mut self,
-        relation: &RelationRef<'_>,
-        table: &mut TableOut<S>,
-    ) -> Result<(), AllocError>
-        requires fits { RelationFits (relation_of relation.now) }
-        requires room { length table.old + length (relation_texts (relation_of relation.now))
-            ≤ 1048575 }
-        ensures texts { OnOk result
-            (table.new ≡ texts_after table.old (relation_texts (relation_of relation.now))) }
-        ensures made { (used : List (List ℕ))
-            → OnOk result (self.new.message.items
-            ≡ relation_message (texts_after table.new used) (relation_of relation.now)) }
-    {
-        self.begin(relation.id(), &relation.meta(), relation.tags(), table)?;
-        put_roles(&mut self.roles, relation.members(), table)?;
-        put_members(&mut self.members, &mut self.kinds, relation.members())?;
-        put_column(&mut self.message, ROLES_SID, self.roles.bytes())?;
-        put_column(&mut self.message, MEMIDS, self.members.bytes())?;
-        put_column(&mut self.message, TYPES, self.kinds.bytes())?;
+        put_number(&mut self.message, ID, sign_extended(id))?;
+        put_column(&mut self.message, KEYS, self.keys.bytes())?;
+        put_column(&mut self.message, VALS, self.values.bytes())?;
+        put_unless_empty(&mut self.message, INFO, &self.info)?;
         Ok(())
     }
 
@@ -196,7 +153,12 @@ impl EntityOut {
             (way_message (texts_after table.new used) (way_of way.now) ∷ []))) }
         ensures empty { OnOk result (writer_length self.new ≡ 0) }
     {
-        self.make_way(way, table)?;
+        self.begin(way.id(), &way.meta(), way.tags(), table)?;
+        put_refs(&mut self.refs, way.refs())?;
+        put_locations(&mut self.lats, &mut self.lons, way.locations())?;
+        put_column(&mut self.message, REFS, self.refs.bytes())?;
+        put_column(&mut self.message, WAY_LAT, self.lats.bytes())?;
+        put_column(&mut self.message, WAY_LON, self.lons.bytes())?;
         self.put_message(group, WAYS)?;
         Ok(())
     }
@@ -220,7 +182,17 @@ impl EntityOut {
             (relation_message (texts_after table.new used) (relation_of relation.now) ∷ []))) }
         ensures empty { OnOk result (writer_length self.new ≡ 0) }
     {
-        self.make_relation(relation, table)?;
+        self.begin(relation.id(), &relation.meta(), relation.tags(), table)?;
+        put_members(
+            &mut self.roles,
+            &mut self.members,
+            &mut self.kinds,
+            relation.members(),
+            table,
+        )?;
+        put_column(&mut self.message, ROLES_SID, self.roles.bytes())?;
+        put_column(&mut self.message, MEMIDS, self.members.bytes())?;
+        put_column(&mut self.message, TYPES, self.kinds.bytes())?;
         self.put_message(group, RELATIONS)?;
         Ok(())
     }

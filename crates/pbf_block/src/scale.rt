@@ -22,22 +22,13 @@ pub(crate) fn scale_in(payload: &[u8], at: u64) -> Scale
     requires { at + length payload.now ≤ 2 ^ 63 }
     ensures { result ≡ scale_of (fields_in at payload.now) }
 {
+    let last = |number| last_number(payload, at, number);
+    let last_i32 = |number, default| last(number).map_or(default, |last| low_i32(last));
+    let last_i64 = |number, default| last(number).map_or(default, |last| low_i64(last));
     Scale {
-        granularity: match last_number(payload, at, GRANULARITY) {
-            Some(number) => low_i32(number),
-            None => DEFAULT_SCALE.granularity,
-        },
-        date_granularity: match last_number(payload, at, DATE_GRANULARITY) {
-            Some(number) => low_i32(number),
-            None => DEFAULT_SCALE.date_granularity,
-        },
-        lat_offset: match last_number(payload, at, LAT_OFFSET) {
-            Some(number) => low_i64(number),
-            None => DEFAULT_SCALE.lat_offset,
-        },
-        lon_offset: match last_number(payload, at, LON_OFFSET) {
-            Some(number) => low_i64(number),
-            None => DEFAULT_SCALE.lon_offset,
-        },
+        granularity: last_i32(GRANULARITY, DEFAULT_SCALE.granularity),
+        date_granularity: last_i32(DATE_GRANULARITY, DEFAULT_SCALE.date_granularity),
+        lat_offset: last_i64(LAT_OFFSET, DEFAULT_SCALE.lat_offset),
+        lon_offset: last_i64(LON_OFFSET, DEFAULT_SCALE.lon_offset),
     }
 }

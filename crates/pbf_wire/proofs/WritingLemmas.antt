@@ -39,17 +39,15 @@ unfolding slot_bytes
 column_empty number [] e = refl
 column_empty number (v ∷ vs) e = absurd (omega (arith, length-append (shortest v) (packed vs), shortest_positive v))
 
-pub column_bytes : (number : ℕ) (values : List ℕ) → 0 < length (packed values) → slot_bytes (Column number values) ≡ slot_bytes (Each number (packed values ∷ []))
+whole : (bytes : List ℕ) → 0 < length bytes → unless_empty bytes ≡ bytes ∷ []
+whole [] h = absurd (omega arith)
+whole (b ∷ bs) h = refl
+
+-- a column is written as a message that is left out where it is empty
+pub column_put : (number : ℕ) (values : List ℕ) → slot_bytes (Each number (unless_empty (packed values))) ≡ slot_bytes (Column number values)
 unfolding slot_bytes
-column_bytes number [] h = absurd (omega arith)
-column_bytes number (v ∷ vs) h = refl
-
-pub one_column : (number : ℕ) (old new column values : List ℕ) → column ≡ packed values → 0 < length column → new ≡ old ++ slot_bytes (Each number (column ∷ [])) → new ≡ old ++ slot_bytes (Column number values)
-one_column number old new column values e h is =
-    is ∙ ap (λ (w : List ℕ). old ++ w) (ap (λ (c : List ℕ). slot_bytes (Each number (c ∷ []))) e ∙ sym (column_bytes number values (omega (arith, ap (λ (c : List ℕ). length c) e))))
-
-pub no_column : (number : ℕ) (old column values : List ℕ) → column ≡ packed values → length column ≡ 0 → old ≡ old ++ slot_bytes (Column number values)
-no_column number old column values e h = sym (ap (λ (w : List ℕ). old ++ w) (column_empty number values (sym (ap (λ (c : List ℕ). length c) e) ∙ h)) ∙ append-nil old)
+column_put number [] = refl
+column_put number (v ∷ vs) = rw (whole (packed (v ∷ vs)) (omega (arith, length-append (shortest v) (packed vs), shortest_positive v))) refl
 
 -- ---- for those who write a whole message
 

@@ -49,4 +49,4 @@ pub use values::{
     judge_sums_left,
 };
 pub use varint::{get_varint, put_varint, shortest_spelling, varint_len};
-pub use writing::{put_bytes, put_column, put_int64, put_number, put_unless_empty};
+pub use writing::{put_bytes, put_column, put_if_some, put_int64, put_number, put_unless_empty};

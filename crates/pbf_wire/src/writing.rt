@@ -24,17 +24,25 @@ pub fn put_number(out: &mut Vec<u8>, number: u64, value: u64) -> Result<(), Allo
     Ok(())
 }
 
+/// Appends a field that holds a number (wire type 0), if there is one.
+#[tactic(auto, using(crate::proofs::WritingLemmas::nothing_put, crate::proofs::WritingLemmas::scalar_none))]
+pub fn put_if_some(out: &mut Vec<u8>, number: u64, value: Option<u64>) -> Result<(), AllocError>
+    requires { number < 2 ^ 29 }
+    ensures { OnOk result (out.new.items ≡ out.old.items ++ slot_bytes (Scalar number value)) }
+{
+    if let Some(value) = value {
+        put_number(out, number, value)?;
+    }
+    Ok(())
+}
+
 /// Appends a field that holds a number in two's complement (wire type 0), if there is one.
 pub fn put_int64(out: &mut Vec<u8>, number: u64, value: Option<i64>) -> Result<(), AllocError>
     requires { number < 2 ^ 29 }
     ensures { OnOk result (out.new.items
         ≡ out.old.items ++ slot_bytes (Scalar number (option_map sign_extended value))) }
 {
-    match value {
-        Some(value) => put_number(out, number, sign_extended(value))?,
-        None => {}
-    }
-    Ok(())
+    put_if_some(out, number, value.map(|value| sign_extended(value)))
 }
 
 /// Appends a field that holds a text or an embedded message (wire type 2).
@@ -49,18 +57,6 @@ pub fn put_bytes(out: &mut Vec<u8>, number: u64, bytes: &[u8]) -> Result<(), All
     Ok(())
 }
 
-/// Appends a packed column, as `ColumnOut::bytes` and `DeltaOut::bytes` give it; nothing where it is empty.
-pub fn put_column(out: &mut Vec<u8>, number: u64, column: &[u8]) -> Result<(), AllocError>
-    requires { number < 2 ^ 29 }
-    ensures { (values : List ℕ) → column.now ≡ packed values
-        → OnOk result (out.new.items ≡ out.old.items ++ slot_bytes (Column number values)) }
-{
-    if !column.is_empty() {
-        put_bytes(out, number, column)?;
-    }
-    Ok(())
-}
-
 /// Appends a field that holds an embedded message, unless that has no field.
 pub fn put_unless_empty(out: &mut Vec<u8>, number: u64, message: &[u8]) -> Result<(), AllocError>
     requires { number < 2 ^ 29 }
@@ -71,4 +67,14 @@ pub fn put_unless_empty(out: &mut Vec<u8>, number: u64, message: &[u8]) -> Resul
         put_bytes(out, number, message)?;
     }
     Ok(())
+}
+
+/// Appends a packed column, as `ColumnOut::bytes` and `DeltaOut::bytes` give it; nothing where it is empty.
+#[tactic(auto, using(crate::proofs::WritingLemmas::column_put))]
+pub fn put_column(out: &mut Vec<u8>, number: u64, column: &[u8]) -> Result<(), AllocError>
+    requires { number < 2 ^ 29 }
+    ensures { (values : List ℕ) → column.now ≡ packed values
+        → OnOk result (out.new.items ≡ out.old.items ++ slot_bytes (Column number values)) }
+{
+    put_unless_empty(out, number, column)
 }

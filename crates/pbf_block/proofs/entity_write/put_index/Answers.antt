@@ -1,5 +1,0 @@
-use Rattle.pbf_wire.proofs.WritingLemmas.{nothing_put, scalar_none}
-use Rattle.pbf_block.proofs.entity_write.put_index.Goals as goal
-
-pub returns-in-None : goal.returns-in-None
-returns-in-None c = rw c.in-None.is (nothing_put _ _ (scalar_none _))
