@@ -5,7 +5,7 @@ ghost use Rattle.std.specs.List.{AllByRecursion, filter};
 ghost use Rattle.std.specs.Option.{option_or, option_map};
 ghost use Rattle.pbf_wire.specs.declared.fault.Fault.{Fault};
 ghost use Rattle.pbf_wire.specs.declared.fault.ReadFault.TheVariants.{Refused};
-ghost use Rattle.pbf_wire.specs.Faults.{fields_in};
+ghost use Rattle.pbf_wire.specs.Faults.{fields_in, found_in};
 ghost use Rattle.pbf_wire.specs.Least.{least};
 ghost use Rattle.pbf_wire.specs.Reading.{occurrence_text};
 ghost use Rattle.osm_entity.specs.Ranges.{EntityFits};
@@ -27,20 +27,20 @@ use crate::scale::scale_in;
 use crate::unjudged::UnjudgedBlock;
 use osm_entity::Scale;
 use pbf_strings::Table;
-use pbf_wire::{Fault, Field, ReadFault, last_field};
+use pbf_wire::{Fault, Field, Message, ReadFault, last_field};
 use std::alloc::{AllocError, Global};
 use std::marker::Model;
 
 /// The first fault of the phases that need no table: of the wire form, or else of structure.
-fn early_fault(payload: &[u8], at: u64) -> Option<Fault>
-    requires { at + length payload.now ≤ 2 ^ 63 }
+fn early_fault(payload: Message<'_>) -> Option<Fault>
     ensures { result
-        ≡ option_or (least (wire_faults at payload.now)) (least (structure_faults at payload.now)) }
+        ≡ option_or (least (wire_faults payload.entry.at payload.entry.bytes.now))
+        (least (structure_faults payload.entry.at payload.entry.bytes.now)) }
 {
-    if let Some(fault) = judge_wire(payload, at) {
+    if let Some(fault) = judge_wire(payload) {
         return Some(fault);
     }
-    judge_structure(payload, at)
+    judge_structure(payload)
 }
 
 /// The bytes of a field; none where the field is absent.
@@ -54,30 +54,29 @@ pub(crate) fn bytes_in(field: Option<Field<'_>>) -> &[u8]
 }
 
 /// The texts of a payload that has no fault of structure: its table is judged already.
-fn read_table<'a>(alloc: Global, payload: &'a [u8], at: u64) -> Result<Table<'a>, AllocError>
-    requires placed { at + length payload.now ≤ 2 ^ 63 }
-    requires short { length payload.now < 33554432 }
-    requires structure { structure_faults at payload.now ≡ [] }
-    ensures { IfOk result (λ table. table ≡ table_of (fields_in at payload.now)) }
+fn read_table<'a>(alloc: Global, payload: Message<'a>) -> Result<Table<'a>, AllocError>
+    requires short { length payload.bytes.now < 33554432 }
+    requires structure { structure_faults payload.at payload.bytes.now ≡ [] }
+    ensures { IfOk result (λ table. table ≡ table_of (found_in payload.entry)) }
 {
-    Table::open(alloc, bytes_in(last_field(payload, at, STRINGTABLE)))
+    Table::open(alloc, bytes_in(last_field(payload, STRINGTABLE)))
 }
 
 /// The first fault of the phases that look at texts: of values, or else of weights.
-fn late_fault<'a>(payload: &'a [u8], at: u64, table: &'a Table<'a>, scale: Scale) -> Option<Fault>
-    requires placed { at + length payload.now ≤ 2 ^ 63 }
-    requires texts { table.now ≡ table_of (fields_in at payload.now) }
-    requires scale { scale ≡ scale_of (fields_in at payload.now) }
-    requires wire { wire_faults at payload.now ≡ [] }
-    requires structure { structure_faults at payload.now ≡ [] }
+fn late_fault<'a>(payload: Message<'a>, table: &'a Table<'a>, scale: Scale) -> Option<Fault>
+    requires texts { table.now ≡ table_of (found_in payload) }
+    requires scale { scale ≡ scale_of (found_in payload) }
+    requires wire { wire_faults payload.at payload.bytes.now ≡ [] }
+    requires structure { structure_faults payload.at payload.bytes.now ≡ [] }
     ensures { result ≡ option_or
-        (least (value_faults (length (table_of (fields_in at payload.now))) at payload.now))
-        (least (payload_weights at payload.now)) }
+        (least (value_faults (length (table_of (found_in payload.entry)))
+        payload.entry.at payload.entry.bytes.now))
+        (least (payload_weights payload.entry.at payload.entry.bytes.now)) }
 {
-    if let Some(fault) = judge_values(payload, at, table.len() as u64) {
+    if let Some(fault) = judge_values(payload, table.len() as u64) {
         return Some(fault);
     }
-    judge_weights(payload, at, table, scale)
+    judge_weights(payload, table, scale)
 }
 
 /// A PrimitiveBlock without a fault. It borrows the payload, and holds the place of each text of its string table. Contracts see it as
@@ -114,12 +113,13 @@ impl<'a> Block<'a> {
         ensures refused { (fault : Fault) → result ≡ Err (Refused fault)
             → block_fault at payload.now ≡ Some fault }
     {
-        if let Some(fault) = early_fault(payload, at) {
+        let message = Message { bytes: payload, at };
+        if let Some(fault) = early_fault(message) {
             return Err(ReadFault::Refused(fault));
         }
-        let table = read_table(alloc, payload, at)?;
-        let scale = scale_in(payload, at);
-        if let Some(fault) = late_fault(payload, at, &table, scale) {
+        let table = read_table(alloc, message)?;
+        let scale = scale_in(message);
+        if let Some(fault) = late_fault(message, &table, scale) {
             return Err(ReadFault::Refused(fault));
         }
         Ok(Block {

@@ -1,9 +1,9 @@
 //! How many entities there are.
 
-ghost use Rattle.std.specs.Prelude.{◌≡◌, ◌+◌, ◌≤◌, ◌^◌, [], ℕ, List, length};
+ghost use Rattle.std.specs.Prelude.{◌≡◌, [], ℕ, List};
 ghost use Rattle.std.specs.List.{flat_map};
 ghost use Rattle.pbf_wire.specs.Fields.{occurrence};
-ghost use Rattle.pbf_wire.specs.Faults.{fields_in};
+ghost use Rattle.pbf_wire.specs.Faults.{found_in};
 ghost use Rattle.osm_entity.specs.declared.scale.Scale.{Scale};
 ghost use Rattle.osm_entity.specs.Views.{entity_of};
 ghost use Rattle.pbf_block.specs.Group.{in_group, member_entities};
@@ -14,7 +14,7 @@ use crate::members::Members;
 use crate::primitive_block::PRIMITIVEGROUP;
 use osm_entity::EntityRef;
 use pbf_dense::Dense;
-use pbf_wire::{Field, Payload};
+use pbf_wire::{Field, Message, Payload};
 
 /// The numbers of nodes, ways and relations, each the greatest `u64` where there are more.
 #[derive(Clone, Copy, Debug, PartialEq, Eq)]
@@ -63,10 +63,10 @@ fn count_member(field: Field<'_>) -> Counts
         → result ≡ counts_of (member_entities by_ends table scale (occurrence field.entry)) }
 {
     let mut counts = Counts::none();
-    if let Payload::Bytes(message, at) = field.payload {
+    if let Payload::Bytes(bytes, at) = field.payload {
         match field.number {
             NODES => counts.nodes = 1,
-            DENSE => counts.nodes = Dense::count(message, at) as u64,
+            DENSE => counts.nodes = Dense::count(Message { bytes, at }) as u64,
             WAYS => counts.ways = 1,
             RELATIONS => counts.relations = 1,
             _ => {}
@@ -78,14 +78,13 @@ fn count_member(field: Field<'_>) -> Counts
 /// Counts the entities of a payload whose first byte stands at `at` in the file, as they are where it has no wire fault. No entity
 /// is made.
 #[tactic(auto, using(crate::proofs::NumberLemmas::counts_more, crate::proofs::NumberLemmas::counts_nothing))]
-pub(crate) fn count_entities(payload: &[u8], at: u64) -> Counts
-    requires { at + length payload.now ≤ 2 ^ 63 }
+pub(crate) fn count_entities(payload: Message<'_>) -> Counts
     ensures { (table : List (List ℕ)) (scale : Scale)
         → result ≡ counts_of
-        (flat_map (in_group (member_entities by_ends table scale)) (fields_in at payload.now)) }
+        (flat_map (in_group (member_entities by_ends table scale)) (found_in payload.entry)) }
 {
     let mut counts = Counts::none();
-    for field in Members::over(payload, at) {
+    for field in Members::over(payload) {
         counts.add(count_member(field));
     }
     counts

@@ -3,7 +3,7 @@
 ghost use Rattle.std.specs.Prelude.{◌≡◌, ◌+◌, ◌*◌, ◌≤◌, ◌^◌, ℕ, List, [], IsTrue, length};
 ghost use Rattle.pbf_wire.specs.Least.{least};
 ghost use Rattle.pbf_wire.specs.Fields.{occurrence};
-ghost use Rattle.pbf_wire.specs.Faults.{fields_in};
+ghost use Rattle.pbf_wire.specs.Faults.{found_in};
 ghost use Rattle.pbf_strings.specs.Texts.{longest as longest_of};
 ghost use Rattle.osm_entity.specs.Views.{entity_of};
 ghost use Rattle.pbf_block.specs.Group.{member_wire, is_member, first_member, is_other, entities_structure, member_structure, group_structure, member_values, weight_fault, member_weights};
@@ -20,7 +20,7 @@ use osm_entity::{EntityRef, HIGHEST_WEIGHT, Scale};
 use pbf_dense::{Dense, KEYS_VALS};
 use pbf_strings::Table;
 use pbf_wire::{
-    Fault, Field, Fields, Judge, Kind, Payload, Reason, column_count, fault_where, judge_fields,
+    Fault, Field, Judge, Kind, Message, Payload, Reason, column_count, fault_where, judge_fields,
     judge_nested, judge_twice, lesser,
 };
 
@@ -53,14 +53,15 @@ impl Judge for MemberForm {
     ghost faults = { λ _. member_wire };
 
     fn judge(&self, field: Field<'_>) -> Option<Fault> {
-        let Payload::Bytes(message, at) = field.payload else {
+        let Payload::Bytes(bytes, at) = field.payload else {
             return None;
         };
+        let message = Message { bytes, at };
         match field.number {
-            NODES => judge_nested(message, at, &NODE_KINDS, INFO, &INFO_KINDS),
-            DENSE => Dense::judge_wire(message, at),
-            WAYS => judge_nested(message, at, &WAY_KINDS, INFO, &INFO_KINDS),
-            RELATIONS => judge_nested(message, at, &RELATION_KINDS, INFO, &INFO_KINDS),
+            NODES => judge_nested(message, &NODE_KINDS, INFO, &INFO_KINDS),
+            DENSE => Dense::judge_wire(message),
+            WAYS => judge_nested(message, &WAY_KINDS, INFO, &INFO_KINDS),
+            RELATIONS => judge_nested(message, &RELATION_KINDS, INFO, &INFO_KINDS),
             _ => None,
         }
     }
@@ -76,11 +77,10 @@ fn is_member(number: u64) -> bool
 }
 
 /// The number of the first field that holds entities.
-fn first_member(message: &[u8], at: u64) -> Option<u64>
-    requires { at + length message.now ≤ 2 ^ 63 }
-    ensures { result ≡ first_member (fields_in at message.now) }
+fn first_member(message: Message<'_>) -> Option<u64>
+    ensures { result ≡ first_member (found_in message.entry) }
 {
-    let mut fields = Fields::new(message, at).found();
+    let mut fields = message.found();
     let first = fields.find(|field| is_member(field.number));
     first.map(|field| field.number)
 }
@@ -96,14 +96,15 @@ fn is_other(first: Option<u64>, number: u64) -> bool
 fn judge_entities(field: Field<'_>) -> Option<Fault>
     ensures { result ≡ least (entities_structure (occurrence field.entry)) }
 {
-    let Payload::Bytes(message, at) = field.payload else {
+    let Payload::Bytes(bytes, at) = field.payload else {
         return None;
     };
+    let message = Message { bytes, at };
     match field.number {
-        NODES => node::judge_structure(message, at, field.offset),
-        DENSE => Dense::judge_structure(message, at, field.offset),
-        WAYS => way::judge_structure(message, at, field.offset),
-        RELATIONS => relation::judge_structure(message, at, field.offset),
+        NODES => node::judge_structure(message, field.offset),
+        DENSE => Dense::judge_structure(message, field.offset),
+        WAYS => way::judge_structure(message, field.offset),
+        RELATIONS => relation::judge_structure(message, field.offset),
         _ => None,
     }
 }
@@ -131,17 +132,13 @@ impl Judge for MemberStructure {
 
 /// The least fault of structure of a group: a second dense message, entities of two kinds, changesets, and what its entities lack.
 #[tactic(auto, using(crate::proofs::Parts::lesser_parts))]
-pub(crate) fn judge_structure(message: &[u8], at: u64) -> Option<Fault>
-    requires { at + length message.now ≤ 2 ^ 63 }
-    ensures { result ≡ least (group_structure 0 at message.now) }
+pub(crate) fn judge_structure(message: Message<'_>) -> Option<Fault>
+    ensures { result ≡ least (group_structure 0 message.entry.at message.entry.bytes.now) }
 {
     let members = MemberStructure {
-        first: first_member(message, at),
+        first: first_member(message),
     };
-    lesser(
-        judge_twice(message, at, DENSE),
-        judge_fields(message, at, &members),
-    )
+    lesser(judge_twice(message, DENSE), judge_fields(message, &members))
 }
 
 // Values: those of the entities.
@@ -157,14 +154,15 @@ impl Judge for MemberValues {
     ghost faults = { λ members. member_values members.limit };
 
     fn judge(&self, field: Field<'_>) -> Option<Fault> {
-        let Payload::Bytes(message, at) = field.payload else {
+        let Payload::Bytes(bytes, at) = field.payload else {
             return None;
         };
+        let message = Message { bytes, at };
         match field.number {
-            NODES => node::judge_values(message, at, self.limit),
-            DENSE => Dense::judge_values(message, at, self.limit),
-            WAYS => way::judge_values(message, at, self.limit),
-            RELATIONS => relation::judge_values(message, at, self.limit),
+            NODES => node::judge_values(message, self.limit),
+            DENSE => Dense::judge_values(message, self.limit),
+            WAYS => way::judge_values(message, self.limit),
+            RELATIONS => relation::judge_values(message, self.limit),
             _ => None,
         }
     }
@@ -196,14 +194,15 @@ fn is_light(field: Field<'_>, longest: u64) -> bool
     ensures { (table : List (List ℕ)) (scale : Scale) → longest_of table ≤ longest → IsTrue result
         → member_weights along table scale (occurrence field.entry) ≡ [] }
 {
-    let Payload::Bytes(message, at) = field.payload else {
+    let Payload::Bytes(bytes, at) = field.payload else {
         return false;
     };
+    let message = Message { bytes, at };
     if field.number == DENSE {
-        let numbers = column_count(message, at, KEYS_VALS) as u64;
+        let numbers = column_count(message, KEYS_VALS) as u64;
         return are_light(numbers / 2, longest);
     }
-    let length = message.len() as u64;
+    let length = message.bytes.len() as u64;
     length <= HIGHEST_WEIGHT && are_light(3 * length, longest)
 }
 

@@ -1,7 +1,7 @@
 //! The fields of the groups of a PrimitiveBlock.
 
 use crate::primitive_block::PRIMITIVEGROUP;
-use pbf_wire::{Field, Fields, FoundFields, Payload};
+use pbf_wire::{Field, Fields, FoundFields, Message, Payload};
 
 /// The fields of a block's groups that are still to come, in order: an iterator over the payload, which takes no memory.
 #[derive(Clone, Copy)]
@@ -12,20 +12,19 @@ pub(crate) struct Members<'a> {
 }
 
 impl<'a> Members<'a> {
-    ghost use Rattle.std.specs.Prelude.{◌≡◌, ◌+◌, ◌≤◌, ◌^◌, length};
+    ghost use Rattle.std.specs.Prelude.{◌≡◌};
     ghost use Rattle.std.specs.List.{flat_map};
-    ghost use Rattle.pbf_wire.specs.Faults.{fields_in};
+    ghost use Rattle.pbf_wire.specs.Faults.{found_in};
     ghost use Rattle.pbf_block.specs.Runs.{group_members, members_left};
 
     /// The fields of all groups of a payload whose first byte stands at `at` in the file, whatever is wrong with it.
     #[tactic(auto, unfolding(crate::proofs::Parts::items_past))]
-    pub(crate) fn over(payload: &'a [u8], at: u64) -> Members<'a>
-        requires { at + length payload.now ≤ 2 ^ 63 }
-        ensures { members_left result ≡ flat_map group_members (fields_in at payload.now) }
+    pub(crate) fn over(payload: Message<'a>) -> Members<'a>
+        ensures { members_left result ≡ flat_map group_members (found_in payload.entry) }
     {
         Members {
             fields: Fields::new(&[], 0).found(),
-            groups: Fields::new(payload, at).found(),
+            groups: payload.found(),
         }
     }
 }
@@ -49,8 +48,8 @@ impl<'a> Iterator for Members<'a> {
             }
             let field = self.groups.next()?;
             if field.number == PRIMITIVEGROUP {
-                if let Payload::Bytes(message, at) = field.payload {
-                    self.fields = Fields::new(message, at).found();
+                if let Payload::Bytes(bytes, at) = field.payload {
+                    self.fields = Message { bytes, at }.found();
                 }
             }
         }

@@ -1,8 +1,8 @@
 //! A PrimitiveBlock: its fields, and its rules phase by phase.
 
-ghost use Rattle.std.specs.Prelude.{◌≡◌, ◌+◌, ◌≤◌, ◌^◌, length};
+ghost use Rattle.std.specs.Prelude.{◌≡◌, ◌≤◌, ◌^◌, length};
 ghost use Rattle.std.specs.List.{flat_map};
-ghost use Rattle.pbf_wire.specs.Faults.{fields_in};
+ghost use Rattle.pbf_wire.specs.Faults.{found_in};
 ghost use Rattle.pbf_wire.specs.Least.{least};
 ghost use Rattle.pbf_block.specs.Group.{member_weights, in_group};
 ghost use Rattle.pbf_block.specs.PrimitiveBlock.{along, part_wire, wire_faults, part_structure, structure_faults, value_faults};
@@ -12,7 +12,7 @@ use crate::ranges::{judge_positive, last_value_left};
 use osm_entity::Scale;
 use pbf_strings::{TABLE_KINDS, Table};
 use pbf_wire::{
-    EachField, Fault, Field, Fields, InField, Judge, Kind, Payload, Reason, judge_fields,
+    EachField, Fault, Field, InField, Judge, Kind, Message, Payload, Reason, judge_fields,
     judge_form, judge_leaf, judge_missing, judge_twice, lesser,
 };
 
@@ -46,12 +46,13 @@ impl Judge for PartForm {
     ghost faults = { λ _. part_wire };
 
     fn judge(&self, field: Field<'_>) -> Option<Fault> {
-        let Payload::Bytes(message, at) = field.payload else {
+        let Payload::Bytes(bytes, at) = field.payload else {
             return None;
         };
+        let message = Message { bytes, at };
         match field.number {
-            STRINGTABLE => judge_leaf(message, at, &TABLE_KINDS),
-            PRIMITIVEGROUP => judge_form(message, at, &GROUP_KINDS, &MemberForm),
+            STRINGTABLE => judge_leaf(message, &TABLE_KINDS),
+            PRIMITIVEGROUP => judge_form(message, &GROUP_KINDS, &MemberForm),
             _ => None,
         }
     }
@@ -59,11 +60,10 @@ impl Judge for PartForm {
 
 /// The least wire fault of a block whose first byte stands at `at` in the file, and of the messages in it.
 #[tactic(auto, unfolding(crate::specs::PrimitiveBlock::wire_faults))]
-pub(crate) fn judge_wire(payload: &[u8], at: u64) -> Option<Fault>
-    requires { at + length payload.now ≤ 2 ^ 63 }
-    ensures { result ≡ least (wire_faults at payload.now) }
+pub(crate) fn judge_wire(payload: Message<'_>) -> Option<Fault>
+    ensures { result ≡ least (wire_faults payload.entry.at payload.entry.bytes.now) }
 {
-    judge_form(payload, at, &BLOCK_KINDS, &PartForm)
+    judge_form(payload, &BLOCK_KINDS, &PartForm)
 }
 
 /// The structure of the table or the group that a field of a block holds.
@@ -74,12 +74,13 @@ impl Judge for PartStructure {
     ghost faults = { λ _. part_structure };
 
     fn judge(&self, field: Field<'_>) -> Option<Fault> {
-        let Payload::Bytes(message, at) = field.payload else {
+        let Payload::Bytes(bytes, at) = field.payload else {
             return None;
         };
+        let message = Message { bytes, at };
         match field.number {
-            STRINGTABLE => Table::judge_count(message, field.offset).err(),
-            PRIMITIVEGROUP => group::judge_structure(message, at),
+            STRINGTABLE => Table::judge_count(bytes, field.offset).err(),
+            PRIMITIVEGROUP => group::judge_structure(message),
             _ => None,
         }
     }
@@ -87,26 +88,24 @@ impl Judge for PartStructure {
 
 /// The least fault of structure of a block whose first byte stands at `at` in the file, and of the messages in it.
 #[tactic(auto, using(crate::proofs::Parts::lesser_parts), unfolding(crate::specs::PrimitiveBlock::structure_faults))]
-pub(crate) fn judge_structure(payload: &[u8], at: u64) -> Option<Fault>
-    requires { at + length payload.now ≤ 2 ^ 63 }
-    ensures { result ≡ least (structure_faults at payload.now) }
+pub(crate) fn judge_structure(payload: Message<'_>) -> Option<Fault>
+    ensures { result ≡ least (structure_faults payload.entry.at payload.entry.bytes.now) }
 {
     let table = lesser(
-        judge_missing(payload, at, at, STRINGTABLE),
-        judge_twice(payload, at, STRINGTABLE),
+        judge_missing(payload, payload.at, STRINGTABLE),
+        judge_twice(payload, STRINGTABLE),
     );
-    lesser(table, judge_fields(payload, at, &PartStructure))
+    lesser(table, judge_fields(payload, &PartStructure))
 }
 
 /// The least fault of values of a block whose first byte stands at `at` in the file, and of the messages in it; its table has
 /// `limit` texts.
 #[tactic(auto, using(crate::proofs::Parts::lesser_parts), unfolding(crate::specs::PrimitiveBlock::value_faults))]
-pub(crate) fn judge_values(payload: &[u8], at: u64, limit: u64) -> Option<Fault>
-    requires placed { at + length payload.now ≤ 2 ^ 63 }
-    requires limited { limit ≤ 2 ^ 62 }
-    ensures { result ≡ least (value_faults limit at payload.now) }
+pub(crate) fn judge_values(payload: Message<'_>, limit: u64) -> Option<Fault>
+    requires { limit ≤ 2 ^ 62 }
+    ensures { result ≡ least (value_faults limit payload.entry.at payload.entry.bytes.now) }
 {
-    let fields = Fields::new(payload, at);
+    let fields = payload.fields();
     let scale = lesser(
         judge_positive(last_value_left(fields, GRANULARITY), Reason::Granularity),
         judge_positive(
@@ -115,26 +114,24 @@ pub(crate) fn judge_values(payload: &[u8], at: u64, limit: u64) -> Option<Fault>
         ),
     );
     let members = InField(PRIMITIVEGROUP, EachField(MemberValues { limit }));
-    lesser(scale, judge_fields(payload, at, &members))
+    lesser(scale, judge_fields(payload, &members))
 }
 
 /// The least weight fault of a payload whose first byte stands at `at` in the file: `EntityLarge` at the first field of a
 /// group with an entity above [`HIGHEST_WEIGHT`]. Goes through those entities that may be too heavy by the length of their message.
 /// Takes no memory.
 pub(crate) fn judge_weights<'a>(
-    payload: &'a [u8],
-    at: u64,
+    payload: Message<'a>,
     table: &'a Table<'a>,
     scale: Scale,
 ) -> Option<Fault>
-    requires { at + length payload.now ≤ 2 ^ 63 }
     ensures { result ≡ least
-        (flat_map (in_group (member_weights along table.now scale)) (fields_in at payload.now)) }
+        (flat_map (in_group (member_weights along table.now scale)) (found_in payload.entry)) }
 {
     let members = MemberWeights {
         table,
         scale,
         longest: table.longest() as u64,
     };
-    judge_fields(payload, at, &InField(PRIMITIVEGROUP, EachField(members)))
+    judge_fields(payload, &InField(PRIMITIVEGROUP, EachField(members)))
 }

@@ -15,7 +15,7 @@ use crate::way::way_in;
 use osm_entity::{EntityRef, Scale};
 use pbf_dense::Dense;
 use pbf_strings::Table;
-use pbf_wire::{Field, Payload};
+use pbf_wire::{Field, Message, Payload};
 
 /// Entities that one field of a group holds.
 #[derive(Clone, Copy)]
@@ -42,14 +42,15 @@ pub(crate) fn run_in<'a>(
     if !kinds.are_in(field.number) {
         return Run::Nothing;
     }
-    let Payload::Bytes(message, at) = field.payload else {
+    let Payload::Bytes(bytes, at) = field.payload else {
         return Run::Nothing;
     };
+    let message = Message { bytes, at };
     match field.number {
-        NODES => Run::One(EntityRef::Node(node_in(message, at, table, scale))),
-        DENSE => Run::Dense(Dense::over(message, at, table, scale)),
-        WAYS => Run::One(EntityRef::Way(way_in(message, at, table, scale))),
-        RELATIONS => Run::One(EntityRef::Relation(relation_in(message, at, table, scale))),
+        NODES => Run::One(EntityRef::Node(node_in(message, table, scale))),
+        DENSE => Run::Dense(Dense::over(message, table, scale)),
+        WAYS => Run::One(EntityRef::Way(way_in(message, table, scale))),
+        RELATIONS => Run::One(EntityRef::Relation(relation_in(message, table, scale))),
         _ => Run::Nothing,
     }
 }
@@ -65,25 +66,22 @@ pub struct Runs<'a> {
 }
 
 impl<'a> Runs<'a> {
-    ghost use Rattle.std.specs.Prelude.{◌+◌, ◌≤◌, ◌^◌, length};
-    ghost use Rattle.pbf_wire.specs.Faults.{fields_in};
+    ghost use Rattle.pbf_wire.specs.Faults.{found_in};
     ghost use Rattle.pbf_block.specs.Kinds.{entities_among};
     ghost use Rattle.pbf_block.specs.Runs.{joined_runs, runs_left};
 
     /// The runs of a payload whose first byte stands at `at` in the file, whatever is wrong with it.
     pub(crate) fn over(
-        payload: &'a [u8],
-        at: u64,
+        payload: Message<'a>,
         table: &'a Table<'a>,
         scale: Scale,
         kinds: Kinds,
     ) -> Runs<'a>
-        requires { at + length payload.now ≤ 2 ^ 63 }
         ensures { joined_runs (runs_left result)
-            ≡ entities_among kinds along table.now scale (fields_in at payload.now) }
+            ≡ entities_among kinds along table.now scale (found_in payload.entry) }
     {
         Runs {
-            members: Members::over(payload, at),
+            members: Members::over(payload),
             table,
             scale,
             kinds,

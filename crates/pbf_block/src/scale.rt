@@ -1,12 +1,12 @@
 //! The scale of a block.
 
-ghost use Rattle.std.specs.Prelude.{◌≡◌, ◌+◌, ◌≤◌, ◌^◌, length};
-ghost use Rattle.pbf_wire.specs.Faults.{fields_in};
+ghost use Rattle.std.specs.Prelude.{◌≡◌};
+ghost use Rattle.pbf_wire.specs.Faults.{found_in};
 ghost use Rattle.pbf_block.specs.Scale.{scale_of};
 
 use crate::primitive_block::{DATE_GRANULARITY, GRANULARITY, LAT_OFFSET, LON_OFFSET};
 use osm_entity::Scale;
-use pbf_wire::{last_number, low_i32, low_i64};
+use pbf_wire::{Message, last_number, low_i32, low_i64};
 
 /// The scale of a block that says nothing of it: coordinates are in 100 nanodegrees and times in 1,000 milliseconds, both
 /// counted from 0.
@@ -18,11 +18,10 @@ pub const DEFAULT_SCALE: Scale = Scale {
 };
 
 /// The scale of a payload whose first byte stands at `at` in the file. What it does not say is the default's.
-pub(crate) fn scale_in(payload: &[u8], at: u64) -> Scale
-    requires { at + length payload.now ≤ 2 ^ 63 }
-    ensures { result ≡ scale_of (fields_in at payload.now) }
+pub(crate) fn scale_in(payload: Message<'_>) -> Scale
+    ensures { result ≡ scale_of (found_in payload.entry) }
 {
-    let last = |number| last_number(payload, at, number);
+    let last = |number| last_number(payload, number);
     let last_i32 = |number, default| last(number).map_or(default, |last| low_i32(last));
     let last_i64 = |number, default| last(number).map_or(default, |last| low_i64(last));
     Scale {

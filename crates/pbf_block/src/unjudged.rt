@@ -18,7 +18,7 @@ use crate::runs::Runs;
 use crate::scale::scale_in;
 use osm_entity::Scale;
 use pbf_strings::Table;
-use pbf_wire::last_field;
+use pbf_wire::{Message, last_field};
 use std::alloc::{AllocError, Global};
 
 /// A PrimitiveBlock that is opened and not judged, for a pass over bytes that another pass has judged. It borrows the payload, and
@@ -71,13 +71,24 @@ impl<'a> UnjudgedBlock<'a> {
             (λ block. (block.payload.now ≡ payload.now) × (block.at ≡ at))) }
         ensures faulty { result ≡ Ok None → block_fault at payload.now ≡ None → ⊥ }
     {
-        let texts = bytes_in(last_field(payload, at, STRINGTABLE));
+        let message = Message { bytes: payload, at };
+        let texts = bytes_in(last_field(message, STRINGTABLE));
         if Table::judge_count(texts, at).is_err() {
             return Ok(None);
         }
         let table = Table::open(alloc, texts)?;
-        let scale = scale_in(payload, at);
+        let scale = scale_in(message);
         Ok(Some(UnjudgedBlock::new(payload, at, table, scale)))
+    }
+
+    /// The payload as a message.
+    fn message(&self) -> Message<'a>
+        ensures { (result.bytes.now ≡ self.now.payload.now) × (result.at ≡ self.now.at) }
+    {
+        Message {
+            bytes: self.payload,
+            at: self.at,
+        }
     }
 
     /// The entities of these kinds, in order, those of a dense message together, if the block has no fault; otherwise some entities,
@@ -90,7 +101,7 @@ impl<'a> UnjudgedBlock<'a> {
         ensures fits { block_fault self.now.at self.now.payload.now ≡ None
             → AllByRecursion EntityFits (joined_runs (runs_left result)) }
     {
-        Runs::over(self.payload, self.at, &self.table, self.scale, kinds)
+        Runs::over(self.message(), &self.table, self.scale, kinds)
     }
 
     /// How many entities there are, if the block has no fault.
@@ -98,7 +109,7 @@ impl<'a> UnjudgedBlock<'a> {
         ensures { block_fault self.now.at self.now.payload.now ≡ None → result
             ≡ counts_of (entities self.now.at self.now.payload.now) }
     {
-        count_entities(self.payload, self.at)
+        count_entities(self.message())
     }
 
     /// How many bytes the table holds: four for each of its texts.

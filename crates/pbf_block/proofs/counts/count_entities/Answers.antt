@@ -1,6 +1,6 @@
 use Rattle.std.proofs.Common.{ap, sym, ◌∙◌, rules, List, [], ◌≡◌}
 use Rattle.std.specs.List.{flat_map}
-use Rattle.pbf_wire.specs.Faults.{fields_in}
+use Rattle.pbf_wire.specs.Faults.{found_in}
 use Rattle.pbf_wire.specs.Occurrence.{Occurrence}
 use Rattle.pbf_block.specs.Group.{member_entities}
 use Rattle.pbf_block.specs.Numbers.{counted_with, counts_of, by_ends}
@@ -14,4 +14,4 @@ returns c = λ table scale.
     let all = c.loop-field.invariant in
     let none : members_left c.loop-field.field-iterator ≡ [] = search rules in
     sym all.capped ∙ ap (λ (ms : List Occurrence). counted_with c.loop-field.counts (counts_of (flat_map f ms))) (sym none)
-    ∙ all.so_far table scale ∙ ap counts_of (members_give f (fields_in c.args.at c.args.payload.now))
+    ∙ all.so_far table scale ∙ ap counts_of (members_give f (found_in c.args.payload))

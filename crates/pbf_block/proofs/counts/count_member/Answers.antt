@@ -14,7 +14,7 @@ use Rattle.pbf_block.proofs.counts.count_member.Goals as goal
 
 pub returns-in-2 : goal.returns-in-2
 returns-in-2 c = λ table scale.
-    let os = fields_in c.in-Bytes.at c.in-Bytes.message.now in
+    let os = fields_in c.in-Bytes.at c.in-Bytes.bytes.now in
     let nodes : List NodeSpec = map (node_at table scale os) (range_with_len 0 (id_count os)) in
     let counts : Counts = record { nodes = c.count.result; ways = c.none-counts.result.ways; relations = c.none-counts.result.relations } in
     let all : map node nodes ≡ member_entities by_ends table scale (occurrence c.args.field) = search rules in

@@ -12,9 +12,9 @@ loop-item-init g c =
       ends = tt;
       id = refl;
       infos = λ e. refl;
-      keys = adds_all KEYS c.args.at c.args.message.now c.requires.placed;
-      vals = adds_all VALS c.args.at c.args.message.now c.requires.placed;
-      first = adds_all g.row.FIRST c.args.at c.args.message.now c.requires.placed;
-      second = adds_all g.row.SECOND c.args.at c.args.message.now c.requires.placed;
-      third = adds_all g.row.THIRD c.args.at c.args.message.now c.requires.placed;
+      keys = adds_all KEYS c.args.message.at c.args.message.bytes.now c.requires.placed;
+      vals = adds_all VALS c.args.message.at c.args.message.bytes.now c.requires.placed;
+      first = adds_all g.row.FIRST c.args.message.at c.args.message.bytes.now c.requires.placed;
+      second = adds_all g.row.SECOND c.args.message.at c.args.message.bytes.now c.requires.placed;
+      third = adds_all g.row.THIRD c.args.message.at c.args.message.bytes.now c.requires.placed;
     })

@@ -3,7 +3,7 @@ use Rattle.std.specs.List.{list_any}
 use Rattle.std.specs.Prelude.{◌||◌}
 use Rattle.pbf_wire.specs.Occurrence.{found}
 use Rattle.pbf_wire.specs.Cursors.{fields_left}
-use Rattle.pbf_wire.specs.Faults.{fields_in}
+use Rattle.pbf_wire.specs.Faults.{found_in}
 use Rattle.pbf_block.specs.declared.entity.TheConstants.{ID, KEYS, VALS}
 use Rattle.pbf_block.proofs.CountLemmas.{Adds, InfosLeft}
 use Rattle.pbf_block.proofs.entity.entity_counts.Given as goal
@@ -11,7 +11,7 @@ use Rattle.pbf_block.proofs.entity.entity_counts.Given as goal
 abbrev pub invariant-loop-item : goal.invariant-loop-item
 invariant-loop-item g l =
     let left = found (fields_left l.item-iterator) in
-    let all = fields_in l.at l.message in
+    let all = found_in l.message in
     record {
       can : (goal.iterator-loop-item g).can_next l.item-iterator;
       ends : (goal.iterator-loop-item g).is_finite l.item-iterator;

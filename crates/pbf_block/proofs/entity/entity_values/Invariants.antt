@@ -1,7 +1,7 @@
 use Rattle.std.proofs.Common.{◌≡◌, length, None}
 use Rattle.std.specs.List.{flat_map}
 use Rattle.pbf_wire.specs.Cursors.{fields_left}
-use Rattle.pbf_wire.specs.Faults.{fields_in, entered}
+use Rattle.pbf_wire.specs.Faults.{entered, found_in}
 use Rattle.pbf_wire.specs.Least.{lesser, least}
 use Rattle.pbf_wire.specs.Occurrence.{found}
 use Rattle.pbf_block.specs.Passes.{only, only_from}
@@ -13,7 +13,7 @@ use Rattle.pbf_block.proofs.entity.entity_values.Given as goal
 abbrev pub invariant-fields : goal.invariant-fields
 invariant-fields g l =
     let left = found (fields_left l.fields) in
-    let all = fields_in l.at l.message in
+    let all = found_in l.message in
     record {
       can : (goal.iterator-fields g).can_next l.fields;
       ends : (goal.iterator-fields g).is_finite l.fields;

@@ -4,7 +4,7 @@ use Rattle.std.proofs.lemmas.Iterator.Search.{find_from_yields_List}
 use Rattle.std.specs.List.{find}
 use Rattle.std.specs.Option.{option_map}
 use Rattle.pbf_wire.specs.Cursors.{found_left}
-use Rattle.pbf_wire.specs.Faults.{fields_in}
+use Rattle.pbf_wire.specs.Faults.{found_in}
 use Rattle.pbf_wire.specs.Fields.{occurrence}
 use Rattle.pbf_wire.specs.Occurrence.{Occurrence, found}
 use Rattle.pbf_block.specs.Group.{is_member}
@@ -12,7 +12,7 @@ use Rattle.pbf_block.proofs.group.first_member.Goals as goal
 
 pub returns : goal.returns
 returns c =
-    let first : option_map occurrence c.find-first.result ≡ find (λ o. is_member o.number) (fields_in c.args.at c.args.message.now) =
+    let first : option_map occurrence c.find-first.result ≡ find (λ o. is_member o.number) (found_in c.args.message) =
     find_from_yields_List (λ (o : Occurrence). is_member o.number) _ _ _ c.find-first.ensures.ran
-    (YieldsList-from_first occurrence found_left _ (c.found-fields.ensures ∙ ap found c.new.ensures)) (λ x b q k. search (rules, tests)) in
+    (YieldsList-from_first occurrence found_left _ c.found-fields.ensures) (λ x b q k. search (rules, tests)) in
     search (rules, first)

@@ -1,7 +1,7 @@
 use Rattle.std.proofs.Common.{◌≡◌, None}
 use Rattle.pbf_wire.specs.Occurrence.{found}
 use Rattle.pbf_wire.specs.Cursors.{fields_left}
-use Rattle.pbf_wire.specs.Faults.{fields_in}
+use Rattle.pbf_wire.specs.Faults.{found_in}
 use Rattle.pbf_dense.specs.declared.dense_info.TheConstants.{TIMESTAMP, CHANGESET, UID, USER_SID}
 use Rattle.pbf_block.proofs.ValueLemmas.{later_value}
 use Rattle.pbf_block.proofs.info.info_values.Given as goal
@@ -9,7 +9,7 @@ use Rattle.pbf_block.proofs.info.info_values.Given as goal
 abbrev pub invariant-loop-item : goal.invariant-loop-item
 invariant-loop-item l =
     let left = found (fields_left l.item-iterator) in
-    let all = fields_in l.at l.message in
+    let all = found_in l.message in
     record {
       can : (goal.iterator-loop-item).can_next l.item-iterator;
       ends : (goal.iterator-loop-item).is_finite l.item-iterator;
