@@ -5,8 +5,7 @@ use Rattle.pbf_wire.specs.Cursors.{fields_left}
 use Rattle.pbf_wire.specs.Faults.{fields_in}
 use Rattle.pbf_wire.specs.Fields.{occurrence}
 use Rattle.pbf_wire.specs.Occurrence.{found}
-use Rattle.pbf_wire.specs.Reading.{last_of, last_number}
-use Rattle.pbf_wire.proofs.MessageLemmas.{numbers}
+use Rattle.pbf_wire.specs.Reading.{last_of, values, last_value}
 use Rattle.pbf_block.specs.Passes.{only, only_from}
 use Rattle.pbf_block.specs.declared.entity.TheConstants.{ID, KEYS, VALS, INFO}
 use Rattle.pbf_block.proofs.entity_fields.entity_fields.Given as goal
@@ -15,7 +14,7 @@ abbrev pub invariant-fields : goal.invariant-fields
 invariant-fields g l = record {
   can : (goal.iterator-fields g).can_next l.fields;
   ends : (goal.iterator-fields g).is_finite l.fields;
-  id : last_or l.id (numbers ID (found (fields_left l.fields))) ≡ last_number ID (fields_in l.at l.message);
+  id : last_or l.id (values ID (found (fields_left l.fields))) ≡ last_value ID (fields_in l.at l.message);
   info : last_or (option_map occurrence l.info) (only INFO (found (fields_left l.fields))) ≡ last_of INFO (fields_in l.at l.message);
   keys : only_from KEYS l.keys (found (fields_left l.fields)) ≡ only KEYS (fields_in l.at l.message);
   vals : only_from VALS l.vals (found (fields_left l.fields)) ≡ only VALS (fields_in l.at l.message);
