@@ -1,5 +1,5 @@
 -- The entities of a payload without faults can be written again, and their numbers have the types of the format.
-use Rattle.std.proofs.Common.{◌≡◌, ℕ, ◌≤◌, ◌^◌, ℤ, pos, false, eqb, List, [], ◌∷◌, length, refl, arith}
+use Rattle.std.proofs.Common.{◌≡◌, ℕ, ◌≤◌, ◌^◌, ℤ, pos, false, eqb, List, [], ◌∷◌, length, arith}
 use Rattle.std.specs.Prelude.{◌≤ℤ◌, int_lt, None, Option, Some}
 use Rattle.std.specs.Option.{option_map_or}
 use Rattle.std.specs.List.{flat_map, AllByRecursion}
@@ -8,12 +8,12 @@ use Rattle.std.proofs.lemmas.Bool.{eqb-true, ltb-false}
 use Rattle.pbf_wire.specs.declared.fault.Fault.{Fault}
 use Rattle.pbf_wire.specs.declared.fault.Reason.{Reason}
 use Rattle.pbf_wire.specs.declared.fault.Reason.TheVariants.{Granularity, DateGranularity, EntityLarge}
-use Rattle.pbf_wire.specs.Occurrence.{Content, Number, Eight, Four, Bytes, Occurrence, items}
-use Rattle.pbf_wire.specs.Reading.{last_number}
+use Rattle.pbf_wire.specs.Occurrence.{Content, Number, Eight, Four, Bytes, Occurrence}
+use Rattle.pbf_wire.specs.Reading.{last_value, last_number}
 use Rattle.pbf_wire.specs.Signed.{low_i32, low_i64}
 use Rattle.pbf_wire.specs.Faults.{inside, fields_in, in_last, embedded}
 use Rattle.pbf_wire.proofs.MessageLemmas.{all_append}
-use Rattle.pbf_wire.proofs.SoundLemmas.{both_nil, all_nil, not_wrong, fields_sound}
+use Rattle.pbf_wire.proofs.SoundLemmas.{both_nil, all_nil, not_wrong}
 use Rattle.osm_entity.specs.declared.scale.Scale.{Scale}
 use Rattle.osm_entity.specs.declared.weight.TheConstants.{HIGHEST_WEIGHT}
 use Rattle.osm_entity.specs.Scale.{ScaleFits}
@@ -24,20 +24,20 @@ use Rattle.osm_entity.proofs.RangeLemmas.{int32_typed, int64_typed}
 use Rattle.pbf_dense.proofs.FitsLemmas.{nodes_fit, nodes_typed, version_typed}
 use Rattle.pbf_block.specs.Group.{in_group, message_entities, member_entities, member_values, weight_fault, member_weights}
 use Rattle.pbf_dense.specs.declared.dense_info.TheConstants.{VERSION}
-use Rattle.pbf_block.specs.declared.primitive_block.TheConstants.{PRIMITIVEGROUP, GRANULARITY, DATE_GRANULARITY, BLOCK_KINDS, LAT_OFFSET, LON_OFFSET}
+use Rattle.pbf_block.specs.declared.primitive_block.TheConstants.{PRIMITIVEGROUP, GRANULARITY, DATE_GRANULARITY, LAT_OFFSET, LON_OFFSET}
 use Rattle.pbf_block.specs.declared.group.TheConstants.{NODES, DENSE, WAYS, RELATIONS}
 use Rattle.pbf_block.specs.declared.entity.TheConstants.{INFO}
 use Rattle.pbf_block.specs.Node.{node_in}
 use Rattle.pbf_block.specs.Way.{way_in}
 use Rattle.pbf_block.specs.Relation.{relation_in}
-use Rattle.pbf_block.specs.PrimitiveBlock.{by_index, entities, payload_weights, block_fault, part_wire, wire_faults, value_faults, positive}
+use Rattle.pbf_block.specs.PrimitiveBlock.{by_index, entities, payload_weights, block_fault, value_faults, positive}
 use Rattle.pbf_block.specs.Scale.{scale_of, table_of}
 use Rattle.pbf_block.specs.declared.scale.TheConstants.{DEFAULT_SCALE}
 use Rattle.pbf_block.proofs.EntityLaw.{all_such, map_of_all}
 use Rattle.pbf_block.proofs.MemberLemmas.{cond_all, inside_all, InGroup, groups_all, groups_nil, IsClean, HoldsClean, payload_clean}
 use Rattle.pbf_block.proofs.TableLemmas.{table_few}
 use Rattle.pbf_block.proofs.PhaseLemmas.{no_fault}
-use Rattle.pbf_block.proofs.FitsLemmas.{are_numbers, number_holds, or_else, IsLight, FitsLight, node_fits, way_fits, relation_fits}
+use Rattle.pbf_block.proofs.FitsLemmas.{or_else, IsLight, FitsLight, node_fits, way_fits, relation_fits}
 
 -- ---- weights
 
@@ -64,15 +64,14 @@ at_least_one reason place v e = by (low_i32 v) (not_wrong _ place reason e) wher
   by : (z : ℤ) → int_lt z (pos 1) ≡ false → pos 1 ≤ℤ z
   by z e = grind (arith, ints)
 
-scale_fits : (limit at : ℕ) (m : List ℕ) → wire_faults at m ≡ [] → value_faults limit at m ≡ [] → ScaleFits (scale_of (fields_in at m))
-unfolding wire_faults value_faults
-scale_fits limit at m w v =
+scale_fits : (limit at : ℕ) (m : List ℕ) → value_faults limit at m ≡ [] → ScaleFits (scale_of (fields_in at m))
+unfolding value_faults
+scale_fits limit at m v =
     let os = fields_in at m in
-    let sound = fields_sound BLOCK_KINDS part_wire (items at m) w in
     let both = both_nil (in_last GRANULARITY (positive Granularity) os) (in_last DATE_GRANULARITY (positive DateGranularity) os) (both_nil _ (flat_map (in_group (member_values limit)) os) v).0 in
     record {
-      places = or_else (λ z. pos 1 ≤ℤ z) DEFAULT_SCALE.granularity low_i32 (last_number GRANULARITY os) (omega (arith, ints)) (number_holds GRANULARITY (positive Granularity) (λ v. pos 1 ≤ℤ low_i32 v) (at_least_one Granularity) os (are_numbers BLOCK_KINDS part_wire GRANULARITY os refl sound) both.0);
-      dates = or_else (λ z. pos 1 ≤ℤ z) DEFAULT_SCALE.date_granularity low_i32 (last_number DATE_GRANULARITY os) (omega (arith, ints)) (number_holds DATE_GRANULARITY (positive DateGranularity) (λ v. pos 1 ≤ℤ low_i32 v) (at_least_one DateGranularity) os (are_numbers BLOCK_KINDS part_wire DATE_GRANULARITY os refl sound) both.1);
+      places = or_else (positive Granularity) (λ z. pos 1 ≤ℤ z) low_i32 (at_least_one Granularity) DEFAULT_SCALE.granularity (last_value GRANULARITY os) (omega (arith, ints)) both.0;
+      dates = or_else (positive DateGranularity) (λ z. pos 1 ≤ℤ z) low_i32 (at_least_one DateGranularity) DEFAULT_SCALE.date_granularity (last_value DATE_GRANULARITY os) (omega (arith, ints)) both.1;
     }
 
 -- ---- the entities of a group
@@ -83,11 +82,11 @@ module _ (table : List (List ℕ)) (few : length table ≤ 2 ^ 62) (scale : Scal
 
   message_fits : (k place at : ℕ) (m : List ℕ) → IsClean limit k place at m → AllByRecursion FitsLight (message_entities by_index table scale k (fields_in at m))
   message_fits k place at m h =
-      cond_all FitsLight (eqb k NODES) _ _ (λ t. let is = eqb-true k NODES t in (node_fits limit table scale scaled place at m (h.node_form is) (h.node_numbers is), tt))
+      cond_all FitsLight (eqb k NODES) _ _ (λ t. let is = eqb-true k NODES t in (node_fits limit table scale scaled place at m (h.node_numbers is), tt))
       (cond_all FitsLight (eqb k DENSE) _ _
       (λ t. let is = eqb-true k DENSE t in map_of_all FitsLight node _ (nodes_fit table scale at m scaled (record { place = place; few = few; wire = h.dense_form is; structure = h.dense_parts is; values = h.dense_numbers is })))
       (cond_all FitsLight (eqb k WAYS) _ _ (λ t. let is = eqb-true k WAYS t in (way_fits limit table scale scaled place at m (h.way_form is) (h.way_parts is) (h.way_numbers is), tt))
-      (cond_all FitsLight (eqb k RELATIONS) _ _ (λ t. let is = eqb-true k RELATIONS t in (relation_fits limit table scale scaled place at m (h.relation_form is) (h.relation_numbers is), tt)) tt)))
+      (cond_all FitsLight (eqb k RELATIONS) _ _ (λ t. let is = eqb-true k RELATIONS t in (relation_fits limit table scale scaled place at m (h.relation_numbers is), tt)) tt)))
 
   payload_fits : (os : List Occurrence) → AllByRecursion (InGroup (HoldsClean limit)) os → AllByRecursion FitsLight (flat_map (in_group (member_entities by_index table scale)) os)
   payload_fits os clean =
@@ -103,7 +102,7 @@ entities_fit at m e =
     let os = fields_in at m in
     let none = no_fault at m e in
     let few : length (table_of os) ≤ 2 ^ 62 = omega (arith, table_few at m none.1) in
-    let scaled = scale_fits (length (table_of os)) at m none.0 none.2 in
+    let scaled = scale_fits (length (table_of os)) at m none.2 in
     both (flat_map (in_group (member_entities by_index (table_of os) (scale_of os))) os) (payload_fits (table_of os) few (scale_of os) scaled os (payload_clean (length (table_of os)) at m none.0 none.1 none.2)) (payload_light (table_of os) (scale_of os) os none.3)
 
 -- ---- types

@@ -1,9 +1,8 @@
 -- The entities of a payload without faults can be written again.
-use Rattle.std.proofs.Common.{◌≡◌, inl, inr, ◌==◌, ◌&&◌, ◌||◌, ℕ, ◌≤◌, ◌^◌, ℤ, pos, Bool, true, false, List, [], ◌∷◌, length, map, refl, sym, ap, ◌∙◌, arith}
-use Rattle.std.specs.Prelude.{Option, Some, None, if◌then◌else◌}
+use Rattle.std.proofs.Common.{◌≡◌, inl, inr, ◌==◌, ◌&&◌, ◌||◌, ℕ, ◌≤◌, ◌^◌, ℤ, pos, true, false, List, [], ◌∷◌, length, map, refl, sym, ◌∙◌, arith}
+use Rattle.std.specs.Prelude.{Option, Some, None}
 use Rattle.std.specs.Option.{option_map, option_map_or}
-use Rattle.std.specs.List.{flat_map, zip, last_or, cons_option, AllByRecursion}
-use Rattle.std.proofs.lemmas.Bool.{eqb-true}
+use Rattle.std.specs.List.{flat_map, zip, AllByRecursion}
 use Rattle.std.proofs.lemmas.Bool.Decides.{nat_tests}
 use Rattle.std.proofs.lemmas.List.{length-map}
 use Rattle.std.proofs.lemmas.List.FromFn.{length-map-range_with_len}
@@ -14,12 +13,11 @@ use Rattle.pbf_wire.specs.declared.kind.Kind.{Kind}
 use Rattle.pbf_wire.specs.declared.kind.Kind.TheVariants as kind
 use Rattle.pbf_wire.specs.Occurrence.{Content, Number, Eight, Four, Bytes, Occurrence, items}
 use Rattle.pbf_wire.specs.Columns.{joined, column}
-use Rattle.pbf_wire.specs.Wire.{kind_of, reason_in}
-use Rattle.pbf_wire.specs.Reading.{last_of, number_in, last_number}
-use Rattle.pbf_wire.proofs.MessageLemmas.{numbers}
+use Rattle.pbf_wire.specs.Wire.{kind_of}
+use Rattle.pbf_wire.specs.Reading.{last_of, last_value}
 use Rattle.pbf_wire.specs.Signed.{IsWithin, is_within, unzigzag, low_i32, low_i64}
 use Rattle.pbf_wire.specs.Sums.{sum_at}
-use Rattle.pbf_wire.specs.Faults.{inside, entered, fields_in, fields_of, embedded, leaf_faults, column_count, below_fault, range_fault, value_in, of_value, in_last, nested_faults}
+use Rattle.pbf_wire.specs.Faults.{inside, entered, fields_in, fields_of, embedded, leaf_faults, column_count, below_fault, of_value, in_last, nested_faults}
 use Rattle.pbf_wire.proofs.SumLemmas.{small_zero, within_is}
 use Rattle.pbf_wire.proofs.SoundLemmas.{both_nil, all_nil, is_right, sums_within_limit, count_is_length, fields_sound, IsSound, last_holds}
 use Rattle.osm_entity.specs.declared.scale.Scale.{Scale}
@@ -30,9 +28,9 @@ use Rattle.osm_entity.specs.Sources.{column_members}
 use Rattle.osm_entity.specs.Weight.{entity_weight}
 use Rattle.pbf_dense.specs.Judged.{range_faults}
 use Rattle.pbf_dense.specs.declared.dense_info.TheConstants.{TIMESTAMP, CHANGESET, UID, USER_SID}
-use Rattle.pbf_block.specs.declared.node.TheConstants.{NODE_KINDS, NODE_LAT, NODE_LON}
+use Rattle.pbf_block.specs.declared.node.TheConstants.{NODE_LAT, NODE_LON}
 use Rattle.pbf_block.specs.declared.way.TheConstants.{WAY_KINDS, REFS, WAY_LAT, WAY_LON}
-use Rattle.pbf_block.specs.declared.relation.TheConstants.{RELATION_KINDS, MEMIDS, TYPES, ROLES_SID}
+use Rattle.pbf_block.specs.declared.relation.TheConstants.{MEMIDS, TYPES, ROLES_SID}
 use Rattle.pbf_block.specs.declared.info.TheConstants.{INFO_KINDS}
 use Rattle.pbf_block.specs.declared.entity.TheConstants.{ID, INFO}
 use Rattle.pbf_block.specs.Info.{info_in, info_values, out_of_range}
@@ -42,92 +40,56 @@ use Rattle.pbf_block.specs.Way.{way_in, are_located, way_structure, way_values}
 use Rattle.pbf_block.specs.Relation.{relation_in, relation_values}
 use Rattle.pbf_block.specs.PrimitiveBlock.{by_index}
 use Rattle.pbf_block.specs.Scale.{number_or}
-use Rattle.pbf_wire.proofs.SlotLemmas.{IfSome}
-use Rattle.pbf_block.proofs.ValueLemmas.{later_value, last_is}
 use Rattle.pbf_block.proofs.MemberLemmas.{entered_nil}
 use Rattle.osm_entity.specs.declared.weight.TheConstants.{HIGHEST_WEIGHT}
 
 -- ---- the last number of a field
 
-abbrev IsNumber : ℕ → Occurrence → Type 0
-IsNumber k o = o.number ≡ k → reason_in (Some kind.Number) o.content ≡ None
+-- what a number without a fault shows of it, as it is read, holds of the last
+module _ (f : ℕ → ℕ → List Fault) (P : ℤ → Type 0) (read : ℕ → ℤ) (clean : (place v : ℕ) → f place v ≡ [] → P (read v)) where
+  if_present : (last : Option (ℕ × ℕ)) → of_value f last ≡ [] → IfPresent P (option_map read (option_map (λ p. p.1) last))
+  if_present None e = tt
+  if_present (Some p) e = clean p.0 p.1 e
 
-pub are_numbers : (kinds : List (ℕ × Kind)) (inner : Occurrence → List Fault) (k : ℕ) (os : List Occurrence) → kind_of kinds k ≡ Some kind.Number → AllByRecursion (IsSound kinds inner) os → AllByRecursion (IsNumber k) os
-are_numbers kinds inner k [] known h = tt
-are_numbers kinds inner k (o ∷ os) known h =
-    (λ same. ap (λ (t : Option Kind). reason_in t o.content) (sym known ∙ ap (kind_of kinds) (sym same)) ∙ h.0.0, are_numbers kinds inner k os known h.1)
+  pub or_else : (otherwise : ℤ) (last : Option (ℕ × ℕ)) → P otherwise → of_value f last ≡ [] → P (option_map_or read (option_map (λ p. p.1) last) otherwise)
+  or_else otherwise None d e = d
+  or_else otherwise (Some p) d e = clean p.0 p.1 e
 
-module _ (k : ℕ) (f : ℕ → ℕ → List Fault) (P : ℕ → Type 0) (clean : (place v : ℕ) → f place v ≡ [] → P v) where
-  abbrev LastHolds : Option (ℕ × ℕ) → List ℕ → Type 0
-  LastHolds before ns = IfSome P (last_or (option_map (λ p. p.1) before) ns)
+in_range : (bits : ℕ) (read : ℕ → ℤ) (place v : ℕ) → out_of_range bits read place v ≡ [] → IsWithin (pos (2 ^ bits)) (read v)
+in_range bits read place v e = within_is (pos (2 ^ bits)) (read v) (is_right (is_within (pos (2 ^ bits)) (read v)) place OutOfRange e)
 
-  content_holds : (b : Bool) (place : ℕ) (c : Content) (before : Option (ℕ × ℕ)) (os : List Occurrence) → (b ≡ true → reason_in (Some kind.Number) c ≡ None)
-      → of_value f (later_value k (if b then value_in place c else before) os) ≡ []
-      → ((before : Option (ℕ × ℕ)) → of_value f (later_value k before os) ≡ [] → LastHolds before (numbers k os))
-      → LastHolds before (cons_option (if b then number_in c else None) (numbers k os))
-  content_holds false place c before os is e more = more before e
-  content_holds true place (Number v) before os is e more = more (Some (place, v)) e
-  content_holds true place (Eight bytes) before os is e more = absurd (let h = is refl in cc)
-  content_holds true place (Four bytes) before os is e more = absurd (let h = is refl in cc)
-  content_holds true place (Bytes bytes at) before os is e more = absurd (let h = is refl in cc)
-
-  holds_after : (os : List Occurrence) (before : Option (ℕ × ℕ)) → AllByRecursion (IsNumber k) os → of_value f (later_value k before os) ≡ [] → LastHolds before (numbers k os)
-  holds_after [] None all e = tt
-  holds_after [] (Some p) all e = clean p.0 p.1 e
-  holds_after (o ∷ os) before all e = content_holds (o.number == k) o.place o.content before os (λ t. all.0 (eqb-true o.number k t)) e (λ before e. holds_after os before all.1 e)
-
-  -- what a number without a fault shows holds of the last
-  pub number_holds : (os : List Occurrence) → AllByRecursion (IsNumber k) os → in_last k f os ≡ [] → IfSome P (last_number k os)
-  number_holds os all e = holds_after os None all (ap (of_value f) (last_is k os) ∙ e)
-
-in_range : (limit : ℤ) (place : ℕ) (z : ℤ) → range_fault limit place z ≡ [] → IsWithin limit z
-in_range limit place z e = within_is limit z (is_right (is_within limit z) place OutOfRange e)
-
-if_present : (P : ℤ → Type 0) (read : ℕ → ℤ) (o : Option ℕ) → IfSome (λ v. P (read v)) o → IfPresent P (option_map read o)
-if_present P read None h = tt
-if_present P read (Some v) h = h
-
-pub or_else : (P : ℤ → Type 0) (otherwise : ℤ) (read : ℕ → ℤ) (o : Option ℕ) → P otherwise → IfSome (λ v. P (read v)) o → P (option_map_or read o otherwise)
-or_else P otherwise read None d h = d
-or_else P otherwise read (Some v) d h = h
+stored : (read : ℕ → ℤ) (k : ℕ) (os : List Occurrence) → in_last k (out_of_range 62 read) os ≡ [] → IsStored (number_or (pos 0) read k os)
+stored read k os e = or_else (out_of_range 62 read) IsStored read (in_range 62 read) (pos 0) (last_value k os) small_zero e
 
 -- ---- metadata
 
 module _ (limit : ℕ) (table : List (List ℕ)) where
-  info_fits : (place at : ℕ) (m : List ℕ) → leaf_faults INFO_KINDS place at m ≡ [] → info_values limit place at m ≡ [] → MetaFits (info_in table (fields_in at m))
-  info_fits place at m w v =
+  info_fits : (place at : ℕ) (m : List ℕ) → info_values limit place at m ≡ [] → MetaFits (info_in table (fields_in at m))
+  info_fits place at m v =
       let os = fields_in at m in
-      let sound = fields_sound INFO_KINDS (λ o. []) (items at m) w in
       let uids = both_nil _ _ (both_nil _ (in_last USER_SID (λ place v. below_fault StringIndex limit (v, place)) os) v).0 in
       let changesets = both_nil _ _ uids.0 in
       record {
-        timestamp = if_present IsStored low_i64 _ (number_holds TIMESTAMP (out_of_range 62 low_i64) (λ v. IsStored (low_i64 v)) (λ place v e. in_range (pos (2 ^ 62)) place (low_i64 v) e) os (are_numbers INFO_KINDS (λ o. []) TIMESTAMP os refl sound) changesets.0);
-        changeset = if_present IsStored low_i64 _ (number_holds CHANGESET (out_of_range 62 low_i64) (λ v. IsStored (low_i64 v)) (λ place v e. in_range (pos (2 ^ 62)) place (low_i64 v) e) os (are_numbers INFO_KINDS (λ o. []) CHANGESET os refl sound) changesets.1);
-        uid = if_present IsUid low_i32 _ (number_holds UID (out_of_range 30 low_i32) (λ v. IsUid (low_i32 v)) (λ place v e. in_range (pos (2 ^ 30)) place (low_i32 v) e) os (are_numbers INFO_KINDS (λ o. []) UID os refl sound) uids.1);
+        timestamp = if_present (out_of_range 62 low_i64) IsStored low_i64 (in_range 62 low_i64) (last_value TIMESTAMP os) changesets.0;
+        changeset = if_present (out_of_range 62 low_i64) IsStored low_i64 (in_range 62 low_i64) (last_value CHANGESET os) changesets.1;
+        uid = if_present (out_of_range 30 low_i32) IsUid low_i32 (in_range 30 low_i32) (last_value UID os) uids.1;
       }
 
-  inside_fits : (place : ℕ) (c : Content) → inside (leaf_faults INFO_KINDS place) c ≡ [] → inside (info_values limit place) c ≡ [] → MetaFits (info_in table (inside fields_in c))
-  inside_fits place (Number v) w s = record { timestamp = tt; changeset = tt; uid = tt }
-  inside_fits place (Eight bytes) w s = record { timestamp = tt; changeset = tt; uid = tt }
-  inside_fits place (Four bytes) w s = record { timestamp = tt; changeset = tt; uid = tt }
-  inside_fits place (Bytes bytes at) w s = info_fits place at bytes w s
+  inside_fits : (place : ℕ) (c : Content) → inside (info_values limit place) c ≡ [] → MetaFits (info_in table (inside fields_in c))
+  inside_fits place (Number v) e = record { timestamp = tt; changeset = tt; uid = tt }
+  inside_fits place (Eight bytes) e = record { timestamp = tt; changeset = tt; uid = tt }
+  inside_fits place (Four bytes) e = record { timestamp = tt; changeset = tt; uid = tt }
+  inside_fits place (Bytes bytes at) e = info_fits place at bytes e
 
-  abbrev InfoClean : Occurrence → Type 0
-  InfoClean o = (entered INFO (leaf_faults INFO_KINDS) o ≡ []) × (entered INFO (info_values limit) o ≡ [])
-
-  last_fits : (os : List Occurrence) (last : Option Occurrence) → AllByRecursion InfoClean os → last_of INFO os ≡ last → MetaFits (info_in table (fields_of last))
+  last_fits : (os : List Occurrence) (last : Option Occurrence) → AllByRecursion (λ o. entered INFO (info_values limit) o ≡ []) os → last_of INFO os ≡ last → MetaFits (info_in table (fields_of last))
   last_fits os None all e = record { timestamp = tt; changeset = tt; uid = tt }
   last_fits os (Some o) all e =
-      let h = last_holds InfoClean INFO os o all e in
-      inside_fits o.place o.content (entered_nil INFO (leaf_faults INFO_KINDS) o h.0.0 h.1) (entered_nil INFO (info_values limit) o h.0.1 h.1)
+      let h = last_holds (λ o. entered INFO (info_values limit) o ≡ []) INFO os o all e in
+      inside_fits o.place o.content (entered_nil INFO (info_values limit) o h.0 h.1)
 
-  all_clean : (kinds : List (ℕ × Kind)) (os : List Occurrence) → AllByRecursion (IsSound kinds (entered INFO (leaf_faults INFO_KINDS))) os → AllByRecursion (λ o. entered INFO (info_values limit) o ≡ []) os → AllByRecursion InfoClean os
-  all_clean kinds [] w v = tt
-  all_clean kinds (o ∷ os) w v = ((w.0.1, v.0), all_clean kinds os w.1 v.1)
-
-  meta_fits : (kinds : List (ℕ × Kind)) (os : List Occurrence) → AllByRecursion (IsSound kinds (entered INFO (leaf_faults INFO_KINDS))) os → entity_values limit os ≡ [] → MetaFits (info_in table (embedded INFO os))
-  meta_fits kinds os w v =
-      last_fits os (last_of INFO os) (all_clean kinds os w (all_nil (entered INFO (info_values limit)) os (both_nil _ (flat_map (entered INFO (info_values limit)) os) v).1)) refl
+  meta_fits : (os : List Occurrence) → entity_values limit os ≡ [] → MetaFits (info_in table (embedded INFO os))
+  meta_fits os v =
+      last_fits os (last_of INFO os) (all_nil (entered INFO (info_values limit)) os (both_nil _ (flat_map (entered INFO (info_values limit)) os) v).1) refl
 
 -- ---- the columns of ways and relations
 
@@ -168,22 +130,14 @@ abbrev pub FitsLight : EntitySpec → Type 0
 FitsLight e = IsLight e → EntityFits e
 
 module _ (limit : ℕ) (table : List (List ℕ)) (scale : Scale) (scaled : ScaleFits scale) where
-  pub node_fits : (place at : ℕ) (m : List ℕ) → nested_faults NODE_KINDS INFO INFO_KINDS place at m ≡ [] → node_values limit place at m ≡ [] → FitsLight (node (node_in table scale (fields_in at m)))
+  pub node_fits : (place at : ℕ) (m : List ℕ) → node_values limit place at m ≡ [] → FitsLight (node (node_in table scale (fields_in at m)))
   unfolding node_in
-  node_fits place at m w v light =
+  node_fits place at m v light =
       let os = fields_in at m in
-      let inner = entered INFO (leaf_faults INFO_KINDS) in
-      let sound = fields_sound NODE_KINDS inner (items at m) w in
       let lons = both_nil _ (in_last NODE_LON (out_of_range 62 unzigzag) os) v in
       let lats = both_nil _ (in_last NODE_LAT (out_of_range 62 unzigzag) os) lons.0 in
       let alike = both_nil (in_last ID (out_of_range 62 unzigzag) os) (entity_values limit os) lats.0 in
-      let stored : (k : ℕ) → kind_of NODE_KINDS k ≡ Some kind.Number → in_last k (out_of_range 62 unzigzag) os ≡ [] → IsStored (number_or (pos 0) unzigzag k os) =
-      λ k known e. or_else IsStored (pos 0) unzigzag _ small_zero (number_holds k (out_of_range 62 unzigzag) (λ v. IsStored (unzigzag v)) (λ place v e. in_range (pos (2 ^ 62)) place (unzigzag v) e) os (are_numbers NODE_KINDS inner k os known sound) e) in
-      record { id = stored ID refl alike.0; lat = stored NODE_LAT refl lats.1; lon = stored NODE_LON refl lons.1; meta = meta_fits limit table NODE_KINDS os sound alike.1; scale = scaled; light = light }
-
-  wide_fits : (kinds : List (ℕ × Kind)) (inner : Occurrence → List Fault) (os : List Occurrence) → kind_of kinds ID ≡ Some kind.Number → AllByRecursion (IsSound kinds inner) os → in_last ID (out_of_range 62 low_i64) os ≡ [] → IsStored (number_or (pos 0) low_i64 ID os)
-  wide_fits kinds inner os known sound e =
-      or_else IsStored (pos 0) low_i64 _ small_zero (number_holds ID (out_of_range 62 low_i64) (λ v. IsStored (low_i64 v)) (λ place v e. in_range (pos (2 ^ 62)) place (low_i64 v) e) os (are_numbers kinds inner ID os known sound) e)
+      record { id = stored unzigzag ID os alike.0; lat = stored unzigzag NODE_LAT os lats.1; lon = stored unzigzag NODE_LON os lons.1; meta = meta_fits limit table os alike.1; scale = scaled; light = light }
 
   pub way_fits : (place at : ℕ) (m : List ℕ) → nested_faults WAY_KINDS INFO INFO_KINDS place at m ≡ [] → way_structure place at m ≡ [] → way_values limit place at m ≡ [] → FitsLight (way (way_in by_index table scale (fields_in at m)))
   unfolding way_in
@@ -197,8 +151,8 @@ module _ (limit : ℕ) (table : List (List ℕ)) (scale : Scale) (scaled : Scale
       let alike = both_nil (in_last ID (out_of_range 62 low_i64) os) (entity_values limit os) refs.0 in
       let counts = is_right (are_located os) place LocationColumns (both_nil (entity_structure place os) _ s).1 in
       record {
-        id = wide_fits WAY_KINDS inner os refl sound alike.0;
-        meta = meta_fits limit table WAY_KINDS os sound alike.1;
+        id = stored low_i64 ID os alike.0;
+        meta = meta_fits limit table os alike.1;
         scale = scaled;
         refs = values_fit REFS os refs.1;
         locations = locations_fit _ _ (values_fit WAY_LAT os lats.1) (values_fit WAY_LON os lons.1);
@@ -207,19 +161,17 @@ module _ (limit : ℕ) (table : List (List ℕ)) (scale : Scale) (scaled : Scale
         light = light;
       }
 
-  pub relation_fits : (place at : ℕ) (m : List ℕ) → nested_faults RELATION_KINDS INFO INFO_KINDS place at m ≡ [] → relation_values limit place at m ≡ [] → FitsLight (relation (relation_in by_index table scale (fields_in at m)))
+  pub relation_fits : (place at : ℕ) (m : List ℕ) → relation_values limit place at m ≡ [] → FitsLight (relation (relation_in by_index table scale (fields_in at m)))
   unfolding relation_in
-  relation_fits place at m w v light =
+  relation_fits place at m v light =
       let os = fields_in at m in
-      let inner = entered INFO (leaf_faults INFO_KINDS) in
-      let sound = fields_sound RELATION_KINDS inner (items at m) w in
       let kinds = both_nil _ _ v in
       let ids = both_nil _ (range_faults MEMIDS os) kinds.0 in
       let roles = both_nil _ _ ids.0 in
       let alike = both_nil (in_last ID (out_of_range 62 low_i64) os) (entity_values limit os) roles.0 in
       record {
-        id = wide_fits RELATION_KINDS inner os refl sound alike.0;
-        meta = meta_fits limit table RELATION_KINDS os sound alike.1;
+        id = stored low_i64 ID os alike.0;
+        meta = meta_fits limit table os alike.1;
         scale = scaled;
         members = members_fit table (column TYPES os) (values_in by_index MEMIDS os) (column ROLES_SID os) (values_fit MEMIDS os ids.1);
         light = light;

@@ -97,7 +97,6 @@ groups_nil f (o ∷ os) e =
 
 -- by the number of its field
 pub record IsClean (limit k place at : ℕ) (m : List ℕ) : Type 0 where
-  pub node_form : k ≡ NODES → nested_faults NODE_KINDS INFO INFO_KINDS place at m ≡ []
   pub node_numbers : k ≡ NODES → node_values limit place at m ≡ []
   pub dense_form : k ≡ DENSE → dense_wire place at m ≡ []
   pub dense_parts : k ≡ DENSE → dense_structure place at m ≡ []
@@ -105,7 +104,6 @@ pub record IsClean (limit k place at : ℕ) (m : List ℕ) : Type 0 where
   pub way_form : k ≡ WAYS → nested_faults WAY_KINDS INFO INFO_KINDS place at m ≡ []
   pub way_parts : k ≡ WAYS → way_structure place at m ≡ []
   pub way_numbers : k ≡ WAYS → way_values limit place at m ≡ []
-  pub relation_form : k ≡ RELATIONS → nested_faults RELATION_KINDS INFO INFO_KINDS place at m ≡ []
   pub relation_numbers : k ≡ RELATIONS → relation_values limit place at m ≡ []
 
 abbrev pub HoldsClean : ℕ → Occurrence → Type 0
@@ -126,7 +124,6 @@ module _ (limit : ℕ) where
       let v3 = both_nil _ (entered WAYS (way_values limit) o) v4.0 in
       let v2 = both_nil (entered NODES (node_values limit) o) (entered DENSE (dense_values limit) o) v3.0 in
       record {
-        node_form = entered_nil NODES (nested_faults NODE_KINDS INFO INFO_KINDS) o w2.0;
         node_numbers = entered_nil NODES (node_values limit) o v2.0;
         dense_form = entered_nil DENSE dense_wire o w2.1;
         dense_parts = entered_nil DENSE dense_structure o (both_nil (entered NODES node_structure o) (entered DENSE dense_structure o) s3.0).1;
@@ -134,7 +131,6 @@ module _ (limit : ℕ) where
         way_form = entered_nil WAYS (nested_faults WAY_KINDS INFO INFO_KINDS) o w3.1;
         way_parts = entered_nil WAYS way_structure o s3.1;
         way_numbers = entered_nil WAYS (way_values limit) o v3.1;
-        relation_form = entered_nil RELATIONS (nested_faults RELATION_KINDS INFO INFO_KINDS) o w4.1;
         relation_numbers = entered_nil RELATIONS (relation_values limit) o v4.1;
       }
 

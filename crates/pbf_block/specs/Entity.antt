@@ -4,9 +4,10 @@ use Rattle.std.specs.List.{flat_map, list_any}
 use Rattle.pbf_wire.specs.declared.fault.Fault.{Fault}
 use Rattle.pbf_wire.specs.declared.fault.Reason.TheVariants.{TagColumns}
 use Rattle.pbf_wire.specs.Columns.{column, joined}
-use Rattle.pbf_wire.specs.Faults.{column_count, entered, fault_where, index_faults, last_value, missing, twice}
+use Rattle.pbf_wire.specs.Faults.{column_count, entered, fault_where, index_faults, missing, twice}
 use Rattle.pbf_wire.specs.Least.{least}
 use Rattle.pbf_wire.specs.Occurrence.{Occurrence}
+use Rattle.pbf_wire.specs.Reading.{last_value}
 use Rattle.pbf_wire.specs.Signed.{unzigzag}
 use Rattle.osm_entity.specs.declared.scale.Scale.{Scale}
 use Rattle.osm_entity.specs.Entity.{TagSpec, NodeSpec}

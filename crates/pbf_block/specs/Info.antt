@@ -3,15 +3,14 @@ use Rattle.std.specs.Prelude.{◌≡◌, ℕ, ℤ, pos, ◌^◌, List, ◌==◌,
 use Rattle.std.specs.Option.{option_map}
 use Rattle.pbf_wire.specs.declared.fault.Fault.{Fault}
 use Rattle.pbf_wire.specs.declared.fault.Reason.TheVariants.{StringIndex}
-use Rattle.pbf_wire.specs.Faults.{below_fault, fields_in, in_last, last_value, range_fault}
+use Rattle.pbf_wire.specs.Faults.{below_fault, fields_in, in_last, range_fault}
 use Rattle.pbf_wire.specs.Occurrence.{Occurrence}
-use Rattle.pbf_wire.specs.Reading.{last_number}
+use Rattle.pbf_wire.specs.Reading.{last_value, last_number}
 use Rattle.pbf_wire.specs.Signed.{low_i32, low_i64}
 use Rattle.osm_entity.specs.Entity.{MetaSpec}
 use Rattle.osm_entity.specs.Sources.{named}
 use Rattle.pbf_dense.specs.declared.dense_info.TheConstants.{VERSION, TIMESTAMP, CHANGESET, UID, USER_SID, VISIBLE}
 use Rattle.pbf_block.specs.declared.info.InfoNumbers.{InfoNumbers}
-use Rattle.pbf_block.specs.declared.info.InfoValues.{InfoValues}
 
 -- a number, as it is read, isn't strictly between -2^bits and 2^bits
 abbrev pub out_of_range : ℕ → (ℕ → ℤ) → ℕ → ℕ → List Fault
@@ -37,18 +36,11 @@ info_in table os = record {
 
 -- ---- what one pass over an Info finds
 
--- the numbers that are judged, each with its place
-pub record AreLast (values : InfoValues) (os : List Occurrence) : Type 0 where
-  pub timestamp : values.timestamp ≡ last_value TIMESTAMP os
-  pub changeset : values.changeset ≡ last_value CHANGESET os
-  pub uid : values.uid ≡ last_value UID os
-  pub user_sid : values.user_sid ≡ last_value USER_SID os
-
--- the numbers that are read
+-- the last numbers, each with its place
 pub record AreNumbers (found : InfoNumbers) (os : List Occurrence) : Type 0 where
-  pub version : found.version ≡ last_number VERSION os
-  pub timestamp : found.timestamp ≡ last_number TIMESTAMP os
-  pub changeset : found.changeset ≡ last_number CHANGESET os
-  pub uid : found.uid ≡ last_number UID os
-  pub user : found.user ≡ last_number USER_SID os
-  pub visible : found.visible ≡ last_number VISIBLE os
+  pub version : found.version ≡ last_value VERSION os
+  pub timestamp : found.timestamp ≡ last_value TIMESTAMP os
+  pub changeset : found.changeset ≡ last_value CHANGESET os
+  pub uid : found.uid ≡ last_value UID os
+  pub user : found.user ≡ last_value USER_SID os
+  pub visible : found.visible ≡ last_value VISIBLE os

@@ -5,7 +5,7 @@ use Rattle.pbf_wire.specs.declared.fields.Fields.{Fields}
 use Rattle.pbf_wire.specs.Cursors.{fields_left}
 use Rattle.pbf_wire.specs.Fields.{occurrence}
 use Rattle.pbf_wire.specs.Occurrence.{Occurrence, found}
-use Rattle.pbf_wire.specs.Reading.{last_of, last_number}
+use Rattle.pbf_wire.specs.Reading.{last_of, last_value}
 use Rattle.pbf_block.specs.declared.entity_fields.EntityFields.{EntityFields}
 use Rattle.pbf_block.specs.declared.entity.TheConstants.{ID, KEYS, VALS, INFO}
 
@@ -34,7 +34,7 @@ pub record AreOwn (own : ℕ × ℕ × ℕ) (found : Fields × Fields × Fields)
 
 -- what was found of the fields that all entities have
 pub record AreFields (found : EntityFields) (os : List Occurrence) : Type 0 where
-  pub id : found.id ≡ last_number ID os
+  pub id : found.id ≡ last_value ID os
   pub info : option_map occurrence found.info ≡ last_of INFO os
   pub keys : only_left KEYS found.keys ≡ only KEYS os
   pub vals : only_left VALS found.vals ≡ only VALS os

@@ -108,7 +108,7 @@ impl EntityCounts {
 /// What one pass over an entity's message judges.
 #[derive(Clone, Copy)]
 pub(crate) struct EntityValues {
-    /// The last id and its place; `None` where the last is no number.
+    /// The last id and its place.
     pub(crate) id: Option<(u64, u64)>,
     keys: Option<Fault>,
     vals: Option<Fault>,
@@ -120,7 +120,7 @@ pub(crate) struct EntityValues {
 /// begin at the first of their number, so that an absent column takes no pass. It is part of what judges a kind, so that the answer
 /// is not moved.
 #[inline(always)]
-#[tactic(auto, using(crate::proofs::Parts::least_more, crate::proofs::Parts::lesser_nothing, crate::proofs::ValueLemmas::last_is, crate::proofs::ValueLemmas::texts_are))]
+#[tactic(auto, using(crate::proofs::Parts::least_more, crate::proofs::Parts::lesser_nothing, crate::proofs::ValueLemmas::texts_are))]
 pub(crate) fn entity_values<const FIRST: u64, const SECOND: u64, const THIRD: u64>(
     message: &[u8],
     at: u64,
@@ -152,7 +152,7 @@ pub(crate) fn entity_values<const FIRST: u64, const SECOND: u64, const THIRD: u6
             );
         };
         match field.number {
-            ID => id = value_in(field),
+            ID => id = value_in(field).or(id),
             KEYS => keys = lesser(keys, judge_texts(field, limit)),
             VALS => vals = lesser(vals, judge_texts(field, limit)),
             INFO => infos = lesser(infos, InField(INFO, InfoRanges { limit }).judge(field)),

@@ -16,15 +16,16 @@ ghost use Rattle.pbf_block.specs.Scale.{number_or};
 
 use crate::entity::{ID, INFO, KEYS, VALS};
 use crate::info::meta_in;
+use crate::ranges::{last_value, value_in};
 use osm_entity::{MetaRef, PairedTags, STORED_LIMIT, Tags};
 use pbf_strings::Table;
-use pbf_wire::{Column, Field, Fields, Payload, Sums, last_number_left, low_i64, unzigzag};
+use pbf_wire::{Column, Field, Fields, Sums, low_i64, unzigzag};
 
 /// Where the fields are that all entities have. Those of a column begin at the first of its number, so that a column over them
 /// passes over no field before its own.
 #[derive(Clone, Copy)]
 pub(crate) struct EntityFields<'a> {
-    id: Option<u64>,
+    id: Option<(u64, u64)>,
     info: Option<Field<'a>>,
     keys: Fields<'a>,
     vals: Fields<'a>,
@@ -64,11 +65,7 @@ pub(crate) fn entity_fields<const FIRST: u64, const SECOND: u64, const THIRD: u6
             );
         };
         match field.number {
-            ID => {
-                if let Payload::Number(number) = field.payload {
-                    id = Some(number);
-                }
-            }
+            ID => id = value_in(field).or(id),
             KEYS => keys = keys.or(Some(rest)),
             VALS => vals = vals.or(Some(rest)),
             INFO => info = Some(field),
@@ -85,14 +82,14 @@ impl<'a> EntityFields<'a> {
     pub(crate) fn signed_id(&self) -> i64
         ensures { (os : List Occurrence) → AreFields self.now os → result ≡ number_or (pos 0) unzigzag ID os }
     {
-        unzigzag(self.id.unwrap_or(0))
+        self.id.map_or(0, |(_, number)| unzigzag(number))
     }
 
     /// The id as an `int64`, which it is of a way or a relation, and 0 where it is absent.
     pub(crate) fn wide_id(&self) -> i64
         ensures { (os : List Occurrence) → AreFields self.now os → result ≡ number_or (pos 0) low_i64 ID os }
     {
-        low_i64(self.id.unwrap_or(0))
+        self.id.map_or(0, |(_, number)| low_i64(number))
     }
 
     /// The metadata.
@@ -132,10 +129,9 @@ pub(crate) fn values(fields: Fields<'_>, number: u64) -> Sums<'_>
 }
 
 /// The signed number that these fields hold last under this number, and 0 where they hold none.
-#[tactic(auto, using(crate::proofs::PassLemmas::last_left_is))]
 pub(crate) fn last_signed(fields: Fields<'_>, number: u64) -> i64
     ensures { (os : List Occurrence) → only_left number fields.entry ≡ only number os
         → result ≡ number_or (pos 0) unzigzag number os }
 {
-    unzigzag(last_number_left(fields, number).unwrap_or(0))
+    last_value(fields, number).map_or(0, |(_, value)| unzigzag(value))
 }

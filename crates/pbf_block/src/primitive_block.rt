@@ -8,12 +8,12 @@ ghost use Rattle.pbf_block.specs.Group.{member_weights, in_group};
 ghost use Rattle.pbf_block.specs.PrimitiveBlock.{along, part_wire, wire_faults, part_structure, structure_faults, value_faults};
 
 use crate::group::{self, GROUP_KINDS, MemberForm, MemberValues, MemberWeights};
-use crate::ranges::{judge_positive, last_value_left};
+use crate::ranges::judge_positive;
 use osm_entity::Scale;
 use pbf_strings::{TABLE_KINDS, Table};
 use pbf_wire::{
     EachField, Fault, Field, InField, Judge, Kind, Message, Payload, Reason, judge_fields,
-    judge_form, judge_leaf, judge_missing, judge_twice, lesser,
+    judge_form, judge_leaf, judge_missing, judge_twice, last_value_left, lesser,
 };
 
 pub(crate) const STRINGTABLE: u64 = 1;

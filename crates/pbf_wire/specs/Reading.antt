@@ -8,6 +8,7 @@ use Rattle.pbf_wire.specs.Occurrence.{Content, Number, Bytes, Occurrence}
 abbrev pub last_of : ℕ → List Occurrence → Option Occurrence
 last_of k os = last_or None (filter (λ o. o.number == k) os)
 
+-- the place of an occurrence, and its number
 abbrev pub value_in : ℕ → Content → Option (ℕ × ℕ)
 value_in place (Number v) = Some (place, v)
 value_in _ _ = None
@@ -16,6 +17,7 @@ value_in _ _ = None
 abbrev pub values : ℕ → List Occurrence → List (ℕ × ℕ)
 values k os = filter_map (λ o. if o.number == k then value_in o.place o.content else None) os
 
+-- the place of the last number of the field k, and the number
 abbrev pub last_value : ℕ → List Occurrence → Option (ℕ × ℕ)
 last_value k os = last_or None (values k os)
 

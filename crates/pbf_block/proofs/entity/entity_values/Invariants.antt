@@ -1,13 +1,14 @@
-use Rattle.std.proofs.Common.{◌≡◌, length, None}
-use Rattle.std.specs.List.{flat_map}
+use Rattle.std.proofs.Common.{◌≡◌, length}
+use Rattle.std.specs.List.{flat_map, last_or}
 use Rattle.pbf_wire.specs.Cursors.{fields_left}
 use Rattle.pbf_wire.specs.Faults.{entered, found_in}
 use Rattle.pbf_wire.specs.Least.{lesser, least}
 use Rattle.pbf_wire.specs.Occurrence.{found}
+use Rattle.pbf_wire.specs.Reading.{values, last_value}
 use Rattle.pbf_block.specs.Passes.{only, only_from}
 use Rattle.pbf_block.specs.Info.{info_values}
 use Rattle.pbf_block.specs.declared.entity.TheConstants.{ID, KEYS, VALS, INFO}
-use Rattle.pbf_block.proofs.ValueLemmas.{later_value, texts_of}
+use Rattle.pbf_block.proofs.ValueLemmas.{texts_of}
 use Rattle.pbf_block.proofs.entity.entity_values.Given as goal
 
 abbrev pub invariant-fields : goal.invariant-fields
@@ -17,7 +18,7 @@ invariant-fields g l =
     record {
       can : (goal.iterator-fields g).can_next l.fields;
       ends : (goal.iterator-fields g).is_finite l.fields;
-      id : later_value ID l.id left ≡ later_value ID None all;
+      id : last_or l.id (values ID left) ≡ last_value ID all;
       keys : lesser l.keys (least (flat_map (texts_of KEYS l.limit) left)) ≡ least (flat_map (texts_of KEYS l.limit) all);
       vals : lesser l.vals (least (flat_map (texts_of VALS l.limit) left)) ≡ least (flat_map (texts_of VALS l.limit) all);
       infos : lesser l.infos (least (flat_map (entered INFO (info_values l.limit)) left)) ≡ least (flat_map (entered INFO (info_values l.limit)) all);
