@@ -44,15 +44,14 @@ fn take_tags<'a>(numbers: &mut Column<'a>, table: &'a Table<'a>) -> Tags<'a>
         ≡ after_run (map low_32 (numbers_left numbers.old)) }
 {
     let run = RunTags::new(*numbers, table);
-    let Some(first) = next_number(numbers) else {
-        return Tags::Owned(OwnedTags::new(&[]));
-    };
-    if low_u32(first) == 0 {
-        return Tags::Owned(OwnedTags::new(&[]));
+    match next_number(numbers) {
+        Some(first) if low_u32(first) != 0 => {
+            let _value = next_number(numbers);
+            skip_run(numbers);
+            Tags::Run(run)
+        }
+        _ => Tags::Owned(OwnedTags::new(&[])),
     }
-    let _value = next_number(numbers);
-    skip_run(numbers);
-    Tags::Run(run)
 }
 
 /// The nodes of a dense message that are still to come: an iterator over its columns, which takes no memory.

@@ -30,19 +30,11 @@ pub struct DenseOut {
     tagged: bool,
 }
 
-/// Whether there is a tag.
-fn has_tag(tags: Tags<'_>) -> bool
-    ensures { result ≡ are_some (tags_left tags.entry) }
-{
-    let mut rest = tags;
-    rest.next().is_some()
-}
-
 /// Whether there was a tag before, or is one here.
 fn is_tagged(before: bool, node: &NodeRef<'_>) -> bool
     ensures { result ≡ (before || are_some (node_of node.now).tags) }
 {
-    before || has_tag(node.tags())
+    before || node.tags().next().is_some()
 }
 
 /// Adds the indexes of keys and values in turn, and then a 0.

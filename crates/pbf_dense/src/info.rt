@@ -1,9 +1,9 @@
 //! The columns of a DenseInfo.
 
-ghost use Rattle.std.specs.Prelude.{◌≡◌, ◌==◌, ◌^◌, pos, true, not, drop, slice_get};
+ghost use Rattle.std.specs.Prelude.{◌≡◌, ◌^◌, pos, true, drop, slice_get};
 ghost use Rattle.std.specs.Option.{option_map};
 ghost use Rattle.std.specs.List.{list_all};
-ghost use Rattle.pbf_wire.specs.Signed.{is_within, low_i32};
+ghost use Rattle.pbf_wire.specs.Signed.{is_within};
 ghost use Rattle.pbf_wire.specs.Cursors.{sums_left};
 ghost use Rattle.pbf_dense.specs.Info.{user_text};
 
@@ -12,37 +12,17 @@ use crate::dense_nodes::DENSEINFO;
 use crate::entries::{next_number, next_sum, pass_numbers, pass_sums};
 use osm_entity::{MetaRef, STORED_LIMIT, UID_LIMIT};
 use pbf_strings::Table;
-use pbf_wire::{Column, Field, Payload, Sums, last_field, low_i32};
+use pbf_wire::{Column, Payload, Sums, last_field, low_i32};
 
-/// The text of an index, and the empty text where it is negative or the table has none.
-fn user_text<'a>(table: &'a Table<'a>, index: i64) -> &'a [u8]
-    ensures { result.now ≡ user_text table.now index }
+/// The text of an index, if there is one; the empty text where it is negative or the table has none.
+fn user_text<'a>(table: &'a Table<'a>, index: Option<i64>) -> Option<&'a [u8]>
+    ensures { option_map (λ text. text.now) result ≡ option_map (user_text table.now) index }
 {
+    let index = index?;
     if index < 0 {
-        return &[];
+        return Some(&[]);
     }
-    table.text(index as usize)
-}
-
-/// The version that an entry means.
-fn version_of(entry: Option<u64>) -> Option<i32>
-    ensures { result ≡ option_map low_i32 entry }
-{
-    Some(low_i32(entry?))
-}
-
-/// The user's text that an entry means.
-fn user_of<'a>(table: &'a Table<'a>, entry: Option<i64>) -> Option<&'a [u8]>
-    ensures { option_map (λ text. text.now) result ≡ option_map (user_text table.now) entry }
-{
-    Some(user_text(table, entry?))
-}
-
-/// Whether the entity is visible, as an entry means it.
-fn visible_of(entry: Option<u64>) -> Option<bool>
-    ensures { result ≡ option_map (λ n. not (n == 0)) entry }
-{
-    Some(entry? != 0)
+    Some(table.text(index as usize))
 }
 
 /// The next value of a column of uids.
@@ -71,8 +51,7 @@ pub(crate) struct InfoColumns<'a> {
 
 impl<'a> InfoColumns<'a> {
     ghost use Rattle.std.specs.Prelude.{◌+◌, ◌≤◌, length};
-    ghost use Rattle.pbf_wire.specs.Fields.{occurrence};
-    ghost use Rattle.pbf_wire.specs.Faults.{fields_in, fields_of, embedded};
+    ghost use Rattle.pbf_wire.specs.Faults.{fields_in, embedded};
     ghost use Rattle.osm_entity.specs.Views.{meta_of};
     ghost use Rattle.pbf_dense.specs.Info.{meta_at, later, later_by, info_along};
     ghost use Rattle.pbf_dense.specs.Cursors.{info_left};
@@ -93,29 +72,17 @@ impl<'a> InfoColumns<'a> {
         }
     }
 
-    /// The columns of the DenseInfo that a field holds, and empty ones where it holds none.
-    #[tactic(auto, using(crate::proofs::InfoLemmas::no_fields))]
-    fn held_by(field: Option<Field<'a>>) -> Self
-        ensures { info_left result ≡ info_along (fields_of (option_map occurrence field.entry)) }
-    {
-        match field {
-            Some(
-                Field {
-                    payload: Payload::Bytes(info, place),
-                    ..
-                },
-            ) => InfoColumns::new(info, place),
-            _ => InfoColumns::new(&[], 0),
-        }
-    }
-
     /// The columns of the last DenseInfo in a DenseNodes whose first byte stands at `at` in the file; without one they are
     /// empty.
+    #[tactic(auto, using(crate::proofs::InfoLemmas::no_fields))]
     pub(crate) fn last_in(dense: &'a [u8], at: u64) -> Self
         requires { at + length dense.now ≤ 2 ^ 63 }
         ensures { info_left result ≡ info_along (embedded DENSEINFO (fields_in at dense.now)) }
     {
-        InfoColumns::held_by(last_field(dense, at, DENSEINFO))
+        match last_field(dense, at, DENSEINFO).map(|field| field.payload) {
+            Some(Payload::Bytes(info, place)) => InfoColumns::new(info, place),
+            _ => InfoColumns::new(&[], 0),
+        }
     }
 
     /// The metadata of the next node.
@@ -124,12 +91,12 @@ impl<'a> InfoColumns<'a> {
         ensures rest { info_left self.new ≡ later (info_left self.old) }
     {
         MetaRef {
-            version: version_of(next_number(&mut self.versions)),
+            version: next_number(&mut self.versions).map(|number| low_i32(number)),
             timestamp: next_sum(&mut self.timestamps),
             changeset: next_sum(&mut self.changesets),
             uid: next_uid(&mut self.uids),
-            user: user_of(table, next_sum(&mut self.users)),
-            visible: visible_of(next_number(&mut self.visible)),
+            user: user_text(table, next_sum(&mut self.users)),
+            visible: next_number(&mut self.visible).map(|number| number != 0),
         }
     }
 

@@ -3,7 +3,7 @@
 ghost use Rattle.std.specs.Prelude.{◌≡◌, ◌++◌, [], ◌-◌, ◌^◌, min, pos, ℕ, List, OnOk};
 ghost use Rattle.std.specs.Option.{option_map, option_to_list};
 ghost use Rattle.pbf_wire.specs.Signed.{sign_extended};
-ghost use Rattle.osm_entity.specs.Ranges.{IsStored, IsUid, IfPresent, MetaFits};
+ghost use Rattle.osm_entity.specs.Ranges.{IsStored, IfPresent, MetaFits};
 ghost use Rattle.osm_entity.specs.Views.{meta_of};
 ghost use Rattle.pbf_dense.specs.WrittenDense.{bit_of, info_columns, info_message, info_held, info_length};
 
@@ -23,61 +23,23 @@ pub(crate) struct InfoOut {
     visible: ColumnOut,
 }
 
-/// Adds a version, if there is one.
-fn push_version(column: &mut ColumnOut, version: Option<i32>) -> Result<(), AllocError>
-    ensures { OnOk result
-        (column.new ≡ column.old ++ option_to_list (option_map sign_extended version)) }
+/// Adds a number, if there is one.
+fn push_number(column: &mut ColumnOut, number: Option<u64>) -> Result<(), AllocError>
+    ensures { OnOk result (column.new ≡ column.old ++ option_to_list number) }
 {
-    match version {
-        Some(version) => column.push(sign_extended(i64::from(version)))?,
-        None => {}
+    if let Some(number) = number {
+        column.push(number)?;
     }
     Ok(())
 }
 
-/// Adds a time or a changeset, if there is one.
-fn push_stored(column: &mut DeltaOut, value: Option<i64>) -> Result<(), AllocError>
+/// Adds a value, if there is one.
+fn push_value(column: &mut DeltaOut, value: Option<i64>) -> Result<(), AllocError>
     requires { IfPresent IsStored value }
     ensures { OnOk result (column.new ≡ column.old ++ option_to_list value) }
 {
-    match value {
-        Some(value) => column.push(value)?,
-        None => {}
-    }
-    Ok(())
-}
-
-/// Adds a uid, if there is one.
-fn push_uid(column: &mut DeltaOut, uid: Option<i32>) -> Result<(), AllocError>
-    requires { IfPresent IsUid uid }
-    ensures { OnOk result (column.new ≡ column.old ++ option_to_list uid) }
-{
-    match uid {
-        Some(uid) => column.push(i64::from(uid))?,
-        None => {}
-    }
-    Ok(())
-}
-
-/// Adds the index of a user, if there is one.
-fn push_user(column: &mut DeltaOut, user: Option<u32>) -> Result<(), AllocError>
-    ensures { OnOk result (column.new ≡ column.old ++ option_to_list (option_map pos user)) }
-{
-    match user {
-        Some(user) => column.push(i64::from(user))?,
-        None => {}
-    }
-    Ok(())
-}
-
-/// Adds 0 or 1, if there is a value.
-fn push_visible(column: &mut ColumnOut, visible: Option<bool>) -> Result<(), AllocError>
-    ensures { OnOk result (column.new ≡ column.old ++ option_to_list (option_map bit_of visible)) }
-{
-    match visible {
-        Some(true) => column.push(1)?,
-        Some(false) => column.push(0)?,
-        None => {}
+    if let Some(value) = value {
+        column.push(value)?;
     }
     Ok(())
 }
@@ -112,12 +74,13 @@ impl InfoOut {
         ensures visible { OnOk result (self.new.visible
             ≡ self.old.visible ++ option_to_list (option_map bit_of meta.now.visible)) }
     {
-        push_version(&mut self.versions, meta.version)?;
-        push_stored(&mut self.timestamps, meta.timestamp)?;
-        push_stored(&mut self.changesets, meta.changeset)?;
-        push_uid(&mut self.uids, meta.uid)?;
-        push_user(&mut self.users, user)?;
-        push_visible(&mut self.visible, meta.visible)?;
+        let version = meta.version.map(|number| sign_extended(i64::from(number)));
+        push_number(&mut self.versions, version)?;
+        push_value(&mut self.timestamps, meta.timestamp)?;
+        push_value(&mut self.changesets, meta.changeset)?;
+        push_value(&mut self.uids, meta.uid.map(i64::from))?;
+        push_value(&mut self.users, user.map(i64::from))?;
+        push_number(&mut self.visible, meta.visible.map(u64::from))?;
         Ok(())
     }
 

@@ -20,15 +20,9 @@ fn early_fault(message: &[u8], at: u64, place: u64, table: &Table<'_>) -> Option
     ensures few { length table.now ≤ 2 ^ 62 }
 {
     let limit = table.len() as u64;
-    let wire = Dense::judge_wire(message, at);
-    if wire.is_some() {
-        return wire;
-    }
-    let structure = Dense::judge_structure(message, at, place);
-    if structure.is_some() {
-        return structure;
-    }
-    Dense::judge_values(message, at, limit)
+    Dense::judge_wire(message, at)
+        .or_else(|| Dense::judge_structure(message, at, place))
+        .or_else(|| Dense::judge_values(message, at, limit))
 }
 
 /// The least fault of the weights, where there is none before them.
@@ -49,17 +43,6 @@ fn late_fault(
         Some(_) => None,
         None => Dense::judge_weights(message, at, place, table),
     }
-}
-
-/// The first fault by phase.
-#[tactic(auto, unfolding(crate::specs::Judged::dense_fault))]
-fn dense_fault(message: &[u8], at: u64, place: u64, table: &Table<'_>) -> Option<Fault>
-    requires { at + length message.now ≤ 2 ^ 63 }
-    ensures exact { result ≡ dense_fault place at table.now message.now }
-    ensures few { length table.now ≤ 2 ^ 62 }
-{
-    let early = early_fault(message, at, place, table);
-    early.or(late_fault(early, message, at, place, table))
 }
 
 impl<'a> Dense<'a> {
@@ -107,7 +90,7 @@ impl<'a> Dense<'a> {
     }
 
     /// Judges a dense message by all phases, and gives its nodes. The error is the first fault by phase, and in it the least.
-    #[tactic(auto, using(crate::proofs::Phases::sound_at))]
+    #[tactic(auto, using(crate::proofs::Phases::sound_at), unfolding(crate::specs::Judged::dense_fault))]
     pub fn read(
         message: &'a [u8],
         at: u64,
@@ -123,9 +106,8 @@ impl<'a> Dense<'a> {
         ensures refused { (fault : Fault)
             → result ≡ Err fault ↔ dense_fault place at table.now message.now ≡ Some fault }
     {
-        match dense_fault(message, at, place, table) {
-            Some(fault) => Err(fault),
-            None => Ok(Dense::open(message, at, table, scale)),
-        }
+        let early = early_fault(message, at, place, table);
+        refuse(early.or(late_fault(early, message, at, place, table)))?;
+        Ok(Dense::open(message, at, table, scale))
     }
 }

@@ -49,5 +49,5 @@ features_put p a b c old first second all e f g =
     ∙ ap (λ (ms : List (List ℕ)). old ++ slot_bytes (Each 5 ms)) (sym (filter-append p (a ∷ []) (b ∷ c ∷ [])))
 
 -- what the code computes on 64 bits
-pub edge_put : (number : ℕ) (edge : ℤ) (old new : List ℕ) → SFits w64 edge → new ≡ old ++ slot_bytes (Scalar number (Some (zigzag (to_z w64 (of_z w64 edge))))) → new ≡ old ++ slot_bytes (Scalar number (Some (zigzag edge)))
-edge_put number edge old new fits e = e ∙ ap (λ (z : ℤ). old ++ slot_bytes (Scalar number (Some (zigzag z)))) (to_z-of_z w64 edge fits)
+pub edge_put : (number value : ℕ) (edge : ℤ) (old new : List ℕ) → SFits w64 edge → value ≡ zigzag (to_z w64 (of_z w64 edge)) → new ≡ old ++ slot_bytes (Scalar number (Some value)) → new ≡ old ++ slot_bytes (Scalar number (Some (zigzag edge)))
+edge_put number value edge old new fits v e = e ∙ ap (λ (n : ℕ). old ++ slot_bytes (Scalar number (Some n))) (v ∙ ap zigzag (to_z-of_z w64 edge fits))

@@ -61,13 +61,11 @@ pub(crate) fn has(texts: &[Vec<u8>], text: &[u8]) -> bool
 }
 
 /// A text of one's own, where there is one.
-fn copied(alloc: Global, text: &Option<Vec<u8>>) -> Result<Option<Vec<u8>>, AllocError>
-    ensures { IfOk result (λ owned. option_map text_of owned ≡ option_map text_of text.now) }
+pub(crate) fn copied(alloc: Global, text: Option<&[u8]>) -> Result<Option<Vec<u8>>, AllocError>
+    ensures { IfOk result
+        (λ owned. option_map text_of owned ≡ option_map (λ text. text.now) text.entry) }
 {
-    match text {
-        Some(text) => Ok(Some(Vec::from_slice(alloc, text.as_slice())?)),
-        None => Ok(None),
-    }
+    text.map(|text| Vec::from_slice(alloc, text)).transpose()
 }
 
 /// The required features of what is written.
@@ -108,8 +106,8 @@ impl Header {
             required: known_features(alloc)?,
             optional: kept_features(alloc, &self.optional)?,
             program: Some(Vec::from_slice(alloc, PROGRAM)?),
-            source: copied(alloc, &self.source)?,
-            url: copied(alloc, &self.url)?,
+            source: copied(alloc, self.source.as_deref())?,
+            url: copied(alloc, self.url.as_deref())?,
             timestamp: self.timestamp,
             sequence: self.sequence,
         })
@@ -121,15 +119,13 @@ impl Header {
         ensures { IfOk result (λ header. header_of header
             ≡ header_out_for_box area (header_of self.now)) }
     {
-        self.written(
-            alloc,
-            Some(HeaderBox {
-                left: area.left,
-                right: area.right,
-                top: area.top,
-                bottom: area.bottom,
-            }),
-        )
+        let bbox = HeaderBox {
+            left: area.left,
+            right: area.right,
+            top: area.top,
+            bottom: area.bottom,
+        };
+        self.written(alloc, Some(bbox))
     }
 
     /// The header of a file with the same entities in canonical form: as for [`Header::for_box`], with the box of this header,

@@ -4,9 +4,7 @@ ghost use Rattle.std.specs.Prelude.{◌≡◌, ◌+◌, ◌≤◌, ◌^◌, leng
 ghost use Rattle.pbf_wire.specs.Faults.{fields_in};
 ghost use Rattle.pbf_wire.specs.Least.{least};
 ghost use Rattle.pbf_wire.specs.Wire.{judged};
-ghost use Rattle.pbf_strings.specs.TableOut.{has_text};
 ghost use Rattle.pbf_header.specs.HeaderFaults.{edge_faults, header_structure, feature_faults, header_fault};
-ghost use Rattle.pbf_header.specs.WrittenHeader.{known_features};
 
 use crate::header::{DENSE_NODES, OSM_SCHEMA};
 use pbf_wire::{
@@ -89,13 +87,6 @@ fn judge_structure(payload: &[u8], at: u64) -> Option<Fault>
     )
 }
 
-/// Whether a required feature is one that this crate can read.
-fn is_known(feature: &[u8]) -> bool
-    ensures { result ≡ has_text known_features feature.now }
-{
-    feature == OSM_SCHEMA || feature == DENSE_NODES
-}
-
 /// Whether a required feature is known.
 #[derive(Clone, Copy)]
 struct FeatureValue;
@@ -104,7 +95,8 @@ impl JudgeMessage for FeatureValue {
     ghost faults = { λ _. feature_faults };
 
     fn judge_message(&self, feature: &[u8], _at: u64, place: u64) -> Option<Fault> {
-        fault_where(!is_known(feature), place, Reason::Feature)
+        let known = feature == OSM_SCHEMA || feature == DENSE_NODES;
+        fault_where(!known, place, Reason::Feature)
     }
 }
 
@@ -114,12 +106,8 @@ pub(crate) fn judge_header(payload: &[u8], at: u64) -> Result<(), Fault>
     requires { at + length payload.now ≤ 2 ^ 63 }
     ensures { result ≡ judged (header_fault at payload.now) }
 {
-    if let Some(fault) = judge_nested(payload, at, &HEADER_KINDS, BBOX, &BBOX_KINDS) {
-        return Err(fault);
-    }
-    if let Some(fault) = judge_structure(payload, at) {
-        return Err(fault);
-    }
+    refuse(judge_nested(payload, at, &HEADER_KINDS, BBOX, &BBOX_KINDS))?;
+    refuse(judge_structure(payload, at))?;
     let features = InField(REQUIRED_FEATURES, FeatureValue);
     refuse(judge_fields(payload, at, &features))
 }

@@ -5,12 +5,11 @@ ghost use Rattle.std.specs.Option.{option_map};
 ghost use Rattle.pbf_wire.specs.declared.fault.Fault.{Fault};
 ghost use Rattle.pbf_wire.specs.declared.fault.ReadFault.TheVariants.{Refused};
 ghost use Rattle.pbf_wire.specs.Faults.{fields_in};
-ghost use Rattle.pbf_wire.specs.Reading.{last_number, each};
-ghost use Rattle.pbf_wire.specs.Signed.{low_i64};
+ghost use Rattle.pbf_wire.specs.Reading.{each};
 ghost use Rattle.pbf_header.specs.Header.{header_of, header_in, text_of, edge, box_in, last_text};
 ghost use Rattle.pbf_header.specs.HeaderFaults.{header_fault};
 
-use crate::header::{Header, HeaderBox};
+use crate::header::{Header, HeaderBox, copied};
 use crate::header_block::{
     BBOX, BOTTOM, LEFT, OPTIONAL_FEATURES, REPLICATION_SEQUENCE, REPLICATION_TIMESTAMP,
     REPLICATION_URL, REQUIRED_FEATURES, RIGHT, SOURCE, TOP, WRITINGPROGRAM, judge_header,
@@ -76,31 +75,6 @@ fn texts(alloc: Global, payload: &[u8], at: u64, number: u64) -> Result<Vec<Vec<
     Ok(texts)
 }
 
-/// A copy of the last text of a field.
-fn last_text(
-    alloc: Global,
-    payload: &[u8],
-    at: u64,
-    number: u64,
-) -> Result<Option<Vec<u8>>, AllocError>
-    requires { at + length payload.now ≤ 2 ^ 63 }
-    ensures { IfOk result
-        (λ text. option_map text_of text ≡ last_text number (fields_in at payload.now)) }
-{
-    match last_bytes(payload, at, number) {
-        Some(text) => Ok(Some(Vec::from_slice(alloc, text)?)),
-        None => Ok(None),
-    }
-}
-
-/// The last number of a field.
-fn last_int64(payload: &[u8], at: u64, number: u64) -> Option<i64>
-    requires { at + length payload.now ≤ 2 ^ 63 }
-    ensures { result ≡ option_map low_i64 (last_number number (fields_in at payload.now)) }
-{
-    last_number(payload, at, number).map(|number| low_i64(number))
-}
-
 /// What a HeaderBlock says; where it has a fault, what its fields before the fault say.
 #[tactic(auto, unfolding(crate::specs::Header::header_in))]
 fn header_in(alloc: Global, payload: &[u8], at: u64) -> Result<Header, AllocError>
@@ -111,11 +85,11 @@ fn header_in(alloc: Global, payload: &[u8], at: u64) -> Result<Header, AllocErro
         bbox: last_bytes(payload, at, BBOX).map(|message| box_in(message)),
         required: texts(alloc, payload, at, REQUIRED_FEATURES)?,
         optional: texts(alloc, payload, at, OPTIONAL_FEATURES)?,
-        program: last_text(alloc, payload, at, WRITINGPROGRAM)?,
-        source: last_text(alloc, payload, at, SOURCE)?,
-        url: last_text(alloc, payload, at, REPLICATION_URL)?,
-        timestamp: last_int64(payload, at, REPLICATION_TIMESTAMP),
-        sequence: last_int64(payload, at, REPLICATION_SEQUENCE),
+        program: copied(alloc, last_bytes(payload, at, WRITINGPROGRAM))?,
+        source: copied(alloc, last_bytes(payload, at, SOURCE))?,
+        url: copied(alloc, last_bytes(payload, at, REPLICATION_URL))?,
+        timestamp: last_number(payload, at, REPLICATION_TIMESTAMP).map(|number| low_i64(number)),
+        sequence: last_number(payload, at, REPLICATION_SEQUENCE).map(|number| low_i64(number)),
     })
 }
 

@@ -1,8 +1,8 @@
 //! A HeaderBlock, written.
 
-ghost use Rattle.std.specs.Prelude.{◌≡◌, ◌++◌, ◌∷◌, [], ◌+◌, ◌^◌, ◌<◌, ◌≤◌, OnOk, Some, length, map, filter};
+ghost use Rattle.std.specs.Prelude.{◌≡◌, ◌++◌, ◌∷◌, [], ◌+◌, ◌^◌, ◌<◌, ◌≤◌, OnOk, length, map, filter};
 ghost use Rattle.std.specs.Option.{option_map, option_to_list};
-ghost use Rattle.pbf_wire.specs.Message.{Scalar, Each, slot_bytes};
+ghost use Rattle.pbf_wire.specs.Message.{Each, slot_bytes};
 ghost use Rattle.pbf_wire.specs.Signed.{zigzag};
 ghost use Rattle.pbf_wire.specs.Varint.{shortest};
 ghost use Rattle.pbf_strings.specs.TableOut.{has_text};
@@ -38,46 +38,26 @@ fn box_len(bbox: HeaderBox) -> usize
     edge_len(bbox.left) + edge_len(bbox.right) + edge_len(bbox.top) + edge_len(bbox.bottom)
 }
 
-/// Appends an edge of a HeaderBBox.
-fn put_edge(out: &mut Vec<u8>, number: u64, edge: i64) -> Result<(), AllocError>
-    requires { number < 2 ^ 29 }
-    ensures { OnOk result
-        (out.new.items ≡ out.old.items ++ slot_bytes (Scalar number (Some (zigzag edge)))) }
-{
-    put_number(out, number, zigzag(edge))?;
-    Ok(())
-}
-
 /// Appends a HeaderBBox.
 fn put_edges(out: &mut Vec<u8>, bbox: HeaderBox) -> Result<(), AllocError>
     ensures { OnOk result (out.new.items ≡ out.old.items ++ box_message bbox) }
 {
-    put_edge(out, LEFT, bbox.left)?;
-    put_edge(out, RIGHT, bbox.right)?;
-    put_edge(out, TOP, bbox.top)?;
-    put_edge(out, BOTTOM, bbox.bottom)?;
+    put_number(out, LEFT, zigzag(bbox.left))?;
+    put_number(out, RIGHT, zigzag(bbox.right))?;
+    put_number(out, TOP, zigzag(bbox.top))?;
+    put_number(out, BOTTOM, zigzag(bbox.bottom))?;
     Ok(())
 }
 
-/// Appends the field of a box, its length first.
-fn put_whole_box(out: &mut Vec<u8>, bbox: HeaderBox) -> Result<(), AllocError>
-    ensures { OnOk result
-        (out.new.items ≡ out.old.items ++ slot_bytes (Each BBOX (box_message bbox ∷ []))) }
-{
-    put_varint(out, BBOX * 8 + 2)?;
-    put_varint(out, box_len(bbox) as u64)?;
-    put_edges(out, bbox)?;
-    Ok(())
-}
-
-/// Appends the box of a header, if it has one.
+/// Appends the box of a header, if it has one: its length first.
 fn put_box(out: &mut Vec<u8>, bbox: Option<HeaderBox>) -> Result<(), AllocError>
     ensures { OnOk result (out.new.items
         ≡ out.old.items ++ slot_bytes (Each BBOX (option_to_list (option_map box_message bbox)))) }
 {
-    match bbox {
-        Some(bbox) => put_whole_box(out, bbox)?,
-        None => {}
+    if let Some(bbox) = bbox {
+        put_varint(out, BBOX * 8 + 2)?;
+        put_varint(out, box_len(bbox) as u64)?;
+        put_edges(out, bbox)?;
     }
     Ok(())
 }
@@ -123,9 +103,8 @@ fn put_text(out: &mut Vec<u8>, number: u64, text: &Option<Vec<u8>>) -> Result<()
         ≡ out.old.items ++ slot_bytes
         (Each number (option_to_list (option_map text_of text.now)))) }
 {
-    match text {
-        Some(text) => put_bytes(out, number, text)?,
-        None => {}
+    if let Some(text) = text {
+        put_bytes(out, number, text)?;
     }
     Ok(())
 }

@@ -8,7 +8,7 @@ pub returns : goal.returns
 unfolding box_message
 returns c =
     let b = c.args.bbox in
-    one_more _ _ _ _ _ (edge_put 1 b.left _ _ (search rules) c.in_ok-put_edge.ensures)
-    (one_more _ _ _ _ _ (edge_put 2 b.right _ _ (search rules) c.in_ok-put_edge-2.ensures)
-    (one_more _ _ _ _ _ (edge_put 3 b.top _ _ (search rules) c.in_ok-put_edge-3.ensures)
-    (last_slot _ _ _ (edge_put 4 b.bottom _ _ (search rules) c.in_ok-put_edge-4.ensures))))
+    one_more _ _ _ _ _ (edge_put 1 _ b.left _ _ (search rules) c.zigzag.ensures c.in_ok-put_number.ensures)
+    (one_more _ _ _ _ _ (edge_put 2 _ b.right _ _ (search rules) c.zigzag-2.ensures c.in_ok-put_number-2.ensures)
+    (one_more _ _ _ _ _ (edge_put 3 _ b.top _ _ (search rules) c.zigzag-3.ensures c.in_ok-put_number-3.ensures)
+    (last_slot _ _ _ (edge_put 4 _ b.bottom _ _ (search rules) c.zigzag-4.ensures c.in_ok-put_number-4.ensures))))
