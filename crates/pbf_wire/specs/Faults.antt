@@ -6,6 +6,7 @@ use Rattle.pbf_wire.specs.declared.fault.Fault.{Fault}
 use Rattle.pbf_wire.specs.declared.fault.Reason.{Reason}
 use Rattle.pbf_wire.specs.declared.fault.Reason.TheVariants.{Missing, TwiceMessage, StringIndex, OutOfRange}
 use Rattle.pbf_wire.specs.declared.kind.Kind.{Kind}
+use Rattle.pbf_wire.specs.declared.message.Message.{Message}
 use Rattle.pbf_wire.specs.Occurrence.{Content, Number, Bytes, Occurrence, Item, items, found}
 use Rattle.pbf_wire.specs.Reading.{last_of, last_value}
 use Rattle.pbf_wire.specs.Signed.{delta_in, is_within}
@@ -34,6 +35,9 @@ entered k f o = if o.number == k then inside (f o.place) o.content else []
 -- the occurrences in a message
 abbrev pub fields_in : ℕ → List ℕ → List Occurrence
 fields_in at m = found (items at m)
+
+abbrev pub found_in : Message → List Occurrence
+found_in m = fields_in m.at m.bytes.now
 
 abbrev pub fields_of : Option Occurrence → List Occurrence
 fields_of last = option_map_or (λ o. inside fields_in o.content) last []

@@ -10,10 +10,10 @@ ghost use Rattle.pbf_wire.specs.Faults.{message_faults, leaf_faults, nested_faul
 
 use crate::fault::{Fault, Reason};
 use crate::field::{Field, Payload};
-use crate::fields::Fields;
 use crate::judge::{InField, Judge, JudgeMessage, refuse};
 use crate::kind::Kind;
 use crate::least::lesser;
+use crate::message::Message;
 use crate::short::is_short;
 use crate::varint::first_varint;
 
@@ -60,22 +60,16 @@ pub fn judge_payload(payload: Payload<'_>, kind: Option<Kind>) -> Result<(), Rea
     }
 }
 
-/// The least wire fault of a message whose first byte stands at `at` in the file. `kinds` lists its known fields by their numbers;
-/// others may have any wire type. `inner` judges the messages that its fields hold. After a field with a fault of its own nothing
+/// The least wire fault of a message. `kinds` lists its known fields by their numbers; others may have any wire type. `inner` judges the messages that its fields hold. After a field with a fault of its own nothing
 /// is read.
 #[inline(always)]
 #[tactic(auto, using(crate::proofs::LeastLemmas::least_more, crate::proofs::LeastLemmas::lesser_nothing))]
-pub fn judge_form<J: Judge>(
-    message: &[u8],
-    at: u64,
-    kinds: &[(u64, Kind)],
-    inner: &J,
-) -> Option<Fault>
-    requires { at + length message.now ≤ 2 ^ 63 }
-    ensures { result ≡ least (message_faults kinds.now (J.faults inner.now) (items at message.now)) }
+pub fn judge_form<J: Judge>(message: Message<'_>, kinds: &[(u64, Kind)], inner: &J) -> Option<Fault>
+    ensures { result ≡ least (message_faults kinds.now (J.faults inner.now)
+        (items message.entry.at message.entry.bytes.now)) }
 {
     let mut least = None;
-    for item in Fields::new(message, at) {
+    for item in message.fields() {
         let field = match item {
             Ok(field) => field,
             Err(fault) => return lesser(least, Some(fault)),
@@ -107,11 +101,10 @@ impl Judge for NoMessages {
 
 /// The first wire fault of a message without embedded messages, as [`judge_wire`] finds it.
 #[inline(always)]
-pub fn judge_leaf(message: &[u8], at: u64, kinds: &[(u64, Kind)]) -> Option<Fault>
-    requires { at + length message.now ≤ 2 ^ 63 }
-    ensures { result ≡ least (leaf_faults kinds.now 0 at message.now) }
+pub fn judge_leaf(message: Message<'_>, kinds: &[(u64, Kind)]) -> Option<Fault>
+    ensures { result ≡ least (leaf_faults kinds.now 0 message.entry.at message.entry.bytes.now) }
 {
-    judge_form(message, at, kinds, &NoMessages)
+    judge_form(message, kinds, &NoMessages)
 }
 
 /// The first wire fault of a message whose first byte stands at `at` in the file. `kinds` lists the known fields by their
@@ -121,7 +114,8 @@ pub fn judge_wire(message: &[u8], at: u64, kinds: &[(u64, Kind)]) -> Result<(), 
     requires { at + length message.now ≤ 2 ^ 63 }
     ensures { result ≡ judged (wire kinds.now (items at message.now)) }
 {
-    refuse(judge_leaf(message, at, kinds))
+    let message = Message { bytes: message, at };
+    refuse(judge_leaf(message, kinds))
 }
 
 /// The wire form of messages with these fields.
@@ -132,22 +126,21 @@ impl JudgeMessage for LeafForm<'_> {
     ghost faults = { λ leaf. leaf_faults leaf.0.now };
 
     #[inline(always)]
-    fn judge_message(&self, message: &[u8], at: u64, _place: u64) -> Option<Fault> {
-        judge_leaf(message, at, self.0)
+    fn judge_message(&self, message: Message<'_>, _place: u64) -> Option<Fault> {
+        judge_leaf(message, self.0)
     }
 }
 
 /// The least wire fault of a message with embedded messages at the field `number`, whose own fields `inner` lists.
 #[inline(always)]
 pub fn judge_nested(
-    message: &[u8],
-    at: u64,
+    message: Message<'_>,
     kinds: &[(u64, Kind)],
     number: u64,
     inner: &[(u64, Kind)],
 ) -> Option<Fault>
-    requires { at + length message.now ≤ 2 ^ 63 }
-    ensures { result ≡ least (nested_faults kinds.now number inner.now 0 at message.now) }
+    ensures { result ≡ least (nested_faults kinds.now number inner.now 0
+        message.entry.at message.entry.bytes.now) }
 {
-    judge_form(message, at, kinds, &InField(number, LeafForm(inner)))
+    judge_form(message, kinds, &InField(number, LeafForm(inner)))
 }

@@ -17,6 +17,7 @@ mod judge;
 mod kind;
 pub mod laws;
 mod least;
+mod message;
 mod reading;
 mod short;
 mod signed;
@@ -38,6 +39,7 @@ pub use form::{judge_form, judge_leaf, judge_nested, judge_payload, judge_wire, 
 pub use judge::{EachField, InField, Judge, JudgeMessage, fault_where, judge_fields, refuse};
 pub use kind::Kind;
 pub use least::{comes_before, lesser};
+pub use message::Message;
 pub use reading::{last_field, last_field_left, last_number, last_number_left, last_value_left};
 pub use short::is_short;
 pub use signed::{low_i32, low_i64, low_sint32, low_u32, sign_extended, unzigzag, zigzag};

@@ -1,14 +1,16 @@
 //! Singular fields: of several occurrences the last counts.
 
-ghost use Rattle.std.specs.Prelude.{◌≡◌, ◌+◌, ◌≤◌, ◌^◌, length};
+ghost use Rattle.std.specs.Prelude.{◌≡◌};
 ghost use Rattle.std.specs.Option.{option_map};
-ghost use Rattle.pbf_wire.specs.Occurrence.{items, found};
+ghost use Rattle.pbf_wire.specs.Occurrence.{found};
 ghost use Rattle.pbf_wire.specs.Cursors.{fields_left};
+ghost use Rattle.pbf_wire.specs.Faults.{found_in};
 ghost use Rattle.pbf_wire.specs.Fields.{occurrence};
 ghost use Rattle.pbf_wire.specs.Reading.{last_of, last_value, last_number};
 
 use crate::field::{Field, Payload};
 use crate::fields::Fields;
+use crate::message::Message;
 
 /// The last occurrence of a field, of any wire type, among the fields that are still to come. Where the message has a fault, its
 /// fields before the fault count. Reads all fields once and takes no memory.
@@ -24,12 +26,11 @@ pub fn last_field_left(fields: Fields<'_>, number: u64) -> Option<Field<'_>>
     last
 }
 
-/// As [`last_field_left`], of all of a message whose first byte stands at `at` in the file.
-pub fn last_field(message: &[u8], at: u64, number: u64) -> Option<Field<'_>>
-    requires { at + length message.now ≤ 2 ^ 63 }
-    ensures { option_map occurrence result ≡ last_of number (found (items at message.now)) }
+/// As [`last_field_left`], of all of a message.
+pub fn last_field(message: Message<'_>, number: u64) -> Option<Field<'_>>
+    ensures { option_map occurrence result ≡ last_of number (found_in message.entry) }
 {
-    last_field_left(Fields::new(message, at), number)
+    last_field_left(message.fields(), number)
 }
 
 /// The place of the last occurrence of a field that holds a number, and the number. The rest is as for [`last_field_left`].
@@ -55,10 +56,9 @@ pub fn last_number_left(fields: Fields<'_>, number: u64) -> Option<u64>
     Some(value)
 }
 
-/// As [`last_number_left`], of all of a message whose first byte stands at `at` in the file.
-pub fn last_number(message: &[u8], at: u64, number: u64) -> Option<u64>
-    requires { at + length message.now ≤ 2 ^ 63 }
-    ensures { result ≡ last_number number (found (items at message.now)) }
+/// As [`last_number_left`], of all of a message.
+pub fn last_number(message: Message<'_>, number: u64) -> Option<u64>
+    ensures { result ≡ last_number number (found_in message.entry) }
 {
-    last_number_left(Fields::new(message, at), number)
+    last_number_left(message.fields(), number)
 }

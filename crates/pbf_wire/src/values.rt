@@ -10,13 +10,14 @@ ghost use Rattle.pbf_wire.specs.Cursors.{fields_left};
 ghost use Rattle.pbf_wire.specs.Columns.{joined};
 ghost use Rattle.pbf_wire.specs.Least.{least};
 ghost use Rattle.pbf_wire.specs.Signed.{delta_in};
-ghost use Rattle.pbf_wire.specs.Faults.{fields_in, below_fault, index_faults, range_fault, is_good, faults_of_sums, sum_faults, index_sum_faults};
+ghost use Rattle.pbf_wire.specs.Faults.{found_in, below_fault, index_faults, range_fault, is_good, faults_of_sums, sum_faults, index_sum_faults};
 
 use crate::column::Column;
 use crate::fault::{Fault, Reason};
 use crate::fields::Fields;
 use crate::judge::fault_where;
 use crate::least::lesser;
+use crate::message::Message;
 use crate::short::{MOST_BYTES, count_small_left};
 use crate::signed::low_u32;
 use crate::sum::Sum;
@@ -32,17 +33,15 @@ fn judge_low(place: u64, number: u64, limit: u64, reason: Reason) -> Option<Faul
 /// The least fault of the numbers of a column of which the low 32 bits aren't below `limit`.
 #[tactic(auto, using(crate::proofs::LeastLemmas::least_more, crate::proofs::LeastLemmas::lesser_nothing))]
 pub fn judge_low_numbers(
-    message: &[u8],
-    at: u64,
+    message: Message<'_>,
     number: u64,
     limit: u64,
     reason: Reason,
 ) -> Option<Fault>
-    requires { at + length message.now ≤ 2 ^ 63 }
     ensures { result
-        ≡ least (flat_map (below_fault reason limit) (joined number (fields_in at message.now))) }
+        ≡ least (flat_map (below_fault reason limit) (joined number (found_in message.entry))) }
 {
-    let mut column = Column::new(message, at, number);
+    let mut column = message.column(number);
     let mut least = None;
     while let Some(value) = column.next() {
         least = lesser(least, judge_low(column.place(), value, limit, reason));
@@ -58,11 +57,10 @@ pub fn judge_index(place: u64, number: u64, limit: u64) -> Option<Fault>
 }
 
 /// The least `StringIndex` of the numbers of a column.
-pub fn judge_indexes(message: &[u8], at: u64, number: u64, limit: u64) -> Option<Fault>
-    requires { at + length message.now ≤ 2 ^ 63 }
-    ensures { result ≡ least (index_faults limit (joined number (fields_in at message.now))) }
+pub fn judge_indexes(message: Message<'_>, number: u64, limit: u64) -> Option<Fault>
+    ensures { result ≡ least (index_faults limit (joined number (found_in message.entry))) }
 {
-    judge_low_numbers(message, at, number, limit, Reason::StringIndex)
+    judge_low_numbers(message, number, limit, Reason::StringIndex)
 }
 
 /// `OutOfRange` at `place`, where the number isn't strictly between `-limit` and `limit`.
@@ -154,22 +152,20 @@ pub fn judge_sums_left(fields: Fields<'_>, number: u64, limit: u64, narrow: bool
 }
 
 /// As [`judge_sums_left`], of all of a message.
-pub fn judge_sums(message: &[u8], at: u64, number: u64, limit: u64, narrow: bool) -> Option<Fault>
-    requires placed { at + length message.now ≤ 2 ^ 63 }
-    requires limited { (1 ≤ limit) × (limit ≤ 2 ^ 62) }
+pub fn judge_sums(message: Message<'_>, number: u64, limit: u64, narrow: bool) -> Option<Fault>
+    requires { (1 ≤ limit) × (limit ≤ 2 ^ 62) }
     ensures { result
-        ≡ least (sum_faults (pos limit) narrow (joined number (fields_in at message.now))) }
+        ≡ least (sum_faults (pos limit) narrow (joined number (found_in message.entry))) }
 {
-    judge_sums_left(Fields::new(message, at), number, limit, narrow)
+    judge_sums_left(message.fields(), number, limit, narrow)
 }
 
 /// The least fault of the values of a narrow column of differences that are indexes: `StringIndex` where one is below 0 or
 /// not below `limit`, the length of a table. Reads up to the first such value.
-pub fn judge_index_sums(message: &[u8], at: u64, number: u64, limit: u64) -> Option<Fault>
-    requires placed { at + length message.now ≤ 2 ^ 63 }
-    requires limited { limit ≤ 2 ^ 62 }
-    ensures { result ≡ least (index_sum_faults limit (joined number (fields_in at message.now))) }
+pub fn judge_index_sums(message: Message<'_>, number: u64, limit: u64) -> Option<Fault>
+    requires { limit ≤ 2 ^ 62 }
+    ensures { result ≡ least (index_sum_faults limit (joined number (found_in message.entry))) }
 {
-    let fields = Fields::new(message, at);
+    let fields = message.fields();
     judge_values(fields, number, limit, true, false, Reason::StringIndex)
 }

@@ -9,5 +9,5 @@ abbrev pub invariant-loop-item : goal.invariant-loop-item
 invariant-loop-item g l = record {
   can : (goal.iterator-loop-item g).can_next l.item-iterator;
   ends : (goal.iterator-loop-item g).is_finite l.item-iterator;
-  so_far : lesser l.least (least (message_faults l.kinds (g.J.Judge.faults l.inner) (fields_left l.item-iterator))) ≡ least (message_faults l.kinds (g.J.Judge.faults l.inner) (items l.at l.message));
+  so_far : lesser l.least (least (message_faults l.kinds (g.J.Judge.faults l.inner) (fields_left l.item-iterator))) ≡ least (message_faults l.kinds (g.J.Judge.faults l.inner) (items l.message.at l.message.bytes.now));
 }

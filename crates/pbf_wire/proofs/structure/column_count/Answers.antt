@@ -7,5 +7,5 @@ loop-field-init c = record {
   can = tt;
   ends = tt;
   so_far = search rules;
-  room = omega (arith, count_short c.args.number c.args.at c.args.message.now, c.requires);
+  room = omega (arith, count_short c.args.number c.args.message.at c.args.message.bytes.now, c.args.message.fits);
 }

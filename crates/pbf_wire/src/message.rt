@@ -1,0 +1,47 @@
+//! A message, and where it stands.
+
+ghost use Rattle.std.specs.Prelude.{◌+◌, ◌≤◌, ◌^◌, length};
+
+use crate::column::Column;
+use crate::fields::{Fields, FoundFields};
+
+/// The bytes of a message, and where in the file the first of them stands. Whoever makes one owes that they end at 2^63 at the
+/// latest.
+#[derive(Clone, Copy)]
+pub struct Message<'a> {
+    pub bytes: &'a [u8],
+    pub at: u64,
+    ghost fits: { at + length bytes.now ≤ 2 ^ 63 },
+}
+
+impl<'a> Message<'a> {
+    ghost use Rattle.std.specs.Prelude.{◌≡◌};
+    ghost use Rattle.pbf_wire.specs.Columns.{joined};
+    ghost use Rattle.pbf_wire.specs.Cursors.{column_left, fields_left, found_left};
+    ghost use Rattle.pbf_wire.specs.Faults.{found_in};
+    ghost use Rattle.pbf_wire.specs.Occurrence.{items};
+
+    /// Its fields, and the fault that ends them.
+    #[inline(always)]
+    pub fn fields(self) -> Fields<'a>
+        ensures { fields_left result ≡ items self.entry.at self.entry.bytes.now }
+    {
+        Fields::new(self.bytes, self.at)
+    }
+
+    /// Its fields before the first fault.
+    #[inline(always)]
+    pub fn found(self) -> FoundFields<'a>
+        ensures { found_left result ≡ found_in self.entry }
+    {
+        self.fields().found()
+    }
+
+    /// The column that its field of this number is.
+    #[inline(always)]
+    pub fn column(self, number: u64) -> Column<'a>
+        ensures { column_left result ≡ joined number (found_in self.entry) }
+    {
+        Column::new(self.bytes, self.at, number)
+    }
+}
