@@ -11,7 +11,7 @@ use crate::info::InfoColumns;
 use crate::places::Places;
 use osm_entity::{NodeRef, OwnedTags, RunTags, STORED_LIMIT, Scale, Tags};
 use pbf_strings::Table;
-use pbf_wire::{Column, Sums, column_count, low_u32};
+use pbf_wire::{Column, Message, Sums, column_count, low_u32};
 
 /// Reads on to after the next 0 in key place.
 #[tactic(auto, using(crate::proofs::MovingLemmas::run_steps))]
@@ -67,28 +67,26 @@ pub struct Dense<'a> {
 }
 
 impl<'a> Dense<'a> {
-    ghost use Rattle.std.specs.Prelude.{◌+◌, ◌≤◌, ◌^◌, [], ℕ, List, length, drop};
+    ghost use Rattle.std.specs.Prelude.{[], ℕ, List, length, drop};
     ghost use Rattle.pbf_wire.specs.Cursors.{sums_left};
-    ghost use Rattle.pbf_wire.specs.Faults.{fields_in};
+    ghost use Rattle.pbf_wire.specs.Faults.{found_in};
     ghost use Rattle.pbf_dense.specs.Judged.{id_count, dense_wire};
     ghost use Rattle.pbf_dense.specs.Nodes.{nodes, nodes_along};
     ghost use Rattle.pbf_dense.specs.Cursors.{dense_left};
     ghost use Rattle.pbf_dense.specs.Places.{place_of, places_left, BeginWithIds};
 
-    /// The nodes of a dense message whose first byte stands at `at` in the file, whatever is wrong with it: as long as there are
-    /// an id, a latitude and a longitude, up to a sum that is out of range. Goes through the message's fields once for each of
-    /// its columns and takes no memory.
+    /// The nodes of a dense message, whatever is wrong with it: as long as there are an id, a latitude and a longitude, up to a sum
+    /// that is out of range. Goes through the message's fields once for each of its columns and takes no memory.
     #[tactic(auto, unfolding(crate::specs::Cursors::dense_left, crate::specs::Nodes::nodes_along))]
-    pub fn over(message: &'a [u8], at: u64, table: &'a Table<'a>, scale: Scale) -> Dense<'a>
-        requires { at + length message.now ≤ 2 ^ 63 }
-        ensures { dense_left result ≡ nodes_along table.now scale (fields_in at message.now) }
+    pub fn over(message: Message<'a>, table: &'a Table<'a>, scale: Scale) -> Dense<'a>
+        ensures { dense_left result ≡ nodes_along table.now scale (found_in message.entry) }
     {
         Dense {
-            ids: Sums::new(Column::new(message, at, ID), STORED_LIMIT),
-            lats: Sums::new(Column::new(message, at, LAT), STORED_LIMIT),
-            lons: Sums::new(Column::new(message, at, LON), STORED_LIMIT),
-            info: InfoColumns::last_in(message, at),
-            keys_vals: Column::new(message, at, KEYS_VALS),
+            ids: Sums::new(message.column(ID), STORED_LIMIT),
+            lats: Sums::new(message.column(LAT), STORED_LIMIT),
+            lons: Sums::new(message.column(LON), STORED_LIMIT),
+            info: InfoColumns::last_in(message),
+            keys_vals: message.column(KEYS_VALS),
             table,
             scale,
         }
@@ -138,17 +136,16 @@ impl<'a> Dense<'a> {
         skip_runs(&mut self.keys_vals, count);
     }
 
-    /// How many nodes there are in a dense message without a wire fault, whose first byte stands at `at` in the file: as many as
-    /// ids. No number is decoded, and no other column is looked at.
+    /// How many nodes there are in a dense message without a wire fault: as many as ids. No number is decoded, and no other column is
+    /// looked at.
     #[tactic(auto, using(crate::proofs::SoundDense::ids_are_nodes))]
-    pub fn count(message: &[u8], at: u64) -> usize
-        requires { at + length message.now ≤ 2 ^ 63 }
-        ensures exact { result ≡ id_count (fields_in at message.now) }
+    pub fn count(message: Message<'_>) -> usize
+        ensures exact { result ≡ id_count (found_in message.entry) }
         ensures nodes { (place : ℕ) (table : List (List ℕ)) (scale : Scale)
-            → dense_wire place at message.now ≡ []
-            → result ≡ length (nodes table scale (fields_in at message.now)) }
+            → dense_wire place message.entry.at message.entry.bytes.now ≡ []
+            → result ≡ length (nodes table scale (found_in message.entry)) }
     {
-        column_count(message, at, ID)
+        column_count(message, ID)
     }
 }
 

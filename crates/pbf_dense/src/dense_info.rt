@@ -1,14 +1,14 @@
 //! The rules of a DenseInfo, phase by phase. It has none of weight: the weight of a node counts the text of its user.
 
-ghost use Rattle.std.specs.Prelude.{◌≡◌, ◌+◌, ◌≤◌, ◌^◌, length};
+ghost use Rattle.std.specs.Prelude.{◌≡◌, ◌≤◌, ◌^◌};
 ghost use Rattle.pbf_wire.specs.Least.{least};
-ghost use Rattle.pbf_wire.specs.Faults.{fields_in};
+ghost use Rattle.pbf_wire.specs.Faults.{found_in};
 ghost use Rattle.pbf_dense.specs.Judged.{goes_with, info_counts, range_faults, info_values};
 
 use osm_entity::{STORED_LIMIT, UID_LIMIT};
 use pbf_wire::{
-    Fault, JudgeMessage, Kind, Reason, column_count, fault_where, judge_index_sums, judge_sums,
-    lesser,
+    Fault, JudgeMessage, Kind, Message, Reason, column_count, fault_where, judge_index_sums,
+    judge_sums, lesser,
 };
 
 // The fields of a DenseInfo, and of an Info, which numbers them alike.
@@ -37,11 +37,10 @@ pub(crate) const DENSEINFO_KINDS: [(u64, Kind); 6] = [
 // Its structure.
 
 /// Whether a column is empty or has an entry for each node.
-fn goes_with(message: &[u8], at: u64, number: u64, nodes: usize) -> bool
-    requires { at + length message.now ≤ 2 ^ 63 }
-    ensures { result ≡ goes_with nodes number (fields_in at message.now) }
+fn goes_with(message: Message<'_>, number: u64, nodes: usize) -> bool
+    ensures { result ≡ goes_with nodes number (found_in message.entry) }
 {
-    let count = column_count(message, at, number);
+    let count = column_count(message, number);
     count == 0 || count == nodes
 }
 
@@ -54,13 +53,13 @@ pub(crate) struct InfoStructure {
 impl JudgeMessage for InfoStructure {
     ghost faults = { λ infos. info_counts infos.nodes };
 
-    fn judge_message(&self, info: &[u8], at: u64, place: u64) -> Option<Fault> {
-        let fits = goes_with(info, at, VERSION, self.nodes)
-            && goes_with(info, at, TIMESTAMP, self.nodes)
-            && goes_with(info, at, CHANGESET, self.nodes)
-            && goes_with(info, at, UID, self.nodes)
-            && goes_with(info, at, USER_SID, self.nodes)
-            && goes_with(info, at, VISIBLE, self.nodes);
+    fn judge_message(&self, info: Message<'_>, place: u64) -> Option<Fault> {
+        let fits = goes_with(info, VERSION, self.nodes)
+            && goes_with(info, TIMESTAMP, self.nodes)
+            && goes_with(info, CHANGESET, self.nodes)
+            && goes_with(info, UID, self.nodes)
+            && goes_with(info, USER_SID, self.nodes)
+            && goes_with(info, VISIBLE, self.nodes);
         fault_where(!fits, place, Reason::ColumnLengths)
     }
 }
@@ -68,11 +67,10 @@ impl JudgeMessage for InfoStructure {
 // Its values.
 
 /// The first value of a column of differences that is out of range.
-pub(crate) fn judge_range(message: &[u8], at: u64, number: u64) -> Option<Fault>
-    requires { at + length message.now ≤ 2 ^ 63 }
-    ensures { result ≡ least (range_faults number (fields_in at message.now)) }
+pub(crate) fn judge_range(message: Message<'_>, number: u64) -> Option<Fault>
+    ensures { result ≡ least (range_faults number (found_in message.entry)) }
 {
-    judge_sums(message, at, number, STORED_LIMIT.unsigned_abs(), false)
+    judge_sums(message, number, STORED_LIMIT.unsigned_abs(), false)
 }
 
 /// The values of a DenseInfo whose users are named in a table of `limit` texts.
@@ -86,11 +84,11 @@ impl JudgeMessage for InfoValues {
     ghost faults = { λ infos. info_values infos.limit };
 
     #[tactic(auto, using(crate::proofs::Parts::lesser_parts))]
-    fn judge_message(&self, info: &[u8], at: u64, _place: u64) -> Option<Fault> {
-        let timestamps = judge_range(info, at, TIMESTAMP);
-        let changesets = judge_range(info, at, CHANGESET);
-        let uids = judge_sums(info, at, UID, UID_LIMIT.unsigned_abs(), true);
-        let users = judge_index_sums(info, at, USER_SID, self.limit);
+    fn judge_message(&self, info: Message<'_>, _place: u64) -> Option<Fault> {
+        let timestamps = judge_range(info, TIMESTAMP);
+        let changesets = judge_range(info, CHANGESET);
+        let uids = judge_sums(info, UID, UID_LIMIT.unsigned_abs(), true);
+        let users = judge_index_sums(info, USER_SID, self.limit);
         lesser(timestamps, lesser(changesets, lesser(uids, users)))
     }
 }

@@ -1,10 +1,10 @@
 //! The rules of a DenseNodes, phase by phase. Each phase asks those of the DenseInfos in it too.
 
-ghost use Rattle.std.specs.Prelude.{◌≡◌, ◌+◌, ◌≤◌, ◌^◌, ℕ, false, length, map};
+ghost use Rattle.std.specs.Prelude.{◌≡◌, ◌≤◌, ◌^◌, ℕ, false, length, map};
 ghost use Rattle.pbf_wire.specs.Columns.{joined};
 ghost use Rattle.pbf_wire.specs.Cursors.{numbers_left};
 ghost use Rattle.pbf_wire.specs.Least.{least};
-ghost use Rattle.pbf_wire.specs.Faults.{fields_in, index_faults};
+ghost use Rattle.pbf_wire.specs.Faults.{index_faults, found_in};
 ghost use Rattle.osm_entity.specs.Sources.{low_32};
 ghost use Rattle.osm_entity.specs.Views.{node_of};
 ghost use Rattle.pbf_dense.specs.Cursors.{dense_left};
@@ -17,8 +17,8 @@ use crate::entries::{next_number, next_placed};
 use osm_entity::{HIGHEST_WEIGHT, NodeRef, Scale};
 use pbf_strings::Table;
 use pbf_wire::{
-    Column, Fault, InField, Kind, Reason, column_count, fault_where, judge_fields, judge_index,
-    judge_nested, judge_twice, lesser, low_u32,
+    Column, Fault, InField, Kind, Message, Reason, column_count, fault_where, judge_fields,
+    judge_index, judge_nested, judge_twice, lesser, low_u32,
 };
 
 // The fields of a DenseNodes.
@@ -45,25 +45,24 @@ pub(crate) const DENSE_KINDS: [(u64, Kind); 5] = [
 // Its wire form.
 
 impl Dense<'_> {
-    /// The least wire fault of a dense message whose first byte stands at `at` in the file, and of the DenseInfos in it.
+    /// The least wire fault of a dense message, and of the DenseInfos in it.
     #[tactic(auto, unfolding(crate::specs::Judged::dense_wire))]
-    pub fn judge_wire(message: &[u8], at: u64) -> Option<Fault>
-        requires { at + length message.now ≤ 2 ^ 63 }
-        ensures { (place : ℕ) → result ≡ least (dense_wire place at message.now) }
+    pub fn judge_wire(message: Message<'_>) -> Option<Fault>
+        ensures { (place : ℕ) → result
+            ≡ least (dense_wire place message.entry.at message.entry.bytes.now) }
     {
-        judge_nested(message, at, &DENSE_KINDS, DENSEINFO, &DENSEINFO_KINDS)
+        judge_nested(message, &DENSE_KINDS, DENSEINFO, &DENSEINFO_KINDS)
     }
 }
 
 // Its structure.
 
 /// `ColumnLengths` at `place`, where there aren't as many latitudes and as many longitudes as ids.
-fn judge_coordinates(message: &[u8], at: u64, place: u64) -> Option<Fault>
-    requires { at + length message.now ≤ 2 ^ 63 }
-    ensures { result ≡ least (coordinate_counts place (fields_in at message.now)) }
+fn judge_coordinates(message: Message<'_>, place: u64) -> Option<Fault>
+    ensures { result ≡ least (coordinate_counts place (found_in message.entry)) }
 {
-    let nodes = column_count(message, at, ID);
-    let fits = column_count(message, at, LAT) == nodes && column_count(message, at, LON) == nodes;
+    let nodes = column_count(message, ID);
+    let fits = column_count(message, LAT) == nodes && column_count(message, LON) == nodes;
     fault_where(!fits, place, Reason::ColumnLengths)
 }
 
@@ -104,16 +103,15 @@ impl Dense<'_> {
     /// not of their form, a second DenseInfo. Where the message has a wire fault, its fields before that count. Decodes no
     /// column but that of the tags.
     #[tactic(auto, using(crate::proofs::Parts::lesser_parts), unfolding(crate::specs::Judged::dense_structure))]
-    pub fn judge_structure(message: &[u8], at: u64, place: u64) -> Option<Fault>
-        requires { at + length message.now ≤ 2 ^ 63 }
-        ensures { result ≡ least (dense_structure place at message.now) }
+    pub fn judge_structure(message: Message<'_>, place: u64) -> Option<Fault>
+        ensures { result ≡ least (dense_structure place message.entry.at message.entry.bytes.now) }
     {
-        let counts = judge_coordinates(message, at, place);
-        let nodes = column_count(message, at, ID);
-        let formed = are_tags(Column::new(message, at, KEYS_VALS), nodes);
+        let counts = judge_coordinates(message, place);
+        let nodes = column_count(message, ID);
+        let formed = are_tags(message.column(KEYS_VALS), nodes);
         let tags = fault_where(!formed, place, Reason::KeysVals);
-        let twice = judge_twice(message, at, DENSEINFO);
-        let infos = judge_fields(message, at, &InField(DENSEINFO, InfoStructure { nodes }));
+        let twice = judge_twice(message, DENSEINFO);
+        let infos = judge_fields(message, &InField(DENSEINFO, InfoStructure { nodes }));
         lesser(counts, lesser(tags, lesser(twice, infos)))
     }
 }
@@ -122,12 +120,11 @@ impl Dense<'_> {
 
 /// The first number of the tags that a table of this length has no text for. A 0 in key place names none.
 #[tactic(auto, using(crate::proofs::Parts::least_more, crate::proofs::Parts::lesser_nothing))]
-fn judge_texts(message: &[u8], at: u64, limit: u64) -> Option<Fault>
-    requires { at + length message.now ≤ 2 ^ 63 }
+fn judge_texts(message: Message<'_>, limit: u64) -> Option<Fault>
     ensures { result ≡ least (index_faults limit
-        (texts_named false (joined KEYS_VALS (fields_in at message.now)))) }
+        (texts_named false (joined KEYS_VALS (found_in message.entry)))) }
 {
-    let mut keys_vals = Column::new(message, at, KEYS_VALS);
+    let mut keys_vals = message.column(KEYS_VALS);
     let mut least = None;
     let mut in_value = false;
     'numbers: while let Some((number, place)) = next_placed(&mut keys_vals) {
@@ -146,16 +143,16 @@ impl Dense<'_> {
     /// The least fault of the values of a dense message, for a table of `limit` texts: a value out of its range, a number that
     /// the table has no text for.
     #[tactic(auto, using(crate::proofs::Parts::lesser_parts), unfolding(crate::specs::Judged::dense_values))]
-    pub fn judge_values(message: &[u8], at: u64, limit: u64) -> Option<Fault>
-        requires placed { at + length message.now ≤ 2 ^ 63 }
-        requires limited { limit ≤ 2 ^ 62 }
-        ensures { (place : ℕ) → result ≡ least (dense_values limit place at message.now) }
+    pub fn judge_values(message: Message<'_>, limit: u64) -> Option<Fault>
+        requires { limit ≤ 2 ^ 62 }
+        ensures { (place : ℕ) → result
+            ≡ least (dense_values limit place message.entry.at message.entry.bytes.now) }
     {
-        let ids = judge_range(message, at, ID);
-        let lats = judge_range(message, at, LAT);
-        let lons = judge_range(message, at, LON);
-        let texts = judge_texts(message, at, limit);
-        let infos = judge_fields(message, at, &InField(DENSEINFO, InfoValues { limit }));
+        let ids = judge_range(message, ID);
+        let lats = judge_range(message, LAT);
+        let lons = judge_range(message, LON);
+        let texts = judge_texts(message, limit);
+        let infos = judge_fields(message, &InField(DENSEINFO, InfoValues { limit }));
         lesser(ids, lesser(lats, lesser(lons, lesser(texts, infos))))
     }
 }
@@ -191,11 +188,10 @@ impl Dense<'_> {
     }
 
     /// `EntityLarge` at `place`, where a node is too heavy of those that [`Dense::over`] gives.
-    pub fn judge_weights(message: &[u8], at: u64, place: u64, table: &Table<'_>) -> Option<Fault>
-        requires { at + length message.now ≤ 2 ^ 63 }
+    pub fn judge_weights(message: Message<'_>, place: u64, table: &Table<'_>) -> Option<Fault>
         ensures { result ≡ least (dense_weights place
-            (nodes_along table.now as_stored (fields_in at message.now))) }
+            (nodes_along table.now as_stored (found_in message.entry))) }
     {
-        Dense::over(message, at, table, AS_STORED).judge_nodes(place)
+        Dense::over(message, table, AS_STORED).judge_nodes(place)
     }
 }

@@ -12,7 +12,7 @@ use crate::dense_nodes::DENSEINFO;
 use crate::entries::{next_number, next_sum, pass_numbers, pass_sums};
 use osm_entity::{MetaRef, STORED_LIMIT, UID_LIMIT};
 use pbf_strings::Table;
-use pbf_wire::{Column, Payload, Sums, last_field, low_i32};
+use pbf_wire::{Column, Message, Payload, Sums, last_field, low_i32};
 
 /// The text of an index, if there is one; the empty text where it is negative or the table has none.
 fn user_text<'a>(table: &'a Table<'a>, index: Option<i64>) -> Option<&'a [u8]>
@@ -50,38 +50,34 @@ pub(crate) struct InfoColumns<'a> {
 }
 
 impl<'a> InfoColumns<'a> {
-    ghost use Rattle.std.specs.Prelude.{◌+◌, ◌≤◌, length};
-    ghost use Rattle.pbf_wire.specs.Faults.{fields_in, embedded};
+    ghost use Rattle.pbf_wire.specs.Faults.{embedded, found_in};
     ghost use Rattle.osm_entity.specs.Views.{meta_of};
     ghost use Rattle.pbf_dense.specs.Info.{meta_at, later, later_by, info_along};
     ghost use Rattle.pbf_dense.specs.Cursors.{info_left};
 
-    /// The columns of a DenseInfo whose first byte stands at `at` in the file.
+    /// The columns of a DenseInfo.
     #[tactic(auto, using(crate::proofs::InfoLemmas::sums_are_within), unfolding(crate::specs::Info::info_along))]
-    pub(crate) fn new(message: &'a [u8], at: u64) -> Self
-        requires { at + length message.now ≤ 2 ^ 63 }
-        ensures { info_left result ≡ info_along (fields_in at message.now) }
+    pub(crate) fn new(message: Message<'a>) -> Self
+        ensures { info_left result ≡ info_along (found_in message.entry) }
     {
         InfoColumns {
-            versions: Column::new(message, at, VERSION),
-            timestamps: Sums::new(Column::new(message, at, TIMESTAMP), STORED_LIMIT),
-            changesets: Sums::new(Column::new(message, at, CHANGESET), STORED_LIMIT),
-            uids: Sums::narrow(Column::new(message, at, UID), UID_LIMIT),
-            users: Sums::narrow(Column::new(message, at, USER_SID), STORED_LIMIT),
-            visible: Column::new(message, at, VISIBLE),
+            versions: message.column(VERSION),
+            timestamps: Sums::new(message.column(TIMESTAMP), STORED_LIMIT),
+            changesets: Sums::new(message.column(CHANGESET), STORED_LIMIT),
+            uids: Sums::narrow(message.column(UID), UID_LIMIT),
+            users: Sums::narrow(message.column(USER_SID), STORED_LIMIT),
+            visible: message.column(VISIBLE),
         }
     }
 
-    /// The columns of the last DenseInfo in a DenseNodes whose first byte stands at `at` in the file; without one they are
-    /// empty.
+    /// The columns of the last DenseInfo in a DenseNodes; without one they are empty.
     #[tactic(auto, using(crate::proofs::InfoLemmas::no_fields))]
-    pub(crate) fn last_in(dense: &'a [u8], at: u64) -> Self
-        requires { at + length dense.now ≤ 2 ^ 63 }
-        ensures { info_left result ≡ info_along (embedded DENSEINFO (fields_in at dense.now)) }
+    pub(crate) fn last_in(dense: Message<'a>) -> Self
+        ensures { info_left result ≡ info_along (embedded DENSEINFO (found_in dense.entry)) }
     {
-        match last_field(dense, at, DENSEINFO).map(|field| field.payload) {
-            Some(Payload::Bytes(info, place)) => InfoColumns::new(info, place),
-            _ => InfoColumns::new(&[], 0),
+        match last_field(dense, DENSEINFO).map(|field| field.payload) {
+            Some(Payload::Bytes(bytes, at)) => InfoColumns::new(Message { bytes, at }),
+            _ => InfoColumns::new(Message { bytes: &[], at: 0 }),
         }
     }
 

@@ -10,38 +10,43 @@ use crate::dense::Dense;
 use crate::phase::Phase;
 use osm_entity::Scale;
 use pbf_strings::Table;
-use pbf_wire::{Fault, refuse};
+use pbf_wire::{Fault, Message, refuse};
 
 /// The first fault of the phases before the weights.
 #[tactic(auto, unfolding(crate::specs::Judged::early_fault))]
-fn early_fault(message: &[u8], at: u64, place: u64, table: &Table<'_>) -> Option<Fault>
-    requires { at + length message.now ≤ 2 ^ 63 }
-    ensures exact { result ≡ early_fault (length table.now) place at message.now }
+fn early_fault(message: Message<'_>, place: u64, table: &Table<'_>) -> Option<Fault>
+    ensures exact { result ≡ early_fault (length table.now) place
+        message.entry.at message.entry.bytes.now }
     ensures few { length table.now ≤ 2 ^ 62 }
 {
     let limit = table.len() as u64;
-    Dense::judge_wire(message, at)
-        .or_else(|| Dense::judge_structure(message, at, place))
-        .or_else(|| Dense::judge_values(message, at, limit))
+    let wire = Dense::judge_wire(message);
+    if wire.is_some() {
+        return wire;
+    }
+    let structure = Dense::judge_structure(message, place);
+    if structure.is_some() {
+        return structure;
+    }
+    Dense::judge_values(message, limit)
 }
 
 /// The least fault of the weights, where there is none before them.
 #[tactic(auto, using(crate::proofs::Phases::weights_last))]
 fn late_fault(
     early: Option<Fault>,
-    message: &[u8],
-    at: u64,
+    message: Message<'_>,
     place: u64,
     table: &Table<'_>,
 ) -> Option<Fault>
-    requires placed { at + length message.now ≤ 2 ^ 63 }
-    requires early { early ≡ early_fault (length table.now) place at message.now }
+    requires early { early ≡ early_fault (length table.now) place message.at message.bytes.now }
     requires few { length table.now ≤ 2 ^ 62 }
-    ensures { result ≡ least (phase_faults phase.Weights place at table.now message.now) }
+    ensures { result ≡ least (phase_faults phase.Weights place
+        message.entry.at table.now message.entry.bytes.now) }
 {
     match early {
         Some(_) => None,
-        None => Dense::judge_weights(message, at, place, table),
+        None => Dense::judge_weights(message, place, table),
     }
 }
 
@@ -67,13 +72,14 @@ impl<'a> Dense<'a> {
         requires tagged { place ≤ at }
         ensures { result ≡ judged (least (phase_faults phase place at table.now message.now)) }
     {
+        let message = Message { bytes: message, at };
         refuse(match phase {
-            Phase::Wire => Dense::judge_wire(message, at),
-            Phase::Structure => Dense::judge_structure(message, at, place),
-            Phase::Values => Dense::judge_values(message, at, table.len() as u64),
+            Phase::Wire => Dense::judge_wire(message),
+            Phase::Structure => Dense::judge_structure(message, place),
+            Phase::Values => Dense::judge_values(message, table.len() as u64),
             Phase::Weights => {
-                let early = early_fault(message, at, place, table);
-                late_fault(early, message, at, place, table)
+                let early = early_fault(message, place, table);
+                late_fault(early, message, place, table)
             }
         })
     }
@@ -86,7 +92,7 @@ impl<'a> Dense<'a> {
         requires sound { IsSound table.now at message.now }
         ensures { dense_left result ≡ nodes table.now scale (fields_in at message.now) }
     {
-        Dense::over(message, at, table, scale)
+        Dense::over(Message { bytes: message, at }, table, scale)
     }
 
     /// Judges a dense message by all phases, and gives its nodes. The error is the first fault by phase, and in it the least.
@@ -106,8 +112,9 @@ impl<'a> Dense<'a> {
         ensures refused { (fault : Fault)
             → result ≡ Err fault ↔ dense_fault place at table.now message.now ≡ Some fault }
     {
-        let early = early_fault(message, at, place, table);
-        refuse(early.or(late_fault(early, message, at, place, table)))?;
+        let whole = Message { bytes: message, at };
+        let early = early_fault(whole, place, table);
+        refuse(early.or(late_fault(early, whole, place, table)))?;
         Ok(Dense::open(message, at, table, scale))
     }
 }

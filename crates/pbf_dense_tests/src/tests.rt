@@ -3,7 +3,7 @@
 use osm_entity::{MetaRef, NodeRef, Scale};
 use pbf_dense::{Dense, Phase};
 use pbf_strings::Table;
-use pbf_wire::{Fault, Reason};
+use pbf_wire::{Fault, Message, Reason};
 use std::alloc::{AllocError, Global};
 use std::process::Abort;
 use std::test::Fail;
@@ -427,7 +427,11 @@ fn gives_nothing(message: &[u8], table: &Table<'_>) -> bool {
     if message.len() >= 1 << 20 {
         return false;
     }
-    let mut nodes = Dense::over(message, AT, table, SCALE);
+    let message = Message {
+        bytes: message,
+        at: AT,
+    };
+    let mut nodes = Dense::over(message, table, SCALE);
     nodes.next().is_none()
 }
 

@@ -3,7 +3,7 @@
 ghost use Rattle.std.specs.Prelude.{◌≡◌, ◌+◌, ◌<◌, ◌≤◌, ◌^◌, List, [], None, length};
 ghost use Rattle.std.specs.Option.{option_map};
 ghost use Rattle.pbf_wire.specs.declared.fault.Fault.{Fault};
-ghost use Rattle.pbf_wire.specs.Faults.{or_more};
+ghost use Rattle.pbf_wire.specs.Faults.{or_more, found_in};
 ghost use Rattle.pbf_wire.specs.Fields.{occurrence};
 ghost use Rattle.pbf_wire.specs.Least.{least};
 ghost use Rattle.pbf_wire.specs.Occurrence.{items, found};
@@ -12,7 +12,7 @@ ghost use Rattle.pbf_frame.specs.Blob.{compression_of, compressed, raw_faults, b
 
 use crate::header::occurrence_text;
 use pbf_wire::{
-    Fault, Field, Fields, Kind, Payload, Reason, fault_where, judge_wire, last_field, lesser,
+    Fault, Field, Kind, Message, Payload, Reason, fault_where, judge_wire, last_field, lesser,
 };
 
 // The fields of a Blob.
@@ -72,15 +72,11 @@ fn judge_compression(field: Field<'_>) -> Option<Fault>
 
 /// The least place of compressed data.
 #[tactic(auto, using(crate::proofs::Parts::least_more, crate::proofs::Parts::lesser_nothing))]
-fn judge_compressions(blob: &[u8], at: u64) -> Option<Fault>
-    requires { at + length blob.now ≤ 2 ^ 63 }
-    ensures { result ≡ least (compressed (found (items at blob.now))) }
+fn judge_compressions(blob: Message<'_>) -> Option<Fault>
+    ensures { result ≡ least (compressed (found_in blob.entry)) }
 {
     let mut least = None;
-    for item in Fields::new(blob, at) {
-        let Ok(field) = item else {
-            return least;
-        };
+    for field in blob.found() {
         least = lesser(least, judge_compression(field));
     }
     least
@@ -110,7 +106,8 @@ pub(crate) fn judge_blob(blob: &[u8], at: u64) -> Option<Fault>
     if let Err(fault) = judge_wire(blob, at, &BLOB_KINDS) {
         return Some(fault);
     }
-    judge_raw(at, last_field(blob, at, RAW), judge_compressions(blob, at))
+    let blob = Message { bytes: blob, at };
+    judge_raw(at, last_field(blob, RAW), judge_compressions(blob))
 }
 
 /// Where the text of a field begins, and `at` where it is absent.
@@ -139,6 +136,6 @@ pub(crate) fn payload_in(blob: &[u8], at: u64) -> (&[u8], u64)
     ensures fits { result.1 + length result.0.now ≤ 2 ^ 63 }
     ensures short { blob_fault at blob.now ≡ None → length result.0.now < RAW_LIMIT }
 {
-    let raw = last_field(blob, at, RAW);
+    let raw = last_field(Message { bytes: blob, at }, RAW);
     (occurrence_text(raw), text_place(raw, at))
 }

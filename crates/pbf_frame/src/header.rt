@@ -3,10 +3,9 @@
 ghost use Rattle.std.specs.Prelude.{◌≡◌, ◌+◌, ◌≤◌, ◌^◌, length, IfOk, is_none, unwrap_or};
 ghost use Rattle.std.specs.Option.{option_map};
 ghost use Rattle.pbf_wire.specs.declared.fault.Reason.TheVariants.{Missing};
-ghost use Rattle.pbf_wire.specs.Faults.{fault_where};
+ghost use Rattle.pbf_wire.specs.Faults.{fault_where, found_in};
 ghost use Rattle.pbf_wire.specs.Fields.{occurrence};
 ghost use Rattle.pbf_wire.specs.Least.{least};
-ghost use Rattle.pbf_wire.specs.Occurrence.{items, found};
 ghost use Rattle.pbf_wire.specs.Payload.{content};
 ghost use Rattle.pbf_wire.specs.Reading.{occurrence_text, last_of};
 ghost use Rattle.pbf_frame.specs.Header.{int32_held, size_within, size_of, kind_named, size_faults, header_faults};
@@ -14,7 +13,8 @@ ghost use Rattle.pbf_frame.specs.Steps.{head_of};
 
 use crate::frame::FrameKind;
 use pbf_wire::{
-    Fault, Field, Kind, Payload, Reason, fault_where, judge_wire, last_field, lesser, low_i32,
+    Fault, Field, Kind, Message, Payload, Reason, fault_where, judge_wire, last_field, lesser,
+    low_i32,
 };
 
 // The fields of a BlobHeader.
@@ -74,13 +74,12 @@ fn size_in(payload: Payload<'_>) -> Option<u32>
 }
 
 /// The size of the blob by the last `datasize`, and 0 where it is none.
-fn size_in_header(header: &[u8], at: u64) -> u32
-    requires { at + length header.now ≤ 2 ^ 63 }
+fn size_in_header(header: Message<'_>) -> u32
     ensures size { result
-        ≡ unwrap_or (size_of (last_of DATASIZE (found (items at header.now)))) 0 }
+        ≡ unwrap_or (size_of (last_of DATASIZE (found_in header.entry))) 0 }
     ensures small { result ≤ LARGEST_SIZE }
 {
-    let Some(datasize) = last_field(header, at, DATASIZE) else {
+    let Some(datasize) = last_field(header, DATASIZE) else {
         return 0;
     };
     size_in(datasize.payload).unwrap_or(0)
@@ -118,15 +117,14 @@ fn judge_missing(at: u64, number: u64, last: Option<Field<'_>>) -> Option<Fault>
 
 /// The least fault of the fields of a header without wire faults.
 #[tactic(auto, using(crate::proofs::Parts::lesser_parts))]
-fn judge_fields(header: &[u8], at: u64) -> Option<Fault>
-    requires { at + length header.now ≤ 2 ^ 63 }
-    ensures { result ≡ least (header_faults at header.now) }
+fn judge_fields(header: Message<'_>) -> Option<Fault>
+    ensures { result ≡ least (header_faults header.entry.at header.entry.bytes.now) }
 {
-    let name = last_field(header, at, TYPE);
-    let datasize = last_field(header, at, DATASIZE);
+    let name = last_field(header, TYPE);
+    let datasize = last_field(header, DATASIZE);
     let absent = lesser(
-        judge_missing(at, TYPE, name),
-        judge_missing(at, DATASIZE, datasize),
+        judge_missing(header.at, TYPE, name),
+        judge_missing(header.at, DATASIZE, datasize),
     );
     lesser(absent, judge_size(datasize))
 }
@@ -139,10 +137,11 @@ pub(crate) fn read_head(header: &[u8], at: u64) -> Result<Head, Fault>
     ensures small { IfOk result (λ head. head.size ≤ LARGEST_SIZE) }
 {
     judge_wire(header, at, &HEADER_KINDS)?;
-    if let Some(fault) = judge_fields(header, at) {
+    let header = Message { bytes: header, at };
+    if let Some(fault) = judge_fields(header) {
         return Err(fault);
     }
-    let kind = kind_named(occurrence_text(last_field(header, at, TYPE)));
-    let size = size_in_header(header, at);
+    let kind = kind_named(occurrence_text(last_field(header, TYPE)));
+    let size = size_in_header(header);
     Ok(Head { kind, size })
 }

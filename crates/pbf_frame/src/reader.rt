@@ -9,7 +9,7 @@ use crate::frame::{Frame, FrameKind};
 use crate::frame_parts::{Seen, read_frame};
 use crate::header::{TYPE, occurrence_text};
 use crate::stop::Stop;
-use pbf_wire::last_field;
+use pbf_wire::{Message, last_field};
 use std::alloc::Global;
 
 /// Whether a reader goes on.
@@ -122,7 +122,11 @@ impl<F: Feed> FrameReader<F> {
         ensures { (f : FrameSpec) → IsSeen self.now.header.items self.now.blob.items seen f
             → Shows result f }
     {
-        let name = occurrence_text(last_field(&self.header, seen.offset + 4, TYPE));
+        let header = Message {
+            bytes: &self.header,
+            at: seen.offset + 4,
+        };
+        let name = occurrence_text(last_field(header, TYPE));
         let (payload, payload_at) = match seen.kind {
             FrameKind::Header | FrameKind::Data => payload_in(&self.blob, seen.blob_at),
             FrameKind::Other => (b"".as_slice(), seen.blob_at),

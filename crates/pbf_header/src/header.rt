@@ -1,6 +1,6 @@
 //! The header of a file, owned, and the one that is written in its place.
 
-ghost use Rattle.std.specs.Prelude.{◌≡◌, IfOk, Some, map};
+ghost use Rattle.std.specs.Prelude.{◌≡◌, IfOk, map};
 ghost use Rattle.std.specs.Option.{option_map};
 ghost use Rattle.pbf_strings.specs.TableOut.{has_text};
 ghost use Rattle.pbf_header.specs.Header.{header_of, text_of};

@@ -1,14 +1,14 @@
 //! A HeaderBlock and the HeaderBBox in it: their fields, and their rules phase by phase.
 
-ghost use Rattle.std.specs.Prelude.{◌≡◌, ◌+◌, ◌≤◌, ◌^◌, length};
-ghost use Rattle.pbf_wire.specs.Faults.{fields_in};
+ghost use Rattle.std.specs.Prelude.{◌≡◌};
+ghost use Rattle.pbf_wire.specs.Faults.{found_in};
 ghost use Rattle.pbf_wire.specs.Least.{least};
 ghost use Rattle.pbf_wire.specs.Wire.{judged};
 ghost use Rattle.pbf_header.specs.HeaderFaults.{edge_faults, header_structure, feature_faults, header_fault};
 
 use crate::header::{DENSE_NODES, OSM_SCHEMA};
 use pbf_wire::{
-    Fault, InField, JudgeMessage, Kind, Reason, fault_where, judge_fields, judge_missing,
+    Fault, InField, JudgeMessage, Kind, Message, Reason, fault_where, judge_fields, judge_missing,
     judge_nested, judge_twice, lesser, refuse,
 };
 
@@ -66,24 +66,23 @@ impl JudgeMessage for BoxStructure {
     ghost faults = { λ _. edge_faults };
 
     #[tactic(auto, using(crate::proofs::HeaderLemmas::edges_joined))]
-    fn judge_message(&self, message: &[u8], at: u64, place: u64) -> Option<Fault> {
-        let left = judge_missing(message, at, place, LEFT);
-        let right = judge_missing(message, at, place, RIGHT);
-        let top = judge_missing(message, at, place, TOP);
-        let bottom = judge_missing(message, at, place, BOTTOM);
+    fn judge_message(&self, message: Message<'_>, place: u64) -> Option<Fault> {
+        let left = judge_missing(message, place, LEFT);
+        let right = judge_missing(message, place, RIGHT);
+        let top = judge_missing(message, place, TOP);
+        let bottom = judge_missing(message, place, BOTTOM);
         lesser(left, lesser(right, lesser(top, bottom)))
     }
 }
 
 /// The least fault of structure.
 #[tactic(auto, using(crate::proofs::Parts::lesser_parts))]
-fn judge_structure(payload: &[u8], at: u64) -> Option<Fault>
-    requires { at + length payload.now ≤ 2 ^ 63 }
-    ensures { result ≡ least (header_structure (fields_in at payload.now)) }
+fn judge_structure(payload: Message<'_>) -> Option<Fault>
+    ensures { result ≡ least (header_structure (found_in payload.entry)) }
 {
     lesser(
-        judge_twice(payload, at, BBOX),
-        judge_fields(payload, at, &InField(BBOX, BoxStructure)),
+        judge_twice(payload, BBOX),
+        judge_fields(payload, &InField(BBOX, BoxStructure)),
     )
 }
 
@@ -94,20 +93,19 @@ struct FeatureValue;
 impl JudgeMessage for FeatureValue {
     ghost faults = { λ _. feature_faults };
 
-    fn judge_message(&self, feature: &[u8], _at: u64, place: u64) -> Option<Fault> {
-        let known = feature == OSM_SCHEMA || feature == DENSE_NODES;
+    fn judge_message(&self, feature: Message<'_>, place: u64) -> Option<Fault> {
+        let known = feature.bytes == OSM_SCHEMA || feature.bytes == DENSE_NODES;
         fault_where(!known, place, Reason::Feature)
     }
 }
 
-/// The first fault of a HeaderBlock whose first byte stands at `at` in the file. Takes no memory.
+/// The first fault of a HeaderBlock. Takes no memory.
 #[tactic(auto, unfolding(crate::specs::HeaderFaults::header_fault))]
-pub(crate) fn judge_header(payload: &[u8], at: u64) -> Result<(), Fault>
-    requires { at + length payload.now ≤ 2 ^ 63 }
-    ensures { result ≡ judged (header_fault at payload.now) }
+pub(crate) fn judge_header(payload: Message<'_>) -> Result<(), Fault>
+    ensures { result ≡ judged (header_fault payload.entry.at payload.entry.bytes.now) }
 {
-    refuse(judge_nested(payload, at, &HEADER_KINDS, BBOX, &BBOX_KINDS))?;
-    refuse(judge_structure(payload, at))?;
+    refuse(judge_nested(payload, &HEADER_KINDS, BBOX, &BBOX_KINDS))?;
+    refuse(judge_structure(payload))?;
     let features = InField(REQUIRED_FEATURES, FeatureValue);
-    refuse(judge_fields(payload, at, &features))
+    refuse(judge_fields(payload, &features))
 }

@@ -4,7 +4,7 @@ ghost use Rattle.std.specs.Prelude.{◌≡◌, ◌+◌, ◌≤◌, ◌^◌, ◌�
 ghost use Rattle.std.specs.Option.{option_map};
 ghost use Rattle.pbf_wire.specs.declared.fault.Fault.{Fault};
 ghost use Rattle.pbf_wire.specs.declared.fault.ReadFault.TheVariants.{Refused};
-ghost use Rattle.pbf_wire.specs.Faults.{fields_in};
+ghost use Rattle.pbf_wire.specs.Faults.{fields_in, found_in};
 ghost use Rattle.pbf_wire.specs.Reading.{each};
 ghost use Rattle.pbf_header.specs.Header.{header_of, header_in, text_of, edge, box_in, last_text};
 ghost use Rattle.pbf_header.specs.HeaderFaults.{header_fault};
@@ -14,14 +14,18 @@ use crate::header_block::{
     BBOX, BOTTOM, LEFT, OPTIONAL_FEATURES, REPLICATION_SEQUENCE, REPLICATION_TIMESTAMP,
     REPLICATION_URL, REQUIRED_FEATURES, RIGHT, SOURCE, TOP, WRITINGPROGRAM, judge_header,
 };
-use pbf_wire::{Fields, Payload, ReadFault, last_number, low_i64, unzigzag};
+use pbf_wire::{Message, Payload, ReadFault, last_number, low_i64, unzigzag};
 use std::alloc::{AllocError, Global};
 
 /// An edge of a box, and 0 where it is absent.
 fn edge(message: &[u8], number: u64) -> i64
     ensures { result ≡ edge number (fields_in 0 message.now) }
 {
-    unzigzag(last_number(message, 0, number).unwrap_or(0))
+    let message = Message {
+        bytes: message,
+        at: 0,
+    };
+    unzigzag(last_number(message, number).unwrap_or(0))
 }
 
 /// The box of a message.
@@ -37,15 +41,11 @@ fn box_in(message: &[u8]) -> HeaderBox
 }
 
 /// The last text or message of a field.
-fn last_bytes(payload: &[u8], at: u64, number: u64) -> Option<&[u8]>
-    requires { at + length payload.now ≤ 2 ^ 63 }
-    ensures { option_map (λ bytes. bytes.now) result ≡ last_text number (fields_in at payload.now) }
+fn last_bytes(payload: Message<'_>, number: u64) -> Option<&[u8]>
+    ensures { option_map (λ bytes. bytes.now) result ≡ last_text number (found_in payload.entry) }
 {
     let mut last = None;
-    for item in Fields::new(payload, at) {
-        let Ok(field) = item else {
-            return last;
-        };
+    for field in payload.found() {
         if field.number == number {
             if let Payload::Bytes(bytes, _) = field.payload {
                 last = Some(bytes);
@@ -56,16 +56,12 @@ fn last_bytes(payload: &[u8], at: u64, number: u64) -> Option<&[u8]>
 }
 
 /// The texts of a repeated field.
-fn texts(alloc: Global, payload: &[u8], at: u64, number: u64) -> Result<Vec<Vec<u8>>, AllocError>
-    requires { at + length payload.now ≤ 2 ^ 63 }
+fn texts(alloc: Global, payload: Message<'_>, number: u64) -> Result<Vec<Vec<u8>>, AllocError>
     ensures { IfOk result
-        (λ texts. map text_of texts.items ≡ each number (fields_in at payload.now)) }
+        (λ texts. map text_of texts.items ≡ each number (found_in payload.entry)) }
 {
     let mut texts = Vec::new(alloc);
-    for item in Fields::new(payload, at) {
-        let Ok(field) = item else {
-            return Ok(texts);
-        };
+    for field in payload.found() {
         if field.number == number {
             if let Payload::Bytes(text, _) = field.payload {
                 texts.push(Vec::from_slice(alloc, text)?)?;
@@ -77,19 +73,19 @@ fn texts(alloc: Global, payload: &[u8], at: u64, number: u64) -> Result<Vec<Vec<
 
 /// What a HeaderBlock says; where it has a fault, what its fields before the fault say.
 #[tactic(auto, unfolding(crate::specs::Header::header_in))]
-fn header_in(alloc: Global, payload: &[u8], at: u64) -> Result<Header, AllocError>
-    requires { at + length payload.now ≤ 2 ^ 63 }
-    ensures { IfOk result (λ header. header_of header ≡ header_in at payload.now) }
+fn header_in(alloc: Global, payload: Message<'_>) -> Result<Header, AllocError>
+    ensures { IfOk result (λ header. header_of header
+        ≡ header_in payload.entry.at payload.entry.bytes.now) }
 {
     Ok(Header {
-        bbox: last_bytes(payload, at, BBOX).map(|message| box_in(message)),
-        required: texts(alloc, payload, at, REQUIRED_FEATURES)?,
-        optional: texts(alloc, payload, at, OPTIONAL_FEATURES)?,
-        program: copied(alloc, last_bytes(payload, at, WRITINGPROGRAM))?,
-        source: copied(alloc, last_bytes(payload, at, SOURCE))?,
-        url: copied(alloc, last_bytes(payload, at, REPLICATION_URL))?,
-        timestamp: last_number(payload, at, REPLICATION_TIMESTAMP).map(|number| low_i64(number)),
-        sequence: last_number(payload, at, REPLICATION_SEQUENCE).map(|number| low_i64(number)),
+        bbox: last_bytes(payload, BBOX).map(|message| box_in(message)),
+        required: texts(alloc, payload, REQUIRED_FEATURES)?,
+        optional: texts(alloc, payload, OPTIONAL_FEATURES)?,
+        program: copied(alloc, last_bytes(payload, WRITINGPROGRAM))?,
+        source: copied(alloc, last_bytes(payload, SOURCE))?,
+        url: copied(alloc, last_bytes(payload, REPLICATION_URL))?,
+        timestamp: last_number(payload, REPLICATION_TIMESTAMP).map(|number| low_i64(number)),
+        sequence: last_number(payload, REPLICATION_SEQUENCE).map(|number| low_i64(number)),
     })
 }
 
@@ -107,7 +103,8 @@ impl Header {
         ensures refused { (fault : Fault)
             → result ≡ Err (Refused fault) ↔ header_fault at payload.now ≡ Some fault }
     {
-        judge_header(payload, at)?;
-        Ok(header_in(alloc, payload, at)?)
+        let payload = Message { bytes: payload, at };
+        judge_header(payload)?;
+        Ok(header_in(alloc, payload)?)
     }
 }

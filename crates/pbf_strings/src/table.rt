@@ -78,10 +78,7 @@ pub fn text_count(message: &[u8]) -> usize
     ensures { result ≡ length (texts message.now) }
 {
     let mut count = 0;
-    for item in Fields::new(message, 0) {
-        let Ok(field) = item else {
-            return count;
-        };
+    for field in Fields::new(message, 0).found() {
         if field.number == TEXT {
             if let Payload::Bytes(..) = field.payload {
                 count += 1;
@@ -109,10 +106,7 @@ fn places(alloc: Global, message: &[u8]) -> Result<(Vec<u32>, usize), AllocError
 {
     let mut places = Vec::new(alloc);
     let mut longest = 0;
-    for item in Fields::new(message, 0) {
-        let Ok(field) = item else {
-            return Ok((places, longest));
-        };
+    for field in Fields::new(message, 0).found() {
         if field.number == TEXT {
             if let Payload::Bytes(text, _) = field.payload {
                 places.push(field.offset as u32)?;

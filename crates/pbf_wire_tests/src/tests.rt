@@ -1,7 +1,7 @@
 //! What no clause says: values from the format's own examples, texts, and that each call can succeed.
 
 use pbf_wire::{
-    Column, ColumnOut, DeltaOut, Fault, Fields, Kind, Payload, ReadFault, Reason, Sum, Sums,
+    Column, ColumnOut, DeltaOut, Fault, Fields, Kind, Message, Payload, ReadFault, Reason, Sum, Sums,
     comes_before, count_ends, end_mask, get_varint, is_short, judge_payload,
     judge_sums, judge_wire, kind_of, last_field, last_number, laws, lesser, low_i32, low_i64,
     low_sint32, low_u32, put_bytes, put_column, put_number, put_varint, sign_extended, unzigzag,
@@ -198,9 +198,14 @@ fn kinds_of_fields(rt: HostRuntime) {
 
 const TWICE: [u8; 8] = [0x08, 0x01, 0x0a, 0x00, 0x08, 0x02, 0x10, 0x03];
 
+const TWICE_AT_10: Message = Message {
+    bytes: &TWICE,
+    at: 10,
+};
+
 /// Where the last field of this number stands, in a message that begins at 10.
 fn place_of_last(number: u64) -> Option<u64> {
-    match last_field(&TWICE, 10, number) {
+    match last_field(TWICE_AT_10, number) {
         Some(field) => Some(field.offset),
         None => None,
     }
@@ -209,8 +214,8 @@ fn place_of_last(number: u64) -> Option<u64> {
 #[test]
 fn the_last_field_counts(rt: HostRuntime) {
     assert!(rt;
-        last_number(&TWICE, 0, 1) == Some(2)
-            && last_number(&TWICE, 0, 3).is_none()
+        last_number(TWICE_AT_10, 1) == Some(2)
+            && last_number(TWICE_AT_10, 3).is_none()
             && place_of_last(1) == Some(14)
             && place_of_last(3).is_none()
     );
@@ -283,8 +288,12 @@ fn has_small_sums(alloc: Global, column: &[u8]) -> Result<bool, AllocError> {
     if message.len() > 1 << 20 {
         return Ok(false);
     }
-    let sums = Sums::new(Column::new(&message, 0, 8), 1 << 62);
-    Ok(sums.count_small().is_some() && judge_sums(&message, 0, 8, 1 << 62, false).is_none())
+    let message = Message {
+        bytes: &message,
+        at: 0,
+    };
+    let sums = Sums::new(message.column(8), 1 << 62);
+    Ok(sums.count_small().is_some() && judge_sums(message, 8, 1 << 62, false).is_none())
 }
 
 /// Whether the quick tests say yes to short numbers.

@@ -1,13 +1,13 @@
 use Rattle.std.proofs.Common.{◌≡◌}
 use Rattle.pbf_wire.specs.Least.{lesser, least}
-use Rattle.pbf_wire.specs.Occurrence.{items, found}
-use Rattle.pbf_wire.specs.Cursors.{fields_left}
+use Rattle.pbf_wire.specs.Faults.{found_in}
+use Rattle.pbf_wire.specs.Cursors.{found_left}
 use Rattle.pbf_frame.specs.Blob.{compressed}
 use Rattle.pbf_frame.proofs.blob.judge_compressions.Given as goal
 
-abbrev pub invariant-loop-item : goal.invariant-loop-item
-invariant-loop-item l = record {
-  can : (goal.iterator-loop-item).can_next l.item-iterator;
-  ends : (goal.iterator-loop-item).is_finite l.item-iterator;
-  so_far : lesser l.least (least (compressed (found (fields_left l.item-iterator)))) ≡ least (compressed (found (items l.at l.blob)));
+abbrev pub invariant-loop-field : goal.invariant-loop-field
+invariant-loop-field l = record {
+  can : (goal.iterator-loop-field).can_next l.field-iterator;
+  ends : (goal.iterator-loop-field).is_finite l.field-iterator;
+  so_far : lesser l.least (least (compressed (found_left l.field-iterator))) ≡ least (compressed (found_in l.blob));
 }

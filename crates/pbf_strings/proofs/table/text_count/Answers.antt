@@ -2,8 +2,8 @@ use Rattle.std.proofs.Common.{arith, rules}
 use Rattle.pbf_strings.proofs.TextsLemmas.{texts_few}
 use Rattle.pbf_strings.proofs.table.text_count.Goals as goal
 
-pub loop-item-init : goal.loop-item-init
-loop-item-init c = record {
+pub loop-field-init : goal.loop-field-init
+loop-field-init c = record {
   can = tt;
   ends = tt;
   so_far = search rules;
