@@ -1,8 +1,8 @@
 //! What a Node, a Way and a Relation have alike: fields, and rules phase by phase. Each phase finds what it asks for in one pass over
 //! the message, together with what it asks of the fields that the kind has of its own.
 
-ghost use Rattle.std.specs.Prelude.{◌≡◌, ◌+◌, ◌≤◌, ◌^◌, ℕ, List, length};
-ghost use Rattle.pbf_wire.specs.Faults.{fields_in, twice};
+ghost use Rattle.std.specs.Prelude.{◌≡◌, ◌+◌, ◌^◌, ℕ, List};
+ghost use Rattle.pbf_wire.specs.Faults.{twice, found_in};
 ghost use Rattle.pbf_wire.specs.Least.{least};
 ghost use Rattle.pbf_wire.specs.Occurrence.{Occurrence};
 ghost use Rattle.pbf_block.specs.Entity.{AreCounts, AreOwnCounts, AreValues, entity_structure, entity_values};
@@ -11,7 +11,7 @@ ghost use Rattle.pbf_block.specs.declared.entity.TheConstants.{INFO};
 
 use crate::info::InfoRanges;
 use crate::ranges::{judge_texts, value_in};
-use pbf_wire::{Fault, Fields, InField, Judge, Reason, fault_where, judge_twice, lesser};
+use pbf_wire::{Fault, Fields, InField, Judge, Message, Reason, fault_where, judge_twice, lesser};
 
 pub(crate) const ID: u64 = 1;
 
@@ -34,18 +34,16 @@ pub(crate) struct EntityCounts {
     vals: usize,
 }
 
-/// The counts of a message whose first byte stands at `at` in the file: of what all entities have, and of the numbers in the three
+/// The counts of a message: of what all entities have, and of the numbers in the three
 /// columns that its kind has of its own. No packed payload is decoded. It is part of what judges a kind, so that the answer is not moved.
 #[inline(always)]
 pub(crate) fn entity_counts<const FIRST: u64, const SECOND: u64, const THIRD: u64>(
-    message: &[u8],
-    at: u64,
+    message: Message<'_>,
 ) -> (EntityCounts, usize, usize, usize)
-    requires placed { at + length message.now ≤ 2 ^ 63 }
     requires apart { AreApart (FIRST, SECOND, THIRD) }
-    ensures alike { AreCounts result.0 (fields_in at message.now) }
+    ensures alike { AreCounts result.0 (found_in message.entry) }
     ensures own { AreOwnCounts (FIRST, SECOND, THIRD) (result.1, result.2, result.3)
-        (fields_in at message.now) }
+        (found_in message.entry) }
 {
     let mut counts = EntityCounts {
         has_id: false,
@@ -55,10 +53,7 @@ pub(crate) fn entity_counts<const FIRST: u64, const SECOND: u64, const THIRD: u6
     };
     let (mut first, mut second, mut third) = (0, 0, 0);
     let mut has_info = false;
-    for item in Fields::new(message, at) {
-        let Ok(field) = item else {
-            return (counts, first, second, third);
-        };
+    for field in message.found() {
         match field.number {
             ID => counts.has_id = true,
             INFO => {
@@ -78,28 +73,26 @@ pub(crate) fn entity_counts<const FIRST: u64, const SECOND: u64, const THIRD: u6
 
 impl EntityCounts {
     /// The least of the infos after the first.
-    fn judge_infos(self, message: &[u8], at: u64) -> Option<Fault>
-        requires placed { at + length message.now ≤ 2 ^ 63 }
-        requires counted { AreCounts self (fields_in at message.now) }
-        ensures { result ≡ least (twice INFO (fields_in at message.now)) }
+    fn judge_infos(self, message: Message<'_>) -> Option<Fault>
+        requires counted { AreCounts self (found_in message) }
+        ensures { result ≡ least (twice INFO (found_in message.entry)) }
     {
         if !self.many_infos {
             return None;
         }
-        judge_twice(message, at, INFO)
+        judge_twice(message, INFO)
     }
 
     /// The least fault of structure of what all entities have, in the message that was counted: an id, at most one info, and as many
     /// keys as values.
     #[inline(always)]
     #[tactic(auto, using(crate::proofs::Parts::lesser_parts))]
-    pub(crate) fn judge(self, message: &[u8], at: u64, place: u64) -> Option<Fault>
-        requires placed { at + length message.now ≤ 2 ^ 63 }
-        requires counted { AreCounts self (fields_in at message.now) }
-        ensures { result ≡ least (entity_structure place (fields_in at message.now)) }
+    pub(crate) fn judge(self, message: Message<'_>, place: u64) -> Option<Fault>
+        requires counted { AreCounts self (found_in message) }
+        ensures { result ≡ least (entity_structure place (found_in message.entry)) }
     {
         let id = fault_where(!self.has_id, place, Reason::Missing(ID));
-        let infos = self.judge_infos(message, at);
+        let infos = self.judge_infos(message);
         let tags = fault_where(self.keys != self.vals, place, Reason::TagColumns);
         lesser(lesser(id, infos), tags)
     }
@@ -115,24 +108,21 @@ pub(crate) struct EntityValues {
     infos: Option<Fault>,
 }
 
-/// The values of a message whose first byte stands at `at` in the file, and whose texts are named in a table of `limit` texts: what
-/// is judged of all entities, and the fields of the three numbers that its kind has of its own, which are judged after it. These
+/// The values of a message whose texts are named in a table of `limit` texts: what is judged of all entities, and the fields of the three numbers that its kind has of its own, which are judged after it. These
 /// begin at the first of their number, so that an absent column takes no pass. It is part of what judges a kind, so that the answer
 /// is not moved.
 #[inline(always)]
 #[tactic(auto, using(crate::proofs::Parts::least_more, crate::proofs::Parts::lesser_nothing, crate::proofs::ValueLemmas::texts_are))]
 pub(crate) fn entity_values<const FIRST: u64, const SECOND: u64, const THIRD: u64>(
-    message: &[u8],
-    at: u64,
+    message: Message<'_>,
     limit: u64,
 ) -> (EntityValues, Fields<'_>, Fields<'_>, Fields<'_>)
-    requires placed { at + length message.now ≤ 2 ^ 63 }
     requires apart { AreApart (FIRST, SECOND, THIRD) }
-    ensures alike { AreValues limit result.0 (fields_in at message.now) }
+    ensures alike { AreValues limit result.0 (found_in message.entry) }
     ensures own { AreOwn (FIRST, SECOND, THIRD) (result.1, result.2, result.3)
-        (fields_in at message.now) }
+        (found_in message.entry) }
 {
-    let mut fields = Fields::new(message, at);
+    let mut fields = message.fields();
     let (mut id, mut keys, mut vals, mut infos) = (None, None, None, None);
     let (mut first, mut second, mut third) = (None, None, None);
     'fields: loop {

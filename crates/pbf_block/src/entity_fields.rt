@@ -1,9 +1,9 @@
 //! The fields of a node, a way or a relation, found in one pass over its message.
 
-ghost use Rattle.std.specs.Prelude.{◌≡◌, ◌+◌, ◌≤◌, ◌^◌, pos, List, length};
+ghost use Rattle.std.specs.Prelude.{◌≡◌, pos, List};
 ghost use Rattle.pbf_wire.specs.Columns.{column};
 ghost use Rattle.pbf_wire.specs.Cursors.{numbers_left, sums_left};
-ghost use Rattle.pbf_wire.specs.Faults.{fields_in, embedded};
+ghost use Rattle.pbf_wire.specs.Faults.{embedded, found_in};
 ghost use Rattle.pbf_wire.specs.Occurrence.{Occurrence};
 ghost use Rattle.pbf_wire.specs.Signed.{unzigzag, low_i64};
 ghost use Rattle.osm_entity.specs.Sources.{tags_left};
@@ -19,7 +19,7 @@ use crate::info::meta_in;
 use crate::ranges::{last_value, value_in};
 use osm_entity::{MetaRef, PairedTags, STORED_LIMIT, Tags};
 use pbf_strings::Table;
-use pbf_wire::{Column, Field, Fields, Sums, low_i64, unzigzag};
+use pbf_wire::{Column, Field, Fields, Message, Sums, low_i64, unzigzag};
 
 /// Where the fields are that all entities have. Those of a column begin at the first of its number, so that a column over them
 /// passes over no field before its own.
@@ -31,21 +31,19 @@ pub(crate) struct EntityFields<'a> {
     vals: Fields<'a>,
 }
 
-/// The fields of a message whose first byte stands at `at` in the file: those that all entities have, and those of the three
+/// The fields of a message: those that all entities have, and those of the three
 /// numbers that its kind has of its own, each from the first on. It is a function of its own for each kind: a caller that had it
 /// inlined would clear room for its locals before each dense node too.
 #[inline(never)]
 pub(crate) fn entity_fields<const FIRST: u64, const SECOND: u64, const THIRD: u64>(
-    message: &[u8],
-    at: u64,
+    message: Message<'_>,
 ) -> (EntityFields<'_>, Fields<'_>, Fields<'_>, Fields<'_>)
-    requires placed { at + length message.now ≤ 2 ^ 63 }
     requires apart { AreApart (FIRST, SECOND, THIRD) }
-    ensures alike { AreFields result.0 (fields_in at message.now) }
+    ensures alike { AreFields result.0 (found_in message.entry) }
     ensures own { AreOwn (FIRST, SECOND, THIRD) (result.1, result.2, result.3)
-        (fields_in at message.now) }
+        (found_in message.entry) }
 {
-    let mut fields = Fields::new(message, at);
+    let mut fields = message.fields();
     let (mut id, mut info, mut keys, mut vals) = (None, None, None, None);
     let (mut first, mut second, mut third) = (None, None, None);
     'fields: loop {

@@ -1,9 +1,9 @@
 //! An Info: who changed an entity, and when. Its fields, what is judged of them, and how they are read.
 
-ghost use Rattle.std.specs.Prelude.{◌≡◌, ◌+◌, ◌≤◌, ◌^◌, length};
+ghost use Rattle.std.specs.Prelude.{◌≡◌};
 ghost use Rattle.std.specs.Option.{option_map};
 ghost use Rattle.pbf_wire.specs.Fields.{occurrence};
-ghost use Rattle.pbf_wire.specs.Faults.{fields_in, fields_of};
+ghost use Rattle.pbf_wire.specs.Faults.{fields_of, found_in};
 ghost use Rattle.osm_entity.specs.Sources.{named};
 ghost use Rattle.osm_entity.specs.Views.{meta_of};
 ghost use Rattle.pbf_block.specs.Info.{info_in, info_values, AreNumbers};
@@ -13,7 +13,7 @@ use osm_entity::MetaRef;
 use pbf_dense::dense_info::{CHANGESET, TIMESTAMP, UID, USER_SID, VERSION, VISIBLE};
 use pbf_strings::Table;
 use pbf_wire::{
-    Fault, Field, Fields, JudgeMessage, Kind, Payload, lesser, low_i32, low_i64, low_u32,
+    Fault, Field, JudgeMessage, Kind, Message, Payload, lesser, low_i32, low_i64, low_u32,
 };
 
 /// How the fields of an Info are stored. They have the numbers of those of a DenseInfo.
@@ -37,17 +37,13 @@ struct InfoNumbers {
     visible: Option<(u64, u64)>,
 }
 
-/// The numbers of an Info whose first byte stands at `at` in the file, in one pass over its fields.
+/// The numbers of an Info, in one pass over its fields.
 #[inline(always)]
-fn info_numbers(message: &[u8], at: u64) -> InfoNumbers
-    requires { at + length message.now ≤ 2 ^ 63 }
-    ensures { AreNumbers result (fields_in at message.now) }
+fn info_numbers(message: Message<'_>) -> InfoNumbers
+    ensures { AreNumbers result (found_in message.entry) }
 {
     let mut numbers = InfoNumbers::default();
-    for item in Fields::new(message, at) {
-        let Ok(field) = item else {
-            break;
-        };
+    for field in message.found() {
         match field.number {
             VERSION => numbers.version = value_in(field).or(numbers.version),
             TIMESTAMP => numbers.timestamp = value_in(field).or(numbers.timestamp),
@@ -72,8 +68,8 @@ impl JudgeMessage for InfoRanges {
 
     #[inline(always)]
     #[tactic(auto, using(crate::proofs::Parts::lesser_parts))]
-    fn judge_message(&self, message: &[u8], at: u64, _place: u64) -> Option<Fault> {
-        let numbers = info_numbers(message, at);
+    fn judge_message(&self, message: Message<'_>, _place: u64) -> Option<Fault> {
+        let numbers = info_numbers(message);
         let times = lesser(judge_wide(numbers.timestamp), judge_wide(numbers.changeset));
         let signed = lesser(times, judge_uid(numbers.uid));
         lesser(signed, judge_user(numbers.user, self.limit))
@@ -87,10 +83,10 @@ fn numbers_in(info: Option<Field<'_>>) -> InfoNumbers
     match info {
         Some(
             Field {
-                payload: Payload::Bytes(message, at),
+                payload: Payload::Bytes(bytes, at),
                 ..
             },
-        ) => info_numbers(message, at),
+        ) => info_numbers(Message { bytes, at }),
         _ => InfoNumbers::default(),
     }
 }

@@ -17,7 +17,7 @@ impl<'a> Members<'a> {
     ghost use Rattle.pbf_wire.specs.Faults.{found_in};
     ghost use Rattle.pbf_block.specs.Runs.{group_members, members_left};
 
-    /// The fields of all groups of a payload whose first byte stands at `at` in the file, whatever is wrong with it.
+    /// The fields of all groups of a payload, whatever is wrong with it.
     #[tactic(auto, unfolding(crate::proofs::Parts::items_past))]
     pub(crate) fn over(payload: Message<'a>) -> Members<'a>
         ensures { members_left result ≡ flat_map group_members (found_in payload.entry) }

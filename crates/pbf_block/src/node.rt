@@ -1,7 +1,7 @@
 //! A Node: its fields, its rules phase by phase, and how it is read. Its rule of wire form is [`NODE_KINDS`].
 
-ghost use Rattle.std.specs.Prelude.{◌≡◌, ◌+◌, ◌≤◌, ◌^◌, length};
-ghost use Rattle.pbf_wire.specs.Faults.{fields_in};
+ghost use Rattle.std.specs.Prelude.{◌≡◌};
+ghost use Rattle.pbf_wire.specs.Faults.{found_in};
 ghost use Rattle.pbf_wire.specs.Least.{least};
 ghost use Rattle.osm_entity.specs.Views.{node_of};
 ghost use Rattle.pbf_block.specs.Node.{node_structure, node_values, node_in};
@@ -11,7 +11,7 @@ use crate::entity_fields::{entity_fields, last_signed};
 use crate::ranges::{judge_signed, last_value};
 use osm_entity::{NodeRef, Scale};
 use pbf_strings::Table;
-use pbf_wire::{Fault, Kind, judge_missing, lesser};
+use pbf_wire::{Fault, Kind, Message, judge_missing, lesser};
 
 // The fields of a Node beside those that all entities have.
 pub(crate) const NODE_LAT: u64 = 8;
@@ -31,41 +31,33 @@ pub(crate) const NODE_KINDS: [(u64, Kind); 6] = [
 /// The least fault of structure: what all entities have, and a place.
 #[inline(never)]
 #[tactic(auto, using(crate::proofs::Parts::lesser_parts))]
-pub(crate) fn judge_structure(message: &[u8], at: u64, place: u64) -> Option<Fault>
-    requires { at + length message.now ≤ 2 ^ 63 }
-    ensures { result ≡ least (node_structure place at message.now) }
+pub(crate) fn judge_structure(message: Message<'_>, place: u64) -> Option<Fault>
+    ensures { result ≡ least (node_structure place message.entry.at message.entry.bytes.now) }
 {
-    let (counts, ..) = entity_counts::<NODE_LAT, NODE_LON, NO_FIELD>(message, at);
-    let alike = counts.judge(message, at, place);
-    let lat = lesser(alike, judge_missing(message, at, place, NODE_LAT));
-    lesser(lat, judge_missing(message, at, place, NODE_LON))
+    let (counts, ..) = entity_counts::<NODE_LAT, NODE_LON, NO_FIELD>(message);
+    let alike = counts.judge(message, place);
+    let lat = lesser(alike, judge_missing(message, place, NODE_LAT));
+    lesser(lat, judge_missing(message, place, NODE_LON))
 }
 
 /// The least fault of values, where the table has `limit` texts.
 #[inline(never)]
 #[tactic(auto, using(crate::proofs::Parts::lesser_parts))]
-pub(crate) fn judge_values(message: &[u8], at: u64, limit: u64) -> Option<Fault>
-    requires { at + length message.now ≤ 2 ^ 63 }
-    ensures { result ≡ least (node_values limit 0 at message.now) }
+pub(crate) fn judge_values(message: Message<'_>, limit: u64) -> Option<Fault>
+    ensures { result ≡ least (node_values limit 0 message.entry.at message.entry.bytes.now) }
 {
-    let (values, lat, lon, _) = entity_values::<NODE_LAT, NODE_LON, NO_FIELD>(message, at, limit);
+    let (values, lat, lon, _) = entity_values::<NODE_LAT, NODE_LON, NO_FIELD>(message, limit);
     let alike = lesser(judge_signed(values.id), values.judge());
     let lat = lesser(alike, judge_signed(last_value(lat, NODE_LAT)));
     lesser(lat, judge_signed(last_value(lon, NODE_LON)))
 }
 
-/// The node of a message whose first byte stands at `at` in the file. Reads the message's fields once and takes no memory.
+/// The node of a message. Reads the message's fields once and takes no memory.
 #[tactic(auto, unfolding(crate::specs::Node::node_in))]
-pub(crate) fn node_in<'a>(
-    message: &'a [u8],
-    at: u64,
-    table: &'a Table<'a>,
-    scale: Scale,
-) -> NodeRef<'a>
-    requires { at + length message.now ≤ 2 ^ 63 }
-    ensures { node_of result ≡ node_in table.now scale (fields_in at message.now) }
+pub(crate) fn node_in<'a>(message: Message<'a>, table: &'a Table<'a>, scale: Scale) -> NodeRef<'a>
+    ensures { node_of result ≡ node_in table.now scale (found_in message.entry) }
 {
-    let (fields, lat, lon, _) = entity_fields::<NODE_LAT, NODE_LON, NO_FIELD>(message, at);
+    let (fields, lat, lon, _) = entity_fields::<NODE_LAT, NODE_LON, NO_FIELD>(message);
     NodeRef::new(
         fields.signed_id(),
         last_signed(lat, NODE_LAT),

@@ -58,7 +58,7 @@ impl Judge for PartForm {
     }
 }
 
-/// The least wire fault of a block whose first byte stands at `at` in the file, and of the messages in it.
+/// The least wire fault of a block, and of the messages in it.
 #[tactic(auto, unfolding(crate::specs::PrimitiveBlock::wire_faults))]
 pub(crate) fn judge_wire(payload: Message<'_>) -> Option<Fault>
     ensures { result ≡ least (wire_faults payload.entry.at payload.entry.bytes.now) }
@@ -86,7 +86,7 @@ impl Judge for PartStructure {
     }
 }
 
-/// The least fault of structure of a block whose first byte stands at `at` in the file, and of the messages in it.
+/// The least fault of structure of a block, and of the messages in it.
 #[tactic(auto, using(crate::proofs::Parts::lesser_parts), unfolding(crate::specs::PrimitiveBlock::structure_faults))]
 pub(crate) fn judge_structure(payload: Message<'_>) -> Option<Fault>
     ensures { result ≡ least (structure_faults payload.entry.at payload.entry.bytes.now) }
@@ -98,7 +98,7 @@ pub(crate) fn judge_structure(payload: Message<'_>) -> Option<Fault>
     lesser(table, judge_fields(payload, &PartStructure))
 }
 
-/// The least fault of values of a block whose first byte stands at `at` in the file, and of the messages in it; its table has
+/// The least fault of values of a block, and of the messages in it; its table has
 /// `limit` texts.
 #[tactic(auto, using(crate::proofs::Parts::lesser_parts), unfolding(crate::specs::PrimitiveBlock::value_faults))]
 pub(crate) fn judge_values(payload: Message<'_>, limit: u64) -> Option<Fault>
@@ -117,7 +117,7 @@ pub(crate) fn judge_values(payload: Message<'_>, limit: u64) -> Option<Fault>
     lesser(scale, judge_fields(payload, &members))
 }
 
-/// The least weight fault of a payload whose first byte stands at `at` in the file: `EntityLarge` at the first field of a
+/// The least weight fault of a payload: `EntityLarge` at the first field of a
 /// group with an entity above [`HIGHEST_WEIGHT`]. Goes through those entities that may be too heavy by the length of their message.
 /// Takes no memory.
 pub(crate) fn judge_weights<'a>(

@@ -1,7 +1,7 @@
 //! A Relation: its fields, its rules phase by phase, and how it is read. Its rule of wire form is [`RELATION_KINDS`].
 
-ghost use Rattle.std.specs.Prelude.{◌≡◌, ◌+◌, ◌≤◌, ◌^◌, List, length};
-ghost use Rattle.pbf_wire.specs.Faults.{fields_in};
+ghost use Rattle.std.specs.Prelude.{◌≡◌, List};
+ghost use Rattle.pbf_wire.specs.Faults.{found_in};
 ghost use Rattle.pbf_wire.specs.Least.{least};
 ghost use Rattle.pbf_wire.specs.Occurrence.{Occurrence};
 ghost use Rattle.osm_entity.specs.Views.{relation_of};
@@ -14,7 +14,9 @@ use crate::entity_fields::{column, entity_fields, values};
 use crate::ranges::{judge_sums, judge_wide};
 use osm_entity::{ColumnMembers, Members, RelationRef, Scale};
 use pbf_strings::Table;
-use pbf_wire::{Fault, Kind, Reason, fault_where, judge_indexes, judge_low_numbers, lesser};
+use pbf_wire::{
+    Fault, Kind, Message, Reason, fault_where, judge_indexes, judge_low_numbers, lesser,
+};
 
 // The fields of a Relation beside those that all entities have: the columns of its members.
 pub(crate) const ROLES_SID: u64 = 8;
@@ -45,14 +47,13 @@ fn are_members(roles: usize, ids: usize, kinds: usize) -> bool
 /// The least fault of structure: what all entities have, and the columns of members.
 #[inline(never)]
 #[tactic(auto, using(crate::proofs::Parts::lesser_parts))]
-pub(crate) fn judge_structure(message: &[u8], at: u64, place: u64) -> Option<Fault>
-    requires { at + length message.now ≤ 2 ^ 63 }
-    ensures { result ≡ least (relation_structure place at message.now) }
+pub(crate) fn judge_structure(message: Message<'_>, place: u64) -> Option<Fault>
+    ensures { result ≡ least (relation_structure place message.entry.at message.entry.bytes.now) }
 {
-    let (counts, roles, ids, kinds) = entity_counts::<ROLES_SID, MEMIDS, TYPES>(message, at);
+    let (counts, roles, ids, kinds) = entity_counts::<ROLES_SID, MEMIDS, TYPES>(message);
     let members = are_members(roles, ids, kinds);
     lesser(
-        counts.judge(message, at, place),
+        counts.judge(message, place),
         fault_where(!members, place, Reason::MemberColumns),
     )
 }
@@ -60,30 +61,27 @@ pub(crate) fn judge_structure(message: &[u8], at: u64, place: u64) -> Option<Fau
 /// The least fault of values, where the table has `limit` texts.
 #[inline(never)]
 #[tactic(auto, using(crate::proofs::Parts::lesser_parts))]
-pub(crate) fn judge_values(message: &[u8], at: u64, limit: u64) -> Option<Fault>
-    requires { at + length message.now ≤ 2 ^ 63 }
-    ensures { result ≡ least (relation_values limit 0 at message.now) }
+pub(crate) fn judge_values(message: Message<'_>, limit: u64) -> Option<Fault>
+    ensures { result ≡ least (relation_values limit 0 message.entry.at message.entry.bytes.now) }
 {
-    let (values, _, ids, _) = entity_values::<ROLES_SID, MEMIDS, TYPES>(message, at, limit);
+    let (values, _, ids, _) = entity_values::<ROLES_SID, MEMIDS, TYPES>(message, limit);
     let alike = lesser(judge_wide(values.id), values.judge());
-    let roles = lesser(alike, judge_indexes(message, at, ROLES_SID, limit));
+    let roles = lesser(alike, judge_indexes(message, ROLES_SID, limit));
     let ids = lesser(roles, judge_sums(ids, MEMIDS));
-    let kinds = judge_low_numbers(message, at, TYPES, 3, Reason::MemberKind);
+    let kinds = judge_low_numbers(message, TYPES, 3, Reason::MemberKind);
     lesser(ids, kinds)
 }
 
-/// The relation of a message whose first byte stands at `at` in the file. Reads the message's fields once and takes no memory.
+/// The relation of a message. Reads the message's fields once and takes no memory.
 #[tactic(auto, unfolding(crate::specs::Relation::relation_in))]
 pub(crate) fn relation_in<'a>(
-    message: &'a [u8],
-    at: u64,
+    message: Message<'a>,
     table: &'a Table<'a>,
     scale: Scale,
 ) -> RelationRef<'a>
-    requires { at + length message.now ≤ 2 ^ 63 }
-    ensures { relation_of result ≡ relation_in along table.now scale (fields_in at message.now) }
+    ensures { relation_of result ≡ relation_in along table.now scale (found_in message.entry) }
 {
-    let (fields, roles, ids, kinds) = entity_fields::<ROLES_SID, MEMIDS, TYPES>(message, at);
+    let (fields, roles, ids, kinds) = entity_fields::<ROLES_SID, MEMIDS, TYPES>(message);
     let members = ColumnMembers::new(
         column(kinds, TYPES),
         values(ids, MEMIDS),

@@ -70,7 +70,7 @@ impl<'a> Runs<'a> {
     ghost use Rattle.pbf_block.specs.Kinds.{entities_among};
     ghost use Rattle.pbf_block.specs.Runs.{joined_runs, runs_left};
 
-    /// The runs of a payload whose first byte stands at `at` in the file, whatever is wrong with it.
+    /// The runs of a payload, whatever is wrong with it.
     pub(crate) fn over(
         payload: Message<'a>,
         table: &'a Table<'a>,

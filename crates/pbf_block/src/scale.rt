@@ -17,7 +17,7 @@ pub const DEFAULT_SCALE: Scale = Scale {
     lon_offset: 0,
 };
 
-/// The scale of a payload whose first byte stands at `at` in the file. What it does not say is the default's.
+/// The scale of a payload. What it does not say is the default's.
 pub(crate) fn scale_in(payload: Message<'_>) -> Scale
     ensures { result ≡ scale_of (found_in payload.entry) }
 {

@@ -81,16 +81,6 @@ impl<'a> UnjudgedBlock<'a> {
         Ok(Some(UnjudgedBlock::new(payload, at, table, scale)))
     }
 
-    /// The payload as a message.
-    fn message(&self) -> Message<'a>
-        ensures { (result.bytes.now ≡ self.now.payload.now) × (result.at ≡ self.now.at) }
-    {
-        Message {
-            bytes: self.payload,
-            at: self.at,
-        }
-    }
-
     /// The entities of these kinds, in order, those of a dense message together, if the block has no fault; otherwise some entities,
     /// which may not be writable. Messages of other kinds aren't looked into. Takes no memory.
     #[tactic(auto, using(crate::proofs::AmongLemmas::among_same, crate::proofs::AmongLemmas::among_fit))]
@@ -101,7 +91,11 @@ impl<'a> UnjudgedBlock<'a> {
         ensures fits { block_fault self.now.at self.now.payload.now ≡ None
             → AllByRecursion EntityFits (joined_runs (runs_left result)) }
     {
-        Runs::over(self.message(), &self.table, self.scale, kinds)
+        let message = Message {
+            bytes: self.payload,
+            at: self.at,
+        };
+        Runs::over(message, &self.table, self.scale, kinds)
     }
 
     /// How many entities there are, if the block has no fault.
@@ -109,7 +103,10 @@ impl<'a> UnjudgedBlock<'a> {
         ensures { block_fault self.now.at self.now.payload.now ≡ None → result
             ≡ counts_of (entities self.now.at self.now.payload.now) }
     {
-        count_entities(self.message())
+        count_entities(Message {
+            bytes: self.payload,
+            at: self.at,
+        })
     }
 
     /// How many bytes the table holds: four for each of its texts.

@@ -1,7 +1,7 @@
 //! A Way: its fields, its rules phase by phase, and how it is read. Its rule of wire form is [`WAY_KINDS`].
 
-ghost use Rattle.std.specs.Prelude.{◌≡◌, ◌+◌, ◌≤◌, ◌^◌, List, length};
-ghost use Rattle.pbf_wire.specs.Faults.{fields_in};
+ghost use Rattle.std.specs.Prelude.{◌≡◌, List};
+ghost use Rattle.pbf_wire.specs.Faults.{found_in};
 ghost use Rattle.pbf_wire.specs.Least.{least};
 ghost use Rattle.pbf_wire.specs.Occurrence.{Occurrence};
 ghost use Rattle.osm_entity.specs.Views.{way_of};
@@ -14,7 +14,7 @@ use crate::entity_fields::{entity_fields, values};
 use crate::ranges::{judge_sums, judge_wide};
 use osm_entity::{Locations, Refs, Scale, SummedLocations, WayRef};
 use pbf_strings::Table;
-use pbf_wire::{Fault, Kind, Reason, fault_where, lesser};
+use pbf_wire::{Fault, Kind, Message, Reason, fault_where, lesser};
 
 // The fields of a Way beside those that all entities have: its refs, and their locations.
 pub(crate) const REFS: u64 = 8;
@@ -45,14 +45,13 @@ fn are_located(refs: usize, lats: usize, lons: usize) -> bool
 /// The least fault of structure: what all entities have, and locations.
 #[inline(never)]
 #[tactic(auto, using(crate::proofs::Parts::lesser_parts))]
-pub(crate) fn judge_structure(message: &[u8], at: u64, place: u64) -> Option<Fault>
-    requires { at + length message.now ≤ 2 ^ 63 }
-    ensures { result ≡ least (way_structure place at message.now) }
+pub(crate) fn judge_structure(message: Message<'_>, place: u64) -> Option<Fault>
+    ensures { result ≡ least (way_structure place message.entry.at message.entry.bytes.now) }
 {
-    let (counts, refs, lats, lons) = entity_counts::<REFS, WAY_LAT, WAY_LON>(message, at);
+    let (counts, refs, lats, lons) = entity_counts::<REFS, WAY_LAT, WAY_LON>(message);
     let located = are_located(refs, lats, lons);
     lesser(
-        counts.judge(message, at, place),
+        counts.judge(message, place),
         fault_where(!located, place, Reason::LocationColumns),
     )
 }
@@ -60,29 +59,22 @@ pub(crate) fn judge_structure(message: &[u8], at: u64, place: u64) -> Option<Fau
 /// The least fault of values, where the table has `limit` texts.
 #[inline(never)]
 #[tactic(auto, using(crate::proofs::Parts::lesser_parts))]
-pub(crate) fn judge_values(message: &[u8], at: u64, limit: u64) -> Option<Fault>
-    requires { at + length message.now ≤ 2 ^ 63 }
-    ensures { result ≡ least (way_values limit 0 at message.now) }
+pub(crate) fn judge_values(message: Message<'_>, limit: u64) -> Option<Fault>
+    ensures { result ≡ least (way_values limit 0 message.entry.at message.entry.bytes.now) }
 {
-    let (values, refs, lats, lons) = entity_values::<REFS, WAY_LAT, WAY_LON>(message, at, limit);
+    let (values, refs, lats, lons) = entity_values::<REFS, WAY_LAT, WAY_LON>(message, limit);
     let alike = lesser(judge_wide(values.id), values.judge());
     let refs = lesser(alike, judge_sums(refs, REFS));
     let lats = lesser(refs, judge_sums(lats, WAY_LAT));
     lesser(lats, judge_sums(lons, WAY_LON))
 }
 
-/// The way of a message whose first byte stands at `at` in the file. Reads the message's fields once and takes no memory.
+/// The way of a message. Reads the message's fields once and takes no memory.
 #[tactic(auto, unfolding(crate::specs::Way::way_in))]
-pub(crate) fn way_in<'a>(
-    message: &'a [u8],
-    at: u64,
-    table: &'a Table<'a>,
-    scale: Scale,
-) -> WayRef<'a>
-    requires { at + length message.now ≤ 2 ^ 63 }
-    ensures { way_of result ≡ way_in along table.now scale (fields_in at message.now) }
+pub(crate) fn way_in<'a>(message: Message<'a>, table: &'a Table<'a>, scale: Scale) -> WayRef<'a>
+    ensures { way_of result ≡ way_in along table.now scale (found_in message.entry) }
 {
-    let (fields, refs, lats, lons) = entity_fields::<REFS, WAY_LAT, WAY_LON>(message, at);
+    let (fields, refs, lats, lons) = entity_fields::<REFS, WAY_LAT, WAY_LON>(message);
     let locations = SummedLocations::new(values(lats, WAY_LAT), values(lons, WAY_LON));
     WayRef::new(
         fields.wide_id(),

@@ -4,9 +4,9 @@ use Rattle.pbf_block.specs.declared.entity.TheConstants.{KEYS, VALS}
 use Rattle.pbf_block.proofs.CountLemmas.{adds_all}
 use Rattle.pbf_block.proofs.entity.entity_counts.Goals as goal
 
-pub loop-item-init : goal.loop-item-init
-loop-item-init g c =
-    let all = ap fields_left c.into_iter-item-iterator.ensures.into_iter_gives ∙ c.new-item-items.ensures in
+pub loop-field-init : goal.loop-field-init
+loop-field-init g c =
+    let all = ap fields_left c.into_iter-field-iterator.ensures.into_iter_gives ∙ c.new-item-items.ensures in
     rw all (record {
       can = tt;
       ends = tt;
