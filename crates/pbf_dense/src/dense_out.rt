@@ -1,6 +1,6 @@
 //! Dense nodes, written.
 
-ghost use Rattle.std.specs.Prelude.{◌≡◌, ◌++◌, ◌∷◌, [], ◌-◌, ◌+◌, ◌≤◌, ◌^◌, min, ℕ, List, OnOk, IfOk, length, ◌||◌, if◌then◌else◌};
+ghost use Rattle.std.specs.Prelude.{◌≡◌, ◌++◌, ◌∷◌, [], ◌-◌, ◌+◌, ◌≤◌, ◌^◌, min, ℕ, List, OnOk, IfOk, length, if◌then◌else◌};
 ghost use Rattle.pbf_wire.specs.Message.{Column, Each, message, unless_empty};
 ghost use Rattle.pbf_wire.specs.Sums.{deltas};
 ghost use Rattle.pbf_strings.specs.TableOut.{texts_after};
@@ -8,7 +8,7 @@ ghost use Rattle.osm_entity.specs.Entity.{NodeSpec};
 ghost use Rattle.osm_entity.specs.EntityTexts.{tag_texts, node_texts};
 ghost use Rattle.osm_entity.specs.Ranges.{NodeFits};
 ghost use Rattle.osm_entity.specs.Views.{node_of};
-ghost use Rattle.pbf_dense.specs.WrittenDense.{HoldsNodes, are_some, run_of, columns_held, dense_message, dense_length};
+ghost use Rattle.pbf_dense.specs.WrittenDense.{HoldsNodes, run_of, columns_held, dense_message, dense_length};
 
 use crate::dense_nodes::{DENSEINFO, ID, KEYS_VALS, LAT, LON};
 use crate::info_out::InfoOut;
@@ -27,13 +27,6 @@ pub struct DenseOut {
     info: InfoOut,
     runs: ColumnOut,
     tagged: bool,
-}
-
-/// Whether there was a tag before, or is one here.
-fn is_tagged(before: bool, node: &NodeRef<'_>) -> bool
-    ensures { result ≡ (before || are_some (node_of node.now).tags) }
-{
-    before || node.tags().next().is_some()
 }
 
 /// Adds the indexes of the keys and values of a node's tags in turn, and then a 0. Where the node is seen to have no tag, no
@@ -100,7 +93,7 @@ impl DenseOut {
         self.ids.push(node.id())?;
         self.lats.push(node.lat())?;
         self.lons.push(node.lon())?;
-        self.tagged = is_tagged(self.tagged, node);
+        self.tagged = self.tagged || node.tags().next().is_some();
         Ok(())
     }
 
