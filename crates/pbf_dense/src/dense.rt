@@ -118,10 +118,9 @@ impl<'a> Dense<'a> {
     pub fn pass(&mut self, count: usize)
         ensures { dense_left self.new ≡ drop count (dense_left self.old) }
     {
-        if count == 0 {
-            return;
+        if count > 0 {
+            self.move_on(count);
         }
-        self.move_on(count);
     }
 
     /// As [`Dense::pass`], where there are some to pass over.

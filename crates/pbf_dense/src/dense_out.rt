@@ -1,19 +1,18 @@
 //! Dense nodes, written.
 
-ghost use Rattle.std.specs.Prelude.{◌≡◌, ◌++◌, ◌∷◌, [], ◌-◌, ◌+◌, ◌≤◌, ◌^◌, min, ℕ, List, OnOk, IfOk, length, ◌||◌, if◌then◌else◌};
-ghost use Rattle.pbf_wire.specs.Message.{Column, Each, slot_bytes, message, unless_empty};
+ghost use Rattle.std.specs.Prelude.{◌≡◌, ◌++◌, ◌∷◌, [], ◌-◌, ◌+◌, ◌≤◌, ◌^◌, min, ℕ, List, OnOk, IfOk, length, if◌then◌else◌};
+ghost use Rattle.pbf_wire.specs.Message.{Column, Each, message, unless_empty};
 ghost use Rattle.pbf_wire.specs.Sums.{deltas};
 ghost use Rattle.pbf_strings.specs.TableOut.{texts_after};
 ghost use Rattle.osm_entity.specs.Entity.{NodeSpec};
 ghost use Rattle.osm_entity.specs.EntityTexts.{tag_texts, node_texts};
 ghost use Rattle.osm_entity.specs.Ranges.{NodeFits};
-ghost use Rattle.osm_entity.specs.Sources.{tags_left};
 ghost use Rattle.osm_entity.specs.Views.{node_of};
-ghost use Rattle.pbf_dense.specs.WrittenDense.{HoldsNodes, are_some, run_of, columns_held, dense_message, dense_length};
+ghost use Rattle.pbf_dense.specs.WrittenDense.{HoldsNodes, run_of, columns_held, dense_message, dense_length};
 
 use crate::dense_nodes::{DENSEINFO, ID, KEYS_VALS, LAT, LON};
 use crate::info_out::InfoOut;
-use osm_entity::{NodeRef, Tags};
+use osm_entity::NodeRef;
 use pbf_strings::TableOut;
 use pbf_wire::{ColumnOut, DeltaOut, put_column, put_unless_empty};
 use std::alloc::{AllocError, Global};
@@ -30,35 +29,8 @@ pub struct DenseOut {
     tagged: bool,
 }
 
-/// Whether there was a tag before, or is one here.
-fn is_tagged(before: bool, node: &NodeRef<'_>) -> bool
-    ensures { result ≡ (before || are_some (node_of node.now).tags) }
-{
-    before || node.tags().next().is_some()
-}
-
-/// Adds the indexes of keys and values in turn, and then a 0.
-fn push_run<S: BuildHasher>(
-    runs: &mut ColumnOut,
-    tags: Tags<'_>,
-    table: &mut TableOut<S>,
-) -> Result<(), AllocError>
-    requires { length table.old + length (tag_texts (tags_left tags)) ≤ 1048575 }
-    ensures texts { OnOk result
-        (table.new ≡ texts_after table.old (tag_texts (tags_left tags.entry))) }
-    ensures runs { (used : List (List ℕ))
-        → OnOk result (runs.new
-        ≡ runs.old ++ run_of (texts_after table.new used) (tags_left tags.entry)) }
-{
-    for (key, value) in tags {
-        runs.push(u64::from(table.index_of(key)?))?;
-        runs.push(u64::from(table.index_of(value)?))?;
-    }
-    runs.push(0)?;
-    Ok(())
-}
-
-/// As [`push_run`], of the tags of a node. Where it is seen to have none, no copy of them is made: its run is the 0 alone.
+/// Adds the indexes of the keys and values of a node's tags in turn, and then a 0. Where the node is seen to have no tag, no
+/// copy of them is made: its run is the 0 alone.
 fn push_tags<S: BuildHasher>(
     runs: &mut ColumnOut,
     node: &NodeRef<'_>,
@@ -74,9 +46,13 @@ fn push_tags<S: BuildHasher>(
     if node.is_bare() {
         let no_key = 0;
         runs.push(no_key)?;
-    } else {
-        push_run(runs, node.tags(), table)?;
+        return Ok(());
     }
+    for (key, value) in node.tags() {
+        runs.push(u64::from(table.index_of(key)?))?;
+        runs.push(u64::from(table.index_of(value)?))?;
+    }
+    runs.push(0)?;
     Ok(())
 }
 
@@ -117,25 +93,12 @@ impl DenseOut {
         self.ids.push(node.id())?;
         self.lats.push(node.lat())?;
         self.lons.push(node.lon())?;
-        self.tagged = is_tagged(self.tagged, node);
+        self.tagged = self.tagged || node.tags().next().is_some();
         Ok(())
     }
 
-    /// Appends the runs of tags, if a node has one.
-    #[tactic(auto, using(crate::proofs::DenseOutLemmas::no_runs))]
-    fn put_runs(&self, out: &mut Vec<u8>) -> Result<(), AllocError>
-        ensures { OnOk result (out.new.items
-            ≡ out.old.items ++ slot_bytes
-            (Column KEYS_VALS (if self.now.tagged then self.now.runs else []))) }
-    {
-        if self.tagged {
-            put_column(out, KEYS_VALS, self.runs.bytes())?;
-        }
-        Ok(())
-    }
-
-    /// Appends the fields of the message, with these as those of its DenseInfo.
-    #[tactic(auto, using(crate::proofs::Parts::one_more, crate::proofs::Parts::last_slot))]
+    /// Appends the fields of the message, with these as those of its DenseInfo, and with the runs of tags if a node has one.
+    #[tactic(auto, using(crate::proofs::Parts::one_more, crate::proofs::Parts::last_slot, crate::proofs::DenseOutLemmas::no_runs))]
     fn put_fields(&self, out: &mut Vec<u8>, info: &[u8]) -> Result<(), AllocError>
         ensures { OnOk result (out.new.items
             ≡ out.old.items ++ message (Column ID (deltas self.now.ids)
@@ -147,7 +110,9 @@ impl DenseOut {
         put_unless_empty(out, DENSEINFO, info)?;
         put_column(out, LAT, self.lats.bytes())?;
         put_column(out, LON, self.lons.bytes())?;
-        self.put_runs(out)?;
+        if self.tagged {
+            put_column(out, KEYS_VALS, self.runs.bytes())?;
+        }
         Ok(())
     }
 
