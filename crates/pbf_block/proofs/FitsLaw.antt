@@ -8,7 +8,7 @@ use Rattle.std.proofs.lemmas.Bool.{eqb-true, ltb-false}
 use Rattle.pbf_wire.specs.declared.fault.Fault.{Fault}
 use Rattle.pbf_wire.specs.declared.fault.Reason.{Reason}
 use Rattle.pbf_wire.specs.declared.fault.Reason.TheVariants.{Granularity, DateGranularity, EntityLarge}
-use Rattle.pbf_wire.specs.Occurrence.{Content, Number, Eight, Four, Bytes, Occurrence}
+use Rattle.pbf_wire.specs.Occurrence.{Content, Bytes, Occurrence}
 use Rattle.pbf_wire.specs.Reading.{last_value, last_number}
 use Rattle.pbf_wire.specs.Signed.{low_i32, low_i64}
 use Rattle.pbf_wire.specs.Faults.{inside, fields_in, in_last, embedded}
@@ -130,10 +130,8 @@ module _ (table : List (List ℕ)) (scale : Scale) (scaled : ScaleTyped scale) w
       (cond_all EntityTyped (eqb k WAYS) _ _ (λ t. (way_typed os, tt)) (cond_all EntityTyped (eqb k RELATIONS) _ _ (λ t. (relation_typed os, tt)) tt)))
 
   inside_typed : (f : ℕ → List ℕ → List EntitySpec) (c : Content) → ((at : ℕ) (m : List ℕ) → AllByRecursion EntityTyped (f at m)) → AllByRecursion EntityTyped (inside f c)
-  inside_typed f (Number v) each = tt
-  inside_typed f (Eight bytes) each = tt
-  inside_typed f (Four bytes) each = tt
   inside_typed f (Bytes bytes at) each = each at bytes
+  inside_typed f c each = tt
 
   member_typed : (o : Occurrence) → AllByRecursion EntityTyped (member_entities by_index table scale o)
   member_typed o = inside_typed _ o.content (λ at m. message_typed o.number (fields_in at m))

@@ -11,7 +11,7 @@ use Rattle.pbf_wire.specs.declared.fault.Fault.{Fault}
 use Rattle.pbf_wire.specs.declared.fault.Reason.TheVariants.{LocationColumns, OutOfRange, StringIndex}
 use Rattle.pbf_wire.specs.declared.kind.Kind.{Kind}
 use Rattle.pbf_wire.specs.declared.kind.Kind.TheVariants as kind
-use Rattle.pbf_wire.specs.Occurrence.{Content, Number, Eight, Four, Bytes, Occurrence, items}
+use Rattle.pbf_wire.specs.Occurrence.{Content, Bytes, Occurrence, items}
 use Rattle.pbf_wire.specs.Columns.{joined, column}
 use Rattle.pbf_wire.specs.Wire.{kind_of}
 use Rattle.pbf_wire.specs.Reading.{last_of, last_value}
@@ -76,10 +76,8 @@ module _ (limit : ℕ) (table : List (List ℕ)) where
       }
 
   inside_fits : (place : ℕ) (c : Content) → inside (info_values limit place) c ≡ [] → MetaFits (info_in table (inside fields_in c))
-  inside_fits place (Number v) e = record { timestamp = tt; changeset = tt; uid = tt }
-  inside_fits place (Eight bytes) e = record { timestamp = tt; changeset = tt; uid = tt }
-  inside_fits place (Four bytes) e = record { timestamp = tt; changeset = tt; uid = tt }
   inside_fits place (Bytes bytes at) e = info_fits place at bytes e
+  inside_fits place c e = record { timestamp = tt; changeset = tt; uid = tt }
 
   last_fits : (os : List Occurrence) (last : Option Occurrence) → AllByRecursion (λ o. entered INFO (info_values limit) o ≡ []) os → last_of INFO os ≡ last → MetaFits (info_in table (fields_of last))
   last_fits os None all e = record { timestamp = tt; changeset = tt; uid = tt }

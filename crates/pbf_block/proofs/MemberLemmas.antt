@@ -4,7 +4,7 @@ use Rattle.std.proofs.Common.{◌≡◌, ◌==◌, ℕ, Bool, true, false, cond,
 use Rattle.std.specs.Prelude.{if◌then◌else◌, Option}
 use Rattle.std.specs.List.{flat_map, AllByRecursion}
 use Rattle.std.proofs.lemmas.Bool.{eqb-true}
-use Rattle.pbf_wire.specs.Occurrence.{Content, Number, Eight, Four, Bytes, Occurrence, items}
+use Rattle.pbf_wire.specs.Occurrence.{Content, Bytes, Occurrence, items}
 use Rattle.pbf_wire.specs.Faults.{inside, entered, fields_in, nested_faults, twice}
 use Rattle.pbf_wire.proofs.MessageLemmas.{all_append}
 use Rattle.pbf_wire.proofs.SoundLemmas.{both_nil, all_nil, fields_sound, IsSound}
@@ -29,22 +29,16 @@ entered_nil k f o e same = let test : (o.number == k) ≡ true = grind arith in 
 
 -- it holds of the message
 abbrev pub Inside : (ℕ → List ℕ → Type 0) → Content → Type 0
-Inside P (Number v) = Unit {0}
-Inside P (Eight bytes) = Unit {0}
-Inside P (Four bytes) = Unit {0}
 Inside P (Bytes bytes at) = P at bytes
+Inside P _ = Unit {0}
 
 pub inside_same : {X : Type 0} (f g : ℕ → List ℕ → List X) (P : ℕ → List ℕ → Type 0) (c : Content) → ((at : ℕ) (m : List ℕ) → P at m → f at m ≡ g at m) → Inside P c → inside f c ≡ inside g c
-inside_same f g P (Number v) h p = refl
-inside_same f g P (Eight bytes) h p = refl
-inside_same f g P (Four bytes) h p = refl
 inside_same f g P (Bytes bytes at) h p = h at bytes p
+inside_same f g P c h p = refl
 
 pub inside_all : {X : Type 0} (Q : X → Type 0) (f : ℕ → List ℕ → List X) (P : ℕ → List ℕ → Type 0) (c : Content) → ((at : ℕ) (m : List ℕ) → P at m → AllByRecursion Q (f at m)) → Inside P c → AllByRecursion Q (inside f c)
-inside_all Q f P (Number v) h p = tt
-inside_all Q f P (Eight bytes) h p = tt
-inside_all Q f P (Four bytes) h p = tt
 inside_all Q f P (Bytes bytes at) h p = h at bytes p
+inside_all Q f P c h p = tt
 
 -- two ways to go on after a test are the same where it holds, and where it doesn't
 pub cond_same : {A : Type 0} (b : Bool) (x y w z : A) → (b ≡ true → x ≡ y) → w ≡ z → cond b x w ≡ cond b y z
@@ -82,10 +76,8 @@ groups_all Q f P each os all = flat_all Q (in_group f) (InGroup P) os (λ o h.
 
 -- where they give nothing, each gives nothing
 inside_nil : {X : Type 0} (f : Occurrence → List X) (c : Content) → inside (λ at m. flat_map f (fields_in at m)) c ≡ [] → Inside (λ at m. AllByRecursion (λ o. f o ≡ []) (fields_in at m)) c
-inside_nil f (Number v) e = tt
-inside_nil f (Eight bytes) e = tt
-inside_nil f (Four bytes) e = tt
 inside_nil f (Bytes bytes at) e = all_nil f (fields_in at bytes) e
+inside_nil f c e = tt
 
 pub groups_nil : {X : Type 0} (f : Occurrence → List X) (os : List Occurrence) → flat_map (in_group f) os ≡ [] → AllByRecursion (InGroup (λ o. f o ≡ [])) os
 groups_nil f [] e = tt
@@ -111,9 +103,6 @@ HoldsClean limit o = Inside (IsClean limit o.number o.place) o.content
 
 module _ (limit : ℕ) where
   content_clean : (place k : ℕ) (c : Content) → let o : Occurrence = record { place = place; number = k; content = c } in member_wire o ≡ [] → entities_structure o ≡ [] → member_values limit o ≡ [] → HoldsClean limit o
-  content_clean place k (Number n) w s v = tt
-  content_clean place k (Eight bytes) w s v = tt
-  content_clean place k (Four bytes) w s v = tt
   content_clean place k (Bytes bytes at) w s v =
       let o : Occurrence = record { place = place; number = k; content = Bytes bytes at } in
       let w4 = both_nil _ (entered RELATIONS (nested_faults RELATION_KINDS INFO INFO_KINDS) o) w in
@@ -133,6 +122,7 @@ module _ (limit : ℕ) where
         way_numbers = entered_nil WAYS (way_values limit) o v3.1;
         relation_numbers = entered_nil RELATIONS (relation_values limit) o v4.1;
       }
+  content_clean place k c w s v = tt
 
   -- ---- a payload in which nothing is wrong
 
@@ -141,13 +131,11 @@ module _ (limit : ℕ) where
   fields_clean first (o ∷ os) w s v = (content_clean o.place o.number o.content w.0.1 (both_nil _ (entities_structure o) s.0).1 v.0, fields_clean first os w.1 s.1 v.1)
 
   group_clean : (place : ℕ) (c : Content) → inside (group_wire place) c ≡ [] → inside (group_structure place) c ≡ [] → Inside (λ at m. AllByRecursion (λ o. member_values limit o ≡ []) (fields_in at m)) c → Inside (λ at m. AllByRecursion (HoldsClean limit) (fields_in at m)) c
-  group_clean place (Number v) w s u = tt
-  group_clean place (Eight bytes) w s u = tt
-  group_clean place (Four bytes) w s u = tt
   group_clean place (Bytes bytes at) w s u =
       let os = fields_in at bytes in
       let f = member_structure (first_member os) in
       fields_clean (first_member os) os (fields_sound GROUP_KINDS member_wire (items at bytes) w) (all_nil f os (both_nil (twice DENSE os) (flat_map f os) s).1) u
+  group_clean place c w s u = tt
 
   parts_clean : (os : List Occurrence) → AllByRecursion (IsSound BLOCK_KINDS part_wire) os → AllByRecursion (λ o. part_structure o ≡ []) os → AllByRecursion (InGroup (λ o. member_values limit o ≡ [])) os → AllByRecursion (InGroup (HoldsClean limit)) os
   parts_clean [] w s v = tt

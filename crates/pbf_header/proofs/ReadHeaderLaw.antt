@@ -5,7 +5,7 @@ use Rattle.std.specs.Option.{option_map}
 use Rattle.std.specs.List.{last_or, cons_option, AllByRecursion}
 use Rattle.std.proofs.lemmas.Int.{ints}
 use Rattle.pbf_wire.specs.Faults.{fields_in}
-use Rattle.pbf_wire.specs.Occurrence.{Content, Number, Eight, Four, Bytes, Occurrence, IsBody, Joins}
+use Rattle.pbf_wire.specs.Occurrence.{Content, Number, Occurrence, IsBody, Joins}
 use Rattle.pbf_wire.specs.Reading.{value_in, values, last_number}
 use Rattle.pbf_wire.specs.Signed.{unzigzag, low_i64}
 use Rattle.pbf_wire.proofs.Cutting.{is_cutting}
@@ -26,15 +26,11 @@ IsWide v = v < 2 ^ 64
 -- a content that is a number is one of 64 bits
 abbrev HoldsWide : Content → Type 0
 HoldsWide (Number v) = IsWide v
-HoldsWide (Eight bytes) = Unit {0}
-HoldsWide (Four bytes) = Unit {0}
-HoldsWide (Bytes bytes at) = Unit {0}
+HoldsWide _ = Unit {0}
 
 body_wide : (c : Content) (kind end : ℕ) (s : List ℕ) → IsBody c kind end s → HoldsWide c
 body_wide (Number v) kind end s h = h.1.fits
-body_wide (Eight bytes) kind end s h = tt
-body_wide (Four bytes) kind end s h = tt
-body_wide (Bytes bytes at) kind end s h = tt
+body_wide c kind end s h = tt
 
 abbrev AllWide : List Occurrence → Type 0
 AllWide os = AllByRecursion (λ o. HoldsWide o.content) os
@@ -54,9 +50,7 @@ number_wide : (b : Bool) (place : ℕ) (c : Content) (vs : List (ℕ × ℕ)) (b
     → IsValueWide (last_or before (cons_option (if b then value_in place c else None) vs))
 number_wide false place c vs before wide h more = more before h
 number_wide true place (Number v) vs before wide h more = more (Some (place, v)) wide
-number_wide true place (Eight bytes) vs before wide h more = more before h
-number_wide true place (Four bytes) vs before wide h more = more before h
-number_wide true place (Bytes bytes at) vs before wide h more = more before h
+number_wide true place c vs before wide h more = more before h
 
 last_from : (k : ℕ) (os : List Occurrence) (before : Option (ℕ × ℕ)) → AllWide os → IsValueWide before → IsValueWide (last_or before (values k os))
 last_from k [] before all h = h

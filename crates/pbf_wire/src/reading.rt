@@ -52,8 +52,7 @@ pub fn last_value_left(fields: Fields<'_>, number: u64) -> Option<(u64, u64)>
 pub fn last_number_left(fields: Fields<'_>, number: u64) -> Option<u64>
     ensures { result ≡ last_number number (found (fields_left fields.entry)) }
 {
-    let (_, value) = last_value_left(fields, number)?;
-    Some(value)
+    last_value_left(fields, number).map(|(_, value)| value)
 }
 
 /// As [`last_number_left`], of all of a message.
