@@ -1,4 +1,4 @@
-use Rattle.std.proofs.Common.{rules, tests, ◌≡◌, ◌∙◌, ap, sym}
+use Rattle.std.proofs.Common.{rules, tests, ◌≡◌}
 use Rattle.std.proofs.lemmas.Iterator.Consumers.{YieldsList-from_first}
 use Rattle.std.proofs.lemmas.Iterator.Search.{find_from_yields_List}
 use Rattle.std.specs.List.{find}
@@ -6,7 +6,7 @@ use Rattle.std.specs.Option.{option_map}
 use Rattle.pbf_wire.specs.Cursors.{found_left}
 use Rattle.pbf_wire.specs.Faults.{found_in}
 use Rattle.pbf_wire.specs.Fields.{occurrence}
-use Rattle.pbf_wire.specs.Occurrence.{Occurrence, found}
+use Rattle.pbf_wire.specs.Occurrence.{Occurrence}
 use Rattle.pbf_block.specs.Group.{is_member}
 use Rattle.pbf_block.proofs.group.first_member.Goals as goal
 
