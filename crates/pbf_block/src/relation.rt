@@ -14,9 +14,7 @@ use crate::entity_fields::{column, entity_fields, values};
 use crate::ranges::{judge_sums, judge_wide};
 use osm_entity::{ColumnMembers, Members, RelationRef, Scale};
 use pbf_strings::Table;
-use pbf_wire::{
-    Fault, Kind, Message, Reason, fault_where, judge_indexes, judge_low_numbers, lesser,
-};
+use pbf_wire::{Fault, Kind, Message, Reason, fault_where, judge_low_numbers, lesser};
 
 // The fields of a Relation beside those that all entities have: the columns of its members.
 pub(crate) const ROLES_SID: u64 = 8;
@@ -66,7 +64,8 @@ pub(crate) fn judge_values(message: Message<'_>, limit: u64) -> Option<Fault>
 {
     let (values, _, ids, _) = entity_values::<ROLES_SID, MEMIDS, TYPES>(message, limit);
     let alike = lesser(judge_wide(values.id), values.judge());
-    let roles = lesser(alike, judge_indexes(message, ROLES_SID, limit));
+    let texts = judge_low_numbers(message, ROLES_SID, limit, Reason::StringIndex);
+    let roles = lesser(alike, texts);
     let ids = lesser(roles, judge_sums(ids, MEMIDS));
     let kinds = judge_low_numbers(message, TYPES, 3, Reason::MemberKind);
     lesser(ids, kinds)

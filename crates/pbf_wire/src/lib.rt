@@ -40,15 +40,14 @@ pub use judge::{EachField, InField, Judge, JudgeMessage, fault_where, judge_fiel
 pub use kind::Kind;
 pub use least::{comes_before, lesser};
 pub use message::Message;
-pub use reading::{last_field, last_field_left, last_number, last_number_left, last_value_left};
+pub use reading::{last_field, last_number, last_value_left};
 pub use short::is_short;
 pub use signed::{low_i32, low_i64, low_sint32, low_u32, sign_extended, unzigzag, zigzag};
 pub use structure::{column_count, judge_missing, judge_twice};
 pub use sum::Sum;
 pub use sums::Sums;
 pub use values::{
-    judge_index, judge_index_sums, judge_indexes, judge_low_numbers, judge_range, judge_sums,
-    judge_sums_left,
+    judge_index, judge_index_sums, judge_low_numbers, judge_range, judge_sums, judge_sums_left,
 };
 pub use varint::{get_varint, put_varint, shortest_spelling, varint_len};
 pub use writing::{put_bytes, put_column, put_if_some, put_int64, put_number, put_unless_empty};

@@ -12,13 +12,13 @@ use crate::field::{Field, Payload};
 use crate::fields::Fields;
 use crate::message::Message;
 
-/// The last occurrence of a field, of any wire type, among the fields that are still to come. Where the message has a fault, its
-/// fields before the fault count. Reads all fields once and takes no memory.
-pub fn last_field_left(fields: Fields<'_>, number: u64) -> Option<Field<'_>>
-    ensures { option_map occurrence result ≡ last_of number (found (fields_left fields.entry)) }
+/// The last occurrence of a field, of any wire type. Where the message has a fault, its fields before the fault count. Reads all
+/// fields once and takes no memory.
+pub fn last_field(message: Message<'_>, number: u64) -> Option<Field<'_>>
+    ensures { option_map occurrence result ≡ last_of number (found_in message.entry) }
 {
     let mut last = None;
-    for field in fields.found() {
+    for field in message.found() {
         if field.number == number {
             last = Some(field);
         }
@@ -26,14 +26,8 @@ pub fn last_field_left(fields: Fields<'_>, number: u64) -> Option<Field<'_>>
     last
 }
 
-/// As [`last_field_left`], of all of a message.
-pub fn last_field(message: Message<'_>, number: u64) -> Option<Field<'_>>
-    ensures { option_map occurrence result ≡ last_of number (found_in message.entry) }
-{
-    last_field_left(message.fields(), number)
-}
-
-/// The place of the last occurrence of a field that holds a number, and the number. The rest is as for [`last_field_left`].
+/// The place of the last occurrence of a field that holds a number, and the number, among the fields that are still to come. The
+/// rest is as for [`last_field`].
 pub fn last_value_left(fields: Fields<'_>, number: u64) -> Option<(u64, u64)>
     ensures { result ≡ last_value number (found (fields_left fields.entry)) }
 {
@@ -48,16 +42,9 @@ pub fn last_value_left(fields: Fields<'_>, number: u64) -> Option<(u64, u64)>
     last
 }
 
-/// As [`last_value_left`], the number alone.
-pub fn last_number_left(fields: Fields<'_>, number: u64) -> Option<u64>
-    ensures { result ≡ last_number number (found (fields_left fields.entry)) }
-{
-    last_value_left(fields, number).map(|(_, value)| value)
-}
-
-/// As [`last_number_left`], of all of a message.
+/// The number of the last occurrence of a field that holds one. The rest is as for [`last_field`].
 pub fn last_number(message: Message<'_>, number: u64) -> Option<u64>
     ensures { result ≡ last_number number (found_in message.entry) }
 {
-    last_number_left(message.fields(), number)
+    last_value_left(message.fields(), number).map(|(_, value)| value)
 }

@@ -10,7 +10,7 @@ ghost use Rattle.pbf_wire.specs.Cursors.{fields_left};
 ghost use Rattle.pbf_wire.specs.Columns.{joined};
 ghost use Rattle.pbf_wire.specs.Least.{least};
 ghost use Rattle.pbf_wire.specs.Signed.{delta_in};
-ghost use Rattle.pbf_wire.specs.Faults.{found_in, below_fault, index_faults, range_fault, is_good, faults_of_sums, sum_faults, index_sum_faults};
+ghost use Rattle.pbf_wire.specs.Faults.{found_in, below_fault, range_fault, is_good, faults_of_sums, sum_faults, index_sum_faults};
 
 use crate::column::Column;
 use crate::fault::{Fault, Reason};
@@ -54,13 +54,6 @@ pub fn judge_index(place: u64, number: u64, limit: u64) -> Option<Fault>
     ensures { result ≡ least (below_fault StringIndex limit (number, place)) }
 {
     judge_low(place, number, limit, Reason::StringIndex)
-}
-
-/// The least `StringIndex` of the numbers of a column.
-pub fn judge_indexes(message: Message<'_>, number: u64, limit: u64) -> Option<Fault>
-    ensures { result ≡ least (index_faults limit (joined number (found_in message.entry))) }
-{
-    judge_low_numbers(message, number, limit, Reason::StringIndex)
 }
 
 /// `OutOfRange` at `place`, where the number isn't strictly between `-limit` and `limit`.
