@@ -53,10 +53,7 @@ impl Judge for MemberForm {
     ghost faults = { λ _. member_wire };
 
     fn judge(&self, field: Field<'_>) -> Option<Fault> {
-        let Payload::Bytes(bytes, at) = field.payload else {
-            return None;
-        };
-        let message = Message { bytes, at };
+        let message = field.message()?;
         match field.number {
             NODES => judge_nested(message, &NODE_KINDS, INFO, &INFO_KINDS),
             DENSE => Dense::judge_wire(message),
@@ -96,10 +93,7 @@ fn is_other(first: Option<u64>, number: u64) -> bool
 fn judge_entities(field: Field<'_>) -> Option<Fault>
     ensures { result ≡ least (entities_structure (occurrence field.entry)) }
 {
-    let Payload::Bytes(bytes, at) = field.payload else {
-        return None;
-    };
-    let message = Message { bytes, at };
+    let message = field.message()?;
     match field.number {
         NODES => node::judge_structure(message, field.offset),
         DENSE => Dense::judge_structure(message, field.offset),
@@ -154,10 +148,7 @@ impl Judge for MemberValues {
     ghost faults = { λ members. member_values members.limit };
 
     fn judge(&self, field: Field<'_>) -> Option<Fault> {
-        let Payload::Bytes(bytes, at) = field.payload else {
-            return None;
-        };
-        let message = Message { bytes, at };
+        let message = field.message()?;
         match field.number {
             NODES => node::judge_values(message, self.limit),
             DENSE => Dense::judge_values(message, self.limit),

@@ -12,8 +12,8 @@ use crate::ranges::judge_positive;
 use osm_entity::Scale;
 use pbf_strings::{TABLE_KINDS, Table};
 use pbf_wire::{
-    EachField, Fault, Field, InField, Judge, Kind, Message, Payload, Reason, judge_fields,
-    judge_form, judge_leaf, judge_missing, judge_twice, last_value_left, lesser,
+    EachField, Fault, Field, InField, Judge, Kind, Message, Reason, judge_fields, judge_form,
+    judge_leaf, judge_missing, judge_twice, last_value_left, lesser,
 };
 
 pub(crate) const STRINGTABLE: u64 = 1;
@@ -46,10 +46,7 @@ impl Judge for PartForm {
     ghost faults = { λ _. part_wire };
 
     fn judge(&self, field: Field<'_>) -> Option<Fault> {
-        let Payload::Bytes(bytes, at) = field.payload else {
-            return None;
-        };
-        let message = Message { bytes, at };
+        let message = field.message()?;
         match field.number {
             STRINGTABLE => judge_leaf(message, &TABLE_KINDS),
             PRIMITIVEGROUP => judge_form(message, &GROUP_KINDS, &MemberForm),
@@ -74,12 +71,9 @@ impl Judge for PartStructure {
     ghost faults = { λ _. part_structure };
 
     fn judge(&self, field: Field<'_>) -> Option<Fault> {
-        let Payload::Bytes(bytes, at) = field.payload else {
-            return None;
-        };
-        let message = Message { bytes, at };
+        let message = field.message()?;
         match field.number {
-            STRINGTABLE => Table::judge_count(bytes, field.offset).err(),
+            STRINGTABLE => Table::judge_count(message.bytes, field.offset).err(),
             PRIMITIVEGROUP => group::judge_structure(message),
             _ => None,
         }

@@ -3,6 +3,7 @@
 ghost use Rattle.std.specs.Prelude.{◌+◌, ◌≤◌, ◌^◌, length};
 
 use crate::column::Column;
+use crate::field::{Field, Payload};
 use crate::fields::{Fields, FoundFields};
 
 /// The bytes of a message, and where in the file the first of them stands. Whoever makes one owes that they end at 2^63 at the
@@ -43,5 +44,26 @@ impl<'a> Message<'a> {
         ensures { column_left result ≡ joined number (found_in self.entry) }
     {
         Column::new(self.bytes, self.at, number)
+    }
+}
+
+impl<'a> Field<'a> {
+    ghost use Rattle.std.specs.Prelude.{◌≡◌, ℕ, List, [], MatchOption};
+    ghost use Rattle.pbf_wire.specs.declared.fault.Fault.{Fault};
+    ghost use Rattle.pbf_wire.specs.Faults.{inside};
+    ghost use Rattle.pbf_wire.specs.Occurrence.{Bytes};
+    ghost use Rattle.pbf_wire.specs.Payload.{content};
+
+    /// The message that it holds, if it holds bytes.
+    #[inline(always)]
+    pub fn message(self) -> Option<Message<'a>>
+        ensures { MatchOption result
+            ((f : ℕ → List ℕ → List Fault) → inside f (content self.entry.payload) ≡ [])
+            (λ message. content self.entry.payload ≡ Bytes message.bytes.now message.at) }
+    {
+        match self.payload {
+            Payload::Bytes(bytes, at) => Some(Message { bytes, at }),
+            _ => None,
+        }
     }
 }
