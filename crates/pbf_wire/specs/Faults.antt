@@ -120,8 +120,8 @@ is_index limit (pos n) = nat_lt n limit
 is_index limit (negsuc n) = false
 
 -- a value that may be below 0, and one that may not
-abbrev pub is_good : Bool → ℕ → ℤ → Bool
-is_good signed limit n = if signed then is_within (pos limit) n else is_index limit n
+abbrev pub is_allowed : Bool → ℕ → ℤ → Bool
+is_allowed signed limit n = if signed then is_within (pos limit) n else is_index limit n
 
 -- the same of values that are indexes
 abbrev pub index_sum_faults : ℕ → List (ℕ × ℕ) → List Fault

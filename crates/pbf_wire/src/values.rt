@@ -10,7 +10,7 @@ ghost use Rattle.pbf_wire.specs.Cursors.{fields_left};
 ghost use Rattle.pbf_wire.specs.Columns.{joined};
 ghost use Rattle.pbf_wire.specs.Least.{least};
 ghost use Rattle.pbf_wire.specs.Signed.{delta_in};
-ghost use Rattle.pbf_wire.specs.Faults.{found_in, below_fault, range_fault, is_good, faults_of_sums, sum_faults, index_sum_faults};
+ghost use Rattle.pbf_wire.specs.Faults.{found_in, below_fault, range_fault, is_allowed, faults_of_sums, sum_faults, index_sum_faults};
 
 use crate::column::Column;
 use crate::fault::{Fault, Reason};
@@ -77,7 +77,7 @@ fn has_small_sums(fields: Fields<'_>, number: u64) -> bool
 /// between `-limit` and `limit` and, if it is not `signed`, not below 0.
 fn add_entry(sum: &mut Sum, narrow: bool, number: u64, limit: u64, signed: bool) -> bool
     requires { (limit ≤ 2 ^ 62) × (sum.old.limit ≡ pos (2 ^ 62)) }
-    ensures good { result ≡ is_good signed limit (sum.old.total +ℤ delta_in narrow number) }
+    ensures good { result ≡ is_allowed signed limit (sum.old.total +ℤ delta_in narrow number) }
     ensures total { IsTrue result → sum.new.total ≡ sum.old.total +ℤ delta_in narrow number }
     ensures limit { sum.new.limit ≡ sum.old.limit }
 {
@@ -99,7 +99,7 @@ fn judge_values(
     reason: Reason,
 ) -> Option<Fault>
     requires { limit ≤ 2 ^ 62 }
-    ensures { result ≡ least (faults_of_sums (is_good signed limit) reason narrow
+    ensures { result ≡ least (faults_of_sums (is_allowed signed limit) reason narrow
         (joined number (found (fields_left fields.entry)))) }
 {
     let mut column = Column::over(fields, number);

@@ -3,13 +3,13 @@ use Rattle.pbf_wire.specs.Least.{least}
 use Rattle.pbf_wire.specs.Columns.{joined}
 use Rattle.pbf_wire.specs.Occurrence.{found}
 use Rattle.pbf_wire.specs.Cursors.{fields_left, column_left, place_of}
-use Rattle.pbf_wire.specs.Faults.{is_good}
+use Rattle.pbf_wire.specs.Faults.{is_allowed}
 use Rattle.pbf_wire.proofs.RisingLemmas.{left_rises, not_good, running, running_is}
 use Rattle.pbf_wire.proofs.values.judge_values.Goals as goal
 
 pub loop-entry-init : goal.loop-entry-init
 loop-entry-init c = rw c.new-sum.ensures (rw c.over-column.ensures.left (record {
-  faults = ap least (running_is (is_good c.args.signed c.args.limit) c.args.reason c.args.narrow (joined c.args.number (found (fields_left c.args.fields))));
+  faults = ap least (running_is (is_allowed c.args.signed c.args.limit) c.args.reason c.args.narrow (joined c.args.number (found (fields_left c.args.fields))));
   rising = left_rises c.args.number c.args.fields;
   limit = refl;
 }))
@@ -18,7 +18,7 @@ pub returns-then-not-add_entry : goal.returns-then-not-add_entry
 returns-then-not-add_entry c =
     let so_far = c.loop-entry in
     let left = c.in-Some.ensures.placed in
-    let good = is_good c.args.signed c.args.limit in
+    let good = is_allowed c.args.signed c.args.limit in
     rw c.place.ensures (
     sym (not_good good c.args.reason c.args.narrow so_far.sum.total c.in-Some.entry (place_of c.next.new.self) (column_left c.next.new.self)
     (rw left at so_far.invariant.rising)
