@@ -57,17 +57,6 @@ fn window_of(bytes: &[u8]) -> [u8; WINDOW]
     window
 }
 
-/// As [`is_short`], for bytes that one window has room for.
-fn is_short_few(bytes: &[u8]) -> bool
-    requires { length bytes.now < 64 }
-    ensures { IsTrue result → IsShort bytes.now }
-{
-    let Some(last) = bytes.last() else {
-        return true;
-    };
-    *last < 128 && end_soon(&window_of(bytes))
-}
-
 /// As [`count_short`], for bytes that one window has room for.
 fn count_short_few(bytes: &[u8]) -> Option<usize>
     requires { length bytes.now < 64 }
@@ -90,7 +79,7 @@ pub fn is_short(bytes: &[u8]) -> bool
     ensures { IsTrue result → IsShort bytes.now }
 {
     if bytes.len() < WINDOW {
-        return is_short_few(bytes);
+        return count_short_few(bytes).is_some();
     }
     let Some(last) = bytes.last_chunk::<WINDOW>() else {
         return false;
