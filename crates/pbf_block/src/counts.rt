@@ -75,8 +75,7 @@ fn count_member(field: Field<'_>) -> Counts
     counts
 }
 
-/// Counts the entities of a payload, as they are where it has no wire fault. No entity
-/// is made.
+/// Counts the entities of a payload, as they are where it has no wire fault. No entity is made.
 #[tactic(auto, using(crate::proofs::NumberLemmas::counts_more, crate::proofs::NumberLemmas::counts_nothing))]
 pub(crate) fn count_entities(payload: Message<'_>) -> Counts
     ensures { (table : List (List ℕ)) (scale : Scale)

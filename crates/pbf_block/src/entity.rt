@@ -34,8 +34,8 @@ pub(crate) struct EntityCounts {
     vals: usize,
 }
 
-/// The counts of a message: of what all entities have, and of the numbers in the three
-/// columns that its kind has of its own. No packed payload is decoded. It is part of what judges a kind, so that the answer is not moved.
+/// The counts of a message: of what all entities have, and of the numbers in the three columns that its kind has of its own. No
+/// packed payload is decoded. It is part of what judges a kind, so that the answer is not moved.
 #[inline(always)]
 pub(crate) fn entity_counts<const FIRST: u64, const SECOND: u64, const THIRD: u64>(
     message: Message<'_>,
@@ -108,9 +108,9 @@ pub(crate) struct EntityValues {
     infos: Option<Fault>,
 }
 
-/// The values of a message whose texts are named in a table of `limit` texts: what is judged of all entities, and the fields of the three numbers that its kind has of its own, which are judged after it. These
-/// begin at the first of their number, so that an absent column takes no pass. It is part of what judges a kind, so that the answer
-/// is not moved.
+/// The values of a message whose texts are named in a table of `limit` texts: what is judged of all entities, and the fields of
+/// the three numbers that its kind has of its own, which are judged after it. These begin at the first of their number, so that
+/// an absent column takes no pass. It is part of what judges a kind, so that the answer is not moved.
 #[inline(always)]
 #[tactic(auto, using(crate::proofs::Parts::least_more, crate::proofs::Parts::lesser_nothing, crate::proofs::ValueLemmas::texts_are))]
 pub(crate) fn entity_values<const FIRST: u64, const SECOND: u64, const THIRD: u64>(

@@ -31,9 +31,9 @@ pub(crate) struct EntityFields<'a> {
     vals: Fields<'a>,
 }
 
-/// The fields of a message: those that all entities have, and those of the three
-/// numbers that its kind has of its own, each from the first on. It is a function of its own for each kind: a caller that had it
-/// inlined would clear room for its locals before each dense node too.
+/// The fields of a message: those that all entities have, and those of the three numbers that its kind has of its own, each from
+/// the first on. It is a function of its own for each kind: a caller that had it inlined would clear room for its locals before
+/// each dense node too.
 #[inline(never)]
 pub(crate) fn entity_fields<const FIRST: u64, const SECOND: u64, const THIRD: u64>(
     message: Message<'_>,

@@ -92,8 +92,7 @@ pub(crate) fn judge_structure(payload: Message<'_>) -> Option<Fault>
     lesser(table, judge_fields(payload, &PartStructure))
 }
 
-/// The least fault of values of a block, and of the messages in it; its table has
-/// `limit` texts.
+/// The least fault of values of a block, and of the messages in it; its table has `limit` texts.
 #[tactic(auto, using(crate::proofs::Parts::lesser_parts), unfolding(crate::specs::PrimitiveBlock::value_faults))]
 pub(crate) fn judge_values(payload: Message<'_>, limit: u64) -> Option<Fault>
     requires { limit ≤ 2 ^ 62 }
@@ -111,9 +110,8 @@ pub(crate) fn judge_values(payload: Message<'_>, limit: u64) -> Option<Fault>
     lesser(scale, judge_fields(payload, &members))
 }
 
-/// The least weight fault of a payload: `EntityLarge` at the first field of a
-/// group with an entity above [`HIGHEST_WEIGHT`]. Goes through those entities that may be too heavy by the length of their message.
-/// Takes no memory.
+/// The least weight fault of a payload: `EntityLarge` at the first field of a group with an entity above [`HIGHEST_WEIGHT`]. Goes
+/// through those entities that may be too heavy by the length of their message. Takes no memory.
 pub(crate) fn judge_weights<'a>(
     payload: Message<'a>,
     table: &'a Table<'a>,

@@ -75,8 +75,8 @@ impl<'a> Dense<'a> {
     ghost use Rattle.pbf_dense.specs.Cursors.{dense_left};
     ghost use Rattle.pbf_dense.specs.Places.{place_of, places_left, BeginWithIds};
 
-    /// The nodes of a dense message, whatever is wrong with it: as long as there are an id, a latitude and a longitude, up to a sum
-    /// that is out of range. Goes through the message's fields once for each of its columns and takes no memory.
+    /// The nodes of a dense message, whatever is wrong with it: as long as there are an id, a latitude and a longitude, up to a
+    /// sum that is out of range. Goes through the message's fields once for each of its columns and takes no memory.
     #[tactic(auto, unfolding(crate::specs::Cursors::dense_left, crate::specs::Nodes::nodes_along))]
     pub fn over(message: Message<'a>, table: &'a Table<'a>, scale: Scale) -> Dense<'a>
         ensures { dense_left result ≡ nodes_along table.now scale (found_in message.entry) }
@@ -135,8 +135,8 @@ impl<'a> Dense<'a> {
         skip_runs(&mut self.keys_vals, count);
     }
 
-    /// How many nodes there are in a dense message without a wire fault: as many as ids. No number is decoded, and no other column is
-    /// looked at.
+    /// How many nodes there are in a dense message without a wire fault: as many as ids. No number is decoded, and no other
+    /// column is looked at.
     #[tactic(auto, using(crate::proofs::SoundDense::ids_are_nodes))]
     pub fn count(message: Message<'_>) -> usize
         ensures exact { result ≡ id_count (found_in message.entry) }
