@@ -60,8 +60,8 @@ pub fn judge_payload(payload: Payload<'_>, kind: Option<Kind>) -> Result<(), Rea
     }
 }
 
-/// The least wire fault of a message. `kinds` lists its known fields by their numbers; others may have any wire type. `inner` judges the messages that its fields hold. After a field with a fault of its own nothing
-/// is read.
+/// The least wire fault of a message. `kinds` lists its known fields by their numbers; others may have any wire type. `inner`
+/// judges the messages that its fields hold. After a field with a fault of its own nothing is read.
 #[inline(always)]
 #[tactic(auto, using(crate::proofs::LeastLemmas::least_more, crate::proofs::LeastLemmas::lesser_nothing))]
 pub fn judge_form<J: Judge>(message: Message<'_>, kinds: &[(u64, Kind)], inner: &J) -> Option<Fault>
