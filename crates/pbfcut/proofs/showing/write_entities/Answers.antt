@@ -1,10 +1,20 @@
-use Rattle.std.proofs.Common.{[], ◌∷◌, ◌++◌, ◌∙◌, arith, rules}
+use Rattle.std.proofs.Common.{[], ◌∷◌, ◌++◌, ◌∙◌, ap, arith, refl, rules}
 use Rattle.std.proofs.lemmas.Result.{err_from_is_err_and}
 use Rattle.osm_entity.specs.Views.{entity_of}
 use Rattle.osm_text.specs.EntityText.{entity_line}
+use Rattle.pbf_block.specs.Runs.{entities_left}
 use Rattle.pbfcut.proofs.ListingLemmas.{texts_added}
 use Rattle.pbfcut.proofs.ShowingLemmas.{entities_more, entities_front}
 use Rattle.pbfcut.proofs.showing.write_entities.Goals as goal
+
+pub loop-entity-init : goal.loop-entity-init
+loop-entity-init g c = record {
+  can = tt;
+  ends = tt;
+  so_far = ([], ap entities_left c.into_iter-entity-iterator.ensures.into_iter_gives, search rules);
+  drain_counts = omega arith;
+  drain_lender = refl;
+}
 
 pub loop-entity-preserved : goal.loop-entity-preserved
 loop-entity-preserved g c =
