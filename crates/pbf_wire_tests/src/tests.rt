@@ -1,11 +1,11 @@
 //! What no clause says: values from the format's own examples, texts, and that each call can succeed.
 
 use pbf_wire::{
-    Column, ColumnOut, DeltaOut, Fault, Fields, Kind, Message, Payload, ReadFault, Reason, Sum, Sums,
-    comes_before, count_ends, end_mask, get_varint, is_short, judge_payload,
-    judge_sums, judge_wire, kind_of, last_field, last_number, laws, lesser, low_i32, low_i64,
-    low_sint32, low_u32, put_bytes, put_column, put_number, put_varint, sign_extended, unzigzag,
-    varint_len, zigzag,
+    Column, ColumnOut, DeltaOut, Fault, Fields, Kind, Message, Payload, ReadFault, Reason, Sum,
+    Sums, comes_before, count_ends, end_mask, get_varint, is_short, judge_payload, judge_sums,
+    judge_wire, kind_of, last_field, last_number, laws, lesser, low_i32, low_i64, low_sint32,
+    low_u32, put_bytes, put_column, put_number, put_varint, sign_extended, unzigzag, varint_len,
+    zigzag,
 };
 use std::alloc::{AllocError, Global};
 use std::test::Fail;
