@@ -119,7 +119,7 @@ abbrev pub is_index : ℕ → ℤ → Bool
 is_index limit (pos n) = nat_lt n limit
 is_index limit (negsuc n) = false
 
--- a value that may be below 0, and one that may not
+-- strictly between -limit and limit or, of values without a sign, an index below the limit
 abbrev pub is_allowed : Bool → ℕ → ℤ → Bool
 is_allowed signed limit n = if signed then is_within (pos limit) n else is_index limit n
 
