@@ -57,7 +57,8 @@ fn window_of(bytes: &[u8]) -> [u8; WINDOW]
     window
 }
 
-/// As [`count_short`], for bytes that one window has room for.
+/// As [`count_short`], for bytes that one window has room for. It is part of its callers, of which one needs no count.
+#[inline(always)]
 fn count_short_few(bytes: &[u8]) -> Option<usize>
     requires { length bytes.now < 64 }
     ensures short { MatchOption result ⊤ (λ _. IsShort bytes.now) }
