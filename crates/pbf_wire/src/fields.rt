@@ -1,6 +1,6 @@
 //! The fields of a message, one after the other.
 
-ghost use Rattle.std.specs.Prelude.{◌≡◌, ◌+◌, ◌≤◌, ◌<◌, ◌^◌, Ok, IfOk, length};
+ghost use Rattle.std.specs.Prelude.{◌≡◌, ◌==◌, ◌+◌, ◌≤◌, ◌<◌, ◌^◌, Ok, IfOk, if◌then◌else◌, length};
 ghost use Rattle.pbf_wire.specs.Occurrence.{body_at, occurrence_at};
 ghost use Rattle.pbf_wire.specs.Payload.{content, end_of};
 ghost use Rattle.pbf_wire.specs.Fields.{occurrence, seen};
@@ -8,6 +8,19 @@ ghost use Rattle.pbf_wire.specs.Fields.{occurrence, seen};
 use crate::fault::{Fault, Reason};
 use crate::field::{Field, Payload};
 use crate::varint::first_varint;
+
+/// How many bytes stand after a tag of a wire type that no known field has; 0 where such a field cannot be read. It is a call, so that
+/// a loop over fields goes by two comparisons, and not by a table of wire types.
+#[inline(never)]
+fn fixed_size(kind: u64) -> usize
+    ensures { result ≡ (if kind == 1 then 8 else (if kind == 5 then 4 else 0)) }
+{
+    match kind {
+        1 => 8,
+        5 => 4,
+        _ => 0,
+    }
+}
 
 /// What stands after a tag of this wire type, and its length.
 #[inline(always)]
@@ -23,12 +36,6 @@ fn payload_at(bytes: &[u8], kind: u64, at: u64) -> Result<(Payload<'_>, usize), 
             let (value, length) = first_varint(bytes)?;
             Ok((Payload::Number(value), length))
         }
-        1 => {
-            if bytes.len() < 8 {
-                return Err(Reason::FixedCut);
-            }
-            Ok((Payload::Eight(&bytes[..8]), 8))
-        }
         2 => {
             let (size, length) = first_varint(bytes)?;
             let rest = &bytes[length..];
@@ -41,14 +48,13 @@ fn payload_at(bytes: &[u8], kind: u64, at: u64) -> Result<(Payload<'_>, usize), 
                 length + size,
             ))
         }
-        5 => {
-            if bytes.len() < 4 {
-                return Err(Reason::FixedCut);
-            }
-            Ok((Payload::Four(&bytes[..4]), 4))
-        }
-        3 | 4 => Err(Reason::Group),
-        _ => Err(Reason::WireType),
+        _ => match fixed_size(kind) {
+            0 if kind < 5 => Err(Reason::Group),
+            0 => Err(Reason::WireType),
+            size if bytes.len() < size => Err(Reason::FixedCut),
+            8 => Ok((Payload::Eight(&bytes[..8]), 8)),
+            size => Ok((Payload::Four(&bytes[..size]), size)),
+        },
     }
 }
 
@@ -184,6 +190,7 @@ impl<'a> Iterator for FoundFields<'a> {
     fn next(&mut self) -> Option<Field<'a>> {
         match self.0.next() {
             Some(Ok(field)) => Some(field),
+            // After a fault there are no more, which the contract of `Fields` does not say.
             _ => {
                 self.0 = Fields::new(&[], 0);
                 None
