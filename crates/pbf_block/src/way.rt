@@ -1,20 +1,18 @@
 //! A Way: its fields, its rules phase by phase, and how it is read. Its rule of wire form is [`WAY_KINDS`].
 
-ghost use Rattle.std.specs.Prelude.{◌≡◌, List};
-ghost use Rattle.pbf_wire.specs.Faults.{found_in};
+ghost use Rattle.std.specs.Prelude.{◌≡◌};
+ghost use Rattle.pbf_wire.specs.Faults.{column_count, found_in};
 ghost use Rattle.pbf_wire.specs.Least.{least};
-ghost use Rattle.pbf_wire.specs.Occurrence.{Occurrence};
 ghost use Rattle.osm_entity.specs.Views.{way_of};
-ghost use Rattle.pbf_block.specs.Entity.{AreOwnCounts};
 ghost use Rattle.pbf_block.specs.PrimitiveBlock.{along};
 ghost use Rattle.pbf_block.specs.Way.{are_located, way_structure, way_values, way_in};
 
-use crate::entity::{ID, INFO, KEYS, VALS, entity_counts, entity_values};
+use crate::entity::{ID, INFO, KEYS, NO_FIELD, VALS, entity_counts, entity_values};
 use crate::entity_fields::{entity_fields, values};
 use crate::ranges::{judge_sums, judge_wide};
 use osm_entity::{Locations, Refs, Scale, SummedLocations, WayRef};
 use pbf_strings::Table;
-use pbf_wire::{Fault, Kind, Message, Reason, fault_where, lesser};
+use pbf_wire::{Fault, Kind, Message, Reason, column_count, fault_where, lesser};
 
 // The fields of a Way beside those that all entities have: its refs, and their locations.
 pub(crate) const REFS: u64 = 8;
@@ -34,12 +32,13 @@ pub(crate) const WAY_KINDS: [(u64, Kind); 7] = [
     (WAY_LON, Kind::Column),
 ];
 
-/// Whether a way has no locations, or as many as refs.
-fn are_located(refs: usize, lats: usize, lons: usize) -> bool
-    ensures { (os : List Occurrence)
-        → AreOwnCounts (REFS, WAY_LAT, WAY_LON) (refs, lats, lons) os → result ≡ are_located os }
+/// Whether a way has no locations, or as many as refs: these are counted only where there are locations.
+fn are_located(message: Message<'_>, lats: usize, lons: usize) -> bool
+    requires lats { lats ≡ column_count WAY_LAT (found_in message) }
+    requires lons { lons ≡ column_count WAY_LON (found_in message) }
+    ensures { result ≡ are_located (found_in message.entry) }
 {
-    lats == lons && (lats == 0 || lats == refs)
+    lats == lons && (lats == 0 || lats == column_count(message, REFS))
 }
 
 /// The least fault of structure: what all entities have, and locations.
@@ -48,8 +47,8 @@ fn are_located(refs: usize, lats: usize, lons: usize) -> bool
 pub(crate) fn judge_structure(message: Message<'_>, place: u64) -> Option<Fault>
     ensures { result ≡ least (way_structure place message.entry.at message.entry.bytes.now) }
 {
-    let (counts, refs, lats, lons) = entity_counts::<REFS, WAY_LAT, WAY_LON>(message);
-    let located = are_located(refs, lats, lons);
+    let (counts, lats, lons, _) = entity_counts::<WAY_LAT, WAY_LON, NO_FIELD>(message);
+    let located = are_located(message, lats, lons);
     lesser(
         counts.judge(message, place),
         fault_where(!located, place, Reason::LocationColumns),
