@@ -44,14 +44,17 @@ fn info_numbers(message: Message<'_>) -> InfoNumbers
 {
     let mut numbers = InfoNumbers::default();
     for field in message.found() {
-        match field.number {
-            VERSION => numbers.version = value_in(field).or(numbers.version),
-            TIMESTAMP => numbers.timestamp = value_in(field).or(numbers.timestamp),
-            CHANGESET => numbers.changeset = value_in(field).or(numbers.changeset),
-            UID => numbers.uid = value_in(field).or(numbers.uid),
-            USER_SID => numbers.user = value_in(field).or(numbers.user),
-            VISIBLE => numbers.visible = value_in(field).or(numbers.visible),
-            _ => {}
+        let last = value_in(field);
+        if last.is_some() {
+            match field.number {
+                VERSION => numbers.version = last,
+                TIMESTAMP => numbers.timestamp = last,
+                CHANGESET => numbers.changeset = last,
+                UID => numbers.uid = last,
+                USER_SID => numbers.user = last,
+                VISIBLE => numbers.visible = last,
+                _ => {}
+            }
         }
     }
     numbers
