@@ -112,14 +112,6 @@ soon_in_rest bytes n i h =
     let at : n + (i + h.0) ≡ n + i + h.0 = omega arith in
     (h.0, h.1, omega (arith, h.2, length-drop n bytes), omega (arith, h.3, get_or-drop n bytes (i + h.0) 0, ap (λ k. get_or bytes k 0) at))
 
-soon_from_rest : (bytes : List ℕ) (n i : ℕ) → EndsSoon bytes (n + i) → EndsSoon (drop n bytes) i
-soon_from_rest bytes n i h =
-    let at : n + (i + h.0) ≡ n + i + h.0 = omega arith in
-    (h.0, h.1, omega (arith, h.2, length-drop n bytes), omega (arith, h.3, get_or-drop n bytes (i + h.0) 0, ap (λ k. get_or bytes k 0) at))
-
-pub short_rest : (bytes : List ℕ) (n : ℕ) → IsShort bytes → IsShort (drop n bytes)
-short_rest bytes n h = λ i lt. soon_from_rest bytes n i (h (n + i) (omega (arith, lt, length-drop n bytes)))
-
 -- one window more of the bytes that are looked at from the left
 pub one_more : (bytes window : List ℕ) (n : ℕ) → window ≡ take 64 (drop n bytes) → ((i : ℕ) → i < 60 → EndsSoon window i) → ((i : ℕ) → i < n → EndsSoon bytes i) → (i : ℕ) → i < n + 60 → EndsSoon bytes i
 one_more bytes window n is here done i lt =
@@ -167,26 +159,42 @@ short_few bytes window few is last here i lt =
           (length bytes - 1 - i, omega (arith, late), omega (arith, lt), omega (arith, last, ap (λ k. get_or bytes k 0) end))
     ]
 
--- ---- what the numbers of short columns are
+-- ---- what the numbers of such columns are, where of so many bytes from each one on ends a varint
+
+abbrev EndsWithin : ℕ → List ℕ → ℕ → Type 0
+EndsWithin most bytes i = (j : ℕ) × (j < most) × (i + j < length bytes) × (slice_index bytes (i + j) < 128)
+
+abbrev EachEnds : ℕ → List ℕ → Type 0
+EachEnds most bytes = (i : ℕ) → i < length bytes → EndsWithin most bytes i
+
+within_rest : (most : ℕ) (bytes : List ℕ) (n i : ℕ) → EndsWithin most bytes (n + i) → EndsWithin most (drop n bytes) i
+within_rest most bytes n i h =
+    let at : n + (i + h.0) ≡ n + i + h.0 = omega arith in
+    (h.0, h.1, omega (arith, h.2, length-drop n bytes), omega (arith, h.3, get_or-drop n bytes (i + h.0) 0, ap (λ k. get_or bytes k 0) at))
+
+each_of_rest : (most : ℕ) (bytes : List ℕ) (n : ℕ) → EachEnds most bytes → EachEnds most (drop n bytes)
+each_of_rest most bytes n h = λ i lt. within_rest most bytes n i (h (n + i) (omega (arith, lt, length-drop n bytes)))
 
 -- the number at the front
-record ShortFront (bytes : List ℕ) : Type 0 where
+record Front (most : ℕ) (bytes : List ℕ) : Type 0 where
   value : ℕ
   size : ℕ
   positive : 0 < size
   within : size ≤ length bytes
-  small : value < 2 ^ 35
+  small : value < 2 ^ (7 * most)
   read : varint_at bytes ≡ Ok (value, size)
 
-short_front : (bytes : List ℕ) → EndsSoon bytes 0 → ShortFront bytes
-short_front bytes h =
+front_of : (most : ℕ) (bytes : List ℕ) → most ≤ 9 → EndsWithin most bytes 0 → Front most bytes
+front_of most bytes few h =
     let n = prefix_len (leb 128) bytes in
     let passes : (k : ℕ) → k < n → 128 ≤ get_or bytes k 0 = λ k l. leb-true _ _ (prefix_len_passes (leb 128) bytes k 0 l) in
     let at : 0 + h.0 ≡ h.0 = omega arith in
     let end : get_or bytes h.0 0 < 128 = subst (λ (k : ℕ). get_or bytes k 0 < 128) at h.3 in
     let early : n ≤ h.0 = elim (cases_lt h.0 n) [ inl lt ↦ absurd (omega (arith, end, passes h.0 lt)) | inr ge ↦ ge ] in
     let value = value_of (take (n + 1) bytes) in
-    let small : value < 2 ^ 35 = omega (arith, value_below bytes (n + 1) (omega (arith, h.2, early)), pow_128 (n + 1), pow_mono {i = 7 * (n + 1)} {j = 35} (omega (arith, early, h.1))) in
+    let small : value < 2 ^ (7 * most) =
+    omega (arith, value_below bytes (n + 1) (omega (arith, h.2, early)), pow_128 (n + 1), pow_mono {i = 7 * (n + 1)} {j = 7 * most} (omega (arith, early, h.1))) in
+    let fits : value < 2 ^ 64 = omega (arith, small, pow_mono {i = 7 * most} {j = 63} (omega (arith, few))) in
     let within : n < length bytes = omega (arith, h.2, early) in
     record {
       value = value;
@@ -194,29 +202,35 @@ short_front bytes h =
       positive = omega arith;
       within = omega (arith, within);
       small = small;
-      read = ended_at bytes n value within (omega (arith, early, h.1)) passes (leb-false _ _ (prefix_len_stops (leb 128) bytes 0 within)) refl (omega (arith, small));
+      read = ended_at bytes n value within (omega (arith, early, h.1, few)) passes (leb-false _ _ (prefix_len_stops (leb 128) bytes 0 within)) refl fits;
     }
 
-abbrev IsSmall : ℕ → Type 0
-IsSmall v = v < 2 ^ 35
+-- there is no fault, and the numbers are small
+abbrev AreRead : ℕ → List Entry → Type 0
+AreRead most es = (entry_fault es ≡ None) × AllByRecursion (λ v. v < 2 ^ (7 * most)) (read_entries es)
 
-abbrev AllSmall : List Entry → Type 0
-AllSmall es = (entry_fault es ≡ None) × AllByRecursion IsSmall (read_entries es)
-
-all_small : (fuel : ℕ) (bytes : List ℕ) → length bytes ≤ fuel → IsShort bytes → AllSmall (entries bytes)
-all_small fuel [] le h = subst AllSmall (sym (entries_none [] refl)) (refl, tt)
-all_small zero (b ∷ bs) le h = absurd (omega arith)
-all_small (suc fuel) (b ∷ bs) le h =
-    let front = short_front (b ∷ bs) (h 0 (omega arith)) in
+all_read : (most : ℕ) → most ≤ 9 → (fuel : ℕ) (bytes : List ℕ) → length bytes ≤ fuel → EachEnds most bytes → AreRead most (entries bytes)
+all_read most few fuel [] le h = subst (AreRead most) (sym (entries_none [] refl)) (refl, tt)
+all_read most few zero (b ∷ bs) le h = absurd (omega arith)
+all_read most few (suc fuel) (b ∷ bs) le h =
+    let front = front_of most (b ∷ bs) few (h 0 (omega arith)) in
     let rest = drop front.size (b ∷ bs) in
-    let more = all_small fuel rest (omega (arith, front.positive, length-drop front.size (b ∷ bs))) (short_rest (b ∷ bs) front.size h) in
-    subst AllSmall (sym (entries_ok (b ∷ bs) front.value front.size front.positive front.within front.read)) (more.0, (front.small, more.1))
+    let more = all_read most few fuel rest (omega (arith, front.positive, length-drop front.size (b ∷ bs))) (each_of_rest most (b ∷ bs) front.size h) in
+    subst (AreRead most) (sym (entries_ok (b ∷ bs) front.value front.size front.positive front.within front.read)) (more.0, (front.small, more.1))
 
 pub short_column : (bytes : List ℕ) → IsShort bytes → entry_fault (entries bytes) ≡ None
-short_column bytes h = (all_small (length bytes) bytes (omega arith) h).0
+short_column bytes h = (all_read 5 (omega arith) (length bytes) bytes (omega arith) h).0
 
 pub short_numbers : (bytes : List ℕ) → IsShort bytes → AllByRecursion (λ v. v < 2 ^ 35) (read_entries (entries bytes))
-short_numbers bytes h = (all_small (length bytes) bytes (omega arith) h).1
+short_numbers bytes h = (all_read 5 (omega arith) (length bytes) bytes (omega arith) h).1
+
+-- of nine bytes none begins a number that is too long
+pub few_bytes : (bytes : List ℕ) → length bytes ≤ 9 → slice_index bytes (length bytes - 1) < 128 → entry_fault (entries bytes) ≡ None
+few_bytes bytes few last = (all_read 9 (omega arith) (length bytes) bytes (omega arith) ends).0 where
+  ends : EachEnds 9 bytes
+  ends i lt =
+      let at : i + (length bytes - 1 - i) ≡ length bytes - 1 = omega (arith, lt) in
+      (length bytes - 1 - i, omega (arith, lt, few), omega (arith, lt), omega (arith, last, ap (λ k. get_or bytes k 0) at))
 
 -- they are as many as the bytes that end one
 pub short_counted : (r : Option ℕ) (bytes : List ℕ) → MatchOption r ⊤ (λ _. IsShort bytes) → MatchOption r ⊤ (λ n. n ≡ count_by (λ b. nat_lt b 128) bytes) → MatchOption r ⊤ (λ n. n ≡ length (read_entries (entries bytes)))
@@ -232,7 +246,7 @@ short_below (Some count) bytes h = short_numbers bytes h
 abbrev pub AllSmallPlaced : List (ℕ × ℕ) → Type 0
 AllSmallPlaced xs = AllByRecursion (λ x. x.0 < 2 ^ 35) xs
 
-placed_small : (place : ℕ) (ns : List ℕ) → AllByRecursion IsSmall ns → AllSmallPlaced (placed place ns)
+placed_small : (place : ℕ) (ns : List ℕ) → AllByRecursion (λ v. v < 2 ^ 35) ns → AllSmallPlaced (placed place ns)
 placed_small place [] h = tt
 placed_small place (n ∷ ns) h = (h.0, placed_small place ns h.1)
 

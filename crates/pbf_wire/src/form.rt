@@ -1,6 +1,6 @@
 //! The wire form of messages: the kinds of the fields that are known, and the least fault of a message and of those in it.
 
-ghost use Rattle.std.specs.Prelude.{◌≡◌, ◌+◌, ◌≤◌, ◌^◌, [], Ok, Err, length};
+ghost use Rattle.std.specs.Prelude.{◌≡◌, ◌+◌, ◌≤◌, ◌^◌, [], IsTrue, None, Ok, Err, length};
 ghost use Rattle.pbf_wire.specs.Occurrence.{items};
 ghost use Rattle.pbf_wire.specs.Payload.{content};
 ghost use Rattle.pbf_wire.specs.Columns.{entries, entry_fault};
@@ -17,15 +17,27 @@ use crate::message::Message;
 use crate::short::is_short;
 use crate::varint::first_varint;
 
-/// Of so few bytes the numbers are read one by one.
-const FEW_BYTES: usize = 8;
+/// Of so few bytes none begins a varint that is too long.
+const FEW_BYTES: usize = 9;
+
+/// Whether it is soon seen that the bytes are whole varints: they are few and the last one ends a varint, as in most columns, or the
+/// numbers are short throughout.
+#[inline(always)]
+#[tactic(auto, using(crate::proofs::ShortLemmas::few_bytes, crate::proofs::ShortLemmas::short_column))]
+fn are_whole(packed: &[u8]) -> bool
+    ensures { IsTrue result → entry_fault (entries packed.now) ≡ None }
+{
+    let Some(last) = packed.last() else {
+        return false;
+    };
+    packed.len() <= FEW_BYTES && *last < 128 || is_short(packed)
+}
 
 /// Whether the bytes are whole varints.
 fn judge_packed(packed: &[u8]) -> Result<(), Reason>
     ensures { result ≡ judged (entry_fault (entries packed.now)) }
 {
-    // Most columns are short numbers throughout; a few numbers are as soon read.
-    if packed.len() > FEW_BYTES && is_short(packed) {
+    if are_whole(packed) {
         return Ok(());
     }
     let mut rest = packed;

@@ -5,7 +5,6 @@ use Rattle.std.proofs.lemmas.Result.{err_from_is_err_and}
 use Rattle.pbf_wire.specs.Columns.{entry_fault}
 use Rattle.pbf_wire.specs.Wire.{judged}
 use Rattle.pbf_wire.proofs.Columns.{entries_none, entries_ok, entries_err}
-use Rattle.pbf_wire.proofs.ShortLemmas.{short_column}
 use Rattle.pbf_wire.proofs.form.judge_packed.Goals as goal
 
 pub returns-in_err-length : goal.returns-in_err-length
@@ -15,9 +14,6 @@ returns-in_err-length c =
     let some : 0 < length rest = omega (arith, eqb-false _ _ (sym c.is_empty.ensures ∙ c.loop-rest-test.true)) in
     let e = entries_err rest c.in_err-length.field-0.0 some (sym c.in_err-length.ensures.exact) in
     p.1 ∙ ap Err p.2 ∙ ap judged (sym (ap entry_fault e) ∙ c.loop-rest.invariant)
-
-pub returns-then-is_short : goal.returns-then-is_short
-returns-then-is_short c = ap judged (sym (short_column c.args.packed.now (c.is_short.ensures c.if-is_short.true)))
 
 pub loop-rest-preserved : goal.loop-rest-preserved
 loop-rest-preserved c =
