@@ -1,7 +1,6 @@
 //! Tags, wherever they lie.
 
 ghost use Rattle.std.specs.Prelude.{◌≡◌, [], map, IfOk, IsTrue};
-ghost use Rattle.pbf_strings.specs.Texts.{text};
 ghost use Rattle.osm_entity.specs.Sources.{named, owned_tag, tags_left};
 
 use pbf_strings::Table;

@@ -1,8 +1,7 @@
 //! What the parts of an entity weigh, and whether they are in their ranges.
 
-ghost use Rattle.std.specs.Prelude.{◌≡◌, ◌↔◌, ◌+◌, ◌-◌, ◌*◌, ◌^◌, ◌≤◌, min, length, IsTrue, SomeIff, pos};
+ghost use Rattle.std.specs.Prelude.{◌≡◌, ◌↔◌, ◌+◌, ◌-◌, ◌*◌, ◌^◌, ◌≤◌, min, length, IsTrue, SomeIff};
 ghost use Rattle.std.specs.List.{AllByRecursion};
-ghost use Rattle.pbf_wire.specs.Signed.{IsWithin};
 ghost use Rattle.osm_entity.specs.Sources.{tags_left, refs_left, locations_left, members_left};
 ghost use Rattle.osm_entity.specs.Weight.{tags_weight, members_weight};
 ghost use Rattle.osm_entity.specs.Ranges.{IsStored, LocationFits, MemberFits};

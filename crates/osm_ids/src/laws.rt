@@ -1,7 +1,7 @@
 //! The laws of sets of ids and of links. Each is the contract of a function that does nothing: a proof that needs the law calls
 //! it, or takes the lemma of that name from this crate's `proofs/`.
 
-ghost use Rattle.std.specs.Prelude.{◌≡◌, List, ℤ, Bool, true};
+ghost use Rattle.std.specs.Prelude.{◌≡◌, List, ℤ, Bool};
 ghost use Rattle.std.specs.Ordering.{int_cmp};
 ghost use Rattle.std.specs.FinSet as set;
 ghost use Rattle.osm_ids.specs.declared.links.Link.{Link};

@@ -41,12 +41,11 @@ impl<D: Drain, S: BuildHasher> Model for Packer<D, S> {
 }
 
 impl<D: Drain, S: BuildHasher> Packer<D, S> {
-    ghost use Rattle.std.specs.Prelude.{◌≡◌, ◌+◌, ◌≤◌, ◌⊎◌, ◌++◌, ◌∷◌, [], List, length, true, false, Err, IfErr, OnOk, OnErr};
+    ghost use Rattle.std.specs.Prelude.{◌≡◌, ◌+◌, ◌≤◌, [], List, true, false, Err, IfErr, OnOk};
     ghost use Rattle.osm_entity.specs.Entity.{EntitySpec};
     ghost use Rattle.osm_entity.specs.Ranges.{EntityFits};
     ghost use Rattle.osm_entity.specs.Views.{entity_of};
     ghost use Rattle.pbf_header.specs.Header.{header_of};
-    ghost use Rattle.pbf_block.specs.WrittenBlock.{is_block};
     ghost use Rattle.osm_entity.specs.Weight.{entity_weight, text_weight};
     ghost use Rattle.pbf_header.specs.declared.write.TheConstants.{MOST_HEADER_TEXT};
     ghost use Rattle.pbf_frame.specs.declared.stop.Stop.{Stop};

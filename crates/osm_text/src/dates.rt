@@ -1,7 +1,7 @@
 //! Times as they are printed.
 
 ghost use Rattle.std.specs.Prelude.{◌≡◌, ◌<◌, ◌≤◌, ◌++◌, pos, OnOk};
-ghost use Rattle.osm_text.specs.Dates.{day_number, two_digits, three_digits, four_digits, day_text, clock_text, utc_text, is_dated, time_text};
+ghost use Rattle.osm_text.specs.Dates.{day_number, two_digits, three_digits, four_digits, day_text, clock_text, utc_text, time_text};
 ghost use Rattle.jiff.specs.Words.{epoch_day};
 
 use crate::number::put_signed;

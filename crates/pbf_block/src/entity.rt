@@ -1,7 +1,7 @@
 //! What a Node, a Way and a Relation have alike: fields, and rules phase by phase. Each phase finds what it asks for in one pass over
 //! the message, together with what it asks of the fields that the kind has of its own.
 
-ghost use Rattle.std.specs.Prelude.{◌≡◌, ◌+◌, ◌^◌, ℕ, List};
+ghost use Rattle.std.specs.Prelude.{◌≡◌, ◌+◌, ℕ, List};
 ghost use Rattle.pbf_wire.specs.Faults.{twice, found_in};
 ghost use Rattle.pbf_wire.specs.Least.{least};
 ghost use Rattle.pbf_wire.specs.Occurrence.{Occurrence};

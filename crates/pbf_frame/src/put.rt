@@ -1,7 +1,6 @@
 //! Frames, written.
 
 ghost use Rattle.std.specs.Prelude.{◌≡◌, ◌+◌, ◌<◌, ◌≤◌, ◌++◌, List, ℕ, length, take, OnOk, IfErr};
-ghost use Rattle.byteorder.specs.Endian.{big_bytes};
 ghost use Rattle.pbf_wire.specs.Varint.{shortest};
 ghost use Rattle.pbf_frame.specs.Devices.{IsFront};
 ghost use Rattle.pbf_frame.specs.Transfers.{Added};

@@ -1,12 +1,11 @@
 //! Quick tests for columns whose numbers are short, which most columns are: many bytes at once, and no number decoded.
 
-ghost use Rattle.std.specs.Prelude.{◌≡◌, ◌+◌, ◌-◌, ◌<◌, ◌≤◌, ◌^◌, ⊤, ℕ, IsBitSet, IsTrue, MatchOption, count_by, length, nat_lt, slice_index, take};
+ghost use Rattle.std.specs.Prelude.{◌≡◌, ◌+◌, ◌-◌, ◌<◌, ◌^◌, ⊤, ℕ, IsBitSet, IsTrue, MatchOption, count_by, length, nat_lt, slice_index, take};
 ghost use Rattle.std.specs.List.{AllByRecursion};
 ghost use Rattle.pbf_wire.specs.Payload.{content};
 ghost use Rattle.pbf_wire.specs.Columns.{numbers_in, joined};
 ghost use Rattle.pbf_wire.specs.Cursors.{fields_left};
 ghost use Rattle.pbf_wire.specs.Occurrence.{found};
-ghost use Rattle.pbf_wire.specs.Faults.{fields_in};
 ghost use Rattle.pbf_wire.specs.Short.{EndsSoon, IsShort};
 
 use crate::count::{count_ends, end_mask};

@@ -1,7 +1,7 @@
 //! The pass that writes. It comes after the one that judged the file, and judges no payload: that its bytes are those of the first
 //! pass is told by their digest, at the end.
 
-ghost use Rattle.std.specs.Prelude.{true, ◌≡◌, ◌<◌, ◌≤◌, ◌+◌, ◌^◌, None, Err, IfOk, IfErr, OnOk, OnErr, length};
+ghost use Rattle.std.specs.Prelude.{true, ◌≡◌, ◌<◌, ◌≤◌, ◌+◌, ◌^◌, Err, IfOk, IfErr, OnOk, OnErr, length};
 ghost use Rattle.osm_pack.specs.Packing.{IsPacking, has_header, packer_held};
 ghost use Rattle.osm_pack.specs.Packing as packing;
 ghost use Rattle.pbf_header.specs.Header.{header_of};
