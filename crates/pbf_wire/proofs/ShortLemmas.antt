@@ -20,7 +20,7 @@ use Rattle.pbf_wire.specs.Occurrence.{Occurrence, found}
 use Rattle.pbf_wire.specs.Columns.{Entry, entries, read_entries, entry_fault, placed, numbers_in, column_of, joined}
 use Rattle.pbf_wire.specs.Signed.{delta_in, unzigzag, IsWithin, is_within}
 use Rattle.pbf_wire.specs.Faults.{fault_where, fields_in, sum_faults}
-use Rattle.pbf_wire.specs.Short.{EndsSoon, IsShort}
+use Rattle.pbf_wire.specs.Short.{EndsWithin, IsShort}
 use Rattle.pbf_wire.proofs.Varints.{pow_128, ended_at}
 use Rattle.pbf_wire.proofs.Spellings.{value_below}
 use Rattle.pbf_wire.proofs.Columns.{entries_none, entries_ok}
@@ -93,7 +93,7 @@ five mask i e =
 
 -- a window whose mask leaves none of the first 60 bytes out
 pub all_told : (window : List ℕ) (mask : ℕ) → length window ≡ 64 → ((i : ℕ) → i < 64 → IsBitSet mask i → slice_index window i < 128)
-    → bit_and (bit_or (four_of mask) (mask / 2 ^ 4)) (2 ^ 60 - 1) ≡ 2 ^ 60 - 1 → (i : ℕ) → i < 60 → EndsSoon window i
+    → bit_and (bit_or (four_of mask) (mask / 2 ^ 4)) (2 ^ 60 - 1) ≡ 2 ^ 60 - 1 → (i : ℕ) → i < 60 → EndsWithin 5 window i
 all_told window mask long tells all i lt =
     let whole = bit_or (four_of mask) (mask / 2 ^ 4) in
     let bit : bit_at whole i ≡ 1 = omega (arith, ap (λ n. bit_at n i) all, bit_at_and whole (2 ^ 60 - 1) i, bit_at_ones 60 i lt, bit_at-lt whole i) in
@@ -102,38 +102,44 @@ all_told window mask long tells all i lt =
 
 -- ---- of a part, of the whole
 
-soon_in_front : (bytes : List ℕ) (n i : ℕ) → EndsSoon (take n bytes) i → EndsSoon bytes i
+soon_in_front : (bytes : List ℕ) (n i : ℕ) → EndsWithin 5 (take n bytes) i → EndsWithin 5 bytes i
 soon_in_front bytes n i h =
     let within : i + h.0 < n = omega (arith, h.2, length-take n bytes) in
     (h.0, h.1, omega (arith, h.2, length-take n bytes), omega (arith, h.3, get_or-take n bytes (i + h.0) 0 within))
 
-soon_in_rest : (bytes : List ℕ) (n i : ℕ) → EndsSoon (drop n bytes) i → EndsSoon bytes (n + i)
+soon_in_rest : (bytes : List ℕ) (n i : ℕ) → EndsWithin 5 (drop n bytes) i → EndsWithin 5 bytes (n + i)
 soon_in_rest bytes n i h =
     let at : n + (i + h.0) ≡ n + i + h.0 = omega arith in
     (h.0, h.1, omega (arith, h.2, length-drop n bytes), omega (arith, h.3, get_or-drop n bytes (i + h.0) 0, ap (λ k. get_or bytes k 0) at))
 
+-- from each of the last bytes on, where the last of all ends a varint
+last_ends : (most : ℕ) (bytes : List ℕ) (i : ℕ) → i < length bytes → length bytes ≤ i + most → slice_index bytes (length bytes - 1) < 128 → EndsWithin most bytes i
+last_ends most bytes i lt near last =
+    let at : i + (length bytes - 1 - i) ≡ length bytes - 1 = omega (arith, lt) in
+    (length bytes - 1 - i, omega (arith, lt, near), omega (arith, lt), omega (arith, last, ap (λ k. get_or bytes k 0) at))
+
 -- one window more of the bytes that are looked at from the left
-pub one_more : (bytes window : List ℕ) (n : ℕ) → window ≡ take 64 (drop n bytes) → ((i : ℕ) → i < 60 → EndsSoon window i) → ((i : ℕ) → i < n → EndsSoon bytes i) → (i : ℕ) → i < n + 60 → EndsSoon bytes i
+pub one_more : (bytes window : List ℕ) (n : ℕ) → window ≡ take 64 (drop n bytes) → ((i : ℕ) → i < 60 → EndsWithin 5 window i) → ((i : ℕ) → i < n → EndsWithin 5 bytes i) → (i : ℕ) → i < n + 60 → EndsWithin 5 bytes i
 one_more bytes window n is here done i lt =
     elim (cases_lt i n) [
       | inl below ↦ done i below
       | inr from ↦
           let at : n + (i - n) ≡ i = omega arith in
-          subst (λ (k : ℕ). EndsSoon bytes k) at (soon_in_rest bytes n (i - n) (soon_in_front (drop n bytes) 64 (i - n) (subst (λ (w : List ℕ). EndsSoon w (i - n)) is (here (i - n) (omega arith)))))
+          subst (λ (k : ℕ). EndsWithin 5 bytes k) at (soon_in_rest bytes n (i - n) (soon_in_front (drop n bytes) 64 (i - n) (subst (λ (w : List ℕ). EndsWithin 5 w (i - n)) is (here (i - n) (omega arith)))))
     ]
 
-last_soon : (window : List ℕ) (i : ℕ) → length window ≡ 64 → i < 64 → slice_index window 63 < 128 → ((i : ℕ) → i < 60 → EndsSoon window i) → EndsSoon window i
+last_soon : (window : List ℕ) (i : ℕ) → length window ≡ 64 → i < 64 → slice_index window 63 < 128 → ((i : ℕ) → i < 60 → EndsWithin 5 window i) → EndsWithin 5 window i
 last_soon window i size lt last here =
     elim (cases_lt i 60) [
       | inl early ↦ here i early
       | inr late ↦
-          let end : i + (63 - i) ≡ 63 = omega arith in
-          (63 - i, omega arith, omega arith, omega (arith, last, ap (λ k. get_or window k 0) end))
+          let end : length window - 1 ≡ 63 = omega (arith, size) in
+          last_ends 5 window i (omega (arith, size)) (omega (arith, size)) (omega (arith, last, ap (λ k. get_or window k 0) end))
     ]
 
 -- the last window holds what is left, and its last byte ends the last number
 pub all_short : (bytes window : List ℕ) (n : ℕ) → 64 ≤ length bytes → length bytes < n + 64 → window ≡ drop (length bytes - 64) bytes → slice_index window 63 < 128
-    → ((i : ℕ) → i < 60 → EndsSoon window i) → ((i : ℕ) → i < n → EndsSoon bytes i) → IsShort bytes
+    → ((i : ℕ) → i < 60 → EndsWithin 5 window i) → ((i : ℕ) → i < n → EndsWithin 5 bytes i) → IsShort bytes
 all_short bytes window n long left is last here done i lt =
     elim (cases_lt i n) [
       | inl below ↦ done i below
@@ -141,12 +147,12 @@ all_short bytes window n long left is last here done i lt =
           let m = length bytes - 64 in
           let at : m + (i - m) ≡ i = omega arith in
           let size : length window ≡ 64 = omega (arith, ap length is, length-drop m bytes) in
-          subst (λ (k : ℕ). EndsSoon bytes k) at (soon_in_rest bytes m (i - m) (subst (λ (w : List ℕ). EndsSoon w (i - m)) is (last_soon window (i - m) size (omega arith) last here)))
+          subst (λ (k : ℕ). EndsWithin 5 bytes k) at (soon_in_rest bytes m (i - m) (subst (λ (w : List ℕ). EndsWithin 5 w (i - m)) is (last_soon window (i - m) size (omega arith) last here)))
     ]
 
 -- a window that begins with the bytes, of which the last ends the last number
 pub short_few : (bytes window : List ℕ) → length bytes < 64 → take (length bytes) window ≡ bytes → slice_index bytes (length bytes - 1) < 128
-    → ((i : ℕ) → i < 60 → EndsSoon window i) → IsShort bytes
+    → ((i : ℕ) → i < 60 → EndsWithin 5 window i) → IsShort bytes
 short_few bytes window few is last here i lt =
     elim (cases_lt (i + 5) (length bytes)) [
       | inl early ↦
@@ -154,15 +160,10 @@ short_few bytes window few is last here i lt =
           let within : i + h.0 < length bytes = omega (arith, early, h.1) in
           let same : get_or window (i + h.0) 0 ≡ get_or bytes (i + h.0) 0 = sym (get_or-take (length bytes) window (i + h.0) 0 within) ∙ ap (λ w. get_or w (i + h.0) 0) is in
           (h.0, h.1, within, omega (arith, h.3, same))
-      | inr late ↦
-          let end : i + (length bytes - 1 - i) ≡ length bytes - 1 = omega (arith, lt) in
-          (length bytes - 1 - i, omega (arith, late), omega (arith, lt), omega (arith, last, ap (λ k. get_or bytes k 0) end))
+      | inr late ↦ last_ends 5 bytes i lt late last
     ]
 
 -- ---- what the numbers of such columns are, where of so many bytes from each one on ends a varint
-
-abbrev EndsWithin : ℕ → List ℕ → ℕ → Type 0
-EndsWithin most bytes i = (j : ℕ) × (j < most) × (i + j < length bytes) × (slice_index bytes (i + j) < 128)
 
 abbrev EachEnds : ℕ → List ℕ → Type 0
 EachEnds most bytes = (i : ℕ) → i < length bytes → EndsWithin most bytes i
@@ -226,11 +227,7 @@ short_numbers bytes h = (all_read 5 (omega arith) (length bytes) bytes (omega ar
 
 -- of nine bytes none begins a number that is too long
 pub few_bytes : (bytes : List ℕ) → length bytes ≤ 9 → slice_index bytes (length bytes - 1) < 128 → entry_fault (entries bytes) ≡ None
-few_bytes bytes few last = (all_read 9 (omega arith) (length bytes) bytes (omega arith) ends).0 where
-  ends : EachEnds 9 bytes
-  ends i lt =
-      let at : i + (length bytes - 1 - i) ≡ length bytes - 1 = omega (arith, lt) in
-      (length bytes - 1 - i, omega (arith, lt, few), omega (arith, lt), omega (arith, last, ap (λ k. get_or bytes k 0) at))
+few_bytes bytes few last = (all_read 9 (omega arith) (length bytes) bytes (omega arith) (λ i lt. last_ends 9 bytes i lt (omega (arith, few)) last)).0
 
 -- they are as many as the bytes that end one
 pub short_counted : (r : Option ℕ) (bytes : List ℕ) → MatchOption r ⊤ (λ _. IsShort bytes) → MatchOption r ⊤ (λ n. n ≡ count_by (λ b. nat_lt b 128) bytes) → MatchOption r ⊤ (λ n. n ≡ length (read_entries (entries bytes)))

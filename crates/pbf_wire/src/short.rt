@@ -6,7 +6,7 @@ ghost use Rattle.pbf_wire.specs.Payload.{content};
 ghost use Rattle.pbf_wire.specs.Columns.{numbers_in, joined};
 ghost use Rattle.pbf_wire.specs.Cursors.{fields_left};
 ghost use Rattle.pbf_wire.specs.Occurrence.{found};
-ghost use Rattle.pbf_wire.specs.Short.{EndsSoon, IsShort};
+ghost use Rattle.pbf_wire.specs.Short.{EndsWithin, IsShort};
 
 use crate::count::{count_ends, end_mask};
 use crate::field::Payload;
@@ -34,7 +34,7 @@ fn ends_in(window: &[u8; WINDOW]) -> u64
 
 /// Whether a varint ends within five bytes from each of the first 60 bytes on.
 fn end_soon(window: &[u8; WINDOW]) -> bool
-    ensures { IsTrue result → (i : ℕ) → i < 60 → EndsSoon window.now i }
+    ensures { IsTrue result → (i : ℕ) → i < 60 → EndsWithin 5 window.now i }
 {
     // A bit of `two` says this of two bytes, one of `four` of four.
     let one = ends_in(window);
