@@ -26,14 +26,15 @@ pub fn check<F: Feed>(alloc: Global, feed: &mut F) -> Result<Counts, Stop>
     Ok(check_with_receipt(alloc, feed)?.counts)
 }
 
-/// As [`check`], and reports the digest of the bytes that were judged, whether the feed reports its bytes or not.
+/// Like [`check`], and returns the digest of the bytes that were validated, whether the feed reports its bytes or not.
 ///
-/// A refusal says how many bytes were read, and their digest: whatever follows them, the fault is the first.
+/// A refusal has how many bytes were read, and their digest. The fault is the first one of every file that begins with these bytes;
+/// or the feed had ended, and it is the first one of the file that has these bytes and no more.
 pub fn check_with_receipt<F: Feed>(alloc: Global, feed: &mut F) -> Result<InputReceipt, Halt>
     // The feed gave a file of this digest, to its end. It has no fault, and the counts are those of its entities.
     ensures receipt { IfOk result (λ receipt. GaveFile F.Feed feed.old feed.new receipt.input
         (λ file. CountsFile (judged_file (Some file)) receipt.counts)) }
-    // The feed gave as many bytes of this digest, and the fault is the first of whatever begins so.
+    // The feed gave as many bytes of this digest. The fault is the first of whatever begins so; or, where the feed had ended, of them.
     ensures refused { IfErr result
         (Halts (RefusesFile F.Feed feed.old feed.new (λ b. judged_file (Some b)))) }
     ensures stops { IfErr result (λ h. Caused (FaultOf (judged_file (F.remaining feed.old)))

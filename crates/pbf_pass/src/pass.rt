@@ -386,7 +386,7 @@ pub struct Judged {
     pub digest: [u8; 32],
 }
 
-/// Judges a whole file, and gathers its entities: all passes but those that write are this one.
+/// Judges a whole file, and gathers its entities: `check`, and the first pass of the other calls. Their later passes judge nothing.
 ///
 /// `Refused` has the first fault of the file, of any phase, with how many bytes were read and their digest. Reads each byte once, to
 /// the file's end where it answers `Ok`, and holds one frame at a time. After a halt what was gathered may only be dropped.

@@ -35,7 +35,8 @@ pub struct Receipt {
 pub struct Refusal {
     /// The first fault of the input.
     pub fault: Fault,
-    /// How many bytes the feed gave until then. Whatever follows them, or nothing where the feed had ended, the fault is the first.
+    /// How many bytes the feed gave until then. The fault is the first of every file that begins with them; or the feed had ended,
+    /// and it is the first of the file that has these bytes and no more.
     /// A count that would be higher stays at 2^64 - 1.
     pub read: u64,
     /// The digest of these bytes.

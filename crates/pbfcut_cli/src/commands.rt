@@ -1,7 +1,7 @@
 //! The commands and their arguments, as `clap` takes them.
 
 ghost use Rattle.std.specs.Prelude.{◌≡◌, IfOk, false};
-ghost use Rattle.clap.specs.Words.{app_of, new_app, rule_of};
+ghost use Rattle.clap.specs.Words.{app_of, new_app, rule_of, with_rule, with_subcommand};
 ghost use Rattle.clap.specs.declared.builder.command.Command.TheViews.{out-Command as fields_of};
 ghost use Rattle.pbfcut_cli.specs.Words.{
   bare_app,
@@ -63,14 +63,14 @@ fn progress<'a>(alloc: Global) -> Arg<'a>
         .help(help::PROGRESS)
 }
 
-fn digests<'a>(alloc: Global) -> Arg<'a>
+fn digests<'a>(alloc: Global, help: &'a str) -> Arg<'a>
     ensures rule { rule_of result ≡ digests_rule }
     ensures local { result.global ≡ false }
 {
     Arg::new(alloc, "digests")
         .long("digests")
         .action(ArgAction::SetTrue)
-        .help(help::DIGESTS)
+        .help(help)
 }
 
 fn parents<'a>(alloc: Global) -> Arg<'a>
@@ -105,31 +105,55 @@ fn named<'a>(alloc: Global, name: &'a str, about: &'a str, after_help: &'a str) 
         .after_help(after_help)
 }
 
+/// The command with one more argument.
+fn with_arg<'a>(command: Command<'a>, arg: Arg<'a>) -> Result<Command<'a>, AllocError>
+    requires local { (fields_of command).has_globals ≡ false }
+    requires at_home { arg.global ≡ false }
+    ensures app { IfOk result (λ c. app_of c ≡ with_rule (app_of command.entry) (rule_of arg.entry)) }
+    ensures local { IfOk result (λ c. (fields_of c).has_globals ≡ false) }
+{
+    command.arg(arg)
+}
+
+/// The command with one more command below it.
+fn with_command<'a>(command: Command<'a>, below: Command<'a>) -> Result<Command<'a>, AllocError>
+    requires local { (fields_of command).has_globals ≡ false }
+    requires below { (fields_of below).has_globals ≡ false }
+    ensures app { IfOk result (λ c. app_of c
+        ≡ with_subcommand (app_of command.entry) (app_of below.entry).top) }
+    ensures local { IfOk result (λ c. (fields_of c).has_globals ≡ false) }
+{
+    command.subcommand(below)
+}
+
 fn blobs<'a>(alloc: Global) -> Result<Command<'a>, AllocError>
     ensures app { IfOk result (λ c. app_of c ≡ blobs_app) }
     ensures local { IfOk result (λ c. (fields_of c).has_globals ≡ false) }
 {
-    named(alloc, "blobs", help::BLOBS, help::AFTER_BLOBS).arg(input(alloc))
+    with_arg(
+        named(alloc, "blobs", help::BLOBS, help::AFTER_BLOBS),
+        input(alloc),
+    )
 }
 
 fn show<'a>(alloc: Global) -> Result<Command<'a>, AllocError>
     ensures app { IfOk result (λ c. app_of c ≡ show_app) }
     ensures local { IfOk result (λ c. (fields_of c).has_globals ≡ false) }
 {
-    named(alloc, "show", help::SHOW, help::AFTER_SHOW)
-        .arg(dates(alloc))?
-        .arg(progress(alloc))?
-        .arg(input(alloc))
+    let command = named(alloc, "show", help::SHOW, help::AFTER_SHOW);
+    let command = with_arg(command, dates(alloc))?;
+    let command = with_arg(command, progress(alloc))?;
+    with_arg(command, input(alloc))
 }
 
 fn check<'a>(alloc: Global) -> Result<Command<'a>, AllocError>
     ensures app { IfOk result (λ c. app_of c ≡ check_app) }
     ensures local { IfOk result (λ c. (fields_of c).has_globals ≡ false) }
 {
-    named(alloc, "check", help::CHECK, help::AFTER_CHECK)
-        .arg(progress(alloc))?
-        .arg(digests(alloc))?
-        .arg(input(alloc))
+    let command = named(alloc, "check", help::CHECK, help::AFTER_CHECK);
+    let command = with_arg(command, progress(alloc))?;
+    let command = with_arg(command, digests(alloc, help::DIGEST_OF_INPUT))?;
+    with_arg(command, input(alloc))
 }
 
 /// `convert` with its options.
@@ -137,16 +161,17 @@ fn conversion<'a>(alloc: Global) -> Result<Command<'a>, AllocError>
     ensures app { IfOk result (λ c. app_of c ≡ conversion_app) }
     ensures local { IfOk result (λ c. (fields_of c).has_globals ≡ false) }
 {
-    named(alloc, "convert", help::CONVERT, help::AFTER_CONVERT)
-        .arg(progress(alloc))?
-        .arg(digests(alloc))
+    let command = named(alloc, "convert", help::CONVERT, help::AFTER_CONVERT);
+    let command = with_arg(command, progress(alloc))?;
+    with_arg(command, digests(alloc, help::DIGESTS))
 }
 
 fn convert<'a>(alloc: Global) -> Result<Command<'a>, AllocError>
     ensures app { IfOk result (λ c. app_of c ≡ convert_app) }
     ensures local { IfOk result (λ c. (fields_of c).has_globals ≡ false) }
 {
-    conversion(alloc)?.arg(input(alloc))?.arg(output(alloc))
+    let command = with_arg(conversion(alloc)?, input(alloc))?;
+    with_arg(command, output(alloc))
 }
 
 /// `extract` with its flags.
@@ -154,21 +179,20 @@ fn options<'a>(alloc: Global) -> Result<Command<'a>, AllocError>
     ensures app { IfOk result (λ c. app_of c ≡ options_app) }
     ensures local { IfOk result (λ c. (fields_of c).has_globals ≡ false) }
 {
-    named(alloc, "extract", help::EXTRACT, help::AFTER_EXTRACT)
-        .override_usage(help::USAGE_OF_EXTRACT)
-        .arg(parents(alloc))?
-        .arg(progress(alloc))?
-        .arg(digests(alloc))
+    let command = named(alloc, "extract", help::EXTRACT, help::AFTER_EXTRACT);
+    let command = command.override_usage(help::USAGE_OF_EXTRACT);
+    let command = with_arg(command, parents(alloc))?;
+    let command = with_arg(command, progress(alloc))?;
+    with_arg(command, digests(alloc, help::DIGESTS))
 }
 
 fn extract<'a>(alloc: Global) -> Result<Command<'a>, AllocError>
     ensures app { IfOk result (λ c. app_of c ≡ extract_app) }
     ensures local { IfOk result (λ c. (fields_of c).has_globals ≡ false) }
 {
-    options(alloc)?
-        .arg(area(alloc))?
-        .arg(input(alloc))?
-        .arg(output(alloc))
+    let command = with_arg(options(alloc)?, area(alloc))?;
+    let command = with_arg(command, input(alloc))?;
+    with_arg(command, output(alloc))
 }
 
 /// The command line with no command yet.
@@ -191,10 +215,9 @@ fn readers<'a>(alloc: Global) -> Result<Command<'a>, AllocError>
     ensures app { IfOk result (λ c. app_of c ≡ readers_app) }
     ensures local { IfOk result (λ c. (fields_of c).has_globals ≡ false) }
 {
-    bare(alloc)?
-        .subcommand(blobs(alloc)?)?
-        .subcommand(show(alloc)?)?
-        .subcommand(check(alloc)?)
+    let command = with_command(bare(alloc)?, blobs(alloc)?)?;
+    let command = with_command(command, show(alloc)?)?;
+    with_command(command, check(alloc)?)
 }
 
 /// The command line of the program.
@@ -202,7 +225,6 @@ pub(crate) fn program<'a>(alloc: Global) -> Result<Command<'a>, AllocError>
     ensures app { IfOk result (λ c. app_of c ≡ program_app) }
     ensures local { IfOk result (λ c. (fields_of c).has_globals ≡ false) }
 {
-    readers(alloc)?
-        .subcommand(convert(alloc)?)?
-        .subcommand(extract(alloc)?)
+    let command = with_command(readers(alloc)?, convert(alloc)?)?;
+    with_command(command, extract(alloc)?)
 }

@@ -1,8 +1,8 @@
 //! What help says, to someone who makes maps. Lines have at most 80 columns.
 
-/// The text of a command's help after its arguments, and the last lines of each help.
-macro_rules! with_exit_statuses {
-    ($text:literal) => {
+/// The last lines of each help, with what exit status 3 means there.
+macro_rules! exit_statuses {
+    ($text:literal, $files:literal) => {
         concat!(
             $text,
             "\n\
@@ -10,11 +10,30 @@ macro_rules! with_exit_statuses {
               0  done, or help was asked for\n  \
               1  IN is refused: standard error says at which byte of IN, and why\n  \
               2  the command line or the box is wrong\n  \
-              3  IN can't be opened, OUT exists or can't be made, or reading or writing\n     \
-                 failed\n  \
+              3  ",
+            $files,
+            "\n  \
               4  out of memory\n  \
               5  IN changed while it was read"
         )
+    };
+}
+
+/// The text of the program's help, or of a command's that writes OUT, after its arguments.
+macro_rules! with_exit_statuses {
+    ($text:literal) => {
+        exit_statuses!(
+            $text,
+            "IN can't be opened, OUT exists or can't be made, or reading or writing\n     \
+                 failed"
+        )
+    };
+}
+
+/// The text of a command's help that only prints, after its arguments.
+macro_rules! with_exit_statuses_of_readers {
+    ($text:literal) => {
+        exit_statuses!($text, "IN can't be opened, or reading or writing failed")
     };
 }
 
@@ -45,13 +64,15 @@ pub(crate) const PROGRESS: &str = "Reports progress on standard error";
 
 pub(crate) const DIGESTS: &str = "Prints the SHA-256 digests of IN and OUT";
 
+pub(crate) const DIGEST_OF_INPUT: &str = "Prints the SHA-256 digest of IN";
+
 pub(crate) const PARENTS: &str = "Keeps the relations above kept ones too";
 
 pub(crate) const BOX: &str = "The edges of the box, in degrees";
 
 pub(crate) const BLOBS: &str = "Lists the frames of IN: where they are, their types and sizes";
 
-pub(crate) const AFTER_BLOBS: &str = with_exit_statuses!(
+pub(crate) const AFTER_BLOBS: &str = with_exit_statuses_of_readers!(
     "The command prints a line for each frame of IN, as '19 OSMData 25 23': the byte\n\
     of IN at which the frame begins, its type, and the lengths in bytes of its blob\n\
     and of the payload in the blob. It passes over a frame of another type than\n\
@@ -65,7 +86,7 @@ pub(crate) const AFTER_BLOBS: &str = with_exit_statuses!(
 
 pub(crate) const SHOW: &str = "Prints the header and all nodes, ways and relations of IN as text";
 
-pub(crate) const AFTER_SHOW: &str = with_exit_statuses!(
+pub(crate) const AFTER_SHOW: &str = with_exit_statuses_of_readers!(
     "Lines that begin with H are of the header. Each other line is an entity, in the\n\
     order of IN:\n  \
       N 1 51500000000 -120000000 v2 \"highway\"=\"stop\"\n      \
@@ -89,7 +110,7 @@ pub(crate) const AFTER_SHOW: &str = with_exit_statuses!(
 
 pub(crate) const CHECK: &str = "Validates all of IN, and counts its nodes, ways and relations";
 
-pub(crate) const AFTER_CHECK: &str = with_exit_statuses!(
+pub(crate) const AFTER_CHECK: &str = with_exit_statuses_of_readers!(
     "Where no field of IN has a fault, the command prints how many entities IN has,\n\
     as 'nodes 3 ways 0 relations 0'. Else it refuses IN by its first fault. IN may\n\
     be a pipe, since it is read once:\n  \

@@ -32,8 +32,8 @@ pub(crate) fn print_digest(rt: &HostRuntime, digest: [u8; 32], path: &str) -> Re
     Ok(())
 }
 
-/// Reports to standard error, where IN is refused, how many of its bytes were read, and their digest. Whatever follows these bytes,
-/// the fault is the first.
+/// Reports to standard error, where IN is refused, how many of its bytes were read, and their digest. The fault is the first of every
+/// file that begins with these bytes; or IN ended there, and it is the first of the file that has these bytes and no more.
 pub(crate) fn report_refusal(rt: &HostRuntime, halt: &Halt, input: &str) -> Result<(), Ending> {
     let Halt::Refused(refusal) = halt else {
         return Ok(());

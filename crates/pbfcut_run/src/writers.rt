@@ -3,9 +3,9 @@
 
 use crate::files::{create_output, open_pass, refuse_existing};
 use crate::output::{print_counts, print_digest, report_refusal};
-use crate::progress::end_line;
+use crate::progress::{Watched, end_line};
 use osm_entity::BoundingBox;
-use pbf_frame::{Stop, ToWrite};
+use pbf_frame::{FromRead, Stop, ToWrite};
 use pbfcut::{
     Counts, Halt, Receipt, convert, convert_with_receipt, extract, extract_parents,
     extract_parents_with_receipt, extract_with_receipt,
@@ -34,6 +34,23 @@ pub(crate) struct Files<'a> {
     pub(crate) progress: bool,
     /// Whether the digests of IN and OUT are printed.
     pub(crate) digests: bool,
+}
+
+/// IN, opened once for each of the passes that both extracts make.
+#[derive(Drop)]
+struct Passes {
+    one: Watched<FromRead<File>>,
+    two: Watched<FromRead<File>>,
+    three: Watched<FromRead<File>>,
+}
+
+/// Opens IN for the first three of so many passes.
+fn open_three(rt: &HostRuntime, files: Files<'_>, passes: u8) -> Result<Passes, Ending> {
+    let (input, progress) = (files.input, files.progress);
+    let one = open_pass(rt, input, progress, 1, passes)?;
+    let two = open_pass(rt, input, progress, 2, passes)?;
+    let three = open_pass(rt, input, progress, 3, passes)?;
+    Ok(Passes { one, two, three })
 }
 
 /// What a call reports: the counts, or a receipt, for which OUT is hashed as it is written.
@@ -107,11 +124,10 @@ pub(crate) fn run_extract(
     area: BoundingBox,
     files: Files<'_>,
 ) -> Result<(), Ending> {
-    let (alloc, input, progress) = (rt.alloc(), files.input, files.progress);
+    let alloc = rt.alloc();
     refuse_existing(rt, files.output)?;
-    let one = &mut open_pass(rt, input, progress, 1, 3)?;
-    let two = &mut open_pass(rt, input, progress, 2, 3)?;
-    let three = &mut open_pass(rt, input, progress, 3, 3)?;
+    let mut passes = open_three(rt, files, 3)?;
+    let Passes { one, two, three } = &mut passes;
     let hasher = seeded(rt)?;
     let mut file = create_output(rt, files.output)?;
     let drain = &mut ToWrite::new(&mut file);
@@ -129,12 +145,11 @@ pub(crate) fn run_extract_parents(
     area: BoundingBox,
     files: Files<'_>,
 ) -> Result<(), Ending> {
-    let (alloc, input, progress) = (rt.alloc(), files.input, files.progress);
+    let alloc = rt.alloc();
     refuse_existing(rt, files.output)?;
-    let one = &mut open_pass(rt, input, progress, 1, 4)?;
-    let two = &mut open_pass(rt, input, progress, 2, 4)?;
-    let three = &mut open_pass(rt, input, progress, 3, 4)?;
-    let four = &mut open_pass(rt, input, progress, 4, 4)?;
+    let mut passes = open_three(rt, files, 4)?;
+    let Passes { one, two, three } = &mut passes;
+    let four = &mut open_pass(rt, files.input, files.progress, 4, 4)?;
     let hasher = seeded(rt)?;
     let mut file = create_output(rt, files.output)?;
     let drain = &mut ToWrite::new(&mut file);
