@@ -1,15 +1,19 @@
 #!/usr/bin/env python3
-"""Proves the crates that a program is made of, and builds it for this processor.
+"""Proves the crates that a program is made of, and builds it, as the gate does.
 
-usage: tools/build.py [CRATE]        makes crates/CRATE/out/CRATE; with no word it is pbfcut_run, the program pbfcut
+usage: tools/build.py [--native] [CRATE]        makes crates/CRATE/out/CRATE; CRATE is pbfcut_run, the program pbfcut, if it is left out
 
-Crates that do not stand on each other are proved side by side: the longest chain gets all processors, and what stands beside it
-takes what the chain leaves. The judge is that of the gate, `rattle build`, which makes nothing of a crate that is not proved. Where
-a build was stopped, the next one goes on with the crates that were proved.
+The program is built for x86-64-v2, or with --native for this processor, which other machines may not be able to run. Beside it stands
+CRATE.sources, the digest of the sources that it was built from (tools/sources.sh).
 
-Exit status: 0 the program is built; 1 a crate is not proved, or the program could not be linked; 2 this kit is not called in
-the way that this script knows, and `rt run` has to build the program.
+Crates that don't depend on each other are proved side by side: the longest chain gets all processors, and each crate beside it one. The
+judge is that of the gate, `rattle build`, which makes nothing of a crate that is not proved. If a build was stopped, the next one goes on
+with the crates that were proved.
+
+Exit status: 0 the program is built; 1 a crate is not proved, the program could not be linked, or the sources changed meanwhile; 2 this kit
+is not called in the way that this script knows, and `rt run` has to build the program.
 """
+import argparse
 import hashlib
 import os
 import re
@@ -20,15 +24,6 @@ import time
 
 TOP = os.path.dirname(os.path.dirname(os.path.abspath(__file__)))
 NOT_THIS_KIT = 2
-
-# About how many seconds of a processor the proof of each crate takes (docs/GATE.md). What begins when, and with how many jobs, is
-# decided by them, and nothing else.
-SECONDS = {
-    "pbf_wire": 239, "pbf_frame": 207, "pbf_strings": 116, "osm_box": 10, "osm_entity": 236, "pbf_header": 73, "pbf_dense": 148,
-    "pbf_block": 356, "osm_ids": 116, "osm_ways": 61, "osm_pack": 138, "osm_text": 136, "pbf_pass": 142, "pbfcut": 377,
-    "pbfcut_cli": 327, "pbfcut_run": 181,
-}
-LONG = 200
 
 # what a processor must have, in the words of /proc/cpuinfo, to run code for x86-64-v3
 VERSION_3 = {"avx", "avx2", "bmi1", "bmi2", "f16c", "fma", "abm", "movbe"}
@@ -82,13 +77,14 @@ def files_of(name):
             yield from (os.path.join(folder, file) for file in sorted(files))
 
 
-def seconds(name):
-    return SECONDS.get(name, LONG)
+def lines_of(name):
+    """How long a crate is: about its proof's share of the time."""
+    return sum(open(path, "rb").read().count(b"\n") for path in files_of(name))
 
 
-def way_up(crates, name):
-    """How many seconds of proofs there are, one crate after another, from this one up to the program."""
-    return seconds(name) + max((way_up(crates, other) for other in crates if name in crates[other]), default=0)
+def way_up(crates, lines, name):
+    """How many lines there are to prove, one crate after another, from this one up to the program."""
+    return lines[name] + max((way_up(crates, lines, other) for other in crates if name in crates[other]), default=0)
 
 
 def source_sum(crates, name):
@@ -100,8 +96,13 @@ def source_sum(crates, name):
     return digest.hexdigest()
 
 
+def digest_of_sources(program):
+    """The digest of the sources of a program, as tools/sources.sh prints it."""
+    return subprocess.run([os.path.join(TOP, "tools", "sources.sh"), program], check=True, capture_output=True, text=True).stdout
+
+
 def processor_flags():
-    """The flags that have the program compiled for this processor, where that is quicker."""
+    """The flags that have the program compiled for this processor, if that is quicker."""
     try:
         words = set(re.search(r"^flags\s*:(.*)$", open("/proc/cpuinfo").read(), re.M).group(1).split())
     except (OSError, AttributeError):
@@ -124,8 +125,8 @@ def lanes():
 class Build:
     """Crates on their way: which are proved, which are being proved, and since when."""
 
-    def __init__(self, kit, program):
-        self.kit, self.program, self.crates = kit, program, read_crates(program)
+    def __init__(self, kit, program, flags):
+        self.kit, self.program, self.flags, self.crates = kit, program, flags, read_crates(program)
         self.place = os.path.join(TOP, "crates", program, "out")
         self.room = os.path.join(self.place, "building")
         self.lanes = lanes()
@@ -133,8 +134,10 @@ class Build:
         self.proved, self.running, self.again = set(), {}, set()
         self.shown = sys.stderr.isatty()
         os.makedirs(self.room, exist_ok=True)
+        self.sources = digest_of_sources(program)
         self.sums = {name: source_sum(self.crates, name) for name in self.crates}
-        self.ways = {name: way_up(self.crates, name) for name in self.crates}
+        lines = {name: lines_of(name) for name in self.crates}
+        self.ways = {name: way_up(self.crates, lines, name) for name in self.crates}
 
     def result(self, name):
         return os.path.join(self.room, name + (".o" if name == self.program else ".rlib"))
@@ -149,7 +152,7 @@ class Build:
         words += ["--antt-project", f"{self.kit}/rattle/logic/antt-project.json", "--logic-built", f"{self.kit}/logic_built"]
         words += ["--jobs", str(jobs), "-o", self.result(name)]
         if name == self.program:
-            return words + ["--toolchain", f"{self.kit}/toolchain"] + processor_flags()
+            return words + ["--toolchain", f"{self.kit}/toolchain"] + self.flags
         return words + ["--statements"]
 
     def is_kept(self, name):
@@ -168,8 +171,7 @@ class Build:
         )
 
     def start_ready(self):
-        """Starts what can be: of the crates that wait, the one with the longest way up first. What is begun beside a longer way gets half
-        of the processors; where its way is much shorter, it gets what the others leave, with a second job if it takes long itself."""
+        """Starts what can be: of the crates that wait, the one with the longest way up first."""
         done = self.proved
         ready = [name for name in self.crates if name not in done and name not in self.running]
         ready = [name for name in ready if all(other in done for other in self.crates[name] if other in self.crates)]
@@ -177,12 +179,9 @@ class Build:
             if self.is_kept(name):
                 self.end(name)
                 return self.start_ready()
-            longest = max((self.ways[other] for other in self.running), default=0)
             if len(self.running) < self.lanes:
-                beside = self.ways[name] < 0.8 * longest
-                half = max(1, self.lanes // 2)
-                jobs = self.lanes if self.ways[name] > longest else half if not beside else min(2, half) if seconds(name) >= LONG else 1
-                self.start(name, 1 if name in self.again else jobs, beside)
+                beside = any(self.ways[other] > self.ways[name] for other in self.running)
+                self.start(name, 1 if beside or name in self.again else self.lanes, beside)
 
     def end(self, name):
         with open(self.result(name) + ".sum", "w") as file:
@@ -248,15 +247,28 @@ class Build:
             return NOT_THIS_KIT
         os.replace(made, os.path.join(self.place, self.program))
         shutil.rmtree(self.room)
+        return self.record()
+
+    def record(self):
+        """Says beside the program which sources it was built from, if they are still what they were at the start."""
+        if self.sources != digest_of_sources(self.program):
+            print("pbfcut: the sources changed while they were proved: build again", file=sys.stderr)
+            return 1
+        with open(os.path.join(self.place, self.program + ".sources"), "w") as file:
+            file.write(self.sources)
         print(f"pbfcut: built, {self.progress()}", file=sys.stderr)
         return 0
 
 
 def main():
+    arguments = argparse.ArgumentParser(usage="tools/build.py [--native] [CRATE]")
+    arguments.add_argument("--native", action="store_true")
+    arguments.add_argument("crate", nargs="?", default="pbfcut_run")
+    given = arguments.parse_args()
     kit = kit_folder()
     if kit is None:
         return NOT_THIS_KIT
-    return Build(kit, sys.argv[1] if len(sys.argv) > 1 else "pbfcut_run").run()
+    return Build(kit, given.crate, processor_flags() if given.native else []).run()
 
 
 if __name__ == "__main__":

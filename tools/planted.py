@@ -1,7 +1,7 @@
 #!/usr/bin/env python3
 """Tries planted bugs: the prover must refuse each.
 
-usage: tools/planted.py [--set must-fail|more-edits|all] [--libraries FOLDER] [--beside PID] [--lanes N] [CRATE..]
+usage: tools/planted.py [--set must-fail|more-edits|all] [--libraries FOLDER] [--beside PID --log FILE] [--lanes N] [CRATE..]
 
 Those of crates/NAME/must-fail/ are tried, where no other set is named. The edits that are not tried are read all the same: each has
 to fit the files that it changes.
@@ -12,14 +12,19 @@ bug counts as refused where the prover leaves open a goal of the function that i
 by itself, and then has to be refused in some place. That a proof cites a name which the bug took away is no refusal.
 
 FOLDER has the built libraries, FOLDER/NAME/out/rlib/NAME.rlib; with none they are those of this tree, built where they lack. With
---beside each crate waits for the libraries that it stands on, as long as the process PID goes on. N checks run at a time: as many as
-there are processors, where nothing else is said and memory allows; once PID has ended more of them, as both allow.
+--beside each crate waits for the libraries that it depends on, until `rt ci`, the process PID, says in FILE that they are proved, or ends.
+N checks run at a time: as many as there are processors, where nothing else is said and memory allows; once PID has ended more of them,
+as both allow.
+
+A bug that was refused is not tried again on this machine while its edit, its crate, the crates below and the kit stay the same: that is
+kept in ~/.cache/pbfcut/planted, which may be removed.
 
 Exit status: 0 each bug was refused; 1 one was not, or cannot be tried; 2 this kit is not called in the way that this script knows,
 and `rt must-fail` and tests/more_edits.sh have to try them, one check for each.
 """
 import argparse
 import difflib
+import hashlib
 import os
 import re
 import shutil
@@ -32,11 +37,12 @@ import time
 from concurrent.futures import ThreadPoolExecutor
 from dataclasses import dataclass
 
-from build import NOT_THIS_KIT, TOP, all_below, free_gigabytes, kit_folder, known_crates, lanes
+from build import NOT_THIS_KIT, TOP, all_below, free_gigabytes, kit_folder, known_crates, lanes, source_sum
 
 FOLDERS = ("must-fail", "more-edits")
 SETS = {"must-fail": FOLDERS[:1], "more-edits": FOLDERS[1:], "all": FOLDERS}
 PARTS = ("src", "specs", "proofs")
+KEPT = os.path.join(os.environ.get("XDG_CACHE_HOME") or os.path.expanduser("~/.cache"), "pbfcut", "planted")
 
 # What the prover says where a proof cannot be read since a name is gone, or waits for another: no refusal of a goal.
 OF_NAMES = re.compile(r"has no field|is not in scope|has no `|was not admitted|was not checked|is not proved")
@@ -292,14 +298,45 @@ def function_below(text, line):
     return function_at(text, sum(len(it) + 1 for it in lines[:line]) - 1)
 
 
+class Refusals:
+    """The bugs of a crate that earlier runs on this machine saw refused."""
+
+    def __init__(self, crates, name):
+        self.folder, self.sum = os.path.join(TOP, "crates", name), source_sum(crates, name)
+
+    def path(self, bug):
+        edit = text_of(self.folder, bug).encode()
+        return os.path.join(KEPT, hashlib.sha256(self.sum.encode() + edit).hexdigest())
+
+    def found(self, bug):
+        """Where a bug was refused, or nothing."""
+        try:
+            with open(self.path(bug), encoding="utf-8") as kept:
+                return kept.read()
+        except (OSError, UnicodeError):
+            return ""
+
+    def keep(self, bug, found):
+        """Without a place to keep it, the next run tries the bug again."""
+        path = self.path(bug)
+        try:
+            os.makedirs(KEPT, exist_ok=True)
+            with tempfile.NamedTemporaryFile("w", dir=KEPT, delete=False, encoding="utf-8") as made:
+                made.write(found)
+            os.replace(made.name, path)
+        except OSError:
+            pass
+
+
 class Crate:
     """A crate whose planted bugs are tried."""
 
     def __init__(self, kit, crates, name, libraries, left):
         self.kit, self.crates, self.name, self.libraries, self.left = kit, crates, name, libraries, left
         self.folder = os.path.join(TOP, "crates", name)
+        self.refusals = Refusals(crates, name)
         self.functions = set()  # those that the checks named
-        self.checks = 0
+        self.checks, self.kept = 0, 0
 
     def library(self, name):
         return os.path.join(self.libraries, name, "out", "rlib", f"{name}.rlib")
@@ -382,7 +419,10 @@ class Crate:
     def try_all(self, folders):
         """Tries the bugs of these folders of the crate. Answers for each its name, whether it is refused, and where."""
         bugs = [bug for bug in read_bugs(self.folder) if bug.name.startswith(folders)]
-        left, alone, told = [bug for bug in bugs if bug.is_placed()], [bug for bug in bugs if not bug.is_placed()], []
+        told = [(bug.name, True, found) for bug in bugs for found in [self.refusals.found(bug.name)] if found]
+        self.kept, known = len(told), {name for name, _, _ in told}
+        bugs = [bug for bug in bugs if bug.name not in known]
+        left, alone = [bug for bug in bugs if bug.is_placed()], [bug for bug in bugs if not bug.is_placed()]
         with tempfile.TemporaryDirectory(prefix="planted-kept-") as kept:
             while len(left) > 1:
                 chosen = apart(left)
@@ -398,35 +438,48 @@ class Crate:
                     left.sort(key=lambda bug: bug not in chosen)
             for bug in left + alone:
                 told.append((bug.name, *self.try_alone(bug, kept)))
+        for name, is_refused, found in told:
+            if is_refused and name not in known:
+                self.refusals.keep(name, found)
         return told
 
 
-def age(library):
-    """How many seconds ago a library was written, or nothing where it is not there."""
-    try:
-        return time.time() - os.path.getmtime(os.path.join(library, "format"))
-    except OSError:
-        return None
+class Gate:
+    """The run of `rt ci` beside which the bugs are tried: its process, and the file that has what it says; or none."""
 
+    def __init__(self, process, log):
+        self.process, self.log = process, log
 
-def wait_for(crate, process):
-    """Waits, as long as the process goes on, until the libraries below are written to the end. Answers whether they are there."""
-    ages = lambda: [age(crate.library(name)) for name in crate.below()]
-    while process and os.path.exists(f"/proc/{process}") and any(it is None or it < 15 for it in ages()):
-        time.sleep(2)
-    return None not in ages()
+    def goes_on(self):
+        return bool(self.process) and os.path.exists(f"/proc/{self.process}")
+
+    def proved(self):
+        """The crates that it says are proved, or were by an earlier run."""
+        try:
+            with open(self.log, encoding="utf-8", errors="replace") as log:
+                return set(re.findall(r"^rt: (\w+) (?:proved$|is kept: )", log.read(), re.M))
+        except OSError:
+            return set()
+
+    def wait_for(self, crate):
+        """Waits, as long as it goes on, until the libraries below a crate are there. Answers whether they are."""
+        below = set(crate.below())
+        while self.goes_on() and not below <= self.proved():
+            time.sleep(2)
+        return all(os.path.exists(os.path.join(crate.library(name), "format")) for name in below)
 
 
 class Lanes:
     """How many crates are tried at a time: so many, and more once the process beside has ended, as processors and memory allow."""
 
-    def __init__(self, most, process):
-        self.most, self.process, self.taken, self.changed = most, process, 0, threading.Condition()
+    def __init__(self, most, gate):
+        self.most, self.waits, self.gate = most, gate.goes_on(), gate
+        self.taken, self.changed = 0, threading.Condition()
 
     def is_free(self):
-        if self.process and not os.path.exists(f"/proc/{self.process}"):
+        if self.waits and not self.gate.goes_on():
             # counted once, at that time: checks that have just begun don't have their memory yet
-            self.process = None
+            self.waits = False
             self.most = min(len(os.sched_getaffinity(0)), self.most + max(0, (free_gigabytes() - 1) // 3))
         return self.taken < self.most
 
@@ -442,9 +495,9 @@ class Lanes:
             self.changed.notify()
 
 
-def try_crate(crate, folders, process, lanes):
+def try_crate(crate, folders, gate, lanes):
     try:
-        if not wait_for(crate, process):
+        if not gate.wait_for(crate):
             return [("each", False, "the libraries that its crate stands on are not built")]
         with lanes:
             return crate.try_all(folders)
@@ -464,11 +517,12 @@ def build_libraries(crates, names):
 
 def main():
     asked = argparse.ArgumentParser(
-        usage="tools/planted.py [--set must-fail|more-edits|all] [--libraries FOLDER] [--beside PID] [--lanes N] [CRATE..]"
+        usage="tools/planted.py [--set must-fail|more-edits|all] [--libraries FOLDER] [--beside PID --log FILE] [--lanes N] [CRATE..]"
     )
     asked.add_argument("--set", choices=SETS, default="must-fail")
     asked.add_argument("--libraries")
     asked.add_argument("--beside", type=int)
+    asked.add_argument("--log")
     asked.add_argument("--lanes", type=int, default=lanes())
     asked.add_argument("crates", nargs="*")
     given = asked.parse_args()
@@ -485,15 +539,17 @@ def main():
     left = set(names)
     tried = [Crate(kit, crates, name, given.libraries or os.path.join(TOP, "crates"), left) for name in names]
     count, failed, started = 0, 0, time.monotonic()
-    room = Lanes(given.lanes, given.beside)
+    gate = Gate(given.beside, given.log)
+    room = Lanes(given.lanes, gate)
     with ThreadPoolExecutor(len(tried)) as pool:
-        for crate, told in zip(tried, pool.map(lambda crate: try_crate(crate, folders, given.beside, room), tried)):
+        for crate, told in zip(tried, pool.map(lambda crate: try_crate(crate, folders, gate, room), tried)):
             for name, is_refused, found in told:
                 print(f"planted {crate.name}/{name}: {'refused, as it must be' if is_refused else 'NOT REFUSED'}: {found[:160]}", flush=True)
                 failed += not is_refused
             count += len(told)
-    minutes, checks = (time.monotonic() - started) / 60, sum(crate.checks for crate in tried)
-    print(f"planted: {count - failed} of {count} bugs refused, in {checks} checks and {minutes:.0f} minutes")
+    minutes, checks, kept = (time.monotonic() - started) / 60, sum(crate.checks for crate in tried), sum(crate.kept for crate in tried)
+    earlier = f", {kept} of them by earlier runs on this machine" if kept else ""
+    print(f"planted: {count - failed} of {count} bugs refused{earlier}, in {checks} checks and {minutes:.0f} minutes")
     return 1 if failed else 0
 
 
