@@ -1,0 +1,19 @@
+# What people type. PREFIX is where it is installed, DESTDIR a folder above it for packagers.
+PREFIX = /usr/local
+
+all:
+	@./pbfcut --version
+
+check:
+	@tests/run
+
+prove:
+	@./pbfcut --prove
+
+install:
+	@DESTDIR='$(DESTDIR)' ./install '$(PREFIX)'
+
+uninstall:
+	@DESTDIR='$(DESTDIR)' ./install --uninstall '$(PREFIX)'
+
+.PHONY: all check prove install uninstall

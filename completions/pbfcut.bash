@@ -1,0 +1,45 @@
+# Completion for pbfcut and pbfcut-any in bash.
+
+_pbfcut_files() {
+  mapfile -t COMPREPLY < <(compgen -f -- "$1")
+  compopt -o filenames 2>/dev/null
+}
+
+_pbfcut_words() {
+  mapfile -t COMPREPLY < <(compgen -W "$2" -- "$1")
+  case ${COMPREPLY[0]-} in --box=) compopt -o nospace 2>/dev/null ;; esac
+}
+
+_pbfcut() {
+  local word=${COMP_WORDS[COMP_CWORD]} command=${COMP_WORDS[1]-}
+  if [ "$COMP_CWORD" -eq 1 ]; then
+    _pbfcut_words "$word" "extract convert check show blobs --help --version"
+    return
+  fi
+  case $command:$word in
+    extract:-*) _pbfcut_words "$word" "--box= --parents --progress --digests --help" ;;
+    convert:-* | check:-*) _pbfcut_words "$word" "--progress --digests --help" ;;
+    show:-*) _pbfcut_words "$word" "--dates --progress --help" ;;
+    blobs:-*) _pbfcut_words "$word" "--help" ;;
+    *) _pbfcut_files "$word" ;;
+  esac
+}
+
+_pbfcut_any() {
+  local word=${COMP_WORDS[COMP_CWORD]} command=${COMP_WORDS[1]-}
+  case $command:$word in
+    unpack:* | pack:*) _pbfcut_files "$word" ;;
+    *:-*) _pbfcut_words "$word" "--box= --parents --keep-raw --help" ;;
+    *)
+      _pbfcut_files "$word"
+      if [ "$COMP_CWORD" -eq 1 ]; then
+        local files=("${COMPREPLY[@]}")
+        _pbfcut_words "$word" "unpack pack"
+        COMPREPLY+=("${files[@]}")
+      fi
+      ;;
+  esac
+}
+
+complete -F _pbfcut pbfcut
+complete -F _pbfcut_any pbfcut-any

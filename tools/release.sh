@@ -1,0 +1,68 @@
+#!/usr/bin/env bash
+# Makes release/ of the program that the gate built, or an archive of a release.
+#
+# usage: tools/release.sh                    after a green `bash .ci/run`: packs its program into release/, and writes release/MANIFEST
+#        tools/release.sh --archive FOLDER   makes FOLDER/pbfcut-VERSION-x86_64-linux.tar.gz of release/, with SHA256SUMS beside it
+set -eu
+top=$(cd "$(dirname "$(readlink -f "${BASH_SOURCE[0]}")")/.." && pwd)
+cd "$top"
+. tools/program.sh
+
+fail() {
+  echo "tools/release.sh: $*" >&2
+  exit 1
+}
+
+# the newest version of glibc that a program asks for
+needed_glibc() {
+  objdump -T "$1" | grep -o 'GLIBC_[0-9.]*' | sort -Vu | tail -n 1 | cut -d _ -f 2
+}
+
+make_release() {
+  local sources version
+  sources=$(tools/sources.sh)
+  [ "$(cat "$built.sources" 2>/dev/null)" = "$sources" ] && [ -s "$built.gate" ] ||
+    fail "the program of these sources has not passed the gate here: run 'bash .ci/run' first"
+  [ -z "$(git status --porcelain -- crates crates.txt)" ] || fail "crates/ has changes that are not committed"
+  version=$("$built" --version)
+  mkdir -p release
+  gzip -9nc "$built" >"$packed"
+  {
+    echo "program: ${version%% (*}"
+    echo "sha256: $(digest_of "$built")"
+    echo "bytes: $(stat -c %s "$built")"
+    echo "sources: $sources"
+    echo "toolchain: $(rt version)"
+    echo "flags: none, so for x86-64-v2"
+    echo "needs: Linux on x86-64-v2, glibc $(needed_glibc "$built") or later"
+    echo "commit: $(git rev-parse HEAD)"
+    echo "date: $(date -u +%F)"
+    echo "gate: bash .ci/run: $(paste -sd ';' "$built.gate" | sed 's/;/; /g')"
+  } >"$manifest"
+  rm -f "$unpacked"
+  cat "$manifest"
+}
+
+make_archive() {
+  local version name folder
+  is_handed_over "$(tools/sources.sh)" || fail "release/ has the program of other sources"
+  version=$(manifest_value program | cut -d ' ' -f 2)
+  name=pbfcut-$version-x86_64-linux
+  folder=$(mktemp -d)
+  trap 'rm -rf "$folder"' EXIT
+  mkdir "$folder/$name"
+  unpack_to "$folder/$name/pbfcut" || fail "${packed#"$top"/} is not what MANIFEST says"
+  cp --parents -r install tools/pbfcut-any docs/pbfcut.1 docs/pbfcut-any.1 completions "$folder/$name"
+  cp "$manifest" README.md CHANGELOG.md "$folder/$name"
+  mkdir -p "$1"
+  # The same files make the same bytes.
+  tar --sort=name --owner=0 --group=0 --numeric-owner --mtime="$(manifest_value date)" -C "$folder" -c "$name" | gzip -9n >"$1/$name.tar.gz"
+  (cd "$1" && sha256sum "$name.tar.gz" >SHA256SUMS)
+  echo "$1/$name.tar.gz"
+}
+
+case $#:${1-} in
+  0:) make_release ;;
+  2:--archive) make_archive "$2" ;;
+  *) echo "usage: tools/release.sh [--archive FOLDER]" >&2 && exit 2 ;;
+esac
