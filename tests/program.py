@@ -668,6 +668,51 @@ def blocks_that_are_cut(bench: Bench):
                 bench.case(name, words, given=given, status=1, stderr=told("refused at 25: 43 EntityLarge"), out=b"")
 
 
+def ways_of(rows: list) -> bytes:
+    """A block of ways, each an id and two refs."""
+    return data(field(2, b"".join(field(3, scalar(1, number) + field(8, deltas([first, last]))) for number, first, last in rows)))
+
+
+def relations_of(rows: list, role: int, table: bytes) -> bytes:
+    """A block of relations, each an id and the id of its one member, a way."""
+    rest = field(10, b"\x01")
+    made = [field(4, scalar(1, number) + field(8, bytes([role])) + field(9, deltas([member])) + rest) for number, member in rows]
+    return data(field(2, b"".join(made)), table=table)
+
+
+def in_blocks(rows: list) -> list:
+    return [rows[begin:begin + 8000] for begin in range(0, len(rows), 8000)]
+
+
+def millions(bench: Bench):
+    """Some millions of entities, made by a rule, so that what is cut out of them is made by another. Of each 16,000 nodes the first 8,000 lie in
+    the box and the others outside. 4,000 ways go from a node inside to one outside, and 4,000 have only nodes outside that no other way has;
+    half of the relations have a way of the first sort."""
+    parts, far = 101, 20_000_000
+    given, nodes, ways, relations = [EMPTY_HEADER], [], [], []
+    for part in range(parts):
+        inside, outside, way_ids = 16_000 * part + 1, 16_000 * part + 8_001, 8_000 * part + 1
+        for begin, lon in [(inside, 0), (outside, far)]:
+            given.append(data(dense(list(range(begin, begin + 8000)), [0] * 8000, [lon] * 8000)))
+        nodes += [(number, 0) for number in range(inside, outside)] + [(number, far) for number in range(outside, outside + 4000)]
+        ways.append([(way_ids + i, inside + i, outside + i) for i in range(4000)])
+        ways.append([(way_ids + 4000 + i, outside + 4000 + i, outside + 4000 + i) for i in range(4000)])
+        relations.append([(4000 * part + i, way_ids + i) for i in range(2000)])
+        relations.append([(4000 * part + 2000 + i, way_ids + 4000 + i) for i in range(2000)])
+    given += [ways_of(rows) for rows in ways]
+    given += [relations_of(rows, 0, b"\x0a\x00") for rows in relations]
+    kept_ways, kept_relations = sum(ways[::2], []), sum(relations[::2], [])
+    out = [BOX_HEADER]
+    out += [data(dense([number for number, _ in rows], [0] * len(rows), [lon for _, lon in rows])) for rows in in_blocks(nodes)]
+    out += [ways_of(rows) for rows in in_blocks(kept_ways)]
+    out += [relations_of(rows, 1, b"\x0a\x00\x0a\x00") for rows in in_blocks(kept_relations)]
+    given, wanted = b"".join(given), hashlib.sha256(b"".join(out)).digest()
+    bench.case("check of millions", ["check", "in"], given=given, stdout=counted(16_000 * parts, 8_000 * parts, 4_000 * parts))
+    for words in [[], ["--parents"]]:
+        bench.case(f"extract {words} of millions", ["extract", *words, BOX, "in", "out"], given=given, kept=["in"],
+                   stdout=counted(12_000 * parts, 4_000 * parts, 2_000 * parts), out=lambda found: hashlib.sha256(found).digest() == wanted)
+
+
 def parents(bench: Bench, cuts):
     given = EMPTY_HEADER + NODE_IN_BOX + TWO_RELATIONS
     cuts("two relations, one in the other", given, (1, 0, 2), BOX_HEADER + NODE_IN_BOX + TWO_RELATIONS_CUT, "--parents")
@@ -727,7 +772,7 @@ def main():
     try:
         bench = Bench(program, folder)
         for part in [words_of_all_kinds, boxes, progress, digests, files_that_cannot_be, files_that_change, files_that_are_refused,
-                     files_that_are_accepted, extracts, conversions, sample]:
+                     files_that_are_accepted, extracts, conversions, sample, millions]:
             part(bench)
     finally:
         shutil.rmtree(folder)
