@@ -2,11 +2,13 @@
 #![tactic(auto)]
 
 mod files;
+mod hints;
 mod output;
 mod progress;
 mod readers;
 mod writers;
 
+use hints::{Asked, tell_hint, tell_order};
 use output::print_help;
 use pbf_frame::Stop;
 use pbfcut_cli::{Command, Ending, join_box, read_words, status};
@@ -31,9 +33,9 @@ fn words(rt: &HostRuntime) -> Result<Vec<String>, Ending> {
     Ok(words)
 }
 
-/// Does what the words ask for.
-fn run(rt: &HostRuntime, words: &[&str]) -> Result<(), Ending> {
-    match read_words(rt.alloc(), words)? {
+/// Does what a command asks for.
+fn run(rt: &HostRuntime, command: Command<'_>) -> Result<(), Ending> {
+    match command {
         Command::Help(text) => print_help(rt, text.as_str()),
         Command::Blobs { input } => run_blobs(rt, input),
         Command::Show {
@@ -83,7 +85,8 @@ fn run(rt: &HostRuntime, words: &[&str]) -> Result<(), Ending> {
     }
 }
 
-fn work(rt: &HostRuntime) -> Result<(), Ending> {
+/// Reads the words, does what they ask for, and reports how it ended. Answers the exit status, or why the words are no command.
+fn work(rt: &HostRuntime) -> Result<u8, Ending> {
     let words = words(rt)?;
     let joined = join_box(rt.alloc(), words.as_slice())?;
     let mut texts = Vec::new(rt.alloc());
@@ -92,7 +95,16 @@ fn work(rt: &HostRuntime) -> Result<(), Ending> {
             return Err(Ending::Stopped(Stop::Memory));
         }
     }
-    run(rt, texts.as_slice())
+    let command = read_words(rt.alloc(), texts.as_slice())?;
+    let asked = Asked::of(&command);
+    match run(rt, command) {
+        Ok(()) => Ok(0),
+        Err(ending) => {
+            let status = tell(rt, &ending);
+            tell_hint(rt, asked, &ending);
+            Ok(status)
+        }
+    }
 }
 
 /// Writes the ending's text to standard error, and answers the exit status. Where the text can't be written, nothing more can
@@ -111,8 +123,15 @@ fn tell(rt: &HostRuntime, ending: &Ending) -> u8 {
 }
 
 fn main(rt: HostRuntime) -> ExitCode {
-    match work(&rt) {
-        Ok(()) => ExitCode::SUCCESS,
-        Err(ending) => ExitCode::from(tell(&rt, &ending)),
-    }
+    let status = match work(&rt) {
+        Ok(status) => status,
+        Err(ending) => {
+            let status = tell(&rt, &ending);
+            if matches!(&ending, Ending::Box(_)) {
+                tell_order(&rt);
+            }
+            status
+        }
+    };
+    ExitCode::from(status)
 }

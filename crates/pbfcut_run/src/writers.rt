@@ -2,6 +2,7 @@
 //! opened once for each pass, and there is a seed.
 
 use crate::files::{create_output, open_pass, refuse_existing};
+use crate::hints::tell_empty;
 use crate::output::{print_counts, print_digest, report_refusal};
 use crate::progress::{Watched, end_line};
 use osm_entity::BoundingBox;
@@ -70,13 +71,13 @@ fn receipted(outcome: Result<Receipt, Halt>) -> Result<Report, Halt> {
     Ok(Report::Receipted(outcome?))
 }
 
-/// Writes to OUT what is left in its buffer, also after a stop, and prints after none what the call reports.
+/// Writes to OUT what is left in its buffer, also after a stop, and prints after none what the call reports. Answers the counts.
 fn end(
     rt: &HostRuntime,
     files: Files<'_>,
     file: &mut BufWriter<File>,
     outcome: Result<Report, Halt>,
-) -> Result<(), Ending> {
+) -> Result<Counts, Ending> {
     end_line(rt, files.progress);
     let flushed = file.flush();
     let report = match outcome {
@@ -92,11 +93,15 @@ fn end(
         return Err(Ending::Stopped(Stop::Write));
     }
     match report {
-        Report::Counted(counts) => print_counts(rt, counts),
+        Report::Counted(counts) => {
+            print_counts(rt, counts)?;
+            Ok(counts)
+        }
         Report::Receipted(receipt) => {
             print_counts(rt, receipt.counts)?;
             print_digest(rt, receipt.input, files.input)?;
-            print_digest(rt, receipt.output, files.output)
+            print_digest(rt, receipt.output, files.output)?;
+            Ok(receipt.counts)
         }
     }
 }
@@ -115,7 +120,8 @@ pub(crate) fn run_convert(rt: &HostRuntime, files: Files<'_>) -> Result<(), Endi
     } else {
         counted(convert(alloc, &mut first, &mut second, drain, hasher))
     };
-    end(rt, files, &mut file, outcome)
+    end(rt, files, &mut file, outcome)?;
+    Ok(())
 }
 
 /// `extract [--progress] [--digests] --box=L,B,R,T IN OUT`.
@@ -136,7 +142,8 @@ pub(crate) fn run_extract(
     } else {
         counted(extract(alloc, one, two, three, area, drain, hasher))
     };
-    end(rt, files, &mut file, outcome)
+    tell_empty(rt, end(rt, files, &mut file, outcome)?);
+    Ok(())
 }
 
 /// `extract --parents [--progress] [--digests] --box=L,B,R,T IN OUT`.
@@ -158,5 +165,6 @@ pub(crate) fn run_extract_parents(
     } else {
         counted(extract_parents(alloc, one, two, three, four, area, drain, hasher))
     };
-    end(rt, files, &mut file, outcome)
+    tell_empty(rt, end(rt, files, &mut file, outcome)?);
+    Ok(())
 }

@@ -1,0 +1,232 @@
+//! The line below pbfcut's own that says what to do next. It is for people, so it is written where standard error is a terminal, and
+//! nowhere else; IN is read again for it only if it is a plain file.
+
+use pbf_frame::Stop;
+use pbf_wire::{Fault, Reason};
+use pbfcut::Counts;
+use pbfcut_cli::{Command, Ending};
+use std::fs::{self, File};
+use std::io::{self, IsTerminal, Read, Seek, SeekFrom};
+
+/// How many bytes of IN are read to see what it is.
+const GLANCE: usize = 96;
+
+/// The files that a command names, and whether it is `extract`.
+#[derive(Clone, Copy)]
+pub(crate) struct Asked<'a> {
+    input: &'a str,
+    output: Option<&'a str>,
+    cuts: bool,
+}
+
+impl<'a> Asked<'a> {
+    /// What a command asks for, if it asks for more than help.
+    pub(crate) fn of(command: &Command<'a>) -> Option<Asked<'a>> {
+        let (input, output, cuts) = match command {
+            Command::Help(_) => return None,
+            Command::Blobs { input } => (*input, None, false),
+            Command::Show { input, .. } => (*input, None, false),
+            Command::Check { input, .. } => (*input, None, false),
+            Command::Convert { input, output, .. } => (*input, Some(*output), false),
+            Command::Extract { input, output, .. } => (*input, Some(*output), true),
+        };
+        Some(Asked {
+            input,
+            output,
+            cuts,
+        })
+    }
+}
+
+fn text(rt: &HostRuntime, hint: &str) -> Option<String> {
+    String::from_str(rt.alloc(), hint).ok()
+}
+
+/// Up to so many bytes of IN from this place on, if it is a plain file.
+fn glance(rt: &HostRuntime, input: &str, offset: u64) -> Option<Vec<u8>> {
+    if !fs::metadata(rt, input).ok()?.is_file() {
+        return None;
+    }
+    let mut file = File::open(rt, input).ok()?;
+    file.seek(SeekFrom::Start(offset)).ok()?;
+    let mut seen = Vec::new(rt.alloc());
+    file.take(GLANCE as u64).read_to_end(&mut seen).ok()?;
+    Some(seen)
+}
+
+/// Whether the bytes begin a line of OPL: a letter and a number.
+fn is_opl(start: &[u8]) -> bool {
+    match (start.first(), start.get(1)) {
+        (Some(kind), Some(digit)) => b"nwrc".contains(kind) && digit.is_ascii_digit(),
+        _ => false,
+    }
+}
+
+/// What a file is that begins so, if Osmium can read it.
+fn other_format(start: &[u8]) -> Option<&'static str> {
+    if start.starts_with(b"BZh") {
+        Some("compressed as a whole, by bzip2")
+    } else if start.starts_with(&[0x1f, 0x8b]) {
+        Some("compressed as a whole, by gzip")
+    } else if start.starts_with(b"<?xml") || start.starts_with(b"<osm") {
+        Some("an XML file")
+    } else if start.starts_with(&[0xff, 0xe0, 0x04]) {
+        Some("an o5m file")
+    } else if is_opl(start) {
+        Some("an OPL file")
+    } else {
+        None
+    }
+}
+
+/// What to do with a file that does not begin as a PBF file does.
+fn of_start(rt: &HostRuntime, start: &[u8]) -> Option<String> {
+    match other_format(start) {
+        Some(what) => format!(in rt.alloc();
+            "IN is {what}; this makes a raw PBF file of it: osmium cat IN -f pbf,pbf_compression=none -o RAW"
+        ).ok(),
+        None if start.starts_with(b"<") => {
+            text(
+                rt,
+                "IN is a web page: the download failed, so fetch the file again",
+            )
+        }
+        None => text(rt, "IN does not begin as a PBF file does"),
+    }
+}
+
+/// The feature at the beginning of these bytes, which are those of a header's field: its tag, its length and its text.
+fn feature_of(bytes: &[u8]) -> Option<&str> {
+    let (_tag, rest) = bytes.split_first()?;
+    let (length, rest) = rest.split_first()?;
+    let feature = rest.get(..*length as usize)?;
+    if feature.iter().all(|byte| byte.is_ascii_graphic()) {
+        str::from_utf8(feature).ok()
+    } else {
+        None
+    }
+}
+
+/// What to do with a file that requires what pbfcut does not know.
+fn of_feature(rt: &HostRuntime, bytes: &[u8]) -> Option<String> {
+    let feature = feature_of(bytes)?;
+    if feature == "HistoricalInformation" {
+        return text(
+            rt,
+            "IN has history; this takes the state of now out of it: osmium time-filter IN -o NOW.osm.pbf",
+        );
+    }
+    format!(in rt.alloc(); "IN requires the feature {feature}, which pbfcut does not know").ok()
+}
+
+/// What to do with a file that is refused for this fault.
+fn of_fault(rt: &HostRuntime, asked: Asked<'_>, fault: &Fault) -> Option<String> {
+    match fault.reason {
+        Reason::Zlib | Reason::Lzma | Reason::Bzip2 if asked.cuts => {
+            text(
+                rt,
+                "IN is compressed; this cuts it: pbfcut-any --box=BOX IN OUT",
+            )
+        }
+        Reason::Zlib | Reason::Lzma | Reason::Bzip2 => {
+            text(
+                rt,
+                "IN is compressed; this makes a raw file of it: pbfcut-any unpack IN RAW",
+            )
+        }
+        Reason::Lz4 | Reason::Zstd => text(
+            rt,
+            "IN is compressed; this makes a raw file of it: osmium cat IN -f pbf,pbf_compression=none -o RAW",
+        ),
+        Reason::PrefixCut | Reason::HeaderCut | Reason::BlobCut => {
+            text(
+                rt,
+                "IN ends too early, most often because a download broke off: fetch it again",
+            )
+        }
+        Reason::HeaderLong if fault.offset == 0 => {
+            of_start(rt, glance(rt, asked.input, 0)?.as_slice())
+        }
+        Reason::Feature => of_feature(rt, glance(rt, asked.input, fault.offset)?.as_slice()),
+        _ => None,
+    }
+}
+
+/// Why IN cannot be read, as the system says it. A pipe is not opened again.
+fn reason_of_input(rt: &HostRuntime, input: &str) -> Option<io::Error> {
+    match fs::metadata(rt, input) {
+        Err(error) => Some(error),
+        Ok(metadata) if metadata.is_file() => File::open(rt, input).err(),
+        Ok(_) => None,
+    }
+}
+
+/// Which file could not be opened, and the system's reason.
+fn of_files(rt: &HostRuntime, asked: Asked<'_>) -> Option<String> {
+    let input = asked.input;
+    if let Some(error) = reason_of_input(rt, input) {
+        return format!(in rt.alloc(); "{input}: {error}").ok();
+    }
+    let output = asked.output?;
+    format!(in rt.alloc();
+        "{output} cannot be made: is its folder there, and may it be written to?"
+    ).ok()
+}
+
+/// What to do next after a run that ended so.
+fn hint(rt: &HostRuntime, asked: Asked<'_>, ending: &Ending) -> Option<String> {
+    match ending {
+        Ending::Words(_) | Ending::NotText | Ending::Box(_) => None,
+        Ending::CannotOpen => of_files(rt, asked),
+        Ending::OutExists => text(
+            rt,
+            "pbfcut writes new files only: remove OUT, or name another",
+        ),
+        Ending::Stopped(Stop::Refused(fault)) => of_fault(rt, asked, fault),
+        Ending::Stopped(Stop::Changed(_)) => text(
+            rt,
+            "something wrote to IN meanwhile, or IN is a pipe: copy it to a file that stays the same",
+        ),
+        Ending::Stopped(Stop::Memory) if asked.cuts => {
+            text(rt, "a smaller box takes less memory")
+        }
+        Ending::Stopped(_) => None,
+    }
+}
+
+/// Writes the line below that of an ending, on a terminal.
+pub(crate) fn tell_hint(rt: &HostRuntime, asked: Option<Asked<'_>>, ending: &Ending) {
+    if !rt.stderr().is_terminal() {
+        return;
+    }
+    let hint = match asked {
+        Some(asked) => hint(rt, asked, ending),
+        None => None,
+    };
+    if let Some(hint) = hint {
+        let _ = eprintln!(rt; "hint: {hint}");
+    }
+}
+
+/// Says what the order of a box is, on a terminal.
+pub(crate) fn tell_order(rt: &HostRuntime) {
+    if rt.stderr().is_terminal() {
+        let _ = eprintln!(rt;
+            "hint: the box is west,south,east,north in degrees, as --box=-0.5,51.25,0.3,51.7"
+        );
+    }
+}
+
+/// Says on a terminal that an extract is empty.
+pub(crate) fn tell_empty(rt: &HostRuntime, counts: Counts) {
+    let Counts {
+        nodes,
+        ways,
+        relations,
+    } = counts;
+    if nodes == 0 && ways == 0 && relations == 0 && rt.stderr().is_terminal() {
+        let _ = eprintln!(rt;
+            "hint: no node of IN lies in the box, which is west,south,east,north"
+        );
+    }
+}
