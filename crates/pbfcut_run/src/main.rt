@@ -1,17 +1,12 @@
 //! The program: reads its words, opens the files, runs the engine and reports how it ended.
 #![tactic(auto)]
 
-mod files;
-mod hints;
-mod output;
-mod progress;
 mod readers;
 mod writers;
 
-use hints::{Asked, tell_hint, tell_order};
-use output::print_help;
 use pbf_frame::Stop;
 use pbfcut_cli::{Command, Ending, join_box, read_words, status};
+use pbfcut_files::{Asked, print_help, tell_hint, tell_order};
 use readers::{run_blobs, run_check, run_show};
 use std::process::ExitCode;
 use std::{env, io};

@@ -1,11 +1,11 @@
 //! The commands that write no file: `blobs`, `show` and `check`.
 
-use crate::files::{OUTPUT_BUFFER, open_input, open_pass};
-use crate::output::{print_counts, print_digest, report_refusal};
-use crate::progress::end_line;
 use pbf_frame::{Stop, ToWrite};
 use pbfcut::{check_with_receipt, list_blobs, show};
 use pbfcut_cli::Ending;
+use pbfcut_files::{
+    OUTPUT_BUFFER, end_line, open_input, open_pass, print_counts, print_digest, report_refusal,
+};
 use std::io::{BufWriter, Write};
 
 /// `blobs IN`: the lines go to standard output through a buffer. They are written also where the file is refused; a line

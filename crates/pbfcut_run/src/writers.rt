@@ -1,10 +1,6 @@
 //! The commands that write a file: `convert` and `extract`. Before anything is written it is settled that OUT is new, IN is
 //! opened once for each pass, and there is a seed.
 
-use crate::files::{create_output, open_pass, refuse_existing};
-use crate::hints::tell_empty;
-use crate::output::{print_counts, print_digest, report_refusal};
-use crate::progress::{Watched, end_line};
 use osm_entity::BoundingBox;
 use pbf_frame::{FromRead, Stop, ToWrite};
 use pbfcut::{
@@ -12,6 +8,10 @@ use pbfcut::{
     extract_parents_with_receipt, extract_with_receipt,
 };
 use pbfcut_cli::Ending;
+use pbfcut_files::{
+    Watched, create_output, end_line, open_pass, print_counts, print_digest, refuse_existing,
+    report_refusal, tell_empty,
+};
 use std::fs::File;
 use std::hash::RandomState;
 use std::io::{BufWriter, Write};

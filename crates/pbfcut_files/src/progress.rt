@@ -9,7 +9,7 @@ const MEGABYTE: u64 = 1_000_000;
 
 /// The line of progress of one pass.
 #[derive(Drop)]
-pub(crate) struct Line {
+pub struct Line {
     alloc: Global,
     screen: Stderr,
     pass: u8,
@@ -24,7 +24,7 @@ pub(crate) struct Line {
 
 impl Line {
     /// A line that is not shown yet.
-    pub(crate) fn new(rt: &HostRuntime, pass: u8, passes: u8, length: u64) -> Line {
+    pub fn new(rt: &HostRuntime, pass: u8, passes: u8, length: u64) -> Line {
         Line {
             alloc: rt.alloc(),
             screen: rt.stderr(),
@@ -67,7 +67,7 @@ impl Line {
 }
 
 /// Ends the line of the last pass, where there is one.
-pub(crate) fn end_line(rt: &HostRuntime, progress: bool) {
+pub fn end_line(rt: &HostRuntime, progress: bool) {
     if progress {
         let _ = eprintln!(rt; "");
     }
@@ -75,13 +75,13 @@ pub(crate) fn end_line(rt: &HostRuntime, progress: bool) {
 
 /// A feed that reports what is read of it, where there is a line for it.
 #[derive(Drop)]
-pub(crate) struct Watched<F> {
+pub struct Watched<F> {
     feed: F,
     line: Option<Line>,
 }
 
 impl<F: Feed> Watched<F> {
-    pub(crate) fn new(feed: F, line: Option<Line>) -> Watched<F> {
+    pub fn new(feed: F, line: Option<Line>) -> Watched<F> {
         Watched { feed, line }
     }
 }

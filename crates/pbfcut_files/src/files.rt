@@ -7,10 +7,10 @@ use std::fs::{File, OpenOptions};
 use std::io::BufWriter;
 
 /// The length of the buffer in front of OUT and of standard output.
-pub(crate) const OUTPUT_BUFFER: usize = 65_536;
+pub const OUTPUT_BUFFER: usize = 65_536;
 
 /// Opens IN for the one pass of `blobs`.
-pub(crate) fn open_input(rt: &HostRuntime, input: &str) -> Result<FromRead<File>, Ending> {
+pub fn open_input(rt: &HostRuntime, input: &str) -> Result<FromRead<File>, Ending> {
     match File::open(rt, input) {
         Ok(file) => Ok(FromRead::new(file)),
         Err(_) => Err(Ending::CannotOpen),
@@ -26,7 +26,7 @@ fn length_of(file: &File) -> u64 {
 }
 
 /// Opens IN for this pass of so many, and with `progress` reports how much of it was read.
-pub(crate) fn open_pass(
+pub fn open_pass(
     rt: &HostRuntime,
     input: &str,
     progress: bool,
@@ -45,7 +45,7 @@ pub(crate) fn open_pass(
 }
 
 /// Refuses an OUT that can be opened for reading.
-pub(crate) fn refuse_existing(rt: &HostRuntime, output: &str) -> Result<(), Ending> {
+pub fn refuse_existing(rt: &HostRuntime, output: &str) -> Result<(), Ending> {
     if File::open(rt, output).is_ok() {
         return Err(Ending::OutExists);
     }
@@ -53,7 +53,7 @@ pub(crate) fn refuse_existing(rt: &HostRuntime, output: &str) -> Result<(), Endi
 }
 
 /// Makes OUT and a buffer in front of it. A file that is there is never opened, so none is ever emptied.
-pub(crate) fn create_output(rt: &HostRuntime, output: &str) -> Result<BufWriter<File>, Ending> {
+pub fn create_output(rt: &HostRuntime, output: &str) -> Result<BufWriter<File>, Ending> {
     let created = OpenOptions::new()
         .write(true)
         .create_new(true)

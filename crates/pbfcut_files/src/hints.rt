@@ -2,8 +2,8 @@
 //! nowhere else; IN is read again for it only if it is a plain file.
 
 use pbf_frame::Stop;
+use pbf_pass::Counts;
 use pbf_wire::{Fault, Reason};
-use pbfcut::Counts;
 use pbfcut_cli::{Command, Ending};
 use std::fs::{self, File};
 use std::io::{self, IsTerminal, Read, Seek, SeekFrom};
@@ -13,7 +13,7 @@ const GLANCE: usize = 96;
 
 /// The files that a command names, and whether it is `extract`.
 #[derive(Clone, Copy)]
-pub(crate) struct Asked<'a> {
+pub struct Asked<'a> {
     input: &'a str,
     output: Option<&'a str>,
     cuts: bool,
@@ -21,7 +21,7 @@ pub(crate) struct Asked<'a> {
 
 impl<'a> Asked<'a> {
     /// What a command asks for, if it asks for more than help.
-    pub(crate) fn of(command: &Command<'a>) -> Option<Asked<'a>> {
+    pub fn of(command: &Command<'a>) -> Option<Asked<'a>> {
         let (input, output, cuts) = match command {
             Command::Help(_) => return None,
             Command::Blobs { input } => (*input, None, false),
@@ -195,7 +195,7 @@ fn hint(rt: &HostRuntime, asked: Asked<'_>, ending: &Ending) -> Option<String> {
 }
 
 /// Writes the line below that of an ending, on a terminal.
-pub(crate) fn tell_hint(rt: &HostRuntime, asked: Option<Asked<'_>>, ending: &Ending) {
+pub fn tell_hint(rt: &HostRuntime, asked: Option<Asked<'_>>, ending: &Ending) {
     if !rt.stderr().is_terminal() {
         return;
     }
@@ -209,7 +209,7 @@ pub(crate) fn tell_hint(rt: &HostRuntime, asked: Option<Asked<'_>>, ending: &End
 }
 
 /// Says what the order of a box is, on a terminal.
-pub(crate) fn tell_order(rt: &HostRuntime) {
+pub fn tell_order(rt: &HostRuntime) {
     if rt.stderr().is_terminal() {
         let _ = eprintln!(rt;
             "hint: the box is west,south,east,north in degrees, as --box=-0.5,51.25,0.3,51.7"
@@ -218,7 +218,7 @@ pub(crate) fn tell_order(rt: &HostRuntime) {
 }
 
 /// Says on a terminal that an extract is empty.
-pub(crate) fn tell_empty(rt: &HostRuntime, counts: Counts) {
+pub fn tell_empty(rt: &HostRuntime, counts: Counts) {
     let Counts {
         nodes,
         ways,

@@ -2,12 +2,12 @@
 
 use osm_text::put_digest_line;
 use pbf_frame::Stop;
-use pbfcut::{Counts, Halt};
+use pbf_pass::{Counts, Halt};
 use pbfcut_cli::Ending;
 use std::io::Write;
 
 /// Prints the line of counts.
-pub(crate) fn print_counts(rt: &HostRuntime, counts: Counts) -> Result<(), Ending> {
+pub fn print_counts(rt: &HostRuntime, counts: Counts) -> Result<(), Ending> {
     let Counts {
         nodes,
         ways,
@@ -20,7 +20,7 @@ pub(crate) fn print_counts(rt: &HostRuntime, counts: Counts) -> Result<(), Endin
 }
 
 /// Prints the line of a file and its digest, as `sha256sum` does.
-pub(crate) fn print_digest(rt: &HostRuntime, digest: [u8; 32], path: &str) -> Result<(), Ending> {
+pub fn print_digest(rt: &HostRuntime, digest: [u8; 32], path: &str) -> Result<(), Ending> {
     let mut line = Vec::new(rt.alloc());
     if put_digest_line(&mut line, &digest, path.as_bytes()).is_err() {
         return Err(Ending::Stopped(Stop::Memory));
@@ -34,7 +34,7 @@ pub(crate) fn print_digest(rt: &HostRuntime, digest: [u8; 32], path: &str) -> Re
 
 /// Reports to standard error, where IN is refused, how many of its bytes were read, and their digest. The fault is the first of every
 /// file that begins with these bytes; or IN ended there, and it is the first of the file that has these bytes and no more.
-pub(crate) fn report_refusal(rt: &HostRuntime, halt: &Halt, input: &str) -> Result<(), Ending> {
+pub fn report_refusal(rt: &HostRuntime, halt: &Halt, input: &str) -> Result<(), Ending> {
     let Halt::Refused(refusal) = halt else {
         return Ok(());
     };
@@ -52,7 +52,7 @@ pub(crate) fn report_refusal(rt: &HostRuntime, halt: &Halt, input: &str) -> Resu
 }
 
 /// Prints a text of help, which has its line ends.
-pub(crate) fn print_help(rt: &HostRuntime, text: &str) -> Result<(), Ending> {
+pub fn print_help(rt: &HostRuntime, text: &str) -> Result<(), Ending> {
     if print!(rt; "{text}").is_err() {
         return Err(Ending::Stopped(Stop::Write));
     }

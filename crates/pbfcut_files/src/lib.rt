@@ -1,0 +1,12 @@
+//! What the program does with files and a terminal: IN and OUT, counts and digests, the report of progress, and hints.
+#![tactic(auto)]
+
+mod files;
+mod hints;
+mod output;
+mod progress;
+
+pub use files::{OUTPUT_BUFFER, create_output, open_input, open_pass, refuse_existing};
+pub use hints::{Asked, tell_empty, tell_hint, tell_order};
+pub use output::{print_counts, print_digest, print_help, report_refusal};
+pub use progress::{Line, Watched, end_line};
