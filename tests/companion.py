@@ -200,7 +200,7 @@ def failures(bench: Bench):
 def kills(bench: Bench):
     """A run that is stopped while pbfcut works: nothing is left, but for signal 9, which leaves its folder."""
     bench.write("fake", b"#!/bin/sh\n[ \"$1\" = --help ] && exit 0\n[ \"$4\" = /dev/null ] && exit 3\n"
-                        b"echo begun >begun\nexec sleep 60\n")
+                        b"echo begun >'" + os.fsencode(bench.path("begun")) + b"'\nexec sleep 60\n")
     os.chmod(bench.path("fake"), 0o755)
     before = set(os.listdir(bench.folder))
     for number in [signal.SIGTERM, signal.SIGINT, signal.SIGHUP, signal.SIGKILL]:
