@@ -33,8 +33,8 @@ ENDS = [signal.SIGTERM, signal.SIGINT, signal.SIGHUP, signal.SIGQUIT]
 SECONDS = 120
 PAYLOAD_LIMIT = 33_554_432
 
-# a pbfcut that begins and goes on for a minute; the file that it makes says that it has begun
-SLEEPER = "#!/bin/sh\n[ \"$1\" = --help ] && exit 0\n[ \"$4\" = /dev/null ] && exit 3\necho $$ >'{}'\nexec sleep 60\n"
+# a pbfcut that begins and goes on for ten minutes; the file that it makes says that it has begun
+SLEEPER = "#!/bin/sh\n[ \"$1\" = --help ] && exit 0\n[ \"$4\" = /dev/null ] && exit 3\necho $$ >'{}'\nexec sleep 600\n"
 
 # the packed forms of a blob: the number of the field, and how its bytes are made
 METHODS = {"zlib": (3, zlib.compress), "lzma": (4, lambda payload: lzma.compress(payload, lzma.FORMAT_ALONE)),
@@ -520,6 +520,15 @@ def outputs(bench: Bench):
         found = bench.shell(f"exec \"$@\" {way}", [BOX, "bad", "other"])
         expect(f"{way}: a refusal", (1, False), (found.returncode, os.path.exists(bench.path("other"))))
         os.unlink(bench.path("out"))
+    # a pbfcut that prints something on standard error: where that is closed, it doesn't come into the file that is opened next
+    bench.write_script("noted", f"#!{sys.executable} -S\nimport os, sys\nsys.exit(0) if sys.argv[1] == '--help' else None\n"
+                                "try:\n    out = os.open(sys.argv[-1], os.O_WRONLY | os.O_CREAT | os.O_EXCL)\nexcept OSError:\n"
+                                "    sys.exit(3)\ntry:\n    os.write(2, b'note')\nexcept OSError:\n    pass\n"
+                                f"os.write(out, open({bench.path('direct')!r}, 'rb').read())\nprint('counts')\n")
+    bench.count += 1
+    found = bench.shell("PBFCUT=./noted exec \"$@\" 2>&-", [BOX, "zlib.osm.pbf", "out"])
+    expect("a note on a closed standard error", (0, b"counts\n", before), (found.returncode, found.stdout, bench.read("out")))
+    os.unlink(bench.path("out"))
     bench.count += 1
     found = bench.shell("exec \"$@\" >&- 2>&-", [BOX, "zlib.osm.pbf", "out"])
     expect("both closed: status and OUT", (3, before), (found.returncode, bench.read("out")))
@@ -541,7 +550,7 @@ def failures(bench: Bench):
                                    f"for OUT; do :; done\necho part >\"$OUT\"\necho told >&2\nexit {status}\n")
         bench.case(f"a pbfcut that ends with {status}", [BOX, "zlib.osm.pbf", "out"], status=status, parts=("told",),
                    program=bench.path("fake"))
-    bench.write_script("fake", SLEEPER.format(bench.path("begun")).replace("exec sleep 60", "kill -SEGV $$"))
+    bench.write_script("fake", SLEEPER.format(bench.path("begun")).replace("exec sleep 600", "kill -SEGV $$"))
     bench.case("a pbfcut that a signal ends", [BOX, "zlib.osm.pbf", "out"], status=139, parts=("pbfcut was stopped by SIGSEGV",),
                program=bench.path("fake"), left=("begun",))
     os.unlink(bench.path("begun"))
@@ -559,8 +568,8 @@ def processes_of(session: int) -> list:
     return found
 
 
-def until(condition) -> bool:
-    for _ in range(SECONDS * 100):
+def until(condition, seconds: int = SECONDS) -> bool:
+    for _ in range(seconds * 100):
         if condition():
             return True
         time.sleep(0.01)
@@ -571,16 +580,19 @@ def kills(bench: Bench):
     """A run that is stopped while pbfcut works, by one signal or several: nothing is left and nothing goes on, but for signal 9,
     which leaves its folder."""
     bench.write_script("fake", SLEEPER.format(bench.path("begun")))
+    # as ./pbfcut, which may still build the program: it has a process below it
+    bench.write_script("family", SLEEPER.format(bench.path("begun")).replace("exec", "sleep 600 &\nexec"))
     before = set(os.listdir(bench.folder))
     for numbers in [*([number] for number in [*ENDS, signal.SIGXCPU, signal.SIGUSR1]), [signal.SIGTERM] * 3, [signal.SIGINT, signal.SIGQUIT, signal.SIGTERM], [signal.SIGKILL]]:
         bench.count += 1
-        process = bench.start([BOX, "zlib.osm.pbf", "out"], program=bench.path("fake"), start_new_session=True)
+        program = bench.path("fake" if numbers == [signal.SIGKILL] else "family")
+        process = bench.start([BOX, "zlib.osm.pbf", "out"], program=program, start_new_session=True)
         expect("pbfcut begins", True, until(lambda: os.path.exists(bench.path("begun"))))
         os.unlink(bench.path("begun"))
         for number in numbers:
             process.send_signal(number)
         _, errors = process.communicate(timeout=SECONDS)
-        expect(f"processes after {numbers}", True, until(lambda: not processes_of(process.pid)))
+        expect(f"processes after {numbers}", True, until(lambda: not processes_of(process.pid), 20))
         left = set(os.listdir(bench.folder)) - before
         if numbers == [signal.SIGKILL]:
             expect("status after signal 9", -9, process.returncode)
@@ -631,7 +643,7 @@ def random_signals(bench: Bench):
             # before the interpreter comes to the companion, a signal ends it as it ends any process
             if process.returncode not in (-number for number in numbers):
                 expect(name, lines.get(process.returncode), errors)
-        expect(f"{name}: processes", True, until(lambda: not processes_of(process.pid)))
+        expect(f"{name}: processes", True, until(lambda: not processes_of(process.pid), 20))
     expect(f"runs that ended, and that were stopped: {results}", True, all(results.values()))
     bench.count += 1
     ignored = bench.shell("trap '' HUP TERM; \"$@\" & sleep 0.1; kill -HUP $!; kill -TERM $!; wait $!", words)
