@@ -1,6 +1,6 @@
 //! What no clause of `check` says: the format's own examples, and devices and memory that fail.
 
-use crate::tests::{HEADER_ALONE, THREE_DENSE_NODES};
+use crate::blobs::{HEADER_ALONE, THREE_DENSE_NODES};
 use pbf_frame::{Pieces, Stop};
 use pbf_wire::{Fault, Reason};
 use pbfcut::{Counts, check};

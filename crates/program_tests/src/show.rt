@@ -1,8 +1,8 @@
 //! What no clause of `show` says: the format's own examples, texts and times as they are printed, feeds that differ, and
 //! devices and memory that fail.
 
-use crate::check_tests::counts;
-use crate::tests::{HEADER_ALONE, THREE_DENSE_NODES};
+use crate::check::counts;
+use crate::blobs::{HEADER_ALONE, THREE_DENSE_NODES};
 use osm_entity::{EntityRef, MetaRef, NodeRef, OwnedTags, Scale, Tags};
 use pbf_frame::{Pieces, Sink, Stop};
 use pbf_wire::{Fault, Reason};
