@@ -1,66 +1,14 @@
-//! What no clause says: that a payload is read where there is memory, and is refused in each phase. Which fault a payload has is said of
-//! many by the laws of `pbf_examples`.
+//! What no clause says: that a payload is read where there is memory, and the heaviest entities. Which fault a payload has is said of
+//! many by the laws of `pbf_examples`, and shown by the cases of `pbf_vectors`.
 
 use osm_entity::{EntityRef, WayRef};
 use pbf_block::Block;
 use pbf_wire::{Fault, ReadFault, Reason, put_bytes};
 use std::alloc::{AllocError, Global};
-use std::process::Abort;
 use std::test::Fail;
 
 /// Where the payload of these tests stands in its file: after a header's frame of 19 bytes, and 17 bytes of its own frame.
 const PLACE: u64 = 36;
-
-/// What is wrong with a payload.
-fn verdict(rt: &(impl Abort + AllocGlobal), payload: &[u8]) -> Option<Fault> {
-    if payload.len() > 1_000 {
-        panic!(rt; "the payload is too long");
-    }
-    match Block::read(rt.alloc(), payload, PLACE) {
-        Ok(_) => None,
-        Err(ReadFault::Refused(fault)) => Some(fault),
-        Err(ReadFault::Memory) => panic!(rt; "there is no memory"),
-    }
-}
-
-const fn at(offset: u64, reason: Reason) -> Option<Fault> {
-    Some(Fault { offset, reason })
-}
-
-#[test]
-fn a_payload_of_nothing(rt: HostRuntime) {
-    assert_eq!(rt; verdict(&rt, b""), at(36, Reason::Missing(1)));
-}
-
-#[test]
-fn three_dense_nodes(rt: HostRuntime) {
-    assert_eq!(rt;
-        verdict(
-            &rt,
-            b"\x0a\x02\x0a\x00\x12\x11\x12\x0f\x0a\x03\x14\x02\x08\x42\x03\x02\x03\x04\x4a\x03\x02\x00\x00"
-        ),
-        None
-    );
-}
-
-/// The wire form of the whole payload is judged before any value.
-#[test]
-fn a_cut_way_behind_a_wrong_index(rt: HostRuntime) {
-    assert_eq!(rt;
-        verdict(
-            &rt,
-            b"\x0a\x02\x0a\x00\x12\x0d\x1a\x08\x08\x01\x12\x01\x05\x1a\x01\x00\x1a\x01\x08"
-        ),
-        at(54, Reason::VarintCut)
-    );
-    assert_eq!(rt;
-        verdict(
-            &rt,
-            b"\x0a\x02\x0a\x00\x12\x0a\x1a\x08\x08\x01\x12\x01\x05\x1a\x01\x00"
-        ),
-        at(46, Reason::StringIndex)
-    );
-}
 
 /// Whether this is way 7 over the nodes 1 and 3, with one tag.
 fn is_way_seven(way: WayRef<'_>) -> bool {

@@ -138,30 +138,6 @@ fn ids_at_both_limits(rt: HostRuntime) {
     assert!(rt; stand_at(read(&rt, message, &table), &wanted));
 }
 
-/// Whether the metadata are a version 2, a time and the user `ann`.
-fn is_second_of_ann(meta: MetaRef<'_>) -> bool {
-    meta.version == Some(2)
-        && meta.timestamp == Some(1_234_567_890)
-        && meta.changeset.is_none()
-        && meta.uid.is_none()
-        && meta.user == Some(b"ann".as_slice())
-        && meta.visible.is_none()
-}
-
-#[test]
-fn a_node_with_metadata(rt: HostRuntime) -> Result<(), Fail> {
-    let table = table_of(&rt, rt.alloc(), &FOUR_TEXTS);
-    let message =
-        b"\x0a\x01\x02\x2a\x0d\x0a\x01\x02\x12\x05\xa4\x8b\xb0\x99\x09\x2a\x01\x06\x42\x01\x02\x4a\x01\x02\x52\x03\x01\x02\x00";
-    let nodes = read(&rt, message, &table);
-    assert!(rt;
-        stand_at(nodes, &[(1, 1, 1)])
-            && are_tagged(rt.alloc(), nodes, b"highway=stop /")?
-            && is_second_of_ann(meta(&rt, nodes))
-    );
-    Ok(())
-}
-
 /// The table has the empty text twice.
 #[test]
 fn a_key_that_is_empty(rt: HostRuntime) -> Result<(), Fail> {
@@ -454,9 +430,7 @@ fn each_phase_by_itself(rt: HostRuntime) {
 /// A table of the empty text, one of 59,983 bytes, one of 40 and one of 41.
 fn long_texts(alloc: Global) -> Result<Vec<u8>, AllocError> {
     let mut message = Vec::from_slice(alloc, b"\x0a\x00\x0a\xcf\xd4\x03")?;
-    for _ in 0..59_983 {
-        message.push(b'x')?;
-    }
+    message.resize(6 + 59_983, b'x')?;
     message.extend_from_slice(b"\x0a\x28forty bytes are enough for the last node")?;
     message.extend_from_slice(b"\x0a\x29forty-one bytes are too many for the node")?;
     Ok(message)
@@ -467,9 +441,7 @@ fn heavy_node(alloc: Global, user: u8) -> Result<Vec<u8>, AllocError> {
     let mut message = Vec::from_slice(alloc, b"\x0a\x01\x02\x2a\x03\x2a\x01")?;
     message.push(user)?;
     message.extend_from_slice(b"\x42\x01\x02\x4a\x01\x02\x52\xc9\x01")?;
-    for _ in 0..200 {
-        message.push(1)?;
-    }
+    message.extend_from_slice(&[1; 200])?;
     message.push(0)?;
     Ok(message)
 }

@@ -1,4 +1,4 @@
-//! What no clause says: values from the format's examples, and that each call can succeed.
+//! What no clause says: values and bytes from the format's examples, and that each call can succeed.
 
 use osm_entity::BoundingBox;
 use pbf_header::{Header, HeaderBox, laws};
@@ -147,22 +147,10 @@ fn a_box_with_more_fields(rt: HostRuntime) {
     assert_eq!(rt; header.bbox, Some(expected));
 }
 
-/// The time of a header has no range.
-#[test]
-fn a_time_of_any_size(rt: HostRuntime) {
-    let payload = b"\x80\x02\x80\x80\x80\x80\x80\x80\x80\x80\x40";
-    let Ok(header) = Header::read(rt.alloc(), payload, AT) else {
-        panic!(rt; "the header is refused");
-    };
-    assert_eq!(rt; header.timestamp, Some(4_611_686_018_427_387_904));
-}
-
 /// The bytes, and then so many zeros.
 fn followed_by_zeros(alloc: Global, front: &[u8], count: usize) -> Result<Vec<u8>, AllocError> {
     let mut bytes = Vec::from_slice(alloc, front)?;
-    for _ in 0..count {
-        bytes.push(0)?;
-    }
+    bytes.resize(front.len().saturating_add(count), 0)?;
     Ok(bytes)
 }
 
@@ -277,37 +265,42 @@ fn the_header_of_a_converted_file(rt: HostRuntime) -> Result<(), Fail> {
     Ok(())
 }
 
-/// Whether a header says no more than each written one.
-fn says_no_more(header: &Header) -> bool {
-    is_written(header, None, &[])
-        && header.source.is_none()
-        && header.url.is_none()
-        && header.timestamp.is_none()
-        && header.sequence.is_none()
-}
-
-#[test]
-fn the_header_for_an_empty_one(rt: HostRuntime) -> Result<(), Fail> {
-    let Ok(empty) = Header::read(rt.alloc(), b"", AT) else {
-        panic!(rt; "the header is refused");
-    };
-    assert!(rt; says_no_more(&empty.for_convert(rt.alloc())?));
-    Ok(())
-}
-
-/// Passes whichever of its requests for memory is refused. A refusal of the bytes asks for none.
-#[test]
-fn memory_that_is_refused(rt: HostRuntime) {
-    assert!(rt; is_refused(rt, b"\x22\x03Foo\x8a\x01\x05first", 19, Reason::Feature));
-    match Header::read(rt.alloc(), EVERY_FIELD, AT) {
-        Ok(read) => {
-            if let Ok(header) = read.for_convert(rt.alloc()) {
-                assert!(rt; is(&header.source, Some(b"second")));
-                assert!(rt; is(&read.source, Some(b"second")));
-            }
-        }
-        Err(fault) => assert_eq!(rt; fault, ReadFault::Memory),
+fn texts(alloc: Global, texts: &[&[u8]]) -> Result<Vec<Vec<u8>>, AllocError> {
+    let mut owned = Vec::new(alloc);
+    for text in texts {
+        owned.push(Vec::from_slice(alloc, text)?)?;
     }
+    Ok(owned)
+}
+
+/// All fields, of which the numbers are negative: they take ten bytes.
+#[test]
+fn a_header_with_all_fields(rt: HostRuntime) -> Result<(), Fail> {
+    let header = Header {
+        bbox: None,
+        required: texts(rt.alloc(), &[b"Else"])?,
+        optional: texts(
+            rt.alloc(),
+            &[
+                b"Sort.Type_then_ID",
+                b"Foo",
+                b"Has_Metadata",
+                b"Has_Metadata",
+            ],
+        )?,
+        program: None,
+        source: Some(Vec::from_slice(rt.alloc(), b"src")?),
+        url: Some(Vec::from_slice(rt.alloc(), b"http://a")?),
+        timestamp: Some(-5),
+        sequence: Some(7),
+    };
+    let mut written = Vec::new(rt.alloc());
+    header.write(&mut written)?;
+    assert_eq!(rt;
+        written.as_slice(),
+        b"\x22\x0eOsmSchema-V0.6\x22\x0aDenseNodes*\x0cHas_Metadata*\x11Sort.Type_then_ID\x82\x01\x06pbfcut\x8a\x01\x03src\x80\x02\xfb\xff\xff\xff\xff\xff\xff\xff\xff\x01\x88\x02\x07\x92\x02\x08http://a".as_slice()
+    );
+    Ok(())
 }
 
 #[test]

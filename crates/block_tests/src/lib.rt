@@ -8,6 +8,4 @@ mod dense;
 #[cfg(test)]
 mod header;
 #[cfg(test)]
-mod header_written;
-#[cfg(test)]
 mod pack;

@@ -40,8 +40,6 @@ struct Sketch<'a> {
     refs: &'a [i64],
     tag: Option<(&'a [u8], &'a [u8])>,
     version: Option<i32>,
-    timestamp: Option<i64>,
-    user: Option<&'a [u8]>,
     scale: Scale,
 }
 
@@ -53,8 +51,6 @@ fn node(id: i64, lat: i64) -> Sketch<'static> {
         refs: &[],
         tag: None,
         version: None,
-        timestamp: None,
-        user: None,
         scale: SCALE,
     }
 }
@@ -84,19 +80,15 @@ fn relation(id: i64, value: &[u8]) -> Sketch<'_> {
     }
 }
 
-fn meta(alloc: Global, sketch: &Sketch<'_>) -> Result<Meta, AllocError> {
-    let user = match sketch.user {
-        Some(user) => Some(Vec::from_slice(alloc, user)?),
-        None => None,
-    };
-    Ok(Meta {
+fn meta(sketch: &Sketch<'_>) -> Meta {
+    Meta {
         version: sketch.version,
-        timestamp: sketch.timestamp,
+        timestamp: None,
         changeset: None,
         uid: None,
-        user,
+        user: None,
         visible: None,
-    })
+    }
 }
 
 fn tags(alloc: Global, sketch: &Sketch<'_>) -> Result<Vec<(Vec<u8>, Vec<u8>)>, AllocError> {
@@ -128,7 +120,7 @@ fn push_node(
         id: sketch.id,
         lat: sketch.lat,
         lon: 1,
-        meta: meta(alloc, sketch)?,
+        meta: meta(sketch),
         tags: tags(alloc, sketch)?,
         scale: sketch.scale,
     };
@@ -143,7 +135,7 @@ fn push_way(
     let alloc = rt.alloc();
     let way = Way {
         id: sketch.id,
-        meta: meta(alloc, sketch)?,
+        meta: meta(sketch),
         tags: tags(alloc, sketch)?,
         refs: Vec::from_slice(alloc, sketch.refs)?,
         locations: Vec::new(alloc),
@@ -161,7 +153,7 @@ fn made_relation(alloc: Global, sketch: &Sketch<'_>) -> Result<Relation, AllocEr
     })?;
     Ok(Relation {
         id: sketch.id,
-        meta: meta(alloc, sketch)?,
+        meta: meta(sketch),
         tags: tags(alloc, sketch)?,
         members,
         scale: sketch.scale,
@@ -305,63 +297,6 @@ fn have_ids(
     Ok(ids(rt.alloc(), sink.bytes())?.as_slice() == wanted)
 }
 
-#[test]
-fn no_entities(rt: HostRuntime) -> Result<(), Fail> {
-    packs(&rt, &[], b"")
-}
-
-#[test]
-fn nodes_10_and_15(rt: HostRuntime) -> Result<(), Fail> {
-    packs(
-        &rt,
-        &[node(10, 1), node(15, 1)],
-        b"\x00\x00\x00\x0b\x0a\x07OSMData\x18\x16\x0a\x14\x0a\x02\x0a\x00\x12\x0e\x12\x0c\x0a\x02\x14\x0a\x42\x02\x02\x00\x4a\x02\x02\x00",
-    )
-}
-
-#[test]
-fn node_with_an_empty_key(rt: HostRuntime) -> Result<(), Fail> {
-    packs(
-        &rt,
-        &[tagged_node(1, b"", b"a")],
-        b"\x00\x00\x00\x0b\x0a\x07OSMData\x18\x1d\x0a\x1b\x0a\x07\x0a\x00\x0a\x00\x0a\x01a\x12\x10\x12\x0e\x0a\x01\x02\x42\x01\x02\x4a\x01\x02\x52\x03\x01\x02\x00",
-    )
-}
-
-/// The scale stands after the group, the date granularity not, as it is the usual one.
-#[test]
-fn node_of_granularity_1000_and_negative_offsets(rt: HostRuntime) -> Result<(), Fail> {
-    let scale = Scale {
-        granularity: 1000,
-        lat_offset: -1,
-        lon_offset: -1,
-        ..SCALE
-    };
-    packs(
-        &rt,
-        &[Sketch {
-            scale,
-            ..node(1, 1)
-        }],
-        b"\x00\x00\x00\x0b\x0a\x07OSMData\x18\x2f\x0a\x2d\x0a\x02\x0a\x00\x12\x0b\x12\x09\x0a\x01\x02\x42\x01\x02\x4a\x01\x02\x88\x01\xe8\x07\x98\x01\xff\xff\xff\xff\xff\xff\xff\xff\xff\x01\xa0\x01\xff\xff\xff\xff\xff\xff\xff\xff\xff\x01",
-    )
-}
-
-#[test]
-fn node_with_version_time_and_user(rt: HostRuntime) -> Result<(), Fail> {
-    let node = Sketch {
-        version: Some(2),
-        timestamp: Some(1_234_567_890),
-        user: Some(b"ann"),
-        ..tagged_node(1, b"highway", b"stop")
-    };
-    packs(
-        &rt,
-        &[node],
-        b"\x00\x00\x00\x0b\x0a\x07OSMData\x18\x3b\x0a\x39\x0a\x16\x0a\x00\x0a\x07highway\x0a\x04stop\x0a\x03ann\x12\x1f\x12\x1d\x0a\x01\x02\x2a\x0d\x0a\x01\x02\x12\x05\xa4\x8b\xb0\x99\x09\x2a\x01\x06\x42\x01\x02\x4a\x01\x02\x52\x03\x01\x02\x00",
-    )
-}
-
 /// Two nodes of one block have one table, in which a text of both stands once.
 #[test]
 fn two_nodes_with_a_text_in_common(rt: HostRuntime) -> Result<(), Fail> {
@@ -403,13 +338,6 @@ fn three_nodes_of_which_the_second_has_a_version(rt: HostRuntime) -> Result<(), 
 /// Way 7 through the nodes 1, 2 and 3, and two of these.
 fn way_and_nodes() -> [Sketch<'static>; 3] {
     [way(&[1, 2, 3]), node(1, 1), node(2, -1)]
-}
-
-#[test]
-fn way_7_and_nodes_1_and_2(rt: HostRuntime) -> Result<(), Fail> {
-    let mut frames = Vec::from_slice(rt.alloc(), &WAY_OF_THREE_REFS[HEADER.len()..])?;
-    frames.extend_from_slice(&NODES_1_AND_2)?;
-    packs(&rt, &way_and_nodes(), &frames)
 }
 
 #[test]
@@ -482,18 +410,4 @@ fn write_fails_after_each_byte(rt: HostRuntime) -> Result<(), Fail> {
     }
     assert!(rt; takes_all(&rt, &whole)?);
     Ok(())
-}
-
-/// Whichever request for memory is refused: what went out is a prefix, and the answer is no other than that.
-#[test]
-fn memory_refused(rt: HostRuntime) {
-    let Ok(sink) = Sink::new(rt.alloc(), 200, 0) else {
-        return;
-    };
-    let (outcome, sink) = packed(&rt, sink, &[way(&[1, 2, 3])]);
-    match outcome {
-        Ok(()) => assert_eq!(rt; sink.bytes(), WAY_OF_THREE_REFS.as_slice()),
-        Err(stop) => assert_eq!(rt; stop, Stop::Memory),
-    }
-    assert!(rt; WAY_OF_THREE_REFS.starts_with(sink.bytes()));
 }

@@ -411,17 +411,3 @@ fn the_greatest_weight(rt: HostRuntime) -> Result<(), Fail> {
     assert!(rt; weighs(rt.alloc(), 11_999_776, 12_000_001, false)?);
     Ok(())
 }
-
-/// Whether a relation weighs as much as its copy.
-fn weighs_as_its_copy(alloc: Global) -> Result<bool, AllocError> {
-    let relation = heavy_relation(alloc, 5)?;
-    let view = relation.view();
-    let copy = view.to_owned(alloc)?;
-    Ok(copy.view().weight() == view.weight())
-}
-
-/// Passes whichever of its requests for memory is refused.
-#[test]
-fn memory_that_is_refused(rt: HostRuntime) {
-    assert!(rt; weighs_as_its_copy(rt.alloc()).unwrap_or(true));
-}

@@ -58,22 +58,6 @@ fn sizes(ids: &SealedIds) -> (u64, u64, u64) {
     (ids.count(), ids.pages(), ids.bytes())
 }
 
-/// Whether a set takes 5 once, and the least id, and has both.
-fn takes_five_and_the_least_id(alloc: Global) -> Result<bool, AllocError> {
-    let mut set = IdSet::new(alloc);
-    if !takes(&mut set, &[(5, true), (5, false), (LEAST, true)])? {
-        return Ok(false);
-    }
-    let ids = sealed(set)?;
-    Ok(has_all(&ids, &[5, LEAST]) && has_none(&ids, &[4]) && ids.count() == 2)
-}
-
-#[test]
-fn five_twice_and_the_least_id(rt: HostRuntime) -> Result<(), AllocError> {
-    assert!(rt; takes_five_and_the_least_id(rt.alloc())?);
-    Ok(())
-}
-
 /// Whether a set of these ids lies in so many pages and bytes, and has them, and neither 0 nor 130.
 fn lies_in(alloc: Global, ids: &[i64], pages: u64, bytes: u64) -> Result<bool, AllocError> {
     let set = sealed(gathered(alloc, ids)?)?;
@@ -273,105 +257,37 @@ fn bytes_of_known_ids(rt: HostRuntime) -> Result<(), AllocError> {
     Ok(())
 }
 
-/// Whether the id is new. An `add` that is refused is tried again.
-fn add_again(set: &mut IdSet, id: i64) -> Result<bool, AllocError> {
-    match set.add(id) {
-        Ok(is_new) => Ok(is_new),
-        Err(_) => set.add(id),
-    }
-}
-
-/// What is sealed; a `seal` that is refused is tried again. None where the set that it hands back lacks one of these ids.
-fn sealed_again(set: IdSet, known: &[(i64, bool)]) -> Result<Option<SealedIds>, AllocError> {
-    match set.seal() {
-        Ok(ids) => Ok(Some(ids)),
-        Err((mut set, _)) => {
-            if !takes(&mut set, known)? {
-                return Ok(None);
-            }
-            Ok(Some(sealed(set)?))
-        }
-    }
-}
-
-/// Whether a set takes 0 to 299, all of them new, and has them.
-fn takes_300(alloc: Global) -> Result<bool, AllocError> {
-    let mut set = IdSet::new(alloc);
+/// 0 to 299.
+fn rising_by_one(alloc: Global) -> Result<Vec<i64>, AllocError> {
+    let mut ids = Vec::new(alloc);
     for id in 0..300i64 {
-        if !add_again(&mut set, id)? {
-            return Ok(false);
-        }
+        ids.push(id)?;
     }
-    let Some(ids) = sealed_again(set, &[])? else {
-        return Ok(false);
-    };
-    Ok(sizes(&ids) == (300, 3, 297) && has_all(&ids, &[0, 128, 299]) && has_none(&ids, &[300]))
+    Ok(ids)
 }
 
-/// The set is as before after an `add` that is refused, and is handed back by a `seal` that is: both can be tried again.
-#[test]
-fn refused_once_and_tried_again(rt: HostRuntime) -> Result<(), AllocError> {
-    assert!(rt; takes_300(rt.alloc())?);
-    Ok(())
-}
-
-/// Whether a set takes 0, -6, 4, -2, .. 596, 590, all of them new, and has them.
-fn takes_300_late_ones(alloc: Global) -> Result<bool, AllocError> {
-    let mut set = IdSet::new(alloc);
+/// 0, -6, 4, -2, .. 596, 590: each second one comes late.
+fn each_second_late(alloc: Global) -> Result<Vec<i64>, AllocError> {
+    let mut ids = Vec::new(alloc);
     for turn in 0..150i32 {
         let rising = i64::from(turn) * 4;
-        if !add_again(&mut set, rising)? || !add_again(&mut set, rising - 6)? {
-            return Ok(false);
-        }
+        ids.push(rising)?;
+        ids.push(rising - 6)?;
     }
-    let Some(ids) = sealed_again(set, &[(596, false), (-6, false)])? else {
-        return Ok(false);
-    };
-    Ok(sizes(&ids) == (300, 3, 297) && has_all(&ids, &[-6, 0, 590, 596]) && has_none(&ids, &[594]))
+    Ok(ids)
 }
 
-/// The same where ids come late, so that the seal makes new pages.
+/// Whether a set of these ids has them, in three pages of 297 bytes.
+fn lies_in_three_pages(alloc: Global, ids: &[i64]) -> Result<bool, AllocError> {
+    let set = sealed(gathered(alloc, ids)?)?;
+    Ok(sizes(&set) == (300, 3, 297) && has_all(&set, ids))
+}
+
+/// 300 ids lie in as many bytes whether each second one came late or none.
 #[test]
-fn late_ids_refused_once(rt: HostRuntime) -> Result<(), AllocError> {
-    assert!(rt; takes_300_late_ones(rt.alloc())?);
-    Ok(())
-}
-
-/// Links from 0 to 1, 1 to 2, .. 99 to 100, each of them new. An `add` that is refused is tried again.
-fn hundred_links(alloc: Global) -> Result<Option<Links>, AllocError> {
-    let mut links = Links::new(alloc);
-    for member in 0..100i64 {
-        let is_new = match links.add(member, member + 1) {
-            Ok(is_new) => is_new,
-            Err(_) => links.add(member, member + 1)?,
-        };
-        if !is_new {
-            return Ok(None);
-        }
-    }
-    Ok(Some(links))
-}
-
-/// Whether the set that the links close has 90 to 100, or the closing is refused.
-fn closes_or_refuses(links: Links, start: IdSet) -> Result<bool, AllocError> {
-    let Ok(ids) = links.close(start) else {
-        return Ok(true);
-    };
-    match ids.seal() {
-        Ok(ids) => Ok(ids.count() == 11 && ids.has(100) && !ids.has(89)),
-        Err((ids, _)) => Ok(sealed(ids)?.count() == 11),
-    }
-}
-
-/// The links are as before after an `add` that is refused. A refused `close` says so.
-#[test]
-fn links_refused_once(rt: HostRuntime) -> Result<(), AllocError> {
-    let Some(links) = hundred_links(rt.alloc())? else {
-        panic!(rt; "one of the links is not new");
-    };
-    let mut start = IdSet::new(rt.alloc());
-    assert!(rt; add_again(&mut start, 90)?);
-    assert!(rt; closes_or_refuses(links, start)?);
+fn rising_and_late_ids_of_three_pages(rt: HostRuntime) -> Result<(), AllocError> {
+    assert!(rt; lies_in_three_pages(rt.alloc(), &rising_by_one(rt.alloc())?)?);
+    assert!(rt; lies_in_three_pages(rt.alloc(), &each_second_late(rt.alloc())?)?);
     Ok(())
 }
 
@@ -390,29 +306,5 @@ fn chain_in_reverse_order_beside_cycles(rt: HostRuntime) -> Result<(), AllocErro
     let kept = closed(rt.alloc(), &links, &[8])?;
     assert!(rt; kept.has(8) && kept.has(9) && kept.has(10));
     assert_eq!(rt; kept.count(), 3);
-    Ok(())
-}
-
-#[test]
-fn cycle_that_the_start_reaches(rt: HostRuntime) -> Result<(), AllocError> {
-    let kept = closed(rt.alloc(), &[(1, 2), (2, 3), (3, 1), (4, 1)], &[2])?;
-    assert!(rt; kept.has(1) && kept.has(2) && kept.has(3));
-    assert_eq!(rt; kept.count(), 3);
-    Ok(())
-}
-
-/// Whether the links from 8 to 9 and to the least id are new once, and close 8 to three ids.
-fn eight_has_two_parents(alloc: Global) -> Result<bool, AllocError> {
-    let mut links = Links::new(alloc);
-    if !links.add(8, 9)? || links.add(8, 9)? || !links.add(8, i64::MIN)? {
-        return Ok(false);
-    }
-    let kept = sealed(links.close(gathered(alloc, &[8])?)?)?;
-    Ok(has_all(&kept, &[9, i64::MIN]) && kept.count() == 3)
-}
-
-#[test]
-fn link_added_twice(rt: HostRuntime) -> Result<(), AllocError> {
-    assert!(rt; eight_has_two_parents(rt.alloc())?);
     Ok(())
 }

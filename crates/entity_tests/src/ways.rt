@@ -422,16 +422,6 @@ fn relation_of_a_relation(rt: HostRuntime) -> Result<(), AllocError> {
     Ok(())
 }
 
-#[test]
-fn relation_of_a_relation_with_parents(rt: HostRuntime) -> Result<(), AllocError> {
-    let relations = [
-        (8, MemberKind::Node, 1, true),
-        (9, MemberKind::Relation, 8, true),
-    ];
-    assert!(rt; extracts_with_parents(rt.alloc(), &[], &relations, &[])?);
-    Ok(())
-}
-
 /// Relations 8 to 10, each a member of the next, and two cycles.
 const CHAIN_BESIDE_CYCLES: [RelationRow; 6] = [
     (10, MemberKind::Relation, 9, true),
@@ -441,13 +431,6 @@ const CHAIN_BESIDE_CYCLES: [RelationRow; 6] = [
     (12, MemberKind::Relation, 11, false),
     (13, MemberKind::Relation, 13, false),
 ];
-
-#[test]
-fn chain_of_parents_beside_cycles(rt: HostRuntime) -> Result<(), AllocError> {
-    let ids = [(1, true), (8, false)];
-    assert!(rt; extracts_with_parents(rt.alloc(), &[], &CHAIN_BESIDE_CYCLES, &ids)?);
-    Ok(())
-}
 
 #[test]
 fn one_chooser_with_parents(rt: HostRuntime) -> Result<(), AllocError> {
@@ -464,24 +447,5 @@ fn two_relations_with_one_id(rt: HostRuntime) -> Result<(), AllocError> {
         (9, MemberKind::Relation, 8, true),
     ];
     assert!(rt; extracts_with_parents(rt.alloc(), &[(7, &[2], false)], &relations, &[])?);
-    Ok(())
-}
-
-/// What is chosen of a hundred nodes in the box, each taken again where it is refused.
-fn chosen_of_a_hundred(alloc: Global) -> Result<Chosen, AllocError> {
-    let mut phase = NodePhase::new(alloc, AREA);
-    for id in 0..100i64 {
-        if take_node(&mut phase, alloc, (id, 1)).is_err() {
-            take_node(&mut phase, alloc, (id, 1))?;
-        }
-    }
-    phase.end_nodes()?.end_ways()
-}
-
-/// The phase is as before a `take_node` that is refused: the node can be taken again.
-#[test]
-fn node_refused_once(rt: HostRuntime) -> Result<(), AllocError> {
-    let chosen = chosen_of_a_hundred(rt.alloc())?;
-    assert!(rt; keeps_nodes(&chosen, &[(0, true), (99, true), (100, false)]));
     Ok(())
 }

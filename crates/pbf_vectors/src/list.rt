@@ -33,22 +33,25 @@ pub(crate) struct Row<'a> {
 }
 
 impl<'a> Row<'a> {
-    fn wanted_of(&self, call: Call) -> Option<Answer<'a>> {
+    /// What the call counts, if the file is not refused: `check` and `convert` count all entities.
+    fn counts(&self, call: Call) -> Option<Counts> {
         match self.wanted {
             Wanted::Refused(..) => None,
             Wanted::Written(converted, extracted, with_parents) => Some(match call {
-                Call::Convert => converted,
-                Call::Extract => extracted,
-                Call::ExtractParents => with_parents,
+                Call::Check | Call::Convert => converted.counts,
+                Call::Extract => extracted.counts,
+                Call::ExtractParents => with_parents.counts,
             }),
         }
     }
 
     /// The file that the call writes, if it writes one.
     pub(crate) fn file(&self, call: Call) -> Option<&'a str> {
-        match self.wanted_of(call) {
-            Some(answer) => Some(answer.file),
-            None => None,
+        match (self.wanted, call) {
+            (Wanted::Refused(..), _) | (_, Call::Check) => None,
+            (Wanted::Written(converted, _, _), Call::Convert) => Some(converted.file),
+            (Wanted::Written(_, extracted, _), Call::Extract) => Some(extracted.file),
+            (Wanted::Written(_, _, with_parents), Call::ExtractParents) => Some(with_parents.file),
         }
     }
 
@@ -60,10 +63,7 @@ impl<'a> Row<'a> {
                     && fault.reason.number() == number
                     && fault.reason.missing_field() == field
             }
-            (Wanted::Written(..), Ok(counts)) => match self.wanted_of(call) {
-                Some(answer) => answer.counts == counts,
-                None => false,
-            },
+            (Wanted::Written(..), Ok(counts)) => self.counts(call) == Some(counts),
             _ => false,
         }
     }

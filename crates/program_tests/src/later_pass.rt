@@ -1,7 +1,7 @@
 //! What no clause of `convert` says: how it ends where the second pass finds a fault in a payload, which isn't judged again.
 
-use crate::check::counts;
 use crate::blobs::HEADER_ALONE;
+use crate::check::counts;
 use pbf_frame::{Pieces, Sink, Stop};
 use pbfcut::{Counts, convert};
 use std::alloc::{AllocError, Global};

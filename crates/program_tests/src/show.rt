@@ -1,12 +1,13 @@
 //! What no clause of `show` says: the format's own examples, texts and times as they are printed, feeds that differ, and
-//! devices and memory that fail.
+//! devices that fail.
 
-use crate::check::counts;
 use crate::blobs::{HEADER_ALONE, THREE_DENSE_NODES};
+use crate::check::counts;
 use osm_entity::{EntityRef, MetaRef, NodeRef, OwnedTags, Scale, Tags};
 use pbf_frame::{Pieces, Sink, Stop};
 use pbf_wire::{Fault, Reason};
 use pbfcut::{Counts, show};
+use std::alloc::{AllocError, Global};
 use std::process::Abort;
 use std::test::Fail;
 
@@ -21,25 +22,23 @@ const EMPTY_KEY: [u8; 72] = [
     0x4a, 0x01, 0x02, 0x52, 0x03, 0x05, 0x01, 0x00,
 ];
 
-/// Shows the input in pieces of these lengths, and compares the text and the outcome.
+/// Whether the input, in pieces of these lengths, is shown so and ends so.
 fn shows_as(
-    rt: &(impl Abort + AllocGlobal),
+    alloc: Global,
     input: &[u8],
     lengths: &[usize],
     dates: bool,
     text: &str,
     outcome: Result<Counts, Stop>,
-) -> Result<(), Fail> {
+) -> Result<bool, AllocError> {
     let mut first = Pieces::new(input, lengths, None);
     let mut second = Pieces::new(input, lengths, None);
-    let mut sink = Sink::new(rt.alloc(), 4_096, 0)?;
-    let shown = show(rt.alloc(), &mut first, &mut second, &mut sink, dates);
-    assert_eq!(rt; shown, outcome);
-    assert_eq!(rt; sink.bytes(), text.as_bytes());
-    Ok(())
+    let mut sink = Sink::new(alloc, 4_096, 0)?;
+    let shown = show(alloc, &mut first, &mut second, &mut sink, dates);
+    Ok(shown == outcome && sink.bytes() == text.as_bytes())
 }
 
-/// The same, whole, one byte a read and in pieces of seven.
+/// Shows the input whole, one byte a read and in pieces of seven.
 fn shows(
     rt: &(impl Abort + AllocGlobal),
     input: &[u8],
@@ -47,9 +46,19 @@ fn shows(
     text: &str,
     outcome: Result<Counts, Stop>,
 ) -> Result<(), Fail> {
-    shows_as(rt, input, &[], dates, text, outcome)?;
-    shows_as(rt, input, &[1], dates, text, outcome)?;
-    shows_as(rt, input, &[7], dates, text, outcome)
+    assert!(rt;
+        shows_as(rt.alloc(), input, &[], dates, text, outcome)?,
+        "whole: {text}"
+    );
+    assert!(rt;
+        shows_as(rt.alloc(), input, &[1], dates, text, outcome)?,
+        "byte by byte: {text}"
+    );
+    assert!(rt;
+        shows_as(rt.alloc(), input, &[7], dates, text, outcome)?,
+        "in sevens: {text}"
+    );
+    Ok(())
 }
 
 /// The same of what stands after a header.
@@ -90,44 +99,69 @@ fn a_file_cut_after_each_byte(rt: HostRuntime) -> Result<(), Fail> {
     Ok(())
 }
 
-/// Shows what differs between the passes.
-fn changes(rt: &(impl Abort + AllocGlobal), first: &[u8], second: &[u8]) -> Result<(), Fail> {
+/// Whether a file that differs so between the passes is found to have changed.
+fn changes(alloc: Global, first: &[u8], second: &[u8]) -> Result<bool, AllocError> {
     let mut one = Pieces::new(first, &[], None);
     let mut other = Pieces::new(second, &[], None);
-    let mut sink = Sink::new(rt.alloc(), 4_096, 0)?;
-    let shown = show(rt.alloc(), &mut one, &mut other, &mut sink, false);
-    assert_eq!(rt; shown, Err(Stop::Changed(2)));
-    Ok(())
+    let mut sink = Sink::new(alloc, 4_096, 0)?;
+    let shown = show(alloc, &mut one, &mut other, &mut sink, false);
+    Ok(shown == Err(Stop::Changed(2)))
 }
 
 #[test]
 fn another_byte_in_pass_2(rt: HostRuntime) -> Result<(), Fail> {
-    let mut changed = Vec::from_slice(rt.alloc(), &EMPTY_KEY)?;
+    let mut changed = EMPTY_KEY;
     assert_eq!(rt; changed[42], b'a');
     changed[42] = b'b';
-    changes(&rt, &EMPTY_KEY, &changed)
+    assert!(rt; changes(rt.alloc(), &EMPTY_KEY, &changed)?);
+    Ok(())
 }
 
 #[test]
 fn a_fault_in_pass_2(rt: HostRuntime) -> Result<(), Fail> {
     for length in 0..THREE_DENSE_NODES.len() {
-        changes(&rt, &THREE_DENSE_NODES, &THREE_DENSE_NODES[..length])?;
+        assert!(rt;
+            changes(rt.alloc(), &THREE_DENSE_NODES, &THREE_DENSE_NODES[..length])?,
+            "{length}"
+        );
     }
     Ok(())
 }
 
+/// Whether a drain of so much room takes so much of the three lines, and then no more.
+fn fills(alloc: Global, room: usize) -> Result<bool, AllocError> {
+    let mut first = Pieces::new(&THREE_DENSE_NODES, &[], None);
+    let mut second = Pieces::new(&THREE_DENSE_NODES, &[], None);
+    let mut sink = Sink::new(alloc, room, 0)?;
+    let shown = show(alloc, &mut first, &mut second, &mut sink, false);
+    Ok(shown == Err(Stop::Write) && Some(sink.bytes()) == THREE_LINES.as_bytes().get(..room))
+}
+
 #[test]
 fn a_drain_that_fails_after_each_byte(rt: HostRuntime) -> Result<(), Fail> {
-    let text = THREE_LINES.as_bytes();
-    for room in 0..text.len() {
-        let mut first = Pieces::new(&THREE_DENSE_NODES, &[], None);
-        let mut second = Pieces::new(&THREE_DENSE_NODES, &[], None);
-        let mut sink = Sink::new(rt.alloc(), room, 0)?;
-        let shown = show(rt.alloc(), &mut first, &mut second, &mut sink, false);
-        assert_eq!(rt; shown, Err(Stop::Write));
-        assert_eq!(rt; sink.bytes(), &text[..room]);
+    for room in 0..THREE_LINES.len() {
+        assert!(rt; fills(rt.alloc(), room)?, "{room}");
     }
     Ok(())
+}
+
+/// How `show` ends where these reads of the passes fail, and whether a beginning of the three lines was written: none, if nothing may be.
+fn ends_where_reads_fail(
+    alloc: Global,
+    lengths: &[usize],
+    failing: (Option<u64>, Option<u64>),
+    may_write: bool,
+) -> Result<(Result<Counts, Stop>, bool), AllocError> {
+    let mut first = Pieces::new(&THREE_DENSE_NODES, lengths, failing.0);
+    let mut second = Pieces::new(&THREE_DENSE_NODES, lengths, failing.1);
+    let mut sink = Sink::new(alloc, 100, 0)?;
+    let shown = show(alloc, &mut first, &mut second, &mut sink, false);
+    let may_write = may_write || shown.is_ok();
+    let is_beginning = THREE_LINES.as_bytes().starts_with(sink.bytes());
+    Ok((
+        shown,
+        is_beginning && (may_write || sink.bytes().is_empty()),
+    ))
 }
 
 /// Each read of one of the passes fails in turn; the answer is the number of the last read that there is.
@@ -138,23 +172,19 @@ fn reads_fail(
 ) -> Result<u64, Fail> {
     let mut failed = 0;
     for call in 0..90 {
-        let (one, other) = if in_first {
+        let failing = if in_first {
             (Some(call), None)
         } else {
             (None, Some(call))
         };
-        let mut first = Pieces::new(&THREE_DENSE_NODES, lengths, one);
-        let mut second = Pieces::new(&THREE_DENSE_NODES, lengths, other);
-        let mut sink = Sink::new(rt.alloc(), 100, 0)?;
-        match show(rt.alloc(), &mut first, &mut second, &mut sink, false) {
-            Ok(found) => assert_eq!(rt; Ok(found), counts(3, 0, 0)),
-            Err(stop) => {
-                assert_eq!(rt; stop, Stop::Read);
-                failed = call;
-                assert!(rt; !in_first || sink.bytes().is_empty());
-            }
+        let (shown, is_beginning) = ends_where_reads_fail(rt.alloc(), lengths, failing, !in_first)?;
+        assert!(rt;
+            is_beginning && (shown == counts(3, 0, 0) || shown == Err(Stop::Read)),
+            "{call}"
+        );
+        if shown.is_err() {
+            failed = call;
         }
-        assert!(rt; THREE_LINES.as_bytes().starts_with(sink.bytes()));
     }
     Ok(failed)
 }
@@ -167,21 +197,6 @@ fn each_read_failing_in_turn(rt: HostRuntime) -> Result<(), Fail> {
         assert!(rt; reads_fail(&rt, &[1], in_first)? >= 59);
     }
     Ok(())
-}
-
-/// Whichever request for memory is refused: what went out is a prefix, and the answer is no other than that.
-#[test]
-fn memory_refused(rt: HostRuntime) {
-    let Ok(mut sink) = Sink::new(rt.alloc(), 100, 0) else {
-        return;
-    };
-    let mut first = Pieces::new(&THREE_DENSE_NODES, &[], None);
-    let mut second = Pieces::new(&THREE_DENSE_NODES, &[], None);
-    match show(rt.alloc(), &mut first, &mut second, &mut sink, true) {
-        Ok(found) => assert_eq!(rt; Ok(found), counts(3, 0, 0)),
-        Err(stop) => assert_eq!(rt; stop, Stop::Memory),
-    }
-    assert!(rt; THREE_LINES.as_bytes().starts_with(sink.bytes()));
 }
 
 #[test]

@@ -4,6 +4,7 @@ use osm_entity::{BoundingBox, BoxFault};
 use pbf_frame::Stop;
 use pbf_wire::{Fault, Reason};
 use pbfcut_cli::{CliFault, Command, Ending, join_box, line, read_words, status};
+use std::alloc::{AllocError, Global};
 use std::process::Abort;
 use std::test::Fail;
 
@@ -14,103 +15,98 @@ const LONDON: BoundingBox = BoundingBox {
     top: 51_700_000_000,
 };
 
-#[test]
-fn commands_that_read(rt: HostRuntime) -> Result<(), Fail> {
-    let alloc = rt.alloc();
-    let blobs = read_words(alloc, &["blobs", "a"]);
-    assert!(rt; matches!(&blobs, Ok(Command::Blobs { input: "a" })));
-    let show = read_words(alloc, &["show", "a"]);
-    assert!(rt;
-        matches!(
-            &show,
-            Ok(Command::Show {
+/// Whether these words ask for the frames of this file.
+fn is_blobs(alloc: Global, words: &[&str], input: &str) -> bool {
+    let read = read_words(alloc, words);
+    matches!(&read, Ok(Command::Blobs { input: found }) if *found == input)
+}
+
+/// Whether they ask for the text of this file, with dates and with progress or without.
+fn is_show(alloc: Global, words: &[&str], input: &str, asked: (bool, bool)) -> bool {
+    let read = read_words(alloc, words);
+    match &read {
+        Ok(
+            Command::Show {
+                input: found,
+                dates,
+                progress,
+            },
+        ) => *found == input && (*dates, *progress) == asked,
+        _ => false,
+    }
+}
+
+/// Whether they ask to check this file, with progress and with digests or without.
+fn is_check(alloc: Global, words: &[&str], input: &str, asked: (bool, bool)) -> bool {
+    let read = read_words(alloc, words);
+    match &read {
+        Ok(
+            Command::Check {
+                input: found,
+                progress,
+                digests,
+            },
+        ) => *found == input && (*progress, *digests) == asked,
+        _ => false,
+    }
+}
+
+/// Whether they ask to convert `a` to `b`, with progress and with digests or without.
+fn is_convert(alloc: Global, words: &[&str], asked: (bool, bool)) -> bool {
+    let read = read_words(alloc, words);
+    match &read {
+        Ok(
+            Command::Convert {
                 input: "a",
-                dates: false,
-                progress: false
-            })
-        )
-    );
-    let dates = read_words(alloc, &["show", "--dates", "a"]);
-    assert!(rt;
-        matches!(
-            &dates,
-            Ok(Command::Show {
+                output: "b",
+                progress,
+                digests,
+            },
+        ) => (*progress, *digests) == asked,
+        _ => false,
+    }
+}
+
+/// Whether they ask to cut London out of `a` into `b`, with all parents, with progress and with digests, or with none of these.
+fn is_extract(alloc: Global, words: &[&str], asked: bool) -> bool {
+    let read = read_words(alloc, words);
+    match &read {
+        Ok(
+            Command::Extract {
+                area,
+                parents,
                 input: "a",
-                dates: true,
-                progress: false
-            })
-        )
-    );
-    let behind = read_words(alloc, &["show", "a", "--dates"]);
-    assert!(rt;
-        matches!(
-            &behind,
-            Ok(Command::Show {
-                input: "a",
-                dates: true,
-                progress: false
-            })
-        )
-    );
-    let check = read_words(alloc, &["check", "a"]);
-    assert!(rt;
-        matches!(
-            &check,
-            Ok(Command::Check {
-                input: "a",
-                progress: false,
-                digests: false
-            })
-        )
-    );
-    let dashed = read_words(alloc, &["check", "--", "--dates"]);
-    assert!(rt;
-        matches!(
-            &dashed,
-            Ok(Command::Check {
-                input: "--dates",
-                progress: false,
-                digests: false
-            })
-        )
-    );
-    Ok(())
+                output: "b",
+                progress,
+                digests,
+            },
+        ) => *area == LONDON && *parents == asked && *progress == asked && *digests == asked,
+        _ => false,
+    }
 }
 
 #[test]
-fn commands_that_write(rt: HostRuntime) -> Result<(), Fail> {
-    let alloc = rt.alloc();
-    let convert = read_words(alloc, &["convert", "a", "b"]);
+fn commands_that_read(rt: HostRuntime) {
+    assert!(rt; is_blobs(rt.alloc(), &["blobs", "a"], "a"));
+    assert!(rt; is_show(rt.alloc(), &["show", "a"], "a", (false, false)));
+    assert!(rt; is_show(rt.alloc(), &["show", "--dates", "a"], "a", (true, false)));
+    assert!(rt; is_show(rt.alloc(), &["show", "a", "--dates"], "a", (true, false)));
+    assert!(rt; is_check(rt.alloc(), &["check", "a"], "a", (false, false)));
     assert!(rt;
-        matches!(
-            &convert,
-            Ok(Command::Convert {
-                input: "a",
-                output: "b",
-                progress: false,
-                digests: false
-            })
+        is_check(
+            rt.alloc(),
+            &["check", "--", "--dates"],
+            "--dates",
+            (false, false)
         )
     );
+}
+
+#[test]
+fn commands_that_write(rt: HostRuntime) {
+    assert!(rt; is_convert(rt.alloc(), &["convert", "a", "b"], (false, false)));
     let words = ["extract", "--box=-0.5,51.25,0.3,51.7", "a", "b"];
-    let Ok(
-        Command::Extract {
-            area,
-            parents,
-            input,
-            output,
-            progress,
-            digests,
-        },
-    ) = read_words(alloc, &words)
-    else {
-        return Err("extract".into());
-    };
-    assert_eq!(rt; area, LONDON);
-    assert_eq!(rt;
-        (parents, input, output, progress, digests),
-        (false, "a", "b", false, false)
-    );
+    assert!(rt; is_extract(rt.alloc(), &words, false));
     let words = [
         "extract",
         "--parents",
@@ -120,107 +116,67 @@ fn commands_that_write(rt: HostRuntime) -> Result<(), Fail> {
         "a",
         "b",
     ];
-    let Ok(
-        Command::Extract {
-            area,
-            parents,
-            input,
-            output,
-            progress,
-            digests,
-        },
-    ) = read_words(alloc, &words)
-    else {
-        return Err("extract with parents".into());
-    };
-    assert_eq!(rt; area, LONDON);
-    assert_eq!(rt;
-        (parents, input, output, progress, digests),
-        (true, "a", "b", true, true)
-    );
-    Ok(())
+    assert!(rt; is_extract(rt.alloc(), &words, true));
 }
 
 #[test]
-fn commands_with_progress(rt: HostRuntime) -> Result<(), Fail> {
-    let alloc = rt.alloc();
-    let check = read_words(alloc, &["check", "--progress", "a"]);
+fn commands_with_progress(rt: HostRuntime) {
     assert!(rt;
-        matches!(
-            &check,
-            Ok(Command::Check {
-                input: "a",
-                progress: true,
-                digests: false
-            })
+        is_check(
+            rt.alloc(),
+            &["check", "--progress", "a"],
+            "a",
+            (true, false)
         )
     );
-    let show = read_words(alloc, &["show", "--progress", "a"]);
+    assert!(rt; is_show(rt.alloc(), &["show", "--progress", "a"], "a", (false, true)));
     assert!(rt;
-        matches!(
-            &show,
-            Ok(Command::Show {
-                input: "a",
-                dates: false,
-                progress: true
-            })
+        is_convert(
+            rt.alloc(),
+            &["convert", "--progress", "a", "b"],
+            (true, false)
         )
     );
-    let convert = read_words(alloc, &["convert", "--progress", "a", "b"]);
-    assert!(rt;
-        matches!(
-            &convert,
-            Ok(Command::Convert {
-                input: "a",
-                output: "b",
-                progress: true,
-                digests: false
-            })
-        )
-    );
-    Ok(())
 }
 
 #[test]
-fn commands_with_digests(rt: HostRuntime) -> Result<(), Fail> {
-    let alloc = rt.alloc();
-    let check = read_words(alloc, &["check", "a", "--digests"]);
+fn commands_with_digests(rt: HostRuntime) {
+    assert!(rt; is_check(rt.alloc(), &["check", "a", "--digests"], "a", (false, true)));
     assert!(rt;
-        matches!(
-            &check,
-            Ok(Command::Check {
-                input: "a",
-                progress: false,
-                digests: true
-            })
+        is_convert(
+            rt.alloc(),
+            &["convert", "--digests", "a", "b"],
+            (false, true)
         )
     );
-    let convert = read_words(alloc, &["convert", "--digests", "a", "b"]);
-    assert!(rt;
-        matches!(
-            &convert,
-            Ok(Command::Convert {
-                input: "a",
-                output: "b",
-                progress: false,
-                digests: true
-            })
-        )
-    );
-    Ok(())
+}
+
+/// Owned copies of the words.
+fn owned(alloc: Global, words: &[&str]) -> Result<Vec<String>, AllocError> {
+    let mut given = Vec::new(alloc);
+    for word in words {
+        given.push(String::from_str(alloc, word)?)?;
+    }
+    Ok(given)
 }
 
 /// Whether the words, joined, are these.
-fn joins(rt: &(impl Abort + AllocGlobal), words: &[&str], expected: &[&str]) -> Result<(), Fail> {
-    let mut given = Vec::new(rt.alloc());
-    for word in words {
-        given.push(String::from_str(rt.alloc(), word)?)?;
+fn are_joined(alloc: Global, words: &[String], expected: &[&str]) -> Result<bool, AllocError> {
+    let joined = join_box(alloc, words)?;
+    if joined.len() != expected.len() {
+        return Ok(false);
     }
-    let joined = join_box(rt.alloc(), given.as_slice())?;
-    assert_eq!(rt; joined.len(), expected.len());
     for (found, word) in joined.iter().zip(expected) {
-        assert_eq!(rt; found.as_str(), *word);
+        if found.as_str() != *word {
+            return Ok(false);
+        }
     }
+    Ok(true)
+}
+
+fn joins(rt: &(impl Abort + AllocGlobal), words: &[&str], expected: &[&str]) -> Result<(), Fail> {
+    let given = owned(rt.alloc(), words)?;
+    assert!(rt; are_joined(rt.alloc(), given.as_slice(), expected)?);
     Ok(())
 }
 
@@ -245,48 +201,31 @@ fn boxes_that_are_words_of_their_own(rt: HostRuntime) -> Result<(), Fail> {
     joins(&rt, &["check", "--box"], &["check", "--box"])
 }
 
-#[test]
-fn version(rt: HostRuntime) -> Result<(), Fail> {
-    let Ok(Command::Help(text)) = read_words(rt.alloc(), &["--version"]) else {
-        return Err("the version".into());
-    };
-    assert_eq!(rt;
-        text.as_str(),
-        "pbfcut 1.0.0 (rattle-kit-13f logic dac8208d650f15bf)\n"
-    );
-    Ok(())
-}
-
-#[test]
-fn boxes_with_a_fault(rt: HostRuntime) -> Result<(), Fail> {
-    let faults = [
-        ("--box=0,0,1", BoxFault::Shape),
-        ("--box=0,0,1.,1", BoxFault::Digit),
-        ("--box=0,0,181,1", BoxFault::Range),
-        ("--box=2,0,1,1", BoxFault::LeftOverRight),
-        ("--box=0,2,1,1", BoxFault::BottomOverTop),
-    ];
-    for (text, fault) in faults {
-        let Err(CliFault::Box(found)) = read_words(rt.alloc(), &["extract", text, "a", "b"]) else {
-            return Err("a box with a fault".into());
-        };
-        assert_eq!(rt; found, fault);
-    }
-    Ok(())
+/// Whether the text is a refusal of words, whose first line is this.
+fn is_refusal(text: &str, first_line: &str) -> bool {
+    text.lines().next() == Some(first_line)
+        && text.contains("Usage: pbfcut")
+        && text.ends_with("\n")
 }
 
 /// Whether the words are refused, with a text that names the program and gives this line first.
+fn is_refused(alloc: Global, words: &[&str], first_line: &str) -> bool {
+    let read = read_words(alloc, words);
+    match &read {
+        Err(CliFault::Line(text)) => is_refusal(text.as_str(), first_line),
+        _ => false,
+    }
+}
+
 fn refuses_with(
     rt: &(impl Abort + AllocGlobal),
     words: &[&str],
     first_line: &str,
 ) -> Result<(), Fail> {
-    let Err(CliFault::Line(text)) = read_words(rt.alloc(), words) else {
-        return Err("words that are refused".into());
-    };
-    assert_eq!(rt; text.as_str().lines().next(), Some(first_line));
-    assert!(rt; text.as_str().contains("Usage: pbfcut"));
-    assert!(rt; text.as_str().ends_with("\n"));
+    assert!(rt;
+        is_refused(rt.alloc(), words, first_line),
+        "not: {first_line}"
+    );
     Ok(())
 }
 
@@ -314,26 +253,51 @@ fn words_that_are_no_command(rt: HostRuntime) -> Result<(), Fail> {
     )
 }
 
-/// Whether `--help` after these words gives help with each of the parts in it.
-fn helps_with(rt: &(impl Abort + AllocGlobal), words: &[&str], parts: &[&str]) -> Result<(), Fail> {
-    let Ok(Command::Help(text)) = read_words(rt.alloc(), words) else {
-        return Err("help".into());
-    };
+/// The first of these parts that the text has not.
+fn lacking<'a>(text: &str, parts: &[&'a str]) -> Option<&'a str> {
     for part in parts {
-        assert!(rt; text.as_str().contains(*part), "{part:?} is not in {text}");
+        if !text.contains(*part) {
+            return Some(*part);
+        }
     }
-    for line in text.as_str().lines() {
-        assert!(rt; line.len() <= 80, "{line:?} has more than 80 columns");
+    None
+}
+
+/// Whether no line has more than 80 columns.
+fn is_narrow(text: &str) -> bool {
+    for line in text.lines() {
+        if line.len() > 80 {
+            return false;
+        }
     }
-    for part in [
+    true
+}
+
+/// What `--help` after these words lacks of these parts, of those that each help has, or of its width.
+fn lack_of_help<'a>(alloc: Global, words: &[&str], parts: &[&'a str]) -> Option<&'a str> {
+    const OF_EACH: [&'static str; 5] = [
         "Usage: pbfcut",
         "Example",
         "\n  pbfcut ",
         "Exit status:\n  0  done",
         "5  IN changed",
-    ] {
-        assert!(rt; text.as_str().contains(part), "{part:?} is not in {text}");
+    ];
+    let read = read_words(alloc, words);
+    let Ok(Command::Help(text)) = &read else {
+        return Some("help");
+    };
+    let text = text.as_str();
+    if !is_narrow(text) {
+        return Some("lines of 80 columns");
     }
+    match lacking(text, &OF_EACH) {
+        Some(part) => Some(part),
+        None => lacking(text, parts),
+    }
+}
+
+fn helps_with(rt: &(impl Abort + AllocGlobal), words: &[&str], parts: &[&str]) -> Result<(), Fail> {
+    assert_eq!(rt; lack_of_help(rt.alloc(), words, parts), None);
     Ok(())
 }
 
@@ -362,22 +326,35 @@ fn help_of_each_command(rt: HostRuntime) -> Result<(), Fail> {
     helps_with(&rt, &["extract", "-h"], &box_parts)
 }
 
-/// Whether the stop has this line and status, here and where it is printed by itself.
+/// Whether this is the line of the stop, here and where it is printed by itself.
+fn is_line(alloc: Global, stop: &Stop, text: &str) -> Result<bool, AllocError> {
+    let told = line(alloc, stop)?;
+    let printed = format!(in alloc; "pbfcut: {stop}")?;
+    Ok(told.as_str() == text && printed.as_str() == text)
+}
+
+/// Whether this is the message of the ending, without its line end.
+fn is_message(alloc: Global, ending: &Ending, text: &str) -> Result<bool, AllocError> {
+    let message = ending.message(alloc)?;
+    Ok(message.as_str().strip_suffix("\n") == Some(text))
+}
+
+/// Whether the stop, as an ending, has this message and status.
+fn ends_so(alloc: Global, stop: Stop, text: &str, number: u8) -> Result<bool, AllocError> {
+    let ending = Ending::from(stop);
+    Ok(ending.status() == number && is_message(alloc, &ending, text)?)
+}
+
+/// The stop has this line and this status.
 fn told_as(
     rt: &(impl Abort + AllocGlobal),
     stop: Stop,
     text: &str,
     number: u8,
 ) -> Result<(), Fail> {
-    let told = line(rt.alloc(), &stop)?;
-    assert_eq!(rt; told.as_str(), text);
-    let printed = format!(in rt.alloc(); "pbfcut: {stop}")?;
-    assert_eq!(rt; printed.as_str(), text);
     assert_eq!(rt; status(&stop), number);
-    let ending = Ending::from(stop);
-    let message = ending.message(rt.alloc())?;
-    assert_eq!(rt; message.as_str().strip_suffix("\n"), Some(text));
-    assert_eq!(rt; ending.status(), number);
+    assert!(rt; is_line(rt.alloc(), &stop, text)?, "not: {text}");
+    assert!(rt; ends_so(rt.alloc(), stop, text, number)?, "not: {text}");
     Ok(())
 }
 
@@ -399,62 +376,46 @@ fn stops(rt: HostRuntime) -> Result<(), Fail> {
     told_as(&rt, Stop::Changed(2), "pbfcut: input changed in pass 2", 5)
 }
 
-/// Whether the ending has this message and status.
-fn ends_with(
-    rt: &(impl Abort + AllocGlobal),
-    ending: &Ending,
-    text: &str,
-    number: u8,
-) -> Result<(), Fail> {
-    let message = ending.message(rt.alloc())?;
-    assert_eq!(rt; message.as_str(), text);
-    assert_eq!(rt; ending.status(), number);
-    Ok(())
+/// Whether the ending has this message, without its line end, and this status.
+fn ends_with(alloc: Global, ending: &Ending, text: &str, number: u8) -> Result<bool, AllocError> {
+    Ok(ending.status() == number && is_message(alloc, ending, text)?)
+}
+
+/// Whether the message of the ending begins so, and its status is that of words that are wrong.
+fn begins_with(alloc: Global, ending: &Ending, text: &str) -> Result<bool, AllocError> {
+    let message = ending.message(alloc)?;
+    Ok(ending.status() == 2 && message.as_str().starts_with(text))
+}
+
+/// Whether these words end in a message that begins so.
+fn end_in(alloc: Global, words: &[&str], text: &str) -> Result<bool, AllocError> {
+    match read_words(alloc, words) {
+        Ok(_) => Ok(false),
+        Err(fault) => begins_with(alloc, &Ending::from(fault), text),
+    }
 }
 
 #[test]
 fn endings_of_the_program(rt: HostRuntime) -> Result<(), Fail> {
-    ends_with(
-        &rt,
-        &Ending::Box(BoxFault::Shape),
-        "pbfcut: box: Shape\n",
-        2,
-    )?;
-    ends_with(
-        &rt,
-        &Ending::Box(BoxFault::BottomOverTop),
-        "pbfcut: box: BottomOverTop\n",
-        2,
-    )?;
-    ends_with(&rt, &Ending::CannotOpen, "pbfcut: cannot open\n", 3)?;
-    ends_with(&rt, &Ending::OutExists, "pbfcut: OUT exists\n", 3)?;
-    ends_with(
-        &rt,
-        &Ending::from(CliFault::Memory),
-        "pbfcut: out of memory\n",
-        4,
-    )?;
-    ends_with(
-        &rt,
-        &Ending::from(CliFault::Box(BoxFault::Digit)),
-        "pbfcut: box: Digit\n",
-        2,
-    )?;
-    let Err(fault) = read_words(rt.alloc(), &["cut"]) else {
-        return Err("words that are refused".into());
-    };
-    let ending = Ending::from(fault);
-    assert_eq!(rt; ending.status(), 2);
-    let message = ending.message(rt.alloc())?;
+    let alloc = rt.alloc();
     assert!(rt;
-        message
-            .as_str()
-            .starts_with("error: unrecognized subcommand 'cut'\n")
+        ends_with(
+            alloc,
+            &Ending::Box(BoxFault::Shape),
+            "pbfcut: box: Shape",
+            2
+        )?
     );
-    assert_eq!(rt; Ending::NotText.status(), 2);
-    let message = Ending::NotText.message(rt.alloc())?;
-    assert!(rt;
-        message.as_str().starts_with("error: invalid UTF-8 was detected in one or more arguments\n")
-    );
+    let last = Ending::Box(BoxFault::BottomOverTop);
+    assert!(rt; ends_with(alloc, &last, "pbfcut: box: BottomOverTop", 2)?);
+    assert!(rt; ends_with(alloc, &Ending::CannotOpen, "pbfcut: cannot open", 3)?);
+    assert!(rt; ends_with(alloc, &Ending::OutExists, "pbfcut: OUT exists", 3)?);
+    let memory = Ending::from(CliFault::Memory);
+    assert!(rt; ends_with(alloc, &memory, "pbfcut: out of memory", 4)?);
+    let digit = Ending::from(CliFault::Box(BoxFault::Digit));
+    assert!(rt; ends_with(alloc, &digit, "pbfcut: box: Digit", 2)?);
+    assert!(rt; end_in(alloc, &["cut"], "error: unrecognized subcommand 'cut'\n")?);
+    let utf8 = "error: invalid UTF-8 was detected in one or more arguments\n";
+    assert!(rt; begins_with(alloc, &Ending::NotText, utf8)?);
     Ok(())
 }

@@ -1,6 +1,6 @@
 use pbf_frame::{
-    Drain, Feed, FeedFault, Frame, FrameKind, FrameReader, FromRead, Pieces, Sink, Stop, ToWrite,
-    frame_end, put_frame, write_all,
+    Feed, Frame, FrameKind, FrameReader, FromRead, Pieces, Sink, Stop, ToWrite, frame_end,
+    put_frame, write_all,
 };
 use pbf_wire::{Fault, Reason};
 use std::alloc::{AllocError, Global};
@@ -105,12 +105,6 @@ fn gives(alloc: Global, bytes: &[u8], frames: &[Shown], end: Option<Stop>) -> Re
 }
 
 #[test]
-fn empty_file(rt: HostRuntime) -> Result<(), Fail> {
-    assert!(rt; gives(rt.alloc(), b"", &[], refused(0, Reason::NoHeader))?);
-    Ok(())
-}
-
-#[test]
 fn header_alone(rt: HostRuntime) -> Result<(), Fail> {
     assert!(rt; gives(rt.alloc(), &HEADER, &[header(2, 19, 0)], None)?);
     let long_varint = b"\x00\x00\x00\x0e\x0a\x09OSMHeader\x18\x82\x00\x0a\x00";
@@ -159,69 +153,6 @@ fn three_dense_nodes(rt: HostRuntime) -> Result<(), Fail> {
     Ok(())
 }
 
-/// Why the three dense nodes are refused, where the file is cut to this many bytes.
-fn cut_to(count: usize) -> Option<Stop> {
-    match count {
-        0 => refused(0, Reason::NoHeader),
-        1..=3 => refused(0, Reason::PrefixCut),
-        4..=16 => refused(0, Reason::HeaderCut),
-        17 | 18 => refused(17, Reason::BlobCut),
-        20..=22 => refused(19, Reason::PrefixCut),
-        23..=33 => refused(19, Reason::HeaderCut),
-        34..=58 => refused(34, Reason::BlobCut),
-        _ => None,
-    }
-}
-
-#[test]
-fn three_dense_nodes_cut_after_n_bytes(rt: HostRuntime) -> Result<(), Fail> {
-    for count in 0..60 {
-        let frames = [header(2, 19, 0), DATA];
-        let whole = if count < 19 { 0 } else { 1 + count / 59 };
-        let bytes = &THREE_DENSE_NODES[..count];
-        assert!(rt;
-            gives(rt.alloc(), bytes, &frames[..whole], cut_to(count))?,
-            "{count}"
-        );
-    }
-    Ok(())
-}
-
-#[test]
-fn three_dense_nodes_with_a_byte_changed(rt: HostRuntime) -> Result<(), Fail> {
-    let changes = [
-        (33, 0x18, Reason::LengthPast),
-        (33, 0x1a, Reason::BlobCut),
-        (35, 0x18, Reason::LengthPast),
-    ];
-    for (at, byte, reason) in changes {
-        let mut bytes = THREE_DENSE_NODES;
-        bytes[at] = byte;
-        assert!(rt; gives(rt.alloc(), &bytes, &[header(2, 19, 0)], refused(34, reason))?);
-    }
-    Ok(())
-}
-
-#[test]
-fn compressed_blobs(rt: HostRuntime) -> Result<(), Fail> {
-    let inputs: [(&[u8], u64, Reason); 7] = [
-        (b"\x02\x1a\x00", 17, Reason::Zlib),
-        (b"\x04\x0a\x00\x1a\x00", 19, Reason::Zlib),
-        (b"\x05\x10\x05\x1a\x01x", 19, Reason::Zlib),
-        (b"\x02\x22\x00", 17, Reason::Lzma),
-        (b"\x02\x2a\x00", 17, Reason::Bzip2),
-        (b"\x02\x32\x00", 17, Reason::Lz4),
-        (b"\x02\x3a\x00", 17, Reason::Zstd),
-    ];
-    for (blob, offset, reason) in inputs {
-        let mut bytes = Vec::new(rt.alloc());
-        bytes.extend_from_slice(&HEADER[..16])?;
-        bytes.extend_from_slice(blob)?;
-        assert!(rt; gives(rt.alloc(), &bytes, &[], refused(offset, reason))?);
-    }
-    Ok(())
-}
-
 #[test]
 fn faulty_headers(rt: HostRuntime) -> Result<(), Fail> {
     let inputs: [(&[u8], u64, Reason); 7] = [
@@ -248,18 +179,6 @@ fn faulty_headers(rt: HostRuntime) -> Result<(), Fail> {
     for (bytes, offset, reason) in inputs {
         assert!(rt; gives(rt.alloc(), bytes, &[], refused(offset, reason))?);
     }
-    Ok(())
-}
-
-#[test]
-fn frames_out_of_order(rt: HostRuntime) -> Result<(), Fail> {
-    let mut twice = Vec::new(rt.alloc());
-    twice.extend_from_slice(&HEADER)?;
-    twice.extend_from_slice(&HEADER)?;
-    let second = refused(19, Reason::SecondHeader);
-    assert!(rt; gives(rt.alloc(), &twice, &[header(2, 19, 0)], second)?);
-    let data_first = refused(0, Reason::DataFirst);
-    assert!(rt; gives(rt.alloc(), &THREE_DENSE_NODES[19..], &[], data_first)?);
     Ok(())
 }
 

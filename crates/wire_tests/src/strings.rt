@@ -66,8 +66,7 @@ fn a_text_of_another_type(rt: HostRuntime) {
 fn empty_texts(alloc: Global, count: usize) -> Result<Vec<u8>, AllocError> {
     let mut message = Vec::new(alloc);
     for _ in 0..count {
-        message.push(0x0a)?;
-        message.push(0)?;
+        message.extend_from_slice(&[0x0a, 0])?;
     }
     Ok(message)
 }
@@ -141,50 +140,6 @@ fn numbers_four_texts(alloc: Global) -> Result<bool, AllocError> {
 fn texts_in_order_of_first_use(rt: HostRuntime) -> Result<(), Fail> {
     assert!(rt; numbers_four_texts(rt.alloc())?);
     Ok(())
-}
-
-/// The empty text, where an entity uses it, has an entry after the one that every table begins with.
-#[test]
-fn an_empty_text_in_use(rt: HostRuntime) -> Result<(), Fail> {
-    let mut table = writer(rt.alloc());
-    assert_eq!(rt; table.index_of(b"")?, 1);
-    assert!(rt; table.len() < 2);
-    assert_eq!(rt; table.index_of(b"a")?, 2);
-    let mut out = Vec::new(rt.alloc());
-    table.write(&mut out)?;
-    assert_eq!(rt;
-        out.as_slice(),
-        [0x0a, 0x00, 0x0a, 0x00, 0x0a, 0x01, 0x61].as_slice()
-    );
-    Ok(())
-}
-
-/// Passes whichever of its requests for memory is refused.
-#[test]
-fn memory_that_is_refused(rt: HostRuntime) {
-    let mut table = writer(rt.alloc());
-    for text in [
-        b"a".as_slice(),
-        b"b",
-        b"c",
-        b"d",
-        b"e",
-        b"f",
-        b"g",
-        b"h",
-        b"i",
-    ] {
-        let before = table.len();
-        assert!(rt; before < 9);
-        let refused = table.index_of(text).is_err();
-        assert_eq!(rt; table.len() == before, refused);
-        if !refused {
-            assert!(rt; table.len() < 10);
-            assert!(rt; table.index_of(text).is_ok());
-        }
-    }
-    let read = Table::read(rt.alloc(), &FOUR_TEXTS, 42, 40);
-    assert!(rt; matches!(read, Ok(_) | Err(ReadFault::Memory)));
 }
 
 #[test]

@@ -381,37 +381,6 @@ fn columns_written_and_read(rt: HostRuntime) -> Result<(), Fail> {
     Ok(())
 }
 
-/// Whether exactly a refused push leaves the column as it was.
-fn pushes(column: &mut ColumnOut, number: u8) -> bool {
-    let before = column.held();
-    let added = column.push(u64::from(number));
-    (column.held() == before) == added.is_err()
-}
-
-fn pushes_delta(deltas: &mut DeltaOut, number: u8) -> bool {
-    let before = deltas.held();
-    let added = deltas.push(i64::from(number));
-    (deltas.held() == before) == added.is_err()
-}
-
-/// Whether it is so for forty numbers.
-fn pushes_forty(alloc: Global) -> bool {
-    let mut column = ColumnOut::new(alloc);
-    let mut deltas = DeltaOut::new(alloc);
-    for number in 0..40 {
-        if !pushes(&mut column, number) || !pushes_delta(&mut deltas, number) {
-            return false;
-        }
-    }
-    true
-}
-
-/// Whichever request for memory is refused, the columns are as they were, and the next push may succeed.
-#[test]
-fn a_refused_push_changes_nothing(rt: HostRuntime) {
-    assert!(rt; pushes_forty(rt.alloc()));
-}
-
 /// Whether these are all sums.
 fn are_sums(sums: Sums<'_>, values: &[i64]) -> bool {
     let mut sums = sums;
