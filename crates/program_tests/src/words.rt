@@ -253,14 +253,13 @@ fn words_that_are_no_command(rt: HostRuntime) -> Result<(), Fail> {
     )
 }
 
-/// The first of these parts that the text has not.
-fn lacking<'a>(text: &str, parts: &[&'a str]) -> Option<&'a str> {
+fn has_parts(text: &str, parts: &[&str]) -> bool {
     for part in parts {
         if !text.contains(*part) {
-            return Some(*part);
+            return false;
         }
     }
-    None
+    true
 }
 
 /// Whether no line has more than 80 columns.
@@ -273,9 +272,9 @@ fn is_narrow(text: &str) -> bool {
     true
 }
 
-/// What `--help` after these words lacks of these parts, of those that each help has, or of its width.
-fn lack_of_help<'a>(alloc: Global, words: &[&str], parts: &[&'a str]) -> Option<&'a str> {
-    const OF_EACH: [&'static str; 5] = [
+/// Whether `--help` after these words gives help with each of the parts in it, and with those that each help has.
+fn is_help(alloc: Global, words: &[&str], parts: &[&str]) -> bool {
+    let of_each = [
         "Usage: pbfcut",
         "Example",
         "\n  pbfcut ",
@@ -283,21 +282,18 @@ fn lack_of_help<'a>(alloc: Global, words: &[&str], parts: &[&'a str]) -> Option<
         "5  IN changed",
     ];
     let read = read_words(alloc, words);
-    let Ok(Command::Help(text)) = &read else {
-        return Some("help");
-    };
-    let text = text.as_str();
-    if !is_narrow(text) {
-        return Some("lines of 80 columns");
-    }
-    match lacking(text, &OF_EACH) {
-        Some(part) => Some(part),
-        None => lacking(text, parts),
+    match &read {
+        Ok(Command::Help(text)) => {
+            is_narrow(text.as_str())
+                && has_parts(text.as_str(), &of_each)
+                && has_parts(text.as_str(), parts)
+        }
+        _ => false,
     }
 }
 
 fn helps_with(rt: &(impl Abort + AllocGlobal), words: &[&str], parts: &[&str]) -> Result<(), Fail> {
-    assert_eq!(rt; lack_of_help(rt.alloc(), words, parts), None);
+    assert!(rt; is_help(rt.alloc(), words, parts));
     Ok(())
 }
 
