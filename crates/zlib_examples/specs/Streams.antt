@@ -41,10 +41,10 @@ Fixed = inflated 6 fixed_ababab ≡ Ok (0x61 ∷ 0x62 ∷ 0x61 ∷ 0x62 ∷ 0x61
 abbrev pub dynamic_aba : List ℕ
 dynamic_aba =
     header
-    ++ 0x05 ∷ 0xc0 ∷ []  -- 1, the last block; 01, codes of its own; 00000, 257 lengths of literals; 00000, one of a distance; 011, ..
-    ++ 0x81 ∷ 0x0c ∷ 0x00 ∷ 0x00 ∷ 0x00 ∷ 0x80 ∷ 0x30 ∷ []  -- .. 1: 18 lengths of three bits, in the order 16, 17, 18, 0, 8, .., 2, 14, 1
-    ++ 0xd6 ∷ 0xe7 ∷ 0x0f ∷ 0xd1 ∷ 0x64 ∷ []  -- by the code 0 for 18, 10 for 2, 110 for 0, 111 for 1: 97 zeros, 1, 2, 157 zeros, 2; 0
-    -- so "a" is 0, "b" is 10, the end is 11, and there are no distances. The last bits of 64 and 02 are 0 10 0 11: "aba" and the end
+    ++ 0x05 ∷ 0xc0 ∷ 0x81 ∷ []  -- 1, the last block; 01, codes of its own; 00000 and 00000, 257 and 1 lengths; 0111, 18 lengths of lengths
+    ++ 0x0c ∷ 0x00 ∷ 0x00 ∷ 0x00 ∷ 0x80 ∷ 0x30 ∷ []  -- of three bits, in the order 16, 17, 18, 0, 8, .., 2, 14, 1; with the end of 0x81
+    ++ 0xd6 ∷ 0xe7 ∷ 0x0f ∷ 0xd1 ∷ 0x64 ∷ []  -- by the code 0 for 18, 10 for 2, 110 for 0, 111 for 1: 97 zeros, 1, 2, 157 zeros, 2, and 0
+    -- so "a" is 0, "b" is 10, the end is 11, and there are no distances. The last bits of 0x64 are 0 10 0 11: "aba" and the end
     ++ 0x02 ∷ 0x4b ∷ 0x01 ∷ 0x25 ∷ []  -- the Adler-32 of "aba"
 
 abbrev pub Dynamic : Type 0
