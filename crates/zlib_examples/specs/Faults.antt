@@ -1,5 +1,5 @@
 -- Each fault once. The eleventh, Memory, is none of the bytes.
-use Rattle.std.specs.Prelude.{◌≡◌, ℕ, List, [], ◌∷◌, ◌++◌, Ok, Err}
+use Rattle.std.specs.Prelude.{◌≡◌, [], ◌∷◌, ◌++◌, Err}
 use Rattle.zlib.specs.declared.fault.InflateFault.TheVariants.{Header, Cut, BlockType, StoredLength, Lengths, Symbol, Distance, Long, Checksum, Rest}
 use Rattle.zlib.specs.Stream.{inflated}
 use Rattle.zlib_examples.specs.Streams.{header, stored_ab}
