@@ -2,8 +2,12 @@
 //! they mean, proved by computing the definitions of the crate `zlib` on them.
 #![tactic(auto)]
 
+mod caller;
+
 ghost use Rattle.zlib_examples.specs.Streams.{Stored, Fixed, Dynamic};
 ghost use Rattle.zlib_examples.specs.Faults.{Faults};
+
+pub use caller::unpacked;
 
 /// A stream of a stored block, of one with the fixed codes, and of one with codes of its own.
 #[tactic(auto, unfolding(crate::proofs::Computing::zlib_on_literals))]

@@ -3,7 +3,7 @@
 //! That a refused growth is answered as `Memory` is tried by hand, by `rt try --test --fail-alloc N`.
 
 use std::alloc::Global;
-use zlib::{InflateFault, Inflater, adler32, inflate};
+use zlib::{InflateFault, Inflater, adler32, inflate, put_stored};
 
 /// "hello, hello, hello" by zlib 1.2.13 at level 6: a block with the fixed codes and a copy.
 const HELLO: [u8; 17] = [
@@ -60,6 +60,17 @@ fn a_block_with_codes_of_its_own(rt: HostRuntime) {
 #[test]
 fn a_stored_block(rt: HostRuntime) {
     assert!(rt; means(rt.alloc(), &STORED, b"ab") == Ok(true));
+}
+
+/// Whether the stored stream of "ab" is the one above.
+fn stores(alloc: Global) -> bool {
+    let mut out = Vec::new(alloc);
+    put_stored(b"ab", &mut out).is_ok() && out.as_slice() == STORED.as_slice()
+}
+
+#[test]
+fn a_stream_that_is_written(rt: HostRuntime) {
+    assert!(rt; stores(rt.alloc()));
 }
 
 #[test]
