@@ -1,4 +1,4 @@
--- Each fault once. The eleventh, Memory, is none of the bytes.
+-- Each fault once, but for the eleventh, Memory, which is not in the bytes.
 use Rattle.std.specs.Prelude.{◌≡◌, [], ◌∷◌, ◌++◌, Err}
 use Rattle.zlib.specs.declared.fault.InflateFault.TheVariants.{Header, Cut, BlockType, StoredLength, Lengths, Symbol, Distance, Long, Checksum, Rest}
 use Rattle.zlib.specs.Stream.{inflated}
@@ -11,7 +11,7 @@ pub record Faults : Type 0 where
   pub of_method : inflated 9 (0x79 ∷ 0x0b ∷ []) ≡ Err Header
   pub of_window : inflated 9 (0x88 ∷ 0x1c ∷ []) ≡ Err Header
   pub of_dictionary : inflated 9 (0x78 ∷ 0x20 ∷ []) ≡ Err Header
-  -- no bytes, one byte, a header alone
+  -- no bytes, one byte, and a header that nothing follows
   pub of_nothing : inflated 9 [] ≡ Err Cut
   pub of_one_byte : inflated 9 (0x78 ∷ []) ≡ Err Cut
   pub of_no_block : inflated 9 header ≡ Err Cut

@@ -1,6 +1,6 @@
 //! What no clause says: that the calls succeed where there is memory, on streams that zlib wrote, and on known check values.
 //!
-//! That a refused growth is answered as `Memory` is tried by hand, by `rt try --test --fail-alloc N`.
+//! That a failed allocation is reported as `Memory` is tried by hand, by `rt try --test --fail-alloc N`.
 
 use std::alloc::Global;
 use zlib::{InflateFault, Inflater, adler32, inflate, put_stored};
