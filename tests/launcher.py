@@ -67,7 +67,7 @@ class Copy:
             copy = shutil.copytree if os.path.isdir(os.path.join(TOP, name)) else shutil.copy
             os.makedirs(os.path.dirname(self.path(name)), exist_ok=True)
             copy(os.path.join(TOP, name), self.path(name))
-        write(self.path("crates.txt"), "pbfcut_run: pbf_wire\npbf_wire:\npbf_wire_tests: pbf_wire\n")
+        write(self.path("crates.txt"), "pbfcut_run: pbf_wire\npbf_wire:\nwire_tests: pbf_wire\n")
         write(self.path(SOURCE), "// a source\n")
         write(self.path("crates/pbfcut_run/src/main.rt"), "// another\n")
         self.release(program)
@@ -119,7 +119,7 @@ def runs_at_once(folder: str, program: bytes):
         os.utime(copy.path(name))
     write(copy.path("README.md"), "a newer page\n")
     write(copy.path("crates/pbf_wire/must-fail/a.edit"), "a newer planted bug\n")
-    write(copy.path("crates/pbf_wire_tests/src/lib.rt"), "// a newer test\n")
+    write(copy.path("crates/wire_tests/src/lib.rt"), "// a newer test\n")
     expect("run after newer times, pages and tests", (0, out, ""), copy.pbfcut("--version"))
     write(copy.path(UNPACKED), b"#!/bin/sh\necho another\n", 0o755)
     expect("run after the unpacked program was changed", (0, out), copy.pbfcut("--version")[:2])
