@@ -1,14 +1,33 @@
 #!/usr/bin/env python3
 """Runs the suite.
 
-    run.py pbfcut PROGRAM [WORD ...]     pbfcut: each command on each case, byte for byte
-    run.py reader [--form FORM] [--packed] [--list] [--only WORD] -- COMMAND ...
-                                         another reader: COMMAND prints the entities of the file that {} stands for (or that
-                                         is added to its words); FORM is opl (so if left out), lines (the suite's JSON lines)
-                                         or xml; with --packed each blob is packed by zlib first; --list names what differs
-    run.py index [--check]               writes the page of the cases and the list that crates/pbf_vectors reads, or compares them
+    run.py reader [OPTION ...] -- COMMAND ...
+                              a reader: COMMAND prints the entities of the file that {} stands for (or that is added to its words)
+    run.py known [OPTION ...] [NAME ...]
+                              the readers that known.py knows and that are installed here: one table of all of them
+    run.py write FOLDER       each case as FOLDER/NAME.osm.pbf, and what is to be read of it as FOLDER/NAME.json
+    run.py pbfcut PROGRAM [WORD ...]
+                              pbfcut: each command on each case, byte for byte
+    run.py index [--check]    writes the page of the cases and the list that crates/pbf_vectors reads, or compares them
 
-With WORDs, only the cases in whose name one of them stands. Python's standard library is all that is needed. README.md says more.
+Options of `reader`; the last six are also for `known`:
+
+    --form FORM       what COMMAND prints: lines (the suite's JSON lines; if left out), opl, xml, counts (nodes N ways N relations
+                      N), or status (nothing is compared but whether it refuses a file)
+    --packed          each blob is packed by zlib first, for readers of packed files alone
+    --kinds A,B       only these of node, way and relation are compared
+    --without A,B     these parts aren't compared: version, time, changeset, uid, user, tags, refs, members, place, locations
+    --refusal REGEX   a line of standard error by which COMMAND refuses a file though its exit status is 0 (Error)
+    --set SET         raw (the cases with raw blobs; if left out) or zlib (those that test the packing itself)
+    --only WORD       only cases in whose name WORD stands (may be repeated)
+    --jobs N          as many cases at a time (1)
+    --seconds N       how long COMMAND may take for a file (20)
+    --list            names each case that isn't as it should be
+    --json FILE, --tap FILE, --junit FILE, --html FILE
+                      writes a report; FILE may be -
+
+Exit status: 0, every sound file was read as meant and every broken one refused; 1, not so; 2, wrong options, or no such program.
+Python's standard library is all that is needed. README.md says more.
 """
 
 import os
@@ -17,33 +36,81 @@ import sys
 sys.dont_write_bytecode = True
 sys.path.insert(0, os.path.dirname(os.path.realpath(__file__)))
 
+import report
+from forms import FORMS
 from index import run_index
+from known import run_known
 from program import run_program
-from readers import run_reader
+from readers import is_here, results_of
 from suite import cases
+from zlib_cases import zlib_cases
+
+FLAGS = ("--packed", "--list")
+TEXTS = ("--form", "--refusal", "--set", "--json", "--tap", "--junit", "--html")
+NUMBERS = ("--jobs", "--seconds")
+LISTS = ("--kinds", "--without", "--only")
 
 
-def reader(words: list) -> int:
-    """The words of `run.py reader`."""
-    options = {"form": "opl", "packed": False, "list": False, "only": []}
-    while words and words[0] != "--":
+class Usage(Exception):
+    """Wrong words."""
+
+
+def options_of(words: list) -> tuple:
+    """The options before the first word that is none, and the words from there on."""
+    options = {"form": "lines", "set": "raw", "only": []}
+    while words and words[0].startswith("--") and words[0] != "--":
         word = words.pop(0)
-        if word in ("--packed", "--list"):
-            options[word[2:]] = True
-        elif word == "--form" and words and words[0] in ("opl", "lines", "xml"):
-            options["form"] = words.pop(0)
-        elif word == "--only" and words:
-            options["only"].append(words.pop(0))
+        name = word[2:]
+        if word in FLAGS:
+            options[name] = True
+            continue
+        if word not in TEXTS + NUMBERS + LISTS or not words:
+            raise Usage(word)
+        value = words.pop(0)
+        if word in NUMBERS:
+            if not value.isdigit() or int(value) < 1:
+                raise Usage(f"{word} {value}")
+            options[name] = int(value)
         else:
-            return usage()
-    if len(words) < 2:
-        return usage()
-    return run_reader(words[1:], cases(options["only"]), options)
+            options[name] = options.get(name, []) + value.split(",") if word in LISTS else value
+    if options["form"] not in FORMS or options["set"] not in ("raw", "zlib"):
+        raise Usage("--form or --set")
+    return options, words
 
 
-def usage() -> int:
-    print(__doc__, file=sys.stderr)
-    return 2
+def chosen_cases(options: dict) -> list:
+    return zlib_cases(options["only"]) if options["set"] == "zlib" else cases(options["only"])
+
+
+def written(place: str, text: str):
+    """A report, to its file or standard output."""
+    if place == "-":
+        sys.stdout.write(text)
+        return
+    with open(place, "w", encoding="utf-8") as file:
+        file.write(text)
+
+
+def run_reader(words: list) -> int:
+    """The words of `run.py reader`."""
+    options, rest = options_of(words)
+    if len(rest) < 2 or rest[0] != "--":
+        raise Usage("there is no COMMAND after --")
+    command = rest[1:]
+    if not is_here(command):
+        print(f"{command[0]} is not here", file=sys.stderr)
+        return 2
+    results = results_of(command, chosen_cases(options), options)
+    makers = {"json": lambda: report.as_json(command, results), "tap": lambda: report.as_tap(results), "junit": lambda: report.as_junit(results)}
+    makers["html"] = lambda: report.as_html([(" ".join(command), results)])
+    for name, make in makers.items():
+        if name in options:
+            written(options[name], make())
+    if "-" not in (options.get(name) for name in makers):
+        if options.get("list"):
+            sys.stdout.write(report.listed(results))
+        sys.stdout.write(report.table(results))
+    return report.status_of(results)
 
 
 def main(words: list) -> int:
@@ -51,11 +118,18 @@ def main(words: list) -> int:
     if len(words) >= 2 and words[0] == "pbfcut":
         return run_program(words[1], cases(words[2:]))
     if words and words[0] == "reader":
-        return reader(words[1:])
+        return run_reader(words[1:])
+    if words and words[0] == "known":
+        options, names = options_of(words[1:])
+        return run_known(names, chosen_cases(options), options)
     if words in (["index"], ["index", "--check"]):
         return run_index("--check" in words)
-    return usage()
+    raise Usage("")
 
 
 if __name__ == "__main__":
-    sys.exit(main(sys.argv[1:]))
+    try:
+        sys.exit(main(sys.argv[1:]))
+    except Usage as usage:
+        print(__doc__ + (f"\nwrong: {usage}" if str(usage) else ""), file=sys.stderr)
+        sys.exit(2)

@@ -12,6 +12,8 @@ CALLS = ("convert", "extract", "parents")
 class Case:
     """One folder of the suite."""
 
+    is_packed = False
+
     def __init__(self, name: str):
         self.name = name
         self.folder = os.path.join(HERE, name)

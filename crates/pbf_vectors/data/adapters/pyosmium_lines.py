@@ -1,5 +1,5 @@
-#!/usr/bin/env python3
-"""Prints the entities of a file as the suite's JSON lines, as pyosmium reads them: run.py reader --form lines -- with_pyosmium.py"""
+#!/usr/bin/python3
+"""Prints the entities of a file as the suite's JSON lines, as pyosmium reads them."""
 
 import json
 import sys

@@ -1,0 +1,62 @@
+#!/usr/bin/python3
+"""Prints the nodes of a file as the suite's JSON lines, as GDAL's driver reads them. It makes geometries of ways and relations, and
+only where their nodes are in the file, so those are not compared."""
+
+import json
+import os
+import re
+import sys
+
+from osgeo import gdal
+
+CONFIG = os.path.join(os.path.dirname(os.path.abspath(__file__)), "gdal.ini")
+PAIR = re.compile(r'"((?:[^"\\]|\\.)*)"=>"((?:[^"\\]|\\.)*)"', re.DOTALL)
+
+
+def plain(text: str) -> str:
+    """A text of hstore."""
+    return re.sub(r"\\(.)", r"\1", text, flags=re.DOTALL)
+
+
+def seconds(field: list) -> int:
+    """A time that GDAL gives as year, month, day, hour, minute, second and zone."""
+    import datetime
+
+    year, month, day, hour, minute, second = (int(part) for part in field[:6])
+    return int((datetime.datetime(year, month, day, hour, minute, second) - datetime.datetime(1970, 1, 1)).total_seconds())
+
+
+def told(feature) -> dict:
+    point = feature.GetGeometryRef()
+    entity = {"kind": "node", "id": int(feature.GetFieldAsString("osm_id"))}
+    for name in ("version", "uid", "changeset"):
+        if feature.IsFieldSetAndNotNull("osm_" + name):
+            entity[name] = feature.GetFieldAsInteger64("osm_" + name)
+    if feature.IsFieldSetAndNotNull("osm_timestamp"):
+        entity["time"] = seconds(feature.GetFieldAsDateTime("osm_timestamp")) * 1000
+    entity["user"] = feature.GetFieldAsString("osm_user")
+    tags = feature.GetFieldAsString("all_tags") if feature.IsFieldSetAndNotNull("all_tags") else ""
+    entity["tags"] = [[plain(key), plain(value)] for key, value in PAIR.findall(tags)]
+    entity["lat"], entity["lon"] = round(point.GetY() * 1e9), round(point.GetX() * 1e9)
+    return entity
+
+
+def main(file: str) -> int:
+    gdal.UseExceptions()
+    gdal.SetConfigOption("OSM_CONFIG_FILE", CONFIG)
+    try:
+        source = gdal.OpenEx(file, gdal.OF_VECTOR, allowed_drivers=["OSM"])
+        for feature in source.GetLayerByName("points"):
+            print(json.dumps(told(feature), ensure_ascii=False))
+        for number in range(1, source.GetLayerCount()):
+            for _ in source.GetLayer(number):
+                pass
+    except RuntimeError as error:
+        print(error, file=sys.stderr)
+        return 1
+    return 0
+
+
+if __name__ == "__main__":
+    sys.stdout.reconfigure(errors="surrogateescape")
+    sys.exit(main(sys.argv[1]))
