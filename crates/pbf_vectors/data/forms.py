@@ -104,8 +104,8 @@ def xml(text: bytes) -> list:
 
 
 def counted(text: bytes) -> tuple:
-    """The numbers of nodes, ways and relations: the last three of `nodes N ways N relations N`."""
-    found = re.findall(rb"nodes (\d+) ways (\d+) relations (\d+)", text)
+    """The numbers of nodes, ways and relations: the last three of `nodes N ways N relations N` or `Nodes=N Ways=N Relations=N`."""
+    found = re.findall(rb"(?i)nodes[ =](\d+) ways[ =](\d+) relations[ =](\d+)", text)
     return tuple(int(number) for number in found[-1])
 
 

@@ -46,24 +46,37 @@ def fields(message: bytes) -> list:
 FEATURES = spelled(4, b"OsmSchema-V0.6") + spelled(4, b"DenseNodes")
 
 
+def frame(kind: bytes, body: bytes) -> bytes:
+    """A frame of a Blob with these bytes."""
+    header = spelled(1, kind) + varint(24) + varint(len(body))
+    return len(header).to_bytes(4, "big") + header + body
+
+
+def frames(data: bytes) -> list:
+    """(type, raw payload) of each frame, or an error of index, key or type where they can't be read."""
+    found, at = [], 0
+    while at < len(data):
+        length = int.from_bytes(data[at : at + 4], "big")
+        header = {number: value for number, _, value in fields(data[at + 4 : at + 4 + length])}
+        at += 4 + length
+        size = header[3] & 0xFFFFFFFF
+        blob = {number: value for number, _, value in fields(data[at : at + size])}
+        if at + size > len(data) or set(blob) & {3, 4, 5, 6, 7}:
+            raise IndexError
+        at += size
+        found.append((header[1], blob[1]))
+    return found
+
+
 def packed(data: bytes):
     """The file with each raw blob in zlib's form, and its BlobHeaders spelled anew; None where its frames can't be read. A header
     that requires no feature gets the two usual ones, without which some readers of packed files stop at once."""
-    out, at = b"", 0
+    out = b""
     try:
-        while at < len(data):
-            length = int.from_bytes(data[at : at + 4], "big")
-            header = {number: value for number, _, value in fields(data[at + 4 : at + 4 + length])}
-            at += 4 + length
-            size = header[3] & 0xFFFFFFFF
-            blob = {number: value for number, _, value in fields(data[at : at + size])}
-            if at + size > len(data) or set(blob) & {3, 4, 5, 6, 7}:
-                return None
-            at += size
-            raw = FEATURES + blob[1] if header[1] == b"OSMHeader" and b"OsmSchema-V0.6" not in blob[1] else blob[1]
-            body = varint(16) + varint(len(raw)) + spelled(3, zlib.compress(raw))
-            head = spelled(1, header[1]) + varint(24) + varint(len(body))
-            out += len(head).to_bytes(4, "big") + head + body
+        for kind, raw in frames(data):
+            if kind == b"OSMHeader" and b"OsmSchema-V0.6" not in raw:
+                raw = FEATURES + raw
+            out += frame(kind, varint(16) + varint(len(raw)) + spelled(3, zlib.compress(raw)))
     except (IndexError, KeyError, TypeError):
         return None
     return out

@@ -87,7 +87,7 @@ def written(place: str, text: str):
     if place == "-":
         sys.stdout.write(text)
         return
-    with open(place, "w", encoding="utf-8") as file:
+    with open(place, "w", encoding="utf-8", errors="backslashreplace") as file:
         file.write(text)
 
 

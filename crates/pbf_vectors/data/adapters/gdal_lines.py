@@ -2,6 +2,7 @@
 """Prints the nodes of a file as the suite's JSON lines, as GDAL's driver reads them. It makes geometries of ways and relations, and
 only where their nodes are in the file, so those are not compared."""
 
+import datetime
 import json
 import os
 import re
@@ -20,8 +21,6 @@ def plain(text: str) -> str:
 
 def seconds(field: list) -> int:
     """A time that GDAL gives as year, month, day, hour, minute, second and zone."""
-    import datetime
-
     year, month, day, hour, minute, second = (int(part) for part in field[:6])
     return int((datetime.datetime(year, month, day, hour, minute, second) - datetime.datetime(1970, 1, 1)).total_seconds())
 
@@ -42,19 +41,17 @@ def told(feature) -> dict:
 
 
 def main(file: str) -> int:
-    gdal.UseExceptions()
+    errors = []
+    gdal.PushErrorHandler(lambda level, number, text: errors.append(text) if level >= gdal.CE_Failure else None)
     gdal.SetConfigOption("OSM_CONFIG_FILE", CONFIG)
-    try:
-        source = gdal.OpenEx(file, gdal.OF_VECTOR, allowed_drivers=["OSM"])
-        for feature in source.GetLayerByName("points"):
-            print(json.dumps(told(feature), ensure_ascii=False))
-        for number in range(1, source.GetLayerCount()):
-            for _ in source.GetLayer(number):
-                pass
-    except RuntimeError as error:
-        print(error, file=sys.stderr)
-        return 1
-    return 0
+    source = gdal.OpenEx(file, gdal.OF_VECTOR, allowed_drivers=["OSM"])
+    for number in range(source.GetLayerCount() if source else 0):
+        for feature in source.GetLayer(number):
+            if number == 0:
+                print(json.dumps(told(feature), ensure_ascii=False))
+    if errors or not source:
+        print(errors[0] if errors else "the driver doesn't know the file", file=sys.stderr)
+    return 1 if errors or not source else 0
 
 
 if __name__ == "__main__":

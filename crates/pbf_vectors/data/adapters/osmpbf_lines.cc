@@ -181,9 +181,10 @@ static void header(const string &payload) {
 static string payload(const string &body) {
     OSMPBF::Blob blob;
     hold(blob.ParseFromString(body), "protobuf can't read a Blob");
+    hold(blob.raw().size() < static_cast<size_t>(OSMPBF::max_uncompressed_blob_size), "a blob's raw bytes are past the limit");
     if (blob.has_raw()) return blob.raw();
     hold(blob.has_zlib_data(), "a blob is neither raw nor packed by zlib");
-    hold(blob.raw_size() >= 0 && static_cast<uint64_t>(blob.raw_size()) <= OSMPBF::max_uncompressed_blob_size, "raw_size is past the limit");
+    hold(blob.raw_size() >= 0 && static_cast<uint64_t>(blob.raw_size()) < OSMPBF::max_uncompressed_blob_size, "raw_size is past the limit");
     string out(static_cast<size_t>(blob.raw_size()), '\0');
     uLongf size = out.size();
     const Bytef *from = reinterpret_cast<const Bytef *>(blob.zlib_data().data());
