@@ -193,10 +193,15 @@ def meant_entities(case: Case):
     return [{**entity, "time": entity["time"] // 1000} if "time" in entity else entity for entity in told]
 
 
+PARTS = ("version", "time", "changeset", "uid", "user", "tags", "refs", "members", "lat", "lon", "locations")
+
+
 def shown_entity(entity: dict) -> str:
-    """An entity on a line, for reports."""
+    """An entity on a line, for reports: numbers of the metadata that count as absent are left out."""
     parts = [f"{entity['kind']} {entity['id']}"]
-    for name, value in entity.items():
-        if name not in ("kind", "id", "visible") and value not in ([], "", None):
+    for name in PARTS:
+        value = entity.get(name)
+        if value not in ([], "", None) and not (name in NUMBERS and value in (0, -1)):
             parts.append(f"{name} {json.dumps(value, ensure_ascii=False, separators=(',', ':'))}")
-    return "  ".join(parts)
+    text = "  ".join(parts)
+    return text if len(text) <= 1000 else text[:1000] + " and so on"

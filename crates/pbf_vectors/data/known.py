@@ -1,6 +1,5 @@
 """The readers that are known: the Debian package of each, its command, and what of its output is compared."""
 
-import json
 import os
 import subprocess
 import sys
@@ -44,21 +43,28 @@ class Known(NamedTuple):
         return is_here(self.words(self.command, built))
 
 
-NODES = {"form": "lines", "kinds": ["node"]}
+JAVA = "java -XX:TieredStopAtLevel=1 -XX:+UseSerialGC"
+SHARE = "/usr/share/java"
+OSMOSIS = f"/usr/share/osmosis/*:{SHARE}/protobuf.jar:{SHARE}/guava.jar:{SHARE}/commons-compress.jar:{SHARE}/jpf.jar"
+MKGMAP = f"/usr/share/mkgmap/mkgmap.jar:{SHARE}/osmpbf.jar:{SHARE}/protobuf.jar:{SHARE}/fastutil.jar"
 CXX = "c++ -O1 -o {built}/osmpbf_lines {here}/osmpbf_lines.cc -losmpbf -lprotobuf -lz"
-JARS = "/usr/share/mkgmap/mkgmap.jar:/usr/share/java/osmpbf.jar:/usr/share/java/protobuf.jar:/usr/share/java/fastutil.jar"
-JAVAC = f"javac -cp {JARS} -d {{built}} {{here}}/MkgmapLines.java"
-FAST = "{here}/osmosis_fast {}"
-COARSE = ["version", "time", "changeset", "uid", "user", "tags", "place", "locations"]
+JAVAC_OSMOSIS = f"javac -cp {OSMOSIS} -d {{built}} {{here}}/OsmosisLines.java"
+JAVAC_MKGMAP = f"javac -cp {MKGMAP} -d {{built}} {{here}}/MkgmapLines.java"
+
+LINES = {"form": "lines"}
+BATCH = {**LINES, "batch": True}
+NODES = {**BATCH, "kinds": ["node"]}
+REFS = {**BATCH, "without": ["locations"]}
+COARSE = {**BATCH, "without": ["version", "time", "changeset", "uid", "user", "tags", "place", "locations"]}
 KNOWN = (
-    Known("protobuf", "protobuf with OSM-binary's .proto files", "libosmpbf-dev", "{built}/osmpbf_lines {}", {"form": "lines"}, CXX),
+    Known("protobuf", "protobuf with OSM-binary's .proto files", "libosmpbf-dev", "{built}/osmpbf_lines {}", LINES, CXX),
     Known("osmium", "Osmium", "osmium-tool", "osmium cat -f opl,locations_on_ways=true {}", {"form": "opl"}),
-    Known("pyosmium", "pyosmium", "python3-pyosmium", "{here}/pyosmium_lines.py {}", {"form": "lines"}),
-    Known("osmosis", "Osmosis", "osmosis", "osmosis -q --read-pbf file={} --write-xml file=-", {"form": "xml", "refusal": "SEVERE"}),
-    Known("osmosis-fast", "Osmosis, --read-pbf-fast", "osmosis", FAST, {"form": "xml", "refusal": "SEVERE"}),
-    Known("mkgmap", "mkgmap", "mkgmap", f"java -XX:TieredStopAtLevel=1 -XX:+UseSerialGC -cp {JARS}:{{built}} MkgmapLines {{}}", {"form": "lines", "without": COARSE}, JAVAC),
-    Known("gdal", "GDAL", "python3-gdal", "{here}/gdal_lines.py {}", NODES),
-    Known("readosm", "ReadOSM", "libreadosm1", "{here}/readosm_lines.py {}", {"form": "lines", "without": ["locations"]}),
+    Known("pyosmium", "pyosmium", "python3-pyosmium", "{here}/pyosmium_lines.py", BATCH),
+    Known("osmosis", "Osmosis, --read-pbf", "osmosis", f"{JAVA} -cp {OSMOSIS}:{{built}} OsmosisLines", REFS, JAVAC_OSMOSIS),
+    Known("osmosis-fast", "Osmosis, --read-pbf-fast", "osmosis", f"{JAVA} -cp {OSMOSIS}:{{built}} OsmosisLines fast", REFS, JAVAC_OSMOSIS),
+    Known("mkgmap", "mkgmap", "mkgmap", f"{JAVA} -cp {MKGMAP}:{{built}} MkgmapLines", COARSE, JAVAC_MKGMAP),
+    Known("gdal", "GDAL", "python3-gdal", "{here}/gdal_lines.py", NODES),
+    Known("readosm", "ReadOSM", "libreadosm1", "{here}/readosm_lines.py", REFS),
     Known("routino", "Routino", "routino", "planetsplitter --dir=. --parse-only {}", {"form": "counts"}),
     Known("osmconvert", "osmconvert", "osmctools", "osmconvert {} --out-osm", {"form": "xml", "packed": True}),
     Known("maptool", "Navit's maptool", "maptool", "maptool --protobuf -i {} out.bin", {"form": "status", "packed": True}),
@@ -68,17 +74,12 @@ KNOWN = (
 def measured(reader: Known, built: str, chosen: list, options: dict) -> dict:
     """What is told of a reader's results."""
     results = results_of(reader.words(reader.command, built), chosen, {**options, **reader.options})
-    told = {"name": reader.name, "title": reader.title, "package": reader.package, "version": reader.version(), "command": reader.command}
-    told.update(options=reader.options, counts=counts(results), results=[result.as_json() for result in results if not result.is_plain()])
-    return told
+    told = {"name": reader.name, "package": reader.package, "version": reader.version(), "options": reader.options}
+    return {**told, **report.told_of(reader.title, reader.command, results)}
 
 
-def run_known(names: list, chosen: list, options: dict) -> int:
-    """The readers of these names, or all; answers 0 where at least one of them is here."""
-    unknown = set(names) - {reader.name for reader in KNOWN}
-    if unknown:
-        print(f"no known reader is named {', '.join(sorted(unknown))}", file=sys.stderr)
-        return 2
+def run_known(names: list, chosen: list, options: dict) -> list:
+    """What is told of the readers of these names, or of all, that are here."""
     found = []
     with tempfile.TemporaryDirectory() as built:
         for reader in KNOWN:
@@ -89,9 +90,4 @@ def run_known(names: list, chosen: list, options: dict) -> int:
                 continue
             found.append(measured(reader, built, chosen, options))
             print(f"{reader.name}: done", file=sys.stderr, flush=True)
-    if "json" in options:
-        with open(options["json"], "w", encoding="utf-8", errors="backslashreplace") as file:
-            json.dump(found, file, ensure_ascii=False, indent=1)
-            file.write("\n")
-    sys.stdout.write(report.rows(found))
-    return 0 if found else 2
+    return found

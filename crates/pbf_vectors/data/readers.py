@@ -1,11 +1,14 @@
 """Other readers over the suite: what a reader makes of each case."""
 
 import concurrent.futures
+import contextlib
 import os
 import re
 import shutil
+import signal
 import subprocess
 import tempfile
+import threading
 import xml.etree.ElementTree as ElementTree
 
 from forms import FORMS, difference, meant_entities, shown_entity
@@ -46,18 +49,58 @@ class Result:
         return told
 
 
+class Batch:
+    """A command that reads many files: their names go to its standard input, and after each file it prints `# status N WHY`. After a
+    file that ends it, it is started anew."""
+
+    def __init__(self, words: list, seconds: int):
+        self.words = words
+        self.seconds = seconds
+        self.process = None
+
+    def start(self):
+        pipe = subprocess.PIPE
+        self.process = subprocess.Popen(self.words, stdin=pipe, stdout=pipe, stderr=subprocess.DEVNULL, start_new_session=True)
+
+    def stop(self):
+        with contextlib.suppress(ProcessLookupError):
+            os.killpg(self.process.pid, signal.SIGKILL)
+
+    def asked(self, file: str) -> subprocess.CompletedProcess:
+        """What it prints of a file, with the status of that line; or subprocess.TimeoutExpired."""
+        if self.process is None:
+            self.start()
+        timer = threading.Timer(self.seconds, self.stop)
+        timer.start()
+        self.process.stdin.write(file.encode() + b"\n")
+        self.process.stdin.flush()
+        read = []
+        for line in self.process.stdout:
+            if line.startswith(b"# status "):
+                timer.cancel()
+                status, _, why = line[9:].strip().partition(b" ")
+                return subprocess.CompletedProcess(self.words, int(status), b"".join(read), why)
+            read.append(line)
+        status = self.process.wait()
+        self.process = None
+        if timer.finished.is_set():
+            raise subprocess.TimeoutExpired(self.words, self.seconds)
+        timer.cancel()
+        return subprocess.CompletedProcess(self.words, status or 1, b"", b"it ended")
+
+
 class Reader:
     """A command, and how its output is understood."""
 
     def __init__(self, command: list, options: dict):
-        self.command = command if any("{}" in word for word in command) else command + ["{}"]
+        self.command = command if options.get("batch") or any("{}" in word for word in command) else command + ["{}"]
         self.form = options.get("form", "opl")
         self.packed = options.get("packed", False)
         self.seconds = options.get("seconds", SECONDS)
         self.kinds = options.get("kinds", [])
         self.without = options.get("without", [])
         self.refusal = re.compile(options.get("refusal") or r"\bError\b")
-        self.environment = dict(os.environ)
+        self.batches = threading.local() if options.get("batch") else None
 
     def result(self, case: Case) -> Result:
         """What the reader makes of the case. The file stands in a new folder, where the reader may write too."""
@@ -72,10 +115,18 @@ class Reader:
                 out.write(data)
             return self.run(case, file, folder)
 
-    def run(self, case: Case, file: str, folder: str) -> Result:
+    def done(self, file: str, folder: str) -> subprocess.CompletedProcess:
+        """The command over a file. In a batch each thread has its own."""
+        if self.batches is not None:
+            if not hasattr(self.batches, "mine"):
+                self.batches.mine = Batch(self.command, self.seconds)
+            return self.batches.mine.asked(file)
         words = [word.replace("{}", file) for word in self.command]
+        return subprocess.run(words, capture_output=True, cwd=folder, stdin=subprocess.DEVNULL, timeout=self.seconds)
+
+    def run(self, case: Case, file: str, folder: str) -> Result:
         try:
-            done = subprocess.run(words, capture_output=True, cwd=folder, stdin=subprocess.DEVNULL, timeout=self.seconds)
+            done = self.done(file, folder)
         except subprocess.TimeoutExpired:
             return Result(case, CRASHED, f"no end within {self.seconds} seconds")
         if done.returncode < 0 or done.returncode in (134, 136, 139):

@@ -21,9 +21,14 @@ def listed(results: list) -> str:
     return "".join(f"{r.case.told['verdict']}: {r.case.name}: {r.outcome}: {r.note}\n" for r in results if not r.is_good())
 
 
-def as_json(command: list, results: list) -> str:
-    told = {"command": command, "counts": counts(results), "results": [result.as_json() for result in results]}
-    return json.dumps(told, ensure_ascii=False, indent=1) + "\n"
+def told_of(title: str, command: str, results: list) -> dict:
+    """One reader's results as `--json` writes them: those that say something. A broken file that is refused says nothing, for one."""
+    told = {"title": title, "command": command, "counts": counts(results)}
+    return {**told, "results": [result.as_json() for result in results if not result.is_plain()]}
+
+
+def as_json(measured: list) -> str:
+    return json.dumps(measured, ensure_ascii=False, indent=1) + "\n"
 
 
 def as_tap(results: list) -> str:

@@ -15,6 +15,8 @@ Options of `reader`; the last six are also for `known`:
     --form FORM       what COMMAND prints: lines (the suite's JSON lines; if left out), opl, xml, counts (nodes N ways N relations
                       N), or status (nothing is compared but whether it refuses a file)
     --packed          each blob is packed by zlib first, for readers of packed files alone
+    --batch           COMMAND is started once: the names of files come on its standard input, and after each it prints what it has to
+                      print and a line `# status N WHY`
     --kinds A,B       only these of node, way and relation are compared
     --without A,B     these parts aren't compared: version, time, changeset, uid, user, tags, refs, members, place, locations
     --refusal REGEX   a line of standard error by which COMMAND refuses a file though its exit status is 0 (Error)
@@ -39,13 +41,14 @@ sys.path.insert(0, os.path.dirname(os.path.realpath(__file__)))
 import report
 from forms import FORMS
 from index import run_index
-from known import run_known
+from known import KNOWN, run_known
 from program import run_program
 from readers import is_here, results_of
+from report_html import as_html
 from suite import cases
 from zlib_cases import zlib_cases
 
-FLAGS = ("--packed", "--list")
+FLAGS = ("--packed", "--list", "--batch")
 TEXTS = ("--form", "--refusal", "--set", "--json", "--tap", "--junit", "--html")
 NUMBERS = ("--jobs", "--seconds")
 LISTS = ("--kinds", "--without", "--only")
@@ -82,13 +85,14 @@ def chosen_cases(options: dict) -> list:
     return zlib_cases(options["only"]) if options["set"] == "zlib" else cases(options["only"])
 
 
-def written(place: str, text: str):
-    """A report, to its file or standard output."""
-    if place == "-":
-        sys.stdout.write(text)
-        return
-    with open(place, "w", encoding="utf-8", errors="backslashreplace") as file:
-        file.write(text)
+def written_reports(options: dict, makers: dict):
+    """Each report that is asked for, to its file or standard output."""
+    for name, make in makers.items():
+        if options.get(name) == "-":
+            sys.stdout.write(make())
+        elif name in options:
+            with open(options[name], "w", encoding="utf-8", errors="backslashreplace") as file:
+                file.write(make())
 
 
 def run_reader(words: list) -> int:
@@ -100,17 +104,31 @@ def run_reader(words: list) -> int:
     if not is_here(command):
         print(f"{command[0]} is not here", file=sys.stderr)
         return 2
-    results = results_of(command, chosen_cases(options), options)
-    makers = {"json": lambda: report.as_json(command, results), "tap": lambda: report.as_tap(results), "junit": lambda: report.as_junit(results)}
-    makers["html"] = lambda: report.as_html([(" ".join(command), results)])
-    for name, make in makers.items():
-        if name in options:
-            written(options[name], make())
-    if "-" not in (options.get(name) for name in makers):
-        if options.get("list"):
-            sys.stdout.write(report.listed(results))
-        sys.stdout.write(report.table(results))
+    chosen = chosen_cases(options)
+    results = results_of(command, chosen, options)
+    told = [report.told_of(command[0], " ".join(command), results)]
+    written_reports(options, {
+        "json": lambda: report.as_json(told), "html": lambda: as_html(told, chosen),
+        "tap": lambda: report.as_tap(results), "junit": lambda: report.as_junit(results)})
+    if "-" not in options.values():
+        sys.stdout.write((report.listed(results) if options.get("list") else "") + report.table(results))
     return report.status_of(results)
+
+
+def run_readers(words: list) -> int:
+    """The words of `run.py known`."""
+    options, names = options_of(words)
+    if {"tap", "junit", "packed"} & set(options):
+        raise Usage("--tap, --junit and --packed are for one reader")
+    unknown = set(names) - {reader.name for reader in KNOWN}
+    if unknown:
+        raise Usage(f"no known reader is named {', '.join(sorted(unknown))}")
+    chosen = chosen_cases(options)
+    told = run_known(names, chosen, options)
+    written_reports(options, {"json": lambda: report.as_json(told), "html": lambda: as_html(told, chosen)})
+    if "-" not in options.values():
+        sys.stdout.write(report.rows(told))
+    return 0 if told else 2
 
 
 def main(words: list) -> int:
@@ -120,8 +138,7 @@ def main(words: list) -> int:
     if words and words[0] == "reader":
         return run_reader(words[1:])
     if words and words[0] == "known":
-        options, names = options_of(words[1:])
-        return run_known(names, chosen_cases(options), options)
+        return run_readers(words[1:])
     if words in (["index"], ["index", "--check"]):
         return run_index("--check" in words)
     raise Usage("")

@@ -1,7 +1,11 @@
 // Prints the entities of a file as the suite's JSON lines, as mkgmap's reader (on OSM-binary's library for Java) hands them to mkgmap.
 // mkgmap keeps no metadata, of tags a table without order, and places in steps of 2^-30 of a turn, so none of these is printed.
+//
+// It reads the names of files from standard input, and after each file prints a line "# status N WHY", so one machine reads them all.
 
+import java.io.BufferedReader;
 import java.io.FileInputStream;
+import java.io.InputStreamReader;
 import java.util.ArrayList;
 import java.util.List;
 import java.util.Map;
@@ -86,14 +90,25 @@ public class MkgmapLines extends ElementSaver {
         print("relation", relation.getId(), ",\"members\":" + members);
     }
 
-    public static void main(String[] words) throws Exception {
+    private static String read(String name) {
         MkgmapLines saver = new MkgmapLines();
         OsmBinHandler handler = new OsmBinHandler();
         handler.setElementSaver(saver);
         handler.setHooks(new OsmReadingHooks() {});
-        try (FileInputStream file = new FileInputStream(words[0])) {
+        try (FileInputStream file = new FileInputStream(name)) {
             handler.parse(file);
+            System.out.print(saver.out);
+            return "0";
+        } catch (Exception | Error error) {
+            return "1 " + error.toString().replace('\n', ' ');
         }
-        System.out.print(saver.out);
+    }
+
+    public static void main(String[] words) throws Exception {
+        BufferedReader names = new BufferedReader(new InputStreamReader(System.in));
+        for (String name = names.readLine(); name != null; name = names.readLine()) {
+            System.out.println("# status " + read(name));
+            System.out.flush();
+        }
     }
 }

@@ -8,6 +8,7 @@ import os
 import re
 import sys
 
+import batch
 from osgeo import gdal
 
 CONFIG = os.path.join(os.path.dirname(os.path.abspath(__file__)), "gdal.ini")
@@ -56,4 +57,4 @@ def main(file: str) -> int:
 
 if __name__ == "__main__":
     sys.stdout.reconfigure(errors="surrogateescape")
-    sys.exit(main(sys.argv[1]))
+    batch.run(main)

@@ -4,6 +4,7 @@
 import json
 import sys
 
+import batch
 import osmium
 
 
@@ -31,5 +32,10 @@ class Printer(osmium.SimpleHandler):
         self.told("relation", relation, members=[[member.type, member.ref, member.role] for member in relation.members])
 
 
+def main(file: str) -> int:
+    Printer().apply_file(file)
+    return 0
+
+
 if __name__ == "__main__":
-    Printer().apply_file(sys.argv[1])
+    batch.run(main)

@@ -7,6 +7,8 @@ import json
 import sys
 import time
 
+import batch
+
 UNDEFINED = -1234567890
 KINDS = {7361: "n", 6731: "w", 3671: "r"}
 
@@ -89,4 +91,4 @@ def main(file: str) -> int:
 
 if __name__ == "__main__":
     sys.stdout.reconfigure(errors="surrogateescape")
-    sys.exit(main(sys.argv[1]))
+    batch.run(main)
