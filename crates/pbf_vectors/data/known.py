@@ -67,6 +67,7 @@ KNOWN = (
     Known("readosm", "ReadOSM", "libreadosm1", "{here}/readosm_lines.py", REFS),
     Known("routino", "Routino", "routino", "planetsplitter --dir=. --parse-only {}", {"form": "counts"}),
     Known("osmconvert", "osmconvert", "osmctools", "osmconvert {} --out-osm", {"form": "xml", "packed": True}),
+    Known("osmpbf-outline", "osmpbf-outline", "osmpbf-bin", "{here}/outline_counts.py {}", {"form": "counts", "packed": True}),
     Known("maptool", "Navit's maptool", "maptool", "maptool --protobuf -i {} out.bin", {"form": "status", "packed": True}),
 )
 

@@ -6,6 +6,8 @@
 import java.io.BufferedReader;
 import java.io.FileInputStream;
 import java.io.InputStreamReader;
+import java.io.OutputStream;
+import java.io.PrintStream;
 import java.util.ArrayList;
 import java.util.List;
 import java.util.Map;
@@ -90,14 +92,14 @@ public class MkgmapLines extends ElementSaver {
         print("relation", relation.getId(), ",\"members\":" + members);
     }
 
-    private static String read(String name) {
+    private static String read(String name, PrintStream to) {
         MkgmapLines saver = new MkgmapLines();
         OsmBinHandler handler = new OsmBinHandler();
         handler.setElementSaver(saver);
         handler.setHooks(new OsmReadingHooks() {});
         try (FileInputStream file = new FileInputStream(name)) {
             handler.parse(file);
-            System.out.print(saver.out);
+            to.print(saver.out);
             return "0";
         } catch (Exception | Error error) {
             return "1 " + error.toString().replace('\n', ' ');
@@ -105,10 +107,13 @@ public class MkgmapLines extends ElementSaver {
     }
 
     public static void main(String[] words) throws Exception {
+        PrintStream to = System.out;
+        // OSM-binary's library says on standard output which frames it passes over.
+        System.setOut(new PrintStream(OutputStream.nullOutputStream()));
         BufferedReader names = new BufferedReader(new InputStreamReader(System.in));
         for (String name = names.readLine(); name != null; name = names.readLine()) {
-            System.out.println("# status " + read(name));
-            System.out.flush();
+            to.println("# status " + read(name, to));
+            to.flush();
         }
     }
 }

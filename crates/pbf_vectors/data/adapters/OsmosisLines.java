@@ -107,6 +107,8 @@ public class OsmosisLines implements Sink {
     public static void main(String[] words) throws Exception {
         LogManager.getLogManager().reset();
         PrintStream to = System.out;
+        // OSM-binary's library says on standard output which frames it passes over.
+        System.setOut(new PrintStream(OutputStream.nullOutputStream()));
         System.setErr(new PrintStream(OutputStream.nullOutputStream()));
         BufferedReader names = new BufferedReader(new InputStreamReader(System.in));
         for (String name = names.readLine(); name != null; name = names.readLine()) {

@@ -23,7 +23,8 @@ def plain(text: str) -> str:
 def seconds(field: list) -> int:
     """A time that GDAL gives as year, month, day, hour, minute, second and zone."""
     year, month, day, hour, minute, second = (int(part) for part in field[:6])
-    return int((datetime.datetime(year, month, day, hour, minute, second) - datetime.datetime(1970, 1, 1)).total_seconds())
+    start = datetime.datetime(year, month, 1) - datetime.datetime(1970, 1, 1)
+    return (start.days + day - 1) * 86400 + hour * 3600 + minute * 60 + second
 
 
 def told(feature) -> dict:
@@ -45,6 +46,8 @@ def main(file: str) -> int:
     errors = []
     gdal.PushErrorHandler(lambda level, number, text: errors.append(text) if level >= gdal.CE_Failure else None)
     gdal.SetConfigOption("OSM_CONFIG_FILE", CONFIG)
+    # The usual index of nodes is for files whose nodes are sorted.
+    gdal.SetConfigOption("OSM_USE_CUSTOM_INDEXING", "NO")
     source = gdal.OpenEx(file, gdal.OF_VECTOR, allowed_drivers=["OSM"])
     for number in range(source.GetLayerCount() if source else 0):
         for feature in source.GetLayer(number):
