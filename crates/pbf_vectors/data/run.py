@@ -5,7 +5,8 @@
                               a reader: COMMAND prints the entities of the file that {} stands for (or that is added to its words)
     run.py known [OPTION ...] [NAME ...]
                               the readers that known.py knows and that are installed here: one table of all of them
-    run.py write FOLDER       each case as FOLDER/NAME.osm.pbf, and what is to be read of it as FOLDER/NAME.json
+    run.py write [--set SET] [--packed] FOLDER
+                              each case as FOLDER/NAME.osm.pbf, and what is to be read of it as FOLDER/NAME.json
     run.py pbfcut PROGRAM [WORD ...]
                               pbfcut: each command on each case, byte for byte
     run.py index [--check]    writes the page of the cases and the list that crates/pbf_vectors reads, or compares them
@@ -32,6 +33,7 @@ Exit status: 0, every sound file was read as meant and every broken one refused;
 Python's standard library is all that is needed. README.md says more.
 """
 
+import json
 import os
 import sys
 
@@ -42,6 +44,7 @@ import report
 from forms import FORMS
 from index import run_index
 from known import KNOWN, run_known
+from packing import packed
 from program import run_program
 from readers import is_here, results_of
 from report_html import as_html
@@ -131,6 +134,25 @@ def run_readers(words: list) -> int:
     return 0 if told else 2
 
 
+def run_write(words: list) -> int:
+    """The words of `run.py write`: what a runner in another language needs."""
+    options, rest = options_of(words)
+    if len(rest) != 1:
+        raise Usage("there is no FOLDER")
+    os.makedirs(rest[0], exist_ok=True)
+    for case in chosen_cases(options):
+        data = packed(case.input()) if options.get("packed") and not case.is_packed else case.input()
+        if data is None:
+            continue
+        told = {name: case.told[name] for name in ("odd", "rule", "topic", "verdict", "choice", "entities") if name in case.told}
+        place = os.path.join(rest[0], case.name)
+        with open(place + ".osm.pbf", "wb") as file:
+            file.write(data)
+        with open(place + ".json", "w", encoding="utf-8") as file:
+            json.dump(told, file, ensure_ascii=False, indent=1)
+    return 0
+
+
 def main(words: list) -> int:
     sys.stdout.reconfigure(errors="backslashreplace")
     if len(words) >= 2 and words[0] == "pbfcut":
@@ -139,6 +161,8 @@ def main(words: list) -> int:
         return run_reader(words[1:])
     if words and words[0] == "known":
         return run_readers(words[1:])
+    if words and words[0] == "write":
+        return run_write(words[1:])
     if words in (["index"], ["index", "--check"]):
         return run_index("--check" in words)
     raise Usage("")
