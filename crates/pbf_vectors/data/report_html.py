@@ -8,11 +8,11 @@ from forms import meant_entities, shown_entity
 from readers import CRASHED, KEPT, OTHERWISE, READ, REFUSED
 
 STYLE = """
-:root { color-scheme: light dark; --line: #8884; --soft: #8881; --bad: #c62828; --good: #2e7d32; --mark: #f9a82540; }
+:root { color-scheme: light dark; --line: #8884; --soft: #8881; --bad: #d84343; --mark: #f9a82540; }
 body { font: 15px/1.45 system-ui, sans-serif; max-width: 1180px; margin: 2rem auto; padding: 0 1rem; }
 h1 { font-size: 1.6rem; } h2 { font-size: 1.25rem; margin-top: 2.5rem; border-bottom: 1px solid var(--line); }
 code, pre { font: 12.5px/1.5 ui-monospace, monospace; }
-table { border-collapse: collapse; margin: 1rem 0; } th, td { padding: .3rem .7rem; border-bottom: 1px solid var(--line); text-align: right; }
+table { border-collapse: collapse; margin: 1rem 0; display: block; overflow-x: auto; } th, td { padding: .3rem .7rem; border-bottom: 1px solid var(--line); text-align: right; }
 th:first-child, td:first-child { text-align: left; } th { font-weight: 600; vertical-align: bottom; } td.silent { font-weight: 700; color: var(--bad); }
 details { border: 1px solid var(--line); border-radius: 6px; margin: .35rem 0; } summary { cursor: pointer; padding: .35rem .7rem; }
 details > div { padding: 0 .9rem .8rem; } .what { opacity: .8; }
