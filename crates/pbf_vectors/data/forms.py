@@ -5,7 +5,7 @@ import json
 import re
 import xml.etree.ElementTree as ElementTree
 
-from suite import Case
+from suite import Case, nanodegrees
 
 EPOCH = datetime.datetime(1970, 1, 1)
 KINDS = {"n": "node", "w": "way", "r": "relation"}
@@ -26,13 +26,7 @@ def seconds_of(stamp: str) -> int:
 def opl_place(text: str):
     """`x1.5y2` as latitude and longitude in nanodegrees."""
     lon, _, lat = text.lstrip("x").partition("y")
-    return (nano(lat), nano(lon)) if lon and lat else None
-
-
-def nano(degrees: str) -> int:
-    whole, _, fraction = degrees.lstrip("-").partition(".")
-    value = int(whole) * 1_000_000_000 + int((fraction + "000000000")[:9])
-    return -value if degrees.startswith("-") else value
+    return (nanodegrees(lat), nanodegrees(lon)) if lon and lat else None
 
 
 def opl_entity(line: str) -> dict:
@@ -51,7 +45,7 @@ def opl_entity(line: str) -> dict:
         elif sort == "T" and rest:
             entity["tags"] = [[unescaped(part) for part in tag.split("=")] for tag in rest.split(",")]
         elif sort in "xy" and rest:
-            place[sort] = nano(rest)
+            place[sort] = nanodegrees(rest)
         elif sort == "N" and rest:
             refs = [re.match(r"n(-?\d+)(.*)", ref).groups() for ref in rest.split(",")]
             entity["refs"] = [int(ref) for ref, _ in refs]
@@ -95,7 +89,7 @@ def xml(text: bytes) -> list:
         if "user" in told:
             entity["user"] = told["user"]
         if "lat" in told:
-            entity["lat"], entity["lon"] = nano(told["lat"]), nano(told["lon"])
+            entity["lat"], entity["lon"] = nanodegrees(told["lat"]), nanodegrees(told["lon"])
         entity["tags"] = [[tag.get("k"), tag.get("v")] for tag in element.iter("tag")]
         entity["refs"] = [int(ref.get("ref")) for ref in element.iter("nd")]
         entity["members"] = [[m.get("type")[0], int(m.get("ref")), m.get("role")] for m in element.iter("member")]

@@ -2,7 +2,7 @@
 
 import os
 
-from suite import CALLS, HERE, Case, cases
+from suite import CALLS, HERE, Case, cases, nanodegrees
 
 ABOUT = os.path.join(HERE, "about.md")
 
@@ -56,12 +56,6 @@ def missing(fault: dict) -> int:
     """The field that is missing, of a reason like Missing(8); else 0."""
     reason = fault["reason"]
     return int(reason[8:-1]) if reason.startswith("Missing(") else 0
-
-
-def nanodegrees(edge: str) -> int:
-    whole, _, fraction = edge.lstrip("-").partition(".")
-    value = int(whole) * 1_000_000_000 + int((fraction + "000000000")[:9])
-    return -value if edge.startswith("-") else value
 
 
 def run_index(check: bool) -> int:

@@ -9,6 +9,8 @@
                               each case as FOLDER/NAME.osm.pbf, and what is to be read of it as FOLDER/NAME.json
     run.py pbfcut PROGRAM [WORD ...]
                               pbfcut: each command on each case, byte for byte
+    run.py reference [WORD ...]
+                              what the cases expect, compared with the reference program
     run.py index [--check]    writes the page of the cases and the list that crates/pbf_vectors reads, or compares them
 
 Options of `reader`; the last six are also for `known`:
@@ -47,6 +49,7 @@ from known import KNOWN, run_known
 from packing import packed
 from program import run_program
 from readers import is_here, results_of
+from reference import run_reference
 from report_html import as_html
 from suite import cases
 from zlib_cases import zlib_cases
@@ -161,6 +164,8 @@ def main(words: list) -> int:
         return run_reader(words[1:])
     if words and words[0] == "known":
         return run_readers(words[1:])
+    if words and words[0] == "reference":
+        return run_reference(cases(words[1:]))
     if words and words[0] == "write":
         return run_write(words[1:])
     if words in (["index"], ["index", "--check"]):

@@ -44,6 +44,13 @@ class Case:
         return b"" if self.refusal(call) else self.bytes_of(self.told["writes"][call])
 
 
+def nanodegrees(degrees: str) -> int:
+    """A decimal number of degrees in nanodegrees; digits beyond the ninth are cut."""
+    whole, _, fraction = degrees.lstrip("-").partition(".")
+    value = int(whole) * 1_000_000_000 + int((fraction + "000000000")[:9])
+    return -value if degrees.startswith("-") else value
+
+
 def names() -> list:
     return sorted(entry.name for entry in os.scandir(HERE) if os.path.exists(os.path.join(entry.path, "case.json")))
 
