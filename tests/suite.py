@@ -19,7 +19,10 @@ sys.dont_write_bytecode = True
 sys.path.insert(0, VECTORS)
 
 import forms
+import reference
+from make import written_files
 from packing import frames, packed
+from recipes import RECIPES
 from suite import Case
 from zlib_cases import zlib_cases
 
@@ -130,6 +133,16 @@ def packed_twins():
     require([kind for kind, _ in frames(base)] == [b"OSMHeader", b"OSMData"], "frames")
 
 
+def the_reference():
+    """It tells what is wrong with a case."""
+    case = Case("three_dense_nodes_as_extracted")
+    require(reference.differences(case) == [], "the reference and a case")
+    for name, value in (("all", [3, 0, 0]), ("entities", []), ("header", []), ("counts", {})):
+        case.told = {**case.told, name: value}
+    require(len(reference.differences(case)) == 4, "four differences from the reference")
+    require([line for recipe in RECIPES for line in written_files(recipe, True)] == [], "recipes.py and the folders")
+
+
 def the_companion(program: str, folder: str):
     """pbfcut-any over the cases of the packing: all sound ones as meant, all broken ones refused."""
     os.environ["PBFCUT"] = os.path.abspath(program)
@@ -149,6 +162,7 @@ def main(program: str):
         wrong_words()
         the_forms()
         packed_twins()
+        the_reference()
         the_companion(program, folder)
     print("the scripts of vectors/ do what they say")
 

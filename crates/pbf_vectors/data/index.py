@@ -2,6 +2,7 @@
 
 import os
 
+from make import run_make
 from suite import CALLS, HERE, Case, cases, nanodegrees
 
 ABOUT = os.path.join(HERE, "about.md")
@@ -62,7 +63,7 @@ def run_index(check: bool) -> int:
     """Writes both, or says which of them isn't as the cases are."""
     found = cases([])
     wanted = {"README.md": page(found), "list": "".join(row(case) + "\n" for case in found)}
-    stale = 0
+    stale = run_make(True)
     for name, text in wanted.items():
         path = os.path.join(HERE, name)
         if check:

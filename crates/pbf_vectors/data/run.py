@@ -11,7 +11,8 @@
                               pbfcut: each command on each case, byte for byte
     run.py reference [WORD ...]
                               what the cases expect, compared with the reference program
-    run.py index [--check]    writes the page of the cases and the list that crates/pbf_vectors reads, or compares them
+    run.py make [--check]     writes the folders of the cases that recipes.py describes, or compares them
+    run.py index [--check]    writes the page of the cases and the list that crates/pbf_vectors reads, or compares them and recipes.py's
 
 Options of `reader`; the last six are also for `known`:
 
@@ -46,6 +47,7 @@ import report
 from forms import FORMS
 from index import run_index
 from known import KNOWN, run_known
+from make import run_make
 from packing import packed
 from program import run_program
 from readers import is_here, results_of
@@ -168,6 +170,8 @@ def main(words: list) -> int:
         return run_reference(cases(words[1:]))
     if words and words[0] == "write":
         return run_write(words[1:])
+    if words in (["make"], ["make", "--check"]):
+        return run_make("--check" in words)
     if words in (["index"], ["index", "--check"]):
         return run_index("--check" in words)
     raise Usage("")
