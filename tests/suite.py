@@ -84,6 +84,8 @@ def bad_readers(folder: str):
         for text, batch in ((ONCE, []), (MANY, ["--batch"])):
             done = run("reader", *batch, "--list", "--seconds", "1", *FEW, *reader_script(folder, text, change))
             require(done.returncode == 1 and said in done.stdout, f"{change} {batch}: {done.returncode} {done.stdout}{done.stderr}")
+    done = run("reader", "--batch", "--list", *FEW, "--", "true")
+    require(done.returncode == 1 and "it ended" in done.stdout, f"a reader of many files that ends at once: {done.stdout}{done.stderr}")
     leaving = run("reader", "--without", "place,tags", *FEW, *reader_script(folder, ONCE, "entity['lat'] += 1000"))
     require(leaving.returncode == 0, "--without leaves nothing out")
 
@@ -106,6 +108,7 @@ def reports(folder: str):
 
 
 def wrong_words():
+    require(run("--help").returncode == 0, "--help")
     for words in ([], ["reader"], ["reader", "--form", "none", "--", "true"], ["reader", "--jobs", "0", "--", "true"], ["known", "nobody"],
                   ["reader", "--", "no-such-program"], ["write"], ["reader", "--unheard-of", "--", "true"]):
         done = run(*words)

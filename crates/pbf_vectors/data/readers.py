@@ -72,8 +72,9 @@ class Batch:
             self.start()
         timer = threading.Timer(self.seconds, self.stop)
         timer.start()
-        self.process.stdin.write(file.encode() + b"\n")
-        self.process.stdin.flush()
+        with contextlib.suppress(BrokenPipeError):
+            self.process.stdin.write(file.encode() + b"\n")
+            self.process.stdin.flush()
         read = []
         for line in self.process.stdout:
             if line.startswith(b"# status "):

@@ -1,39 +1,39 @@
 #!/usr/bin/env python3
-"""Runs the suite.
+"""Runs the suite of test files for readers of OpenStreetMap's PBF.
 
     run.py reader [OPTION ...] -- COMMAND ...
-                              a reader: COMMAND prints the entities of the file that {} stands for (or that is added to its words)
+                              a reader: COMMAND prints the entities of the file that {} stands for (or that is its last argument)
     run.py known [OPTION ...] [NAME ...]
-                              the readers that known.py knows and that are installed here: one table of all of them
+                              the readers listed in known.py, if they are installed: one table for all of them
     run.py write [--set SET] [--packed] FOLDER
-                              each case as FOLDER/NAME.osm.pbf, and what is to be read of it as FOLDER/NAME.json
+                              writes each case as FOLDER/NAME.osm.pbf, and what should be read as FOLDER/NAME.json
     run.py pbfcut PROGRAM [WORD ...]
                               pbfcut: each command on each case, byte for byte
     run.py reference [WORD ...]
-                              what the cases expect, compared with the reference program
+                              compares what the cases expect with the reference program
     run.py make [--check]     writes the folders of the cases that recipes.py describes, or compares them
-    run.py index [--check]    writes the page of the cases and the list that crates/pbf_vectors reads, or compares them and recipes.py's
+    run.py index [--check]    writes README.md and `list`, which crates/pbf_vectors reads, or compares them and the folders
 
-Options of `reader`; the last six are also for `known`:
+Options of `reader`; those from --set on are also for `known`, except --list, --tap and --junit:
 
-    --form FORM       what COMMAND prints: lines (the suite's JSON lines; if left out), opl, xml, counts (nodes N ways N relations
-                      N), or status (nothing is compared but whether it refuses a file)
-    --packed          each blob is packed by zlib first, for readers of packed files alone
-    --batch           COMMAND is started once: the names of files come on its standard input, and after each it prints what it has to
-                      print and a line `# status N WHY`
-    --kinds A,B       only these of node, way and relation are compared
-    --without A,B     these parts aren't compared: version, time, changeset, uid, user, tags, refs, members, place, locations
-    --refusal REGEX   a line of standard error by which COMMAND refuses a file though its exit status is 0 (Error)
-    --set SET         raw (the cases with raw blobs; if left out) or zlib (those that test the packing itself)
-    --only WORD       only cases in whose name WORD stands (may be repeated)
-    --jobs N          as many cases at a time (1)
-    --seconds N       how long COMMAND may take for a file (20)
-    --list            names each case that isn't as it should be
+    --form FORM       what COMMAND prints: lines (the suite's JSON lines, the default), opl, xml, counts (nodes N ways N
+                      relations N), or status (only whether it refuses a file is compared)
+    --packed          compress each blob with zlib first, for readers that don't read raw blobs
+    --batch           start COMMAND once: it gets the files' names on standard input, and after each file it prints a line
+                      `# status N WHY`
+    --kinds A,B       compare only these of node, way and relation
+    --without A,B     don't compare these: version, time, changeset, uid, user, tags, refs, members, place, locations
+    --refusal REGEX   COMMAND refuses a file also if a line of its standard error matches (default: \\bError\\b)
+    --set SET         raw (the cases with raw blobs, the default) or zlib (those that test compressed blobs)
+    --only WORD       only cases with WORD in their name (may be repeated)
+    --jobs N          run N cases at a time (default: 1)
+    --seconds N       how long COMMAND may take for a file (default: 20)
+    --list            name each case that is not as it should be
     --json FILE, --tap FILE, --junit FILE, --html FILE
-                      writes a report; FILE may be -
+                      write a report; FILE may be -
 
-Exit status: 0, every sound file was read as meant and every broken one refused; 1, not so; 2, wrong options, or no such program.
-Python's standard library is all that is needed. README.md says more.
+WORDs select the cases with one of them in their name. Exit status: 0 if every sound file was read as meant and every broken one was
+refused, 1 if not, 2 for a wrong command line or a missing program. Python's standard library is enough. README.md says more.
 """
 
 import json
@@ -160,6 +160,9 @@ def run_write(words: list) -> int:
 
 def main(words: list) -> int:
     sys.stdout.reconfigure(errors="backslashreplace")
+    if words in (["--help"], ["-h"]):
+        print(__doc__)
+        return 0
     if len(words) >= 2 and words[0] == "pbfcut":
         return run_program(words[1], cases(words[2:]))
     if words and words[0] == "reader":
