@@ -62,7 +62,7 @@ def main():
         faults.extend(f"{what}: '{name}' is not on the page" for name in sorted(there - listed))
 
     differ("crates", {name for row in rows(section(text, "The crates")) for name in names(row[0])} - (crates - code), code)
-    layers = set(re.findall(r"\b[a-z]+_[a-z]+\b|\bpbfcut\b", section(text, "Layers")))
+    layers = set(re.findall(r"\b[a-z]+_[a-z]+\b|\bpbfcut\b|^zlib\b", section(text, "Layers"), re.M))
     differ("layers", layers - (crates - code), code)
     page = mapped(text)
     differ("rooms", set(page) - (crates - code), code)

@@ -3,7 +3,8 @@
 
 usage: tests/terminal.py PROGRAM
 
-Where standard error is no terminal there is no such line, which tests/program.py holds of every run.
+Where standard error is no terminal there is no such line, which tests/program.py holds of every run. On a machine without terminals this is
+told, and nothing is run.
 """
 
 import os
@@ -74,6 +75,12 @@ def main():
     if len(sys.argv) != 2 or not os.access(sys.argv[1], os.X_OK):
         sys.exit(__doc__)
     program, count = os.path.abspath(sys.argv[1]), 0
+    try:
+        for end in pty.openpty():
+            os.close(end)
+    except OSError:
+        print("tests/terminal.py: there are no terminals here, so nothing was run")
+        return
     with tempfile.TemporaryDirectory(prefix="pbfcut-terminal-") as folder:
 
         def case(name: str, words: list, status: int, *lines: str, given: bytes = b"", out: str = ""):

@@ -5,17 +5,22 @@ use Rattle.osm_box.specs.declared.bounding_box.BoxFault.{BoxFault}
 use Rattle.osm_box.specs.declared.bounding_box.BoxFault.TheVariants.{Range, LeftOverRight, BottomOverTop}
 
 -- the number is from -limit to limit
-abbrev pub is_up_to : ℤ → ℤ → Bool
+unfoldable pub is_up_to : ℤ → ℤ → Bool
 is_up_to limit number = int_le (neg_ℤ limit) number && int_le number limit
+
+-- the box of these edges, or that two of them are the wrong way round
+abbrev pub box_of_ordered : ℤ → ℤ → ℤ → ℤ → Result BoundingBox BoxFault
+box_of_ordered left bottom right top =
+    if int_lt right left then Err LeftOverRight
+    else (if int_lt top bottom then Err BottomOverTop
+    else Ok (record { left = left; bottom = bottom; right = right; top = top }))
 
 -- the box of these edges in nanodegrees, or the fault with the least number
 abbrev pub box_of_edges : ℤ → ℤ → ℤ → ℤ → Result BoundingBox BoxFault
 box_of_edges left bottom right top =
     if not (is_up_to (pos 180000000000) left && is_up_to (pos 180000000000) right) then Err Range
     else (if not (is_up_to (pos 90000000000) bottom && is_up_to (pos 90000000000) top) then Err Range
-    else (if int_lt right left then Err LeftOverRight
-    else (if int_lt top bottom then Err BottomOverTop
-    else Ok (record { left = left; bottom = bottom; right = right; top = top }))))
+    else box_of_ordered left bottom right top)
 
 -- a place in nanodegrees is in the box, edges included
 abbrev pub is_inside : BoundingBox → ℤ → ℤ → Bool

@@ -1,8 +1,8 @@
 //! The box of an extract.
 
 ghost use Rattle.std.specs.Prelude.{◌≡◌, ◌≤ℤ◌, ◌&&◌, pos, int_le};
-ghost use Rattle.osm_box.specs.BoundingBox.{box_of_edges, is_up_to, is_inside};
-ghost use Rattle.osm_box.specs.Degrees.{box_of_text};
+ghost use Rattle.osm_box.specs.BoundingBox.{box_of_edges, box_of_ordered, is_up_to, is_inside};
+ghost use Rattle.osm_box.specs.Degrees.{box_of_numbers, box_of_text};
 
 use crate::degrees::{Parts, degrees};
 use thiserror::Error;
@@ -43,11 +43,55 @@ pub enum BoxFault {
 }
 
 /// Whether the number is from `-limit` to `limit`.
+#[tactic(auto, unfolding(crate::specs::BoundingBox::is_up_to))]
 fn is_up_to(limit: i64, number: i64) -> bool
     requires { pos 0 ≤ℤ limit }
     ensures { result ≡ is_up_to limit number }
 {
     -limit <= number && number <= limit
+}
+
+/// Whether both edges are from `-limit` to `limit`.
+fn are_up_to(limit: i64, low: i64, high: i64) -> bool
+    requires { pos 0 ≤ℤ limit }
+    ensures { result ≡ (is_up_to limit low && is_up_to limit high) }
+{
+    is_up_to(limit, low) && is_up_to(limit, high)
+}
+
+/// The box of these edges, each in its range.
+fn ordered(left: i64, bottom: i64, right: i64, top: i64) -> Result<BoundingBox, BoxFault>
+    ensures { result ≡ box_of_ordered left bottom right top }
+{
+    if left > right {
+        return Err(BoxFault::LeftOverRight);
+    }
+    if bottom > top {
+        return Err(BoxFault::BottomOverTop);
+    }
+    Ok(BoundingBox {
+        left,
+        bottom,
+        right,
+        top,
+    })
+}
+
+/// The box of these edges, if each is a number.
+fn of_numbers(
+    left: Option<i64>,
+    bottom: Option<i64>,
+    right: Option<i64>,
+    top: Option<i64>,
+) -> Result<BoundingBox, BoxFault>
+    ensures { result ≡ box_of_numbers left bottom right top }
+{
+    match (left, bottom, right, top) {
+        (Some(left), Some(bottom), Some(right), Some(top)) => {
+            BoundingBox::new(left, bottom, right, top)
+        }
+        _ => Err(BoxFault::Digit),
+    }
 }
 
 impl BoundingBox {
@@ -59,24 +103,13 @@ impl BoundingBox {
     pub fn new(left: i64, bottom: i64, right: i64, top: i64) -> Result<BoundingBox, BoxFault>
         ensures { result ≡ box_of_edges left bottom right top }
     {
-        if !is_up_to(MOST_LON, left) || !is_up_to(MOST_LON, right) {
+        if !are_up_to(MOST_LON, left, right) {
             return Err(BoxFault::Range);
         }
-        if !is_up_to(MOST_LAT, bottom) || !is_up_to(MOST_LAT, top) {
+        if !are_up_to(MOST_LAT, bottom, top) {
             return Err(BoxFault::Range);
         }
-        if left > right {
-            return Err(BoxFault::LeftOverRight);
-        }
-        if bottom > top {
-            return Err(BoxFault::BottomOverTop);
-        }
-        Ok(BoundingBox {
-            left,
-            bottom,
-            right,
-            top,
-        })
+        ordered(left, bottom, right, top)
     }
 
     /// The box of a text `left,bottom,right,top` in degrees, such as `-0.5,51.25,0.3,51.7`.
@@ -91,17 +124,12 @@ impl BoundingBox {
         let Some(parts) = Parts::of(text) else {
             return Err(BoxFault::Shape);
         };
-        match (
+        of_numbers(
             degrees(parts.left),
             degrees(parts.bottom),
             degrees(parts.right),
             degrees(parts.top),
-        ) {
-            (Some(left), Some(bottom), Some(right), Some(top)) => {
-                BoundingBox::new(left, bottom, right, top)
-            }
-            _ => Err(BoxFault::Digit),
-        }
+        )
     }
 
     fn spans_lat(&self, lat: i128) -> bool

@@ -12,7 +12,7 @@ use crate::dense_nodes::DENSEINFO;
 use crate::entries::{next_number, next_sum, pass_numbers, pass_sums};
 use osm_entity::{MetaRef, STORED_LIMIT, UID_LIMIT};
 use pbf_strings::Table;
-use pbf_wire::{Column, Message, Payload, Sums, last_field, low_i32};
+use pbf_wire::{Column, Field, Message, Payload, Sums, last_field, low_i32};
 
 /// The text of an index, if there is one; the empty text where it is negative or the table has none.
 fn user_text<'a>(table: &'a Table<'a>, index: Option<i64>) -> Option<&'a [u8]>
@@ -50,7 +50,8 @@ pub(crate) struct InfoColumns<'a> {
 }
 
 impl<'a> InfoColumns<'a> {
-    ghost use Rattle.pbf_wire.specs.Faults.{embedded, found_in};
+    ghost use Rattle.pbf_wire.specs.Faults.{embedded, fields_of, found_in};
+    ghost use Rattle.pbf_wire.specs.Fields.{occurrence};
     ghost use Rattle.osm_entity.specs.Views.{meta_of};
     ghost use Rattle.pbf_dense.specs.Info.{meta_at, later, later_by, info_along};
     ghost use Rattle.pbf_dense.specs.Cursors.{info_left};
@@ -70,15 +71,25 @@ impl<'a> InfoColumns<'a> {
         }
     }
 
-    /// The columns of the last DenseInfo in a DenseNodes; without one they are empty.
+    /// The columns of the message in a field; without one they are empty.
     #[tactic(auto, using(crate::proofs::InfoLemmas::no_fields))]
+    fn in_field(field: Option<Field<'a>>) -> Self
+        ensures { info_left result ≡ info_along (fields_of (option_map occurrence field.entry)) }
+    {
+        let Some(field) = field else {
+            return InfoColumns::new(Message { bytes: &[], at: 0 });
+        };
+        match field.payload {
+            Payload::Bytes(bytes, at) => InfoColumns::new(Message { bytes, at }),
+            _ => InfoColumns::new(Message { bytes: &[], at: 0 }),
+        }
+    }
+
+    /// The columns of the last DenseInfo in a DenseNodes; without one they are empty.
     pub(crate) fn last_in(dense: Message<'a>) -> Self
         ensures { info_left result ≡ info_along (embedded DENSEINFO (found_in dense.entry)) }
     {
-        match last_field(dense, DENSEINFO).map(|field| field.payload) {
-            Some(Payload::Bytes(bytes, at)) => InfoColumns::new(Message { bytes, at }),
-            _ => InfoColumns::new(Message { bytes: &[], at: 0 }),
-        }
+        InfoColumns::in_field(last_field(dense, DENSEINFO))
     }
 
     /// The metadata of the next node.

@@ -35,8 +35,9 @@ def page(found: list) -> str:
 
 
 def row(case: Case) -> str:
-    """A line of the list: the name, the box in nanodegrees, and the fault, or what each call counts and the file that it writes.
-    A file of the rule is spelled out: its units in hex, each with its times."""
+    """A line of the list: the name, the box in nanodegrees, and the fault, or what each call counts and the file that it writes; where the
+    file is sound and can't be written, the fault and the counts of all. A file of the rule is spelled out: its units in hex, each with its
+    times."""
 
     def place(file: str) -> str:
         if file not in case.made:
@@ -47,7 +48,10 @@ def row(case: Case) -> str:
     fault = case.told.get("refused") or case.told.get("unwritten")
     line = f"{case.name} {edges} {place('in.osm.pbf')}"
     if fault:
-        return f"{line} refused {fault['offset']} {fault['number']} {missing(fault)}"
+        told = f"{fault['offset']} {fault['number']} {missing(fault)}"
+        if case.told.get("refused"):
+            return f"{line} refused {told}"
+        return f"{line} unwritten {told} " + " ".join(str(count) for count in case.told["all"])
     for call in CALLS:
         line += " " + " ".join(str(count) for count in case.told["counts"][call]) + " " + place(case.told["writes"][call])
     return line

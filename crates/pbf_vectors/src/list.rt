@@ -14,11 +14,16 @@ pub(crate) struct Answer<'a> {
     pub(crate) file: &'a str,
 }
 
+/// The place of a fault, the number of its reason, and the field of `Missing` or 0.
+type Told = (u64, u32, u64);
+
 /// What the calls are to answer.
 #[derive(Clone, Copy)]
 pub(crate) enum Wanted<'a> {
-    /// The place of the fault, the number of its reason, and the field of `Missing` or 0.
-    Refused(u64, u32, u64),
+    /// The fault that each call refuses the file with.
+    Refused(Told),
+    /// The fault that each call which writes refuses it with, and what `check` counts.
+    Unwritten(Told, Counts),
     /// The answers of `convert`, `extract` and `extract_parents`.
     Written(Answer<'a>, Answer<'a>, Answer<'a>),
 }
@@ -33,38 +38,50 @@ pub(crate) struct Row<'a> {
 }
 
 impl<'a> Row<'a> {
-    fn wanted_of(&self, call: Call) -> Option<Answer<'a>> {
-        match self.wanted {
-            Wanted::Refused(..) => None,
-            Wanted::Written(converted, extracted, with_parents) => Some(match call {
-                Call::Convert => converted,
-                Call::Extract => extracted,
-                Call::ExtractParents => with_parents,
-            }),
+    /// The fault that the call refuses the file with, if it does.
+    fn fault(&self, call: Call) -> Option<Told> {
+        match (self.wanted, call) {
+            (Wanted::Refused(fault), _) => Some(fault),
+            (Wanted::Written(..), _) | (_, Call::Check) => None,
+            (Wanted::Unwritten(fault, _), _) => Some(fault),
+        }
+    }
+
+    /// What the call counts, if it doesn't refuse the file: `check` and `convert` count all entities.
+    fn counts(&self, call: Call) -> Option<Counts> {
+        match (self.wanted, call) {
+            (Wanted::Refused(_), _) => None,
+            (Wanted::Unwritten(_, counts), Call::Check) => Some(counts),
+            (Wanted::Unwritten(..), _) => None,
+            (Wanted::Written(converted, _, _), Call::Check | Call::Convert) => {
+                Some(converted.counts)
+            }
+            (Wanted::Written(_, extracted, _), Call::Extract) => Some(extracted.counts),
+            (Wanted::Written(_, _, with_parents), Call::ExtractParents) => {
+                Some(with_parents.counts)
+            }
         }
     }
 
     /// The file that the call writes, if it writes one.
     pub(crate) fn file(&self, call: Call) -> Option<&'a str> {
-        match self.wanted_of(call) {
-            Some(answer) => Some(answer.file),
-            None => None,
+        match (self.wanted, call) {
+            (Wanted::Refused(_) | Wanted::Unwritten(..), _) | (_, Call::Check) => None,
+            (Wanted::Written(converted, _, _), Call::Convert) => Some(converted.file),
+            (Wanted::Written(_, extracted, _), Call::Extract) => Some(extracted.file),
+            (Wanted::Written(_, _, with_parents), Call::ExtractParents) => Some(with_parents.file),
         }
     }
 
     /// Whether this is what the call is to answer.
     pub(crate) fn is_answer(&self, call: Call, outcome: Result<Counts, Stop>) -> bool {
-        match (self.wanted, outcome) {
-            (Wanted::Refused(offset, number, field), Err(Stop::Refused(fault))) => {
-                fault.offset == offset
-                    && fault.reason.number() == number
-                    && fault.reason.missing_field() == field
+        match outcome {
+            Ok(counts) => self.counts(call) == Some(counts),
+            Err(Stop::Refused(fault)) => {
+                let reason = fault.reason;
+                self.fault(call) == Some((fault.offset, reason.number(), reason.missing_field()))
             }
-            (Wanted::Written(..), Ok(counts)) => match self.wanted_of(call) {
-                Some(answer) => answer.counts == counts,
-                None => false,
-            },
-            _ => false,
+            Err(_) => false,
         }
     }
 }
@@ -99,21 +116,26 @@ fn area_of(words: &mut Split<'_, char>) -> Result<BoundingBox, Trouble> {
 }
 
 /// The place and the reason of a fault.
-fn refused<'a>(words: &mut Split<'a, char>) -> Result<Wanted<'a>, Trouble> {
+fn told(words: &mut Split<'_, char>) -> Result<Told, Trouble> {
     let offset = whole(word(words)?)?;
     let Ok(number) = word(words)?.parse::<u32>() else {
         return Err(Trouble::List);
     };
-    Ok(Wanted::Refused(offset, number, whole(word(words)?)?))
+    Ok((offset, number, whole(word(words)?)?))
 }
 
-/// Three counts, of which the first word is read already, and a file.
-fn counted<'a>(nodes: &str, words: &mut Split<'a, char>) -> Result<Answer<'a>, Trouble> {
-    let counts = Counts {
+/// Three counts, of which the first word is read already.
+fn counts_of(nodes: &str, words: &mut Split<'_, char>) -> Result<Counts, Trouble> {
+    Ok(Counts {
         nodes: whole(nodes)?,
         ways: whole(word(words)?)?,
         relations: whole(word(words)?)?,
-    };
+    })
+}
+
+/// Counts, of which the first word is read already, and a file.
+fn counted<'a>(nodes: &str, words: &mut Split<'a, char>) -> Result<Answer<'a>, Trouble> {
+    let counts = counts_of(nodes, words)?;
     Ok(Answer {
         counts,
         file: word(words)?,
@@ -128,7 +150,10 @@ pub(crate) fn row_of(line: &str) -> Result<Row<'_>, Trouble> {
     let input = word(&mut words)?;
     let next = word(&mut words)?;
     let wanted = if next == "refused" {
-        refused(&mut words)?
+        Wanted::Refused(told(&mut words)?)
+    } else if next == "unwritten" {
+        let fault = told(&mut words)?;
+        Wanted::Unwritten(fault, counts_of(word(&mut words)?, &mut words)?)
     } else {
         let converted = counted(next, &mut words)?;
         let extracted = counted(word(&mut words)?, &mut words)?;

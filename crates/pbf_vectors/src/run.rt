@@ -2,25 +2,32 @@
 
 use osm_entity::BoundingBox;
 use pbf_frame::{Pieces, Sink, Stop};
-use pbfcut::{Counts, convert, extract, extract_parents};
+use pbfcut::{Counts, check, convert, extract, extract_parents};
 use std::alloc::Global;
 use std::hash::{BuildHasherDefault, FoldHasher};
 
-/// A call that writes a file.
+/// A call over a file. All but `check` write one.
 #[derive(Clone, Copy)]
 pub(crate) enum Call {
+    Check,
     Convert,
     Extract,
     ExtractParents,
 }
 
 /// All of them.
-pub(crate) const CALLS: [Call; 3] = [Call::Convert, Call::Extract, Call::ExtractParents];
+pub(crate) const CALLS: [Call; 4] = [
+    Call::Check,
+    Call::Convert,
+    Call::Extract,
+    Call::ExtractParents,
+];
 
 impl Call {
-    /// How many passes it makes. It writes in the last.
+    /// How many passes it makes. It writes in the last, if it writes.
     pub(crate) fn passes(self) -> u8 {
         match self {
+            Call::Check => 1,
             Call::Convert => 2,
             Call::Extract => 3,
             Call::ExtractParents => 4,
@@ -65,6 +72,7 @@ pub(crate) fn run(
     let mut fourth = passes[3].feed();
     let hasher: BuildHasherDefault<FoldHasher> = BuildHasherDefault::new();
     match call {
+        Call::Check => check(alloc, &mut first),
         Call::Convert => convert(alloc, &mut first, &mut second, sink, hasher),
         Call::Extract => extract(
             alloc,

@@ -41,50 +41,50 @@ macro_rules! with_exit_statuses_of_readers {
 pub(crate) const VERSION: &str = "1.0.0 (rattle-kit-13f logic dac8208d650f15bf)";
 
 pub(crate) const PROGRAM: &str =
-    "Cuts a box out of an OpenStreetMap PBF file, and reads such files";
+    "Cut a bounding box out of an OpenStreetMap PBF file; validate and print such\nfiles";
 
 pub(crate) const AFTER_PROGRAM: &str = with_exit_statuses!(
     "'pbfcut COMMAND --help' prints what a command does, its units and an example.\n\
     \n\
-    pbfcut reads and writes raw blobs, and refuses a compressed file. Published\n\
-    files are compressed; osmium makes a raw one of them.\n\
+    pbfcut reads and writes files with raw blobs, and refuses compressed ones.\n\
+    Published files are compressed: pbfcut-any cuts them, and writes a compressed\n\
+    file; 'pbfcut-any unpack' or 'osmium cat' makes a raw copy.\n\
     \n\
-    Example, which cuts London out of a file of England:\n  \
-      osmium cat england.osm.pbf -f pbf,pbf_compression=none -o raw.osm.pbf\n  \
-      pbfcut extract --box=-0.5,51.25,0.3,51.7 raw.osm.pbf london.osm.pbf\n"
+    Example, which cuts London out of a published file of England:\n  \
+      pbfcut-any --box=-0.5,51.25,0.3,51.7 england.osm.pbf london.osm.pbf\n"
 );
 
-pub(crate) const INPUT: &str = "The OpenStreetMap PBF file that is read";
+pub(crate) const INPUT: &str = "The OpenStreetMap PBF file to read; its blobs must be raw";
 
-pub(crate) const OUTPUT: &str = "The new file that is written; it may not exist yet";
+pub(crate) const OUTPUT: &str = "The file to write; it must not exist";
 
-pub(crate) const DATES: &str = "Prints the times from 1970 to 2099 as dates";
+pub(crate) const DATES: &str = "Print times from 1970 to 2099 as dates";
 
-pub(crate) const PROGRESS: &str = "Reports progress on standard error";
+pub(crate) const PROGRESS: &str = "Show progress on standard error";
 
-pub(crate) const DIGESTS: &str = "Prints the SHA-256 digests of IN and OUT";
+pub(crate) const DIGESTS: &str = "Print the SHA-256 digests of IN and OUT";
 
-pub(crate) const DIGEST_OF_INPUT: &str = "Prints the SHA-256 digest of IN";
+pub(crate) const DIGEST_OF_INPUT: &str = "Print the SHA-256 digest of IN";
 
-pub(crate) const PARENTS: &str = "Keeps the relations above kept ones too";
+pub(crate) const PARENTS: &str = "Also keep relations that contain kept relations";
 
 pub(crate) const BOX: &str = "The edges of the box, in degrees";
 
-pub(crate) const BLOBS: &str = "Lists the frames of IN: where they are, their types and sizes";
+pub(crate) const BLOBS: &str = "List the frames of IN: where they are, their types and sizes";
 
 pub(crate) const AFTER_BLOBS: &str = with_exit_statuses_of_readers!(
     "The command prints a line for each frame of IN, as '19 OSMData 25 23': the byte\n\
     of IN at which the frame begins, its type, and the lengths in bytes of its blob\n\
-    and of the payload in the blob. It passes over a frame of another type than\n\
-    OSMHeader and OSMData, and prints its type in quotes and 'skipped' in place of\n\
-    the last length. It does not look into payloads; 'pbfcut check' validates them.\n\
-    Where IN is refused, the lines of the frames before the fault are printed.\n\
+    and of the payload in the blob. For a frame of another type than OSMHeader and\n\
+    OSMData it prints the type in quotes, and 'skipped' instead of the last length.\n\
+    It does not read payloads; 'pbfcut check' validates them. If IN is refused, the\n\
+    lines of the frames before the fault are printed.\n\
     \n\
     Example:\n  \
       pbfcut blobs london.osm.pbf\n"
 );
 
-pub(crate) const SHOW: &str = "Prints the header and all nodes, ways and relations of IN as text";
+pub(crate) const SHOW: &str = "Print the header and all nodes, ways and relations of IN as text";
 
 pub(crate) const AFTER_SHOW: &str = with_exit_statuses_of_readers!(
     "Lines that begin with H are of the header. Each other line is an entity, in the\n\
@@ -101,43 +101,43 @@ pub(crate) const AFTER_SHOW: &str = with_exit_statuses_of_readers!(
     the version, t the time in milliseconds since 1970-01-01 UTC, c the changeset, u\n\
     the user's number, s the user's name, d1 visible or d0 deleted, and the tags.\n\
     With --dates a time from 1970 to 2099 is printed as t2009-02-13T23:31:30.000Z.\n\
-    Nothing is printed where IN is refused. IN is read twice, so it must be a file,\n\
+    If IN is refused, nothing is printed. IN is read twice, so it must be a file,\n\
     not a pipe.\n\
     \n\
     Example:\n  \
       pbfcut show --dates london.osm.pbf\n"
 );
 
-pub(crate) const CHECK: &str = "Validates all of IN, and counts its nodes, ways and relations";
+pub(crate) const CHECK: &str = "Validate all of IN, and count its nodes, ways and relations";
 
 pub(crate) const AFTER_CHECK: &str = with_exit_statuses_of_readers!(
-    "Where no field of IN has a fault, the command prints how many entities IN has,\n\
-    as 'nodes 3 ways 0 relations 0'. Else it refuses IN by its first fault. IN may\n\
-    be a pipe, since it is read once:\n  \
-      osmium cat x.osm.pbf -f pbf,pbf_compression=none -o - |\n    \
-        pbfcut check /dev/stdin\n\
+    "If no field of IN has a fault, the command prints how many entities IN has, as\n\
+    'nodes 3 ways 0 relations 0'. Otherwise it refuses IN at its first fault. IN may\n\
+    be a pipe, since it is read once.\n\
     \n\
-    Example:\n  \
-      pbfcut check london.osm.pbf\n"
+    Examples, of a raw file and of a compressed one:\n  \
+      pbfcut check raw.osm.pbf\n  \
+      osmium cat england.osm.pbf -f pbf,pbf_compression=none -o - |\n    \
+        pbfcut check /dev/stdin\n"
 );
 
 pub(crate) const CONVERT: &str =
-    "Writes the header and all entities of IN to OUT, in one fixed form";
+    "Write the header and all entities of IN to OUT, in one fixed form";
 
 pub(crate) const AFTER_CONVERT: &str = with_exit_statuses!(
     "OUT has the same nodes, ways and relations as IN in the same order, with dense\n\
     nodes, in raw blobs, and with at most 8000 entities in a block. Its form is\n\
-    fixed: OUT, converted again, is the same bytes. What the format does not name is\n\
-    left out. The command prints how many entities it wrote, as\n\
+    fixed: converting OUT again gives the same bytes. What the format does not name\n\
+    is left out. The command prints how many entities it wrote, as\n\
     'nodes 3 ways 0 relations 0'.\n\
-    IN is read twice, so it must be a file, not a pipe. A run that stops after it\n\
-    made OUT leaves OUT with what was written: remove it, and do not use it.\n\
+    IN is read twice, so it must be a file, not a pipe. A run that stops early may\n\
+    leave an incomplete OUT: delete it.\n\
     \n\
     Example:\n  \
       pbfcut convert london.osm.pbf plain.osm.pbf\n"
 );
 
-pub(crate) const EXTRACT: &str = "Cuts a box out of IN and writes it to OUT, with complete ways";
+pub(crate) const EXTRACT: &str = "Cut a box out of IN and write it to OUT, with complete ways";
 
 pub(crate) const USAGE_OF_EXTRACT: &str =
     "pbfcut extract [OPTIONS] --box=<WEST,SOUTH,EAST,NORTH> <IN> <OUT>";
@@ -149,20 +149,24 @@ pub(crate) const AFTER_EXTRACT: &str = with_exit_statuses!(
     has up to nine digits after the point. West may not be greater than east: no box\n\
     crosses the antimeridian.\n\
     \n\
-    OUT has, in the order of IN and with all their fields:\n  \
+    OUT contains, in the order of IN and with all fields:\n  \
       - the nodes in the box and on its edges\n  \
       - each way that has a node in the box, whole, with all of its nodes, wherever\n    \
         they are\n  \
-      - each relation that has such a node or way as a member; with --parents also\n    \
-        each relation that has a kept relation as a member, level by level\n\
+      - each relation that has one of these nodes or ways as a member; with\n    \
+        --parents also each relation that has a kept relation as a member, level by\n    \
+        level\n\
     The command prints how many entities it wrote, as 'nodes 3 ways 0 relations 0'.\n\
     IN is read three times, with --parents four times, so it must be a file, not a\n\
-    pipe. A run that stops after it made OUT leaves OUT with what was written:\n\
-    remove it, and do not use it.\n\
+    pipe. A run that stops early may leave an incomplete OUT: delete it.\n\
     \n\
-    IN must have raw blobs, and OUT has raw blobs. Published files are compressed.\n\
+    IN must have raw blobs, and OUT has raw blobs. Published files are compressed:\n\
+    pbfcut-any cuts them, and writes a compressed file.\n\
     \n\
-    Example, which cuts London out of a published file of England:\n  \
+    Examples, which cut London out of a published file of England:\n  \
+      pbfcut-any --box=-0.5,51.25,0.3,51.7 england.osm.pbf london.osm.pbf\n\
+    or, with osmium:\n  \
       osmium cat england.osm.pbf -f pbf,pbf_compression=none -o raw.osm.pbf\n  \
-      pbfcut extract --box=-0.5,51.25,0.3,51.7 raw.osm.pbf london.osm.pbf\n"
+      pbfcut extract --box=-0.5,51.25,0.3,51.7 raw.osm.pbf cut.osm.pbf\n  \
+      osmium cat cut.osm.pbf -o london.osm.pbf\n"
 );

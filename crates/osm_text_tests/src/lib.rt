@@ -1,5 +1,0 @@
-//! The tests of `osm_text`: what no contract says.
-#![tactic(auto)]
-
-#[cfg(test)]
-mod tests;

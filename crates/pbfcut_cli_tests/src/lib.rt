@@ -1,5 +1,0 @@
-//! The tests of `pbfcut_cli`: what no contract says.
-#![tactic(auto)]
-
-#[cfg(test)]
-mod tests;

@@ -1,0 +1,417 @@
+//! What no clause says: that words are taken at all, and the texts of `clap` and of help.
+
+use osm_entity::{BoundingBox, BoxFault};
+use pbf_frame::Stop;
+use pbf_wire::{Fault, Reason};
+use pbfcut_cli::{CliFault, Command, Ending, join_box, line, read_words, status};
+use std::alloc::{AllocError, Global};
+use std::process::Abort;
+use std::test::Fail;
+
+const LONDON: BoundingBox = BoundingBox {
+    left: -500_000_000,
+    bottom: 51_250_000_000,
+    right: 300_000_000,
+    top: 51_700_000_000,
+};
+
+/// Whether these words ask for the frames of this file.
+fn is_blobs(alloc: Global, words: &[&str], input: &str) -> bool {
+    let read = read_words(alloc, words);
+    matches!(&read, Ok(Command::Blobs { input: found }) if *found == input)
+}
+
+/// Whether they ask for the text of this file, with dates and with progress or without.
+fn is_show(alloc: Global, words: &[&str], input: &str, asked: (bool, bool)) -> bool {
+    let read = read_words(alloc, words);
+    match &read {
+        Ok(
+            Command::Show {
+                input: found,
+                dates,
+                progress,
+            },
+        ) => *found == input && (*dates, *progress) == asked,
+        _ => false,
+    }
+}
+
+/// Whether they ask to check this file, with progress and with digests or without.
+fn is_check(alloc: Global, words: &[&str], input: &str, asked: (bool, bool)) -> bool {
+    let read = read_words(alloc, words);
+    match &read {
+        Ok(
+            Command::Check {
+                input: found,
+                progress,
+                digests,
+            },
+        ) => *found == input && (*progress, *digests) == asked,
+        _ => false,
+    }
+}
+
+/// Whether they ask to convert `a` to `b`, with progress and with digests or without.
+fn is_convert(alloc: Global, words: &[&str], asked: (bool, bool)) -> bool {
+    let read = read_words(alloc, words);
+    match &read {
+        Ok(
+            Command::Convert {
+                input: "a",
+                output: "b",
+                progress,
+                digests,
+            },
+        ) => (*progress, *digests) == asked,
+        _ => false,
+    }
+}
+
+/// Whether they ask to cut London out of `a` into `b`, with all parents, with progress and with digests, or with none of these.
+fn is_extract(alloc: Global, words: &[&str], asked: bool) -> bool {
+    let read = read_words(alloc, words);
+    match &read {
+        Ok(
+            Command::Extract {
+                area,
+                parents,
+                input: "a",
+                output: "b",
+                progress,
+                digests,
+            },
+        ) => *area == LONDON && *parents == asked && *progress == asked && *digests == asked,
+        _ => false,
+    }
+}
+
+#[test]
+fn commands_that_read(rt: HostRuntime) {
+    assert!(rt; is_blobs(rt.alloc(), &["blobs", "a"], "a"));
+    assert!(rt; is_show(rt.alloc(), &["show", "a"], "a", (false, false)));
+    assert!(rt; is_show(rt.alloc(), &["show", "--dates", "a"], "a", (true, false)));
+    assert!(rt; is_show(rt.alloc(), &["show", "a", "--dates"], "a", (true, false)));
+    assert!(rt; is_check(rt.alloc(), &["check", "a"], "a", (false, false)));
+    assert!(rt;
+        is_check(
+            rt.alloc(),
+            &["check", "--", "--dates"],
+            "--dates",
+            (false, false)
+        )
+    );
+}
+
+#[test]
+fn commands_that_write(rt: HostRuntime) {
+    assert!(rt; is_convert(rt.alloc(), &["convert", "a", "b"], (false, false)));
+    let words = ["extract", "--box=-0.5,51.25,0.3,51.7", "a", "b"];
+    assert!(rt; is_extract(rt.alloc(), &words, false));
+    let words = [
+        "extract",
+        "--parents",
+        "--progress",
+        "--digests",
+        "--box=-0.5,51.25,0.3,51.7",
+        "a",
+        "b",
+    ];
+    assert!(rt; is_extract(rt.alloc(), &words, true));
+}
+
+#[test]
+fn commands_with_progress(rt: HostRuntime) {
+    assert!(rt;
+        is_check(
+            rt.alloc(),
+            &["check", "--progress", "a"],
+            "a",
+            (true, false)
+        )
+    );
+    assert!(rt; is_show(rt.alloc(), &["show", "--progress", "a"], "a", (false, true)));
+    assert!(rt;
+        is_convert(
+            rt.alloc(),
+            &["convert", "--progress", "a", "b"],
+            (true, false)
+        )
+    );
+}
+
+#[test]
+fn commands_with_digests(rt: HostRuntime) {
+    assert!(rt; is_check(rt.alloc(), &["check", "a", "--digests"], "a", (false, true)));
+    assert!(rt;
+        is_convert(
+            rt.alloc(),
+            &["convert", "--digests", "a", "b"],
+            (false, true)
+        )
+    );
+}
+
+/// Owned copies of the words.
+fn owned(alloc: Global, words: &[&str]) -> Result<Vec<String>, AllocError> {
+    let mut given = Vec::new(alloc);
+    for word in words {
+        given.push(String::from_str(alloc, word)?)?;
+    }
+    Ok(given)
+}
+
+/// Whether the words, joined, are these.
+fn are_joined(alloc: Global, words: &[String], expected: &[&str]) -> Result<bool, AllocError> {
+    let joined = join_box(alloc, words)?;
+    if joined.len() != expected.len() {
+        return Ok(false);
+    }
+    for (found, word) in joined.iter().zip(expected) {
+        if found.as_str() != *word {
+            return Ok(false);
+        }
+    }
+    Ok(true)
+}
+
+fn joins(rt: &(impl Abort + AllocGlobal), words: &[&str], expected: &[&str]) -> Result<(), Fail> {
+    let given = owned(rt.alloc(), words)?;
+    assert!(rt; are_joined(rt.alloc(), given.as_slice(), expected)?);
+    Ok(())
+}
+
+#[test]
+fn boxes_that_are_words_of_their_own(rt: HostRuntime) -> Result<(), Fail> {
+    joins(&rt, &[], &[])?;
+    joins(
+        &rt,
+        &["extract", "--box", "-0.5,1,2,3", "a"],
+        &["extract", "--box=-0.5,1,2,3", "a"],
+    )?;
+    joins(&rt, &["--box", "-.5"], &["--box=-.5"])?;
+    joins(
+        &rt,
+        &["--box", "--box", "-9", "-9"],
+        &["--box", "--box=-9", "-9"],
+    )?;
+    joins(&rt, &["--box", "0,1,2,3", "a"], &["--box", "0,1,2,3", "a"])?;
+    joins(&rt, &["--box", "-h"], &["--box", "-h"])?;
+    joins(&rt, &["--box", "-"], &["--box", "-"])?;
+    joins(&rt, &["--dates", "-1"], &["--dates", "-1"])?;
+    joins(&rt, &["check", "--box"], &["check", "--box"])
+}
+
+/// Whether the text is a refusal of words, whose first line is this.
+fn is_refusal(text: &str, first_line: &str) -> bool {
+    text.lines().next() == Some(first_line)
+        && text.contains("Usage: pbfcut")
+        && text.ends_with("\n")
+}
+
+/// Whether the words are refused, with a text that names the program and gives this line first.
+fn is_refused(alloc: Global, words: &[&str], first_line: &str) -> bool {
+    let read = read_words(alloc, words);
+    match &read {
+        Err(CliFault::Line(text)) => is_refusal(text.as_str(), first_line),
+        _ => false,
+    }
+}
+
+fn refuses_with(
+    rt: &(impl Abort + AllocGlobal),
+    words: &[&str],
+    first_line: &str,
+) -> Result<(), Fail> {
+    assert!(rt;
+        is_refused(rt.alloc(), words, first_line),
+        "not: {first_line}"
+    );
+    Ok(())
+}
+
+#[test]
+fn words_that_are_no_command(rt: HostRuntime) -> Result<(), Fail> {
+    let missing = "error: the following required arguments were not provided:";
+    refuses_with(&rt, &["cut", "a"], "error: unrecognized subcommand 'cut'")?;
+    refuses_with(&rt, &["show"], missing)?;
+    refuses_with(&rt, &["convert", "a"], missing)?;
+    refuses_with(&rt, &["extract", "a", "b"], missing)?;
+    refuses_with(
+        &rt,
+        &["check", "--dates", "a"],
+        "error: unexpected argument '--dates' found",
+    )?;
+    refuses_with(
+        &rt,
+        &["blobs", "a", "b"],
+        "error: unexpected argument 'b' found",
+    )?;
+    refuses_with(
+        &rt,
+        &[],
+        "error: 'pbfcut' requires a subcommand but one was not provided",
+    )
+}
+
+fn has_parts(text: &str, parts: &[&str]) -> bool {
+    for part in parts {
+        if !text.contains(*part) {
+            return false;
+        }
+    }
+    true
+}
+
+/// Whether no line has more than 80 columns.
+fn is_narrow(text: &str) -> bool {
+    for line in text.lines() {
+        if line.len() > 80 {
+            return false;
+        }
+    }
+    true
+}
+
+/// Whether `--help` after these words gives help with each of the parts in it, and with those that each help has.
+fn is_help(alloc: Global, words: &[&str], parts: &[&str]) -> bool {
+    let of_each = [
+        "Usage: pbfcut",
+        "Example",
+        "\n  pbfcut ",
+        "Exit status:\n  0  done",
+        "5  IN changed",
+    ];
+    let read = read_words(alloc, words);
+    match &read {
+        Ok(Command::Help(text)) => {
+            is_narrow(text.as_str())
+                && has_parts(text.as_str(), &of_each)
+                && has_parts(text.as_str(), parts)
+        }
+        _ => false,
+    }
+}
+
+fn helps_with(rt: &(impl Abort + AllocGlobal), words: &[&str], parts: &[&str]) -> Result<(), Fail> {
+    assert!(rt; is_help(rt.alloc(), words, parts));
+    Ok(())
+}
+
+#[test]
+fn help_of_each_command(rt: HostRuntime) -> Result<(), Fail> {
+    let commands = ["blobs", "show", "check", "convert", "extract"];
+    helps_with(&rt, &["--help"], &commands)?;
+    helps_with(&rt, &["-h"], &commands)?;
+    helps_with(&rt, &["blobs", "--help"], &["<IN>", "bytes"])?;
+    helps_with(
+        &rt,
+        &["show", "--help"],
+        &["<IN>", "--dates", "nanodegrees of WGS84", "milliseconds"],
+    )?;
+    helps_with(&rt, &["check", "--help"], &["<IN>"])?;
+    helps_with(&rt, &["convert", "--help"], &["<IN>", "<OUT>"])?;
+    let box_parts = [
+        "degrees of WGS84",
+        "west,south,east,north",
+        "--parents",
+        "--box=",
+        "<IN>",
+        "<OUT>",
+    ];
+    helps_with(&rt, &["extract", "--help"], &box_parts)?;
+    helps_with(&rt, &["extract", "-h"], &box_parts)
+}
+
+/// Whether this is the line of the stop, here and where it is printed by itself.
+fn is_line(alloc: Global, stop: &Stop, text: &str) -> Result<bool, AllocError> {
+    let told = line(alloc, stop)?;
+    let printed = format!(in alloc; "pbfcut: {stop}")?;
+    Ok(told.as_str() == text && printed.as_str() == text)
+}
+
+/// Whether this is the message of the ending, without its line end.
+fn is_message(alloc: Global, ending: &Ending, text: &str) -> Result<bool, AllocError> {
+    let message = ending.message(alloc)?;
+    Ok(message.as_str().strip_suffix("\n") == Some(text))
+}
+
+/// Whether the stop, as an ending, has this message and status.
+fn ends_so(alloc: Global, stop: Stop, text: &str, number: u8) -> Result<bool, AllocError> {
+    let ending = Ending::from(stop);
+    Ok(ending.status() == number && is_message(alloc, &ending, text)?)
+}
+
+/// The stop has this line and this status.
+fn told_as(
+    rt: &(impl Abort + AllocGlobal),
+    stop: Stop,
+    text: &str,
+    number: u8,
+) -> Result<(), Fail> {
+    assert_eq!(rt; status(&stop), number);
+    assert!(rt; is_line(rt.alloc(), &stop, text)?, "not: {text}");
+    assert!(rt; ends_so(rt.alloc(), stop, text, number)?, "not: {text}");
+    Ok(())
+}
+
+#[test]
+fn stops(rt: HostRuntime) -> Result<(), Fail> {
+    let feature = Stop::Refused(Fault {
+        offset: 19,
+        reason: Reason::Feature,
+    });
+    told_as(&rt, feature, "pbfcut: refused at 19: 55 Feature", 1)?;
+    let missing = Stop::Refused(Fault {
+        offset: 36,
+        reason: Reason::Missing(1),
+    });
+    told_as(&rt, missing, "pbfcut: refused at 36: 25 Missing(1)", 1)?;
+    told_as(&rt, Stop::Read, "pbfcut: read failed", 3)?;
+    told_as(&rt, Stop::Write, "pbfcut: write failed", 3)?;
+    told_as(&rt, Stop::Memory, "pbfcut: out of memory", 4)?;
+    told_as(&rt, Stop::Changed(2), "pbfcut: input changed in pass 2", 5)
+}
+
+/// Whether the ending has this message, without its line end, and this status.
+fn ends_with(alloc: Global, ending: &Ending, text: &str, number: u8) -> Result<bool, AllocError> {
+    Ok(ending.status() == number && is_message(alloc, ending, text)?)
+}
+
+/// Whether the message of the ending begins so, and its status is that of words that are wrong.
+fn begins_with(alloc: Global, ending: &Ending, text: &str) -> Result<bool, AllocError> {
+    let message = ending.message(alloc)?;
+    Ok(ending.status() == 2 && message.as_str().starts_with(text))
+}
+
+/// Whether these words end in a message that begins so.
+fn end_in(alloc: Global, words: &[&str], text: &str) -> Result<bool, AllocError> {
+    match read_words(alloc, words) {
+        Ok(_) => Ok(false),
+        Err(fault) => begins_with(alloc, &Ending::from(fault), text),
+    }
+}
+
+#[test]
+fn endings_of_the_program(rt: HostRuntime) -> Result<(), Fail> {
+    let alloc = rt.alloc();
+    assert!(rt;
+        ends_with(
+            alloc,
+            &Ending::Box(BoxFault::Shape),
+            "pbfcut: box: Shape",
+            2
+        )?
+    );
+    let last = Ending::Box(BoxFault::BottomOverTop);
+    assert!(rt; ends_with(alloc, &last, "pbfcut: box: BottomOverTop", 2)?);
+    assert!(rt; ends_with(alloc, &Ending::CannotOpen, "pbfcut: cannot open", 3)?);
+    assert!(rt; ends_with(alloc, &Ending::OutExists, "pbfcut: OUT exists", 3)?);
+    let memory = Ending::from(CliFault::Memory);
+    assert!(rt; ends_with(alloc, &memory, "pbfcut: out of memory", 4)?);
+    let digit = Ending::from(CliFault::Box(BoxFault::Digit));
+    assert!(rt; ends_with(alloc, &digit, "pbfcut: box: Digit", 2)?);
+    assert!(rt; end_in(alloc, &["cut"], "error: unrecognized subcommand 'cut'\n")?);
+    let utf8 = "error: invalid UTF-8 was detected in one or more arguments\n";
+    assert!(rt; begins_with(alloc, &Ending::NotText, utf8)?);
+    Ok(())
+}

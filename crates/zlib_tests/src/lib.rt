@@ -1,0 +1,5 @@
+//! The tests of `zlib`: what no contract says.
+#![tactic(auto)]
+
+#[cfg(test)]
+mod tests;
