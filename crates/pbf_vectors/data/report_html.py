@@ -12,15 +12,19 @@ STYLE = """
 body { font: 15px/1.45 system-ui, sans-serif; max-width: 1180px; margin: 2rem auto; padding: 0 1rem; }
 h1 { font-size: 1.6rem; } h2 { font-size: 1.25rem; margin-top: 2.5rem; border-bottom: 1px solid var(--line); }
 code, pre { font: 12.5px/1.5 ui-monospace, monospace; }
-table { border-collapse: collapse; margin: 1rem 0; display: block; overflow-x: auto; } th, td { padding: .3rem .7rem; border-bottom: 1px solid var(--line); text-align: right; }
-th:first-child, td:first-child { text-align: left; } th { font-weight: 600; vertical-align: bottom; } td.silent { font-weight: 700; color: var(--bad); }
-details { border: 1px solid var(--line); border-radius: 6px; margin: .35rem 0; } summary { cursor: pointer; padding: .35rem .7rem; }
+table { border-collapse: collapse; margin: 1rem 0; display: block; overflow-x: auto; }
+th, td { padding: .3rem .7rem; border-bottom: 1px solid var(--line); text-align: right; }
+th:first-child, td:first-child { text-align: left; }
+th { font-weight: 600; vertical-align: bottom; } td.silent { font-weight: 700; color: var(--bad); }
+details { border: 1px solid var(--line); border-radius: 6px; margin: .35rem 0; }
+summary { cursor: pointer; padding: .35rem .7rem; }
 details > div { padding: 0 .9rem .8rem; } .what { opacity: .8; }
 .sides { display: grid; grid-template-columns: 1fr 1fr; gap: 3px .8rem; } .sides h4 { margin: .4rem 0; }
 .sides pre { margin: 0; padding: .35rem .5rem; background: var(--soft); white-space: pre-wrap; overflow-wrap: anywhere; min-height: 1.5em; }
 pre.differs { background: var(--mark); } mark { background: var(--mark); color: inherit; }
 """
-HEADS = ("Reader", "Sound: read as meant", "Sound: read otherwise", "Sound: refused", "Sound: crashed", "Broken: refused", "Broken: read", "Broken: crashed")
+HEADS = ("Reader", "Sound: read as meant", "Sound: read otherwise", "Sound: refused", "Sound: crashed")
+HEADS += ("Broken: refused", "Broken: read", "Broken: crashed")
 OUTCOME_TITLES = (
     ("sound", OTHERWISE, "Sound files read otherwise, without a word"),
     ("sound", CRASHED, "Sound files that end the reader by a signal, or that it doesn't end"),
