@@ -7,7 +7,7 @@ import tempfile
 from typing import NamedTuple
 
 import report
-from readers import counts, is_here, results_of
+from readers import is_here, results_of
 from suite import HERE
 
 ADAPTERS = os.path.join(HERE, "adapters")
@@ -38,7 +38,8 @@ class Known(NamedTuple):
         """Whether the package is installed, and what must be built could be."""
         if not self.version():
             return False
-        if self.build and subprocess.run(self.words(self.build, built), check=False).returncode:
+        build = self.words(self.build, built)
+        if build and (not is_here(build) or subprocess.run(build, check=False).returncode):
             return False
         return is_here(self.words(self.command, built))
 

@@ -1,8 +1,7 @@
-"""The reference: what should be read and written of a file, as case.json tells it.
+"""The reference: what should be read and written of a file, as case.json has it.
 
-It was written from docs/FORMAT.md alone, in another language and in another way than pbfcut: on whole lists, one definition after the
-other. What it reads was compared with Google's protobuf library. reference_wire.py, reference_judge.py, reference_entities.py and
-reference_written.py are its parts.
+It follows docs/FORMAT.md in another language and in another way than pbfcut: on whole lists, one definition after the other. It shares
+no code with pbfcut. reference_wire.py, reference_judge.py, reference_entities.py and reference_written.py are its parts.
 """
 
 import concurrent.futures

@@ -19,79 +19,80 @@ class Frame:
     payload: Optional[bytes] = None         # None for a skipped blob
 
 
-def judge_frame(b: bytes, p: int, had_header: bool) -> tuple:
-    """The frame at p (p < len(b)) and its faults of phases 1 to 7. The frame is None where it has any."""
-    faults = set()
+def fault_of(phase: int, offset: int, name: str, missing: int = 0) -> Fault:
+    return Fault(phase, offset, REASON[name], missing)
 
-    def fault(phase, offset, name, missing=0):
-        faults.add(Fault(phase, offset, REASON[name], missing))
 
-    # Phase 1, prefix
+def prefix_faults(b: bytes, p: int) -> set:
+    """Phase 1: the four bytes before a BlobHeader."""
     left = len(b) - p
     if left < 4:
-        fault(1, p, "PrefixCut")
-        return None, faults
-    header_length = int.from_bytes(b[p:p + 4], "big")
-    if header_length >= HEADER_LIMIT:
-        fault(1, p, "HeaderLong")
-    if header_length > left - 4:
-        fault(1, p, "HeaderCut")
-    if faults:
-        return None, faults
+        return {fault_of(1, p, "PrefixCut")}
+    length = int.from_bytes(b[p:p + 4], "big")
+    faults = {fault_of(1, p, "HeaderLong")} if length >= HEADER_LIMIT else set()
+    return faults | ({fault_of(1, p, "HeaderCut")} if length > left - 4 else set())
 
-    # Phase 2, header wire
-    header_at = p + 4
-    header = Message(BLOB_HEADER, b[header_at:header_at + header_length], header_at, header_at)
+
+def header_faults(header: Message) -> set:
+    """Phases 2 and 3: the BlobHeader."""
     if header.wire_fault:
-        place, reason = header.wire_fault
-        return None, {Fault(2, place, reason)}
+        return {Fault(2, *header.wire_fault)}
+    faults = {fault_of(3, header.at, "Missing", n) for n in (1, 3) if not any(o.number == n for o in header.occurrences)}
+    if not 0 <= header.last_number("datasize", 0) <= DATASIZE_LIMIT:
+        faults.add(fault_of(3, header.last("datasize").place, "DataSize"))
+    return faults
 
-    # Phase 3, header structure
-    for wanted in (1, 3):
-        if not any(o.number == wanted for o in header.occurrences):
-            fault(3, header_at, "Missing", wanted)
-    size = header.last_number("datasize", 0)
-    if not 0 <= size <= DATASIZE_LIMIT:
-        fault(3, header.last("datasize").place, "DataSize")
-    if faults:
-        return None, faults
 
-    # Phase 4, order
-    name = header.last_bytes("type")
+def order_faults(p: int, name: bytes, end: int, had_header: bool) -> set:
+    """Phase 4: whether the frame may come here."""
+    faults = set()
     if name == b"OSMHeader" and had_header:
-        fault(4, p, "SecondHeader")
+        faults.add(fault_of(4, p, "SecondHeader"))
     if name == b"OSMData" and not had_header:
-        fault(4, p, "DataFirst")
-    end = p + 4 + header_length + size
-    if end > FILE_LIMIT:
-        fault(4, p, "FileLong")
-    if faults:
-        return None, faults
+        faults.add(fault_of(4, p, "DataFirst"))
+    return faults | ({fault_of(4, p, "FileLong")} if end > FILE_LIMIT else set())
 
-    # Phase 5, blob
-    blob_at = header_at + header_length
-    if end > len(b):
-        return None, {Fault(5, blob_at, REASON["BlobCut"])}
-    if name not in (b"OSMHeader", b"OSMData"):
-        return Frame(p, name, size, end), set()
 
-    # Phase 6, blob wire
-    blob = Message(BLOB, b[blob_at:end], blob_at, blob_at)
+def blob_faults(blob: Message) -> set:
+    """Phases 6 and 7: the Blob."""
     if blob.wire_fault:
-        place, reason = blob.wire_fault
-        return None, {Fault(6, place, reason)}
-
-    # Phase 7, blob structure
+        return {Fault(6, *blob.wire_fault)}
+    faults = set()
     if not any(o.number in (1, 3, 4, 5, 6, 7) for o in blob.occurrences):
-        fault(7, blob_at, "NoRaw")
+        faults.add(fault_of(7, blob.at, "NoRaw"))
     raw = blob.last("raw")
     if raw and len(raw.data) >= RAW_LIMIT:
-        fault(7, raw.place, "RawLong")
-    for o in blob.occurrences:
-        if 3 <= o.number <= 7:
-            fault(7, o.place, {3: "Zlib", 4: "Lzma", 5: "Bzip2", 6: "Lz4", 7: "Zstd"}[o.number])
+        faults.add(fault_of(7, raw.place, "RawLong"))
+    packings = {3: "Zlib", 4: "Lzma", 5: "Bzip2", 6: "Lz4", 7: "Zstd"}
+    return faults | {fault_of(7, o.place, packings[o.number]) for o in blob.occurrences if o.number in packings}
+
+
+def judge_frame(b: bytes, p: int, had_header: bool) -> tuple:
+    """The frame at p (p < len(b)) and its faults of phases 1 to 7. The frame is None if it has any."""
+    faults = prefix_faults(b, p)
     if faults:
         return None, faults
+    length = int.from_bytes(b[p:p + 4], "big")
+    header = Message(BLOB_HEADER, b[p + 4:p + 4 + length], p + 4, p + 4)
+    faults = header_faults(header)
+    if faults:
+        return None, faults
+    name, size = header.last_bytes("type"), header.last_number("datasize")
+    blob_at = p + 4 + length
+    end = blob_at + size
+    faults = order_faults(p, name, end, had_header)
+    if faults:
+        return None, faults
+    # Phase 5
+    if end > len(b):
+        return None, {fault_of(5, blob_at, "BlobCut")}
+    if name not in (b"OSMHeader", b"OSMData"):
+        return Frame(p, name, size, end), set()
+    blob = Message(BLOB, b[blob_at:end], blob_at, blob_at)
+    faults = blob_faults(blob)
+    if faults:
+        return None, faults
+    raw = blob.last("raw")
     return Frame(p, name, size, end, raw.data_at, raw.data), set()
 
 
@@ -191,61 +192,67 @@ def judge_root_values(root: Message):
                 root.fault(10, root.last(name).place, reason)
 
 
+def ranged(m: Message, entries: list, limit: int = NUMBER_LIMIT):
+    for value, place in entries:
+        if not -limit < value < limit:
+            m.fault(10, place, "OutOfRange")
+
+
+def indices(m: Message, entries: list, texts: int):
+    """Indices of a string table of so many texts."""
+    for value, place in entries:
+        if not 0 <= value < texts:
+            m.fault(10, place, "StringIndex")
+
+
+def single(m: Message, name: str) -> list:
+    """The last occurrence of a singular number, as a list of at most one entry."""
+    o = m.last(name)
+    return [] if o is None else [(m.last_number(name), o.place)]
+
+
+def judge_dense_values(m: Message, texts: int):
+    for name in ("id", "lat", "lon"):
+        ranged(m, m.joined(name))
+    in_key_place = True
+    for value, place in m.joined("keys_vals"):
+        if in_key_place and value == 0:
+            continue
+        indices(m, [(value, place)], texts)
+        in_key_place = not in_key_place
+    for info in m.children_of("denseinfo"):
+        ranged(m, info.joined("timestamp"))
+        ranged(m, info.joined("changeset"))
+        ranged(m, info.joined("uid"), UID_LIMIT)
+        indices(m, info.joined("user_sid"), texts)
+
+
 def judge_values(m: Message, texts: int):
     """Phase 10, of an entity or a dense, with its Info or DenseInfo. `texts` is the table's length."""
-
-    def ranged(entries, limit=NUMBER_LIMIT):
-        for value, place in entries:
-            if not -limit < value < limit:
-                m.fault(10, place, "OutOfRange")
-
-    def indices(entries):
-        for value, place in entries:
-            if not 0 <= value < texts:
-                m.fault(10, place, "StringIndex")
-
-    def single(message, name):
-        """The last occurrence of a singular number, as a list of at most one entry."""
-        o = message.last(name)
-        return [] if o is None else [(message.last_number(name), o.place)]
-
     if m.schema is DENSE_NODES:
-        for name in ("id", "lat", "lon"):
-            ranged(m.joined(name))
-        entries = m.joined("keys_vals")
-        in_key_place = True
-        for value, place in entries:
-            if in_key_place and value == 0:
-                continue
-            indices([(value, place)])
-            in_key_place = not in_key_place
-        for info in m.children_of("denseinfo"):
-            ranged(info.joined("timestamp"))
-            ranged(info.joined("changeset"))
-            ranged(info.joined("uid"), UID_LIMIT)
-            indices(info.joined("user_sid"))
+        judge_dense_values(m, texts)
         return
-
-    ranged(single(m, "id"))
-    indices(m.joined("keys"))
-    indices(m.joined("vals"))
+    ranged(m, single(m, "id"))
+    for name in ("keys", "vals"):
+        indices(m, m.joined(name), texts)
     for info in m.children_of("info"):
-        ranged(single(info, "timestamp"))
-        ranged(single(info, "changeset"))
-        ranged(single(info, "uid"), UID_LIMIT)
-        indices(single(info, "user_sid"))
+        ranged(m, single(info, "timestamp"))
+        ranged(m, single(info, "changeset"))
+        ranged(m, single(info, "uid"), UID_LIMIT)
+        indices(m, single(info, "user_sid"), texts)
     if m.schema is NODE:
-        ranged(single(m, "lat"))
-        ranged(single(m, "lon"))
+        ranged(m, single(m, "lat"))
+        ranged(m, single(m, "lon"))
     if m.schema is WAY:
         for name in ("refs", "lat", "lon"):
-            ranged(m.joined(name))
+            ranged(m, m.joined(name))
     if m.schema is RELATION:
-        indices(m.joined("roles_sid"))
-        ranged(m.joined("memids"))
+        indices(m, m.joined("roles_sid"), texts)
+        ranged(m, m.joined("memids"))
         for value, place in m.joined("types"):
             if value not in (0, 1, 2):
                 m.fault(10, place, "MemberKind")
+
 
 
 # ---- a whole file

@@ -2,7 +2,6 @@
 """Prints the entities of a file as the suite's JSON lines, as pyosmium reads them."""
 
 import json
-import sys
 
 import batch
 import osmium
