@@ -132,7 +132,7 @@ def packed_twins():
     twin = packed(base)
     require(twin != base and packed(twin) is None, "a packed file is packed again")
     names = [case.name for case in zlib_cases([])]
-    require(len(names) == len(set(names)) == 43, f"{len(names)} cases of the packing")
+    require(len(names) == len(set(names)) == 45, f"{len(names)} cases of the packing")
     require([kind for kind, _ in frames(base)] == [b"OSMHeader", b"OSMData"], "frames")
 
 
@@ -154,7 +154,7 @@ def the_companion(program: str, folder: str):
     done = run("reader", "--set", "zlib", "--batch", "--list", "--jobs", "4", "--", sys.executable, adapter)
     require(done.returncode == 0, f"pbfcut-any over the packed cases:\n{done.stdout}{done.stderr}")
     written = run("write", "--set", "zlib", os.path.join(folder, "files"))
-    require(written.returncode == 0 and len(os.listdir(os.path.join(folder, "files"))) == 86, "run.py write")
+    require(written.returncode == 0 and len(os.listdir(os.path.join(folder, "files"))) == 90, "run.py write")
 
 
 def main(program: str):

@@ -75,6 +75,13 @@ def status_of(results: list) -> int:
 # ---- several readers, as the tables of docs/CONFORMANCE.md
 
 
+def listed_of(measured: list) -> str:
+    """A line for each reader and case that isn't as it should be."""
+    return "".join(
+        f"{reader['name']}: {result['verdict']}: {result['case']}: {result['outcome']}: {result.get('note', '')}\n"
+        for reader in measured for result in reader["results"] if not result["good"])
+
+
 def rows(measured: list) -> str:
     """`measured` is a list of {"name", "counts"}; a row for each."""
     text = "| Reader | Sound: read as meant | read otherwise | refused | crashed | Broken: refused | read | crashed |\n"

@@ -14,7 +14,7 @@
     run.py make [--check]     writes the folders of the cases that recipes.py describes, or compares them
     run.py index [--check]    writes README.md and `list`, which crates/pbf_vectors reads, or compares them and the folders
 
-Options of `reader`; those from --set on are also for `known`, except --list, --tap and --junit:
+Options of `reader`; those from --set on are also for `known`, except --tap and --junit:
 
     --form FORM       what COMMAND prints: lines (the suite's JSON lines, the default), opl, xml, counts (nodes N ways N
                       relations N), or status (only whether it refuses a file is compared)
@@ -135,7 +135,7 @@ def run_readers(words: list) -> int:
     told = run_known(names, chosen, options)
     written_reports(options, {"json": lambda: report.as_json(told), "html": lambda: as_html(told, chosen)})
     if "-" not in options.values():
-        sys.stdout.write(report.rows(told))
+        sys.stdout.write((report.listed_of(told) if options.get("list") else "") + report.rows(told))
     return 0 if told else 2
 
 
