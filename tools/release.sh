@@ -2,7 +2,8 @@
 # Makes release/ of the program that the gate built, or an archive of a release.
 #
 # usage: tools/release.sh                    after a green `bash .ci/run`: packs its program into release/, and writes release/MANIFEST
-#        tools/release.sh --archive FOLDER   makes FOLDER/pbfcut-VERSION-x86_64-linux.tar.gz of release/, with SHA256SUMS beside it
+#        tools/release.sh --archive FOLDER   makes FOLDER/pbfcut-VERSION-x86_64-linux.tar.gz of release/, and pbf-vectors-VERSION.tar.gz
+#                                            of vectors/ for authors of other readers, with SHA256SUMS beside them
 set -eu
 top=$(cd "$(dirname "$(readlink -f "${BASH_SOURCE[0]}")")/.." && pwd)
 cd "$top"
@@ -43,8 +44,23 @@ make_release() {
   cat "$manifest"
 }
 
+# The folder $1 packed to $2. The same files make the same bytes.
+pack_folder() {
+  local date
+  date=$(manifest_value date)
+  tar --sort=name --owner=0 --group=0 --numeric-owner --mtime="$date" -C "$(dirname "$1")" -c "$(basename "$1")" | gzip -9n >"$2"
+}
+
+# The suite by itself: vectors/ and the two pages that it links to.
+copy_vectors() {
+  mkdir -p "$1/docs"
+  git archive HEAD:crates/pbf_vectors/data --prefix=vectors/ | tar -x -C "$1"
+  cp docs/FORMAT.md docs/CONFORMANCE.md "$1/docs"
+  sed -i 's|\.\./\.\./\.\./docs/|../docs/|g' "$1/vectors/README.md" "$1/vectors/about.md"
+}
+
 make_archive() {
-  local version name folder
+  local version name suite folder
   is_handed_over "$(tools/sources.sh)" || fail "release/ has the program of other sources"
   version=$(manifest_value program | cut -d ' ' -f 2)
   name=pbfcut-$version-x86_64-linux
@@ -54,11 +70,13 @@ make_archive() {
   unpack_to "$folder/$name/pbfcut" || fail "${packed#"$top"/} is not what MANIFEST says"
   cp --parents -r install tools/pbfcut-any docs/pbfcut.1 docs/pbfcut-any.1 completions "$folder/$name"
   cp "$manifest" README.md CHANGELOG.md "$folder/$name"
+  suite=pbf-vectors-$version
+  copy_vectors "$folder/$suite"
   mkdir -p "$1"
-  # The same files make the same bytes.
-  tar --sort=name --owner=0 --group=0 --numeric-owner --mtime="$(manifest_value date)" -C "$folder" -c "$name" | gzip -9n >"$1/$name.tar.gz"
-  (cd "$1" && sha256sum "$name.tar.gz" >SHA256SUMS)
-  echo "$1/$name.tar.gz"
+  pack_folder "$folder/$name" "$1/$name.tar.gz"
+  pack_folder "$folder/$suite" "$1/$suite.tar.gz"
+  (cd "$1" && sha256sum "$name.tar.gz" "$suite.tar.gz" >SHA256SUMS)
+  printf '%s\n' "$1/$name.tar.gz" "$1/$suite.tar.gz"
 }
 
 case $#:${1-} in

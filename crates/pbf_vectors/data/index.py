@@ -2,7 +2,8 @@
 
 import os
 
-from suite import CALLS, HERE, Case, cases
+from make import run_make
+from suite import CALLS, HERE, Case, cases, nanodegrees
 
 ABOUT = os.path.join(HERE, "about.md")
 
@@ -62,17 +63,11 @@ def missing(fault: dict) -> int:
     return int(reason[8:-1]) if reason.startswith("Missing(") else 0
 
 
-def nanodegrees(edge: str) -> int:
-    whole, _, fraction = edge.lstrip("-").partition(".")
-    value = int(whole) * 1_000_000_000 + int((fraction + "000000000")[:9])
-    return -value if edge.startswith("-") else value
-
-
 def run_index(check: bool) -> int:
     """Writes both, or says which of them isn't as the cases are."""
     found = cases([])
     wanted = {"README.md": page(found), "list": "".join(row(case) + "\n" for case in found)}
-    stale = 0
+    stale = run_make(True)
     for name, text in wanted.items():
         path = os.path.join(HERE, name)
         if check:

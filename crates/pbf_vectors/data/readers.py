@@ -1,297 +1,173 @@
-"""Other readers over the suite: their forms of output, and what of an entity is compared."""
+"""Other readers over the suite: what a reader makes of each case."""
 
-import datetime
-import json
+import concurrent.futures
+import contextlib
 import os
 import re
 import shutil
+import signal
 import subprocess
 import tempfile
+import threading
 import xml.etree.ElementTree as ElementTree
-import zlib
 
+from forms import FORMS, difference, meant_entities, shown_entity
+from packing import packed
 from suite import Case
 
 SECONDS = 20
-EPOCH = datetime.datetime(1970, 1, 1)
-KINDS = {"n": "node", "w": "way", "r": "relation"}
-
-
-# ---- the forms: each gives a list of entities as case.json tells them, but times in whole seconds
-
-
-def unescaped(text: str) -> str:
-    """A text of OPL."""
-    return re.sub(r"%([0-9a-fA-F]+)%", lambda found: chr(int(found.group(1), 16)), text)
-
-
-def seconds_of(stamp: str) -> int:
-    return int((datetime.datetime.strptime(stamp, "%Y-%m-%dT%H:%M:%SZ") - EPOCH).total_seconds())
-
-
-def opl_place(text: str):
-    """`x1.5y2` as latitude and longitude in nanodegrees."""
-    lon, _, lat = text.lstrip("x").partition("y")
-    return (nano(lat), nano(lon)) if lon and lat else None
-
-
-def nano(degrees: str) -> int:
-    whole, _, fraction = degrees.lstrip("-").partition(".")
-    value = int(whole) * 1_000_000_000 + int((fraction + "000000000")[:9])
-    return -value if degrees.startswith("-") else value
-
-
-def opl_entity(line: str) -> dict:
-    """A line of OPL."""
-    words = line.split(" ")
-    entity = {"kind": KINDS[words[0][0]], "id": int(words[0][1:])}
-    place = {}
-    for word in words[1:]:
-        sort, rest = word[:1], word[1:]
-        if sort in "vci" and rest:
-            entity[{"v": "version", "c": "changeset", "i": "uid"}[sort]] = int(rest)
-        elif sort == "t" and rest:
-            entity["time"] = seconds_of(rest)
-        elif sort == "u":
-            entity["user"] = unescaped(rest)
-        elif sort == "T" and rest:
-            entity["tags"] = [[unescaped(part) for part in tag.split("=")] for tag in rest.split(",")]
-        elif sort in "xy" and rest:
-            place[sort] = nano(rest)
-        elif sort == "N" and rest:
-            refs = [re.match(r"n(-?\d+)(.*)", ref).groups() for ref in rest.split(",")]
-            entity["refs"] = [int(ref) for ref, _ in refs]
-            places = [opl_place(where) for _, where in refs]
-            if any(places):
-                entity["locations"] = places
-        elif sort == "M" and rest:
-            members = [re.match(r"([nwr])(-?\d+)@(.*)", member).groups() for member in rest.split(",")]
-            entity["members"] = [[kind, int(number), unescaped(role)] for kind, number, role in members]
-    if place:
-        entity["lat"], entity["lon"] = place["y"], place["x"]
-    return entity
-
-
-def opl(text: bytes) -> list:
-    return [opl_entity(line) for line in text.decode("utf-8").split("\n") if line]
-
-
-def lines(text: bytes) -> list:
-    """The suite's own form: case.json's entities, one a line."""
-    found = [json.loads(line) for line in text.decode("utf-8").split("\n") if line]
-    for entity in found:
-        if "time" in entity:
-            entity["time"] //= 1000
-    return found
-
-
-def xml(text: bytes) -> list:
-    """OpenStreetMap's XML."""
-    found = []
-    for element in ElementTree.fromstring(text):
-        if element.tag not in ("node", "way", "relation"):
-            continue
-        told = element.attrib
-        entity = {"kind": element.tag, "id": int(told["id"])}
-        for name in ("version", "changeset", "uid"):
-            if name in told:
-                entity[name] = int(told[name])
-        if "timestamp" in told:
-            entity["time"] = seconds_of(told["timestamp"])
-        if "user" in told:
-            entity["user"] = told["user"]
-        if "lat" in told:
-            entity["lat"], entity["lon"] = nano(told["lat"]), nano(told["lon"])
-        entity["tags"] = [[tag.get("k"), tag.get("v")] for tag in element.iter("tag")]
-        entity["refs"] = [int(ref.get("ref")) for ref in element.iter("nd")]
-        entity["members"] = [[m.get("type")[0], int(m.get("ref")), m.get("role")] for m in element.iter("member")]
-        found.append(entity)
-    return found
-
-
-FORMS = {"opl": opl, "lines": lines, "xml": xml}
-
-
-# ---- what is compared
-
-
-def plain(entity: dict, form: str) -> dict:
-    """What every form can tell: an absent number of the metadata is the default, and `visible` says nothing without history."""
-    told = {"kind": entity["kind"], "id": entity["id"], "user": entity.get("user", "")}
-    for name in ("version", "time", "changeset", "uid"):
-        told[name] = entity.get(name, 0)
-    told["version"] = max(told["version"], 0)
-    for name in ("tags", "refs", "members"):
-        told[name] = [list(part) if isinstance(part, (list, tuple)) else part for part in entity.get(name, [])]
-    told["place"] = (entity.get("lat"), entity.get("lon"))
-    told["locations"] = [] if form == "xml" else [tuple(place) if place else None for place in entity.get("locations", [])]
-    return told
-
-
-def near(one: tuple, other: tuple) -> bool:
-    """Whether two places are less than a step of seven digits apart."""
-    if one is None or other is None or None in one or None in other:
-        return one == other
-    return all(abs(a - b) < 100 for a, b in zip(one, other))
-
-
-def difference(meant: list, read: list, form: str) -> str:
-    """What a reader tells otherwise, or nothing."""
-    if len(meant) != len(read):
-        return f"{len(read)} entities, and not {len(meant)}"
-    for one, other in zip((plain(e, form) for e in meant), (plain(e, form) for e in read)):
-        for name, value in one.items():
-            same = near(value, other[name]) if name == "place" else value == other[name]
-            if name == "locations":
-                same = len(value) == len(other[name]) and all(map(near, value, other[name]))
-            if not same:
-                return f"{one['kind']} {one['id']}: {name} is {other[name]}, and not {value}"
-    return ""
-
-
-def meant_entities(case: Case):
-    """What is to be read, with times in whole seconds; a number where case.json has a digest for many."""
-    told = case.told.get("entities")
-    if told is None or isinstance(told, dict):
-        return told and told["lines"]
-    return [{**entity, "time": entity["time"] // 1000} if "time" in entity else entity for entity in told]
-
-
-# ---- packing
-
-
-def varint(number: int) -> bytes:
-    out = bytearray()
-    while number > 127:
-        out.append(number & 127 | 128)
-        number >>= 7
-    return bytes(out) + bytes((number,))
-
-
-def spelled(number: int, payload: bytes) -> bytes:
-    return varint(number * 8 + 2) + varint(len(payload)) + payload
-
-
-def first_number(message: bytes, at: int):
-    """The varint at a place, and what follows it."""
-    value = shift = 0
-    while True:
-        value |= (message[at] & 127) << shift
-        at += 1
-        shift += 7
-        if message[at - 1] < 128:
-            return value, at
-
-
-def fields(message: bytes) -> list:
-    """(number, wire type, value) of each field, or an error of index where the message is spoiled."""
-    found, at = [], 0
-    while at < len(message):
-        tag, at = first_number(message, at)
-        if tag % 8 == 0:
-            value, at = first_number(message, at)
-        else:
-            length, at = first_number(message, at) if tag % 8 == 2 else ({1: 8, 5: 4}[tag % 8], at)
-            value = message[at : at + length]
-            at += length
-            if len(value) != length:
-                raise IndexError
-        found.append((tag // 8, tag % 8, value))
-    return found
-
-
-FEATURES = spelled(4, b"OsmSchema-V0.6") + spelled(4, b"DenseNodes")
-
-
-def packed(data: bytes):
-    """The file with each raw blob in zlib's form, and its BlobHeaders spelled anew; None where its frames can't be read. A header
-    that requires no feature gets the two usual ones, without which some readers of packed files stop at once."""
-    out, at = b"", 0
-    try:
-        while at < len(data):
-            length = int.from_bytes(data[at : at + 4], "big")
-            header = {number: value for number, _, value in fields(data[at + 4 : at + 4 + length])}
-            at += 4 + length
-            size = header[3] & 0xFFFFFFFF
-            blob = {number: value for number, _, value in fields(data[at : at + size])}
-            if at + size > len(data) or set(blob) & {3, 4, 5, 6, 7}:
-                return None
-            at += size
-            raw = FEATURES + blob[1] if header[1] == b"OSMHeader" and b"OsmSchema-V0.6" not in blob[1] else blob[1]
-            body = varint(16) + varint(len(raw)) + spelled(3, zlib.compress(raw))
-            head = spelled(1, header[1]) + varint(24) + varint(len(body))
-            out += len(head).to_bytes(4, "big") + head + body
-    except (IndexError, KeyError, TypeError):
-        return None
-    return out
-
-
-# ---- the run
-
 READ, OTHERWISE, REFUSED, CRASHED, LEFT = "read as meant", "read otherwise", "refused", "crashed", "left out"
+OUTCOMES = (READ, OTHERWISE, REFUSED, CRASHED, LEFT)
+VERDICTS = ("sound", "broken", "choice")
+KEPT = 20
+
+
+class Result:
+    """What a reader makes of a case: one of OUTCOMES, a sentence about it, and the entities it printed where they differ."""
+
+    def __init__(self, case: Case, outcome: str, note: str = "", read=None):
+        self.case = case
+        self.outcome = outcome
+        self.note = note
+        self.read = read
+
+    def is_good(self) -> bool:
+        """Whether a reader should do this. A file where the format leaves a choice is never wrong, unless the reader crashes."""
+        wanted = {"sound": (READ, LEFT), "broken": (REFUSED, LEFT), "choice": (READ, OTHERWISE, REFUSED, LEFT)}
+        return self.outcome in wanted[self.case.told["verdict"]]
+
+    def is_plain(self) -> bool:
+        """Whether there is nothing to tell: a sound file read as meant, or a broken one refused."""
+        return self.outcome == {"sound": READ, "broken": REFUSED, "choice": READ}[self.case.told["verdict"]]
+
+    def as_json(self) -> dict:
+        told = {"case": self.case.name, "verdict": self.case.told["verdict"], "outcome": self.outcome, "good": self.is_good()}
+        if self.note:
+            told["note"] = self.note
+        if self.read is not None:
+            told["read"] = [shown_entity(entity) for entity in self.read[:KEPT]]
+        return told
+
+
+class Batch:
+    """A command that reads many files: their names go to its standard input, and after each file it prints `# status N WHY`. After a
+    file that ends it, it is started anew."""
+
+    def __init__(self, words: list, seconds: int):
+        self.words = words
+        self.seconds = seconds
+        self.process = None
+
+    def start(self):
+        pipe = subprocess.PIPE
+        self.process = subprocess.Popen(self.words, stdin=pipe, stdout=pipe, stderr=subprocess.DEVNULL, start_new_session=True)
+
+    def stop(self):
+        with contextlib.suppress(ProcessLookupError):
+            os.killpg(self.process.pid, signal.SIGKILL)
+
+    def asked(self, file: str) -> subprocess.CompletedProcess:
+        """What it prints of a file, with the status of that line; or subprocess.TimeoutExpired."""
+        if self.process is None:
+            self.start()
+        timer = threading.Timer(self.seconds, self.stop)
+        timer.start()
+        with contextlib.suppress(BrokenPipeError):
+            self.process.stdin.write(file.encode() + b"\n")
+            self.process.stdin.flush()
+        read = []
+        for line in self.process.stdout:
+            if line.startswith(b"# status "):
+                timer.cancel()
+                status, _, why = line[9:].strip().partition(b" ")
+                return subprocess.CompletedProcess(self.words, int(status), b"".join(read), why)
+            read.append(line)
+        status = self.process.wait()
+        self.process = None
+        if timer.finished.is_set():
+            raise subprocess.TimeoutExpired(self.words, self.seconds)
+        timer.cancel()
+        return subprocess.CompletedProcess(self.words, status or 1, b"", b"it ended")
 
 
 class Reader:
-    """A command, its form, and a folder for the files."""
+    """A command, and how its output is understood."""
 
-    def __init__(self, command: list, options: dict, folder: str):
-        self.command = command if any("{}" in word for word in command) else command + ["{}"]
-        self.form = options["form"]
-        self.packed = options["packed"]
-        self.file = os.path.join(folder, "in.osm.pbf")
+    def __init__(self, command: list, options: dict):
+        self.command = command if options.get("batch") or any("{}" in word for word in command) else command + ["{}"]
+        self.form = options.get("form", "opl")
+        self.packed = options.get("packed", False)
+        self.seconds = options.get("seconds", SECONDS)
+        self.kinds = options.get("kinds", [])
+        self.without = options.get("without", [])
+        self.refusal = re.compile(options.get("refusal") or r"\bError\b")
+        self.batches = threading.local() if options.get("batch") else None
 
-    def judged(self, case: Case) -> tuple:
-        """What the reader makes of the case, and a word about it."""
+    def result(self, case: Case) -> Result:
+        """What the reader makes of the case. The file stands in a new folder, where the reader may write too."""
         data = case.input()
-        if self.packed:
+        if self.packed and not case.is_packed:
             data = packed(data)
             if data is None:
-                return LEFT, "its frames can't be packed"
-        with open(self.file, "wb") as file:
-            file.write(data)
-        words = [word.replace("{}", self.file) for word in self.command]
+                return Result(case, LEFT, "its frames can't be packed")
+        with tempfile.TemporaryDirectory() as folder:
+            file = os.path.join(folder, "in.osm.pbf")
+            with open(file, "wb") as out:
+                out.write(data)
+            return self.run(case, file, folder)
+
+    def done(self, file: str, folder: str) -> subprocess.CompletedProcess:
+        """The command over a file. In a batch each thread has its own."""
+        if self.batches is not None:
+            if not hasattr(self.batches, "mine"):
+                self.batches.mine = Batch(self.command, self.seconds)
+            return self.batches.mine.asked(file)
+        words = [word.replace("{}", file) for word in self.command]
+        return subprocess.run(words, capture_output=True, cwd=folder, stdin=subprocess.DEVNULL, timeout=self.seconds)
+
+    def run(self, case: Case, file: str, folder: str) -> Result:
         try:
-            done = subprocess.run(words, capture_output=True, timeout=SECONDS)
+            done = self.done(file, folder)
         except subprocess.TimeoutExpired:
-            return CRASHED, f"no end within {SECONDS} seconds"
-        if done.returncode < 0 or done.returncode in (134, 139):
-            return CRASHED, f"signal {abs(done.returncode)}"
-        said = done.stderr.decode("utf-8", "replace").strip().split("\n")[-1]
-        if done.returncode or re.search(r"\bError\b", said):
-            return REFUSED, said[:120]
+            return Result(case, CRASHED, f"no end within {self.seconds} seconds")
+        if done.returncode < 0 or done.returncode in (134, 136, 139):
+            return Result(case, CRASHED, f"signal {-done.returncode if done.returncode < 0 else done.returncode - 128}")
+        said = done.stderr.decode("utf-8", "replace").strip().split("\n")
+        fault = next((line for line in said if self.refusal.search(line)), said[-1])
+        if done.returncode or self.refusal.search(fault):
+            return Result(case, REFUSED, fault.replace(folder + "/", "")[:120])
         return self.compared(case, done.stdout)
 
-    def compared(self, case: Case, text: bytes) -> tuple:
+    def compared(self, case: Case, text: bytes) -> Result:
+        """A file that was read: its entities beside those of the case."""
         meant = meant_entities(case)
         try:
             read = FORMS[self.form](text)
-        except (ValueError, KeyError, AttributeError, ElementTree.ParseError) as error:
-            return OTHERWISE, f"its output can't be read: {error}"[:120]
+        except (ValueError, KeyError, AttributeError, IndexError, ElementTree.ParseError) as error:
+            return Result(case, OTHERWISE, f"its output can't be understood: {error}"[:120])
         if meant is None:
-            return OTHERWISE, f"read {len(read)} entities of a broken file"
-        if isinstance(meant, int):
-            return (READ, "") if meant == len(read) else (OTHERWISE, f"{len(read)} entities, and not {meant}")
-        what = difference(meant, read, self.form)
-        return (OTHERWISE, what[:200]) if what else (READ, "")
+            said = "a broken file" if read is None else f"{sum(read) if isinstance(read, tuple) else len(read)} entities of a broken file"
+            return Result(case, OTHERWISE, f"reads {said}", read if isinstance(read, list) else None)
+        what = difference(meant, read, self)
+        if what and isinstance(read, list) and isinstance(meant, list):
+            return Result(case, OTHERWISE, what[:200], read)
+        return Result(case, OTHERWISE, what[:200]) if what else Result(case, READ)
 
 
-def run_reader(command: list, chosen: list, options: dict) -> int:
-    """All cases; prints the table, and answers 0 where every sound file was read as meant."""
-    if shutil.which(command[0]) is None:
-        print(f"{command[0]} is not here")
-        return 2
-    table = {verdict: dict.fromkeys((READ, OTHERWISE, REFUSED, CRASHED, LEFT), 0) for verdict in ("sound", "broken", "choice")}
-    with tempfile.TemporaryDirectory() as folder:
-        reader = Reader(command, options, folder)
-        for case in chosen:
-            judged, what = reader.judged(case)
-            verdict = case.told["verdict"]
-            table[verdict][judged] += 1
-            good = (verdict == "sound" and judged == READ) or (verdict == "broken" and judged == REFUSED)
-            if options["list"] and not good:
-                print(f"{verdict}: {case.name}: {judged}: {what}")
-    print(f"{'':14}" + "".join(f"{name:>16}" for name in table["sound"]))
-    for verdict, row in table.items():
-        print(f"{verdict:14}" + "".join(f"{count:16,}" for count in row.values()) + (" (not counted)" if verdict == "choice" else ""))
-    sound = table["sound"]
-    return 0 if sound[READ] == sum(sound.values()) else 1
+def results_of(command: list, chosen: list, options: dict) -> list:
+    """The reader's results, in the order of the cases; `jobs` of them are worked out at a time."""
+    reader = Reader(command, options)
+    with concurrent.futures.ThreadPoolExecutor(options.get("jobs", 1)) as pool:
+        return list(pool.map(reader.result, chosen))
+
+
+def is_here(command: list) -> bool:
+    return shutil.which(command[0]) is not None
+
+
+def counts(results: list) -> dict:
+    """How many cases of each verdict have each outcome."""
+    table = {verdict: dict.fromkeys(OUTCOMES, 0) for verdict in VERDICTS}
+    for result in results:
+        table[result.case.told["verdict"]][result.outcome] += 1
+    return table

@@ -12,6 +12,8 @@ CALLS = ("convert", "extract", "parents")
 class Case:
     """One folder of the suite."""
 
+    is_packed = False
+
     def __init__(self, name: str):
         self.name = name
         self.folder = os.path.join(HERE, name)
@@ -40,6 +42,13 @@ class Case:
     def written(self, call: str) -> bytes:
         """What a call writes."""
         return b"" if self.refusal(call) else self.bytes_of(self.told["writes"][call])
+
+
+def nanodegrees(degrees: str) -> int:
+    """A decimal number of degrees in nanodegrees; digits beyond the ninth are cut."""
+    whole, _, fraction = degrees.lstrip("-").partition(".")
+    value = int(whole) * 1_000_000_000 + int((fraction + "000000000")[:9])
+    return -value if degrees.startswith("-") else value
 
 
 def names() -> list:

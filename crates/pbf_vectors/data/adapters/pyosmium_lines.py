@@ -1,9 +1,9 @@
-#!/usr/bin/env python3
-"""Prints the entities of a file as the suite's JSON lines, as pyosmium reads them: run.py reader --form lines -- with_pyosmium.py"""
+#!/usr/bin/python3
+"""Prints the entities of a file as the suite's JSON lines, as pyosmium reads them."""
 
 import json
-import sys
 
+import batch
 import osmium
 
 
@@ -31,5 +31,10 @@ class Printer(osmium.SimpleHandler):
         self.told("relation", relation, members=[[member.type, member.ref, member.role] for member in relation.members])
 
 
+def main(file: str) -> int:
+    Printer().apply_file(file)
+    return 0
+
+
 if __name__ == "__main__":
-    Printer().apply_file(sys.argv[1])
+    batch.run(main)
