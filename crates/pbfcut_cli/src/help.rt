@@ -66,7 +66,7 @@ pub(crate) const DIGESTS: &str = "Print the SHA-256 digests of IN and OUT";
 
 pub(crate) const DIGEST_OF_INPUT: &str = "Print the SHA-256 digest of IN";
 
-pub(crate) const PARENTS: &str = "Also keep relations that contain kept relations";
+pub(crate) const PARENTS: &str = "Also keep relations that contain kept ones";
 
 pub(crate) const BOX: &str = "The edges of the box, in degrees";
 

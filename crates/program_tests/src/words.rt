@@ -277,7 +277,7 @@ fn is_help(alloc: Global, words: &[&str], parts: &[&str]) -> bool {
     let of_each = [
         "Usage: pbfcut",
         "Example",
-        "\n  pbfcut ",
+        "\n  pbfcut",
         "Exit status:\n  0  done",
         "5  IN changed",
     ];
