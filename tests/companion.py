@@ -13,6 +13,7 @@ import json
 import lzma
 import os
 import random
+import re
 import resource
 import shutil
 import signal
@@ -640,8 +641,10 @@ def random_signals(bench: Bench):
         else:
             expect(name, (set(), ""), (left, found))
             lines = {128 + number: f"pbfcut-any: stopped by {number.name}, and OUT was not made\n" for number in numbers}
-            # before the interpreter comes to the companion, a signal ends it as it ends any process
-            if process.returncode not in (-number for number in numbers):
+            # before the interpreter has read the first lines of the companion, a signal ends it as it ends any script
+            in_companion = re.search(r'pbfcut-any", line \d+, in (?!<module>)', errors)
+            is_early = process.returncode in (-number for number in numbers) or "KeyboardInterrupt" in errors and not in_companion
+            if not is_early:
                 expect(name, lines.get(process.returncode), errors)
         expect(f"{name}: processes", True, until(lambda: not processes_of(process.pid), 20))
     expect(f"runs that ended, and that were stopped: {results}", True, all(results.values()))
