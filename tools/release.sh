@@ -60,7 +60,7 @@ copy_vectors() {
 }
 
 make_archive() {
-  local version name suite folder
+  local version name suite
   is_handed_over "$(tools/sources.sh)" || fail "release/ has the program of other sources"
   version=$(manifest_value program | cut -d ' ' -f 2)
   name=pbfcut-$version-x86_64-linux
@@ -69,7 +69,17 @@ make_archive() {
   mkdir "$folder/$name"
   unpack_to "$folder/$name/pbfcut" || fail "${packed#"$top"/} is not what MANIFEST says"
   cp --parents -r install tools/pbfcut-any docs/pbfcut.1 docs/pbfcut-any.1 completions "$folder/$name"
-  cp "$manifest" README.md CHANGELOG.md "$folder/$name"
+  cp "$manifest" CHANGELOG.md "$folder/$name"
+  cat >"$folder/$name/README" <<'TEXT'
+pbfcut cuts a bounding box out of an OpenStreetMap PBF file; pbfcut-any does so with compressed files, as they are published.
+
+  ./install                installs both, with manual pages and completions, below /usr/local
+  ./install $HOME/.local   ... or below another folder
+  ./pbfcut --help          runs pbfcut from here
+
+The program is proved: MANIFEST says of which sources it was built, by which toolchain, and what the gate said. The repository has the
+theorem and its proof.
+TEXT
   suite=pbf-vectors-$version
   copy_vectors "$folder/$suite"
   mkdir -p "$1"
