@@ -8,28 +8,14 @@ nodes of all copies, then their ways, then their relations, each sorted by id. T
 without gaps, since some programs keep room for each id below the greatest. It prints how many copies there are, and the three boxes that hold
 about 1 %, 25 % and 100 % of them. SMALL is raw, sorted, has dense nodes, and is less than a quarter of a degree wide.
 """
-import importlib.machinery
-import importlib.util
 import os
 import sys
 
-TOP = os.path.dirname(os.path.dirname(os.path.abspath(__file__)))
+import wire
+
 NODE, WAY, RELATION = 0, 1, 2  # the types of members
 CELL = 250_000_000  # a quarter of a degree, in nanodegrees
 COLUMNS = 600  # copies side by side; then a row further north
-
-
-def companion():
-    """The companion's reader and writer of frames."""
-    path = os.path.join(TOP, "tools", "pbfcut-any")
-    loader = importlib.machinery.SourceFileLoader("companion", path)
-    spec = importlib.util.spec_from_loader("companion", loader)
-    module = importlib.util.module_from_spec(spec)
-    loader.exec_module(module)
-    return module
-
-
-pbf = companion()
 
 
 def signed(number: int) -> int:
@@ -37,14 +23,14 @@ def signed(number: int) -> int:
 
 
 def zigzag(number: int) -> bytes:
-    return pbf.varint(number << 1 if number >= 0 else (-number << 1) - 1)
+    return wire.varint(number << 1 if number >= 0 else (-number << 1) - 1)
 
 
 def column(content) -> list:
     """The numbers of a packed column of differences."""
     numbers, number, at = [], 0, 0
     while at < len(content):
-        difference, at = pbf.read_varint(content, at)
+        difference, at = wire.read_varint(content, at)
         number += signed(difference)
         numbers.append(number)
     return numbers
@@ -58,16 +44,16 @@ class Shifted:
         self.rest = b"".join(zigzag(after - before) for before, after in zip(numbers, numbers[1:]))
 
     def moved(self, by: int) -> bytes:
-        return b"".join(pbf.nested(self.number, zigzag(first + by) + self.rest) for first in self.numbers)
+        return b"".join(wire.nested(self.number, zigzag(first + by) + self.rest) for first in self.numbers)
 
 
 def field(number: int, value) -> bytes:
-    return pbf.scalar(number, value) if isinstance(value, int) else pbf.nested(number, bytes(value))
+    return wire.scalar(number, value) if isinstance(value, int) else wire.nested(number, bytes(value))
 
 
 def members(kind: int, message) -> list:
     """What a way or a relation refers to: pairs of a type and an id."""
-    found = dict(pbf.fields(message))
+    found = dict(wire.fields(message))
     if kind == WAY:
         return [(NODE, ref) for ref in column(found.get(8, b""))]
     return list(zip(bytes(found.get(10, b"")), column(found.get(9, b""))))
@@ -86,12 +72,12 @@ class Ids:
 
     @staticmethod
     def met(payload):
-        for group in (value for number, value in pbf.fields(payload) if number == 2):
-            for number, message in pbf.fields(group):
+        for group in (value for number, value in wire.fields(payload) if number == 2):
+            for number, message in wire.fields(group):
                 if number == 2:
-                    yield from ((NODE, id) for id in column(dict(pbf.fields(message))[1]))
+                    yield from ((NODE, id) for id in column(dict(wire.fields(message))[1]))
                 elif number in (3, 4):
-                    yield number - 2, dict(pbf.fields(message))[1]
+                    yield number - 2, dict(wire.fields(message))[1]
                     yield from members(number - 2, message)
 
     def __call__(self, pairs) -> list:
@@ -102,7 +88,7 @@ class Dense:
     """A dense message, in parts: ids, latitudes and longitudes move."""
 
     def __init__(self, message, granularity: int, ids: Ids):
-        found = pbf.fields(message)
+        found = wire.fields(message)
         numbers = {number: column(value) for number, value in found if number in (1, 8, 9)}
         numbers[1] = ids((NODE, number) for number in numbers[1])
         self.columns = [Shifted(number, numbers[number]) for number in (1, 8, 9)]
@@ -112,14 +98,14 @@ class Dense:
     def moved(self, copy: int) -> bytes:
         east, north = copy % COLUMNS * CELL, copy // COLUMNS * CELL
         by = (copy * self.step, north // self.granularity, east // self.granularity)
-        return pbf.nested(2, b"".join(map(Shifted.moved, self.columns, by)) + self.other)
+        return wire.nested(2, b"".join(map(Shifted.moved, self.columns, by)) + self.other)
 
 
 class Linked:
     """A way or a relation, in parts: its id moves, and the ids in its column of refs or of members."""
 
     def __init__(self, kind: int, message, ids: Ids):
-        found, number_of_column = pbf.fields(message), 8 if kind == WAY else 9
+        found, number_of_column = wire.fields(message), 8 if kind == WAY else 9
         self.kind, self.step = kind, ids.step
         self.id = ids([(kind, dict(found)[1])])[0]
         self.column = Shifted(number_of_column, ids(members(kind, message)))
@@ -127,17 +113,17 @@ class Linked:
 
     def moved(self, copy: int) -> bytes:
         by = copy * self.step
-        return pbf.nested(self.kind + 2, pbf.scalar(1, self.id + by) + self.other + self.column.moved(by))
+        return wire.nested(self.kind + 2, wire.scalar(1, self.id + by) + self.other + self.column.moved(by))
 
 
 class Block:
     """A block of SMALL: its fields beside the groups, and its groups by parts."""
 
     def __init__(self, payload, ids: Ids):
-        found = pbf.fields(payload)
+        found = wire.fields(payload)
         granularity = dict(found).get(17, 100)
         self.other = b"".join(field(number, value) for number, value in found if number != 2)
-        self.groups = [[self.part(*part, granularity, ids) for part in pbf.fields(group)] for number, group in found if number == 2]
+        self.groups = [[self.part(*part, granularity, ids) for part in wire.fields(group)] for number, group in found if number == 2]
         self.kinds = {getattr(part, "kind", NODE) for group in self.groups for part in group}
 
     @staticmethod
@@ -149,17 +135,17 @@ class Block:
         sys.exit("bench/make.py: SMALL has plain nodes or changesets")
 
     def moved(self, copy: int) -> bytes:
-        groups = (pbf.nested(2, b"".join(part.moved(copy) for part in group)) for group in self.groups)
-        return pbf.frame(b"OSMData", pbf.nested(1, self.other + b"".join(groups)))
+        groups = (wire.nested(2, b"".join(part.moved(copy) for part in group)) for group in self.groups)
+        return wire.frame(b"OSMData", wire.nested(1, self.other + b"".join(groups)))
 
 
 def read_small(path: str):
     header, payloads = b"", []
-    for found in pbf.frames(pbf.Source(path, "read   ")):
-        if found.kind == b"OSMHeader":
-            header = found.content
-        elif found.known:
-            payloads.append(bytes(pbf.stored(found.blob)[1]))
+    for kind, content, payload in wire.frames(path):
+        if kind == b"OSMHeader":
+            header = content
+        elif kind == b"OSMData":
+            payloads.append(payload)
     ids = Ids(payloads)
     return header, [Block(payload, ids) for payload in payloads]
 
