@@ -74,14 +74,14 @@ KNOWN = (
 
 
 def measured(reader: Known, built: str, chosen: list, options: dict) -> dict:
-    """What is told of a reader's results."""
+    """The report of a reader's results."""
     results = results_of(reader.words(reader.command, built), chosen, {**options, **reader.options})
     told = {"name": reader.name, "package": reader.package, "version": reader.version(), "options": reader.options}
     return {**told, **report.told_of(reader.title, reader.command, results)}
 
 
 def run_known(names: list, chosen: list, options: dict) -> list:
-    """What is told of the readers of these names, or of all, that are here."""
+    """The reports of the readers of these names, or of all, that are here."""
     found = []
     with tempfile.TemporaryDirectory() as built:
         for reader in KNOWN:

@@ -6,14 +6,11 @@ ghost use Rattle.zlib.specs.Stream.{inflated};
 use std::alloc::Global;
 use zlib::{InflateFault, inflate};
 
-/// The most bytes that a stream may mean here.
-const LIMIT: usize = 1 << 25;
-
-/// What a stream means, in a vector of its own.
-pub fn unpacked(alloc: Global, packed: &[u8]) -> Result<Vec<u8>, InflateFault>
-    ensures { IfOk result (λ out. inflated 33554432 packed.now ≡ Ok out.items) }
+/// What a stream means if that is at most `limit` bytes, in a vector of its own.
+pub fn unpacked(alloc: Global, packed: &[u8], limit: usize) -> Result<Vec<u8>, InflateFault>
+    ensures { IfOk result (λ out. inflated limit packed.now ≡ Ok out.items) }
 {
     let mut out = Vec::new(alloc);
-    inflate(alloc, packed, LIMIT, &mut out)?;
+    inflate(alloc, packed, limit, &mut out)?;
     Ok(out)
 }
