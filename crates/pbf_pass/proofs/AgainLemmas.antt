@@ -1,22 +1,19 @@
 -- What a pass after the one that judged the file has gathered, and why it stops.
-use Rattle.std.proofs.Common.{◌≡◌, ◌⊎◌, ℕ, ◌≤◌, inl, inr, arith, List, [], ◌∷◌, ◌++◌, Err, Option, Some, None, ap, ◌∙◌}
+use Rattle.std.proofs.Common.{◌≡◌, ◌⊎◌, ℕ, inl, inr, List, [], ◌∷◌, ◌++◌, Option, Some, None, refl, sym, ap, ◌∙◌, subst}
 use Rattle.std.specs.List.{AllByRecursion, fold}
 use Rattle.osm_entity.specs.Entity.{EntitySpec}
-use Rattle.pbf_frame.specs.declared.device.Feed as feed
-use Rattle.pbf_frame.specs.declared.reader.FrameReader.{FrameReader}
 use Rattle.pbf_frame.specs.declared.stop.Stop.{Stop}
 use Rattle.pbf_frame.specs.declared.stop.Stop.TheVariants as why
-use Rattle.pbf_frame.specs.Devices.{HasRisen}
 use Rattle.pbf_frame.specs.Frames.{FrameSpec}
-use Rattle.pbf_frame.specs.Next.{Gave, verdict}
-use Rattle.pbf_frame.specs.Reads.{IsReaderStop}
-use Rattle.pbf_frame.specs.Verdict.{Verdict, with_first_known, Gone}
+use Rattle.pbf_frame.specs.Verdict.{Verdict, with_first_known, Says}
 use Rattle.pbf_pass.specs.Again.{IsSound, GathersFrame, GathersFile, StopsAtFrame, StopsUnjudged}
 use Rattle.pbf_pass.specs.Counting.{stored_entities}
 use Rattle.pbf_pass.specs.Judged.{fully, fully_known}
+use Rattle.pbf_pass.specs.Stops.{Caused, unchanged}
+use Rattle.pbf_pass.specs.Visit.{Takes, Fails, Visited, VisitsAll, StopsVisit}
 use Rattle.pbf_pass.proofs.GatherLemmas.{gathered_one}
 use Rattle.pbf_pass.proofs.SoundLemmas.{sound_first_ones, sound_last, all_sound, faulty_rest, faulty_frame}
-use Rattle.pbf_pass.proofs.StepLemmas.{StoppedStep}
+use Rattle.pbf_pass.proofs.VisitLemmas.{visited_to}
 
 -- these frames were gathered, if they have no fault
 abbrev pub GathersFrames : {S : Type 0} → (S → EntitySpec → S) → (before now : S) → List FrameSpec → Type 0
@@ -31,29 +28,35 @@ gathers_all gathered fs first before now so_far stays frames is =
     let whole = all_sound fs frames is in
     stays ∙ so_far whole.1 ∙ ap (λ (l : List FrameSpec). fold gathered first (stored_entities l)) whole.0
 
--- a loop of steps stops, of which some are done
-module _ {F : Type 0} (g : feed.Ghosts F) (old new : FrameReader F) (failed : FrameSpec → Stop → Type 0) (same : Type 0) (number : ℕ) (wrote : Type 0) where
-  pub stops_unjudged : (first : Option Verdict) (frames : List FrameSpec) (before : ℕ) (stop : Stop) → Gone first frames (verdict g.remaining old) → before ≤ g.failures old.feed
-      → ((f : FrameSpec) (s : Stop) → failed f s → StopsAtFrame number wrote f s) → StoppedStep g old new failed same stop → StopsUnjudged number (fully_known first) (HasRisen before (g.failures new.feed)) wrote stop
-  stops_unjudged first frames before stop gone counted cause s = of s.where_it_stopped where
-    Stops : Stop → Type 0
-    Stops t = StopsUnjudged number (fully_known first) (HasRisen before (g.failures new.feed)) wrote t
+-- ---- of a visitor in a pass of this number
 
-    by_reader : (t : Stop) → Gave (verdict g.remaining old) (Err t) (verdict g.remaining new) → IsReaderStop (g.failures old.feed) (g.failures new.feed) t → Stops t
-    by_reader (why.Refused e) gave is = faulty_rest first (verdict g.remaining old) frames e gone gave
-    by_reader why.Read gave is = omega (arith, is, counted)
-    by_reader why.Write gave is = absurd is
-    by_reader why.Memory gave is = tt
-    by_reader (why.Changed n) gave is = absurd is
+module _ {V : Type 0} (number : V → ℕ) (took : Takes V) (same : (old new : V) (f : FrameSpec) → took old f new → number new ≡ number old) where
+  same_number : (before : V) (fs : List FrameSpec) (now : V) → Visited took before fs now → number now ≡ number before
+  same_number before fs now visited = visited_to took (λ gone v. number v ≡ number before) (λ gone f mid last so_far one. same mid last f one ∙ so_far) fs [] before now refl visited
 
-    at_frame : (f : FrameSpec) (t : Stop) → verdict g.remaining old ≡ with_first_known f (verdict g.remaining new) → StopsAtFrame number wrote f t → Stops t
-    at_frame f (why.Refused e) is cause = absurd cause
-    at_frame f why.Read is cause = absurd cause
-    at_frame f why.Write is cause = cause
-    at_frame f why.Memory is cause = tt
-    at_frame f (why.Changed n) is cause = (cause.0, faulty_frame first (verdict g.remaining old) (verdict g.remaining new) frames f gone is cause.1)
+  pub stops_visited : (failed : Fails V) (known : Option Verdict) (read wrote : Type 0) (before now : V) (stop : Stop) → ((fs : List FrameSpec) (mid : V) (f : FrameSpec) (s : Stop) → Visited took before fs mid → failed mid f now s → StopsAtFrame (number mid) wrote f s)
+      → StopsVisit took failed known read before now stop → StopsUnjudged (number before) (fully_known known) read wrote stop
+  stops_visited failed known read wrote before now stop cause (inl s) = of stop s.caused where
+    of : (t : Stop) → Caused (λ e. Says s.rest ([], Some e)) read ⊥ unchanged t → StopsUnjudged (number before) (fully_known known) read wrote t
+    of (why.Refused e) says = faulty_rest known s.rest s.frames e s.gone says
+    of why.Read failing = failing
+    of why.Write failing = absurd failing
+    of why.Memory failing = tt
+    of (why.Changed n) failing = absurd failing
+  stops_visited failed known read wrote before now stop cause (inr s) = of stop (cause s.frames s.mid s.frame stop s.visited s.failing) where
+    of : (t : Stop) → StopsAtFrame (number s.mid) wrote s.frame t → StopsUnjudged (number before) (fully_known known) read wrote t
+    of (why.Refused e) failing = absurd failing
+    of why.Read failing = absurd failing
+    of why.Write failing = failing
+    of why.Memory failing = tt
+    of (why.Changed n) failing = (failing.0 ∙ same_number before s.frames s.mid s.visited, faulty_frame known (with_first_known s.frame s.rest) s.rest s.frames s.frame s.gone refl failing.1)
 
-    of : ((Gave (verdict g.remaining old) (Err stop) (verdict g.remaining new) × IsReaderStop (g.failures old.feed) (g.failures new.feed) stop × same)
-        ⊎ ((f : FrameSpec) × (verdict g.remaining old ≡ with_first_known f (verdict g.remaining new)) × failed f stop)) → Stops stop
-    of (inl (gave, is, kept)) = by_reader stop gave is
-    of (inr (f, is, why)) = at_frame f stop is (cause f stop why)
+-- ---- of a visitor that gathers in it
+
+module _ {V S : Type 0} (gathered : S → EntitySpec → S) (sets : V → S) (took : Takes V) (is : (old new : V) (f : FrameSpec) → took old f new → GathersFrame gathered (sets old) (sets new) f) where
+  has_gathered : (before : V) (fs : List FrameSpec) (now : V) → Visited took before fs now → GathersFrames gathered (sets before) (sets now) fs
+  has_gathered before fs now visited = visited_to took (λ gone v. GathersFrames gathered (sets before) (sets v) gone) (λ gone f mid last so_far one. gathers_more gathered gone f (sets before) (sets mid) (sets last) so_far (is mid last f one)) fs [] before now (λ sound. refl) visited
+
+  pub gathers_file : (known : Option Verdict) (count : ℕ) (before now : V) → VisitsAll took known count before now → GathersFile gathered (fully_known known) (sets before) (sets now)
+  gathers_file known count before now p =
+      subst (λ (k : Option Verdict). GathersFile gathered (fully_known k) (sets before) (sets now)) (sym p.says) (gathers_all gathered p.frames (sets before) (sets now) (sets now) (has_gathered before p.frames now p.visited) refl)

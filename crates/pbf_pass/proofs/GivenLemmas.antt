@@ -6,7 +6,9 @@ use Rattle.osm_entity.specs.Entity.{EntitySpec}
 use Rattle.pbf_frame.specs.declared.device.Feed as feed
 use Rattle.pbf_frame.specs.Devices.{prepend, IsAtEnd}
 use Rattle.pbf_frame.specs.Transfers.{Supplied}
-use Rattle.pbf_frame.specs.Verdict.{Verdict, Says}
+use Rattle.pbf_frame.specs.declared.reader.FrameReader.{FrameReader}
+use Rattle.pbf_frame.specs.Next.{place_of, had_header_of}
+use Rattle.pbf_frame.specs.Verdict.{Verdict, Says, judged_known}
 use Rattle.pbf_frame.proofs.Parting.{none_some}
 use Rattle.pbf_pass.specs.declared.pass.Pass.{Pass}
 use Rattle.pbf_pass.specs.Given.{GaveFile, judged_from}
@@ -17,7 +19,7 @@ use Rattle.pbf_pass.specs.Pass.{TakesFile}
 abbrev pub Tells : Option (List ℕ) → List ℕ → Type 0
 Tells known file = (b : List ℕ) → known ≡ Some b → file ≡ b
 
-tells_all : (old new : Option (List ℕ)) (file : List ℕ) → old ≡ prepend file new → IsAtEnd new → Tells old file
+pub tells_all : (old new : Option (List ℕ)) (file : List ℕ) → old ≡ prepend file new → IsAtEnd new → Tells old file
 tells_all old None file told end b is = absurd (none_some _ _ refl (sym told ∙ is))
 tells_all old (Some rest) file told end b is = same (ap (λ (l : List ℕ). file ++ l) end ∙ append-nil file) (sym told ∙ is) where
   same : file ++ rest ≡ file → Some (file ++ rest) ≡ Some b → file ≡ b
@@ -47,8 +49,18 @@ module _ {F : Type 0} (f : feed.Ghosts F) (old new : F) (digest : List ℕ) wher
   told_says holds v given says = says_told (f.remaining old) given.file v (tells_file holds given) says
 
 -- what holds of the bytes that a fresh reader's feed gave holds of the file
-pub holds_of_file : (h : Bool) (p : ℕ) (file : List ℕ) (holds : Option Verdict → Type 0) → h ≡ false → p ≡ 0 → holds (judged_from h p file) → holds (judged_file (Some file))
-holds_of_file h p file holds had place holding = subst (λ (b : Bool). holds (judged_from b 0 file)) had (subst (λ (n : ℕ). holds (judged_from h n file)) place holding)
+pub holds_of_file : {F : Type 0} (reader : FrameReader F) (file : List ℕ) (holds : Option Verdict → Type 0) → had_header_of reader ≡ false → place_of reader ≡ 0 → holds (judged_from reader file) → holds (judged_known false 0 (Some file))
+holds_of_file reader file holds had place holding =
+    subst (λ (b : Bool). holds (judged_known b 0 (Some file))) had (subst (λ (n : ℕ). holds (judged_known (had_header_of reader) n (Some file))) place holding)
+
+-- a file was given, and so more holds of it
+pub gave_file_less : {F : Type 0} (f : feed.Ghosts F) (old new : F) (digest : List ℕ) (holds less : List ℕ → Type 0) → ((file : List ℕ) → holds file → less file) → GaveFile f old new digest holds → GaveFile f old new digest less
+gave_file_less f old new digest holds less step given = record {
+  file = given.file;
+  supplied = given.supplied;
+  digest_is = given.digest_is;
+  holding = step given.file given.holding;
+}
 
 -- two feeds that report the same bytes gave one file
 pub one_file : (first other : Option (List ℕ)) (file second b : List ℕ) → Tells first file → Tells other second → first ≡ Some b → other ≡ Some b → file ≡ second

@@ -4,7 +4,6 @@ use Rattle.osm_entity.specs.Entity.{EntitySpec}
 use Rattle.pbf_wire.specs.declared.fault.Fault.{Fault}
 use Rattle.pbf_frame.specs.declared.device.Feed as feed
 use Rattle.pbf_frame.specs.declared.device.Drain as drain
-use Rattle.pbf_frame.specs.declared.reader.FrameReader.{FrameReader}
 use Rattle.pbf_frame.specs.declared.stop.Stop.{Stop}
 use Rattle.pbf_frame.specs.declared.stop.Stop.TheVariants as stop
 use Rattle.pbf_frame.specs.Transfers.{Added}
@@ -20,7 +19,7 @@ use Rattle.pbf_pass.specs.Given.{GaveFile}
 use Rattle.pbf_pass.specs.Hashing.{IsLength}
 use Rattle.pbf_pass.specs.Judged.{judged_file}
 use Rattle.pbf_pass.specs.Pass.{TakesFile}
-use Rattle.pbf_pass.specs.Refused.{RefusesRest, RefusesFile, Halts, HaltsFile, IsLimitRefused, halted, stop_of}
+use Rattle.pbf_pass.specs.Refused.{RefusesRest, RefusesBytes, RefusesFile, Halts, HaltsFile, IsLimitRefused, halted, stop_of}
 use Rattle.pbf_pass.specs.Stops.{FaultOf, Caused, Only, unchanged, KeepsFeed}
 use Rattle.pbf_pass.proofs.LimitLemmas.{limited_fault, limit_refused}
 
@@ -32,17 +31,34 @@ limit_caused told (halt.Stopped s) limit = absurd limit
 
 -- ---- of a reader that halts; which feed it has is told by what it keeps of it
 
-pub halts_of : {F : Type 0} {f : feed.Ghosts F} (old new : FrameReader F) (refused : Refusal → Type 0) (count : ℕ) (digest : List ℕ) (s : Stop) → KeepsFeed f old.feed new.feed → RefusesRest f old new s
-    → ((e : Fault) → RefusesRest f old new (stop.Refused e) → refused (record { fault = e; read = count; input = digest })) → Halts refused (halted s count digest)
-halts_of old new refused count digest (stop.Refused e) keeps rest step = step e rest
-halts_of old new refused count digest stop.Read keeps rest step = λ e is. (let bad : ⊥ = cc in bad)
-halts_of old new refused count digest stop.Write keeps rest step = λ e is. (let bad : ⊥ = cc in bad)
-halts_of old new refused count digest stop.Memory keeps rest step = λ e is. (let bad : ⊥ = cc in bad)
-halts_of old new refused count digest (stop.Changed pass) keeps rest step = λ e is. (let bad : ⊥ = cc in bad)
+pub halts_of : {F : Type 0} {f : feed.Ghosts F} (old new : F) (at_fault : Fault → List ℕ → Type 0) (refused : Refusal → Type 0) (count : ℕ) (digest : List ℕ) (s : Stop) → KeepsFeed f old new → RefusesRest f old new at_fault s
+    → ((e : Fault) → RefusesRest f old new at_fault (stop.Refused e) → refused (record { fault = e; read = count; input = digest })) → Halts refused (halted s count digest)
+halts_of old new at_fault refused count digest (stop.Refused e) keeps rest step = step e rest
+halts_of old new at_fault refused count digest stop.Read keeps rest step = λ e is. (let bad : ⊥ = cc in bad)
+halts_of old new at_fault refused count digest stop.Write keeps rest step = λ e is. (let bad : ⊥ = cc in bad)
+halts_of old new at_fault refused count digest stop.Memory keeps rest step = λ e is. (let bad : ⊥ = cc in bad)
+halts_of old new at_fault refused count digest (stop.Changed pass) keeps rest step = λ e is. (let bad : ⊥ = cc in bad)
 
 -- ---- of a feed that was refused
 
 module _ {F : Type 0} (f : feed.Ghosts F) (old new : F) where
+  -- by a judgement that is that of a verdict
+  refuses_file : (at_fault : Fault → List ℕ → Type 0) (judge : List ℕ → Option Verdict) (r : Refusal) → ((b : List ℕ) → at_fault r.fault b → FaultOf (judge b) r.fault) → RefusesBytes f old new at_fault r → RefusesFile f old new judge r
+  refuses_file at_fault judge r step refuses = record {
+    bytes = record {
+      read = refuses.bytes.read;
+      told = refuses.bytes.told;
+      logged = refuses.bytes.logged;
+      faulty = faulty_as (λ b. FaultOf (judge b) r.fault) (at_fault r.fault) refuses.bytes.read (f.remaining new) step refuses.bytes.faulty;
+    };
+    counted = refuses.counted;
+    digest_is = refuses.digest_is;
+  }
+
+  pub halts_file : (at_fault : Fault → List ℕ → Type 0) (judge : List ℕ → Option Verdict) (h : Halt) → ((e : Fault) (b : List ℕ) → at_fault e b → FaultOf (judge b) e) → Halts (RefusesBytes f old new at_fault) h → Halts (RefusesFile f old new judge) h
+  halts_file at_fault judge (halt.Refused r) step halts = refuses_file at_fault judge r (step r.fault) halts
+  halts_file at_fault judge (halt.Stopped s) step halts = halts
+
   -- by another verdict
   pub refuses_also : (first then : List ℕ → Option Verdict) (r : Refusal) → ((b : List ℕ) → FaultOf (first b) r.fault → FaultOf (then b) r.fault) → RefusesFile f old new first r → RefusesFile f old new then r
   refuses_also first then r step refuses = record {
@@ -80,8 +96,8 @@ module _ {F : Type 0} (f : feed.Ghosts F) (old new : F) where
   limit_halts gathered before now told (halt.Stopped s) given limit = absurd limit
 
   -- the same of devices that are equal
-  pub refuses_file_as : (first last : F) (judge : List ℕ → Option Verdict) (r : Refusal) → old ≡ first → new ≡ last → RefusesFile f old new judge r → RefusesFile f first last judge r
-  refuses_file_as first last judge r e e2 refuses = subst (λ x. RefusesFile f first x judge r) e2 (subst (λ x. RefusesFile f x new judge r) e refuses)
+  pub refuses_bytes_as : (first last : F) (at_fault : Fault → List ℕ → Type 0) (r : Refusal) → old ≡ first → new ≡ last → RefusesBytes f old new at_fault r → RefusesBytes f first last at_fault r
+  refuses_bytes_as first last at_fault r e e2 refuses = subst (λ x. RefusesBytes f first x at_fault r) e2 (subst (λ x. RefusesBytes f x new at_fault r) e refuses)
 
   -- ---- and of a drain
 

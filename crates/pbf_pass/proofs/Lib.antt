@@ -1,7 +1,9 @@
 pub mod CountLemmas
 pub mod SoundLemmas
 pub mod StepLemmas
+pub mod VisitLemmas
 pub mod GatherLemmas
+pub mod JudgingLemmas
 pub mod ReadingLemmas
 pub mod AgainLemmas
 pub mod GivenLemmas

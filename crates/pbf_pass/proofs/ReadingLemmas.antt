@@ -1,9 +1,7 @@
 -- The frames that a loop read, and at its end the bytes that the feed gave.
 use Rattle.std.proofs.Common.{◌≡◌, inl, inr, ℕ, Bool, true, List, [], ◌∷◌, ◌++◌, ◌||◌, Option, Some, None, Ok, Err, refl, sym, ap, ◌∙◌, subst, append_assoc}
-use Rattle.std.specs.List.{AllByRecursion}
 use Rattle.std.specs.Option.{option_map}
 use Rattle.std.proofs.lemmas.List.{append-nil}
-use Rattle.pbf_wire.proofs.MessageLemmas.{all_append}
 use Rattle.pbf_frame.specs.declared.device.Feed as feed
 use Rattle.pbf_frame.specs.declared.reader.FrameReader.{FrameReader}
 use Rattle.pbf_frame.specs.declared.stop.Stop.{Stop}
@@ -12,7 +10,7 @@ use Rattle.pbf_frame.specs.Devices.{prepend, Passes}
 use Rattle.pbf_frame.specs.Frames.{FrameSpec, is_header, frame_kind, frame_end, frame_bytes, next_of}
 use Rattle.pbf_frame.specs.Next.{place_of, had_header_of}
 use Rattle.pbf_frame.specs.Sound.{IsFrame}
-use Rattle.pbf_frame.specs.Verdict.{Verdict, judged, judged_after, judged_known, with_first_known, with_all, joined_frames, Gone, Says}
+use Rattle.pbf_frame.specs.Verdict.{Verdict, judged, judged_after, judged_known, with_first_known, with_all, joined_frames, Gone}
 use Rattle.pbf_frame.proofs.Judging.{judged_some, judged_step, gave_fault}
 use Rattle.pbf_frame.proofs.KnownBytes.{prepend_none, prepend_more}
 use Rattle.pbf_frame.proofs.Longest.{frame_is_next}
@@ -20,13 +18,10 @@ use Rattle.pbf_frame.proofs.Refusing.{refuses_more}
 use Rattle.pbf_frame.proofs.Parting.{some_same}
 use Rattle.pbf_frame.proofs.Passed.{passes_none, passes_more, passes_same}
 use Rattle.pbf_frame.proofs.VerdictLemmas.{gone_more}
-use Rattle.pbf_pass.specs.Again.{IsSound}
 use Rattle.pbf_pass.specs.Given.{GaveRest, judged_from}
-use Rattle.pbf_pass.specs.Judged.{payload_fault, fully}
 use Rattle.pbf_pass.specs.Refused.{RefusesRest}
-use Rattle.pbf_pass.specs.Stops.{FaultOf}
-use Rattle.pbf_pass.proofs.SoundLemmas.{front_of_sound, fully_gone}
-use Rattle.pbf_pass.proofs.StepLemmas.{GaveOne, GaveNone, RefusedStep, gone_fault, gone_payload}
+use Rattle.pbf_pass.specs.Visit.{Takes, Fails, Visited, StopsVisit, RefusesVisit}
+use Rattle.pbf_pass.proofs.StepLemmas.{GaveOne, GaveNone, RefusedStep}
 
 joined_one : (frames : List FrameSpec) (f : FrameSpec) → joined_frames (frames ++ f ∷ []) ≡ joined_frames frames ++ frame_bytes f
 joined_one [] f = append-nil (frame_bytes f)
@@ -48,11 +43,6 @@ pub record HasPassed {F : Type 0} (g : feed.Ghosts F) (first : FrameReader F) (f
   pub logged : Passes (g.has_passed first.feed) (joined_frames frames) (g.has_passed now.feed)
   -- whatever follows them
   pub gone : (rest : List ℕ) → Gone (judged_known (had_header_of first) (place_of first) (Some (joined_frames frames ++ rest))) frames (judged_known (had_header_of now) (place_of now) (Some rest))
-
--- and their payloads have no fault
-pub record HasRead {F : Type 0} (g : feed.Ghosts F) (first : FrameReader F) (frames : List FrameSpec) (now : FrameReader F) : Type 0 where
-  pub passed : HasPassed g first frames now
-  pub sound : AllByRecursion IsSound frames
 
 gone_none : (h : Bool) (p : ℕ) (rest : List ℕ) → Gone (judged_known h p (Some rest)) [] (judged_known h p (Some rest))
 gone_none h p rest = refl
@@ -87,7 +77,7 @@ module _ {F : Type 0} (g : feed.Ghosts F) where
       }
 
   -- at the end these frames are all, and their bytes are what the feed gave
-  pub has_passed_all : (first mid now : FrameReader F) (frames : List FrameSpec) (holds : Option Verdict → Type 0) → HasPassed g first frames mid → GaveNone g mid now → holds (Some (fully (frames, None))) → GaveRest g first now holds
+  pub has_passed_all : (first mid now : FrameReader F) (frames : List FrameSpec) (holds : Option Verdict → Type 0) → HasPassed g first frames mid → GaveNone g mid now → holds (Some (frames, None)) → GaveRest g first now holds
   has_passed_all first mid now frames holds so_far none holding =
       let all = so_far.gone [] ∙ ap (λ (v : Option Verdict). option_map (with_all frames) v) (nothing_left (had_header_of mid) (place_of mid) none.had_header) in
       let whole : judged (had_header_of first) (place_of first) (joined_frames frames ++ []) ≡ (frames ++ [], None) = some_same _ _ all in
@@ -100,56 +90,46 @@ module _ {F : Type 0} (g : feed.Ghosts F) where
           end = none.end;
           logged = λ log b h. none.logged log (b ++ joined_frames frames) (so_far.logged log b h);
         };
-        holding = subst (λ (v : Verdict). holds (Some (fully v))) (sym is) holding;
+        holding = subst (λ (v : Verdict). holds (Some v)) (sym is) holding;
       }
 
-  -- ---- where they have no fault
-
-  pub has_read_none : (first : FrameReader F) → HasRead g first [] first
-  has_read_none first = record { passed = has_passed_none first; sound = tt }
-
-  pub has_read_more : (first mid now : FrameReader F) (frames : List FrameSpec) (f : FrameSpec) → HasRead g first frames mid → payload_fault f ≡ None → GaveOne g mid now f → HasRead g first (frames ++ f ∷ []) now
-  has_read_more first mid now frames f so_far sound gave = record {
-    passed = has_passed_more first mid now frames f so_far.passed gave;
-    sound = all_append IsSound frames (f ∷ []) so_far.sound (sound, tt);
-  }
-
-  pub has_read_all : (first mid now : FrameReader F) (frames : List FrameSpec) (holds : Option Verdict → Type 0) → HasRead g first frames mid → GaveNone g mid now
-      → ((known : Option Verdict) → Says known (frames, None) → holds known) → GaveRest g first now holds
-  has_read_all first mid now frames holds so_far none holding = has_passed_all first mid now frames holds so_far.passed none (holding (Some (fully (frames, None))) (front_of_sound frames None so_far.sound))
-
-  read_gone : (first now : FrameReader F) (frames : List FrameSpec) → HasRead g first frames now → (rest : List ℕ) → Gone (judged_from (had_header_of first) (place_of first) (joined_frames frames ++ rest)) frames (judged_from (had_header_of now) (place_of now) rest)
-  read_gone first now frames read rest = fully_gone _ (judged_known (had_header_of now) (place_of now) (Some rest)) frames read.sound (read.passed.gone rest)
-
   -- the bytes of these frames, and those of what is refused behind them
-  pub has_read_refused : (first mid now : FrameReader F) (frames : List FrameSpec) (stop : Stop) → HasRead g first frames mid → RefusedStep g mid now stop → RefusesRest g first now stop
-  has_read_refused first mid now frames (why.Refused e) so_far refused = of refused where
+  pub has_passed_refused : {V : Type 0} (took : Takes V) (failed : Fails V) (before mid last : V) (first at now : FrameReader F) (frames : List FrameSpec) (stop : Stop) → HasPassed g first frames at → Visited took before frames mid
+      → RefusedStep g at now (λ f s. failed mid f last s) (last ≡ mid) stop → RefusesRest g first.feed now.feed (RefusesVisit took failed (judged_from first) before last) stop
+  has_passed_refused took failed before mid last first at now frames (why.Refused e) so_far visited refused = of refused where
     judge : List ℕ → Type 0
-    judge b = FaultOf (judged_from (had_header_of first) (place_of first) b) e
+    judge b = RefusesVisit took failed (judged_from first) before last e b
 
-    by_reader : (b : List ℕ) → next_of (had_header_of mid) (place_of mid) b ≡ Err e → judge (joined_frames frames ++ b)
-    by_reader b is = (
-      frames,
-      gone_fault (judged_from (had_header_of first) (place_of first) (joined_frames frames ++ b)) frames (judged_known (had_header_of mid) (place_of mid) (Some b)) e (read_gone first mid frames so_far b)
-          (gave_fault (had_header_of mid) (place_of mid) (Some b) e (λ bytes same. subst (λ (l : List ℕ). next_of (had_header_of mid) (place_of mid) l ≡ Err e) (some_same _ _ same) is)),
-    )
+    by_reader : last ≡ mid → (b : List ℕ) → next_of (had_header_of at) (place_of at) b ≡ Err e → judge (joined_frames frames ++ b)
+    by_reader same b is = inl record {
+      frames = frames;
+      rest = judged_known (had_header_of at) (place_of at) (Some b);
+      gone = so_far.gone b;
+      visited = subst (λ v. Visited took before frames v) (sym same) visited;
+      caused = gave_fault (had_header_of at) (place_of at) (Some b) e (λ bytes same. subst (λ (l : List ℕ). next_of (had_header_of at) (place_of at) l ≡ Err e) (some_same _ _ same) is);
+    }
 
-    by_payload : (f : FrameSpec) → GaveOne g mid now f → payload_fault f ≡ Some e → (rest : List ℕ) → judge ((joined_frames frames ++ frame_bytes f) ++ rest)
-    by_payload f gave fault rest = subst judge (sym (append_assoc (joined_frames frames) (frame_bytes f) rest)) (
-      frames,
-      gone_payload (judged_from (had_header_of first) (place_of first) (joined_frames frames ++ (frame_bytes f ++ rest))) frames (judged_known (had_header_of mid) (place_of mid) (Some (frame_bytes f ++ rest)))
-          (judged_known (had_header_of mid || is_header (frame_kind f)) (frame_end f) (Some rest)) f e (read_gone first mid frames so_far (frame_bytes f ++ rest)) (ap Some (judged_some (had_header_of mid) (place_of mid) (frame_bytes f ++ rest) f rest (frame_is_next (had_header_of mid) (place_of mid) f rest gave.is_frame))) fault,
-    )
+    by_visitor : (f : FrameSpec) → GaveOne g at now f → failed mid f last (why.Refused e) → (rest : List ℕ) → judge ((joined_frames frames ++ frame_bytes f) ++ rest)
+    by_visitor f gave fault rest = subst judge (sym (append_assoc (joined_frames frames) (frame_bytes f) rest)) (inr record {
+      frames = frames;
+      frame = f;
+      rest = judged_known (had_header_of at || is_header (frame_kind f)) (frame_end f) (Some rest);
+      gone = subst (λ (k : Option Verdict). Gone (judged_from first (joined_frames frames ++ (frame_bytes f ++ rest))) frames k)
+          (ap Some (judged_some (had_header_of at) (place_of at) (frame_bytes f ++ rest) f rest (frame_is_next (had_header_of at) (place_of at) f rest gave.is_frame))) (so_far.gone (frame_bytes f ++ rest));
+      mid = mid;
+      visited = visited;
+      failing = fault;
+    })
 
-    of : RefusedStep g mid now (why.Refused e) → RefusesRest g first now (why.Refused e)
-    of (inl refuses) = refuses_more judge (λ b. next_of (had_header_of mid) (place_of mid) b ≡ Err e) (g.has_passed first.feed) (g.has_passed mid.feed) (g.has_passed now.feed) (g.remaining first.feed) (g.remaining mid.feed) (g.remaining now.feed) (joined_frames frames) so_far.passed.told so_far.passed.logged by_reader refuses
+    of : RefusedStep g at now (λ f s. failed mid f last s) (last ≡ mid) (why.Refused e) → RefusesRest g first.feed now.feed (RefusesVisit took failed (judged_from first) before last) (why.Refused e)
+    of (inl (refuses, same)) = refuses_more judge (λ b. next_of (had_header_of at) (place_of at) b ≡ Err e) (g.has_passed first.feed) (g.has_passed at.feed) (g.has_passed now.feed) (g.remaining first.feed) (g.remaining at.feed) (g.remaining now.feed) (joined_frames frames) so_far.told so_far.logged (by_reader same) refuses
     of (inr (f, gave, fault)) = record {
       read = joined_frames frames ++ frame_bytes f;
-      told = prepend_more _ _ _ (joined_frames frames) (frame_bytes f) so_far.passed.told gave.told;
-      logged = passes_more (g.has_passed first.feed) (g.has_passed mid.feed) (g.has_passed now.feed) (joined_frames frames) (frame_bytes f) so_far.passed.logged gave.logged;
-      faulty = inl (by_payload f gave fault);
+      told = prepend_more _ _ _ (joined_frames frames) (frame_bytes f) so_far.told gave.told;
+      logged = passes_more (g.has_passed first.feed) (g.has_passed at.feed) (g.has_passed now.feed) (joined_frames frames) (frame_bytes f) so_far.logged gave.logged;
+      faulty = inl (by_visitor f gave fault);
     }
-  has_read_refused first mid now frames why.Read so_far refused = tt
-  has_read_refused first mid now frames why.Write so_far refused = tt
-  has_read_refused first mid now frames why.Memory so_far refused = tt
-  has_read_refused first mid now frames (why.Changed n) so_far refused = tt
+  has_passed_refused took failed before mid last first at now frames why.Read so_far visited refused = tt
+  has_passed_refused took failed before mid last first at now frames why.Write so_far visited refused = tt
+  has_passed_refused took failed before mid last first at now frames why.Memory so_far visited refused = tt
+  has_passed_refused took failed before mid last first at now frames (why.Changed n) so_far visited refused = tt

@@ -25,7 +25,7 @@ use Rattle.pbf_pass.specs.Judged.{payload_fault, sound_first, fully, fully_known
 use Rattle.pbf_pass.specs.Counting.{counted_with, counts_of, entities_in, stored_entities}
 use Rattle.pbf_pass.specs.Pass.{TakesSome, TakesPayload, Follows, IsStep, HoldsHeader, headers_in, frame_headers, file_header}
 use Rattle.pbf_pass.specs.Payload.{Payload, header_block, primitive_block, unknown, payload_of}
-use Rattle.pbf_pass.specs.Stops.{Caused, FaultOf, Only, unchanged, KeepsFeed}
+use Rattle.pbf_pass.specs.Stops.{KeepsFeed}
 use Rattle.pbf_pass.proofs.CountLemmas.{counts_together, stored_one}
 
 -- ---- the verdict of all phases
@@ -94,15 +94,15 @@ pub record StoppedStep {F : Type 0} (g : feed.Ghosts F) (old new : FrameReader F
   pub where_it_stopped : (Gave (verdict g.remaining old) (Err stop) (verdict g.remaining new) × IsReaderStop (g.failures old.feed) (g.failures new.feed) stop × same)
       ⊎ ((f : FrameSpec) × (verdict g.remaining old ≡ with_first_known f (verdict g.remaining new)) × failed f stop)
 
--- a refusal came from the reader, or the frame that it gave has a payload with this fault
-abbrev pub RefusedStep : {F : Type 0} → feed.Ghosts F → (old new : FrameReader F) → Stop → Type 0
-RefusedStep g old new (why.Refused e) =
-    Refuses (λ b. next_of (had_header_of old) (place_of old) b ≡ Err e) (g.has_passed old.feed) (g.has_passed new.feed) (g.remaining old.feed) (g.remaining new.feed)
-    ⊎ ((f : FrameSpec) × GaveOne g old new f × (payload_fault f ≡ Some e))
-RefusedStep g old new why.Read = Unit {0}
-RefusedStep g old new why.Write = Unit {0}
-RefusedStep g old new why.Memory = Unit {0}
-RefusedStep g old new (why.Changed n) = Unit {0}
+-- a refusal came from the reader, or at the frame that it gave
+abbrev pub RefusedStep : {F : Type 0} → feed.Ghosts F → (old new : FrameReader F) → (FrameSpec → Stop → Type 0) → (same : Type 0) → Stop → Type 0
+RefusedStep g old new failed same (why.Refused e) =
+    (Refuses (λ b. next_of (had_header_of old) (place_of old) b ≡ Err e) (g.has_passed old.feed) (g.has_passed new.feed) (g.remaining old.feed) (g.remaining new.feed) × same)
+    ⊎ ((f : FrameSpec) × GaveOne g old new f × failed f (why.Refused e))
+RefusedStep g old new failed same why.Read = Unit {0}
+RefusedStep g old new failed same why.Write = Unit {0}
+RefusedStep g old new failed same why.Memory = Unit {0}
+RefusedStep g old new failed same (why.Changed n) = Unit {0}
 
 other : (r : Result Bool Stop) → r ≡ Ok true → r ≡ Ok false → ⊥
 other r e f = cc
@@ -184,53 +184,28 @@ module _ {F : Type 0} (g : feed.Ghosts F) (old new : FrameReader F) (took : Fram
         );
       }
 
-  refused_at : (stop : Stop) (answer : Result (Option FrameSpec) Stop) → ((f : FrameSpec) (e : Fault) → failed f (why.Refused e) → payload_fault f ≡ Some e)
-      → Advances g.remaining g.failures g.lender g.has_passed old answer new → Follows took failed same answer (Err stop) → RefusedStep g old new stop
-  refused_at stop (Ok (Some f)) cause a t = at_frame stop t where
-    at_frame : (s : Stop) → failed f s → RefusedStep g old new s
-    at_frame (why.Refused e) h = inr (f, gave_one f a, cause f e h)
+  refused_at : (stop : Stop) (answer : Result (Option FrameSpec) Stop) → Advances g.remaining g.failures g.lender g.has_passed old answer new → Follows took failed same answer (Err stop) → RefusedStep g old new failed same stop
+  refused_at stop (Ok (Some f)) a t = at_frame stop t where
+    at_frame : (s : Stop) → failed f s → RefusedStep g old new failed same s
+    at_frame (why.Refused e) h = inr (f, gave_one f a, h)
     at_frame why.Read h = tt
     at_frame why.Write h = tt
     at_frame why.Memory h = tt
     at_frame (why.Changed n) h = tt
-  refused_at stop (Ok None) cause a t = absurd (no_stop false stop _ t.0 refl)
-  refused_at stop (Err s) cause a t = subst (λ (x : Stop). RefusedStep g old new x) (same_stop s stop _ t.0 refl) (by_reader s a.refused) where
-    by_reader : (s : Stop) → RefusedBy (next_of (had_header_of old) (place_of old)) (g.has_passed old.feed) (g.has_passed new.feed) (g.remaining old.feed) (g.remaining new.feed) s → RefusedStep g old new s
-    by_reader (why.Refused e) r = inl r
-    by_reader why.Read r = tt
-    by_reader why.Write r = tt
-    by_reader why.Memory r = tt
-    by_reader (why.Changed n) r = tt
+  refused_at stop (Ok None) a t = absurd (no_stop false stop _ t.0 refl)
+  refused_at stop (Err s) a t = subst (λ (x : Stop). RefusedStep g old new failed same x) (same_stop s stop _ t.0 refl) (by_reader s a.refused t.1) where
+    by_reader : (s : Stop) → RefusedBy (next_of (had_header_of old) (place_of old)) (g.has_passed old.feed) (g.has_passed new.feed) (g.remaining old.feed) (g.remaining new.feed) s → same → RefusedStep g old new failed same s
+    by_reader (why.Refused e) r kept = inl (r, kept)
+    by_reader why.Read r kept = tt
+    by_reader why.Write r kept = tt
+    by_reader why.Memory r kept = tt
+    by_reader (why.Changed n) r kept = tt
 
-  pub refused_step : (stop : Stop) → ((f : FrameSpec) (e : Fault) → failed f (why.Refused e) → payload_fault f ≡ Some e) → IsReading old → IsStep g old new took failed same (Err stop) → RefusedStep g old new stop
-  refused_step stop cause reading s = refused_at stop s.answer cause (s.next.0 reading) s.follows
+  pub refused_step : (stop : Stop) → IsReading old → IsStep g old new took failed same (Err stop) → RefusedStep g old new failed same stop
+  refused_step stop reading s = refused_at stop s.answer (s.next.0 reading) s.follows
 
   pub stopped_step : (stop : Stop) → IsReading old → IsStep g old new took failed same (Err stop) → StoppedStep g old new failed same stop
   stopped_step stop reading s = stopped_at stop s.answer (s.next.0 reading) s.follows
-
--- the cause in a loop of steps, of which some are done
-module _ {F : Type 0} (g : feed.Ghosts F) (old new : FrameReader F) (failed : FrameSpec → Stop → Type 0) (same : Type 0) where
-  pub loop_stops : (wrote : Type 0) (first : Option Verdict) (frames : List FrameSpec) (before : ℕ) (stop : Stop) → Gone first frames (fully_known (verdict g.remaining old)) → before ≤ g.failures old.feed
-      → ((f : FrameSpec) (s : Stop) → failed f s → Caused (Only (payload_fault f)) ⊥ wrote unchanged s) → StoppedStep g old new failed same stop → Caused (FaultOf first) (HasRisen before (g.failures new.feed)) wrote unchanged stop
-  loop_stops wrote first frames before stop gone counted cause s = of s.where_it_stopped where
-    by_reader : (t : Stop) → Gave (verdict g.remaining old) (Err t) (verdict g.remaining new) → IsReaderStop (g.failures old.feed) (g.failures new.feed) t → Caused (FaultOf first) (HasRisen before (g.failures new.feed)) wrote unchanged t
-    by_reader (why.Refused e) gave is = (frames, gone_fault first frames (verdict g.remaining old) e gone gave)
-    by_reader why.Read gave is = omega (arith, is, counted)
-    by_reader why.Write gave is = absurd is
-    by_reader why.Memory gave is = tt
-    by_reader (why.Changed n) gave is = absurd is
-
-    at_frame : (f : FrameSpec) (t : Stop) → verdict g.remaining old ≡ with_first_known f (verdict g.remaining new) → Caused (Only (payload_fault f)) ⊥ wrote unchanged t → Caused (FaultOf first) (HasRisen before (g.failures new.feed)) wrote unchanged t
-    at_frame f (why.Refused e) is fault = (frames, gone_payload first frames (verdict g.remaining old) (verdict g.remaining new) f e gone is fault)
-    at_frame f why.Read is fault = absurd fault
-    at_frame f why.Write is fault = fault
-    at_frame f why.Memory is fault = tt
-    at_frame f (why.Changed n) is fault = absurd fault
-
-    of : ((Gave (verdict g.remaining old) (Err stop) (verdict g.remaining new) × IsReaderStop (g.failures old.feed) (g.failures new.feed) stop × same)
-        ⊎ ((f : FrameSpec) × (verdict g.remaining old ≡ with_first_known f (verdict g.remaining new)) × failed f stop)) → Caused (FaultOf first) (HasRisen before (g.failures new.feed)) wrote unchanged stop
-    of (inl (gave, is, kept)) = by_reader stop gave is
-    of (inr (f, is, why)) = at_frame f stop is (cause f stop why)
 
 -- ---- frames done
 

@@ -1,5 +1,5 @@
 -- What went through the devices of a call, and what holds of it, whether they report their bytes or not.
-use Rattle.std.specs.Prelude.{◌≡◌, ℕ, List, Bool, Option, Some}
+use Rattle.std.specs.Prelude.{◌≡◌, ℕ, List, Option, Some}
 use Rattle.sha2.specs.Sha256.{sha256}
 use Rattle.pbf_frame.specs.declared.device.Feed as feed
 use Rattle.pbf_frame.specs.declared.device.Drain as drain
@@ -7,17 +7,16 @@ use Rattle.pbf_frame.specs.declared.reader.FrameReader.{FrameReader}
 use Rattle.pbf_frame.specs.Next.{place_of, had_header_of}
 use Rattle.pbf_frame.specs.Transfers.{Added, Supplied}
 use Rattle.pbf_frame.specs.Verdict.{Verdict, judged_known}
-use Rattle.pbf_pass.specs.Judged.{fully_known}
 
--- the verdict of all phases on bytes that begin at this place, where a header frame came before or not
-abbrev pub judged_from : Bool → ℕ → List ℕ → Option Verdict
-judged_from had_header place bytes = fully_known (judged_known had_header place (Some bytes))
+-- the verdict of frames alone on bytes that begin where a reader stands
+abbrev pub judged_from : {F : Type 0} → FrameReader F → List ℕ → Option Verdict
+judged_from reader bytes = judged_known (had_header_of reader) (place_of reader) (Some bytes)
 
 -- the feed of a reader gave what it had, to its end, and this holds of the verdict on it
 pub record GaveRest {F : Type 0} (f : feed.Ghosts F) (old new : FrameReader F) (holds : Option Verdict → Type 0) : Type 0 where
   pub bytes : List ℕ
   pub supplied : Supplied f old.feed bytes new.feed
-  pub holding : holds (judged_from (had_header_of old) (place_of old) bytes)
+  pub holding : holds (judged_from old bytes)
 
 -- a feed gave a file of this digest, to its end, and this holds of it
 pub record GaveFile {F : Type 0} (f : feed.Ghosts F) (old new : F) (digest : List ℕ) (holds : List ℕ → Type 0) : Type 0 where

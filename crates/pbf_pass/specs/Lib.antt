@@ -2,6 +2,7 @@ pub mod Payload
 pub mod Judged
 pub mod Counting
 pub mod Stops
+pub mod Visit
 pub mod Pass
 pub mod Again
 pub mod HeaderLimit

@@ -4,10 +4,8 @@ use Rattle.sha2.specs.Sha256.{sha256}
 use Rattle.pbf_wire.specs.declared.fault.Fault.{Fault}
 use Rattle.pbf_frame.specs.declared.device.Feed as feed
 use Rattle.pbf_frame.specs.declared.device.Drain as drain
-use Rattle.pbf_frame.specs.declared.reader.FrameReader.{FrameReader}
 use Rattle.pbf_frame.specs.declared.stop.Stop.{Stop}
 use Rattle.pbf_frame.specs.declared.stop.Stop.TheVariants as stop
-use Rattle.pbf_frame.specs.Next.{place_of, had_header_of}
 use Rattle.pbf_frame.specs.Refusals.{Refuses}
 use Rattle.pbf_frame.specs.Transfers.{Added}
 use Rattle.pbf_frame.specs.Verdict.{Verdict}
@@ -16,25 +14,26 @@ use Rattle.pbf_pass.specs.declared.receipt.Halt.{Halt}
 use Rattle.pbf_pass.specs.declared.receipt.Halt.TheVariants as halt
 use Rattle.pbf_pass.specs.declared.pass.Judged.{Judged}
 use Rattle.pbf_pass.specs.HeaderLimit.{header_limit, held_header}
-use Rattle.pbf_pass.specs.Given.{judged_from}
 use Rattle.pbf_pass.specs.Hashing.{IsLength}
 use Rattle.pbf_pass.specs.Stops.{FaultOf}
 
--- a feed gave bytes of which the verdict is this fault, whatever follows them, or by themselves, where it was at its end
-abbrev pub RefusesAs : {F : Type 0} → feed.Ghosts F → (old new : F) → (List ℕ → Option Verdict) → Fault → Type 0
-RefusesAs f old new judge e = Refuses (λ bytes. FaultOf (judge bytes) e) (f.has_passed old) (f.has_passed new) (f.remaining old) (f.remaining new)
+-- what a reader's feed gave is at fault; what else may stop a pass says nothing of the bytes
+abbrev pub RefusesRest : {F : Type 0} → feed.Ghosts F → (old new : F) → (Fault → List ℕ → Type 0) → Stop → Type 0
+RefusesRest f old new at_fault (stop.Refused e) = Refuses (at_fault e) (f.has_passed old) (f.has_passed new) (f.remaining old) (f.remaining new)
+RefusesRest f old new at_fault stop.Read = Unit {0}
+RefusesRest f old new at_fault stop.Write = Unit {0}
+RefusesRest f old new at_fault stop.Memory = Unit {0}
+RefusesRest f old new at_fault (stop.Changed pass) = Unit {0}
 
--- a pass over what a reader has left stopped so; what else may stop it says nothing of the bytes
-abbrev pub RefusesRest : {F : Type 0} → feed.Ghosts F → (old new : FrameReader F) → Stop → Type 0
-RefusesRest f old new (stop.Refused e) = RefusesAs f old.feed new.feed (judged_from (had_header_of old) (place_of old)) e
-RefusesRest f old new stop.Read = Unit {0}
-RefusesRest f old new stop.Write = Unit {0}
-RefusesRest f old new stop.Memory = Unit {0}
-RefusesRest f old new (stop.Changed pass) = Unit {0}
+-- bytes that are at fault were read, with their number, as far as it can be told, and their digest
+pub record RefusesBytes {F : Type 0} (f : feed.Ghosts F) (old new : F) (at_fault : Fault → List ℕ → Type 0) (refusal : Refusal) : Type 0 where
+  pub bytes : Refuses (at_fault refusal.fault) (f.has_passed old) (f.has_passed new) (f.remaining old) (f.remaining new)
+  pub counted : IsLength refusal.read bytes.read
+  pub digest_is : refusal.input ≡ sha256 bytes.read
 
--- the same of a file, with the number of the bytes, as far as it can be told, and their digest
+-- the same of a file, whose fault is that of a verdict
 pub record RefusesFile {F : Type 0} (f : feed.Ghosts F) (old new : F) (judge : List ℕ → Option Verdict) (refusal : Refusal) : Type 0 where
-  pub bytes : RefusesAs f old new judge refusal.fault
+  pub bytes : Refuses (λ b. FaultOf (judge b) refusal.fault) (f.has_passed old) (f.has_passed new) (f.remaining old) (f.remaining new)
   pub counted : IsLength refusal.read bytes.read
   pub digest_is : refusal.input ≡ sha256 bytes.read
 

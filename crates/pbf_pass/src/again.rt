@@ -1,17 +1,17 @@
 //! A pass after the one that judged the file. It reads frames and gathers their entities, and judges no payload: that its bytes are
 //! those of the first pass is told by their digest, at the end.
 
-ghost use Rattle.std.specs.Prelude.{◌≡◌, ◌≤◌, ◌<◌, ◌+◌, ◌^◌, Some, IfOk, IfErr, OnOk, length};
-ghost use Rattle.pbf_frame.specs.Next.{IsReading, place_of, held_by, verdict};
+ghost use Rattle.std.specs.Prelude.{◌≡◌, ◌≤◌, ◌<◌, ◌+◌, ◌^◌, [], ◌∷◌, Some, IfOk, IfErr, OnOk, length};
+ghost use Rattle.pbf_frame.specs.Next.{place_of, held_by};
 ghost use Rattle.pbf_pass.specs.Again.{GathersPayload, GathersFrame, GathersFile, StopsAtPayload, StopsAtFrame, StopsUnjudged};
-ghost use Rattle.pbf_pass.specs.Given.{GaveRest, GaveFile};
-ghost use Rattle.pbf_pass.specs.Judged.{fully_known, judged_file};
+ghost use Rattle.pbf_pass.specs.Given.{GaveFile};
+ghost use Rattle.pbf_pass.specs.Judged.{judged_file};
 ghost use Rattle.pbf_pass.specs.Pass.{IsStep};
 ghost use Rattle.pbf_pass.specs.Payload.{primitive_block, lent_by};
-ghost use Rattle.pbf_pass.specs.Stops.{KeepsFeed, ReadFailed};
+ghost use Rattle.pbf_pass.specs.Stops.{ReadFailed};
 
-use crate::hashed::HashedFeed;
 use crate::pass::{Gather, gather_runs};
+use crate::visit::{Visit, pass_over, step};
 use pbf_block::UnjudgedBlock;
 use pbf_frame::{Feed, Frame, FrameKind, FrameReader, Stop};
 use std::alloc::Global;
@@ -56,6 +56,31 @@ fn gather_payload<G: Gather>(
     }
 }
 
+/// Gathers the entities of frames that were judged in a pass before.
+///
+/// The reader judges frames, but nothing judges their payloads: of a frame that has a fault anything may be gathered, or `Changed`
+/// with the number is answered.
+#[derive(Drop)]
+pub struct Later<'a, G> {
+    /// What the entities are gathered in.
+    pub gathering: &'a mut G,
+    /// The pass.
+    pub number: u8,
+}
+
+impl<G: Gather> Visit for Later<'_, G> {
+    ghost took = { λ old f new. GathersFrame G.gathered old.gathering.now new.gathering.now f
+        × (new.number ≡ old.number) };
+
+    ghost failed = { λ old f _ stop. StopsAtFrame old.number ⊥ f stop };
+
+    ghost lender = { λ v. v.gathering.ghost_name ∷ [] };
+
+    fn visit(&mut self, alloc: Global, frame: &Frame<'_>) -> Result<(), Stop> {
+        gather_payload(alloc, frame, self.gathering, self.number)
+    }
+}
+
 /// Gathers the entities of the next frame in a pass of this number, after the one that judged the file; false at the end of an input
 /// that had its header.
 ///
@@ -73,29 +98,7 @@ pub fn step_again<F: Feed, G: Gather>(
     ensures limited { place_of reader.new ≤ 2 ^ 62 }
     ensures space { held_by reader.new ≤ 33620990 }
 {
-    let Some(frame) = reader.next()? else {
-        return Ok(false);
-    };
-    gather_payload(alloc, &frame, gathering, number)?;
-    Ok(true)
-}
-
-/// Gathers the entities of the frames that are left, by steps.
-fn steps_again<F: Feed, G: Gather>(
-    alloc: Global,
-    reader: &mut FrameReader<F>,
-    gathering: &mut G,
-    number: u8,
-) -> Result<(), Stop>
-    requires { IsReading reader.old }
-    ensures gathered { OnOk result (GaveRest F.Feed reader.old reader.new
-        (λ known. GathersFile G.gathered known gathering.old gathering.new)) }
-    ensures stops { IfErr result (StopsUnjudged number (fully_known (verdict F.remaining reader.old))
-        (ReadFailed F.Feed reader.old.feed reader.new.feed) ⊥) }
-    ensures keeps { KeepsFeed F.Feed reader.old.feed reader.new.feed }
-{
-    'frames: while step_again(alloc, reader, gathering, number)? {}
-    Ok(())
+    step(alloc, reader, &mut Later { gathering, number })
 }
 
 /// Gathers the entities of a whole file in a pass of this number, after the one that judged the file, and answers the digest of its
@@ -116,11 +119,6 @@ pub fn gather_again<F: Feed, G: Gather>(
     ensures stops { IfErr result (StopsUnjudged number (judged_file (F.remaining feed.old))
         (ReadFailed F.Feed feed.old feed.new) ⊥) }
 {
-    let mut reader = FrameReader::new(alloc, HashedFeed::new(&mut *feed));
-    let outcome = steps_again(alloc, &mut reader, gathering, number);
-    let digest = reader.feed.digest();
-    // What is known of the feed comes back with the reference itself.
-    let _feed = reader.into_feed().into_inner();
-    outcome?;
-    Ok(digest)
+    let mut later = Later { gathering, number };
+    Ok(pass_over(alloc, feed, &mut later)?.digest)
 }

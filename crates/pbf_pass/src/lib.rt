@@ -7,14 +7,16 @@ mod hashed;
 mod header_limit;
 mod pass;
 mod receipt;
+mod visit;
 
-pub use again::{gather_again, step_again};
+pub use again::{Later, gather_again, step_again};
 pub use checking::{check, check_with_receipt};
 pub use hashed::{HashedDrain, HashedFeed};
 pub use header_limit::writable_header;
 pub use pass::{
-    Gather, Judged, Nothing, Pass, judge, step_count, step_gather, step_nodes, step_relations,
-    step_ways,
+    Gather, Judged, Judging, Nothing, Pass, judge, step_count, step_gather, step_nodes,
+    step_relations, step_ways,
 };
 pub use pbf_block::Counts;
 pub use receipt::{Halt, InputReceipt, Receipt, Refusal};
+pub use visit::{FileRead, Visit, pass_over, step, visit_rest};

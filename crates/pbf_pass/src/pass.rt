@@ -1,6 +1,6 @@
 //! A pass over a file: what it takes and gathers frame by frame, and the loop that judges the whole file.
 
-ghost use Rattle.std.specs.Prelude.{◌≡◌, ◌≤◌, ◌<◌, ◌+◌, ◌^◌, false, None, Some, Err, IfOk, IfErr, OnOk, length, map};
+ghost use Rattle.std.specs.Prelude.{◌≡◌, ◌≤◌, ◌<◌, ◌+◌, ◌^◌, [], ◌∷◌, false, None, Some, Err, IfOk, IfErr, OnOk, length, map};
 ghost use Rattle.std.specs.List.{fold};
 ghost use Rattle.osm_entity.specs.Entity.{EntitySpec, node};
 ghost use Rattle.osm_entity.specs.Views.{entity_of};
@@ -8,19 +8,19 @@ ghost use Rattle.pbf_block.specs.Kinds.{is_among};
 ghost use Rattle.pbf_block.specs.PrimitiveBlock.{entities};
 ghost use Rattle.pbf_block.specs.Runs.{joined_runs, run_entities, runs_left};
 ghost use Rattle.pbf_dense.specs.Cursors.{dense_left};
-ghost use Rattle.pbf_frame.specs.Next.{IsReading, place_of, held_by, verdict};
+ghost use Rattle.pbf_frame.specs.Next.{place_of, held_by};
 ghost use Rattle.pbf_wire.specs.declared.fault.Fault.{Fault};
 ghost use Rattle.pbf_wire.specs.declared.fault.ReadFault.TheVariants.{Refused};
-ghost use Rattle.pbf_pass.specs.Judged.{fault_in, fully_known, judged_file};
+ghost use Rattle.pbf_pass.specs.Judged.{fault_in, judged_file};
 ghost use Rattle.pbf_pass.specs.Payload.{header_block, primitive_block, lent_by};
 ghost use Rattle.pbf_pass.specs.Pass.{IsFresh, TakesPayload, TakesAll, TakesFrame, CountsFrame, TakesFile, IsStep, FailsToJudge, as_it_was, with_node, with_way, with_relation};
-ghost use Rattle.pbf_pass.specs.Given.{GaveRest, GaveFile};
+ghost use Rattle.pbf_pass.specs.Given.{GaveFile};
 ghost use Rattle.pbf_pass.specs.Hashing.{IsLength};
-ghost use Rattle.pbf_pass.specs.Refused.{RefusesRest, RefusesFile, Halts, stop_of};
-ghost use Rattle.pbf_pass.specs.Stops.{Caused, FaultOf, unchanged, ReadFailed, KeepsFeed};
+ghost use Rattle.pbf_pass.specs.Refused.{RefusesFile, Halts, stop_of};
+ghost use Rattle.pbf_pass.specs.Stops.{Caused, FaultOf, unchanged, ReadFailed};
 
-use crate::hashed::HashedFeed;
 use crate::receipt::Halt;
+use crate::visit::{FileRead, Visit, pass_over, step};
 use osm_entity::EntityRef;
 use osm_ways::{NodePhase, RelationPhase, WayPhase};
 use pbf_block::{Block, Counts, Kinds, Run, Runs};
@@ -269,6 +269,29 @@ impl Pass {
     }
 }
 
+/// Judges frames, and takes and gathers what they hold.
+#[derive(Drop)]
+pub struct Judging<'a, G> {
+    /// What lasts from frame to frame.
+    pub pass: &'a mut Pass,
+    /// What the entities are gathered in.
+    pub gathering: &'a mut G,
+}
+
+impl<G: Gather> Visit for Judging<'_, G> {
+    ghost took = { λ old f new. TakesFrame G.gathered old.pass.now new.pass.now
+        old.gathering.now new.gathering.now f };
+
+    ghost failed = { λ _ f _ stop. FailsToJudge f stop };
+
+    ghost lender = { λ v. v.pass.ghost_name ∷ v.gathering.ghost_name ∷ [] };
+
+    fn visit(&mut self, alloc: Global, frame: &Frame<'_>) -> Result<(), Stop> {
+        self.pass.take(alloc, frame, self.gathering)?;
+        Ok(())
+    }
+}
+
 /// Takes the next frame of a pass: its header, or the numbers of its entities, which are gathered; false at the end of an input
 /// that had its header.
 ///
@@ -286,11 +309,7 @@ pub fn step_gather<F: Feed, G: Gather>(
     ensures limited { place_of reader.new ≤ 2 ^ 62 }
     ensures space { held_by reader.new ≤ 33620990 }
 {
-    let Some(frame) = reader.next()? else {
-        return Ok(false);
-    };
-    pass.take(alloc, &frame, gathering)?;
-    Ok(true)
+    step(alloc, reader, &mut Judging { pass, gathering })
 }
 
 /// Takes the next frame of a pass: its header, or the numbers of its entities; false at the end of an input that had its header.
@@ -356,25 +375,6 @@ pub fn step_relations<F: Feed>(
     step_gather(alloc, reader, pass, phase)
 }
 
-/// Takes the frames that are left, by steps.
-fn steps<F: Feed, G: Gather>(
-    alloc: Global,
-    reader: &mut FrameReader<F>,
-    gathering: &mut G,
-) -> Result<Pass, Stop>
-    requires { IsReading reader.old }
-    ensures taken { IfOk result (λ pass. GaveRest F.Feed reader.old reader.new
-        (λ known. TakesFile G.gathered known gathering.old gathering.new pass)) }
-    ensures stops { IfErr result (Caused (FaultOf (fully_known (verdict F.remaining reader.old)))
-        (ReadFailed F.Feed reader.old.feed reader.new.feed) ⊥ unchanged) }
-    ensures refused { IfErr result (RefusesRest F.Feed reader.old reader.new) }
-    ensures keeps { KeepsFeed F.Feed reader.old.feed reader.new.feed }
-{
-    let mut pass = Pass::new();
-    'frames: while step_gather(alloc, reader, &mut pass, gathering)? {}
-    Ok(pass)
-}
-
 /// What a pass over a whole file without a fault reports.
 #[derive(Drop)]
 pub struct Judged {
@@ -404,18 +404,15 @@ pub fn judge<F: Feed, G: Gather>(
         (Halts (RefusesFile F.Feed feed.old feed.new (λ b. judged_file (Some b)))) }
     ensures counts { F.failures feed.old ≤ F.failures feed.new }
 {
-    let mut reader = FrameReader::new(alloc, HashedFeed::new(&mut *feed));
-    let outcome = steps(alloc, &mut reader, gathering);
-    let count = reader.feed.count();
-    let digest = reader.feed.digest();
-    // What is known of the feed comes back with the reference itself.
-    let _feed = reader.into_feed().into_inner();
-    match outcome {
-        Ok(pass) => Ok(Judged {
-            pass,
-            count,
-            digest,
-        }),
-        Err(stop) => Err(Halt::new(stop, count, digest)),
-    }
+    let mut pass = Pass::new();
+    let mut judging = Judging {
+        pass: &mut pass,
+        gathering,
+    };
+    let FileRead { count, digest, .. } = pass_over(alloc, feed, &mut judging)?;
+    Ok(Judged {
+        pass,
+        count,
+        digest,
+    })
 }

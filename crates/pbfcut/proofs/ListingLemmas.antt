@@ -1,28 +1,30 @@
 -- Texts of frames that went out one after another.
-use Rattle.std.proofs.Common.{◌≡◌, ◌⊎◌, ℕ, ◌≤◌, Err, List, [], ◌∷◌, ◌++◌, Option, Some, None, arith, subst, inl, inr, sym, ap, ◌∙◌}
+use Rattle.std.proofs.Common.{false, refl, ◌≡◌, ◌⊎◌, ℕ, ◌≤◌, List, [], ◌∷◌, ◌++◌, Option, Some, None, arith, subst, inl, inr, sym, ap, ◌∙◌}
 use Rattle.std.specs.List.{flat_map}
 use Rattle.std.proofs.lemmas.List.{append-nil}
 use Rattle.std.proofs.lemmas.Grind.{flat_map-append}
 use Rattle.pbf_frame.specs.declared.device.Drain as drain
 use Rattle.pbf_wire.specs.declared.fault.Fault.{Fault}
-use Rattle.pbf_frame.specs.declared.device.Feed as feed
-use Rattle.pbf_frame.specs.declared.reader.FrameReader.{FrameReader}
 use Rattle.pbf_frame.specs.declared.stop.Stop.{Stop}
 use Rattle.pbf_frame.specs.declared.stop.Stop.TheVariants as why
-use Rattle.pbf_frame.specs.Devices.{append, HasRisen, IsFront}
+use Rattle.pbf_frame.specs.Devices.{append, IsFront}
 use Rattle.pbf_frame.specs.Transfers.{Added}
 use Rattle.pbf_frame.specs.Frames.{FrameSpec}
-use Rattle.pbf_frame.specs.Next.{Gave, verdict}
-use Rattle.pbf_frame.specs.Reads.{IsReaderStop}
-use Rattle.pbf_frame.specs.Verdict.{Verdict, Gone, Says, with_all, with_first_known}
+use Rattle.pbf_frame.specs.Verdict.{Verdict, judged_known, Gone, Says, with_all, with_first_known}
 use Rattle.pbf_frame.proofs.KnownBytes.{append_append}
-use Rattle.pbf_frame.proofs.Passed.{added_more, added_same}
+use Rattle.pbf_frame.proofs.Passed.{added_none, added_more, added_same}
 use Rattle.pbf_frame.proofs.Beginnings.{front_whole, front_longer, front_then}
 use Rattle.pbf_frame.proofs.VerdictLemmas.{gone_more, gone_split}
 use Rattle.pbfcut.specs.Blobs.{line, lines}
-use Rattle.pbfcut.specs.Listing.{ListsToFault, StopsListing}
+use Rattle.pbfcut.specs.Listing.{Lists, ListsFront, ListsNext, ListsToFault, StopsListing}
 use Rattle.pbf_pass.specs.Stops.{Caused, Only, unchanged, WriteFailed}
-use Rattle.pbf_pass.proofs.StepLemmas.{StoppedStep}
+use Rattle.pbf_pass.specs.Visit.{Takes, Fails, Visited, VisitsAll, StopsBehind, StopsVisit}
+use Rattle.pbf_frame.specs.declared.reader.FrameReader.{FrameReader}
+use Rattle.pbf_frame.specs.Next.{place_of, had_header_of}
+use Rattle.pbf_pass.specs.Given.{judged_from}
+use Rattle.pbf_pass.proofs.GivenLemmas.{Tells, holds_of_file}
+use Rattle.pbf_pass.proofs.VisitLemmas.{visited_to}
+use Rattle.pbf_frame.proofs.Parting.{some_same}
 
 -- what is written for one more of anything
 pub text_one : {A : Type 0} (text : A → List ℕ) (xs : List A) (x : A) → flat_map text (xs ++ x ∷ []) ≡ flat_map text xs ++ text x
@@ -61,44 +63,63 @@ gone_ending first (Some v) frames ending gone says =
 faultless : (e : Fault) → ◌≡◌ {A = Option Fault} None (Some e) → ⊥
 faultless e p = cc
 
--- where a step of a listing stopped
-module _ {F D : Type 0} (g : feed.Ghosts F) (d : drain.Ghosts D) (reader read : FrameReader F) (old new : D) (stop : Stop) (stopped : StoppedStep g reader read (StopsListing d old new) (new ≡ old) stop) where
-  abbrev mid : Option Verdict
-  mid = verdict g.remaining reader
+-- the frames of the bytes that were given are those of the ones that are reported
+lists_told : (known : Option (List ℕ)) (bytes : List ℕ) (v : Verdict) → Tells known bytes → judged_known false 0 (Some bytes) ≡ Some v → Says (judged_known false 0 known) v
+lists_told None bytes v tells is = tt
+lists_told (Some b) bytes v tells is = some_same _ _ (ap (λ (l : List ℕ). judged_known false 0 (Some l)) (sym (tells b refl)) ∙ is)
 
-  abbrev Where : Type 0
-  Where = (Gave mid (Err stop) (verdict g.remaining read) × IsReaderStop (g.failures reader.feed) (g.failures read.feed) stop × (new ≡ old))
-      ⊎ ((f : FrameSpec) × (mid ≡ with_first_known f (verdict g.remaining read)) × StopsListing d old new f stop)
+-- a fresh reader gave them
+pub visits_file : {F V : Type 0} (reader : FrameReader F) (bytes : List ℕ) (took : Takes V) (count : ℕ) (before now : V) → had_header_of reader ≡ false → place_of reader ≡ 0 → VisitsAll took (judged_from reader bytes) count before now → VisitsAll took (judged_known false 0 (Some bytes)) count before now
+visits_file reader bytes took count before now had place all = holds_of_file reader bytes (λ known. VisitsAll took known count before now) had place all
 
-  -- whatever it wrote went out of the next frame's line
-  pub stopped_within : StoppedWithin line (verdict g.remaining reader) (d.taken old) (d.taken new)
-  stopped_within = of stopped.where_it_stopped where
-    of : Where → StoppedWithin line (verdict g.remaining reader) (d.taken old) (d.taken new)
-    of (inl (gave, why, same)) = inl (ap d.taken same)
-    of (inr (f, is, why)) = inr (f, verdict g.remaining read, is, why.front)
+-- ---- of a visitor that lists
 
-  -- why the listing stops, of which some frames are done
-  pub listing_stops : (start : D) (first : Option Verdict) (frames : List FrameSpec) (before : ℕ) → Gone first frames (verdict g.remaining reader) → Added d start (lines frames) old → before ≤ g.failures reader.feed → d.failures start ≤ d.failures old
-      → Caused (ListsToFault d start new first) (HasRisen before (g.failures read.feed)) (WriteFailed d start new) unchanged stop
-  listing_stops start first frames before gone went counted drain_counted = of stopped.where_it_stopped where
-    by_reader : (t : Stop) → Gave mid (Err t) (verdict g.remaining read) → IsReaderStop (g.failures reader.feed) (g.failures read.feed) t → new ≡ old → Caused (ListsToFault d start new first) (HasRisen before (g.failures read.feed)) (WriteFailed d start new) unchanged t
-    by_reader (why.Refused e) gave is same = record {
-      frames = frames;
-      says = gone_ending first mid frames (Some e) gone gave;
-      added = subst (λ (x : D). Added d start (lines frames) x) (sym same) went;
-    }
-    by_reader why.Read gave is same = omega (arith, is, counted)
-    by_reader why.Write gave is same = absurd is
-    by_reader why.Memory gave is same = tt
-    by_reader (why.Changed n) gave is same = absurd is
+module _ {V D : Type 0} (d : drain.Ghosts D) (to : V → D) (took : Takes V) (is : (old new : V) (f : FrameSpec) → took old f new → ListsNext d (to old) (to new) f) where
+  record HasListed (before : V) (fs : List FrameSpec) (now : V) : Type 0 where
+    pub added : Added d (to before) (lines fs) (to now)
+    pub counts : d.failures (to before) ≤ d.failures (to now)
 
-    at_frame : (t : Stop) → Caused (Only None) ⊥ (WriteFailed d old new) unchanged t → Caused (ListsToFault d start new first) (HasRisen before (g.failures read.feed)) (WriteFailed d start new) unchanged t
-    at_frame (why.Refused e) fault = absurd (faultless e fault)
-    at_frame why.Read fault = absurd fault
-    at_frame why.Write fault = omega (arith, fault, drain_counted)
-    at_frame why.Memory fault = tt
-    at_frame (why.Changed n) fault = absurd fault
+  has_listed : (before : V) (fs : List FrameSpec) (now : V) → Visited took before fs now → HasListed before fs now
+  has_listed before fs now visited = visited_to took (λ gone v. HasListed before gone v) (λ gone f mid last so_far one. record {
+    added = texts_added d line _ _ _ gone f so_far.added (is mid last f one).added;
+    counts = omega (arith, so_far.counts, (is mid last f one).counts);
+  }) fs [] before now record { added = added_none d (to before); counts = omega arith } visited
 
-    of : Where → Caused (ListsToFault d start new first) (HasRisen before (g.failures read.feed)) (WriteFailed d start new) unchanged stop
-    of (inl (gave, is, same)) = by_reader stop gave is same
-    of (inr (f, is, why)) = at_frame stop why.cause
+  pub lists_all : (known : Option (List ℕ)) (bytes : List ℕ) (count : ℕ) (before now : V) → Tells known bytes → VisitsAll took (judged_known false 0 (Some bytes)) count before now → Lists d (to before) (to now) (judged_known false 0 known) count
+  lists_all known bytes count before now tells p = record {
+    frames = p.frames;
+    says = lists_told known bytes (p.frames, None) tells p.says;
+    added = (has_listed before p.frames now p.visited).added;
+    counted = p.counted;
+  }
+
+  module _ (failed : Fails V) (known : Option Verdict) (read : Type 0) (before now : V) (stop : Stop) (fails : (mid : V) (f : FrameSpec) (s : Stop) → failed mid f now s → StopsListing d (to mid) (to now) f s) (stopped : StopsVisit took failed known read before now stop) where
+    pub front_listed : ListsFront d (to before) (to now) known
+    front_listed = of stopped where
+      of : StopsVisit took failed known read before now stop → ListsFront d (to before) (to now) known
+      of (inl s) = texts_front line known s.rest s.frames _ _ _ s.gone (has_listed before s.frames now s.visited).added.told (inl refl)
+      of (inr s) = texts_front line known (with_first_known s.frame s.rest) s.frames _ _ _ s.gone (has_listed before s.frames s.mid s.visited).added.told (inr (s.frame, s.rest, refl, (fails s.mid s.frame stop s.failing).front))
+
+    pub stops_listed : Caused (ListsToFault d (to before) (to now) known) read (WriteFailed d (to before) (to now)) unchanged stop
+    stops_listed = of stopped where
+      behind : (s : StopsBehind took known read before now stop) (t : Stop) → Caused (λ e. Says s.rest ([], Some e)) read ⊥ unchanged t → Caused (ListsToFault d (to before) (to now) known) read (WriteFailed d (to before) (to now)) unchanged t
+      behind s (why.Refused e) says = record {
+        frames = s.frames;
+        says = gone_ending known s.rest s.frames (Some e) s.gone says;
+        added = (has_listed before s.frames now s.visited).added;
+      }
+      behind s why.Read failing = failing
+      behind s why.Write failing = absurd failing
+      behind s why.Memory failing = tt
+      behind s (why.Changed n) failing = absurd failing
+
+      within : (mid : V) (t : Stop) → d.failures (to before) ≤ d.failures (to mid) → Caused (Only None) ⊥ (WriteFailed d (to mid) (to now)) unchanged t → Caused (ListsToFault d (to before) (to now) known) read (WriteFailed d (to before) (to now)) unchanged t
+      within mid (why.Refused e) counted failing = absurd (faultless e failing)
+      within mid why.Read counted failing = absurd failing
+      within mid why.Write counted failing = omega (arith, failing, counted)
+      within mid why.Memory counted failing = tt
+      within mid (why.Changed n) counted failing = absurd failing
+
+      of : StopsVisit took failed known read before now stop → Caused (ListsToFault d (to before) (to now) known) read (WriteFailed d (to before) (to now)) unchanged stop
+      of (inl s) = behind s stop s.caused
+      of (inr s) = within s.mid stop (has_listed before s.frames s.mid s.visited).counts (fails s.mid s.frame stop s.failing).cause

@@ -1,5 +1,5 @@
 -- The text of frames, and why its writing stops.
-use Rattle.std.proofs.Common.{◌≡◌, ◌⊎◌, Err, ℕ, List, [], ◌∷◌, ◌++◌, append_assoc, Bool, Option, Some, None, subst, inl, inr, refl, sym, ap, ◌∙◌}
+use Rattle.std.proofs.Common.{◌≡◌, ◌≤◌, ◌⊎◌, arith, ℕ, List, [], ◌∷◌, ◌++◌, append_assoc, Bool, Option, Some, None, subst, inl, inr, refl, sym, ap, ◌∙◌}
 use Rattle.std.specs.List.{flat_map}
 use Rattle.std.proofs.lemmas.Grind.{flat_map-append}
 use Rattle.osm_entity.specs.Entity.{EntitySpec}
@@ -11,40 +11,84 @@ use Rattle.pbf_frame.specs.Frames.{FrameSpec}
 use Rattle.pbf_frame.specs.Stops.{stop_of}
 use Rattle.pbf_frame.specs.Verdict.{Verdict, with_first_known, Says}
 use Rattle.pbf_frame.specs.declared.device.Drain as drain
-use Rattle.pbf_frame.specs.declared.device.Feed as feed
-use Rattle.pbf_frame.specs.declared.reader.FrameReader.{FrameReader}
 use Rattle.pbf_frame.specs.declared.stop.Stop.{Stop}
-use Rattle.pbf_frame.specs.Next.{Gave, verdict}
-use Rattle.pbf_frame.specs.Reads.{IsReaderStop}
+use Rattle.pbf_frame.specs.Transfers.{Added}
+use Rattle.pbf_frame.proofs.Passed.{added_none}
 use Rattle.pbf_pass.specs.Judged.{payload_fault, fully_known, judged_file}
-use Rattle.pbfcut.specs.Showing.{frame_text, file_text, answer_text, Shown, ShowsFront, FailsToShow}
-use Rattle.pbf_pass.specs.Stops.{Caused, Only, unchanged}
+use Rattle.pbf_pass.specs.Given.{Took}
+use Rattle.pbf_pass.specs.Visit.{Takes, Fails, Visited, VisitsAll, StopsVisit}
+use Rattle.pbfcut.specs.Showing.{frame_text, file_text, answer_text, Shown, ShowsFront, WritesFront, ShowsNext, FailsToShowNext}
+use Rattle.pbf_pass.specs.Stops.{Caused, FaultOf, Only, unchanged, WriteFailed}
 use Rattle.pbf_frame.proofs.Beginnings.{front_whole, front_longer, front_then}
 use Rattle.osm_text.specs.EntityText.{entity_line}
-use Rattle.pbfcut.proofs.ListingLemmas.{StoppedWithin, text_one}
+use Rattle.pbfcut.proofs.ListingLemmas.{StoppedWithin, text_one, texts_added, texts_front}
+use Rattle.pbfcut.proofs.PickingLemmas.{fails_since}
 use Rattle.pbf_pass.proofs.GivenLemmas.{Tells, says_told}
-use Rattle.pbf_pass.proofs.StepLemmas.{StoppedStep, fully_first}
+use Rattle.pbf_pass.proofs.StepLemmas.{fully_first}
+use Rattle.pbf_pass.proofs.SoundLemmas.{fully_gone}
+use Rattle.pbf_pass.proofs.JudgingLemmas.{sound_visited, says_visited, stops_judging}
+use Rattle.pbf_pass.proofs.VisitLemmas.{visited_to}
 
 -- why the reading of a payload stops
 pub read_stops : (fault : Option Fault) (e : ReadFault) (before now : ℕ) → ((x : Fault) → e ≡ read.Refused x → fault ≡ Some x) → Caused (Only fault) ⊥ (HasRisen before now) unchanged (stop_of e)
 read_stops fault (read.Refused x) before now refused = refused x refl
 read_stops fault read.Memory before now refused = tt
 
--- whatever a step that stopped wrote, it went out of the next frame's text
-pub stopped_fully : {F D : Type 0} (g : feed.Ghosts F) (d : drain.Ghosts D) (dates : Bool) (reader read : FrameReader F) (old new : D) (s : Stop) → StoppedStep g reader read (FailsToShow d dates old new) (new ≡ old) s
-    → StoppedWithin (frame_text dates) (fully_known (verdict g.remaining reader)) (d.taken old) (d.taken new)
-stopped_fully g d dates reader read old new s stopped = of stopped.where_it_stopped where
-  mid : Option Verdict
-  mid = verdict g.remaining reader
+-- ---- of a visitor that shows
 
-  at_frame : (f : FrameSpec) → mid ≡ with_first_known f (verdict g.remaining read) → ((d.taken new ≡ d.taken old) ⊎ ((payload_fault f ≡ None) × IsFront (d.taken old) (d.taken new) (frame_text dates f))) → StoppedWithin (frame_text dates) (fully_known mid) (d.taken old) (d.taken new)
-  at_frame f is (inl same) = inl same
-  at_frame f is (inr (sound, front)) = inr (f, fully_known (verdict g.remaining read), fully_first mid (verdict g.remaining read) f is sound, front)
+module _ {V D : Type 0} (d : drain.Ghosts D) (to : V → D) (dates : V → Bool) (took : Takes V) (is : (old new : V) (f : FrameSpec) → took old f new → ShowsNext d (dates old) (to old) (to new) f × (dates new ≡ dates old)) where
+  -- the text of these frames went out
+  record HasShown (before : V) (fs : List FrameSpec) (now : V) : Type 0 where
+    pub added : Added d (to before) (file_text (dates before) fs) (to now)
+    pub same : dates now ≡ dates before
+    pub counts : d.failures (to before) ≤ d.failures (to now)
 
-  of : ((Gave mid (Err s) (verdict g.remaining read) × IsReaderStop (g.failures reader.feed) (g.failures read.feed) s × (new ≡ old)) ⊎ ((f : FrameSpec) × (mid ≡ with_first_known f (verdict g.remaining read)) × FailsToShow d dates old new f s))
-      → StoppedWithin (frame_text dates) (fully_known mid) (d.taken old) (d.taken new)
-  of (inl (gave, why, same)) = inl (ap d.taken same)
-  of (inr (f, is, why)) = at_frame f is why.front
+  has_shown : (before : V) (fs : List FrameSpec) (now : V) → Visited took before fs now → HasShown before fs now
+  has_shown before fs now visited = visited_to took (λ gone v. HasShown before gone v) (λ gone f mid last so_far one.
+      let h = is mid last f one in record {
+        added = texts_added d (frame_text (dates before)) _ _ _ gone f so_far.added (subst (λ (b : Bool). Added d (to mid) (frame_text b f) (to last)) so_far.same h.0.shows.added);
+        same = h.1 ∙ so_far.same;
+        counts = omega (arith, so_far.counts, h.0.counts);
+      }) fs [] before now record { added = added_none d (to before); same = refl; counts = omega arith } visited
+
+  sound_shown : (old new : V) (f : FrameSpec) → took old f new → payload_fault f ≡ None
+  sound_shown old new f one = (is old new f one).0.shows.sound
+
+  -- all of them
+  pub shows_file : (known : Option Verdict) (count : ℕ) (before now : V) → VisitsAll took known count before now → Took d (to before) (to now) (Shown (dates before) (fully_known known))
+  shows_file known count before now p = record {
+    written = file_text (dates before) p.frames;
+    added = (has_shown before p.frames now p.visited).added;
+    holding = record { frames = p.frames; says = says_visited took sound_shown known count before now p; is = refl };
+  }
+
+  pub shows_counts : (known : Option Verdict) (count : ℕ) (before now : V) → VisitsAll took known count before now → d.failures (to before) ≤ d.failures (to now)
+  shows_counts known count before now p = (has_shown before p.frames now p.visited).counts
+
+  module _ (failed : Fails V) (known : Option Verdict) (read : Type 0) (before now : V) (stop : Stop) (fails : (mid : V) (f : FrameSpec) (s : Stop) → failed mid f now s → FailsToShowNext d (dates mid) (to mid) (to now) f s) (stopped : StopsVisit took failed known read before now stop) where
+    -- it stopped, and a beginning went out
+    pub front_shown : WritesFront (dates before) (fully_known known) (d.taken (to before)) (d.taken (to now))
+    front_shown = of stopped where
+      within : (f : FrameSpec) (rest : Option Verdict) (mid : V) → dates mid ≡ dates before → ((d.taken (to now) ≡ d.taken (to mid)) ⊎ ((payload_fault f ≡ None) × IsFront (d.taken (to mid)) (d.taken (to now)) (frame_text (dates mid) f)))
+          → StoppedWithin (frame_text (dates before)) (fully_known (with_first_known f rest)) (d.taken (to mid)) (d.taken (to now))
+      within f rest mid same (inl none) = inl none
+      within f rest mid same (inr (sound, front)) = inr (f, fully_known rest, fully_first (with_first_known f rest) rest f refl sound, subst (λ (b : Bool). IsFront (d.taken (to mid)) (d.taken (to now)) (frame_text b f)) same front)
+
+      of : StopsVisit took failed known read before now stop → WritesFront (dates before) (fully_known known) (d.taken (to before)) (d.taken (to now))
+      of (inl s) = texts_front (frame_text (dates before)) _ _ s.frames _ _ _ (fully_gone known s.rest s.frames (sound_visited took sound_shown before s.frames now s.visited) s.gone) (has_shown before s.frames now s.visited).added.told (inl refl)
+      of (inr s) =
+          let h = has_shown before s.frames s.mid s.visited in
+          let next = with_first_known s.frame s.rest in
+          texts_front (frame_text (dates before)) _ _ s.frames _ _ _ (fully_gone known next s.frames (sound_visited took sound_shown before s.frames s.mid s.visited) s.gone) h.added.told (within s.frame s.rest s.mid h.same (fails s.mid s.frame stop s.failing).fails.front)
+
+    pub stops_shown : Caused (FaultOf (fully_known known)) read (WriteFailed d (to before) (to now)) unchanged stop
+    stops_shown = stops_judging took sound_shown failed known read (WriteFailed d (to before) (to now)) before now stop (λ fs mid f s visited failing. fails_since _ _ _ _ _ (has_shown before fs mid visited).counts (fails mid f s failing).fails.cause) stopped
+
+    pub stopped_counts : d.failures (to before) ≤ d.failures (to now)
+    stopped_counts = of stopped where
+      of : StopsVisit took failed known read before now stop → d.failures (to before) ≤ d.failures (to now)
+      of (inl s) = (has_shown before s.frames now s.visited).counts
+      of (inr s) = omega (arith, (has_shown before s.frames s.mid s.visited).counts, (fails s.mid s.frame stop s.failing).counts)
 
 -- the text of the file that is given is that of the file that is reported
 pub shown_told : (dates : Bool) (known : Option (List ℕ)) (file written : List ℕ) → Tells known file → Shown dates (judged_file (Some file)) written → Shown dates (judged_file known) written

@@ -1,37 +1,36 @@
 -- What the pass that writes has packed, and what went out where it stopped.
-use Rattle.std.proofs.Common.{◌≡◌, ◌⊎◌, Err, ℕ, ◌≤◌, List, [], ◌∷◌, ◌++◌, append-nil, Option, Some, None, subst, inl, inr, refl, sym, ap, ap₂, ◌∙◌, arith}
+use Rattle.std.proofs.Common.{◌≡◌, ◌⊎◌, ℕ, ◌≤◌, List, [], ◌∷◌, ◌++◌, append-nil, Option, Some, None, subst, inl, inr, refl, sym, ap, ap₂, ◌∙◌, arith}
 use Rattle.std.specs.List.{AllByRecursion, filter}
 use Rattle.osm_entity.specs.Entity.{EntitySpec}
 use Rattle.osm_entity.specs.Ranges.{EntityFits}
 use Rattle.osm_pack.specs.Cuts.{written_file, written_entities}
 use Rattle.osm_pack.specs.Packing.{Packing, IsPacking}
+use Rattle.osm_pack.specs.Stops.{IsPackStop}
 use Rattle.pbf_header.specs.Header.{HeaderSpec}
 use Rattle.pbf_block.specs.declared.counts.Counts.{Counts}
-use Rattle.pbf_frame.specs.declared.device.Feed as feed
 use Rattle.pbf_frame.specs.declared.frame.FrameKind.{FrameKind}
 use Rattle.pbf_frame.specs.declared.frame.FrameKind.TheVariants as kind
 use Rattle.pbf_frame.specs.declared.device.Drain as drain
-use Rattle.pbf_frame.specs.declared.reader.FrameReader.{FrameReader}
 use Rattle.pbf_frame.specs.declared.stop.Stop.{Stop}
 use Rattle.pbf_frame.specs.declared.stop.Stop.TheVariants as stop
 use Rattle.pbf_frame.specs.Devices.{HasRisen, append, IsFront}
 use Rattle.pbf_frame.specs.Frames.{FrameSpec}
-use Rattle.pbf_frame.specs.Next.{Gave, verdict}
-use Rattle.pbf_frame.specs.Reads.{IsReaderStop}
-use Rattle.pbf_frame.specs.Verdict.{Verdict, with_first_known, Gone, Says}
+use Rattle.pbf_frame.specs.Verdict.{Verdict, with_first_known, Gone}
 use Rattle.pbf_frame.proofs.Beginnings.{front_whole}
 use Rattle.pbf_frame.proofs.Parting.{none_some}
 use Rattle.pbf_frame.proofs.VerdictLemmas.{gone_more}
-use Rattle.pbf_pass.specs.Again.{IsSound, StopsAtFrame}
+use Rattle.pbf_pass.specs.Again.{IsSound, StopsAtFrame, StopsUnjudged}
 use Rattle.pbf_pass.specs.Counting.{counts_of, stored_entities}
 use Rattle.pbf_pass.specs.Judged.{fault_in, fully, fully_known, judged_file}
 use Rattle.pbf_pass.specs.Payload.{Payload, payload_as, payload_of}
 use Rattle.pbf_pass.specs.Stops.{Caused, WriteFailed}
 use Rattle.pbf_pass.proofs.GivenLemmas.{Tells}
 use Rattle.pbf_pass.proofs.SoundLemmas.{sound_first_ones, sound_last, all_sound, rest_sound}
-use Rattle.pbf_pass.proofs.StepLemmas.{StoppedStep}
+use Rattle.pbf_pass.specs.Visit.{Takes, Fails, Visited, StopsVisit}
+use Rattle.pbf_pass.proofs.AgainLemmas.{stops_visited}
+use Rattle.pbf_pass.proofs.VisitLemmas.{visited_to}
 use Rattle.pbfcut.specs.Pick.{Pick, HasPacked, BeginsAll, Begins, StopsAmong, picked_in}
-use Rattle.pbfcut.specs.Write.{PacksAgain, FailsAgain, PacksFrameAgain, FailsAtFrame, Packed, PacksFront}
+use Rattle.pbfcut.specs.Write.{PacksAgain, FailsAgain, PacksFrameAgain, FailsAtFrame, PacksNext, FailsAtNext, Packed, PacksFront}
 use Rattle.pbfcut.proofs.PickingLemmas.{picked_one, front_of, begins_packed, none_gone}
 
 -- ---- the whole file
@@ -44,6 +43,10 @@ packed_front pick h counts known old new written p taken frames is = front_whole
 pub packed_told : (pick : Pick) (h : HeaderSpec) (counts : Counts) (known : Option (List ℕ)) (file written : List ℕ) → Tells known file → Packed pick h counts (judged_file (Some file)) written → Packed pick h counts (judged_file known) written
 packed_told pick h counts None file written tells p frames is = absurd (none_some _ _ refl is)
 packed_told pick h counts (Some b) file written tells p frames is = p frames (ap (λ (l : List ℕ). judged_file (Some l)) (tells b refl) ∙ is)
+
+pub front_told : (pick : Pick) (h : HeaderSpec) (known : Option (List ℕ)) (file : List ℕ) (old new : Option (List ℕ)) → Tells known file → PacksFront pick h (judged_file (Some file)) old new → PacksFront pick h (judged_file known) old new
+front_told pick h None file old new tells p frames is = absurd (none_some _ _ refl is)
+front_told pick h (Some b) file old new tells p frames is = p frames (ap (λ (l : List ℕ). judged_file (Some l)) (tells b refl) ∙ is)
 
 -- ---- why it stops
 
@@ -121,28 +124,64 @@ module _ {D S H : Type 0} (d : drain.Ghosts D) (pick : Pick) (start : D) where
         is = ap (written_file h) same;
       }
 
-  -- where a step stopped
-  pub step_front : {F : Type 0} (g : feed.Ghosts F) (number : ℕ) (first : Option Verdict) (fs all : List FrameSpec) (reader read : FrameReader F) (old new : Packing D S H) (before now : Counts) (s : Stop) → Gone first fs (verdict g.remaining reader) → PackedFrames d pick start fs before old
-      → StoppedStep g reader read (FailsAtFrame d number pick old new) ((now ≡ before) × (new ≡ old)) s → fully_known first ≡ Some (all, None) → IsFront (d.taken start) (d.taken new.drain) (written_entities (filter pick (stored_entities all)))
-  step_front g number first fs all reader read old new before now s gone so_far stopped is = of stopped.where_it_stopped where
-    mid : Option Verdict
-    mid = verdict g.remaining reader
-
-    of : ((Gave mid (Err s) (verdict g.remaining read) × IsReaderStop (g.failures reader.feed) (g.failures read.feed) s × ((now ≡ before) × (new ≡ old))) ⊎ ((f : FrameSpec) × (mid ≡ with_first_known f (verdict g.remaining read)) × FailsAtFrame d number pick old new f s))
-        → IsFront (d.taken start) (d.taken new.drain) (written_entities (filter pick (stored_entities all)))
-    of (inl (gave, why, same)) =
-        front_before d pick start first mid fs all so_far.es (d.taken new.drain) gone so_far.are (λ sound. subst (λ (p : Packing D S H). BeginsAll (d.taken start) so_far.es (d.taken p.drain)) (sym same.1) (begins_packed d start so_far.es old so_far.packed)) is
-    of (inr (f, e, why)) =
-        front_before d pick start first (verdict g.remaining read) (fs ++ f ∷ []) all (so_far.es ++ picked_in pick (payload_of f)) (d.taken new.drain) (gone_more first mid (verdict g.remaining read) fs f gone e)
-        (λ sound. ap (λ (l : List EntitySpec). l ++ picked_in pick (payload_of f)) (so_far.are (sound_first_ones fs (f ∷ []) sound)) ∙ sym (picked_one pick fs f))
-        (λ sound. (why.begins (sound_last fs f sound)).begun start so_far.es so_far.packed) is
-
-  -- where the last block did
-  pub last_front : (first mid : Option Verdict) (fs all : List FrameSpec) (before : Counts) (old : Packing D S H) (taken : Option (List ℕ)) (p : PackedFrames d pick start fs before old) → Gone first fs mid → Says mid ([], None) → IsFront (d.taken start) taken (written_entities p.es) → fully_known first ≡ Some (all, None)
+  -- the last block, of a file without a fault
+  pub last_front : (fs all : List FrameSpec) (counts : Counts) (packer : Packing D S H) (taken : Option (List ℕ)) (p : PackedFrames d pick start fs counts packer) → IsFront (d.taken start) taken (written_entities p.es) → Some (fully (fs, None)) ≡ Some (all, None)
       → IsFront (d.taken start) taken (written_entities (filter pick (stored_entities all)))
-  last_front first mid fs all before old taken p gone none front is =
-      let (rest, follows, split, sound) = rest_sound first mid fs all gone is in
-      let ends : rest.0 ≡ [] = ap (λ (v : Verdict). v.0) (subst (λ (k : Option Verdict). Says k ([], None)) follows none) in
-      let same : all ≡ fs = split ∙ ap (λ (l : List FrameSpec). fs ++ l) ends ∙ append-nil fs in
-      let are = p.are (subst (λ (l : List FrameSpec). AllByRecursion IsSound l) same sound) in
-      subst (λ (l : List EntitySpec). IsFront (d.taken start) taken (written_entities l)) (are ∙ ap (λ (l : List FrameSpec). filter pick (stored_entities l)) (sym same)) front
+  last_front fs all counts packer taken p front is =
+      let whole = all_sound fs all is in
+      subst (λ (l : List EntitySpec). IsFront (d.taken start) taken (written_entities l)) (p.are whole.1 ∙ ap (λ (l : List FrameSpec). filter pick (stored_entities l)) whole.0) front
+
+-- ---- of a visitor that packs
+
+module _ {V D S H : Type 0} (d : drain.Ghosts D) (to : V → Packing D S H) (counts : V → Counts) (pick : V → Pick) (number : V → ℕ) (took : Takes V)
+    (is : (old new : V) (f : FrameSpec) → took old f new → PacksNext d (pick old) (to old) (to new) (counts old) (counts new) f × (pick new ≡ pick old) × (number new ≡ number old))
+    (before : V) where
+  pub record HasWritten (fs : List FrameSpec) (now : V) : Type 0 where
+    pub frames : PackedFrames d (pick before) (to before).drain fs (counts now) (to now)
+    pub same : pick now ≡ pick before
+    pub number_same : number now ≡ number before
+    pub drain_counts : d.failures (to before).drain ≤ d.failures (to now).drain
+
+  pub has_written : (fs : List FrameSpec) (now : V) → Visited took before fs now → HasPacked d (to before).drain [] (to before) → counts before ≡ counts_of [] → HasWritten fs now
+  has_written fs now visited none zero = visited_to took HasWritten (λ gone f mid last so_far one.
+      let h = is mid last f one in record {
+        frames = frames_more d (pick before) (to before).drain gone f (counts mid) (counts last) (to mid) (to last) so_far.frames (subst (λ (p : Pick). PacksFrameAgain d p (to mid) (to last) (counts mid) (counts last) f) so_far.same h.0.packs);
+        same = h.1 ∙ so_far.same;
+        number_same = h.2 ∙ so_far.number_same;
+        drain_counts = omega (arith, so_far.drain_counts, h.0.keeps.drain_kept.counts);
+      }) fs [] before now record { frames = record { es = []; are = λ sound. refl; packed = none; counted = zero }; same = refl; number_same = refl; drain_counts = omega arith } visited
+
+  module _ (failed : Fails V) (known : Option Verdict) (read : Type 0) (now : V) (stop : Stop) (fails : (mid : V) (f : FrameSpec) (s : Stop) → failed mid f now s → FailsAtNext d (number mid) (pick mid) (to mid) (to now) f s) (stopped : StopsVisit took failed known read before now stop) (none : HasPacked d (to before).drain [] (to before)) (zero : counts before ≡ counts_of []) where
+    pub front_written : (all : List FrameSpec) → fully_known known ≡ Some (all, None) → IsFront (d.taken (to before).drain) (d.taken (to now).drain) (written_entities (filter (pick before) (stored_entities all)))
+    front_written all known_is = of stopped where
+      of : StopsVisit took failed known read before now stop → IsFront (d.taken (to before).drain) (d.taken (to now).drain) (written_entities (filter (pick before) (stored_entities all)))
+      of (inl s) =
+          let h = (has_written s.frames now s.visited none zero).frames in
+          front_before d (pick before) (to before).drain known s.rest s.frames all h.es (d.taken (to now).drain) s.gone h.are (λ sound. begins_packed d (to before).drain h.es (to now) h.packed) known_is
+      of (inr s) =
+          let w = has_written s.frames s.mid s.visited none zero in
+          let h = w.frames in
+          let f = s.frame in
+          let failing = subst (λ (p : Pick). FailsAtFrame d (number s.mid) p (to s.mid) (to now) f stop) w.same (fails s.mid f stop s.failing).fails in
+          front_before d (pick before) (to before).drain known s.rest (s.frames ++ f ∷ []) all (h.es ++ picked_in (pick before) (payload_of f)) (d.taken (to now).drain) (gone_more known (with_first_known f s.rest) s.rest s.frames f s.gone refl)
+          (λ sound. ap (λ (l : List EntitySpec). l ++ picked_in (pick before) (payload_of f)) (h.are (sound_first_ones s.frames (f ∷ []) sound)) ∙ sym (picked_one (pick before) s.frames f))
+          (λ sound. (failing.begins (sound_last s.frames f sound)).begun (to before).drain h.es h.packed) known_is
+
+    pub stops_written : (first : ℕ) → first ≤ d.failures (to before).drain → StopsUnjudged (number before) (fully_known known) read (HasRisen first (d.failures (to now).drain)) stop
+    stops_written first counted = stops_visited number took (λ old new f one. (is old new f one).2) failed known read _ before now stop (λ fs mid f s visited failing.
+        let counted_here : first ≤ d.failures (to mid).drain = omega (arith, counted, (has_written fs mid visited none zero).drain_counts) in
+        fails_again (number mid) _ _ _ f s counted_here (fails mid f s failing).fails.cause) stopped
+
+    pub counts_written : d.failures (to before).drain ≤ d.failures (to now).drain
+    counts_written = of stopped where
+      of : StopsVisit took failed known read before now stop → d.failures (to before).drain ≤ d.failures (to now).drain
+      of (inl s) = (has_written s.frames now s.visited none zero).drain_counts
+      of (inr s) = omega (arith, (has_written s.frames s.mid s.visited none zero).drain_counts, (fails s.mid s.frame stop s.failing).keeps.drain_kept.counts)
+
+-- the last block could not be written
+pub stops_last : (number first before now : ℕ) (known : Option Verdict) (read : Type 0) (s : Stop) → first ≤ before → IsPackStop before now s → StopsUnjudged number known read (HasRisen first now) s
+stops_last number first before now known read (stop.Refused e) l h = absurd h
+stops_last number first before now known read stop.Read l h = absurd h
+stops_last number first before now known read stop.Write l h = omega (arith, l, h)
+stops_last number first before now known read stop.Memory l h = tt
+stops_last number first before now known read (stop.Changed pass) l h = absurd h

@@ -1,5 +1,5 @@
 -- What a listing of frames does to its drain, and why it stops.
-use Rattle.std.specs.Prelude.{◌≡◌, ℕ, List, length, Option, Some, None}
+use Rattle.std.specs.Prelude.{◌≡◌, ◌≤◌, ℕ, List, length, Option, Some, None}
 use Rattle.pbf_wire.specs.declared.fault.Fault.{Fault}
 use Rattle.pbf_frame.specs.declared.device.Drain as drain
 use Rattle.pbf_frame.specs.declared.stop.Stop.{Stop}
@@ -31,9 +31,10 @@ pub record ListsToFault {D : Type 0} (d : drain.Ghosts D) (old new : D) (known :
 
 -- ---- one frame of it
 
--- the line of a frame went out
-abbrev pub ListsFrame : {D : Type 0} → drain.Ghosts D → D → D → FrameSpec → Type 0
-ListsFrame d old new f = Added d old (line f) new
+-- the line of a frame went out, and failures are counted on
+pub record ListsNext {D : Type 0} (d : drain.Ghosts D) (old new : D) (f : FrameSpec) : Type 0 where
+  pub added : Added d old (line f) new
+  pub counts : d.failures old ≤ d.failures new
 
 -- a step stopped at a frame, by its write or without memory, and a beginning of the frame's line went out
 pub record StopsListing {D : Type 0} (d : drain.Ghosts D) (old new : D) (f : FrameSpec) (stop : Stop) : Type 0 where

@@ -1,5 +1,5 @@
 -- The text of `show`, what a call does to its drain, and why it stops.
-use Rattle.std.specs.Prelude.{◌≡◌, ◌⊎◌, ℕ, List, [], Bool, Option, Some, None}
+use Rattle.std.specs.Prelude.{◌≡◌, ◌≤◌, ◌⊎◌, ℕ, List, [], Bool, Option, Some, None}
 use Rattle.std.specs.List.{flat_map}
 use Rattle.pbf_wire.specs.declared.fault.Fault.{Fault}
 use Rattle.pbf_header.specs.Header.{header_in}
@@ -79,3 +79,12 @@ ShowsFrame d dates old new f = ShowsText d (payload_fault f) (frame_text dates f
 
 abbrev pub FailsToShow : {D : Type 0} → drain.Ghosts D → Bool → D → D → FrameSpec → Stop → Type 0
 FailsToShow d dates old new f stop = StopsShowing d (payload_fault f) (frame_text dates f) old new stop
+
+-- what a visitor does that shows, and its failures are counted on
+pub record ShowsNext {D : Type 0} (d : drain.Ghosts D) (dates : Bool) (old new : D) (f : FrameSpec) : Type 0 where
+  pub shows : ShowsFrame d dates old new f
+  pub counts : d.failures old ≤ d.failures new
+
+pub record FailsToShowNext {D : Type 0} (d : drain.Ghosts D) (dates : Bool) (old new : D) (f : FrameSpec) (stop : Stop) : Type 0 where
+  pub fails : FailsToShow d dates old new f stop
+  pub counts : d.failures old ≤ d.failures new

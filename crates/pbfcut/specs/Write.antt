@@ -16,7 +16,7 @@ use Rattle.pbf_pass.specs.Counting.{counts_of, stored_entities}
 use Rattle.pbf_pass.specs.Judged.{fault_in}
 use Rattle.pbf_pass.specs.Payload.{Payload, payload_of}
 use Rattle.pbf_pass.specs.Stops.{WriteFailed}
-use Rattle.pbfcut.specs.Pick.{Pick, Packs, Begins, picked_in}
+use Rattle.pbfcut.specs.Pick.{Pick, Packs, Begins, KeepsPacker, picked_in}
 
 -- ---- one payload, and one frame
 
@@ -40,6 +40,15 @@ PacksFrameAgain d pick old new before now f = PacksAgain d pick (payload_of f) o
 
 abbrev pub FailsAtFrame : {D S H : Type 0} → drain.Ghosts D → ℕ → Pick → Packing D S H → Packing D S H → FrameSpec → Stop → Type 0
 FailsAtFrame d number pick old new f stop = FailsAgain d number pick (payload_of f) old new stop
+
+-- what a visitor does that packs
+pub record PacksNext {D S H : Type 0} (d : drain.Ghosts D) (pick : Pick) (old new : Packing D S H) (before now : Counts) (f : FrameSpec) : Type 0 where
+  pub packs : PacksFrameAgain d pick old new before now f
+  pub keeps : KeepsPacker d old new
+
+pub record FailsAtNext {D S H : Type 0} (d : drain.Ghosts D) (number : ℕ) (pick : Pick) (old new : Packing D S H) (f : FrameSpec) (stop : Stop) : Type 0 where
+  pub fails : FailsAtFrame d number pick old new f stop
+  pub keeps : KeepsPacker d old new
 
 -- ---- a file
 

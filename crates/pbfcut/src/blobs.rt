@@ -1,17 +1,16 @@
 //! `blobs`: a line for each frame.
 
-ghost use Rattle.std.specs.Prelude.{false, None, ◌≡◌, ◌++◌, ◌≤◌, ◌^◌, IfOk, IfErr, OnOk, OnErr};
+ghost use Rattle.std.specs.Prelude.{[], ◌∷◌, false, None, ◌≡◌, ◌++◌, ◌≤◌, ◌^◌, IfOk, IfErr, OnOk, OnErr};
 ghost use Rattle.pbf_frame.specs.Devices.{IsFront};
-ghost use Rattle.pbf_frame.specs.Next.{IsReading, place_of, held_by, verdict};
 ghost use Rattle.pbf_frame.specs.Transfers.{Added};
 ghost use Rattle.pbf_frame.specs.Verdict.{judged_known};
 ghost use Rattle.pbfcut.specs.Blobs.{lent_line, shown_name, shown_length};
-ghost use Rattle.pbfcut.specs.Listing.{Lists, ListsFront, ListsToFault, ListsFrame, StopsListing};
-ghost use Rattle.pbf_pass.specs.Pass.{IsStep};
-ghost use Rattle.pbf_pass.specs.Stops.{Caused, Only, unchanged, KeepsFeed, KeepsDrain, ReadFailed, WriteFailed};
+ghost use Rattle.pbfcut.specs.Listing.{Lists, ListsFront, ListsToFault, ListsNext, StopsListing};
+ghost use Rattle.pbf_pass.specs.Stops.{Caused, Only, unchanged, KeepsDrain, ReadFailed, WriteFailed};
 
 use osm_text::{put_number, put_quoted};
 use pbf_frame::{Drain, Feed, Frame, FrameKind, FrameReader, Stop, write_all};
+use pbf_pass::{Visit, visit_rest};
 use std::alloc::{AllocError, Global};
 
 /// Appends the type of a frame: as it stands where it is known, else in quotation marks.
@@ -65,50 +64,24 @@ fn write_line<D: Drain>(frame: &Frame<'_>, text: &mut Vec<u8>, drain: &mut D) ->
     Ok(())
 }
 
-/// Writes the line of the next frame; false at the end of an input that had its header.
-fn step_line<F: Feed, D: Drain>(
-    reader: &mut FrameReader<F>,
-    text: &mut Vec<u8>,
-    drain: &mut D,
-) -> Result<bool, Stop>
-    ensures step { IsStep F.Feed reader.old reader.new (ListsFrame D.Drain drain.old drain.new)
-        (StopsListing D.Drain drain.old drain.new) (drain.new ≡ drain.old) result }
-    ensures keeps { KeepsDrain D.Drain drain.old drain.new }
-    ensures limited { place_of reader.new ≤ 2 ^ 62 }
-    ensures space { held_by reader.new ≤ 33620990 }
-{
-    let Some(frame) = reader.next()? else {
-        return Ok(false);
-    };
-    write_line(&frame, text, drain)?;
-    Ok(true)
+/// Writes the lines of frames.
+#[derive(Drop)]
+struct Listing<'a, D> {
+    /// What a line is put together in.
+    text: &'a mut Vec<u8>,
+    drain: &'a mut D,
 }
 
-/// Writes the lines of the frames that are left, by steps, and answers how many there are: after each step its clause `space`
-/// bounds what the reader holds.
-fn list_all<F: Feed, D: Drain>(
-    alloc: Global,
-    reader: &mut FrameReader<F>,
-    drain: &mut D,
-) -> Result<u64, Stop>
-    requires reading { IsReading reader.old }
-    requires start { place_of reader.old ≡ 0 }
-    ensures listed { IfOk result (Lists D.Drain drain.old drain.new
-        (verdict F.remaining reader.old)) }
-    ensures beginning { OnErr result (ListsFront D.Drain drain.old drain.new
-        (verdict F.remaining reader.old)) }
-    ensures stops { IfErr result (Caused
-        (ListsToFault D.Drain drain.old drain.new (verdict F.remaining reader.old))
-        (ReadFailed F.Feed reader.old.feed reader.new.feed)
-        (WriteFailed D.Drain drain.old drain.new) unchanged) }
-    ensures keeps { KeepsFeed F.Feed reader.old.feed reader.new.feed }
-{
-    let mut text = Vec::new(alloc);
-    let mut count = 0;
-    'frames: while step_line(reader, &mut text, drain)? {
-        count += 1;
+impl<D: Drain> Visit for Listing<'_, D> {
+    ghost took = { λ old f new. ListsNext D.Drain old.drain.now new.drain.now f };
+
+    ghost failed = { λ old f new stop. StopsListing D.Drain old.drain.now new.drain.now f stop };
+
+    ghost lender = { λ v. v.drain.ghost_name ∷ D.lender v.drain.now };
+
+    fn visit(&mut self, _alloc: Global, frame: &Frame<'_>) -> Result<(), Stop> {
+        write_line(frame, self.text, self.drain)
     }
-    Ok(count)
 }
 
 /// Writes one line for each frame, and answers how many frames there are: the frame's place, its type, the size of its blob
@@ -133,9 +106,14 @@ pub fn list_blobs<F: Feed, D: Drain>(
         (ListsToFault D.Drain drain.old drain.new (judged_known false 0 (F.remaining feed.old)))
         (ReadFailed F.Feed feed.old feed.new) (WriteFailed D.Drain drain.old drain.new) unchanged) }
 {
+    let mut text = Vec::new(alloc);
+    let mut listing = Listing {
+        text: &mut text,
+        drain,
+    };
     let mut reader = FrameReader::new(alloc, &mut *feed);
-    let outcome = list_all(alloc, &mut reader, drain);
+    let outcome = visit_rest(alloc, &mut reader, &mut listing);
     // What is known of the feed comes back with the reference itself.
     let _feed = reader.into_feed();
-    outcome
+    Ok(outcome?)
 }

@@ -21,4 +21,3 @@ pub use pbf_pass::{
 };
 pub use pick::{Selection, step_pack, step_write, step_write_parents};
 pub use showing::{show, show_with_receipt};
-pub use write::step_pack_again;

@@ -1,6 +1,6 @@
 //! `show`: a line for each field of the header and for each entity.
 
-ghost use Rattle.std.specs.Prelude.{◌≡◌, ◌+◌, ◌<◌, ◌≤◌, ◌^◌, ◌⊎◌, None, Some, IfOk, IfErr, OnOk, OnErr, length};
+ghost use Rattle.std.specs.Prelude.{◌∷◌, ◌≡◌, ◌+◌, ◌<◌, ◌≤◌, ◌^◌, ◌⊎◌, None, Some, IfOk, IfErr, OnOk, OnErr, length};
 ghost use Rattle.std.specs.List.{flat_map};
 ghost use Rattle.osm_entity.specs.Views.{entity_of};
 ghost use Rattle.pbf_block.specs.Runs.{entities_left};
@@ -9,25 +9,24 @@ ghost use Rattle.pbf_header.specs.HeaderFaults.{header_fault};
 ghost use Rattle.osm_text.specs.EntityText.{entity_line};
 ghost use Rattle.osm_text.specs.HeaderText.{header_text};
 ghost use Rattle.pbf_frame.specs.Devices.{IsFront};
-ghost use Rattle.pbf_frame.specs.Next.{IsReading, place_of, held_by, verdict};
 ghost use Rattle.pbf_frame.specs.Transfers.{Added};
 ghost use Rattle.pbfcut.specs.Calls.{RefusedFirst, ChangedIn};
-ghost use Rattle.pbf_pass.specs.Given.{GaveRest, GaveFile, Took, TookFile};
-ghost use Rattle.pbf_pass.specs.Judged.{fully_known, judged_file};
-ghost use Rattle.pbf_pass.specs.Pass.{CountsFile, IsStep};
+ghost use Rattle.pbf_pass.specs.Given.{GaveFile, Took, TookFile};
+ghost use Rattle.pbf_pass.specs.Judged.{judged_file};
+ghost use Rattle.pbf_pass.specs.Pass.{CountsFile};
 ghost use Rattle.pbf_pass.specs.Payload.{primitive_block, lent_by};
 ghost use Rattle.pbf_pass.specs.Refused.{HaltsFile, stop_of};
 ghost use Rattle.pbfcut.specs.Repeat.{SameDigest};
-ghost use Rattle.pbfcut.specs.Showing.{Shown, ShowsFront, WritesFront, ShowsText, StopsShowing, ShowsPayload, FailsToShowPayload, ShowsFrame, FailsToShow};
-ghost use Rattle.pbf_pass.specs.Stops.{Caused, FaultOf, Only, unchanged, KeepsFeed, KeepsDrain, ReadFailed, WriteFailed};
+ghost use Rattle.pbfcut.specs.Showing.{Shown, ShowsFront, WritesFront, ShowsText, StopsShowing, ShowsPayload, FailsToShowPayload, ShowsNext, FailsToShowNext};
+ghost use Rattle.pbf_pass.specs.Stops.{Caused, FaultOf, Only, unchanged, KeepsDrain, ReadFailed, WriteFailed};
 
 use crate::repeat::Repeat;
 use osm_entity::EntityRef;
 use osm_text::{put_entity, put_header};
 use pbf_block::{Block, Counts, Entities};
-use pbf_frame::{Drain, Feed, Frame, FrameKind, FrameReader, Stop, write_all};
+use pbf_frame::{Drain, Feed, Frame, FrameKind, Stop, write_all};
 use pbf_header::Header;
-use pbf_pass::{Halt, HashedDrain, HashedFeed, InputReceipt, Nothing, Receipt, judge};
+use pbf_pass::{Halt, HashedDrain, InputReceipt, Nothing, Receipt, Visit, judge, pass_over};
 use std::alloc::Global;
 
 /// Writes the line of an entity, which is put together in `text`.
@@ -140,50 +139,28 @@ fn write_payload<D: Drain>(
     Ok(())
 }
 
-/// Writes the text of the next frame; false at the end of an input that had its header.
-#[tactic(auto, unfolding(crate::specs::Showing::frame_text))]
-fn step_show<F: Feed, D: Drain>(
-    alloc: Global,
-    reader: &mut FrameReader<F>,
-    text: &mut Vec<u8>,
-    drain: &mut D,
+/// Judges frames, and writes the text of what they hold.
+#[derive(Drop)]
+struct Showing<'a, D> {
+    /// What a line is put together in.
+    text: &'a mut Vec<u8>,
+    drain: &'a mut D,
     dates: bool,
-) -> Result<bool, Stop>
-    ensures step { IsStep F.Feed reader.old reader.new
-        (ShowsFrame D.Drain dates drain.old drain.new)
-        (FailsToShow D.Drain dates drain.old drain.new) (drain.new ≡ drain.old) result }
-    ensures limited { place_of reader.new ≤ 2 ^ 62 }
-    ensures space { held_by reader.new ≤ 33620990 }
-    ensures keeps { KeepsDrain D.Drain drain.old drain.new }
-{
-    let Some(frame) = reader.next()? else {
-        return Ok(false);
-    };
-    write_payload(alloc, &frame, text, drain, dates)?;
-    Ok(true)
 }
 
-/// Writes the text of the frames that are left, by steps: after each of them its clause `space` bounds what the reader holds.
-fn show_all<F: Feed, D: Drain>(
-    alloc: Global,
-    reader: &mut FrameReader<F>,
-    drain: &mut D,
-    dates: bool,
-) -> Result<(), Stop>
-    requires { IsReading reader.old }
-    ensures shown { OnOk result (GaveRest F.Feed reader.old reader.new
-        (λ known. Took D.Drain drain.old drain.new (Shown dates known))) }
-    ensures beginning { OnErr result (WritesFront dates
-        (fully_known (verdict F.remaining reader.old)) (D.taken drain.old) (D.taken drain.new)) }
-    ensures stops { IfErr result (Caused (FaultOf (fully_known (verdict F.remaining reader.old)))
-        (ReadFailed F.Feed reader.old.feed reader.new.feed)
-        (WriteFailed D.Drain drain.old drain.new) unchanged) }
-    ensures feed { KeepsFeed F.Feed reader.old.feed reader.new.feed }
-    ensures drain { KeepsDrain D.Drain drain.old drain.new }
-{
-    let mut text = Vec::new(alloc);
-    'frames: while step_show(alloc, reader, &mut text, drain, dates)? {}
-    Ok(())
+impl<D: Drain> Visit for Showing<'_, D> {
+    ghost took = { λ old f new. ShowsNext D.Drain old.dates old.drain.now new.drain.now f
+        × (new.dates ≡ old.dates) };
+
+    ghost failed = { λ old f new stop. FailsToShowNext D.Drain old.dates
+        old.drain.now new.drain.now f stop };
+
+    ghost lender = { λ v. v.drain.ghost_name ∷ D.lender v.drain.now };
+
+    #[tactic(auto, unfolding(crate::specs::Showing::frame_text))]
+    fn visit(&mut self, alloc: Global, frame: &Frame<'_>) -> Result<(), Stop> {
+        write_payload(alloc, frame, self.text, self.drain, self.dates)
+    }
 }
 
 /// Writes the text of a whole file, and answers the digest of its bytes.
@@ -201,13 +178,13 @@ fn write_text<F: Feed, D: Drain>(
         (ReadFailed F.Feed feed.old feed.new) (WriteFailed D.Drain drain.old drain.new) unchanged) }
     ensures drain { KeepsDrain D.Drain drain.old drain.new }
 {
-    let mut reader = FrameReader::new(alloc, HashedFeed::new(&mut *feed));
-    let outcome = show_all(alloc, &mut reader, drain, dates);
-    let digest = reader.feed.digest();
-    // What is known of the feed comes back with the reference itself.
-    let _feed = reader.into_feed().into_inner();
-    outcome?;
-    Ok(digest)
+    let mut text = Vec::new(alloc);
+    let mut showing = Showing {
+        text: &mut text,
+        drain,
+        dates,
+    };
+    Ok(pass_over(alloc, feed, &mut showing)?.digest)
 }
 
 /// Writes a line for each field of the header and for each entity, and answers the numbers of entities. With `dates` times

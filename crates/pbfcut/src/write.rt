@@ -1,28 +1,24 @@
 //! The pass that writes. It comes after the one that judged the file, and judges no payload: that its bytes are those of the first
 //! pass is told by their digest, at the end.
 
-ghost use Rattle.std.specs.Prelude.{true, ◌≡◌, ◌<◌, ◌≤◌, ◌+◌, ◌^◌, Err, IfOk, IfErr, OnOk, OnErr, length};
-ghost use Rattle.osm_pack.specs.Packing.{IsPacking, has_header, packer_held};
-ghost use Rattle.osm_pack.specs.Packing as packing;
+ghost use Rattle.std.specs.Prelude.{true, ◌∷◌, ◌≡◌, ◌<◌, ◌≤◌, ◌+◌, ◌^◌, IfOk, IfErr, OnOk, OnErr, length};
+ghost use Rattle.osm_pack.specs.Packing.{IsPacking, has_header};
 ghost use Rattle.pbf_header.specs.Header.{header_of};
-ghost use Rattle.pbf_frame.specs.declared.stop.Stop.{Stop};
-ghost use Rattle.pbf_frame.specs.Next.{IsReading, place_of, held_by, verdict};
 ghost use Rattle.pbf_pass.specs.Again.{StopsUnjudged};
-ghost use Rattle.pbf_pass.specs.Given.{GaveRest, GaveFile, Took};
+ghost use Rattle.pbf_pass.specs.Given.{GaveFile, Took};
 ghost use Rattle.pbf_pass.specs.HeaderLimit.{IsShort};
-ghost use Rattle.pbf_pass.specs.Judged.{fully_known, judged_file};
-ghost use Rattle.pbf_pass.specs.Pass.{IsStep};
+ghost use Rattle.pbf_pass.specs.Judged.{judged_file};
 ghost use Rattle.pbf_pass.specs.Payload.{primitive_block, lent_by};
-ghost use Rattle.pbf_pass.specs.Stops.{KeepsFeed, KeepsDrain, ReadFailed, WriteFailed};
+ghost use Rattle.pbf_pass.specs.Stops.{KeepsDrain, ReadFailed, WriteFailed};
 ghost use Rattle.pbfcut.specs.Pick.{pick_of, KeepsPacker, IsFreshPacker};
-ghost use Rattle.pbfcut.specs.Write.{PacksAgain, FailsAgain, PacksFrameAgain, FailsAtFrame, Packed, PacksFront};
+ghost use Rattle.pbfcut.specs.Write.{PacksAgain, FailsAgain, PacksNext, FailsAtNext, Packed, PacksFront};
 
 use crate::pick::{Selection, pack_runs};
 use osm_pack::Packer;
 use pbf_block::{Counts, Kinds, UnjudgedBlock};
-use pbf_frame::{Drain, Feed, Frame, FrameKind, FrameReader, Stop};
+use pbf_frame::{Drain, Feed, Frame, FrameKind, Stop};
 use pbf_header::Header;
-use pbf_pass::{HashedFeed, InputReceipt};
+use pbf_pass::{InputReceipt, Visit, pass_over};
 use std::alloc::Global;
 use std::hash::BuildHasher;
 
@@ -85,44 +81,42 @@ fn pack_payload<D: Drain, S: BuildHasher>(
     }
 }
 
-/// Packs the next frame's entities that are picked, in order, in a pass of this number after the one that judged the file, and counts
-/// these; false at the end of an input that had its header. It writes no header: the caller sees that one was put.
+/// Packs what is picked of frames that were judged in a pass before, and counts it.
 ///
 /// The reader judges frames, but nothing judges their payloads: of a frame that has a fault anything that can be written may go out, or
-/// `Changed` with the number is answered. On another stop, of a frame without a fault, a beginning of its entities may have gone
-/// out. After a stop the reader and the packer may only be dropped or taken apart. A spent packer answers its stop again, before the
-/// reader is asked.
-pub fn step_pack_again<F: Feed, D: Drain, S: BuildHasher>(
-    alloc: Global,
-    reader: &mut FrameReader<F>,
-    counts: &mut Counts,
-    selection: Selection<'_>,
+/// `Changed` with the number is answered. On another stop, of a frame without a fault, a beginning of its entities may have gone out.
+#[derive(Drop)]
+struct Writer<'a, D: Drain, S: BuildHasher> {
+    packer: &'a mut Packer<D, S>,
+    /// The numbers of the entities that were packed.
+    counts: Counts,
+    selection: Selection<'a>,
+    /// The pass.
     number: u8,
-    packer: &mut Packer<D, S>,
-) -> Result<bool, Stop>
-    requires { has_header packer.old ≡ true }
-    ensures step { IsPacking packer.old → IsStep F.Feed reader.old reader.new
-        (PacksFrameAgain D.Drain (pick_of selection.entry) packer.old packer.new
-        counts.old counts.new)
-        (FailsAtFrame D.Drain number (pick_of selection.entry) packer.old packer.new)
-        ((counts.new ≡ counts.old) × (packer.new ≡ packer.old)) result }
-    ensures spent { (stop : Stop) → packing.HasStopped packer.old stop
-        → (result ≡ Err stop) × (reader.new ≡ reader.old) }
-    ensures keeps { KeepsPacker D.Drain packer.old packer.new }
-    ensures limited { place_of reader.new ≤ 2 ^ 62 }
-    ensures space { held_by reader.new + packer_held packer.new ≤ 61620990 }
-{
-    packer.held_is_bounded();
-    if let Some(stop) = packer.stop() {
-        return Err(stop);
+}
+
+impl<D: Drain, S: BuildHasher> Visit for Writer<'_, D, S> {
+    ghost took = { λ old f new. PacksNext D.Drain (pick_of old.selection)
+        old.packer.now new.packer.now old.counts new.counts f
+        × (pick_of new.selection ≡ pick_of old.selection) × (new.number ≡ old.number) };
+
+    ghost failed = { λ old f new stop. FailsAtNext D.Drain old.number (pick_of old.selection)
+        old.packer.now new.packer.now f stop };
+
+    ghost ready = { λ v. (has_header v.packer.now ≡ true) × IsPacking v.packer.now };
+
+    ghost lender = { λ v. v.packer.ghost_name ∷ D.lender v.packer.now.drain };
+
+    fn visit(&mut self, alloc: Global, frame: &Frame<'_>) -> Result<(), Stop> {
+        pack_payload(
+            alloc,
+            frame,
+            &mut self.counts,
+            self.selection,
+            self.number,
+            self.packer,
+        )
     }
-    let Some(frame) = reader.next()? else {
-        return Ok(false);
-    };
-    let outcome = pack_payload(alloc, &frame, counts, selection, number, packer);
-    packer.held_is_bounded();
-    outcome?;
-    Ok(true)
 }
 
 /// What is written of a file.
@@ -134,44 +128,41 @@ pub(crate) struct Writing<'a> {
     pub(crate) selection: Selection<'a>,
 }
 
-/// Writes a header and what is picked of the frames that are left, by steps of a pass of this number, and answers the numbers of
-/// these entities: after each step its clause `space` bounds what the reader and the packer hold together.
-fn write_steps<F: Feed, D: Drain, S: BuildHasher>(
+/// Puts a header, what is picked of a whole file, in a pass of this number, and the last block through a packer.
+fn pack_file<'a, F: Feed, D: Drain, S: BuildHasher>(
     alloc: Global,
-    reader: &mut FrameReader<F>,
-    packer: &mut Packer<D, S>,
-    writing: Writing<'_>,
+    feed: &mut F,
+    packer: &'a mut Packer<D, S>,
+    writing: Writing<'a>,
     number: u8,
-) -> Result<Counts, Stop>
-    requires reading { IsReading reader.old }
+) -> Result<InputReceipt, Stop>
     requires fresh { IsFreshPacker packer.old }
     requires short { IsShort (header_of writing.header.now) }
-    ensures packed { IfOk result (λ counts. GaveRest F.Feed reader.old reader.new
-        (λ known. Took D.Drain packer.old.drain packer.new.drain
+    ensures packed { IfOk result (λ wrote. GaveFile F.Feed feed.old feed.new wrote.input
+        (λ file. Took D.Drain packer.old.drain packer.new.drain
         (Packed (pick_of writing.entry.selection) (header_of writing.entry.header.now)
-        counts known))) }
+        wrote.counts (judged_file (Some file))))) }
     ensures beginning { OnErr result (PacksFront (pick_of writing.entry.selection)
-        (header_of writing.entry.header.now) (fully_known (verdict F.remaining reader.old))
+        (header_of writing.entry.header.now) (judged_file (F.remaining feed.old))
         (D.taken packer.old.drain) (D.taken packer.new.drain)) }
-    ensures stops { IfErr result (StopsUnjudged number
-        (fully_known (verdict F.remaining reader.old))
-        (ReadFailed F.Feed reader.old.feed reader.new.feed)
+    ensures stops { IfErr result (StopsUnjudged number (judged_file (F.remaining feed.old))
+        (ReadFailed F.Feed feed.old feed.new)
         (WriteFailed D.Drain packer.old.drain packer.new.drain)) }
-    ensures feed { KeepsFeed F.Feed reader.old.feed reader.new.feed }
     ensures drain { KeepsDrain D.Drain packer.old.drain packer.new.drain }
 {
-    let mut counts = Counts::none();
     packer.put_header(writing.header)?;
-    'frames: while step_pack_again(
-        alloc,
-        reader,
-        &mut counts,
-        writing.selection,
-        number,
+    let mut writer = Writer {
         packer,
-    )? {}
+        counts: Counts::none(),
+        selection: writing.selection,
+        number,
+    };
+    let outcome = pass_over(alloc, feed, &mut writer);
+    // What is known of the packer comes back with the reference itself.
+    let Writer { packer, counts, .. } = writer;
+    let input = outcome?.digest;
     packer.finish()?;
-    Ok(counts)
+    Ok(InputReceipt { counts, input })
 }
 
 /// Writes a header and what is picked of a whole file, in a pass of this number, after the one that judged it. What was written has a
@@ -197,15 +188,8 @@ pub(crate) fn write<F: Feed, D: Drain, S: BuildHasher + Drop>(
     ensures drain { KeepsDrain D.Drain drain.old drain.new }
 {
     let mut packer = Packer::new(alloc, &mut *drain, hasher);
-    let mut reader = FrameReader::new(alloc, HashedFeed::new(&mut *feed));
-    let outcome = write_steps(alloc, &mut reader, &mut packer, writing, number);
-    let digest = reader.feed.digest();
-    // What is known of the devices comes back with the references themselves.
-    let _feed = reader.into_feed().into_inner();
+    let outcome = pack_file(alloc, feed, &mut packer, writing, number);
+    // What is known of the drain comes back with the reference itself.
     let _drain = packer.into_drain();
-    let counts = outcome?;
-    Ok(InputReceipt {
-        counts,
-        input: digest,
-    })
+    outcome
 }

@@ -1,19 +1,19 @@
-use Rattle.std.proofs.Common.{zero, suc, [], rules}
+use Rattle.std.proofs.Common.{◌≡◌, Some, rules, false}
+use Rattle.std.proofs.lemmas.Result.{err_from_is_err_and}
+use Rattle.pbf_frame.specs.Verdict.{judged_known}
 use Rattle.pbf_pass.specs.Again.{GathersFile}
-use Rattle.pbf_pass.proofs.GivenLemmas.{supplied_as, holds_of_file}
+use Rattle.pbf_pass.specs.Judged.{judged_file}
+use Rattle.pbf_pass.proofs.AgainLemmas.{gathers_file, stops_visited}
+use Rattle.pbf_pass.proofs.GivenLemmas.{gave_file_less}
 use Rattle.pbf_pass.proofs.again.gather_again.Goals as goal
+
+pub returns-in_err-pass_over-clause-stops : goal.returns-in_err-pass_over-clause-stops
+returns-in_err-pass_over-clause-stops g c =
+    let p = err_from_is_err_and c.from_residual.result c.from_residual.ensures.1 in
+    rw (p.1, p.2) (stops_visited (λ v. v.number) _ (λ old new f one. one.1) _ _ _ ⊥ _ c.pass_over.new.visitor _ (λ fs mid f s visited failing. failing) c.in_err-pass_over.ensures.stops)
 
 pub returns-clause-gathered : goal.returns-clause-gathered
 returns-clause-gathered g c =
-    let given = c.in_ok-outcome.ensures.gathered in
-    let read = given.supplied.logged zero [] (rw c.new-reader.ensures.feed (c.new.ensures.hasher, c.new.ensures.count)) in
-    record {
-      file = given.bytes;
-      supplied = supplied_as g.F.Feed c.new-reader.result.feed.feed.now c.args.feed.now c.steps_again-outcome.new.reader.feed.feed.now _ given.bytes (search rules) (search rules) record {
-        told = given.supplied.told;
-        end = given.supplied.end;
-        logged = λ log. given.supplied.logged (suc log);
-      };
-      digest_is = c.digest-digest.ensures.digest given.bytes read.0;
-      holding = holds_of_file _ _ given.bytes (λ known. GathersFile g.G.Gather.gathered known c.args.gathering.now c.steps_again-outcome.new.gathering) c.new-reader.ensures.had_header c.new-reader.ensures.place given.holding;
-    }
+    let said = gave_file_less g.F.Feed _ _ _ _ (λ file. GathersFile g.G.Gather.gathered (judged_file (Some file)) c.args.gathering.now c.pass_over.new.visitor.gathering.now)
+    (λ file p. gathers_file g.G.Gather.gathered (λ v. v.gathering.now) _ (λ old new f one. one.0) (judged_known false 0 (Some file)) _ _ c.pass_over.new.visitor p.1) c.in_ok-pass_over.ensures.visited in
+    search (rules, said)

@@ -1,23 +1,37 @@
-use Rattle.std.proofs.Common.{zero, suc, [], rules}
+use Rattle.std.proofs.Common.{Some, rules, false}
+use Rattle.std.proofs.lemmas.Result.{err_from_is_err_and}
+use Rattle.pbf_frame.specs.Verdict.{judged_known}
+use Rattle.pbf_pass.specs.Given.{Took}
+use Rattle.pbf_pass.specs.Judged.{judged_file}
+use Rattle.pbf_pass.proofs.GivenLemmas.{gave_file_less}
 use Rattle.pbfcut.specs.Showing.{Shown}
-use Rattle.pbf_pass.proofs.GivenLemmas.{supplied_as, holds_of_file}
+use Rattle.pbfcut.proofs.ShowingLemmas.{shows_file, shows_counts, front_shown, stops_shown, stopped_counts}
 use Rattle.pbfcut.proofs.showing.write_text.Goals as goal
 
 pub returns-clause-shown : goal.returns-clause-shown
 returns-clause-shown g c =
-    let given = c.in_ok-outcome.ensures.shown in
-    let took = given.holding in
-    record {
-      file = given.bytes;
-      supplied = supplied_as g.F.Feed c.new-reader.result.feed.feed.now c.args.feed.now c.show_all-outcome.new.reader.feed.feed.now _ given.bytes (search rules) (search rules) record {
-        told = given.supplied.told;
-        end = given.supplied.end;
-        logged = λ log. given.supplied.logged (suc log);
-      };
-      digest_is = c.digest-digest.ensures.digest given.bytes (given.supplied.logged zero [] (rw c.new-reader.ensures.feed (c.new.ensures.hasher, c.new.ensures.count))).0;
-      holding = record {
-        written = took.written;
-        added = took.added;
-        holding = holds_of_file _ _ given.bytes (λ known. Shown c.args.dates known took.written) c.new-reader.ensures.had_header c.new-reader.ensures.place took.holding;
-      };
-    }
+    let said = gave_file_less g.F.Feed _ _ _ _ (λ file. Took g.D.Drain c.args.drain.now c.pass_over.new.visitor.drain.now (Shown c.args.dates (judged_file (Some file))))
+    (λ file p. shows_file g.D.Drain (λ v. v.drain.now) (λ v. v.dates) _ (λ old new f one. one) (judged_known false 0 (Some file)) _ _ c.pass_over.new.visitor p.1) c.in_ok-pass_over.ensures.visited in
+    search (rules, said)
+
+pub returns-in_err-pass_over-clause-beginning : goal.returns-in_err-pass_over-clause-beginning
+returns-in_err-pass_over-clause-beginning g c =
+    let p = err_from_is_err_and c.from_residual.result c.from_residual.ensures.1 in
+    let said = front_shown g.D.Drain (λ v. v.drain.now) (λ v. v.dates) _ (λ old new f one. one) _ _ _ _ c.pass_over.new.visitor _ (λ mid f s failing. failing) c.in_err-pass_over.ensures.stops in
+    rw p.1 (search (rules, said))
+
+pub returns-in_err-pass_over-clause-stops : goal.returns-in_err-pass_over-clause-stops
+returns-in_err-pass_over-clause-stops g c =
+    let p = err_from_is_err_and c.from_residual.result c.from_residual.ensures.1 in
+    let said = stops_shown g.D.Drain (λ v. v.drain.now) (λ v. v.dates) _ (λ old new f one. one) _ _ _ _ c.pass_over.new.visitor _ (λ mid f s failing. failing) c.in_err-pass_over.ensures.stops in
+    rw (p.1, p.2) (search (rules, said))
+
+pub returns-in_err-pass_over-clause-drain : goal.returns-in_err-pass_over-clause-drain
+returns-in_err-pass_over-clause-drain g c =
+    let counts = stopped_counts g.D.Drain (λ v. v.drain.now) (λ v. v.dates) _ (λ old new f one. one) _ _ _ _ c.pass_over.new.visitor _ (λ mid f s failing. failing) c.in_err-pass_over.ensures.stops in
+    search (rules, counts)
+
+pub returns-clause-drain : goal.returns-clause-drain
+returns-clause-drain g c =
+    let counts = shows_counts g.D.Drain (λ v. v.drain.now) (λ v. v.dates) _ (λ old new f one. one) (judged_known false 0 (Some c.in_ok-pass_over.ensures.visited.file)) _ _ c.pass_over.new.visitor c.in_ok-pass_over.ensures.visited.holding.1 in
+    search (rules, counts)

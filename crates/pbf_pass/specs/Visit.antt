@@ -1,0 +1,54 @@
+-- What a pass does that visits the frames of a file one after another, and why it stops.
+use Rattle.std.specs.Prelude.{◌≡◌, ◌⊎◌, ℕ, List, [], ◌∷◌, Option, None, Some, length}
+use Rattle.pbf_wire.specs.declared.fault.Fault.{Fault}
+use Rattle.pbf_frame.specs.declared.stop.Stop.{Stop}
+use Rattle.pbf_frame.specs.declared.stop.Stop.TheVariants.{Refused}
+use Rattle.pbf_frame.specs.Frames.{FrameSpec}
+use Rattle.pbf_frame.specs.Verdict.{Verdict, judged_known, with_first_known, Gone, Says}
+use Rattle.pbf_pass.specs.Stops.{Caused, unchanged}
+
+-- what a visitor does with a frame, by what it was before and what it is then
+abbrev pub Takes : Type 0 → Type 1
+Takes V = V → FrameSpec → V → Type 0
+
+-- why it stops at one, and what it is then
+abbrev pub Fails : Type 0 → Type 1
+Fails V = V → FrameSpec → V → Stop → Type 0
+
+-- it took these frames, one after another
+abbrev pub Visited : {V : Type 0} → Takes V → V → List FrameSpec → V → Type 0
+Visited took before [] now = now ≡ before
+Visited {V} took before (f ∷ fs) now = (mid : V) × took before f mid × Visited took mid fs now
+
+-- it took all frames of a verdict without a fault, of which there are so many
+pub record VisitsAll {V : Type 0} (took : Takes V) (known : Option Verdict) (count : ℕ) (before now : V) : Type 0 where
+  pub frames : List FrameSpec
+  pub says : known ≡ Some (frames, None)
+  pub counted : count ≡ length frames
+  pub visited : Visited took before frames now
+
+-- the reader stopped behind frames that were taken, and nothing was done since: at the fault of what follows, or for a failed read
+pub record StopsBehind {V : Type 0} (took : Takes V) (known : Option Verdict) (read : Type 0) (before now : V) (stop : Stop) : Type 0 where
+  pub frames : List FrameSpec
+  pub rest : Option Verdict
+  pub gone : Gone known frames rest
+  pub visited : Visited took before frames now
+  pub caused : Caused (λ e. Says rest ([], Some e)) read ⊥ unchanged stop
+
+-- the visitor stopped at the frame behind them
+pub record StopsWithin {V : Type 0} (took : Takes V) (failed : Fails V) (known : Option Verdict) (before now : V) (stop : Stop) : Type 0 where
+  pub frames : List FrameSpec
+  pub frame : FrameSpec
+  pub rest : Option Verdict
+  pub gone : Gone known frames (with_first_known frame rest)
+  pub mid : V
+  pub visited : Visited took before frames mid
+  pub failing : failed mid frame now stop
+
+-- a pass over what has this verdict stopped
+abbrev pub StopsVisit : {V : Type 0} → Takes V → Fails V → Option Verdict → (read : Type 0) → (before now : V) → Stop → Type 0
+StopsVisit took failed known read before now stop = StopsBehind took known read before now stop ⊎ StopsWithin took failed known before now stop
+
+-- it refused bytes that stand at this place, with this fault
+abbrev pub RefusesVisit : {V : Type 0} → Takes V → Fails V → (List ℕ → Option Verdict) → (before now : V) → Fault → List ℕ → Type 0
+RefusesVisit took failed judge before now e bytes = StopsVisit took failed (judge bytes) ⊥ before now (Refused e)

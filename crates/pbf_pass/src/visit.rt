@@ -1,0 +1,143 @@
+//! A pass over frames, which tells a visitor of each of them.
+
+ghost use Rattle.std.specs.Prelude.{◌≡◌, ◌≤◌, ◌^◌, List, [], false, Some, IfOk, IfErr, OnOk};
+ghost use Rattle.std.specs.Borrow.{GName};
+ghost use Rattle.pbf_frame.specs.declared.stop.Stop.{Stop};
+ghost use Rattle.pbf_frame.specs.Frames.{FrameSpec};
+ghost use Rattle.pbf_frame.specs.Next.{IsReading, Shows, place_of, held_by, verdict};
+ghost use Rattle.pbf_frame.specs.Verdict.{judged_known};
+ghost use Rattle.pbf_pass.specs.Given.{GaveRest, GaveFile, judged_from};
+ghost use Rattle.pbf_pass.specs.Hashing.{IsLength};
+ghost use Rattle.pbf_pass.specs.Pass.{IsStep};
+ghost use Rattle.pbf_pass.specs.Refused.{RefusesRest, RefusesBytes, Halts, stop_of};
+ghost use Rattle.pbf_pass.specs.Stops.{KeepsFeed, ReadFailed};
+ghost use Rattle.pbf_pass.specs.Visit.{VisitsAll, StopsVisit, RefusesVisit};
+
+use crate::hashed::HashedFeed;
+use crate::receipt::Halt;
+use pbf_frame::{Feed, Frame, FrameReader, Stop};
+use std::alloc::Global;
+
+/// What a pass does with each frame of a file.
+pub trait Visit {
+    /// What it does with a frame: what it was before, and what it is then.
+    ghost took: { Self → FrameSpec → Self → Type 0 };
+
+    /// Why it stops at a frame: what it was before, and what it is then.
+    ghost failed: { Self → FrameSpec → Self → Stop → Type 0 };
+
+    /// Where it can take a frame. It stays so until it stops.
+    ghost ready: { Self → Type 0 } = { λ _. Unit {0} };
+
+    /// The references that it goes through.
+    ghost lender: { Self → List GName } = { λ _. [] };
+
+    /// Does it. After a stop it may only be dropped or taken apart.
+    fn visit(&mut self, alloc: Global, frame: &Frame<'_>) -> Result<(), Stop>
+        requires { ready self.old }
+        ensures took { OnOk result ((f : FrameSpec) → Shows frame.now f → took self.old f self.new) }
+        ensures failed { IfErr result (λ stop. (f : FrameSpec) → Shows frame.now f
+            → failed self.old f self.new stop) }
+        ensures ready { OnOk result (ready self.new) }
+        ensures lender { lender self.new ≡ lender self.old };
+}
+
+/// Visits the next frame; false at the end of an input that had its header. After a stop the reader and the visitor may only be
+/// dropped or taken apart.
+pub fn step<F: Feed, V: Visit>(
+    alloc: Global,
+    reader: &mut FrameReader<F>,
+    visitor: &mut V,
+) -> Result<bool, Stop>
+    requires { V.ready visitor.old }
+    ensures step { IsStep F.Feed reader.old reader.new (λ f. V.took visitor.old f visitor.new)
+        (λ f stop. V.failed visitor.old f visitor.new stop) (visitor.new ≡ visitor.old) result }
+    ensures ready { OnOk result (V.ready visitor.new) }
+    ensures lender { V.lender visitor.new ≡ V.lender visitor.old }
+    ensures limited { place_of reader.new ≤ 2 ^ 62 }
+    ensures space { held_by reader.new ≤ 33620990 }
+{
+    let Some(frame) = reader.next()? else {
+        return Ok(false);
+    };
+    visitor.visit(alloc, &frame)?;
+    Ok(true)
+}
+
+/// Visits the frames that are left, by steps, and answers how many there are: after each step its clause `space` bounds what the reader
+/// holds.
+pub fn visit_rest<F: Feed, V: Visit>(
+    alloc: Global,
+    reader: &mut FrameReader<F>,
+    visitor: &mut V,
+) -> Result<u64, Stop>
+    requires reading { IsReading reader.old }
+    requires ready { V.ready visitor.old }
+    ensures visited { IfOk result (λ count. GaveRest F.Feed reader.old reader.new
+        (λ known. VisitsAll V.took known count visitor.old visitor.new)) }
+    ensures stops { IfErr result (StopsVisit V.took V.failed (verdict F.remaining reader.old)
+        (ReadFailed F.Feed reader.old.feed reader.new.feed) visitor.old visitor.new) }
+    ensures refused { IfErr result (RefusesRest F.Feed reader.old.feed reader.new.feed
+        (RefusesVisit V.took V.failed (judged_from reader.old) visitor.old visitor.new)) }
+    ensures keeps { KeepsFeed F.Feed reader.old.feed reader.new.feed }
+    ensures ready { OnOk result (V.ready visitor.new) }
+    ensures lender { V.lender visitor.new ≡ V.lender visitor.old }
+{
+    let mut count = 0;
+    'frames: while step(alloc, reader, visitor)? {
+        count += 1;
+    }
+    Ok(count)
+}
+
+/// What was read of a file.
+#[derive(Clone, Copy, Debug)]
+pub struct FileRead {
+    /// How many frames it has.
+    pub frames: u64,
+    /// How many bytes it has, up to the greatest number.
+    pub count: u64,
+    /// Their digest.
+    pub digest: [u8; 32],
+}
+
+/// Visits the frames of a whole file, and hashes and counts its bytes. Reads each byte once, to the file's end where it answers `Ok`,
+/// and holds one frame at a time.
+pub fn pass_over<F: Feed, V: Visit>(
+    alloc: Global,
+    feed: &mut F,
+    visitor: &mut V,
+) -> Result<FileRead, Halt>
+    requires { V.ready visitor.old }
+    // The feed gave a file of this digest, to its end, and its frames were visited.
+    ensures visited { IfOk result (λ read. GaveFile F.Feed feed.old feed.new read.digest
+        (λ file. IsLength read.count file
+        × VisitsAll V.took (judged_known false 0 (Some file)) read.frames
+        visitor.old visitor.new)) }
+    // The reader stopped behind frames that were visited, or the visitor at the frame behind them.
+    ensures stops { IfErr result (λ h. StopsVisit V.took V.failed
+        (judged_known false 0 (F.remaining feed.old)) (ReadFailed F.Feed feed.old feed.new)
+        visitor.old visitor.new (stop_of h)) }
+    // A refusal has the number and the digest of what the feed gave: whatever begins so is refused so.
+    ensures refused { IfErr result (Halts (RefusesBytes F.Feed feed.old feed.new
+        (RefusesVisit V.took V.failed (λ b. judged_known false 0 (Some b))
+        visitor.old visitor.new))) }
+    ensures counts { F.failures feed.old ≤ F.failures feed.new }
+    ensures ready { OnOk result (V.ready visitor.new) }
+    ensures lender { V.lender visitor.new ≡ V.lender visitor.old }
+{
+    let mut reader = FrameReader::new(alloc, HashedFeed::new(&mut *feed));
+    let outcome = visit_rest(alloc, &mut reader, visitor);
+    let count = reader.feed.count();
+    let digest = reader.feed.digest();
+    // What is known of the feed comes back with the reference itself.
+    let _feed = reader.into_feed().into_inner();
+    match outcome {
+        Ok(frames) => Ok(FileRead {
+            frames,
+            count,
+            digest,
+        }),
+        Err(stop) => Err(Halt::new(stop, count, digest)),
+    }
+}
