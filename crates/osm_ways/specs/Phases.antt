@@ -1,5 +1,5 @@
 -- The passes over a list, each entity by itself, and the sets that they gather.
-use Rattle.std.specs.Prelude.{ℤ, Bool, if◌then◌else◌, List, refl}
+use Rattle.std.specs.Prelude.{ℤ, Bool, if◌then◌else◌, List, refl, Option, Some, None}
 use Rattle.std.specs.Coded.{Coded, code_by, coded×, coded_ℤ}
 use Rattle.std.specs.List.{fold}
 use Rattle.std.specs.Ordering.{int_cmp}
@@ -55,6 +55,14 @@ relation_sets_code = code_by (WaySets × (Ids × LinkSet)) (coded× way_sets_cod
 
 abbrev pub parent_sets_code : Coded ParentSets
 parent_sets_code = code_by (WaySets × Ids) (coded× way_sets_code ids_code) (λ s. (s.ways, s.relation_ids)) (λ p. record { ways = p.0; relation_ids = p.1 }) (λ _. refl)
+
+-- no parents besides
+abbrev pub without_parents : WaySets → ParentSets
+without_parents sets = record { ways = sets; relation_ids = set.empty }
+
+abbrev pub ids_or_none : Option Ids → Ids
+ids_or_none None = set.empty
+ids_or_none (Some ids) = ids
 
 -- ---- what one entity adds
 

@@ -4,9 +4,9 @@ ghost use Rattle.std.specs.Prelude.{◌≡◌};
 ghost use Rattle.std.specs.FinSet as set;
 ghost use Rattle.osm_entity.specs.Sources.{lent_member};
 ghost use Rattle.osm_entity.specs.Views.{way_of, relation_of};
-ghost use Rattle.osm_ways.specs.Selection.{no_ids, is_selecting};
+ghost use Rattle.osm_ways.specs.Selection.{is_selecting};
 ghost use Rattle.osm_ways.specs.Seen.{seen_way, seen_member, seen_relation};
-ghost use Rattle.osm_ways.specs.Phases.{is_chosen, is_chosen_with_parents};
+ghost use Rattle.osm_ways.specs.Phases.{is_chosen, is_chosen_with_parents, without_parents, ids_or_none};
 
 use crate::parents::ChosenParents;
 use crate::phases::{Chosen, is_kept_by};
@@ -21,27 +21,43 @@ pub struct Chooser<'a> {
     box_ids: Lookup<'a>,
     refs: Lookup<'a>,
     way_ids: Lookup<'a>,
+    /// Those of all parents, where they were chosen too.
+    relation_ids: Option<Lookup<'a>>,
 }
 
 impl<'a> Model for Chooser<'a> {
     ghost use Rattle.std.specs.FinSet as set;
-    ghost use Rattle.osm_ways.specs.Phases.{WaySets, way_sets_code};
+    ghost use Rattle.osm_ways.specs.Phases.{ParentSets, parent_sets_code, ids_or_none};
 
-    ghost Value = { WaySets };
+    ghost Value = { ParentSets };
 
-    ghost coded = { way_sets_code };
+    ghost coded = { parent_sets_code };
 
     ghost view = { λ a. record {
-      box_ids = a.box_ids;
-      node_ids = set.union a.box_ids a.refs;
-      way_ids = a.way_ids;
+      ways = record {
+        box_ids = a.box_ids;
+        node_ids = set.union a.box_ids a.refs;
+        way_ids = a.way_ids;
+      };
+      relation_ids = ids_or_none a.relation_ids;
     } };
+}
+
+/// Whether an id is among those of all parents, where they were chosen.
+fn has(ids: &mut Option<Lookup<'_>>, id: i64) -> bool
+    ensures found { result ≡ set.contains (ids_or_none ids.old) id }
+    ensures same { ids.new ≡ ids.old }
+{
+    match ids {
+        Some(ids) => ids.has(id),
+        None => false,
+    }
 }
 
 impl<'a> Chooser<'a> {
     /// Whether nodes of this id are kept: it is that of a node in the box, or a ref of a kept way.
     pub fn keeps_node(&mut self, id: i64) -> bool
-        ensures kept { result ≡ set.contains self.old.node_ids id }
+        ensures kept { result ≡ set.contains self.old.ways.node_ids id }
         ensures same { self.new ≡ self.old }
     {
         self.box_ids.has(id) || self.refs.has(id)
@@ -49,15 +65,17 @@ impl<'a> Chooser<'a> {
 
     /// Whether the way is kept: one of its refs is a node in the box. Of two ways of one id each is judged by itself.
     pub fn keeps_way(&mut self, way: &WayRef<'_>) -> bool
-        ensures kept { result ≡ is_chosen self.old (seen_way (way_of way.now)) }
+        ensures kept { result ≡ is_chosen_with_parents self.old (seen_way (way_of way.now)) }
         ensures same { self.new ≡ self.old }
     {
         is_kept_by(&mut self.box_ids, way)
     }
 
-    /// Whether the relation is kept: a node or a way among its members is. Members that are relations count for nothing.
+    /// Whether the relation is kept: a node or a way among its members is, or a relation, with all parents. Of two relations of one
+    /// id each is judged by itself.
     pub fn keeps_relation(&mut self, relation: &RelationRef<'_>) -> bool
-        ensures kept { result ≡ is_chosen self.old (seen_relation (relation_of relation.now)) }
+        ensures kept { result
+            ≡ is_chosen_with_parents self.old (seen_relation (relation_of relation.now)) }
         ensures same { self.new ≡ self.old }
     {
         for member in relation.members() {
@@ -70,14 +88,15 @@ impl<'a> Chooser<'a> {
 
     /// Whether the member selects its relation.
     fn selects(&mut self, member: &MemberRef<'_>) -> bool
-        ensures selected { result ≡ is_selecting (set.contains self.old.node_ids)
-            (set.contains self.old.way_ids) no_ids (seen_member (lent_member member.now)) }
+        ensures selected { result ≡ is_selecting (set.contains self.old.ways.node_ids)
+            (set.contains self.old.ways.way_ids) (set.contains self.old.relation_ids)
+            (seen_member (lent_member member.now)) }
         ensures same { self.new ≡ self.old }
     {
         match member.kind {
             MemberKind::Node => self.keeps_node(member.id),
             MemberKind::Way => self.way_ids.has(member.id),
-            MemberKind::Relation => false,
+            MemberKind::Relation => has(&mut self.relation_ids, member.id),
         }
     }
 }
@@ -85,12 +104,13 @@ impl<'a> Chooser<'a> {
 impl Chosen {
     /// The same sets, to be asked of many entities one after another.
     pub fn chooser(&self) -> Chooser<'_>
-        ensures { result ≡ self.now }
+        ensures { result ≡ without_parents self.now }
     {
         Chooser {
             box_ids: self.box_ids.lookup(),
             refs: self.refs.lookup(),
             way_ids: self.way_ids.lookup(),
+            relation_ids: None,
         }
     }
 
@@ -116,77 +136,16 @@ impl Chosen {
     }
 }
 
-/// As [`Chooser`], with all parents.
-#[derive(Drop)]
-pub struct ChooserParents<'a> {
-    chooser: Chooser<'a>,
-    relation_ids: Lookup<'a>,
-}
-
-impl<'a> Model for ChooserParents<'a> {
-    ghost use Rattle.osm_ways.specs.Phases.{ParentSets, parent_sets_code};
-
-    ghost Value = { ParentSets };
-
-    ghost coded = { parent_sets_code };
-
-    ghost view = { λ a. record { ways = a.chooser; relation_ids = a.relation_ids } };
-}
-
-impl<'a> ChooserParents<'a> {
-    /// Whether nodes of this id are kept, as without parents.
-    pub fn keeps_node(&mut self, id: i64) -> bool
-        ensures kept { result ≡ set.contains self.old.ways.node_ids id }
-        ensures same { self.new ≡ self.old }
-    {
-        self.chooser.keeps_node(id)
-    }
-
-    /// Whether the way is kept, as without parents.
-    pub fn keeps_way(&mut self, way: &WayRef<'_>) -> bool
-        ensures kept { result ≡ is_chosen_with_parents self.old (seen_way (way_of way.now)) }
-        ensures same { self.new ≡ self.old }
-    {
-        self.chooser.keeps_way(way)
-    }
-
-    /// Whether the relation is kept: a node, a way or a relation among its members is. Of two relations of one id each is
-    /// judged by itself.
-    pub fn keeps_relation(&mut self, relation: &RelationRef<'_>) -> bool
-        ensures kept { result
-            ≡ is_chosen_with_parents self.old (seen_relation (relation_of relation.now)) }
-        ensures same { self.new ≡ self.old }
-    {
-        for member in relation.members() {
-            if self.selects(&member) {
-                return true;
-            }
-        }
-        false
-    }
-
-    /// Whether the member selects its relation.
-    fn selects(&mut self, member: &MemberRef<'_>) -> bool
-        ensures selected { result ≡ is_selecting (set.contains self.old.ways.node_ids)
-            (set.contains self.old.ways.way_ids) (set.contains self.old.relation_ids)
-            (seen_member (lent_member member.now)) }
-        ensures same { self.new ≡ self.old }
-    {
-        match member.kind {
-            MemberKind::Relation => self.relation_ids.has(member.id),
-            MemberKind::Node | MemberKind::Way => self.chooser.selects(member),
-        }
-    }
-}
-
 impl ChosenParents {
     /// The same sets, to be asked of many entities one after another.
-    pub fn chooser(&self) -> ChooserParents<'_>
+    pub fn chooser(&self) -> Chooser<'_>
         ensures { result ≡ self.now }
     {
-        ChooserParents {
-            chooser: self.chosen.chooser(),
-            relation_ids: self.relation_ids.lookup(),
+        Chooser {
+            box_ids: self.chosen.box_ids.lookup(),
+            refs: self.chosen.refs.lookup(),
+            way_ids: self.chosen.way_ids.lookup(),
+            relation_ids: Some(self.relation_ids.lookup()),
         }
     }
 

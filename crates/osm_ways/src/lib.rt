@@ -6,6 +6,6 @@ pub mod laws;
 mod parents;
 mod phases;
 
-pub use choosing::{Chooser, ChooserParents};
+pub use choosing::Chooser;
 pub use parents::{ChosenParents, RelationPhase};
 pub use phases::{Chosen, NodePhase, WayPhase};
