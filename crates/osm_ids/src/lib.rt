@@ -6,6 +6,7 @@ pub mod laws;
 mod links;
 mod lookup;
 mod merge;
+mod open_lookup;
 mod open_pages;
 mod page;
 mod pages;
@@ -14,5 +15,6 @@ mod walk;
 
 pub use links::{Link, Links};
 pub use lookup::Lookup;
+pub use open_lookup::{IdLookup, OpenLookup};
 pub use pages::SealedIds;
 pub use set::IdSet;

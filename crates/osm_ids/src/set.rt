@@ -5,6 +5,7 @@ ghost use Rattle.std.specs.FinSet as set;
 ghost use Rattle.osm_ids.specs.Pages.{IsRising};
 
 use crate::merge::Merged;
+use crate::open_lookup::OpenLookup;
 use crate::open_pages::OpenPages;
 use crate::pages::SealedIds;
 use std::alloc::{AllocError, Global};
@@ -88,21 +89,43 @@ impl IdSet {
         if self.late.is_empty() {
             return Ok(self.laid.seal());
         }
-        match sealed(self.alloc, self.rising()) {
-            Ok(sealed) => Ok(sealed),
+        match laid(self.alloc, self.rising()) {
+            Ok(pages) => Ok(pages.seal()),
             Err(error) => Err((self, error)),
+        }
+    }
+
+    /// Lays the ids that came late among the others, so that all are looked up alike. Memory is taken only where there are any. The
+    /// set stays the same, at an `Err` too.
+    pub fn settle(&mut self) -> Result<(), AllocError>
+        ensures { self.new ≡ self.old }
+    {
+        if !self.late.is_empty() {
+            self.laid = laid(self.alloc, self.rising())?;
+            self.late = BTreeSet::new(self.alloc);
+        }
+        Ok(())
+    }
+
+    /// The ids so far, to be looked up while the set may still grow.
+    pub fn lookup(&self) -> OpenLookup<'_>
+        ensures { result ≡ self.now }
+    {
+        OpenLookup {
+            laid: self.laid.ids().lookup(),
+            late: &self.late,
         }
     }
 }
 
 /// Rising ids, laid into pages.
-fn sealed(alloc: Global, ids: Merged<'_>) -> Result<SealedIds, AllocError>
+fn laid(alloc: Global, ids: Merged<'_>) -> Result<OpenPages, AllocError>
     requires { IsRising ids }
-    ensures { IfOk result (λ sealed. sealed ≡ set.from_list ids.entry) }
+    ensures { IfOk result (λ pages. pages ≡ set.from_list ids.entry) }
 {
     let mut pages = OpenPages::new(alloc);
     for id in ids {
         pages.lay(id)?;
     }
-    Ok(pages.seal())
+    Ok(pages)
 }

@@ -4,7 +4,7 @@ use Rattle.std.specs.FinSet as set
 use Rattle.std.proofs.lemmas.Int.{to_z-of_z}
 use Rattle.osm_ids.proofs.Sets.{Ids}
 use Rattle.osm_ids.proofs.MergeLemmas.{Gathered, gathered_start, gathered_more, gathered_end}
-use Rattle.osm_ids.proofs.set.sealed.Goals as goal
+use Rattle.osm_ids.proofs.set.laid.Goals as goal
 
 pub loop-id-init : goal.loop-id-init
 loop-id-init c =
@@ -21,4 +21,4 @@ loop-id-preserved c =
     subst (λ (s : Ids). Gathered s left c.args.ids) (sym laid) (gathered_more c.loop-id.pages id left c.args.ids g)
 
 pub returns : goal.returns
-returns c = c.seal.ensures ∙ gathered_end c.loop-id.pages c.loop-id.id-iterator c.args.ids c.loop-id.invariant c.in-None.ensures.steps.0
+returns c = gathered_end c.loop-id.pages c.loop-id.id-iterator c.args.ids c.loop-id.invariant c.in-None.ensures.steps.0

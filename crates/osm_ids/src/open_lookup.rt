@@ -1,0 +1,56 @@
+//! Ids that are looked up one after another, in a set that no longer grows or in one that may still.
+
+ghost use Rattle.std.specs.Prelude.{◌≡◌};
+ghost use Rattle.std.specs.FinSet as set;
+ghost use Rattle.std.specs.Ordering.{int_cmp};
+
+use crate::lookup::Lookup;
+use std::collections::BTreeSet;
+use std::marker::Model;
+
+/// Ids that are looked up one after another. Asking changes nothing but where the next question is answered from.
+pub trait IdLookup {
+    /// The ids, as a finite set.
+    ghost ids: { Self → set.FinSet int_cmp };
+
+    /// Whether the id is among them.
+    fn has(&mut self, id: i64) -> bool
+        ensures found { result ≡ set.contains (ids self.old) id }
+        ensures same { self.new ≡ self.old };
+}
+
+impl IdLookup for Lookup<'_> {
+    ghost ids = { λ a. a };
+
+    fn has(&mut self, id: i64) -> bool {
+        Lookup::has(self, id)
+    }
+}
+
+/// The ids of a set that may still grow: those that are laid into pages, and those that came late. Contracts see it as a finite set
+/// of numbers.
+#[derive(Drop)]
+pub struct OpenLookup<'a> {
+    pub(crate) laid: Lookup<'a>,
+    pub(crate) late: &'a BTreeSet<i64>,
+}
+
+impl<'a> Model for OpenLookup<'a> {
+    ghost use Rattle.std.specs.Ordering.{int_cmp};
+    ghost use Rattle.std.specs.Coded.{coded_ℤ};
+    ghost use Rattle.std.specs.FinSet as set;
+
+    ghost Value = { set.FinSet int_cmp };
+
+    ghost coded = { set.code coded_ℤ };
+
+    ghost view = { λ a. set.union a.laid (set.from_list a.late.now.keys) };
+}
+
+impl IdLookup for OpenLookup<'_> {
+    ghost ids = { λ a. a };
+
+    fn has(&mut self, id: i64) -> bool {
+        self.laid.has(id) || self.late.contains(&id)
+    }
+}
