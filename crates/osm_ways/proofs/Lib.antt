@@ -5,3 +5,4 @@ pub mod ParentLaws
 pub mod Passes
 pub mod Shown
 pub mod Decoding
+pub mod FirstLemmas

@@ -6,7 +6,7 @@ use Rattle.std.specs.Cmp.{int_cmp_total}
 use Rattle.std.specs.FinSet as set
 use Rattle.osm_ids.proofs.Closing.{insert_same}
 use Rattle.osm_ids.proofs.Sets.{or_swap}
-use Rattle.osm_ways.specs.Phases.{Ids, WaySets, start_ways}
+use Rattle.osm_ways.specs.Phases.{Ids, sets_of, start_ways}
 
 or_none : (b : Bool) → (b || false) ≡ b
 or_none true = refl
@@ -40,12 +40,9 @@ or_in_union s t id r q e is f = f ∙ sym (set.contains-union int_cmp_total s t 
 
 -- ---- the phase of ways
 
-abbrev pub shown : Ids → Ids → Ids → WaySets
-shown in_box refs ways = record { box_ids = in_box; node_ids = set.union in_box refs; way_ids = ways }
-
-pub shown_start : (in_box sealed refs ways : Ids) → sealed ≡ in_box → refs ≡ set.empty → ways ≡ set.empty → shown sealed refs ways ≡ start_ways in_box
+pub shown_start : (in_box sealed refs ways : Ids) → sealed ≡ in_box → refs ≡ set.empty → ways ≡ set.empty → sets_of sealed refs ways ≡ start_ways in_box
 shown_start in_box sealed refs ways e f g =
-    (λ i. shown (e i) (f i) (g i)) ∙ (λ i. record { box_ids = in_box; node_ids = union-empty in_box i; way_ids = set.empty })
+    (λ i. sets_of (e i) (f i) (g i)) ∙ (λ i. record { box_ids = in_box; node_ids = union-empty in_box i; way_ids = set.empty })
 
 -- ---- members
 

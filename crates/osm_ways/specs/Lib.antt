@@ -1,4 +1,5 @@
 pub mod Selection
 pub mod Parents
 pub mod Phases
+pub mod First
 pub mod Seen

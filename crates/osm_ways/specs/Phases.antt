@@ -30,6 +30,10 @@ pub record WaySets : Type 0 where
   pub node_ids : Ids
   pub way_ids : Ids
 
+-- the same, with the refs that are no nodes of the box apart
+abbrev pub sets_of : Ids → Ids → Ids → WaySets
+sets_of in_box refs ways = record { box_ids = in_box; node_ids = set.union in_box refs; way_ids = ways }
+
 -- of the relations besides: those that nodes and ways select, and a link from each relation member to its relation
 pub record RelationSets : Type 0 where
   pub ways : WaySets

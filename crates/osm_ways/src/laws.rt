@@ -1,7 +1,7 @@
 //! The laws of the selection. Each is the contract of a function that does nothing: a proof that needs the law calls it, or
 //! takes the lemma of that name from this crate's `proofs/`.
 
-ghost use Rattle.std.specs.Prelude.{◌≡◌, List, map};
+ghost use Rattle.std.specs.Prelude.{◌≡◌, true, false, List, map};
 ghost use Rattle.std.specs.Ordering.{int_cmp};
 ghost use Rattle.std.specs.FinSet as set;
 ghost use Rattle.osm_box.specs.declared.bounding_box.BoundingBox.{BoundingBox};
@@ -10,7 +10,8 @@ ghost use Rattle.osm_ids.specs.Links.{IsLeast};
 ghost use Rattle.osm_ways.specs.Selection.{Seen, node_ids, way_ids, keeps, extract};
 ghost use Rattle.osm_ways.specs.Seen.{seen_entity, seen_decoded};
 ghost use Rattle.osm_ways.specs.Parents.{IsLeastSelected, relation_ids, keeps_with_parents, extract_with_parents, links_in, start_in};
-ghost use Rattle.osm_ways.specs.Phases.{way_pass, relation_pass, is_chosen, is_chosen_with_parents};
+ghost use Rattle.osm_ways.specs.First.{first_pass};
+ghost use Rattle.osm_ways.specs.Phases.{start_ways, node_pass, way_pass, relation_pass, is_chosen, is_chosen_with_parents};
 
 /// An extract of an extract is the extract, with and without parents.
 pub fn extract_twice_is_once<X>()
@@ -39,6 +40,15 @@ pub fn parents_are_least()
     ensures links { (seen : List Seen) (start ids : set.FinSet int_cmp)
         → set.contains start ≡ start_in seen → IsLeast (links_in seen) start ids
         → set.contains ids ≡ relation_ids seen }
+{}
+
+/// One pass over nodes and ways gathers what two do, if no node comes behind a way; otherwise what the one over nodes does.
+pub fn one_pass_is_two()
+    ensures in_order { (area : BoundingBox) (seen : List Seen)
+        → (first_pass area seen).in_order ≡ true → (first_pass area seen).ways ≡ way_pass seen }
+    ensures broken { (area : BoundingBox) (seen : List Seen)
+        → (first_pass area seen).in_order ≡ false
+        → (first_pass area seen).ways ≡ start_ways (node_pass seen) }
 {}
 
 /// Over a whole list the passes keep what the extract keeps: of two passes, of nodes and of ways, the extract; of a third one,

@@ -2,10 +2,12 @@
 #![tactic(auto)]
 
 mod choosing;
+mod first;
 pub mod laws;
 mod parents;
 mod phases;
 
 pub use choosing::Chooser;
+pub use first::FirstPhase;
 pub use parents::{ChosenParents, RelationPhase};
 pub use phases::{Chosen, NodePhase, WayPhase};

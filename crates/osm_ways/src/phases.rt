@@ -7,10 +7,10 @@ ghost use Rattle.osm_entity.specs.Views.{node_of, way_of};
 ghost use Rattle.osm_box.specs.BoundingBox.{is_inside};
 ghost use Rattle.osm_ways.specs.Selection.{is_kept_way, a_node};
 ghost use Rattle.osm_ways.specs.Seen.{seen_node, seen_way};
-ghost use Rattle.osm_ways.specs.Phases.{start_nodes, start_ways, node_step, way_step};
+ghost use Rattle.osm_ways.specs.Phases.{start_nodes, start_ways, node_step, way_step, sets_of};
 
 use osm_entity::{BoundingBox, NodeRef, WayRef};
-use osm_ids::{IdSet, Lookup, SealedIds};
+use osm_ids::{IdLookup, IdSet, SealedIds};
 use std::alloc::{AllocError, Global};
 use std::marker::Model;
 
@@ -102,11 +102,11 @@ impl NodePhase {
 /// The second phase, which takes ways: the ids of the box's nodes, of all nodes that are kept, and of the ways that are kept.
 #[derive(Drop)]
 pub struct WayPhase {
-    box_ids: SealedIds,
+    pub(crate) box_ids: SealedIds,
     /// The refs of kept ways that aren't nodes of the box.
-    refs: IdSet,
-    way_ids: IdSet,
-    alloc: Global,
+    pub(crate) refs: IdSet,
+    pub(crate) way_ids: IdSet,
+    pub(crate) alloc: Global,
 }
 
 impl Model for WayPhase {
@@ -135,11 +135,7 @@ impl WayPhase {
         ensures { OnOk result (self.new ≡ way_step self.old (seen_way (way_of way.now))) }
     {
         let mut known = self.box_ids.lookup();
-        if is_kept_by(&mut known, way) {
-            add_refs(&mut known, &mut self.refs, way)?;
-            self.way_ids.add(way.id())?;
-        }
-        Ok(())
+        add_way(&mut known, &mut self.refs, &mut self.way_ids, way)
     }
 
     /// All ways are taken.
@@ -178,8 +174,8 @@ pub(crate) fn sealed(ids: IdSet) -> Result<SealedIds, AllocError>
 }
 
 /// Whether one of the way's refs is among the ids.
-pub(crate) fn is_kept_by(ids: &mut Lookup<'_>, way: &WayRef<'_>) -> bool
-    ensures kept { result ≡ is_kept_way (set.contains ids.old) (way_of way.now).refs }
+pub(crate) fn is_kept_by<I: IdLookup>(ids: &mut I, way: &WayRef<'_>) -> bool
+    ensures kept { result ≡ is_kept_way (set.contains (I.ids ids.old)) (way_of way.now).refs }
     ensures same { ids.new ≡ ids.old }
 {
     for id in way.refs() {
@@ -191,15 +187,37 @@ pub(crate) fn is_kept_by(ids: &mut Lookup<'_>, way: &WayRef<'_>) -> bool
 }
 
 /// Adds all refs of the way that aren't known to the ids.
-fn add_refs(known: &mut Lookup<'_>, ids: &mut IdSet, way: &WayRef<'_>) -> Result<(), AllocError>
-    ensures { OnOk result (set.union known.old ids.new
-        ≡ fold set.insert (set.union known.old ids.old) (way_of way.now).refs) }
+fn add_refs<I: IdLookup>(
+    known: &mut I,
+    ids: &mut IdSet,
+    way: &WayRef<'_>,
+) -> Result<(), AllocError>
+    ensures refs { OnOk result (set.union (I.ids known.old) ids.new
+        ≡ fold set.insert (set.union (I.ids known.old) ids.old) (way_of way.now).refs) }
+    ensures same { OnOk result (known.new ≡ known.old) }
 {
     for id in way.refs() {
         if known.has(id) {
             continue;
         }
         ids.add(id)?;
+    }
+    Ok(())
+}
+
+/// Adds a way with a ref among the box's nodes: its id, and all its refs, of which those that are known take no memory.
+pub(crate) fn add_way<I: IdLookup>(
+    known: &mut I,
+    refs: &mut IdSet,
+    way_ids: &mut IdSet,
+    way: &WayRef<'_>,
+) -> Result<(), AllocError>
+    ensures { OnOk result (sets_of (I.ids known.old) refs.new way_ids.new
+        ≡ way_step (sets_of (I.ids known.old) refs.old way_ids.old) (seen_way (way_of way.now))) }
+{
+    if is_kept_by(known, way) {
+        add_refs(known, refs, way)?;
+        way_ids.add(way.id())?;
     }
     Ok(())
 }

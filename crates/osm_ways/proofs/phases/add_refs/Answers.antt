@@ -9,14 +9,14 @@ use Rattle.osm_ways.proofs.Shown.{union-insert, insert_known}
 use Rattle.osm_ways.proofs.phases.add_refs.Goals as goal
 
 pub loop-id-preserved-then-has : goal.loop-id-preserved-then-has
-loop-id-preserved-then-has c =
+loop-id-preserved-then-has g c =
     let l = c.loop-id in
-    let known = c.args.known.now in
+    let known = g.I.IdLookup.ids c.args.known.now in
     let id = c.in-Some.id in
     let rest = refs_left c.next.new.self in
     let fits : SFits w64 id = search rules in
     let turn : refs_left l.id-iterator ≡ id ∷ rest = c.in-Some.ensures.steps in
-    let here : set.contains known id ≡ true = ap (λ (s : Ids). set.contains s id) (sym l.invariant.same) ∙ ap (set.contains l.known) (sym (to_z-of_z w64 id fits)) ∙ sym c.has.ensures.found ∙ c.if-has.true in
+    let here : set.contains known id ≡ true = ap (λ k. set.contains (g.I.IdLookup.ids k) id) (sym l.invariant.same) ∙ ap (set.contains (g.I.IdLookup.ids l.known)) (sym (to_z-of_z w64 id fits)) ∙ sym c.has.ensures.found ∙ c.if-has.true in
     record {
       can = tt;
       ends = tt;
@@ -25,9 +25,9 @@ loop-id-preserved-then-has c =
     }
 
 pub loop-id-preserved : goal.loop-id-preserved
-loop-id-preserved c =
+loop-id-preserved g c =
     let l = c.loop-id in
-    let known = c.args.known.now in
+    let known = g.I.IdLookup.ids c.args.known.now in
     let id = c.in-Some.id in
     let rest = refs_left c.next.new.self in
     let fits : SFits w64 id = search rules in

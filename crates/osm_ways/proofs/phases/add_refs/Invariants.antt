@@ -7,9 +7,9 @@ use Rattle.osm_ways.proofs.phases.add_refs.Given as goal
 
 -- the ids so far and the refs that are left are all
 abbrev pub invariant-loop-id : goal.invariant-loop-id
-invariant-loop-id l = record {
-  can : (goal.iterator-loop-id).can_next l.id-iterator;
-  ends : (goal.iterator-loop-id).is_finite l.id-iterator;
+invariant-loop-id g l = record {
+  can : (goal.iterator-loop-id g).can_next l.id-iterator;
+  ends : (goal.iterator-loop-id g).is_finite l.id-iterator;
   same : l.known ≡ l.fn.known;
-  so_far : fold set.insert (set.union l.fn.known l.ids) (refs_left l.id-iterator) ≡ fold set.insert (set.union l.fn.known l.fn.ids) (way_of l.way).refs;
+  so_far : fold set.insert (set.union (g.I.IdLookup.ids l.fn.known) l.ids) (refs_left l.id-iterator) ≡ fold set.insert (set.union (g.I.IdLookup.ids l.fn.known) l.fn.ids) (way_of l.way).refs;
 }

@@ -7,9 +7,9 @@ use Rattle.osm_ways.proofs.phases.is_kept_by.Given as goal
 
 -- the refs that are left tell
 abbrev pub invariant-loop-id : goal.invariant-loop-id
-invariant-loop-id l = record {
-  can : (goal.iterator-loop-id).can_next l.id-iterator;
-  ends : (goal.iterator-loop-id).is_finite l.id-iterator;
+invariant-loop-id g l = record {
+  can : (goal.iterator-loop-id g).can_next l.id-iterator;
+  ends : (goal.iterator-loop-id g).is_finite l.id-iterator;
   same : l.ids ≡ l.fn.ids;
-  left : list_any (set.contains l.fn.ids) (refs_left l.id-iterator) ≡ list_any (set.contains l.fn.ids) (way_of l.way).refs;
+  left : list_any (set.contains (g.I.IdLookup.ids l.fn.ids)) (refs_left l.id-iterator) ≡ list_any (set.contains (g.I.IdLookup.ids l.fn.ids)) (way_of l.way).refs;
 }

@@ -1,0 +1,117 @@
+-- Nodes and ways in one pass: the sets are those of the two passes, where no node comes behind a way.
+use Rattle.std.proofs.Common.{◌≡◌, Bool, true, false, ◌&&◌, not, cond, List, [], ◌∷◌, refl, sym, ap, ap₂, ◌∙◌, true≢false}
+use Rattle.std.specs.List.{fold}
+use Rattle.std.specs.FinSet as set
+use Rattle.osm_ways.specs.Selection.{Seen, a_node, a_way, a_relation, is_kept_way}
+use Rattle.osm_ways.specs.Phases.{Ids, WaySets, sets_of, start_ways, node_step, way_step, node_pass, way_pass}
+use Rattle.osm_ways.specs.First.{FirstSets, IsWayless, start_first, before_node, first_step, first_pass}
+use Rattle.osm_ways.proofs.Shown.{shown_start}
+use Rattle.osm_box.specs.declared.bounding_box.BoundingBox.{BoundingBox}
+
+-- ---- the nodes
+
+box_ids-way : (sets : WaySets) (s : Seen) → (way_step sets s).box_ids ≡ sets.box_ids
+box_ids-way sets (a_node id inside) = refl
+box_ids-way sets (a_way id refs) = elim (is_kept_way (set.contains sets.box_ids) refs) as (λ b. (cond b (record sets { node_ids = fold set.insert sets.node_ids refs; way_ids = set.insert sets.way_ids id }) sets).box_ids ≡ sets.box_ids) [ true ↦ refl | false ↦ refl ]
+box_ids-way sets (a_relation id members) = refl
+
+box_ids-if : (b : Bool) (sets : WaySets) (s : Seen) → (cond b (way_step sets s) sets).box_ids ≡ sets.box_ids
+box_ids-if true sets s = box_ids-way sets s
+box_ids-if false sets s = refl
+
+pub nodes_in_first : (sets : FirstSets) (seen : List Seen) → (fold first_step sets seen).ways.box_ids ≡ fold node_step sets.ways.box_ids seen
+nodes_in_first sets [] = refl
+nodes_in_first sets (a_node id inside ∷ seen) = nodes_in_first (first_step sets (a_node id inside)) seen
+nodes_in_first sets (a_way id refs ∷ seen) = nodes_in_first (first_step sets (a_way id refs)) seen ∙ ap (λ (ids : Ids). fold node_step ids seen) (box_ids-if sets.in_order sets.ways (a_way id refs))
+nodes_in_first sets (a_relation id members ∷ seen) = nodes_in_first sets seen
+
+-- ---- the ways
+
+-- a node came behind a way
+abbrev broken : BoundingBox → Bool → Ids → FirstSets
+broken area has_ways ids = record { area = area; has_ways = has_ways; in_order = false; ways = start_ways ids }
+
+pub broken_stays : (area : BoundingBox) (has_ways : Bool) (ids : Ids) (seen : List Seen) → ((fold first_step (broken area has_ways ids) seen).in_order ≡ false) × ((fold first_step (broken area has_ways ids) seen).ways ≡ start_ways (fold node_step ids seen))
+broken_stays area has_ways ids [] = (refl, refl)
+broken_stays area has_ways ids (a_node id inside ∷ seen) = broken_stays area has_ways (node_step ids (a_node id inside)) seen
+broken_stays area has_ways ids (a_way id refs ∷ seen) = broken_stays area true ids seen
+broken_stays area has_ways ids (a_relation id members ∷ seen) = broken_stays area has_ways ids seen
+
+-- ways were met, and no node behind one
+abbrev going : BoundingBox → WaySets → FirstSets
+going area ways = record { area = area; has_ways = true; in_order = true; ways = ways }
+
+pub going_on : (area : BoundingBox) (ways : WaySets) (ids : Ids) (seen : List Seen) → (fold first_step (going area ways) seen).in_order ≡ true → ((fold first_step (going area ways) seen).ways ≡ fold way_step ways seen) × (fold node_step ids seen ≡ ids)
+going_on area ways ids [] e = (refl, refl)
+going_on area ways ids (a_node id inside ∷ seen) e = absurd (true≢false (sym e ∙ (broken_stays area true (node_step ways.box_ids (a_node id inside)) seen).0))
+going_on area ways ids (a_way id refs ∷ seen) e = going_on area (way_step ways (a_way id refs)) ids seen e
+going_on area ways ids (a_relation id members ∷ seen) e = going_on area ways ids seen e
+
+-- no way was met
+abbrev fresh : BoundingBox → Ids → FirstSets
+fresh area ids = record { area = area; has_ways = false; in_order = true; ways = start_ways ids }
+
+fresh_on : (area : BoundingBox) (ids : Ids) (seen : List Seen) → (fold first_step (fresh area ids) seen).in_order ≡ true → (fold first_step (fresh area ids) seen).ways ≡ fold way_step (start_ways (fold node_step ids seen)) seen
+fresh_on area ids [] e = refl
+fresh_on area ids (a_node id inside ∷ seen) e = fresh_on area (node_step ids (a_node id inside)) seen e
+fresh_on area ids (a_way id refs ∷ seen) e =
+    let on = going_on area (way_step (start_ways ids) (a_way id refs)) ids seen e in
+    on.0 ∙ ap (λ (ids : Ids). fold way_step (way_step (start_ways ids) (a_way id refs)) seen) (sym on.1)
+fresh_on area ids (a_relation id members ∷ seen) e = fresh_on area ids seen e
+
+-- ---- the whole list
+
+pub first_in_order : (area : BoundingBox) (seen : List Seen) → (first_pass area seen).in_order ≡ true → (first_pass area seen).ways ≡ way_pass seen
+first_in_order area seen e = fresh_on area set.empty seen e
+
+going_broken : (area : BoundingBox) (ways : WaySets) (seen : List Seen) → (fold first_step (going area ways) seen).in_order ≡ false → (fold first_step (going area ways) seen).ways ≡ start_ways (fold node_step ways.box_ids seen)
+going_broken area ways [] e = absurd (true≢false e)
+going_broken area ways (a_node id inside ∷ seen) e = (broken_stays area true (node_step ways.box_ids (a_node id inside)) seen).1
+going_broken area ways (a_way id refs ∷ seen) e = going_broken area (way_step ways (a_way id refs)) seen e ∙ ap (λ (ids : Ids). start_ways (fold node_step ids seen)) (box_ids-way ways (a_way id refs))
+going_broken area ways (a_relation id members ∷ seen) e = going_broken area ways seen e
+
+fresh_broken : (area : BoundingBox) (ids : Ids) (seen : List Seen) → (fold first_step (fresh area ids) seen).in_order ≡ false → (fold first_step (fresh area ids) seen).ways ≡ start_ways (fold node_step ids seen)
+fresh_broken area ids [] e = absurd (true≢false e)
+fresh_broken area ids (a_node id inside ∷ seen) e = fresh_broken area (node_step ids (a_node id inside)) seen e
+fresh_broken area ids (a_way id refs ∷ seen) e = going_broken area (way_step (start_ways ids) (a_way id refs)) seen e ∙ ap (λ (ids : Ids). start_ways (fold node_step ids seen)) (box_ids-way (start_ways ids) (a_way id refs))
+fresh_broken area ids (a_relation id members ∷ seen) e = fresh_broken area ids seen e
+
+pub first_broken : (area : BoundingBox) (seen : List Seen) → (first_pass area seen).in_order ≡ false → (first_pass area seen).ways ≡ start_ways (node_pass seen)
+first_broken area seen e = fresh_broken area set.empty seen e
+
+-- ---- what the phase's fields show
+
+pub wayless : (h o : Bool) → (h && (o && not h)) ≡ false
+wayless true true = refl
+wayless true false = refl
+wayless false o = refl
+
+abbrev first_of : BoundingBox → Bool → Bool → WaySets → FirstSets
+first_of area h o ways = record { area = area; has_ways = h; in_order = o; ways = ways }
+
+pub fresh_first : (area : BoundingBox) (box refs ways : Ids) → box ≡ set.empty → refs ≡ set.empty → ways ≡ set.empty → first_of area false true (sets_of box refs ways) ≡ start_first area
+fresh_first area box refs ways e f g = ap (λ (w : WaySets). first_of area false true w) (shown_start set.empty box refs ways e f g)
+
+and_true : (b : Bool) → b ≡ (b && true)
+and_true true = refl
+and_true false = refl
+
+-- there is nothing to forget
+pub before_same : (area : BoundingBox) (h o : Bool) (box refs ways : Ids) → IsWayless h o refs ways → (h && o) ≡ false → first_of area h o (sets_of box refs ways) ≡ before_node (first_of area h o (sets_of box refs ways))
+before_same area true true box refs ways none e = absurd (true≢false e)
+before_same area true false box refs ways none e = ap (λ (w : WaySets). first_of area true false w) (shown_start box box refs ways refl (none e).0 (none e).1)
+before_same area false o box refs ways none e = ap (λ (w : WaySets). first_of area false o w) (shown_start box box refs ways refl (none e).0 (none e).1) ∙ ap (λ b. first_of area false b (start_ways box)) (and_true o)
+
+pub before_new : (area : BoundingBox) (h o : Bool) (box refs ways new newer : Ids) → h ≡ true → new ≡ set.empty → newer ≡ set.empty → first_of area h false (sets_of box new newer) ≡ before_node (first_of area h o (sets_of box refs ways))
+before_new area h o box refs ways new newer e f g =
+    ap (λ (w : WaySets). first_of area h false w) (shown_start box box new newer refl f g) ∙ ap (λ b. first_of area h b (start_ways box)) (sym (and_false o) ∙ ap (λ b. o && not b) (sym e)) where
+  and_false : (b : Bool) → (b && false) ≡ false
+  and_false true = refl
+  and_false false = refl
+
+-- a node of the box is added
+pub placed : (now : FirstSets) (area : BoundingBox) (h o : Bool) (box refs ways new all : Ids) → first_of area h o (sets_of box refs ways) ≡ before_node now → IsWayless h o refs ways → new ≡ all → first_of area h o (sets_of new refs ways) ≡ record (before_node now) { ways = start_ways all }
+placed now area h o box refs ways new all same none is =
+    let w = none (ap₂ (λ (a b : Bool). a && b) (ap (λ (s : FirstSets). s.has_ways) same) (ap (λ (s : FirstSets). s.in_order) same) ∙ wayless now.has_ways now.in_order) in
+    ap (λ (w : WaySets). first_of area h o w) (shown_start all new refs ways is w.0 w.1)
+    ∙ ap (λ (s : FirstSets). record s { ways = start_ways all }) same
