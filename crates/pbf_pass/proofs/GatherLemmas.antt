@@ -5,13 +5,14 @@ use Rattle.std.specs.List.{fold}
 use Rattle.std.proofs.lemmas.List.Sums.{fold-append}
 use Rattle.osm_entity.specs.Entity.{NodeSpec, EntitySpec, node}
 use Rattle.osm_ways.specs.Phases.{NodeSets, WaySets, RelationSets}
+use Rattle.osm_ways.specs.First.{FirstSets}
 use Rattle.pbf_dense.specs.Places.{place_of}
 use Rattle.pbf_block.specs.declared.kinds.Kinds.{Kinds}
 use Rattle.pbf_block.specs.Kinds.{is_among}
 use Rattle.pbf_block.specs.Runs.{joined_runs}
 use Rattle.pbf_frame.specs.Frames.{FrameSpec}
 use Rattle.pbf_pass.specs.Counting.{stored_entities, frame_entities}
-use Rattle.pbf_pass.specs.Pass.{as_it_was, with_node, with_place, with_way, with_relation}
+use Rattle.pbf_pass.specs.Pass.{as_it_was, with_node, with_place, with_first, with_first_place, with_way, with_relation}
 use Rattle.pbf_pass.proofs.CountLemmas.{stored_one}
 
 -- one frame more is gathered
@@ -47,6 +48,10 @@ gathered_run gathered before now all run left rest is step so_far =
 pub places_gathered : (sets : NodeSets) (ns : List NodeSpec) → fold with_place sets (map place_of ns) ≡ fold with_node sets (map node ns)
 places_gathered sets [] = refl
 places_gathered sets (n ∷ ns) = places_gathered (with_node sets (node n)) ns
+
+pub first_places : (sets : FirstSets) (ns : List NodeSpec) → fold with_first_place sets (map place_of ns) ≡ fold with_first sets (map node ns)
+first_places sets [] = refl
+first_places sets (n ∷ ns) = first_places (with_first sets (node n)) ns
 
 -- where nodes don't matter
 pub nodes_left_out : {S : Type 0} (s : S) (ns : List NodeSpec) → s ≡ fold as_it_was s (map node ns)

@@ -7,6 +7,7 @@ use Rattle.osm_box.specs.BoundingBox.{is_inside}
 use Rattle.pbf_dense.specs.declared.places.Place.{Place}
 use Rattle.osm_ways.specs.Selection.{a_node}
 use Rattle.osm_ways.specs.Phases.{NodeSets, WaySets, RelationSets, node_step, way_step, relation_step}
+use Rattle.osm_ways.specs.First.{FirstSets, first_step}
 use Rattle.osm_ways.specs.Seen.{seen_node, seen_way, seen_relation}
 use Rattle.pbf_header.specs.Header.{HeaderSpec, header_of, header_in}
 use Rattle.pbf_block.specs.declared.counts.Counts.{Counts}
@@ -73,6 +74,15 @@ with_node sets _ = sets
 -- the same of a node's id and place alone
 abbrev pub with_place : NodeSets → Place → NodeSets
 with_place sets p = record { area = sets.area; box_ids = node_step sets.box_ids (a_node p.id (is_inside sets.area p.lat p.lon)) }
+
+-- and the ways that are kept besides, as long as no node comes behind a way
+abbrev pub with_first : FirstSets → EntitySpec → FirstSets
+with_first sets (node n) = first_step sets (seen_node sets.area n)
+with_first sets (way w) = first_step sets (seen_way w)
+with_first sets (relation r) = sets
+
+abbrev pub with_first_place : FirstSets → Place → FirstSets
+with_first_place sets p = first_step sets (a_node p.id (is_inside sets.area p.lat p.lon))
 
 -- the ways that are kept, and their refs
 abbrev pub with_way : WaySets → EntitySpec → WaySets

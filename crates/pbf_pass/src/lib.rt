@@ -3,6 +3,7 @@
 
 mod again;
 mod checking;
+mod first;
 mod hashed;
 mod header_limit;
 mod pass;
@@ -18,5 +19,5 @@ pub use pass::{
     step_relations, step_ways,
 };
 pub use pbf_block::Counts;
-pub use receipt::{Halt, InputReceipt, Receipt, Refusal};
+pub use receipt::{Halt, InputReceipt, Refusal};
 pub use visit::{FileRead, Visit, pass_over, step, visit_rest};

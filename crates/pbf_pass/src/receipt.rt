@@ -15,19 +15,8 @@ use std::alloc::AllocError;
 pub struct InputReceipt {
     /// The numbers of the entities.
     pub counts: Counts,
-    /// The digest of the bytes that the feed gave; where a call has several feeds, of those that each of them gave.
+    /// The digest of the bytes that the feed gave; where a call has several feeds, of those that each of them gave that was read.
     pub input: [u8; 32],
-}
-
-/// What a call that writes reports: how many entities, and the SHA-256 digests of its input and of its output.
-#[derive(Clone, Copy, Debug)]
-pub struct Receipt {
-    /// The numbers of the entities.
-    pub counts: Counts,
-    /// The digest of the bytes that each of the feeds gave.
-    pub input: [u8; 32],
-    /// The digest of the bytes that the drain took.
-    pub output: [u8; 32],
 }
 
 /// The refusal of an input, with what was read of it.

@@ -1,5 +1,5 @@
 -- A file's extract, from what its passes say.
-use Rattle.std.proofs.Common.{◌≡◌, ◌⊎◌, inr, ℕ, ℤ, ◌≤◌, ◌<◌, ◌^◌, rules, length, List, [], ◌∷◌, map, Bor, Bool, Option, Some, None, subst, refl, sym, ap, ◌∙◌}
+use Rattle.std.proofs.Common.{◌≡◌, ◌⊎◌, inl, inr, ℕ, ℤ, ◌≤◌, ◌<◌, ◌^◌, rules, length, List, [], ◌∷◌, map, Bor, Bool, true, false, Option, Some, None, subst, refl, sym, ap, ◌∙◌}
 use Rattle.std.specs.FinSet as set
 use Rattle.std.specs.List.{fold, filter}
 use Rattle.std.specs.Option.{option_map}
@@ -15,12 +15,15 @@ use Rattle.osm_ways.specs.declared.parents.ChosenParents.{ChosenParents}
 use Rattle.osm_ids.specs.Links.{IsLeast}
 use Rattle.osm_ways.specs.Parents.{keeps_with_parents}
 use Rattle.osm_ways.specs.Phases.{NodeSets, WaySets, RelationSets, ParentSets, node_step, way_step, relation_step, start_nodes, start_ways, start_relations, node_pass, way_pass, relation_pass, is_chosen, is_chosen_with_parents}
+use Rattle.osm_ways.specs.First.{FirstSets, start_first, first_step}
+use Rattle.osm_ways.proofs.FirstLemmas.{first_in_order, first_broken}
 use Rattle.osm_ways.specs.Seen.{seen_entity}
 use Rattle.osm_ways.specs.Selection.{Seen, keeps}
 use Rattle.osm_ways.proofs.Passes.{chosen_is_kept, chosen_with_parents}
 use Rattle.osm_pack.specs.Cuts.{written_file}
 use Rattle.pbf_header.specs.Header.{HeaderSpec}
 use Rattle.pbf_header.specs.WrittenHeader.{header_out_for_box, edges_of, EdgesTyped}
+use Rattle.pbf_frame.specs.declared.device.Feed as feed
 use Rattle.pbf_frame.specs.declared.stop.Stop.{Stop}
 use Rattle.pbf_frame.specs.declared.stop.Stop.TheVariants as stop
 use Rattle.pbf_frame.specs.Devices.{IsFront}
@@ -30,17 +33,17 @@ use Rattle.pbf_frame.proofs.Parting.{none_some}
 use Rattle.pbf_block.specs.declared.counts.Counts.{Counts}
 use Rattle.pbf_pass.specs.declared.pass.Pass.{Pass}
 use Rattle.pbfcut.specs.declared.pick.Selection.TheVariants as selection
-use Rattle.pbf_pass.specs.HeaderLimit.{header_limit, judged_writable, held_header}
+use Rattle.pbf_pass.specs.HeaderLimit.{IsShort, header_limit, judged_writable, held_header}
 use Rattle.pbf_pass.specs.Counting.{counts_of, stored_entities}
-use Rattle.pbfcut.specs.Calls.{Differ, ChangedIn, ChangedBefore, RefusedFirst, ConvertStops, ExtractStops, ParentsStops}
+use Rattle.pbfcut.specs.Calls.{GaveOrNot, Differ, ChangedIn, ChangedBefore, RefusedFirst, ConvertStops, ExtractStops, ParentsStops}
 use Rattle.pbfcut.specs.Theorem.{IsExtraction}
-use Rattle.pbfcut.specs.Extracting.{Choice, complete_ways, all_parents, extraction, extract_bytes, Chooses, ChoosesParents}
+use Rattle.pbfcut.specs.Extracting.{Choice, complete_ways, all_parents, extraction, extract_bytes, Chooses, ChoosesParents, IsChoice}
 use Rattle.pbfcut.specs.Kept.{verdict_on, extract_of, IsWritable}
-use Rattle.pbf_pass.proofs.GivenLemmas.{IsDigest}
+use Rattle.pbf_pass.proofs.GivenLemmas.{Tells, IsDigest, tells_file, gave_file_less}
 use Rattle.pbfcut.proofs.KeptLaw.{IsSelection, IsKeptExtract, same_verdict, extract_kept}
-use Rattle.pbf_pass.specs.Pass.{with_node, with_way, with_relation, TakesFile, file_header}
+use Rattle.pbf_pass.specs.Pass.{with_node, with_first, with_way, with_relation, TakesFile, file_header}
 use Rattle.pbfcut.specs.declared.repeat.Repeat.{Repeat}
-use Rattle.pbfcut.specs.Repeat.{Unlike, StopsAgain, SameDigest}
+use Rattle.pbfcut.specs.Repeat.{Unlike, GathersRest, StopsAgain, SameDigest}
 use Rattle.pbf_pass.specs.Stops.{Caused}
 use Rattle.pbf_pass.specs.Again.{GathersFile}
 use Rattle.pbf_pass.specs.Judged.{judged_file}
@@ -261,3 +264,84 @@ chooses_parents area first second third ways h begun relations sets chosen start
   kept = kept;
   least = least;
 }
+
+-- ---- where the second pass may be spared
+
+first_folded : (sets : FirstSets) (es : List EntitySpec) → fold with_first sets es ≡ fold first_step sets (map (seen_entity sets.area) es)
+first_folded sets [] = refl
+first_folded sets (node n ∷ es) = first_folded (with_first sets (node n)) es
+first_folded sets (way w ∷ es) = first_folded (with_first sets (way w)) es
+first_folded sets (relation r ∷ es) = first_folded sets es
+
+-- the nodes of a list, as the first pass of two gathers them
+abbrev nodes_of : BoundingBox → List EntitySpec → WaySets
+nodes_of area es = start_ways (fold with_node (start_nodes area) es).box_ids
+
+ways_came : (area : BoundingBox) (es : List EntitySpec) → (fold with_first (start_first area) es).in_order ≡ true → (fold with_first (start_first area) es).ways ≡ fold with_way (nodes_of area es) es
+ways_came area es e =
+    let folded = first_folded (start_first area) es in
+    ap (λ (s : FirstSets). s.ways) folded
+    ∙ first_in_order area (map (seen_entity area) es) (ap (λ (s : FirstSets). s.in_order) (sym folded) ∙ e)
+    ∙ sym (sets_are area es)
+
+ways_wait : (area : BoundingBox) (es : List EntitySpec) → (fold with_first (start_first area) es).in_order ≡ false → (fold with_first (start_first area) es).ways ≡ nodes_of area es
+ways_wait area es e =
+    let folded = first_folded (start_first area) es in
+    ap (λ (s : FirstSets). s.ways) folded
+    ∙ first_broken area (map (seen_entity area) es) (ap (λ (s : FirstSets). s.in_order) (sym folded) ∙ e)
+    ∙ ap start_ways (sym (nodes_folded (start_nodes area) es))
+
+same_frames : (b : List ℕ) (one two : List FrameSpec) → judged_file (Some b) ≡ Some (one, None) → judged_file (Some b) ≡ Some (two, None) → one ≡ two
+same_frames b one two e f = let same : ◌≡◌ {A = Option Verdict} (Some (one, None)) (Some (two, None)) = sym e ∙ f in parted same where
+  parted : ◌≡◌ {A = Option Verdict} (Some (one, None)) (Some (two, None)) → one ≡ two
+  parted same = let pair : ◌≡◌ {A = Verdict} (one, None) (two, None) = cc in ap (λ (v : Verdict). v.0) pair
+
+module _ {G : Type 0} (f : feed.Ghosts G) (old new : G) (digest : List ℕ) where
+  -- what holds of the file that a later feed gave, or of the one before, is told
+  pub gave_or_not : (file : List ℕ) (holds : List ℕ → Type 0) (told : Type 0) → ((c : List ℕ) → holds c → told) → GaveOrNot f old new digest file holds → told
+  gave_or_not file holds told step (inl given) = step given.file given.holding
+  gave_or_not file holds told step (inr none) = step file none.1
+
+  pub gave_or_less : (file : List ℕ) (holds less : List ℕ → Type 0) → ((c : List ℕ) → holds c → less c) → GaveOrNot f old new digest file holds → GaveOrNot f old new digest file less
+  gave_or_less file holds less step (inl given) = inl (gave_file_less f old new digest holds less step given)
+  gave_or_less file holds less step (inr none) = inr (none.0, step file none.1)
+
+  -- of feeds that report the same bytes
+  pub told_or_not : (first : Option (List ℕ)) (file b : List ℕ) (holds : List ℕ → Type 0) → Tells first file → first ≡ Some b → f.remaining old ≡ Some b → GaveOrNot f old new digest file holds → holds b
+  told_or_not first file b holds tells is also (inl given) = subst holds (tells_file f old new digest holds given b also) given.holding
+  told_or_not first file b holds tells is also (inr none) = subst holds (tells b is) none.1
+
+-- what the first pass took, and a second one where the order was broken
+module _ {G : Type 0} (f : feed.Ghosts G) (old new : G) (digest : List ℕ) (area : BoundingBox) (b : List ℕ) (pass : Pass) (header h : HeaderSpec) (begun phase : FirstSets) (started ways sets : WaySets) where
+  pub chooses_first : (in_order : Bool) → TakesFile with_first (judged_file (Some b)) begun phase pass → begun ≡ start_first area → held_header pass ≡ Some (pass.header_at, header) → header_limit (held_header pass) ≡ None → h ≡ header_out_for_box area header → IsShort h
+      → in_order ≡ phase.in_order → started ≡ phase.ways → GathersRest f with_way in_order old new digest started ways → sets ≡ ways → GaveOrNot f old new digest b (λ c. IsChoice area b c sets h)
+  chooses_first true p fresh held within is short order starts rest ends =
+      let told = held_is (file_header p.frames) pass p.header in
+      let es = stored_entities p.frames in
+      let taken : phase ≡ fold with_first (start_first area) es = p.gathered_all ∙ ap (λ (s : FirstSets). fold with_first s es) fresh in
+      let came = ways_came area es (ap (λ (s : FirstSets). s.in_order) (sym taken) ∙ sym order) in
+      inr (rest.0, record {
+        chosen = record {
+          frames = p.frames;
+          judged = p.says;
+          within = ap header_limit (sym told) ∙ within;
+          header = ap (λ (o : Option (ℕ × HeaderSpec)). option_map (λ p. header_out_for_box area p.1) o) (sym told ∙ held) ∙ ap (λ (g : HeaderSpec). Some g) (sym is);
+          chosen = λ frames known. ends ∙ rest.1 ∙ starts ∙ ap (λ (s : FirstSets). s.ways) taken ∙ came ∙ ap (λ (l : List FrameSpec). fold with_way (nodes_of area es) (stored_entities l)) (same_frames b p.frames frames (known_says b (p.frames, None) p.says) known);
+        };
+        short = short;
+      })
+  chooses_first false p fresh held within is short order starts rest ends =
+      let told = held_is (file_header p.frames) pass p.header in
+      let es = stored_entities p.frames in
+      let taken : phase ≡ fold with_first (start_first area) es = p.gathered_all ∙ ap (λ (s : FirstSets). fold with_first s es) fresh in
+      let wait = ways_wait area es (ap (λ (s : FirstSets). s.in_order) (sym taken) ∙ sym order) in
+      inl (gave_file_less f old new digest (λ file. GathersFile with_way (judged_file (Some file)) started ways) (λ c. IsChoice area b c sets h) (λ c more. record {
+        chosen = record {
+          frames = p.frames;
+          judged = p.says;
+          within = ap header_limit (sym told) ∙ within;
+          header = ap (λ (o : Option (ℕ × HeaderSpec)). option_map (λ p. header_out_for_box area p.1) o) (sym told ∙ held) ∙ ap (λ (g : HeaderSpec). Some g) (sym is);
+          chosen = λ frames known. ends ∙ more frames known ∙ ap (λ (s : WaySets). fold with_way s (stored_entities frames)) (starts ∙ ap (λ (s : FirstSets). s.ways) taken ∙ wait);
+        };
+        short = short;
+      }) rest)

@@ -1,8 +1,10 @@
 -- What the feeds of `convert` and `extract` supply, and why a call stops.
 use Rattle.std.specs.Prelude.{◌≡◌, ◌⊎◌, ℕ, List, Option, Some}
 use Rattle.pbf_wire.specs.declared.fault.Fault.{Fault}
+use Rattle.pbf_frame.specs.declared.device.Feed as feed
 use Rattle.pbf_frame.specs.declared.stop.Stop.{Stop}
 use Rattle.pbf_frame.specs.Verdict.{Verdict}
+use Rattle.pbf_pass.specs.Given.{GaveFile}
 use Rattle.pbf_pass.specs.HeaderLimit.{judged_writable}
 use Rattle.pbf_pass.specs.Stops.{Caused, FaultOf}
 
@@ -19,6 +21,10 @@ AllSupply b first second third = (first ≡ Some b) × (second ≡ Some b) × (t
 -- each of four feeds does
 abbrev pub FourSupply : List ℕ → Option (List ℕ) → Option (List ℕ) → Option (List ℕ) → Option (List ℕ) → Type 0
 FourSupply b first second third fourth = (first ≡ Some b) × (second ≡ Some b) × (third ≡ Some b) × (fourth ≡ Some b)
+
+-- a later feed gave a file of this digest, and this holds of it; or nothing was read of it, and this holds of the file before
+abbrev pub GaveOrNot : {F : Type 0} → feed.Ghosts F → (old new : F) → (digest file : List ℕ) → (List ℕ → Type 0) → Type 0
+GaveOrNot f old new digest file holds = GaveFile f old new digest holds ⊎ ((new ≡ old) × holds file)
 
 -- ---- why a call stops
 

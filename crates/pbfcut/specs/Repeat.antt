@@ -1,10 +1,14 @@
 -- Passes behind the first one: their bytes have to have its digest.
-use Rattle.std.specs.Prelude.{◌≡◌, ℕ, List, Option, Some, None}
+use Rattle.std.specs.Prelude.{◌≡◌, ℕ, List, Bool, true, false, Option, Some, None}
 use Rattle.sha2.specs.Sha256.{sha256}
+use Rattle.osm_entity.specs.Entity.{EntitySpec}
+use Rattle.pbf_frame.specs.declared.device.Feed as feed
 use Rattle.pbf_frame.specs.declared.stop.Stop.{Stop}
 use Rattle.pbf_frame.specs.declared.stop.Stop.TheVariants.{Refused, Read, Write, Memory, Changed}
 use Rattle.pbf_frame.specs.Frames.{FrameSpec}
 use Rattle.pbfcut.specs.declared.repeat.Repeat.{Repeat}
+use Rattle.pbf_pass.specs.Again.{GathersFile}
+use Rattle.pbf_pass.specs.Given.{GaveFile}
 use Rattle.pbf_pass.specs.Judged.{judged_file}
 use Rattle.pbf_pass.specs.Stops.{Caused}
 
@@ -27,3 +31,8 @@ as_change number (Changed pass) = Changed pass
 -- where the bytes of the first feed are known, those of the other have their digest
 abbrev pub SameDigest : Option (List ℕ) → Option (List ℕ) → Type 0
 SameDigest first other = (b c : List ℕ) → first ≡ Some b → other ≡ Some c → sha256 b ≡ sha256 c
+
+-- the entities of a whole file of this digest were gathered, if it has no fault; or none were left, and nothing was read
+abbrev pub GathersRest : {F S : Type 0} → feed.Ghosts F → (S → EntitySpec → S) → Bool → (old new : F) → List ℕ → (before now : S) → Type 0
+GathersRest f gathered true old new digest before now = (new ≡ old) × (now ≡ before)
+GathersRest f gathered false old new digest before now = GaveFile f old new digest (λ file. GathersFile gathered (judged_file (Some file)) before now)

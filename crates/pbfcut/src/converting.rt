@@ -6,7 +6,7 @@ ghost use Rattle.pbfcut.specs.Calls.{BothSupply, ConvertStops};
 ghost use Rattle.pbfcut.specs.Theorem.{Converted, IsConverted, Promised, Canonical};
 ghost use Rattle.pbfcut.specs.Converting.{CanBeWritten};
 ghost use Rattle.pbf_pass.specs.HeaderLimit.{judged_writable};
-ghost use Rattle.pbf_pass.specs.Given.{GaveFile, Took, TookFile};
+ghost use Rattle.pbf_pass.specs.Given.{GaveFile, Took};
 ghost use Rattle.pbfcut.specs.Kept.{IsWritable, conversion_of};
 ghost use Rattle.pbf_pass.specs.Refused.{HaltsFile, stop_of};
 ghost use Rattle.pbfcut.specs.Repeat.{SameDigest};
@@ -17,7 +17,7 @@ use crate::repeat::Repeat;
 use crate::write::Writing;
 use pbf_block::Counts;
 use pbf_frame::{Drain, Feed, Stop};
-use pbf_pass::{Halt, HashedDrain, InputReceipt, Nothing, Receipt, judge, writable_header};
+use pbf_pass::{Halt, InputReceipt, Nothing, judge, writable_header};
 use std::alloc::Global;
 use std::hash::BuildHasher;
 
@@ -54,23 +54,23 @@ pub fn convert<F: Feed, G: Feed, D: Drain, S: BuildHasher + Drop>(
         (ReadFailed F.Feed first.old first.new ⊎ ReadFailed G.Feed second.old second.new)
         (WriteFailed D.Drain drain.old drain.new)) }
 {
-    Ok(convert_file(alloc, first, second, drain, hasher)?.counts)
+    Ok(convert_with_receipt(alloc, first, second, drain, hasher)?.counts)
 }
 
-/// As [`convert`], and reports the digests of what was read and of what was written, whether the devices report their bytes or not.
+/// As [`convert`], and reports the digest of what was read, whether the devices report their bytes or not. That of what was written a
+/// [`pbf_pass::HashedDrain`] tells: see [`crate::laws::hashed_drain_took`].
 pub fn convert_with_receipt<F: Feed, G: Feed, D: Drain, S: BuildHasher + Drop>(
     alloc: Global,
     first: &mut F,
     second: &mut G,
     drain: &mut D,
     hasher: S,
-) -> Result<Receipt, Halt>
+) -> Result<InputReceipt, Halt>
     // Each feed gave a file of the digest `input`, to its end; the first has no fault, and its header can be written. The drain took
-    // bytes of the digest `output`. Where both files are one, these bytes are exactly its conversion, and the counts are its.
+    // bytes. Where both files are one, these bytes are exactly its conversion, and the counts are its.
     ensures receipt { IfOk result (λ receipt. GaveFile F.Feed first.old first.new receipt.input
         (λ b. IsWritable b
-        × GaveFile G.Feed second.old second.new receipt.input
-        (λ c. TookFile D.Drain drain.old drain.new receipt.output
+        × GaveFile G.Feed second.old second.new receipt.input (λ c. Took D.Drain drain.old drain.new
         (λ written. b ≡ c → IsConverted b receipt.counts written)))) }
     // The first feed gave as many bytes of this digest, the fault is the first of whatever begins so, and the drain took nothing.
     ensures refused { IfErr result (HaltsFile F.Feed first.old first.new
@@ -80,41 +80,6 @@ pub fn convert_with_receipt<F: Feed, G: Feed, D: Drain, S: BuildHasher + Drop>(
         (ReadFailed F.Feed first.old first.new ⊎ ReadFailed G.Feed second.old second.new)
         (WriteFailed D.Drain drain.old drain.new) (stop_of h)) }
     // Whatever stopped it, where both feeds supply these bytes a prefix of their conversion went out, and nothing where they have a fault.
-    ensures beginning { OnErr result ((b : List ℕ)
-        → BothSupply b (F.remaining first.old) (G.remaining second.old)
-        → IsFront (D.taken drain.old) (D.taken drain.new) (conversion_of b)) }
-{
-    let mut hashed = HashedDrain::new(&mut *drain);
-    let outcome = convert_file(alloc, first, second, &mut hashed, hasher);
-    let output = hashed.digest();
-    // What is known of the drain comes back with the reference itself.
-    let _drain = hashed.into_inner();
-    let InputReceipt { counts, input } = outcome?;
-    Ok(Receipt {
-        counts,
-        input,
-        output,
-    })
-}
-
-/// The work of [`convert`].
-fn convert_file<F: Feed, G: Feed, D: Drain, S: BuildHasher + Drop>(
-    alloc: Global,
-    first: &mut F,
-    second: &mut G,
-    drain: &mut D,
-    hasher: S,
-) -> Result<InputReceipt, Halt>
-    ensures given { IfOk result (λ receipt. GaveFile F.Feed first.old first.new receipt.input
-        (λ b. IsWritable b
-        × GaveFile G.Feed second.old second.new receipt.input (λ c. Took D.Drain drain.old drain.new
-        (λ written. b ≡ c → IsConverted b receipt.counts written)))) }
-    ensures refused { IfErr result (HaltsFile F.Feed first.old first.new
-        D.Drain drain.old drain.new (λ b. judged_writable (Some b))) }
-    ensures stops { IfErr result (λ h. ConvertStops (F.remaining first.old) (G.remaining second.old)
-        (D.taken drain.old) (D.taken drain.new)
-        (ReadFailed F.Feed first.old first.new ⊎ ReadFailed G.Feed second.old second.new)
-        (WriteFailed D.Drain drain.old drain.new) (stop_of h)) }
     ensures beginning { OnErr result ((b : List ℕ)
         → BothSupply b (F.remaining first.old) (G.remaining second.old)
         → IsFront (D.taken drain.old) (D.taken drain.new) (conversion_of b)) }

@@ -11,7 +11,7 @@ ghost use Rattle.pbfcut.specs.Theorem.{Extracted, IsExtraction, Promised, Canoni
 ghost use Rattle.pbfcut.specs.Converting.{CanBeWritten};
 ghost use Rattle.pbf_pass.specs.HeaderLimit.{judged_writable};
 ghost use Rattle.pbfcut.specs.Extracting.{complete_ways, all_parents, IsChoice, IsChoiceWithParents};
-ghost use Rattle.pbf_pass.specs.Given.{GaveFile, Took, TookFile};
+ghost use Rattle.pbf_pass.specs.Given.{GaveFile, Took};
 ghost use Rattle.pbfcut.specs.Kept.{IsWritable, extract_of};
 ghost use Rattle.pbf_pass.specs.Refused.{RefusesFile, Halts, HaltsFile, stop_of};
 ghost use Rattle.pbfcut.specs.Repeat.{SameDigest};
@@ -25,7 +25,7 @@ use osm_ways::{Chosen, ChosenParents, NodePhase};
 use pbf_block::Counts;
 use pbf_frame::{Drain, Feed, Stop};
 use pbf_header::Header;
-use pbf_pass::{Halt, HashedDrain, InputReceipt, Receipt, judge, writable_header};
+use pbf_pass::{Halt, InputReceipt, judge, writable_header};
 use std::alloc::Global;
 use std::hash::BuildHasher;
 
@@ -122,10 +122,11 @@ pub fn extract<F: Feed, G: Feed, H: Feed, D: Drain, S: BuildHasher + Drop>(
         ⊎ (ReadFailed G.Feed second.old second.new ⊎ ReadFailed H.Feed third.old third.new))
         (WriteFailed D.Drain drain.old drain.new)) }
 {
-    Ok(extract_file(alloc, first, second, third, area, drain, hasher)?.counts)
+    Ok(extract_with_receipt(alloc, first, second, third, area, drain, hasher)?.counts)
 }
 
-/// As [`extract`], and reports the digests of what was read and of what was written, whether the devices report their bytes or not.
+/// As [`extract`], and reports the digest of what was read, whether the devices report their bytes or not. That of what was written a
+/// [`HashedDrain`] tells: see [`crate::laws::hashed_drain_took`].
 pub fn extract_with_receipt<F: Feed, G: Feed, H: Feed, D: Drain, S: BuildHasher + Drop>(
     alloc: Global,
     first: &mut F,
@@ -134,15 +135,14 @@ pub fn extract_with_receipt<F: Feed, G: Feed, H: Feed, D: Drain, S: BuildHasher 
     area: BoundingBox,
     drain: &mut D,
     hasher: S,
-) -> Result<Receipt, Halt>
+) -> Result<InputReceipt, Halt>
     // Each feed gave a file of the digest `input`, to its end; the first has no fault, and its header can be written. The drain took
-    // bytes of the digest `output`. Where the files are one, these bytes are exactly its complete-ways extract, and the counts are
-    // those of the entities in it.
+    // bytes. Where the files are one, these bytes are exactly its complete-ways extract, and the counts are those of the entities in it.
     ensures receipt { IfOk result (λ receipt. GaveFile F.Feed first.old first.new receipt.input
         (λ b. IsWritable b
         × GaveFile G.Feed second.old second.new receipt.input
         (λ c. GaveFile H.Feed third.old third.new receipt.input (λ d.
-        TookFile D.Drain drain.old drain.new receipt.output
+        Took D.Drain drain.old drain.new
         (λ written. b ≡ c → b ≡ d → IsExtraction (complete_ways area) (extract (seen_decoded area))
         area b receipt.counts written))))) }
     // The first feed gave as many bytes of this digest, the fault is the first of whatever begins so, and the drain took nothing.
@@ -154,48 +154,6 @@ pub fn extract_with_receipt<F: Feed, G: Feed, H: Feed, D: Drain, S: BuildHasher 
         ⊎ (ReadFailed G.Feed second.old second.new ⊎ ReadFailed H.Feed third.old third.new))
         (WriteFailed D.Drain drain.old drain.new) (stop_of h)) }
     // Whatever stopped it, where all feeds supply these bytes a prefix of the answer went out, and nothing where they have a fault.
-    ensures beginning { OnErr result ((b : List ℕ)
-        → AllSupply b (F.remaining first.old) (G.remaining second.old) (H.remaining third.old)
-        → IsFront (D.taken drain.old) (D.taken drain.new)
-        (extract_of (complete_ways area) area b)) }
-{
-    let mut hashed = HashedDrain::new(&mut *drain);
-    let outcome = extract_file(alloc, first, second, third, area, &mut hashed, hasher);
-    let output = hashed.digest();
-    // What is known of the drain comes back with the reference itself.
-    let _drain = hashed.into_inner();
-    let InputReceipt { counts, input } = outcome?;
-    Ok(Receipt {
-        counts,
-        input,
-        output,
-    })
-}
-
-/// The work of [`extract`].
-fn extract_file<F: Feed, G: Feed, H: Feed, D: Drain, S: BuildHasher + Drop>(
-    alloc: Global,
-    first: &mut F,
-    second: &mut G,
-    third: &mut H,
-    area: BoundingBox,
-    drain: &mut D,
-    hasher: S,
-) -> Result<InputReceipt, Halt>
-    ensures given { IfOk result (λ receipt. GaveFile F.Feed first.old first.new receipt.input
-        (λ b. IsWritable b
-        × GaveFile G.Feed second.old second.new receipt.input
-        (λ c. GaveFile H.Feed third.old third.new receipt.input (λ d.
-        Took D.Drain drain.old drain.new
-        (λ written. b ≡ c → b ≡ d → IsExtraction (complete_ways area) (extract (seen_decoded area))
-        area b receipt.counts written))))) }
-    ensures refused { IfErr result (HaltsFile F.Feed first.old first.new
-        D.Drain drain.old drain.new (λ b. judged_writable (Some b))) }
-    ensures stops { IfErr result (λ h. ExtractStops (F.remaining first.old) (G.remaining second.old)
-        (H.remaining third.old) (D.taken drain.old) (D.taken drain.new)
-        (ReadFailed F.Feed first.old first.new
-        ⊎ (ReadFailed G.Feed second.old second.new ⊎ ReadFailed H.Feed third.old third.new))
-        (WriteFailed D.Drain drain.old drain.new) (stop_of h)) }
     ensures beginning { OnErr result ((b : List ℕ)
         → AllSupply b (F.remaining first.old) (G.remaining second.old) (H.remaining third.old)
         → IsFront (D.taken drain.old) (D.taken drain.new)
@@ -291,11 +249,10 @@ pub fn extract_parents<F: Feed, G: Feed, H: Feed, I: Feed, D: Drain, S: BuildHas
         ⊎ ReadFailed I.Feed fourth.old fourth.new)
         (WriteFailed D.Drain drain.old drain.new)) }
 {
-    Ok(extract_file_with_parents(alloc, first, second, third, fourth, area, drain, hasher)?.counts)
+    Ok(extract_parents_with_receipt(alloc, first, second, third, fourth, area, drain, hasher)?.counts)
 }
 
-/// As [`extract_parents`], and reports the digests of what was read and of what was written, whether the devices report their bytes
-/// or not.
+/// As [`extract_parents`], and reports the digest of what was read, as [`extract_with_receipt`] does.
 pub fn extract_parents_with_receipt<
     F: Feed,
     G: Feed,
@@ -312,16 +269,14 @@ pub fn extract_parents_with_receipt<
     area: BoundingBox,
     drain: &mut D,
     hasher: S,
-) -> Result<Receipt, Halt>
+) -> Result<InputReceipt, Halt>
     // Each feed gave a file of the digest `input`, to its end; the first has no fault, and its header can be written. The drain took
-    // bytes of the digest `output`. Where the files are one, these bytes are exactly its complete-ways extract with all parents, and
-    // the counts are those of the entities in it.
+    // bytes. Where the files are one, these bytes are exactly its complete-ways extract with all parents, and the counts are those of the entities in it.
     ensures receipt { IfOk result (λ receipt. GaveFile F.Feed first.old first.new receipt.input
         (λ b. IsWritable b
         × GaveFile G.Feed second.old second.new receipt.input
         (λ c. GaveFile H.Feed third.old third.new receipt.input (λ d.
-        GaveFile I.Feed fourth.old fourth.new receipt.input
-        (λ e. TookFile D.Drain drain.old drain.new receipt.output
+        GaveFile I.Feed fourth.old fourth.new receipt.input (λ e. Took D.Drain drain.old drain.new
         (λ written. b ≡ c → b ≡ d → b ≡ e → IsExtraction (all_parents area)
         (extract_with_parents (seen_decoded area)) area b receipt.counts written)))))) }
     // The first feed gave as many bytes of this digest, the fault is the first of whatever begins so, and the drain took nothing.
@@ -334,59 +289,6 @@ pub fn extract_parents_with_receipt<
         ⊎ ReadFailed I.Feed fourth.old fourth.new)
         (WriteFailed D.Drain drain.old drain.new) (stop_of h)) }
     // Whatever stopped it, where all feeds supply these bytes a prefix of the answer went out, and nothing where they have a fault.
-    ensures beginning { OnErr result ((b : List ℕ)
-        → FourSupply b (F.remaining first.old) (G.remaining second.old) (H.remaining third.old)
-        (I.remaining fourth.old)
-        → IsFront (D.taken drain.old) (D.taken drain.new) (extract_of (all_parents area) area b)) }
-{
-    let mut hashed = HashedDrain::new(&mut *drain);
-    let outcome = extract_file_with_parents(
-        alloc,
-        first,
-        second,
-        third,
-        fourth,
-        area,
-        &mut hashed,
-        hasher,
-    );
-    let output = hashed.digest();
-    // What is known of the drain comes back with the reference itself.
-    let _drain = hashed.into_inner();
-    let InputReceipt { counts, input } = outcome?;
-    Ok(Receipt {
-        counts,
-        input,
-        output,
-    })
-}
-
-/// The work of [`extract_parents`].
-fn extract_file_with_parents<F: Feed, G: Feed, H: Feed, I: Feed, D: Drain, S: BuildHasher + Drop>(
-    alloc: Global,
-    first: &mut F,
-    second: &mut G,
-    third: &mut H,
-    fourth: &mut I,
-    area: BoundingBox,
-    drain: &mut D,
-    hasher: S,
-) -> Result<InputReceipt, Halt>
-    ensures given { IfOk result (λ receipt. GaveFile F.Feed first.old first.new receipt.input
-        (λ b. IsWritable b
-        × GaveFile G.Feed second.old second.new receipt.input
-        (λ c. GaveFile H.Feed third.old third.new receipt.input (λ d.
-        GaveFile I.Feed fourth.old fourth.new receipt.input (λ e. Took D.Drain drain.old drain.new
-        (λ written. b ≡ c → b ≡ d → b ≡ e → IsExtraction (all_parents area)
-        (extract_with_parents (seen_decoded area)) area b receipt.counts written)))))) }
-    ensures refused { IfErr result (HaltsFile F.Feed first.old first.new
-        D.Drain drain.old drain.new (λ b. judged_writable (Some b))) }
-    ensures stops { IfErr result (λ h. ParentsStops (F.remaining first.old) (G.remaining second.old)
-        (H.remaining third.old) (I.remaining fourth.old) (D.taken drain.old) (D.taken drain.new)
-        ((ReadFailed F.Feed first.old first.new
-        ⊎ (ReadFailed G.Feed second.old second.new ⊎ ReadFailed H.Feed third.old third.new))
-        ⊎ ReadFailed I.Feed fourth.old fourth.new)
-        (WriteFailed D.Drain drain.old drain.new) (stop_of h)) }
     ensures beginning { OnErr result ((b : List ℕ)
         → FourSupply b (F.remaining first.old) (G.remaining second.old) (H.remaining third.old)
         (I.remaining fourth.old)

@@ -1,7 +1,7 @@
 //! The laws of whole files that are written. Each is the contract of a function that does nothing: a proof that needs the law calls
 //! it, or takes the lemma of that name from this crate's `proofs/`.
 
-ghost use Rattle.std.specs.Prelude.{◌≡◌, ℕ, ◌+◌, ◌^◌, ◌≤◌, List, length, Some, None};
+ghost use Rattle.std.specs.Prelude.{◌≡◌, ℕ, [], ◌+◌, ◌^◌, ◌≤◌, List, length, Some, None};
 ghost use Rattle.std.specs.List.{AllByRecursion};
 ghost use Rattle.std.specs.Option.{option_map};
 ghost use Rattle.pbf_wire.specs.Least.{least_by};
@@ -16,15 +16,22 @@ ghost use Rattle.pbf_header.specs.Header.{HeaderSpec};
 ghost use Rattle.pbf_header.specs.declared.write.TheConstants.{MOST_HEADER_TEXT};
 ghost use Rattle.pbf_header.specs.WrittenHeader.{HeaderFits, header_out_for_convert};
 ghost use Rattle.pbf_frame.specs.Frames.{FrameSpec};
+ghost use Rattle.pbf_frame.specs.Transfers.{Added};
 ghost use Rattle.pbf_pass.specs.Counting.{stored_entities};
 ghost use Rattle.pbfcut.specs.Extracting.{complete_ways, all_parents};
 ghost use Rattle.pbfcut.specs.FileFaults.{file_faults, file_rank};
 ghost use Rattle.pbf_pass.specs.Judged.{judged_file};
 ghost use Rattle.pbfcut.specs.Kept.{IsWritable, conversion_of, extract_of};
 ghost use Rattle.pbfcut.specs.Theorem.{IsConversion, IsExtract};
+ghost use Rattle.pbf_pass.specs.declared.hashed.HashedDrain.{HashedDrain};
+ghost use Rattle.pbf_pass.specs.Given.{Took, TookFile};
 ghost use Rattle.pbf_pass.specs.Pass.{file_header};
+ghost use Rattle.sha2.specs.Sha256.{sha256};
 
 use osm_entity::BoundingBox;
+use pbf_frame::Drain;
+use pbf_pass::HashedDrain;
+use sha2::{Digest, Sha256};
 
 /// The fault that a file is refused for is the least of all its faults as one set: by the place of the frame, then by phase,
 /// then by offset, by the reason's number and by the field that is missing.
@@ -77,4 +84,16 @@ pub fn file_extracted_with_parents_is_kept(area: BoundingBox)
         → length (extract_of (all_parents area) area file) ≤ 2 ^ 62
         → extract_of (all_parents area) area (extract_of (all_parents area) area file)
         ≡ extract_of (all_parents area) area file }
+{}
+
+/// What a call says that a hashing drain took, or that it took nothing, holds of the drain below too, with the digest that the hashing drain answers: so through such a
+/// drain the receipt of a call is joined by the digest of what was written.
+pub fn hashed_drain_took<D: Drain>()
+    ensures took { (old : D) (fresh new : HashedDrain D) (digest : List ℕ)
+        (holds : List ℕ → Type 0) → fresh.drain ≡ old → ⟦<Sha256 as Digest>⟧.holds fresh.hasher []
+        → ((b : List ℕ) → ⟦<Sha256 as Digest>⟧.holds new.hasher b → digest ≡ sha256 b)
+        → Took ⟦<HashedDrain<D> as Drain>⟧ fresh new holds
+        → TookFile D.Drain old new.drain digest holds }
+    ensures nothing { (old : D) (fresh new : HashedDrain D) → fresh.drain ≡ old
+        → Added ⟦<HashedDrain<D> as Drain>⟧ fresh [] new → Added D.Drain old [] new.drain }
 {}

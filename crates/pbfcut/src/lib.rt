@@ -16,7 +16,7 @@ pub use extracting::{
     extract, extract_parents, extract_parents_with_receipt, extract_with_receipt,
 };
 pub use pbf_pass::{
-    Counts, Gather, Halt, InputReceipt, Nothing, Pass, Receipt, Refusal, check, check_with_receipt,
+    Counts, Gather, Halt, InputReceipt, Nothing, Pass, Refusal, check, check_with_receipt,
     gather_again, step_again, step_count, step_gather, step_nodes, step_relations, step_ways,
 };
 pub use pick::{Selection, step_pack, step_write, step_write_parents};

@@ -9,7 +9,7 @@ ghost use Rattle.pbf_pass.specs.Given.{GaveFile, Took};
 ghost use Rattle.pbfcut.specs.Pick.{pick_of};
 ghost use Rattle.pbf_pass.specs.HeaderLimit.{IsShort};
 ghost use Rattle.pbf_pass.specs.Stops.{KeepsDrain, ReadFailed, WriteFailed};
-ghost use Rattle.pbfcut.specs.Repeat.{StopsAgain, as_change};
+ghost use Rattle.pbfcut.specs.Repeat.{GathersRest, StopsAgain, as_change};
 ghost use Rattle.pbfcut.specs.Write.{Packed, PacksFront};
 
 use crate::write::{Writing, write};
@@ -69,6 +69,25 @@ impl Repeat {
             Ok(digest) => self.compare(digest),
             Err(stop) => Err(self.changed(stop)),
         }
+    }
+
+    /// The same; or nothing, where all was gathered in the first pass.
+    pub(crate) fn gather_rest<F: Feed, G: Gather>(
+        self,
+        alloc: Global,
+        feed: &mut F,
+        gathering: &mut G,
+        is_done: bool,
+    ) -> Result<(), Stop>
+        ensures gathered { OnOk result (GathersRest F.Feed G.gathered is_done feed.old feed.new
+            self.digest gathering.old gathering.new) }
+        ensures stops { IfErr result (StopsAgain self (F.remaining feed.old)
+            (ReadFailed F.Feed feed.old feed.new) ⊥) }
+    {
+        if is_done {
+            return Ok(());
+        }
+        self.gather(alloc, feed, gathering)
     }
 
     /// Writes a header and what is picked of a whole file.

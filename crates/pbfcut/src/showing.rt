@@ -11,7 +11,7 @@ ghost use Rattle.osm_text.specs.HeaderText.{header_text};
 ghost use Rattle.pbf_frame.specs.Devices.{IsFront};
 ghost use Rattle.pbf_frame.specs.Transfers.{Added};
 ghost use Rattle.pbfcut.specs.Calls.{RefusedFirst, ChangedIn};
-ghost use Rattle.pbf_pass.specs.Given.{GaveFile, Took, TookFile};
+ghost use Rattle.pbf_pass.specs.Given.{GaveFile, Took};
 ghost use Rattle.pbf_pass.specs.Judged.{judged_file};
 ghost use Rattle.pbf_pass.specs.Pass.{CountsFile};
 ghost use Rattle.pbf_pass.specs.Payload.{primitive_block, lent_by};
@@ -26,7 +26,7 @@ use osm_text::{put_entity, put_header};
 use pbf_block::{Block, Counts, Entities};
 use pbf_frame::{Drain, Feed, Frame, FrameKind, Stop, write_all};
 use pbf_header::Header;
-use pbf_pass::{Halt, HashedDrain, InputReceipt, Nothing, Receipt, Visit, judge, pass_over};
+use pbf_pass::{Halt, InputReceipt, Nothing, Visit, judge, pass_over};
 use std::alloc::Global;
 
 /// Writes the line of an entity, which is put together in `text`.
@@ -219,61 +219,25 @@ pub fn show<F: Feed, G: Feed, D: Drain>(
         → ShowsFront dates (judged_file (F.remaining first.old))
         (D.taken drain.old) (D.taken drain.new)) }
 {
-    Ok(show_file(alloc, first, second, drain, dates)?.counts)
+    Ok(show_with_receipt(alloc, first, second, drain, dates)?.counts)
 }
 
-/// As [`show`], and reports the digests of what was read and of the text, whether the devices report their bytes or not.
+/// As [`show`], and reports the digest of what was read, whether the devices report their bytes or not. That of the text a
+/// [`pbf_pass::HashedDrain`] tells: see [`crate::laws::hashed_drain_took`].
 pub fn show_with_receipt<F: Feed, G: Feed, D: Drain>(
     alloc: Global,
     first: &mut F,
     second: &mut G,
     drain: &mut D,
     dates: bool,
-) -> Result<Receipt, Halt>
+) -> Result<InputReceipt, Halt>
     // Each feed gave a file of the digest `input`, to its end. The first has no fault, and the counts are those of its entities. The
-    // drain took bytes of the digest `output`: exactly the text of the second, which has no fault.
+    // drain took exactly the text of the second, which has no fault.
     ensures receipt { IfOk result (λ receipt. GaveFile F.Feed first.old first.new receipt.input
         (λ b. CountsFile (judged_file (Some b)) receipt.counts
         × GaveFile G.Feed second.old second.new receipt.input
-        (λ c. TookFile D.Drain drain.old drain.new receipt.output
-        (Shown dates (judged_file (Some c)))))) }
-    // The first feed gave as many bytes of this digest, the fault is the first of whatever begins so, and the drain took nothing.
-    ensures refused { IfErr result (HaltsFile F.Feed first.old first.new
-        D.Drain drain.old drain.new (λ b. judged_file (Some b))) }
-    ensures stops { IfErr result (λ h. Caused (RefusedFirst (judged_file (F.remaining first.old))
-        (D.taken drain.old) (D.taken drain.new))
-        (ReadFailed F.Feed first.old first.new ⊎ ReadFailed G.Feed second.old second.new)
-        (WriteFailed D.Drain drain.old drain.new)
-        (ChangedIn 2 (F.remaining first.old) (G.remaining second.old)) (stop_of h)) }
-    ensures beginning { OnErr result (F.remaining first.old ≡ G.remaining second.old
-        → ShowsFront dates (judged_file (F.remaining first.old))
-        (D.taken drain.old) (D.taken drain.new)) }
-{
-    let mut hashed = HashedDrain::new(&mut *drain);
-    let outcome = show_file(alloc, first, second, &mut hashed, dates);
-    let output = hashed.digest();
-    // What is known of the drain comes back with the reference itself.
-    let _drain = hashed.into_inner();
-    let InputReceipt { counts, input } = outcome?;
-    Ok(Receipt {
-        counts,
-        input,
-        output,
-    })
-}
-
-/// The work of [`show`].
-fn show_file<F: Feed, G: Feed, D: Drain>(
-    alloc: Global,
-    first: &mut F,
-    second: &mut G,
-    drain: &mut D,
-    dates: bool,
-) -> Result<InputReceipt, Halt>
-    ensures given { IfOk result (λ receipt. GaveFile F.Feed first.old first.new receipt.input
-        (λ b. CountsFile (judged_file (Some b)) receipt.counts
-        × GaveFile G.Feed second.old second.new receipt.input
         (λ c. Took D.Drain drain.old drain.new (Shown dates (judged_file (Some c)))))) }
+    // The first feed gave as many bytes of this digest, the fault is the first of whatever begins so, and the drain took nothing.
     ensures refused { IfErr result (HaltsFile F.Feed first.old first.new
         D.Drain drain.old drain.new (λ b. judged_file (Some b))) }
     ensures stops { IfErr result (λ h. Caused

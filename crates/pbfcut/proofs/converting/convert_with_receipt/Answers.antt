@@ -1,40 +1,93 @@
-use Rattle.std.proofs.Common.{zero, suc, [], rules}
+use Rattle.std.proofs.Common.{◌⊎◌, List, ℕ, Some, ap, sym, inr, refl}
 use Rattle.std.proofs.lemmas.Result.{err_from_is_err_and}
-use Rattle.pbf_frame.proofs.Passed.{added_as}
-use Rattle.pbf_pass.proofs.HaltingLemmas.{halts_below}
+use Rattle.pbf_header.specs.Header.{header_of}
+use Rattle.pbfcut.specs.Calls.{RefusedFirst, ChangedIn}
+use Rattle.pbf_pass.specs.HeaderLimit.{header_limit, held_header, judged_writable}
+use Rattle.pbf_pass.specs.Judged.{judged_file}
+use Rattle.pbf_pass.specs.Pass.{as_it_was}
+use Rattle.pbf_pass.specs.Stops.{Only, unchanged, ReadFailed, WriteFailed}
+use Rattle.pbfcut.proofs.ConvertingLemmas.{nothing_out, passed, passed_sound, converted, converts_front}
+use Rattle.pbf_pass.proofs.LimitLemmas.{limit_refused}
+use Rattle.pbfcut.proofs.ExtractingLemmas.{convert_stops, stops_earlier}
+use Rattle.pbf_pass.proofs.GivenLemmas.{tells_file, told_holds, told_digest, told_says, takes_told}
+use Rattle.pbf_pass.proofs.HaltingLemmas.{halts_first, halts_writing, limit_caused, limit_halts}
+use Rattle.pbfcut.proofs.RepeatLemmas.{no_refusal}
 use Rattle.pbfcut.proofs.converting.convert_with_receipt.Goals as goal
+
+pub returns-in_err-told-clause-refused : goal.returns-in_err-told-clause-refused
+returns-in_err-told-clause-refused g c =
+    let p = err_from_is_err_and c.from_residual.result c.from_residual.ensures.1 in
+    rw (p.1, p.2) (halts_first g.F.Feed _ _ g.D.Drain _ _ _ (halts_writing g.F.Feed _ _ _ c.in_err-told.ensures.refused))
+
+pub returns-in_err-writable_header-clause-refused : goal.returns-in_err-writable_header-clause-refused
+returns-in_err-writable_header-clause-refused g c =
+    let p = err_from_is_err_and c.from_residual-in_err-writable_header.result c.from_residual-in_err-writable_header.ensures.1 in
+    rw (p.1, p.2) (halts_first g.F.Feed _ _ g.D.Drain _ _ _ (limit_halts g.F.Feed _ _ as_it_was _ _ c.in_ok-told.told _ c.in_ok-told.ensures.judged c.in_err-writable_header.ensures.refused))
 
 pub returns-in_err-counts-clause-refused : goal.returns-in_err-counts-clause-refused
 returns-in_err-counts-clause-refused g c =
-    let p = err_from_is_err_and c.from_residual.result c.from_residual.ensures.1 in
-    rw (p.1, p.2) (halts_below g.F.Feed _ _ _ g.D.Drain _ _ _ _ _ _ (λ added. added_as g.D.Drain c.new-hashed.result.drain.now c.args.drain.now c.convert_file-outcome.new.drain.drain.now _ [] (search rules) (search rules) record {
-      told = added.told;
-      logged = λ log. added.logged (suc log);
-    }) c.in_err-counts.ensures.refused)
+    let p = err_from_is_err_and c.from_residual-in_err-counts.result c.from_residual-in_err-counts.ensures.1 in
+    rw (p.1, p.2) (no_refusal _ _ _ _ _ c.in_err-counts.ensures.stops)
+
+pub returns-in_err-writable_header-clause-stops : goal.returns-in_err-writable_header-clause-stops
+returns-in_err-writable_header-clause-stops g c =
+    let p = err_from_is_err_and c.from_residual-in_err-writable_header.result c.from_residual-in_err-writable_header.ensures.1 in
+    let one = c.in_ok-told.ensures.judged in
+    let first = g.F.Feed.remaining c.args.first.now in
+    let old = g.D.Drain.taken c.args.drain.now in
+    rw (p.1, p.2) (stops_earlier (Only (header_limit (held_header c.in_ok-told.told.pass))) (RefusedFirst (judged_writable first) old old) ⊥ _ _ unchanged (ChangedIn 2 first (g.G.Feed.remaining c.args.second.now)) _
+    (λ e limit. (limit_refused as_it_was _ _ _ _ e (takes_told as_it_was first one.file _ _ _ (tells_file g.F.Feed _ _ _ _ one) one.holding.1) limit, refl)) (λ r. absurd r) (λ pass h. absurd h) (limit_caused c.in_ok-told.told _ c.in_err-writable_header.ensures.refused))
+
+pub returns-in_err-writable_header-clause-beginning : goal.returns-in_err-writable_header-clause-beginning
+returns-in_err-writable_header-clause-beginning g c =
+    let p = err_from_is_err_and c.from_residual-in_err-writable_header.result c.from_residual-in_err-writable_header.ensures.1 in
+    rw p.1 (λ b supply. nothing_out _ _)
+
+pub returns-in_err-counts-clause-stops : goal.returns-in_err-counts-clause-stops
+returns-in_err-counts-clause-stops g c =
+    let p = err_from_is_err_and c.from_residual-in_err-counts.result c.from_residual-in_err-counts.ensures.1 in
+    let one = c.in_ok-told.ensures.judged in
+    let first = g.F.Feed.remaining c.args.first.now in
+    let second = g.G.Feed.remaining c.args.second.now in
+    let old = g.D.Drain.taken c.args.drain.now in
+    let new = g.D.Drain.taken c.write.new.drain in
+    let read = ReadFailed g.F.Feed c.args.first.now c.judge.new.feed ⊎ ReadFailed g.G.Feed c.args.second.now c.write.new.feed in
+    let later = ReadFailed g.G.Feed c.args.second.now c.write.new.feed in
+    let wrote = WriteFailed g.D.Drain c.args.drain.now c.write.new.drain in
+    rw (p.1, p.2) (convert_stops c.in_ok-told.told.digest first second old new one.holding.1.frames read later wrote _ (told_digest g.F.Feed _ _ _ _ one) (told_says g.F.Feed _ _ _ _ _ one one.holding.1.says) (λ r. inr r) c.in_err-counts.ensures.stops)
+
+pub returns-in_err-counts-clause-beginning : goal.returns-in_err-counts-clause-beginning
+returns-in_err-counts-clause-beginning g c =
+    let p = err_from_is_err_and c.from_residual-in_err-counts.result c.from_residual-in_err-counts.ensures.1 in
+    let pass = c.in_ok-told.told.pass in
+    let header = c.in_ok-writable_header in
+    let h = header_of header.field-0.now in
+    rw p.1 (λ b supply.
+    converts_front b pass h _ _ _ (ap judged_file supply.1) (passed as_it_was _ _ b pass h _ refl ((told_holds g.F.Feed _ _ _ _ b c.in_ok-told.ensures.judged supply.0).1) header.ensures.header header.ensures.within) c.in_err-counts.ensures.beginning)
 
 pub returns-clause-receipt : goal.returns-clause-receipt
 returns-clause-receipt g c =
-    let one = c.in_ok-counts.ensures.given in
-    let two = one.holding.1 in
+    let pass = c.in_ok-told.told.pass in
+    let header = c.in_ok-writable_header in
+    let h = header_of header.field-0.now in
+    let one = c.in_ok-told.ensures.judged in
+    let two = c.in_ok-counts.ensures.packed in
     let took = two.holding in
+    let p = passed as_it_was _ _ one.file pass h _ refl one.holding.1 header.ensures.header header.ensures.within in
     record {
       file = one.file;
       supplied = one.supplied;
       digest_is = one.digest_is;
       holding = (
-        one.holding.0,
+        passed_sound one.file pass h p,
         record {
           file = two.file;
           supplied = two.supplied;
           digest_is = two.digest_is;
           holding = record {
             written = took.written;
-            added = added_as g.D.Drain c.new-hashed.result.drain.now c.args.drain.now c.convert_file-outcome.new.drain.drain.now _ took.written (search rules) (search rules) record {
-              told = took.added.told;
-              logged = λ log. took.added.logged (suc log);
-            };
-            digest_is = c.digest-output.ensures.digest took.written (took.added.logged zero [] c.new-hashed.ensures.hasher);
-            holding = took.holding;
+            added = took.added;
+            holding = λ same. converted one.file pass h c.in_ok-counts.counts _ took.written (ap (λ (l : List ℕ). judged_file (Some l)) (sym same)) p took.holding;
           };
         },
       );

@@ -10,24 +10,24 @@ use Rattle.pbfcut.proofs.extracting.extract.Goals as goal
 
 pub returns-clause-judged : goal.returns-clause-judged
 returns-clause-judged g c =
-    let one = c.in_ok-extract_file.ensures.given in
+    let one = c.in_ok-extract_with_receipt.ensures.receipt in
     can_told _ one.file (tells_file g.F.Feed _ _ _ _ one) one.holding.0
 
 pub returns-clause-promise : goal.returns-clause-promise
 returns-clause-promise g c b supply =
     let area = c.args.area in
-    let counts = c.in_ok-extract_file.field-0.counts in
-    took_weaker g.D.Drain _ _ _ _ (λ written both. both.0) (took_of_three g.F.Feed g.G.Feed g.H.Feed g.D.Drain _ _ _ _ _ _ _ _ _ (λ file written. IsExtraction (complete_ways area) (λ meant. extract (seen_decoded area) meant) area file counts written) b c.in_ok-extract_file.ensures.given supply)
+    let counts = c.in_ok-extract_with_receipt.field-0.counts in
+    took_weaker g.D.Drain _ _ _ _ (λ written both. both.0) (took_of_three g.F.Feed g.G.Feed g.H.Feed g.D.Drain _ _ _ _ _ _ _ _ _ (λ file written. IsExtraction (complete_ways area) (λ meant. extract (seen_decoded area) meant) area file counts written) b c.in_ok-extract_with_receipt.ensures.receipt supply)
 
 pub returns-clause-canonical : goal.returns-clause-canonical
 returns-clause-canonical g c b supply =
     let area = c.args.area in
-    let counts = c.in_ok-extract_file.field-0.counts in
-    took_weaker g.D.Drain _ _ _ _ (λ written both. both.1) (took_of_three g.F.Feed g.G.Feed g.H.Feed g.D.Drain _ _ _ _ _ _ _ _ _ (λ file written. IsExtraction (complete_ways area) (λ meant. extract (seen_decoded area) meant) area file counts written) b c.in_ok-extract_file.ensures.given supply)
+    let counts = c.in_ok-extract_with_receipt.field-0.counts in
+    took_weaker g.D.Drain _ _ _ _ (λ written both. both.1) (took_of_three g.F.Feed g.G.Feed g.H.Feed g.D.Drain _ _ _ _ _ _ _ _ _ (λ file written. IsExtraction (complete_ways area) (λ meant. extract (seen_decoded area) meant) area file counts written) b c.in_ok-extract_with_receipt.ensures.receipt supply)
 
 pub returns-clause-digests : goal.returns-clause-digests
 returns-clause-digests g c =
-    let one = c.in_ok-extract_file.ensures.given in
+    let one = c.in_ok-extract_with_receipt.ensures.receipt in
     let two = one.holding.1 in
     let three = two.holding in (
       same_digest _ _ _ (told_digest g.F.Feed _ _ _ _ one) (told_digest g.G.Feed _ _ _ _ two),

@@ -1,53 +1,71 @@
-use Rattle.std.proofs.Common.{zero, suc, [], rules}
+use Rattle.std.proofs.Common.{◌⊎◌, List, ℕ, Some, ap, sym, inr, refl}
 use Rattle.std.proofs.lemmas.Result.{err_from_is_err_and}
-use Rattle.pbf_frame.proofs.Passed.{added_as}
-use Rattle.pbf_pass.proofs.HaltingLemmas.{halts_below}
+use Rattle.pbf_header.specs.Header.{header_of}
+use Rattle.osm_ways.specs.Seen.{seen_decoded}
+use Rattle.osm_ways.specs.Parents.{extract_with_parents}
+use Rattle.pbfcut.specs.Extracting.{all_parents}
+use Rattle.pbf_pass.specs.Judged.{judged_file}
+use Rattle.pbf_pass.specs.Stops.{ReadFailed, WriteFailed}
+use Rattle.pbfcut.proofs.ExtractingLemmas.{chosen_sound, edges_typed, selects_parents, extracted, extracts_front, parents_stops}
+use Rattle.pbf_pass.proofs.GivenLemmas.{tells_file, told_digest, told_says}
+use Rattle.pbfcut.proofs.KeptLaw.{all_parents_select}
+use Rattle.pbf_pass.proofs.HaltingLemmas.{halts_first}
+use Rattle.pbfcut.proofs.RepeatLemmas.{no_refusal}
 use Rattle.pbfcut.proofs.extracting.extract_parents_with_receipt.Goals as goal
+
+pub returns-in_err-choice-clause-refused : goal.returns-in_err-choice-clause-refused
+returns-in_err-choice-clause-refused g c =
+    let p = err_from_is_err_and c.from_residual.result c.from_residual.ensures.1 in
+    rw (p.1, p.2) (halts_first g.F.Feed _ _ g.D.Drain _ _ _ c.in_err-choice.ensures.refused)
 
 pub returns-in_err-counts-clause-refused : goal.returns-in_err-counts-clause-refused
 returns-in_err-counts-clause-refused g c =
-    let p = err_from_is_err_and c.from_residual.result c.from_residual.ensures.1 in
-    rw (p.1, p.2) (halts_below g.F.Feed _ _ _ g.D.Drain _ _ _ _ _ _ (λ added. added_as g.D.Drain c.new-hashed.result.drain.now c.args.drain.now c.extract_file_with_parents-outcome.new.drain.drain.now _ [] (search rules) (search rules) record {
-      told = added.told;
-      logged = λ log. added.logged (suc log);
-    }) c.in_err-counts.ensures.refused)
+    let p = err_from_is_err_and c.from_residual-in_err-counts.result c.from_residual-in_err-counts.ensures.1 in
+    rw (p.1, p.2) (no_refusal _ _ _ _ _ c.in_err-counts.ensures.stops)
+
+pub returns-in_err-counts-clause-stops : goal.returns-in_err-counts-clause-stops
+returns-in_err-counts-clause-stops g c =
+    let p = err_from_is_err_and c.from_residual-in_err-counts.result c.from_residual-in_err-counts.ensures.1 in
+    let one = c.in_ok-choice.ensures.chosen in
+    let two = one.holding in
+    let three = two.holding in
+    let choice = three.holding in
+    let first = g.F.Feed.remaining c.args.first.now in
+    let second = g.G.Feed.remaining c.args.second.now in
+    let old = g.D.Drain.taken c.args.drain.now in
+    let new = g.D.Drain.taken c.write.new.drain in
+    let third = g.H.Feed.remaining c.args.third.now in
+    let fourth = g.I.Feed.remaining c.args.fourth.now in
+    let earlier = ReadFailed g.F.Feed c.args.first.now c.choose_parents.new.first ⊎ (ReadFailed g.G.Feed c.args.second.now c.choose_parents.new.second ⊎ ReadFailed g.H.Feed c.args.third.now c.choose_parents.new.third) in
+    let read = earlier ⊎ ReadFailed g.I.Feed c.args.fourth.now c.write.new.feed in
+    let later = ReadFailed g.I.Feed c.args.fourth.now c.write.new.feed in
+    let wrote = WriteFailed g.D.Drain c.args.drain.now c.write.new.drain in
+    rw (p.1, p.2) (parents_stops c.in_ok-choice.choice.digest first second third fourth old new choice.chosen.chosen.frames read later wrote _ (told_digest g.F.Feed _ _ _ _ one) (told_says g.F.Feed _ _ _ _ _ one choice.chosen.chosen.judged) (λ r. inr r) c.in_err-counts.ensures.stops)
+
+pub returns-in_err-counts-clause-beginning : goal.returns-in_err-counts-clause-beginning
+returns-in_err-counts-clause-beginning g c =
+    let p = err_from_is_err_and c.from_residual-in_err-counts.result c.from_residual-in_err-counts.ensures.1 in
+    let area = c.args.area in
+    let w = c.well_formed.1.1.1.1.1.0.1.1 in
+    let edges = edges_typed area w.0.1 w.1.0.1 w.1.1.0.1 w.1.1.1.0.1 in
+    let h = header_of c.in_ok-choice.choice.header in
+    let one = c.in_ok-choice.ensures.chosen in
+    let two = one.holding in
+    let three = two.holding in
+    let choice = three.holding in
+    rw p.1 (λ b supply.
+    extracts_front (all_parents area) (λ meant. extract_with_parents (seen_decoded area) meant) (all_parents_select area) area edges b _ h (selects_parents _ area b _ _ _ h (ap (λ (l : List ℕ). judged_file (Some l)) (tells_file g.F.Feed _ _ _ _ one b supply.0)) (ap (λ (l : List ℕ). judged_file (Some l)) (tells_file g.G.Feed _ _ _ _ two b supply.1)) (ap (λ (l : List ℕ). judged_file (Some l)) (tells_file g.H.Feed _ _ _ _ three b supply.2)) choice.chosen) _ _ _ (ap judged_file supply.3) c.in_err-counts.ensures.beginning)
 
 pub returns-clause-receipt : goal.returns-clause-receipt
 returns-clause-receipt g c =
-    let one = c.in_ok-counts.ensures.given in
-    let two = one.holding.1 in
+    let area = c.args.area in
+    let w = c.well_formed.1.1.1.1.1.0.1.1 in
+    let edges = edges_typed area w.0.1 w.1.0.1 w.1.1.0.1 w.1.1.1.0.1 in
+    let h = header_of c.in_ok-choice.choice.header in
+    let one = c.in_ok-choice.ensures.chosen in
+    let two = one.holding in
     let three = two.holding in
-    let four = three.holding in
+    let choice = three.holding in
+    let four = c.in_ok-counts.ensures.packed in
     let took = four.holding in
-    record {
-      file = one.file;
-      supplied = one.supplied;
-      digest_is = one.digest_is;
-      holding = (
-        one.holding.0,
-        record {
-          file = two.file;
-          supplied = two.supplied;
-          digest_is = two.digest_is;
-          holding = record {
-            file = three.file;
-            supplied = three.supplied;
-            digest_is = three.digest_is;
-            holding = record {
-              file = four.file;
-              supplied = four.supplied;
-              digest_is = four.digest_is;
-              holding = record {
-                written = took.written;
-                added = added_as g.D.Drain c.new-hashed.result.drain.now c.args.drain.now c.extract_file_with_parents-outcome.new.drain.drain.now _ took.written (search rules) (search rules) record {
-                  told = took.added.told;
-                  logged = λ log. took.added.logged (suc log);
-                };
-                digest_is = c.digest-output.ensures.digest took.written (took.added.logged zero [] c.new-hashed.ensures.hasher);
-                holding = took.holding;
-              };
-            };
-          };
-        },
-      );
-    }
+    record { file = one.file; supplied = one.supplied; digest_is = one.digest_is; holding = (chosen_sound area one.file _ _ h choice.chosen.chosen, record { file = two.file; supplied = two.supplied; digest_is = two.digest_is; holding = record { file = three.file; supplied = three.supplied; digest_is = three.digest_is; holding = record { file = four.file; supplied = four.supplied; digest_is = four.digest_is; holding = record { written = took.written; added = took.added; holding = λ second third fourth. extracted (all_parents area) (λ meant. extract_with_parents (seen_decoded area) meant) (all_parents_select area) area edges one.file _ h (selects_parents _ area one.file _ _ _ h refl (ap (λ (l : List ℕ). judged_file (Some l)) (sym second)) (ap (λ (l : List ℕ). judged_file (Some l)) (sym third)) choice.chosen) c.in_ok-counts.counts _ took.written (ap (λ (l : List ℕ). judged_file (Some l)) (sym fourth)) took.holding } } } }) }

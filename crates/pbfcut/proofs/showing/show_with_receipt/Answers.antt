@@ -1,41 +1,15 @@
-use Rattle.std.proofs.Common.{zero, suc, [], rules}
+use Rattle.std.proofs.Common.{List, ℕ, Option, sym, subst}
 use Rattle.std.proofs.lemmas.Result.{err_from_is_err_and}
-use Rattle.pbf_frame.proofs.Passed.{added_as}
-use Rattle.pbf_pass.proofs.HaltingLemmas.{halts_below}
+use Rattle.pbf_pass.specs.Judged.{judged_file}
+use Rattle.pbfcut.specs.Showing.{ShowsFront}
+use Rattle.pbf_pass.proofs.GivenLemmas.{tells_file}
+use Rattle.pbfcut.proofs.ShowingLemmas.{shown_front, shown_told}
 use Rattle.pbfcut.proofs.showing.show_with_receipt.Goals as goal
 
-pub returns-in_err-counts-clause-refused : goal.returns-in_err-counts-clause-refused
-returns-in_err-counts-clause-refused g c =
-    let p = err_from_is_err_and c.from_residual.result c.from_residual.ensures.1 in
-    rw (p.1, p.2) (halts_below g.F.Feed _ _ _ g.D.Drain _ _ _ _ _ _ (λ added. added_as g.D.Drain c.new-hashed.result.drain.now c.args.drain.now c.show_file-outcome.new.drain.drain.now _ [] (search rules) (search rules) record {
-      told = added.told;
-      logged = λ log. added.logged (suc log);
-    }) c.in_err-counts.ensures.refused)
-
-pub returns-clause-receipt : goal.returns-clause-receipt
-returns-clause-receipt g c =
-    let one = c.in_ok-counts.ensures.given in
-    let two = one.holding.1 in
-    let took = two.holding in
-    record {
-      file = one.file;
-      supplied = one.supplied;
-      digest_is = one.digest_is;
-      holding = (
-        one.holding.0,
-        record {
-          file = two.file;
-          supplied = two.supplied;
-          digest_is = two.digest_is;
-          holding = record {
-            written = took.written;
-            added = added_as g.D.Drain c.new-hashed.result.drain.now c.args.drain.now c.show_file-outcome.new.drain.drain.now _ took.written (search rules) (search rules) record {
-              told = took.added.told;
-              logged = λ log. took.added.logged (suc log);
-            };
-            digest_is = c.digest-output.ensures.digest took.written (took.added.logged zero [] c.new-hashed.ensures.hasher);
-            holding = took.holding;
-          };
-        },
-      );
-    }
+pub returns-in_err-compare-in-Ok-clause-beginning : goal.returns-in_err-compare-in-Ok-clause-beginning
+returns-in_err-compare-in-Ok-clause-beginning g c =
+    let p = err_from_is_err_and c.from_residual-in_err-compare-in-Ok.result c.from_residual-in_err-compare-in-Ok.ensures.1 in
+    let given = c.in-Ok.ensures.shown in
+    let took = given.holding in
+    rw p.1 (λ alike. subst (λ (o : Option (List ℕ)). ShowsFront c.args.dates (judged_file o) (g.D.Drain.taken c.args.drain.now) (g.D.Drain.taken c.write_text.new.drain)) (sym alike)
+    (shown_front c.args.dates _ _ _ took.written (shown_told c.args.dates _ given.file took.written (tells_file g.G.Feed _ _ _ _ given) took.holding) took.added.told))

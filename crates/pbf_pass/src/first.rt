@@ -1,0 +1,49 @@
+//! The first pass over a file whose ways mostly follow its nodes: it gathers both.
+
+ghost use Rattle.std.specs.Prelude.{◌≡◌, OnOk, map};
+ghost use Rattle.std.specs.List.{fold};
+ghost use Rattle.osm_entity.specs.Entity.{node};
+ghost use Rattle.pbf_dense.specs.Cursors.{dense_left};
+ghost use Rattle.pbf_pass.specs.Pass.{with_first};
+
+use crate::pass::Gather;
+use osm_entity::EntityRef;
+use osm_ways::FirstPhase;
+use pbf_block::Kinds;
+use pbf_dense::Dense;
+use std::alloc::AllocError;
+
+impl Gather for FirstPhase {
+    ghost gathered = { with_first };
+
+    fn kinds() -> Kinds {
+        Kinds {
+            nodes: true,
+            ways: true,
+            relations: false,
+        }
+    }
+
+    fn gather(&mut self, entity: &EntityRef<'_>) -> Result<(), AllocError> {
+        match entity {
+            EntityRef::Node(node) => self.take_node(node),
+            EntityRef::Way(way) => self.take_way(way),
+            EntityRef::Relation(_) => Ok(()),
+        }
+    }
+
+    fn gather_dense(&mut self, dense: &Dense<'_>) -> Result<(), AllocError> {
+        take_first_places(self, dense)
+    }
+}
+
+/// Takes the nodes of a dense message, each by its id and its place alone.
+fn take_first_places(phase: &mut FirstPhase, dense: &Dense<'_>) -> Result<(), AllocError>
+    ensures { OnOk result
+        (phase.new ≡ fold with_first phase.old (map node (dense_left dense.now))) }
+{
+    for place in dense.places() {
+        phase.take_place(place.id, place.lat, place.lon)?;
+    }
+    Ok(())
+}
