@@ -5,7 +5,7 @@
 
 use osm_entity::{BoundingBox, Member, MemberKind, Meta, Node, Relation, Scale, Way};
 use osm_ways::{
-    Chooser, ChooserParents, Chosen, ChosenParents, NodePhase, RelationPhase, WayPhase,
+    Chooser, Chosen, ChosenParents, FirstPhase, NodePhase, RelationPhase, WayPhase,
 };
 use std::alloc::{AllocError, Global};
 
@@ -108,6 +108,34 @@ fn chosen(alloc: Global, nodes: &[NodeRow], ways: &[WayRow<'_>]) -> Result<Chose
         take_way(&mut phase, alloc, *row)?;
     }
     phase.end_ways()
+}
+
+/// What one phase of nodes and ways takes: these nodes, these ways, and then these nodes. Whether they came in order, and what was
+/// chosen; where they didn't, the ways are taken again.
+fn chosen_first(
+    alloc: Global,
+    nodes: &[NodeRow],
+    ways: &[WayRow<'_>],
+    late: &[NodeRow],
+) -> Result<(bool, Chosen), AllocError> {
+    let mut phase = FirstPhase::new(alloc, AREA);
+    for row in nodes {
+        phase.take_node(&node(alloc, *row).view())?;
+    }
+    for row in ways {
+        phase.take_way(&way(alloc, *row)?.view())?;
+    }
+    for row in late {
+        phase.take_node(&node(alloc, *row).view())?;
+    }
+    let in_order = phase.is_in_order();
+    let mut phase = phase.end()?;
+    if !in_order {
+        for row in ways {
+            take_way(&mut phase, alloc, *row)?;
+        }
+    }
+    Ok((in_order, phase.end_ways()?))
 }
 
 /// With all parents, of a list with node 1 in the box and these relations.
@@ -225,45 +253,6 @@ fn keeps_relations_with_parents(
     Ok(true)
 }
 
-/// The same with all parents, of one chooser for all.
-fn keeps_nodes_with_parents_in_turn(
-    chooser: &mut ChooserParents<'_>,
-    expected: &[(i64, bool)],
-) -> bool {
-    for (id, is_kept) in expected {
-        if chooser.keeps_node(*id) != *is_kept {
-            return false;
-        }
-    }
-    true
-}
-
-fn keeps_ways_with_parents_in_turn(
-    alloc: Global,
-    chooser: &mut ChooserParents<'_>,
-    rows: &[WayRow<'_>],
-) -> Result<bool, AllocError> {
-    for row in rows {
-        if chooser.keeps_way(&way(alloc, *row)?.view()) != row.2 {
-            return Ok(false);
-        }
-    }
-    Ok(true)
-}
-
-fn keeps_relations_with_parents_in_turn(
-    alloc: Global,
-    chooser: &mut ChooserParents<'_>,
-    rows: &[RelationRow],
-) -> Result<bool, AllocError> {
-    for row in rows {
-        if chooser.keeps_relation(&relation(alloc, *row)?.view()) != row.3 {
-            return Ok(false);
-        }
-    }
-    Ok(true)
-}
-
 /// Whether the ids, the ways and the relations are kept that are to be kept, and no others.
 fn keeps(
     alloc: Global,
@@ -318,6 +307,18 @@ fn extracts_in_turn(
     keeps_in_turn(alloc, &chosen, ways, relations, ids)
 }
 
+/// The same, of one phase of nodes and ways, with nodes that come behind the ways, and whether they came in order.
+fn extracts_first(
+    alloc: Global,
+    nodes: &[NodeRow],
+    ways: &[WayRow<'_>],
+    late: &[NodeRow],
+    ids: &[(i64, bool)],
+) -> Result<(bool, bool), AllocError> {
+    let (in_order, chosen) = chosen_first(alloc, nodes, ways, late)?;
+    Ok((in_order, keeps(alloc, &chosen, ways, &[], ids)?))
+}
+
 /// The same with all parents, where node 1 alone is in the box.
 fn keeps_with_parents(
     alloc: Global,
@@ -343,22 +344,6 @@ fn extracts_with_parents(
     keeps_with_parents(alloc, &chosen, ways, relations, ids)
 }
 
-/// The same with all parents, of one chooser that is asked of all in turn.
-fn keeps_with_parents_in_turn(
-    alloc: Global,
-    chosen: &ChosenParents,
-    ways: &[WayRow<'_>],
-    relations: &[RelationRow],
-    ids: &[(i64, bool)],
-) -> Result<bool, AllocError> {
-    let mut chooser = chosen.chooser();
-    Ok(
-        keeps_relations_with_parents_in_turn(alloc, &mut chooser, relations)?
-            && keeps_ways_with_parents_in_turn(alloc, &mut chooser, ways)?
-            && keeps_nodes_with_parents_in_turn(&mut chooser, ids),
-    )
-}
-
 fn extracts_with_parents_in_turn(
     alloc: Global,
     ways: &[WayRow<'_>],
@@ -366,7 +351,7 @@ fn extracts_with_parents_in_turn(
     ids: &[(i64, bool)],
 ) -> Result<bool, AllocError> {
     let chosen = chosen_parents(alloc, relations)?;
-    keeps_with_parents_in_turn(alloc, &chosen, ways, relations, ids)
+    keeps_in_turn(alloc, chosen.chosen(), ways, relations, ids)
 }
 
 /// The way has a node inside, one outside and one that is absent.
@@ -401,6 +386,28 @@ fn one_chooser_for_all(rt: HostRuntime) -> Result<(), AllocError> {
         (3, true),
     ];
     assert!(rt; extracts_in_turn(rt.alloc(), &nodes, &ways, &relations, &ids)?);
+    Ok(())
+}
+
+/// Ids that rise, and ids that don't: neither breaks the order of nodes and ways.
+#[test]
+fn nodes_then_ways(rt: HostRuntime) -> Result<(), AllocError> {
+    let ways: [WayRow<'_>; 2] = [(7, &[5, 1, 3], true), (6, &[2, 3], false)];
+    let ids = [(1, true), (2, false), (3, true), (5, true), (8, true)];
+    let rising = [(1, 1), (2, -1), (8, 1)];
+    assert_eq!(rt; extracts_first(rt.alloc(), &rising, &ways, &[], &ids)?, (true, true));
+    let falling = [(8, 1), (2, -1), (1, 1)];
+    assert_eq!(rt; extracts_first(rt.alloc(), &falling, &ways, &[], &ids)?, (true, true));
+    Ok(())
+}
+
+/// A ref of a way is a node of the box that comes behind it.
+#[test]
+fn node_behind_a_way(rt: HostRuntime) -> Result<(), AllocError> {
+    let ways: [WayRow<'_>; 2] = [(7, &[5, 1, 3], true), (6, &[2, 3], true)];
+    let ids = [(1, true), (2, true), (3, true), (5, true), (4, false)];
+    let late = [(2, 1), (4, -1)];
+    assert_eq!(rt; extracts_first(rt.alloc(), &[(1, 1)], &ways, &late, &ids)?, (false, true));
     Ok(())
 }
 

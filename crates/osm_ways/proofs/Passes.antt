@@ -9,7 +9,7 @@ use Rattle.osm_ids.specs.Links.{link_cmp, IsLeast}
 use Rattle.osm_ids.proofs.LinkOrder.{link_cmp_total}
 use Rattle.osm_ways.specs.Selection.{MemberSeen, node_member, way_member, relation_member, Seen, a_node, a_way, a_relation, no_ids, box_ids, node_ids, way_ids, is_box_node, is_kept_way, is_kept_ref, is_kept_id, is_kept, keeps}
 use Rattle.osm_ways.specs.Parents.{is_selected, is_relation_member, links_in, start_in, keeps_with_parents}
-use Rattle.osm_ways.specs.Phases.{Ids, LinkSet, WaySets, RelationSets, with_way, with_link, with_relation, is_start, node_step, way_step, relation_step, start_ways, start_relations, node_pass, way_pass, relation_pass, is_chosen, is_chosen_with_parents}
+use Rattle.osm_ways.specs.Phases.{Ids, LinkSet, WaySets, RelationSets, with_way, with_link, with_relation, is_start, node_step, way_step, relation_step, start_ways, start_relations, node_pass, way_pass, relation_pass, without_parents, is_chosen}
 use Rattle.osm_ways.proofs.ParentLaws.{links_are_parents}
 
 -- what came first may go last
@@ -152,6 +152,9 @@ links-relation_pass sets (a_relation own members ∷ seen) l =
     ∙ ap (λ b. b || links_in seen l) (contains-links own sets.links members l)
     ∙ or_assoc (set.contains sets.links l) _ _
 
+pub none_kept : ◌≡◌ {A = ℤ → Bool} (set.contains {R = int_cmp} set.empty) no_ids
+none_kept = λ i x. set.contains-empty int_cmp x i
+
 -- ---- the passes over the whole list
 
 module _ (seen : List Seen) where
@@ -171,8 +174,8 @@ module _ (seen : List Seen) where
       (λ i id. (way_ids-way_pass (start_ways (node_pass seen)) seen id ∙ ap (λ b. b || list_any (is_kept_id (set.contains (node_pass seen)) id) seen) (set.contains-empty int_cmp id)) i)
       ∙ (λ i id. list_any (is_kept_id (after_nodes i) id) seen)
 
-  pub chosen_is_kept : is_chosen (way_pass seen) ≡ keeps seen
-  chosen_is_kept = λ i. is_kept (box_ids-after i) (node_ids-after i) (way_ids-after i) no_ids
+  pub chosen_is_kept : is_chosen (without_parents (way_pass seen)) ≡ keeps seen
+  chosen_is_kept = λ i. is_kept (box_ids-after i) (node_ids-after i) (way_ids-after i) (none_kept i)
 
   pub ways_stay : (relation_pass seen).ways ≡ way_pass seen
   ways_stay = ways-relation_pass (start_relations (way_pass seen)) seen
@@ -185,8 +188,8 @@ module _ (seen : List Seen) where
   links-after : set.contains (relation_pass seen).links ≡ links_in seen
   links-after = λ i l. (links-relation_pass (start_relations (way_pass seen)) seen l ∙ ap (λ b. b || links_in seen l) (set.contains-empty link_cmp l)) i
 
-  pub chosen_with_parents : (ids : Ids) → IsLeast (set.contains (relation_pass seen).links) (relation_pass seen).start ids → is_chosen_with_parents (record { ways = (relation_pass seen).ways; relation_ids = ids }) ≡ keeps_with_parents seen
+  pub chosen_with_parents : (ids : Ids) → IsLeast (set.contains (relation_pass seen).links) (relation_pass seen).start ids → is_chosen (record { ways = (relation_pass seen).ways; relation_ids = ids }) ≡ keeps_with_parents seen
   chosen_with_parents ids h =
       let closed = links_are_parents seen (relation_pass seen).start ids start-after (subst (λ (test : Link → Bool). IsLeast test (relation_pass seen).start ids) links-after h) in
-      (λ i. is_chosen_with_parents (record { ways = ways_stay i; relation_ids = ids }))
+      (λ i. is_chosen (record { ways = ways_stay i; relation_ids = ids }))
       ∙ (λ i. is_kept (box_ids-after i) (node_ids-after i) (way_ids-after i) (closed i))

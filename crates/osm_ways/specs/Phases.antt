@@ -40,8 +40,8 @@ pub record RelationSets : Type 0 where
   pub start : Ids
   pub links : LinkSet
 
--- all that selects, parents too
-pub record ParentSets : Type 0 where
+-- all that selects: those of all parents besides, where they are kept
+pub record KeptSets : Type 0 where
   pub ways : WaySets
   pub relation_ids : Ids
 
@@ -57,11 +57,11 @@ way_sets_code = code_by (Ids × (Ids × Ids)) (coded× ids_code (coded× ids_cod
 abbrev pub relation_sets_code : Coded RelationSets
 relation_sets_code = code_by (WaySets × (Ids × LinkSet)) (coded× way_sets_code (coded× ids_code (set.code link_code))) (λ s. (s.ways, (s.start, s.links))) (λ p. record { ways = p.0; start = p.1.0; links = p.1.1 }) (λ _. refl)
 
-abbrev pub parent_sets_code : Coded ParentSets
-parent_sets_code = code_by (WaySets × Ids) (coded× way_sets_code ids_code) (λ s. (s.ways, s.relation_ids)) (λ p. record { ways = p.0; relation_ids = p.1 }) (λ _. refl)
+abbrev pub kept_sets_code : Coded KeptSets
+kept_sets_code = code_by (WaySets × Ids) (coded× way_sets_code ids_code) (λ s. (s.ways, s.relation_ids)) (λ p. record { ways = p.0; relation_ids = p.1 }) (λ _. refl)
 
 -- no parents besides
-abbrev pub without_parents : WaySets → ParentSets
+abbrev pub without_parents : WaySets → KeptSets
 without_parents sets = record { ways = sets; relation_ids = set.empty }
 
 abbrev pub ids_or_none : Option Ids → Ids
@@ -125,8 +125,5 @@ relation_pass seen = fold relation_step (start_relations (way_pass seen)) seen
 
 -- ---- what they keep
 
-abbrev pub is_chosen : WaySets → Seen → Bool
-is_chosen sets = is_kept (set.contains sets.box_ids) (set.contains sets.node_ids) (set.contains sets.way_ids) no_ids
-
-abbrev pub is_chosen_with_parents : ParentSets → Seen → Bool
-is_chosen_with_parents sets = is_kept (set.contains sets.ways.box_ids) (set.contains sets.ways.node_ids) (set.contains sets.ways.way_ids) (set.contains sets.relation_ids)
+abbrev pub is_chosen : KeptSets → Seen → Bool
+is_chosen sets = is_kept (set.contains sets.ways.box_ids) (set.contains sets.ways.node_ids) (set.contains sets.ways.way_ids) (set.contains sets.relation_ids)

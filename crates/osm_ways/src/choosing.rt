@@ -6,7 +6,7 @@ ghost use Rattle.osm_entity.specs.Sources.{lent_member};
 ghost use Rattle.osm_entity.specs.Views.{way_of, relation_of};
 ghost use Rattle.osm_ways.specs.Selection.{is_selecting};
 ghost use Rattle.osm_ways.specs.Seen.{seen_way, seen_member, seen_relation};
-ghost use Rattle.osm_ways.specs.Phases.{is_chosen, is_chosen_with_parents, without_parents, ids_or_none};
+ghost use Rattle.osm_ways.specs.Phases.{is_chosen, ids_or_none};
 
 use crate::parents::ChosenParents;
 use crate::phases::{Chosen, is_kept_by};
@@ -27,11 +27,11 @@ pub struct Chooser<'a> {
 
 impl<'a> Model for Chooser<'a> {
     ghost use Rattle.std.specs.FinSet as set;
-    ghost use Rattle.osm_ways.specs.Phases.{ParentSets, parent_sets_code, ids_or_none};
+    ghost use Rattle.osm_ways.specs.Phases.{KeptSets, kept_sets_code, ids_or_none};
 
-    ghost Value = { ParentSets };
+    ghost Value = { KeptSets };
 
-    ghost coded = { parent_sets_code };
+    ghost coded = { kept_sets_code };
 
     ghost view = { λ a. record {
       ways = record {
@@ -65,7 +65,7 @@ impl<'a> Chooser<'a> {
 
     /// Whether the way is kept: one of its refs is a node in the box. Of two ways of one id each is judged by itself.
     pub fn keeps_way(&mut self, way: &WayRef<'_>) -> bool
-        ensures kept { result ≡ is_chosen_with_parents self.old (seen_way (way_of way.now)) }
+        ensures kept { result ≡ is_chosen self.old (seen_way (way_of way.now)) }
         ensures same { self.new ≡ self.old }
     {
         is_kept_by(&mut self.box_ids, way)
@@ -75,7 +75,7 @@ impl<'a> Chooser<'a> {
     /// id each is judged by itself.
     pub fn keeps_relation(&mut self, relation: &RelationRef<'_>) -> bool
         ensures kept { result
-            ≡ is_chosen_with_parents self.old (seen_relation (relation_of relation.now)) }
+            ≡ is_chosen self.old (seen_relation (relation_of relation.now)) }
         ensures same { self.new ≡ self.old }
     {
         for member in relation.members() {
@@ -104,19 +104,23 @@ impl<'a> Chooser<'a> {
 impl Chosen {
     /// The same sets, to be asked of many entities one after another.
     pub fn chooser(&self) -> Chooser<'_>
-        ensures { result ≡ without_parents self.now }
+        ensures { result ≡ self.now }
     {
+        let relation_ids = match &self.relation_ids {
+            Some(ids) => Some(ids.lookup()),
+            None => None,
+        };
         Chooser {
             box_ids: self.box_ids.lookup(),
             refs: self.refs.lookup(),
             way_ids: self.way_ids.lookup(),
-            relation_ids: None,
+            relation_ids,
         }
     }
 
     /// Whether nodes of this id are kept: it is that of a node in the box, or a ref of a kept way.
     pub fn keeps_node(&self, id: i64) -> bool
-        ensures { result ≡ set.contains self.now.node_ids id }
+        ensures { result ≡ set.contains self.now.ways.node_ids id }
     {
         self.chooser().keeps_node(id)
     }
@@ -128,7 +132,8 @@ impl Chosen {
         self.chooser().keeps_way(way)
     }
 
-    /// Whether the relation is kept: a node or a way among its members is. Members that are relations count for nothing.
+    /// Whether the relation is kept: a node or a way among its members is, or a relation, with all parents. Of two relations of one
+    /// id each is judged by itself.
     pub fn keeps_relation(&self, relation: &RelationRef<'_>) -> bool
         ensures { result ≡ is_chosen self.now (seen_relation (relation_of relation.now)) }
     {
@@ -137,38 +142,39 @@ impl Chosen {
 }
 
 impl ChosenParents {
-    /// The same sets, to be asked of many entities one after another.
-    pub fn chooser(&self) -> Chooser<'_>
-        ensures { result ≡ self.now }
+    /// The same as one choice.
+    pub fn chosen(&self) -> &Chosen
+        ensures { result.now ≡ self.now }
     {
-        Chooser {
-            box_ids: self.chosen.box_ids.lookup(),
-            refs: self.chosen.refs.lookup(),
-            way_ids: self.chosen.way_ids.lookup(),
-            relation_ids: Some(self.relation_ids.lookup()),
-        }
+        &self.chosen
+    }
+
+    /// The same, handed over.
+    pub fn into_chosen(self) -> Chosen
+        ensures { result ≡ self }
+    {
+        self.chosen
     }
 
     /// Whether nodes of this id are kept, as without parents.
     pub fn keeps_node(&self, id: i64) -> bool
         ensures { result ≡ set.contains self.now.ways.node_ids id }
     {
-        self.chooser().keeps_node(id)
+        self.chosen.keeps_node(id)
     }
 
     /// Whether the way is kept, as without parents.
     pub fn keeps_way(&self, way: &WayRef<'_>) -> bool
-        ensures { result ≡ is_chosen_with_parents self.now (seen_way (way_of way.now)) }
+        ensures { result ≡ is_chosen self.now (seen_way (way_of way.now)) }
     {
-        self.chooser().keeps_way(way)
+        self.chosen.keeps_way(way)
     }
 
     /// Whether the relation is kept: a node, a way or a relation among its members is. Of two relations of one id each is
     /// judged by itself.
     pub fn keeps_relation(&self, relation: &RelationRef<'_>) -> bool
-        ensures { result
-            ≡ is_chosen_with_parents self.now (seen_relation (relation_of relation.now)) }
+        ensures { result ≡ is_chosen self.now (seen_relation (relation_of relation.now)) }
     {
-        self.chooser().keeps_relation(relation)
+        self.chosen.keeps_relation(relation)
     }
 }

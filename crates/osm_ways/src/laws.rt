@@ -11,7 +11,7 @@ ghost use Rattle.osm_ways.specs.Selection.{Seen, node_ids, way_ids, keeps, extra
 ghost use Rattle.osm_ways.specs.Seen.{seen_entity, seen_decoded};
 ghost use Rattle.osm_ways.specs.Parents.{IsLeastSelected, relation_ids, keeps_with_parents, extract_with_parents, links_in, start_in};
 ghost use Rattle.osm_ways.specs.First.{first_pass};
-ghost use Rattle.osm_ways.specs.Phases.{start_ways, node_pass, way_pass, relation_pass, is_chosen, is_chosen_with_parents};
+ghost use Rattle.osm_ways.specs.Phases.{start_ways, node_pass, way_pass, relation_pass, without_parents, is_chosen};
 
 /// An extract of an extract is the extract, with and without parents.
 pub fn extract_twice_is_once<X>()
@@ -54,11 +54,11 @@ pub fn one_pass_is_two()
 /// Over a whole list the passes keep what the extract keeps: of two passes, of nodes and of ways, the extract; of a third one,
 /// of relations, and the least set over its links, the extract with all parents.
 pub fn passes_are_extract()
-    ensures ways { (seen : List Seen) → is_chosen (way_pass seen) ≡ keeps seen }
+    ensures ways { (seen : List Seen) → is_chosen (without_parents (way_pass seen)) ≡ keeps seen }
     ensures kept { (seen : List Seen) → (relation_pass seen).ways ≡ way_pass seen }
     ensures parents { (seen : List Seen) (ids : set.FinSet int_cmp)
         → IsLeast (set.contains (relation_pass seen).links) (relation_pass seen).start ids
-        → is_chosen_with_parents (record { ways = (relation_pass seen).ways; relation_ids = ids })
+        → is_chosen (record { ways = (relation_pass seen).ways; relation_ids = ids })
         ≡ keeps_with_parents seen }
 {}
 

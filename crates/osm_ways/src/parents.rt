@@ -7,22 +7,25 @@ ghost use Rattle.osm_ids.specs.Links.{IsLeast};
 ghost use Rattle.osm_entity.specs.Sources.{members_left};
 ghost use Rattle.osm_entity.specs.Views.{relation_of};
 ghost use Rattle.osm_ways.specs.Seen.{seen_member, seen_relation};
-ghost use Rattle.osm_ways.specs.Phases.{start_relations, with_link, relation_step};
+ghost use Rattle.osm_ways.specs.Phases.{start_relations, is_start, with_link, relation_step};
 
 use crate::phases::{Chosen, sealed};
 use osm_entity::{MemberKind, Members, RelationRef};
-use osm_ids::{IdSet, Links, SealedIds};
+use osm_ids::{IdSet, Links};
 use std::alloc::AllocError;
 use std::marker::Model;
 
 impl Chosen {
     /// The phase that takes relations, with none yet. It takes no memory yet.
     pub fn with_parents(self) -> RelationPhase
-        ensures { result ≡ start_relations self }
+        ensures { result ≡ start_relations self.ways }
     {
         let alloc = self.alloc;
         RelationPhase {
-            chosen: self,
+            chosen: Chosen {
+                relation_ids: None,
+                ..self
+            },
             start: IdSet::new(alloc),
             links: Links::new(alloc),
         }
@@ -39,13 +42,17 @@ pub struct RelationPhase {
 }
 
 impl Model for RelationPhase {
+    ghost use Rattle.std.specs.Prelude.{◌≡◌};
+    ghost use Rattle.std.specs.FinSet as set;
     ghost use Rattle.osm_ways.specs.Phases.{RelationSets, relation_sets_code};
 
     ghost Value = { RelationSets };
 
     ghost coded = { relation_sets_code };
 
-    ghost view = { λ a. record { ways = a.chosen; start = a.start; links = a.links } };
+    ghost view = { λ a. record { ways = a.chosen.ways; start = a.start; links = a.links } };
+
+    ghost invariant = { λ a. a.chosen.relation_ids ≡ set.empty };
 }
 
 impl RelationPhase {
@@ -59,7 +66,7 @@ impl RelationPhase {
         ensures { OnOk result
             (self.new ≡ relation_step self.old (seen_relation (relation_of relation.now))) }
     {
-        if self.chosen.keeps_relation(relation) {
+        if is_start(&self.chosen, relation) {
             self.start.add(relation.id())?;
         }
         add_links(&mut self.links, relation.id(), relation.members())?;
@@ -83,12 +90,23 @@ impl RelationPhase {
             links,
         } = self;
         let ids = links.close(start)?;
-        let relation_ids = sealed(ids)?;
+        let relation_ids = Some(sealed(ids)?);
         Ok(ChosenParents {
-            chosen,
-            relation_ids,
+            chosen: Chosen {
+                relation_ids,
+                ..chosen
+            },
         })
     }
+}
+
+/// Whether a node or a way among its members selects the relation.
+fn is_start(chosen: &Chosen, relation: &RelationRef<'_>) -> bool
+    requires { chosen.now.relation_ids ≡ set.empty }
+    ensures { result
+        ≡ is_start chosen.now.ways (map seen_member (relation_of relation.now).members) }
+{
+    chosen.keeps_relation(relation)
 }
 
 /// Adds a link from each of the members that is a relation to their relation.
@@ -109,15 +127,14 @@ fn add_links(links: &mut Links, id: i64, members: Members<'_>) -> Result<(), All
 #[derive(Drop)]
 pub struct ChosenParents {
     pub(crate) chosen: Chosen,
-    pub(crate) relation_ids: SealedIds,
 }
 
 impl Model for ChosenParents {
-    ghost use Rattle.osm_ways.specs.Phases.{ParentSets, parent_sets_code};
+    ghost use Rattle.osm_ways.specs.Phases.{KeptSets, kept_sets_code};
 
-    ghost Value = { ParentSets };
+    ghost Value = { KeptSets };
 
-    ghost coded = { parent_sets_code };
+    ghost coded = { kept_sets_code };
 
-    ghost view = { λ a. record { ways = a.chosen; relation_ids = a.relation_ids } };
+    ghost view = { λ a. a.chosen };
 }

@@ -7,7 +7,7 @@ ghost use Rattle.osm_entity.specs.Views.{node_of, way_of};
 ghost use Rattle.osm_box.specs.BoundingBox.{is_inside};
 ghost use Rattle.osm_ways.specs.Selection.{is_kept_way, a_node};
 ghost use Rattle.osm_ways.specs.Seen.{seen_node, seen_way};
-ghost use Rattle.osm_ways.specs.Phases.{start_nodes, start_ways, node_step, way_step, sets_of};
+ghost use Rattle.osm_ways.specs.Phases.{start_nodes, start_ways, node_step, way_step, sets_of, without_parents};
 
 use osm_entity::{BoundingBox, NodeRef, WayRef};
 use osm_ids::{IdLookup, IdSet, SealedIds};
@@ -110,18 +110,13 @@ pub struct WayPhase {
 }
 
 impl Model for WayPhase {
-    ghost use Rattle.std.specs.FinSet as set;
-    ghost use Rattle.osm_ways.specs.Phases.{WaySets, way_sets_code};
+    ghost use Rattle.osm_ways.specs.Phases.{WaySets, way_sets_code, sets_of};
 
     ghost Value = { WaySets };
 
     ghost coded = { way_sets_code };
 
-    ghost view = { λ a. record {
-      box_ids = a.box_ids;
-      node_ids = set.union a.box_ids a.refs;
-      way_ids = a.way_ids;
-    } };
+    ghost view = { λ a. sets_of a.box_ids a.refs a.way_ids };
 }
 
 impl WayPhase {
@@ -144,7 +139,7 @@ impl WayPhase {
     ///
     /// Where memory is refused the phase is gone.
     pub fn end_ways(self) -> Result<Chosen, AllocError>
-        ensures { IfOk result (λ chosen. chosen ≡ self) }
+        ensures { IfOk result (λ chosen. chosen ≡ without_parents self) }
     {
         let WayPhase {
             box_ids,
@@ -158,6 +153,7 @@ impl WayPhase {
             box_ids,
             refs,
             way_ids,
+            relation_ids: None,
             alloc,
         })
     }
@@ -222,27 +218,28 @@ pub(crate) fn add_way<I: IdLookup>(
     Ok(())
 }
 
-/// What was chosen: the ids of the box's nodes, of all nodes that are kept, and of the ways that are kept.
+/// What was chosen: the ids of the box's nodes, of all nodes that are kept, and of the ways that are kept; and where all parents are
+/// kept, of all relations that are.
 #[derive(Drop)]
 pub struct Chosen {
     pub(crate) box_ids: SealedIds,
     /// The refs of kept ways that aren't nodes of the box.
     pub(crate) refs: SealedIds,
     pub(crate) way_ids: SealedIds,
+    /// Those of all parents, where they were chosen too.
+    pub(crate) relation_ids: Option<SealedIds>,
     pub(crate) alloc: Global,
 }
 
 impl Model for Chosen {
-    ghost use Rattle.std.specs.FinSet as set;
-    ghost use Rattle.osm_ways.specs.Phases.{WaySets, way_sets_code};
+    ghost use Rattle.osm_ways.specs.Phases.{KeptSets, kept_sets_code, sets_of, ids_or_none};
 
-    ghost Value = { WaySets };
+    ghost Value = { KeptSets };
 
-    ghost coded = { way_sets_code };
+    ghost coded = { kept_sets_code };
 
     ghost view = { λ a. record {
-      box_ids = a.box_ids;
-      node_ids = set.union a.box_ids a.refs;
-      way_ids = a.way_ids;
+      ways = sets_of a.box_ids a.refs a.way_ids;
+      relation_ids = ids_or_none a.relation_ids;
     } };
 }

@@ -11,19 +11,19 @@ use Rattle.osm_entity.specs.Ranges.{IsInt64}
 use Rattle.std.specs.Int.Signed.{mag}
 use Rattle.osm_entity.specs.Entity.{EntitySpec, Decoded, node, way, relation}
 use Rattle.osm_ways.specs.declared.phases.Chosen.{Chosen}
-use Rattle.osm_ways.specs.declared.parents.ChosenParents.{ChosenParents}
 use Rattle.osm_ids.specs.Links.{IsLeast}
 use Rattle.osm_ways.specs.Parents.{keeps_with_parents}
-use Rattle.osm_ways.specs.Phases.{NodeSets, WaySets, RelationSets, ParentSets, node_step, way_step, relation_step, start_nodes, start_ways, start_relations, node_pass, way_pass, relation_pass, is_chosen, is_chosen_with_parents}
+use Rattle.osm_ways.specs.Phases.{NodeSets, WaySets, RelationSets, KeptSets, node_step, way_step, relation_step, start_nodes, start_ways, start_relations, node_pass, without_parents, way_pass, relation_pass, is_chosen}
 use Rattle.osm_ways.specs.First.{FirstSets, start_first, first_step}
 use Rattle.osm_ways.proofs.FirstLemmas.{first_in_order, first_broken}
-use Rattle.osm_ways.specs.Seen.{seen_entity}
-use Rattle.osm_ways.specs.Selection.{Seen, keeps}
+use Rattle.osm_ways.specs.Seen.{seen_decoded, seen_entity}
+use Rattle.osm_ways.specs.Selection.{Seen, keeps, extract}
 use Rattle.osm_ways.proofs.Passes.{chosen_is_kept, chosen_with_parents}
 use Rattle.osm_pack.specs.Cuts.{written_file}
 use Rattle.pbf_header.specs.Header.{HeaderSpec}
 use Rattle.pbf_header.specs.WrittenHeader.{header_out_for_box, edges_of, EdgesTyped}
 use Rattle.pbf_frame.specs.declared.device.Feed as feed
+use Rattle.pbf_frame.specs.declared.device.Drain as drain
 use Rattle.pbf_frame.specs.declared.stop.Stop.{Stop}
 use Rattle.pbf_frame.specs.declared.stop.Stop.TheVariants as stop
 use Rattle.pbf_frame.specs.Devices.{IsFront}
@@ -32,22 +32,23 @@ use Rattle.pbf_frame.specs.Verdict.{Verdict, Says}
 use Rattle.pbf_frame.proofs.Parting.{none_some}
 use Rattle.pbf_block.specs.declared.counts.Counts.{Counts}
 use Rattle.pbf_pass.specs.declared.pass.Pass.{Pass}
-use Rattle.pbfcut.specs.declared.pick.Selection.TheVariants as selection
 use Rattle.pbf_pass.specs.HeaderLimit.{IsShort, header_limit, judged_writable, held_header}
 use Rattle.pbf_pass.specs.Counting.{counts_of, stored_entities}
 use Rattle.pbfcut.specs.Calls.{GaveOrNot, Differ, ChangedIn, ChangedBefore, RefusedFirst, ConvertStops, ExtractStops, ParentsStops}
 use Rattle.pbfcut.specs.Theorem.{IsExtraction}
 use Rattle.pbfcut.specs.Extracting.{Choice, complete_ways, all_parents, extraction, extract_bytes, Chooses, ChoosesParents, IsChoice}
 use Rattle.pbfcut.specs.Kept.{verdict_on, extract_of, IsWritable}
-use Rattle.pbf_pass.proofs.GivenLemmas.{Tells, IsDigest, tells_file, gave_file_less}
-use Rattle.pbfcut.proofs.KeptLaw.{IsSelection, IsKeptExtract, same_verdict, extract_kept}
+use Rattle.pbf_pass.proofs.GivenLemmas.{IsDigest, gave_file_less}
+use Rattle.pbf_pass.specs.Given.{GaveFile, Took}
+use Rattle.pbfcut.proofs.KeptLaw.{IsSelection, IsKeptExtract, complete_ways_select, same_verdict, extract_kept}
+use Rattle.pbfcut.proofs.TheoremLemmas.{took_weaker}
 use Rattle.pbf_pass.specs.Pass.{with_node, with_first, with_way, with_relation, TakesFile, file_header}
 use Rattle.pbfcut.specs.declared.repeat.Repeat.{Repeat}
 use Rattle.pbfcut.specs.Repeat.{Unlike, GathersRest, StopsAgain, SameDigest}
 use Rattle.pbf_pass.specs.Stops.{Caused}
 use Rattle.pbf_pass.specs.Again.{GathersFile}
 use Rattle.pbf_pass.specs.Judged.{judged_file}
-use Rattle.pbfcut.specs.Pick.{Pick, picked_by, picked_with_parents, pick_of}
+use Rattle.pbfcut.specs.Pick.{Pick, picked_by, pick_of}
 use Rattle.pbfcut.specs.Write.{Packed, PacksFront}
 use Rattle.pbfcut.proofs.ConvertingLemmas.{known_says}
 use Rattle.pbf_pass.proofs.LimitLemmas.{held_is, judged_sound}
@@ -70,16 +71,19 @@ ways_folded area sets (relation r ∷ es) = ways_folded area sets es
 pub sets_are : (area : BoundingBox) (es : List EntitySpec) → fold with_way (start_ways (fold with_node (start_nodes area) es).box_ids) es ≡ way_pass (map (seen_entity area) es)
 sets_are area es = ap (λ ids. fold with_way (start_ways ids) es) (nodes_folded (start_nodes area) es) ∙ ways_folded area (start_ways (node_pass (map (seen_entity area) es))) es
 
-picked_is_chosen : (area : BoundingBox) (sets : WaySets) (e : EntitySpec) → picked_by sets e ≡ is_chosen sets (seen_entity area e)
+picked_is_chosen : (area : BoundingBox) (sets : KeptSets) (e : EntitySpec) → picked_by sets e ≡ is_chosen sets (seen_entity area e)
 picked_is_chosen area sets (node n) = refl
 picked_is_chosen area sets (way w) = refl
 picked_is_chosen area sets (relation r) = refl
 
+-- sets that keep what a whole list does
+picked_as : (area : BoundingBox) (es : List EntitySpec) (sets : KeptSets) (keep : List Seen → Seen → Bool) → is_chosen sets ≡ keep (map (seen_entity area) es) → filter (picked_by sets) es ≡ filter (λ e. keep (map (seen_entity area) es) (seen_entity area e)) es
+picked_as area es sets keep all =
+    filter_agree (picked_by sets) (λ e. keep (map (seen_entity area) es) (seen_entity area e)) (λ e. picked_is_chosen area sets e ∙ ap (λ (k : Seen → Bool). k (seen_entity area e)) all) es
+
 -- what the sets keep is the complete-ways extract
-pub picked_are : (area : BoundingBox) (es : List EntitySpec) → filter (picked_by (way_pass (map (seen_entity area) es))) es ≡ complete_ways area es
-picked_are area es =
-    let seen = map (seen_entity area) es in
-    filter_agree (picked_by (way_pass seen)) (λ e. keeps seen (seen_entity area e)) (λ e. picked_is_chosen area (way_pass seen) e ∙ ap (λ (k : Seen → Bool). k (seen_entity area e)) (chosen_is_kept seen)) es
+pub picked_are : (area : BoundingBox) (es : List EntitySpec) → filter (picked_by (without_parents (way_pass (map (seen_entity area) es)))) es ≡ complete_ways area es
+picked_are area es = picked_as area es (without_parents (way_pass (map (seen_entity area) es))) keeps (chosen_is_kept (map (seen_entity area) es))
 
 -- ---- the bytes that are to be written
 
@@ -99,7 +103,7 @@ pub record Selects (b : List ℕ) (choose : Choice) (area : BoundingBox) (pick :
   pub picked : filter pick (stored_entities frames) ≡ choose (stored_entities frames)
 
 -- the passes over nodes and ways choose the complete-ways extract
-pub selects_ways : (area : BoundingBox) (b : List ℕ) (first second : Option Verdict) (sets : WaySets) (h : HeaderSpec) → first ≡ judged_file (Some b) → second ≡ judged_file (Some b) → Chooses area first second sets h → Selects b (complete_ways area) area (picked_by sets) h
+pub selects_ways : (area : BoundingBox) (b : List ℕ) (first second : Option Verdict) (sets : WaySets) (h : HeaderSpec) → first ≡ judged_file (Some b) → second ≡ judged_file (Some b) → Chooses area first second sets h → Selects b (complete_ways area) area (picked_by (without_parents sets)) h
 selects_ways area b first second sets h is too c =
     let judged = known_says b (c.frames, None) (subst (λ (k : Option Verdict). Says k (c.frames, None)) is c.judged) in
     let gathered = c.chosen c.frames (too ∙ judged) ∙ sets_are area (stored_entities c.frames) in
@@ -108,7 +112,7 @@ selects_ways area b first second sets h is too c =
       judged = judged;
       writable = judged_sound b c.frames judged c.within;
       bytes = header_from area (file_header c.frames) h c.header (complete_ways area) (stored_entities c.frames);
-      picked = ap (λ (s : WaySets). filter (picked_by s) (stored_entities c.frames)) gathered ∙ picked_are area (stored_entities c.frames);
+      picked = ap (λ (s : WaySets). filter (picked_by (without_parents s)) (stored_entities c.frames)) gathered ∙ picked_are area (stored_entities c.frames);
     }
 
 -- ---- the box
@@ -148,16 +152,16 @@ module _ (choose : Choice) (select : List Decoded → List Decoded) (selection :
 
 -- ---- the passes that choose
 
-pub chooses : (area : BoundingBox) (first second : Option Verdict) (pass : Pass) (header h : HeaderSpec) (begun nodes : NodeSets) (started ways sets : WaySets) → TakesFile with_node first begun nodes pass → begun ≡ start_nodes area
-    → held_header pass ≡ Some (pass.header_at, header) → header_limit (held_header pass) ≡ None → h ≡ header_out_for_box area header → started ≡ start_ways nodes.box_ids → GathersFile with_way second started ways → sets ≡ ways → Chooses area first second sets h
-chooses area first second pass header h begun nodes started ways sets p new held within is starts more ends =
+pub chooses : (area : BoundingBox) (first second : Option Verdict) (pass : Pass) (header h : HeaderSpec) (begun nodes : NodeSets) (started ways : WaySets) → TakesFile with_node first begun nodes pass → begun ≡ start_nodes area
+    → held_header pass ≡ Some (pass.header_at, header) → header_limit (held_header pass) ≡ None → h ≡ header_out_for_box area header → started ≡ start_ways nodes.box_ids → GathersFile with_way second started ways → Chooses area first second ways h
+chooses area first second pass header h begun nodes started ways p new held within is starts more =
     let told = held_is (file_header p.frames) pass p.header in
     record {
       frames = p.frames;
       judged = p.says;
       within = ap header_limit (sym told) ∙ within;
       header = ap (λ (o : Option (ℕ × HeaderSpec)). option_map (λ p. header_out_for_box area p.1) o) (sym told ∙ held) ∙ ap (λ (g : HeaderSpec). Some g) (sym is);
-      chosen = λ frames known. ends ∙ (more frames known ∙ ap (λ (s : WaySets). fold with_way s (stored_entities frames)) (starts ∙ ap (λ (s : NodeSets). start_ways s.box_ids) (p.gathered_all ∙ ap (λ (s : NodeSets). fold with_node s (stored_entities p.frames)) new)));
+      chosen = λ frames known. more frames known ∙ ap (λ (s : WaySets). fold with_way s (stored_entities frames)) (starts ∙ ap (λ (s : NodeSets). start_ways s.box_ids) (p.gathered_all ∙ ap (λ (s : NodeSets). fold with_node s (stored_entities p.frames)) new));
     }
 
 -- the first file can be written
@@ -171,9 +175,6 @@ pub later_differs : (first other : Option (List ℕ)) (digest : List ℕ) (frame
 later_differs first other digest frames same says unlike b c is too e =
     let judged = known_says b (frames, None) (subst (λ (o : Option (List ℕ)). Says (judged_file o) (frames, None)) is says) in
     unlike c frames too (same b is ∙ ap sha256 e) (ap (λ (l : List ℕ). judged_file (Some l)) (sym e) ∙ judged)
-
-pub same_digest : (first other : Option (List ℕ)) (digest : List ℕ) → IsDigest first digest → IsDigest other digest → SameDigest first other
-same_digest first other digest one two b c is too = sym (one b is) ∙ two c too
 
 -- the stops of a later pass, as those of the call
 pub stops_later : (again : Repeat) (first other : Option (List ℕ)) (digest : List ℕ) (frames : List FrameSpec) (refused : Fault → Type 0) (read later wrote : Type 0) (changed : ℕ → Type 0) (s : Stop) → IsDigest first digest → Says (judged_file first) (frames, None) → again.digest ≡ digest
@@ -210,9 +211,11 @@ stops_earlier refused also read more wrote changed too stop.Memory f r d h = tt
 stops_earlier refused also read more wrote changed too (stop.Changed n) f r d h = d n h
 
 -- a selection by what was chosen
-pub selects_chosen : (chosen : Bor Chosen) (area : BoundingBox) (b : List ℕ) (first second : Option Verdict) (h : HeaderSpec) → first ≡ judged_file (Some b) → second ≡ judged_file (Some b) → Chooses area first second chosen.now h → Selects b (complete_ways area) area (pick_of (selection.Ways chosen)) h
+pub selects_chosen : (chosen : Bor Chosen) (area : BoundingBox) (b first second : List ℕ) (h : HeaderSpec) → first ≡ b → second ≡ b → IsChoice area first second chosen.now h → Selects b (complete_ways area) area (pick_of (Some chosen)) h
 unfolding pick_of
-selects_chosen chosen area b first second h is too c = selects_ways area b first second chosen.now h is too c
+selects_chosen chosen area b first second h is too c =
+    let judged = λ (l : List ℕ). judged_file (Some l) in
+    subst (λ (s : KeptSets). Selects b (complete_ways area) area (picked_by s) h) (sym c.kept) (selects_ways area b _ _ c.ways h (ap judged is) (ap judged too) c.chosen)
 
 -- ---- with all parents
 
@@ -222,22 +225,15 @@ relations_folded area sets (node n ∷ es) = relations_folded area sets es
 relations_folded area sets (way w ∷ es) = relations_folded area sets es
 relations_folded area sets (relation r ∷ es) = relations_folded area (with_relation sets (relation r)) es
 
-picked_is_chosen_with_parents : (area : BoundingBox) (sets : ParentSets) (e : EntitySpec) → picked_with_parents sets e ≡ is_chosen_with_parents sets (seen_entity area e)
-picked_is_chosen_with_parents area sets (node n) = refl
-picked_is_chosen_with_parents area sets (way w) = refl
-picked_is_chosen_with_parents area sets (relation r) = refl
-
 -- what the sets keep is the extract with all parents
-parents_are : (area : BoundingBox) (es : List EntitySpec) (sets : ParentSets) → sets.ways ≡ (relation_pass (map (seen_entity area) es)).ways
-    → IsLeast (set.contains (relation_pass (map (seen_entity area) es)).links) (relation_pass (map (seen_entity area) es)).start sets.relation_ids → filter (picked_with_parents sets) es ≡ all_parents area es
+parents_are : (area : BoundingBox) (es : List EntitySpec) (sets : KeptSets) → sets.ways ≡ (relation_pass (map (seen_entity area) es)).ways
+    → IsLeast (set.contains (relation_pass (map (seen_entity area) es)).links) (relation_pass (map (seen_entity area) es)).start sets.relation_ids → filter (picked_by sets) es ≡ all_parents area es
 parents_are area es sets ways least =
     let seen = map (seen_entity area) es in
-    let all : is_chosen_with_parents sets ≡ keeps_with_parents seen =
-    ap (λ (w : WaySets). is_chosen_with_parents (record { ways = w; relation_ids = sets.relation_ids })) ways ∙ chosen_with_parents seen sets.relation_ids least in
-    filter_agree (picked_with_parents sets) (λ e. keeps_with_parents seen (seen_entity area e)) (λ e. picked_is_chosen_with_parents area sets e ∙ ap (λ (k : Seen → Bool). k (seen_entity area e)) all) es
+    picked_as area es sets keeps_with_parents (ap (λ (w : WaySets). is_chosen (record { ways = w; relation_ids = sets.relation_ids })) ways ∙ chosen_with_parents seen sets.relation_ids least)
 
-pub selects_parents : (chosen : Bor ChosenParents) (area : BoundingBox) (b : List ℕ) (first second third : Option Verdict) (h : HeaderSpec) → first ≡ judged_file (Some b) → second ≡ judged_file (Some b) → third ≡ judged_file (Some b)
-    → ChoosesParents area first second third chosen.now h → Selects b (all_parents area) area (pick_of (selection.Parents chosen)) h
+pub selects_parents : (chosen : Bor Chosen) (area : BoundingBox) (b : List ℕ) (first second third : Option Verdict) (h : HeaderSpec) → first ≡ judged_file (Some b) → second ≡ judged_file (Some b) → third ≡ judged_file (Some b)
+    → ChoosesParents area first second third chosen.now h → Selects b (all_parents area) area (pick_of (Some chosen)) h
 unfolding pick_of
 selects_parents chosen area b first second third h is too more p =
     let c = p.chosen in
@@ -254,15 +250,15 @@ selects_parents chosen area b first second third h is too more p =
       picked = parents_are area es chosen.now (p.kept ∙ ap (λ (r : RelationSets). r.ways) relations) (subst (λ (r : RelationSets). IsLeast (set.contains r.links) r.start chosen.now.relation_ids) relations p.least);
     }
 
-pub chooses_parents : (area : BoundingBox) (first second third : Option Verdict) (ways : WaySets) (h : HeaderSpec) (begun relations : RelationSets) (sets : ParentSets) → Chooses area first second ways h → begun ≡ start_relations ways → GathersFile with_relation third begun relations
-    → sets.ways ≡ relations.ways → IsLeast (set.contains relations.links) relations.start sets.relation_ids → ChoosesParents area first second third sets h
-chooses_parents area first second third ways h begun relations sets chosen starts more kept least = record {
+pub chooses_parents : (area : BoundingBox) (first second third : Option Verdict) (ways : WaySets) (h : HeaderSpec) (begun relations : RelationSets) (given sets : KeptSets) → Chooses area first second ways h → begun ≡ start_relations ways → GathersFile with_relation third begun relations
+    → given.ways ≡ relations.ways → IsLeast (set.contains relations.links) relations.start given.relation_ids → sets ≡ given → ChoosesParents area first second third sets h
+chooses_parents area first second third ways h begun relations given sets chosen starts more kept least handed = record {
   ways = ways;
   chosen = chosen;
   relations = relations;
   gathered = λ frames known. more frames known ∙ ap (λ (s : RelationSets). fold with_relation s (stored_entities frames)) starts;
-  kept = kept;
-  least = least;
+  kept = ap (λ (s : KeptSets). s.ways) handed ∙ kept;
+  least = subst (λ (s : KeptSets). IsLeast (set.contains relations.links) relations.start s.relation_ids) (sym handed) least;
 }
 
 -- ---- where the second pass may be spared
@@ -296,37 +292,24 @@ same_frames b one two e f = let same : ◌≡◌ {A = Option Verdict} (Some (one
   parted : ◌≡◌ {A = Option Verdict} (Some (one, None)) (Some (two, None)) → one ≡ two
   parted same = let pair : ◌≡◌ {A = Verdict} (one, None) (two, None) = cc in ap (λ (v : Verdict). v.0) pair
 
-module _ {G : Type 0} (f : feed.Ghosts G) (old new : G) (digest : List ℕ) where
-  -- what holds of the file that a later feed gave, or of the one before, is told
-  pub gave_or_not : (file : List ℕ) (holds : List ℕ → Type 0) (told : Type 0) → ((c : List ℕ) → holds c → told) → GaveOrNot f old new digest file holds → told
-  gave_or_not file holds told step (inl given) = step given.file given.holding
-  gave_or_not file holds told step (inr none) = step file none.1
-
-  pub gave_or_less : (file : List ℕ) (holds less : List ℕ → Type 0) → ((c : List ℕ) → holds c → less c) → GaveOrNot f old new digest file holds → GaveOrNot f old new digest file less
-  gave_or_less file holds less step (inl given) = inl (gave_file_less f old new digest holds less step given)
-  gave_or_less file holds less step (inr none) = inr (none.0, step file none.1)
-
-  -- of feeds that report the same bytes
-  pub told_or_not : (first : Option (List ℕ)) (file b : List ℕ) (holds : List ℕ → Type 0) → Tells first file → first ≡ Some b → f.remaining old ≡ Some b → GaveOrNot f old new digest file holds → holds b
-  told_or_not first file b holds tells is also (inl given) = subst holds (tells_file f old new digest holds given b also) given.holding
-  told_or_not first file b holds tells is also (inr none) = subst holds (tells b is) none.1
-
 -- what the first pass took, and a second one where the order was broken
-module _ {G : Type 0} (f : feed.Ghosts G) (old new : G) (digest : List ℕ) (area : BoundingBox) (b : List ℕ) (pass : Pass) (header h : HeaderSpec) (begun phase : FirstSets) (started ways sets : WaySets) where
+module _ {G : Type 0} (f : feed.Ghosts G) (old new : G) (digest : List ℕ) (area : BoundingBox) (b : List ℕ) (pass : Pass) (header h : HeaderSpec) (begun phase : FirstSets) (started ways : WaySets) (sets : KeptSets) where
   pub chooses_first : (in_order : Bool) → TakesFile with_first (judged_file (Some b)) begun phase pass → begun ≡ start_first area → held_header pass ≡ Some (pass.header_at, header) → header_limit (held_header pass) ≡ None → h ≡ header_out_for_box area header → IsShort h
-      → in_order ≡ phase.in_order → started ≡ phase.ways → GathersRest f with_way in_order old new digest started ways → sets ≡ ways → GaveOrNot f old new digest b (λ c. IsChoice area b c sets h)
+      → in_order ≡ phase.in_order → started ≡ phase.ways → GathersRest f with_way in_order old new digest started ways → sets ≡ without_parents ways → GaveOrNot f old new digest b (λ c. IsChoice area b c sets h)
   chooses_first true p fresh held within is short order starts rest ends =
       let told = held_is (file_header p.frames) pass p.header in
       let es = stored_entities p.frames in
       let taken : phase ≡ fold with_first (start_first area) es = p.gathered_all ∙ ap (λ (s : FirstSets). fold with_first s es) fresh in
       let came = ways_came area es (ap (λ (s : FirstSets). s.in_order) (sym taken) ∙ sym order) in
       inr (rest.0, record {
+        ways = ways;
+        kept = ends;
         chosen = record {
           frames = p.frames;
           judged = p.says;
           within = ap header_limit (sym told) ∙ within;
           header = ap (λ (o : Option (ℕ × HeaderSpec)). option_map (λ p. header_out_for_box area p.1) o) (sym told ∙ held) ∙ ap (λ (g : HeaderSpec). Some g) (sym is);
-          chosen = λ frames known. ends ∙ rest.1 ∙ starts ∙ ap (λ (s : FirstSets). s.ways) taken ∙ came ∙ ap (λ (l : List FrameSpec). fold with_way (nodes_of area es) (stored_entities l)) (same_frames b p.frames frames (known_says b (p.frames, None) p.says) known);
+          chosen = λ frames known. rest.1 ∙ starts ∙ ap (λ (s : FirstSets). s.ways) taken ∙ came ∙ ap (λ (l : List FrameSpec). fold with_way (nodes_of area es) (stored_entities l)) (same_frames b p.frames frames (known_says b (p.frames, None) p.says) known);
         };
         short = short;
       })
@@ -336,12 +319,21 @@ module _ {G : Type 0} (f : feed.Ghosts G) (old new : G) (digest : List ℕ) (are
       let taken : phase ≡ fold with_first (start_first area) es = p.gathered_all ∙ ap (λ (s : FirstSets). fold with_first s es) fresh in
       let wait = ways_wait area es (ap (λ (s : FirstSets). s.in_order) (sym taken) ∙ sym order) in
       inl (gave_file_less f old new digest (λ file. GathersFile with_way (judged_file (Some file)) started ways) (λ c. IsChoice area b c sets h) (λ c more. record {
+        ways = ways;
+        kept = ends;
         chosen = record {
           frames = p.frames;
           judged = p.says;
           within = ap header_limit (sym told) ∙ within;
           header = ap (λ (o : Option (ℕ × HeaderSpec)). option_map (λ p. header_out_for_box area p.1) o) (sym told ∙ held) ∙ ap (λ (g : HeaderSpec). Some g) (sym is);
-          chosen = λ frames known. ends ∙ more frames known ∙ ap (λ (s : WaySets). fold with_way s (stored_entities frames)) (starts ∙ ap (λ (s : FirstSets). s.ways) taken ∙ wait);
+          chosen = λ frames known. more frames known ∙ ap (λ (s : WaySets). fold with_way s (stored_entities frames)) (starts ∙ ap (λ (s : FirstSets). s.ways) taken ∙ wait);
         };
         short = short;
       }) rest)
+
+-- the pass that writes, after passes that chose
+pub went_on : {H D : Type 0} (f : feed.Ghosts H) (d : drain.Ghosts D) (feed_old feed_new : H) (old new : D) (input : List ℕ) (area : BoundingBox) (edges : EdgesTyped (edges_of area)) (b c : List ℕ) (chosen : Bor Chosen) (h : HeaderSpec) (counts : Counts) → IsChoice area b c chosen.now h
+    → GaveFile f feed_old feed_new input (λ file. Took d old new (Packed (pick_of (Some chosen)) h counts (judged_file (Some file))))
+    → GaveFile f feed_old feed_new input (λ e. Took d old new (λ written. b ≡ c → b ≡ e → IsExtraction (complete_ways area) (λ meant. extract (seen_decoded area) meant) area b counts written))
+went_on f d feed_old feed_new old new input area edges b c chosen h counts choice wrote = gave_file_less f feed_old feed_new input _ _ (λ e took. took_weaker d old new _ _ (λ written packed second third.
+    extracted (complete_ways area) (λ meant. extract (seen_decoded area) meant) (complete_ways_select area) area edges b _ h (selects_chosen chosen area b b c h refl (sym second) choice) counts _ written (ap (λ (l : List ℕ). judged_file (Some l)) (sym third)) packed) took) wrote

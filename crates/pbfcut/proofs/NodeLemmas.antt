@@ -1,5 +1,5 @@
 -- The nodes of a dense message, of which the ids tell which are picked.
-use Rattle.std.proofs.Common.{◌≡◌, ℕ, zero, suc, ◌+◌, ℤ, Bool, true, false, cond, List, [], ◌∷◌, ◌++◌, map, append_assoc, append-nil, take-append-drop, take, drop, add-one, subst, refl, sym, ap, ◌∙◌}
+use Rattle.std.proofs.Common.{◌≡◌, ℕ, zero, suc, ◌+◌, ℤ, Bool, true, false, cond, List, [], ◌∷◌, ◌++◌, map, append_assoc, append-nil, take-append-drop, take, drop, add-one, Option, Some, None, subst, refl, sym, ap, ◌∙◌}
 use Rattle.std.specs.List.{filter}
 use Rattle.std.proofs.lemmas.List.{map-append}
 use Rattle.osm_entity.specs.Entity.{NodeSpec, EntitySpec, node}
@@ -9,15 +9,17 @@ use Rattle.pbf_frame.specs.declared.device.Drain as drain
 use Rattle.pbf_frame.specs.declared.stop.Stop.{Stop}
 use Rattle.osm_pack.specs.Packing.{Packing, IsPacking}
 use Rattle.pbfcut.specs.declared.pick.Picker.{Picker}
-use Rattle.pbfcut.specs.declared.pick.Picker.TheVariants as picker
-use Rattle.pbfcut.specs.Pick.{everything, picks_of, picks_id, PacksPicked, StopsAmong, KeepsPacker}
+use Rattle.osm_ways.specs.Phases.{KeptSets}
+use Rattle.pbfcut.specs.Pick.{everything, picked_by_some, id_picked, picks_of, picks_id, PacksPicked, StopsAmong, KeepsPacker}
 use Rattle.pbfcut.proofs.PackingLemmas.{only_picked, packs_none, packs_same, packs_more, stops_same, stops_later}
+
+some_by_id : (sets : Option KeptSets) (n : NodeSpec) → picked_by_some sets (node n) ≡ id_picked sets n.id
+some_by_id None n = refl
+some_by_id (Some sets) n = refl
 
 picked_by_id : (p : Picker) (n : NodeSpec) → picks_of p (node n) ≡ picks_id p n.id
 unfolding picks_of picks_id
-picked_by_id picker.Everything n = refl
-picked_by_id (picker.Ways sets) n = refl
-picked_by_id (picker.Parents sets) n = refl
+picked_by_id p n = some_by_id p.chooser n
 
 -- ---- nodes that aren't picked, by their ids
 

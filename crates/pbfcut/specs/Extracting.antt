@@ -8,7 +8,7 @@ use Rattle.osm_entity.specs.Entity.{EntitySpec}
 use Rattle.osm_ids.specs.Links.{IsLeast}
 use Rattle.osm_ways.specs.Selection.{extract}
 use Rattle.osm_ways.specs.Parents.{extract_with_parents}
-use Rattle.osm_ways.specs.Phases.{WaySets, RelationSets, ParentSets, start_nodes, start_ways, start_relations}
+use Rattle.osm_ways.specs.Phases.{WaySets, RelationSets, KeptSets, without_parents, start_nodes, start_ways, start_relations}
 use Rattle.osm_ways.specs.Seen.{seen_entity}
 use Rattle.osm_pack.specs.Cuts.{written_file}
 use Rattle.pbf_header.specs.Header.{HeaderSpec}
@@ -55,7 +55,7 @@ pub record Chooses (area : BoundingBox) (first second : Option Verdict) (sets : 
   pub chosen : GathersFile with_way second (start_ways (fold with_node (start_nodes area) (stored_entities frames)).box_ids) sets
 
 -- and the relations of a third file, with all parents
-pub record ChoosesParents (area : BoundingBox) (first second third : Option Verdict) (sets : ParentSets) (h : HeaderSpec) : Type 0 where
+pub record ChoosesParents (area : BoundingBox) (first second third : Option Verdict) (sets : KeptSets) (h : HeaderSpec) : Type 0 where
   pub ways : WaySets
   pub chosen : Chooses area first second ways h
   pub relations : RelationSets
@@ -64,10 +64,12 @@ pub record ChoosesParents (area : BoundingBox) (first second third : Option Verd
   pub least : IsLeast (set.contains relations.links) relations.start sets.relation_ids
 
 -- what the passes before the one that writes report of files: what was chosen, and the header that is written
-pub record IsChoice (area : BoundingBox) (first second : List ℕ) (sets : WaySets) (h : HeaderSpec) : Type 0 where
-  pub chosen : Chooses area (judged_file (Some first)) (judged_file (Some second)) sets h
+pub record IsChoice (area : BoundingBox) (first second : List ℕ) (sets : KeptSets) (h : HeaderSpec) : Type 0 where
+  pub ways : WaySets
+  pub chosen : Chooses area (judged_file (Some first)) (judged_file (Some second)) ways h
+  pub kept : sets ≡ without_parents ways
   pub short : IsShort h
 
-pub record IsChoiceWithParents (area : BoundingBox) (first second third : List ℕ) (sets : ParentSets) (h : HeaderSpec) : Type 0 where
+pub record IsChoiceWithParents (area : BoundingBox) (first second third : List ℕ) (sets : KeptSets) (h : HeaderSpec) : Type 0 where
   pub chosen : ChoosesParents area (judged_file (Some first)) (judged_file (Some second)) (judged_file (Some third)) sets h
   pub short : IsShort h

@@ -1,10 +1,12 @@
 -- Entities that are picked, on their way into the drain.
 use Rattle.std.specs.Prelude.{◌≡◌, ◌⊎◌, ℕ, ℤ, List, [], ◌++◌, Bool, true, false, Option, Some, None}
+use Rattle.std.specs.Borrow.{Bor}
 use Rattle.std.specs.FinSet as set
 use Rattle.std.specs.List.{AllByRecursion, filter}
+use Rattle.std.specs.Option.{option_map}
 use Rattle.osm_entity.specs.Entity.{EntitySpec, node, way, relation}
 use Rattle.osm_entity.specs.Ranges.{EntityFits}
-use Rattle.osm_ways.specs.Phases.{WaySets, ParentSets, is_chosen, is_chosen_with_parents}
+use Rattle.osm_ways.specs.Phases.{KeptSets, is_chosen}
 use Rattle.osm_ways.specs.Seen.{seen_way, seen_relation}
 use Rattle.osm_pack.specs.Cuts.{written_entities, pending_after, written_after}
 use Rattle.osm_pack.specs.Packing.{Packing, Pending, IsPacking, has_header}
@@ -15,10 +17,8 @@ use Rattle.pbf_frame.specs.Transfers.{Added}
 use Rattle.pbf_frame.specs.Frames.{FrameSpec}
 use Rattle.pbf_wire.specs.declared.fault.Fault.{Fault}
 use Rattle.pbf_pass.specs.declared.pass.Pass.{Pass}
-use Rattle.pbfcut.specs.declared.pick.Selection.{Selection}
-use Rattle.pbfcut.specs.declared.pick.Selection.TheVariants as selection
+use Rattle.osm_ways.specs.declared.phases.Chosen.{Chosen}
 use Rattle.pbfcut.specs.declared.pick.Picker.{Picker}
-use Rattle.pbfcut.specs.declared.pick.Picker.TheVariants as picker
 use Rattle.pbf_block.specs.declared.counts.Counts.{Counts}
 use Rattle.pbf_pass.specs.Counting.{entities_in, counts_of}
 use Rattle.pbf_pass.specs.Judged.{fault_in}
@@ -34,38 +34,30 @@ Pick = EntitySpec → Bool
 abbrev pub everything : Pick
 everything e = true
 
--- what the sets keep that nodes and ways gave
-abbrev pub picked_by : WaySets → Pick
-picked_by sets (node n) = set.contains sets.node_ids n.id
+-- what the sets keep
+abbrev pub picked_by : KeptSets → Pick
+picked_by sets (node n) = set.contains sets.ways.node_ids n.id
 picked_by sets (way w) = is_chosen sets (seen_way w)
 picked_by sets (relation r) = is_chosen sets (seen_relation r)
 
--- and all parents besides
-abbrev pub picked_with_parents : ParentSets → Pick
-picked_with_parents sets (node n) = set.contains sets.ways.node_ids n.id
-picked_with_parents sets (way w) = is_chosen_with_parents sets (seen_way w)
-picked_with_parents sets (relation r) = is_chosen_with_parents sets (seen_relation r)
-
 -- by the sets that were chosen, or all where none were
-abbrev pub picked_by_some : Option WaySets → Pick
+abbrev pub picked_by_some : Option KeptSets → Pick
 picked_by_some None = everything
 picked_by_some (Some sets) = picked_by sets
 
-unfoldable pub pick_of : Selection → Pick
-pick_of selection.Everything = everything
-pick_of (selection.Ways chosen) = picked_by chosen.now
-pick_of (selection.Parents chosen) = picked_with_parents chosen.now
+unfoldable pub pick_of : Option (Bor Chosen) → Pick
+pick_of chosen = picked_by_some (option_map (λ c. c.now) chosen)
 
 unfoldable pub picks_of : Picker → Pick
-picks_of picker.Everything = everything
-picks_of (picker.Ways sets) = picked_by sets
-picks_of (picker.Parents sets) = picked_with_parents sets
+picks_of picker = picked_by_some picker.chooser
 
 -- which nodes are, by their id
+abbrev pub id_picked : Option KeptSets → ℤ → Bool
+id_picked None id = true
+id_picked (Some sets) id = set.contains sets.ways.node_ids id
+
 unfoldable pub picks_id : Picker → ℤ → Bool
-picks_id picker.Everything id = true
-picks_id (picker.Ways sets) id = set.contains sets.node_ids id
-picks_id (picker.Parents sets) id = set.contains sets.ways.node_ids id
+picks_id picker id = id_picked picker.chooser id
 
 -- ---- entities on their way
 

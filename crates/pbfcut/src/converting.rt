@@ -12,7 +12,6 @@ ghost use Rattle.pbf_pass.specs.Refused.{HaltsFile, stop_of};
 ghost use Rattle.pbfcut.specs.Repeat.{SameDigest};
 ghost use Rattle.pbf_pass.specs.Stops.{KeepsDrain, ReadFailed, WriteFailed};
 
-use crate::pick::Selection;
 use crate::repeat::Repeat;
 use crate::write::Writing;
 use pbf_block::Counts;
@@ -88,7 +87,7 @@ pub fn convert_with_receipt<F: Feed, G: Feed, D: Drain, S: BuildHasher + Drop>(
     let told = judge(alloc, first, &mut Nothing)?;
     let writing = Writing {
         header: writable_header(&told)?,
-        selection: Selection::Everything,
+        chosen: None,
     };
     let digest = told.digest;
     let counts = Repeat { number: 2, digest }.write(alloc, second, drain, hasher, writing)?;

@@ -17,11 +17,10 @@ ghost use Rattle.pbf_pass.specs.Refused.{RefusesFile, Halts, HaltsFile, stop_of}
 ghost use Rattle.pbfcut.specs.Repeat.{SameDigest};
 ghost use Rattle.pbf_pass.specs.Stops.{Caused, FaultOf, KeepsDrain, ReadFailed, WriteFailed};
 
-use crate::pick::Selection;
 use crate::repeat::Repeat;
 use crate::write::Writing;
 use osm_entity::BoundingBox;
-use osm_ways::{Chosen, ChosenParents, NodePhase};
+use osm_ways::{Chosen, NodePhase};
 use pbf_block::Counts;
 use pbf_frame::{Drain, Feed, Stop};
 use pbf_header::Header;
@@ -31,21 +30,13 @@ use std::hash::BuildHasher;
 
 /// What the passes before the one that writes report.
 #[derive(Drop)]
-struct Choice {
+pub(crate) struct Choice {
     /// What is kept.
-    chosen: Chosen,
+    pub(crate) chosen: Chosen,
     /// The header that is written.
-    header: Header,
+    pub(crate) header: Header,
     /// The digest of the first pass.
-    digest: [u8; 32],
-}
-
-/// The same with all parents.
-#[derive(Drop)]
-struct ChoiceWithParents {
-    chosen: ChosenParents,
-    header: Header,
-    digest: [u8; 32],
+    pub(crate) digest: [u8; 32],
 }
 
 /// The passes before the one that writes: the first judges the file and takes the nodes of the box, the second takes the ways.
@@ -164,7 +155,7 @@ pub fn extract_with_receipt<F: Feed, G: Feed, H: Feed, D: Drain, S: BuildHasher 
     let digest = choice.digest;
     let writing = Writing {
         header: &choice.header,
-        selection: Selection::Ways(&choice.chosen),
+        chosen: Some(&choice.chosen),
     };
     let counts = Repeat { number: 3, digest }.write(alloc, third, drain, hasher, writing)?;
     Ok(InputReceipt {
@@ -180,7 +171,7 @@ fn choose_parents<F: Feed, G: Feed, H: Feed>(
     second: &mut G,
     third: &mut H,
     area: BoundingBox,
-) -> Result<ChoiceWithParents, Halt>
+) -> Result<Choice, Halt>
     ensures chosen { IfOk result (λ choice. GaveFile F.Feed first.old first.new choice.digest (λ b.
         GaveFile G.Feed second.old second.new choice.digest
         (λ c. GaveFile H.Feed third.old third.new choice.digest
@@ -197,8 +188,8 @@ fn choose_parents<F: Feed, G: Feed, H: Feed>(
     let digest = choice.digest;
     let mut relations = choice.chosen.with_parents();
     Repeat { number: 3, digest }.gather(alloc, third, &mut relations)?;
-    let chosen = relations.end_relations()?;
-    Ok(ChoiceWithParents {
+    let chosen = relations.end_relations()?.into_chosen();
+    Ok(Choice {
         chosen,
         header: choice.header,
         digest,
@@ -299,7 +290,7 @@ pub fn extract_parents_with_receipt<
     let digest = choice.digest;
     let writing = Writing {
         header: &choice.header,
-        selection: Selection::Parents(&choice.chosen),
+        chosen: Some(&choice.chosen),
     };
     let counts = Repeat { number: 4, digest }.write(alloc, fourth, drain, hasher, writing)?;
     Ok(InputReceipt {

@@ -24,7 +24,6 @@ ghost use Rattle.pbf_pass.specs.Judged.{judged_file};
 ghost use Rattle.pbfcut.specs.Kept.{IsWritable, conversion_of, extract_of};
 ghost use Rattle.pbfcut.specs.Theorem.{IsConversion, IsExtract};
 ghost use Rattle.pbf_pass.specs.declared.hashed.HashedDrain.{HashedDrain};
-ghost use Rattle.pbf_pass.specs.Given.{Took, TookFile};
 ghost use Rattle.pbf_pass.specs.Pass.{file_header};
 ghost use Rattle.sha2.specs.Sha256.{sha256};
 
@@ -86,14 +85,12 @@ pub fn file_extracted_with_parents_is_kept(area: BoundingBox)
         ≡ extract_of (all_parents area) area file }
 {}
 
-/// What a call says that a hashing drain took, or that it took nothing, holds of the drain below too, with the digest that the hashing drain answers: so through such a
-/// drain the receipt of a call is joined by the digest of what was written.
+/// What a hashing drain took, if anything, the drain below took; and the digest that the hashing drain answers is that of it. So through
+/// such a drain the receipt of a call is joined by the digest of what was written.
 pub fn hashed_drain_took<D: Drain>()
-    ensures took { (old : D) (fresh new : HashedDrain D) (digest : List ℕ)
-        (holds : List ℕ → Type 0) → fresh.drain ≡ old → ⟦<Sha256 as Digest>⟧.holds fresh.hasher []
+    ensures { (old : D) (fresh new : HashedDrain D) (digest written : List ℕ) → fresh.drain ≡ old
+        → ⟦<Sha256 as Digest>⟧.holds fresh.hasher []
         → ((b : List ℕ) → ⟦<Sha256 as Digest>⟧.holds new.hasher b → digest ≡ sha256 b)
-        → Took ⟦<HashedDrain<D> as Drain>⟧ fresh new holds
-        → TookFile D.Drain old new.drain digest holds }
-    ensures nothing { (old : D) (fresh new : HashedDrain D) → fresh.drain ≡ old
-        → Added ⟦<HashedDrain<D> as Drain>⟧ fresh [] new → Added D.Drain old [] new.drain }
+        → Added ⟦<HashedDrain<D> as Drain>⟧ fresh written new
+        → Added D.Drain old written new.drain × (digest ≡ sha256 written) }
 {}

@@ -8,6 +8,7 @@ pub mod laws;
 mod pick;
 mod repeat;
 mod showing;
+mod sorted;
 mod write;
 
 pub use blobs::list_blobs;
@@ -19,5 +20,6 @@ pub use pbf_pass::{
     Counts, Gather, Halt, InputReceipt, Nothing, Pass, Refusal, check, check_with_receipt,
     gather_again, step_again, step_count, step_gather, step_nodes, step_relations, step_ways,
 };
-pub use pick::{Selection, step_pack, step_write, step_write_parents};
+pub use pick::{step_pack, step_write, step_write_parents};
 pub use showing::{show, show_with_receipt};
+pub use sorted::{extract_sorted, extract_sorted_with_receipt};

@@ -14,11 +14,11 @@ ghost use Rattle.pbf_pass.specs.Counting.{counts_of};
 ghost use Rattle.pbf_pass.specs.Judged.{fault_in};
 ghost use Rattle.pbf_pass.specs.Pass.{IsStep};
 ghost use Rattle.pbf_pass.specs.Payload.{primitive_block, lent_by};
-ghost use Rattle.pbfcut.specs.Pick.{everything, pick_of, picks_of, picked_in, picks_id, picked_by_some, picked_with_parents, PacksAll, PacksPicked, StopsAmong, KeepsPacker, PacksPayload, FailsToPackPayload, PacksFrame, FailsToPack};
+ghost use Rattle.pbfcut.specs.Pick.{everything, pick_of, picks_of, picked_in, picks_id, picked_by, picked_by_some, PacksAll, PacksPicked, StopsAmong, KeepsPacker, PacksPayload, FailsToPackPayload, PacksFrame, FailsToPack};
 
 use osm_entity::EntityRef;
 use osm_pack::Packer;
-use osm_ways::{Chooser, ChooserParents, Chosen, ChosenParents};
+use osm_ways::{Chooser, Chosen, ChosenParents};
 use pbf_block::{Block, Counts, Kinds, Run, Runs};
 use pbf_dense::Dense;
 use pbf_frame::{Drain, Feed, Frame, FrameKind, FrameReader, Stop};
@@ -26,57 +26,36 @@ use pbf_pass::Pass;
 use std::alloc::Global;
 use std::hash::BuildHasher;
 
-/// Which entities are written.
-#[derive(Clone, Copy)]
-pub enum Selection<'a> {
-    /// All of them.
-    Everything,
-    /// The complete-ways extract.
-    Ways(&'a Chosen),
-    /// The extract with all parents.
-    Parents(&'a ChosenParents),
-}
-
-impl<'a> Selection<'a> {
-    /// Which these are, to be asked of many entities one after another.
-    #[tactic(auto, unfolding(crate::specs::Pick::pick_of, crate::specs::Pick::picks_of))]
-    fn picker(self) -> Picker<'a>
-        ensures { picks_of result ≡ pick_of self.entry }
-    {
-        match self {
-            Selection::Everything => Picker::Everything,
-            Selection::Ways(chosen) => Picker::Ways(chosen.chooser()),
-            Selection::Parents(chosen) => Picker::Parents(chosen.chooser()),
-        }
-    }
-}
-
 /// Which entities are written, asked of many one after another: the look-ups of ids that lie close together are cheap.
 #[derive(Drop)]
-pub(crate) enum Picker<'a> {
-    /// All of them.
-    Everything,
-    /// The complete-ways extract.
-    Ways(Chooser<'a>),
-    /// The extract with all parents.
-    Parents(ChooserParents<'a>),
+pub(crate) struct Picker<'a> {
+    /// What was chosen; all of them where nothing was.
+    chooser: Option<Chooser<'a>>,
 }
 
-impl Picker<'_> {
+impl<'a> Picker<'a> {
+    /// Those that were chosen, or all where nothing was.
+    #[tactic(auto, unfolding(crate::specs::Pick::pick_of, crate::specs::Pick::picks_of))]
+    fn of(chosen: Option<&'a Chosen>) -> Picker<'a>
+        ensures { picks_of result ≡ pick_of chosen.entry }
+    {
+        match chosen {
+            None => Picker { chooser: None },
+            Some(chosen) => Picker {
+                chooser: Some(chosen.chooser()),
+            },
+        }
+    }
+
     /// Whether an entity is written.
     #[tactic(auto, unfolding(crate::specs::Pick::picks_of))]
     fn picks(&mut self, entity: &EntityRef<'_>) -> bool
         ensures picked { result ≡ picks_of self.old (entity_of entity.now) }
         ensures same { self.new ≡ self.old }
     {
-        match self {
-            Picker::Everything => true,
-            Picker::Ways(chooser) => match entity {
-                EntityRef::Node(node) => chooser.keeps_node(node.id()),
-                EntityRef::Way(way) => chooser.keeps_way(way),
-                EntityRef::Relation(relation) => chooser.keeps_relation(relation),
-            },
-            Picker::Parents(chooser) => match entity {
+        match &mut self.chooser {
+            None => true,
+            Some(chooser) => match entity {
                 EntityRef::Node(node) => chooser.keeps_node(node.id()),
                 EntityRef::Way(way) => chooser.keeps_way(way),
                 EntityRef::Relation(relation) => chooser.keeps_relation(relation),
@@ -90,10 +69,9 @@ impl Picker<'_> {
         ensures picked { result ≡ picks_id self.old id }
         ensures same { self.new ≡ self.old }
     {
-        match self {
-            Picker::Everything => true,
-            Picker::Ways(chooser) => chooser.keeps_node(id),
-            Picker::Parents(chooser) => chooser.keeps_node(id),
+        match &mut self.chooser {
+            None => true,
+            Some(chooser) => chooser.keeps_node(id),
         }
     }
 }
@@ -227,20 +205,20 @@ fn pack_run<D: Drain, S: BuildHasher>(
 /// this number.
 pub(crate) fn pack_runs<D: Drain, S: BuildHasher>(
     runs: Runs<'_>,
-    selection: Selection<'_>,
+    chosen: Option<&Chosen>,
     counts: &mut Counts,
     number: u8,
     packer: &mut Packer<D, S>,
 ) -> Result<(), Stop>
     requires begun { has_header packer.old ≡ true }
     requires packing { IsPacking packer.old }
-    ensures packed { OnOk result (PacksPicked D.Drain (pick_of selection.entry)
+    ensures packed { OnOk result (PacksPicked D.Drain (pick_of chosen.entry)
         (joined_runs (runs_left runs.entry)) packer.old packer.new counts.old counts.new) }
-    ensures stopped { IfErr result (StopsAmong D.Drain number (pick_of selection.entry)
+    ensures stopped { IfErr result (StopsAmong D.Drain number (pick_of chosen.entry)
         (joined_runs (runs_left runs.entry)) packer.old packer.new) }
     ensures keeps { KeepsPacker D.Drain packer.old packer.new }
 {
-    let mut picker = selection.picker();
+    let mut picker = Picker::of(chosen);
     for run in runs {
         pack_run(&run, &mut picker, counts, number, packer)?;
     }
@@ -253,7 +231,7 @@ fn pack_block<D: Drain, S: BuildHasher>(
     alloc: Global,
     payload: &[u8],
     at: u64,
-    selection: Selection<'_>,
+    chosen: Option<&Chosen>,
     packer: &mut Packer<D, S>,
 ) -> Result<Counts, Stop>
     requires placed { at + length payload.now ≤ 2 ^ 63 }
@@ -261,11 +239,11 @@ fn pack_block<D: Drain, S: BuildHasher>(
     requires begun { has_header packer.old ≡ true }
     requires packing { IsPacking packer.old }
     ensures packed { OnOk result (PacksAll D.Drain (fault_in (primitive_block at payload.now))
-        (picked_in (pick_of selection.entry) (primitive_block at payload.now))
+        (picked_in (pick_of chosen.entry) (primitive_block at payload.now))
         packer.old packer.new) }
     ensures counted { IfOk result (λ counts. counts ≡ counts_of
-        (picked_in (pick_of selection.entry) (primitive_block at payload.now))) }
-    ensures stopped { IfErr result (FailsToPackPayload D.Drain (pick_of selection.entry)
+        (picked_in (pick_of chosen.entry) (primitive_block at payload.now))) }
+    ensures stopped { IfErr result (FailsToPackPayload D.Drain (pick_of chosen.entry)
         (primitive_block at payload.now) packer.old packer.new) }
     ensures keeps { KeepsPacker D.Drain packer.old packer.new }
 {
@@ -274,7 +252,7 @@ fn pack_block<D: Drain, S: BuildHasher>(
     // Each entity of a block that was judged can be written, so this is no later pass.
     pack_runs(
         block.runs_among(Kinds::all()),
-        selection,
+        chosen,
         &mut counts,
         0,
         packer,
@@ -287,21 +265,21 @@ fn pack_payload<D: Drain, S: BuildHasher>(
     alloc: Global,
     frame: &Frame<'_>,
     pass: &mut Pass,
-    selection: Selection<'_>,
+    chosen: Option<&Chosen>,
     packer: &mut Packer<D, S>,
 ) -> Result<(), Stop>
     requires begun { has_header packer.old ≡ true }
     requires packing { IsPacking packer.old }
-    ensures packed { OnOk result (PacksPayload D.Drain (pick_of selection.entry) (lent_by frame.now)
+    ensures packed { OnOk result (PacksPayload D.Drain (pick_of chosen.entry) (lent_by frame.now)
         packer.old packer.new pass.old pass.new) }
-    ensures stopped { IfErr result (FailsToPackPayload D.Drain (pick_of selection.entry)
+    ensures stopped { IfErr result (FailsToPackPayload D.Drain (pick_of chosen.entry)
         (lent_by frame.now) packer.old packer.new) }
     ensures keeps { KeepsPacker D.Drain packer.old packer.new }
 {
     match frame.kind {
         FrameKind::Header => pass.take_header(alloc, frame.payload, frame.payload_at)?,
         FrameKind::Data => {
-            let counts = pack_block(alloc, frame.payload, frame.payload_at, selection, packer)?;
+            let counts = pack_block(alloc, frame.payload, frame.payload_at, chosen, packer)?;
             pass.counts.add(counts);
         }
         FrameKind::Other => {}
@@ -319,13 +297,13 @@ pub fn step_pack<F: Feed, D: Drain, S: BuildHasher>(
     alloc: Global,
     reader: &mut FrameReader<F>,
     pass: &mut Pass,
-    selection: Selection<'_>,
+    chosen: Option<&Chosen>,
     packer: &mut Packer<D, S>,
 ) -> Result<bool, Stop>
     requires { has_header packer.old ≡ true }
     ensures step { IsPacking packer.old → IsStep F.Feed reader.old reader.new
-        (PacksFrame D.Drain (pick_of selection.entry) packer.old packer.new pass.old pass.new)
-        (FailsToPack D.Drain (pick_of selection.entry) packer.old packer.new)
+        (PacksFrame D.Drain (pick_of chosen.entry) packer.old packer.new pass.old pass.new)
+        (FailsToPack D.Drain (pick_of chosen.entry) packer.old packer.new)
         ((pass.new ≡ pass.old) × (packer.new ≡ packer.old)) result }
     ensures spent { (stop : Stop) → packing.HasStopped packer.old stop
         → (result ≡ Err stop) × (reader.new ≡ reader.old) }
@@ -340,29 +318,10 @@ pub fn step_pack<F: Feed, D: Drain, S: BuildHasher>(
     let Some(frame) = reader.next()? else {
         return Ok(false);
     };
-    let outcome = pack_payload(alloc, &frame, pass, selection, packer);
+    let outcome = pack_payload(alloc, &frame, pass, chosen, packer);
     packer.held_is_bounded();
     outcome?;
     Ok(true)
-}
-
-/// Which entities these are: all of them, where nothing was chosen.
-#[tactic(auto, unfolding(crate::specs::Pick::pick_of))]
-fn selected(chosen: Option<&Chosen>) -> Selection<'_>
-    ensures { pick_of result ≡ picked_by_some (option_map (λ c. c.now) chosen.entry) }
-{
-    match chosen {
-        None => Selection::Everything,
-        Some(chosen) => Selection::Ways(chosen),
-    }
-}
-
-/// The same where all parents were chosen too.
-#[tactic(auto, unfolding(crate::specs::Pick::pick_of))]
-fn selected_with_parents(chosen: &ChosenParents) -> Selection<'_>
-    ensures { pick_of result ≡ picked_with_parents chosen.now }
-{
-    Selection::Parents(chosen)
 }
 
 /// [`step_pack`] of the complete-ways extract, or of all entities.
@@ -386,7 +345,7 @@ pub fn step_write<F: Feed, D: Drain, S: BuildHasher>(
     ensures limited { place_of reader.new ≤ 2 ^ 62 }
     ensures space { held_by reader.new + packer_held packer.new ≤ 61620990 }
 {
-    step_pack(alloc, reader, pass, selected(chosen), packer)
+    step_pack(alloc, reader, pass, chosen, packer)
 }
 
 /// [`step_pack`] of the extract with all parents.
@@ -399,9 +358,9 @@ pub fn step_write_parents<F: Feed, D: Drain, S: BuildHasher>(
 ) -> Result<bool, Stop>
     requires { has_header packer.old ≡ true }
     ensures step { IsPacking packer.old → IsStep F.Feed reader.old reader.new
-        (PacksFrame D.Drain (picked_with_parents chosen.now)
+        (PacksFrame D.Drain (picked_by chosen.now)
         packer.old packer.new pass.old pass.new)
-        (FailsToPack D.Drain (picked_with_parents chosen.now) packer.old packer.new)
+        (FailsToPack D.Drain (picked_by chosen.now) packer.old packer.new)
         ((pass.new ≡ pass.old) × (packer.new ≡ packer.old)) result }
     ensures spent { (stop : Stop) → packing.HasStopped packer.old stop
         → (result ≡ Err stop) × (reader.new ≡ reader.old) }
@@ -409,5 +368,5 @@ pub fn step_write_parents<F: Feed, D: Drain, S: BuildHasher>(
     ensures limited { place_of reader.new ≤ 2 ^ 62 }
     ensures space { held_by reader.new + packer_held packer.new ≤ 61620990 }
 {
-    step_pack(alloc, reader, pass, selected_with_parents(chosen), packer)
+    step_pack(alloc, reader, pass, Some(chosen.chosen()), packer)
 }

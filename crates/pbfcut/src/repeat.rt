@@ -102,9 +102,9 @@ impl Repeat {
         requires { IsShort (header_of writing.header.now) }
         ensures packed { IfOk result (λ counts. GaveFile F.Feed feed.old feed.new self.digest
             (λ file. Took D.Drain drain.old drain.new
-            (Packed (pick_of writing.entry.selection) (header_of writing.entry.header.now)
+            (Packed (pick_of writing.entry.chosen) (header_of writing.entry.header.now)
             counts (judged_file (Some file))))) }
-        ensures beginning { OnErr result (PacksFront (pick_of writing.entry.selection)
+        ensures beginning { OnErr result (PacksFront (pick_of writing.entry.chosen)
             (header_of writing.entry.header.now) (judged_file (F.remaining feed.old))
             (D.taken drain.old) (D.taken drain.new)) }
         ensures stops { IfErr result (StopsAgain self (F.remaining feed.old)

@@ -13,7 +13,8 @@ ghost use Rattle.pbf_pass.specs.Stops.{KeepsDrain, ReadFailed, WriteFailed};
 ghost use Rattle.pbfcut.specs.Pick.{pick_of, KeepsPacker, IsFreshPacker};
 ghost use Rattle.pbfcut.specs.Write.{PacksAgain, FailsAgain, PacksNext, FailsAtNext, Packed, PacksFront};
 
-use crate::pick::{Selection, pack_runs};
+use crate::pick::pack_runs;
+use osm_ways::Chosen;
 use osm_pack::Packer;
 use pbf_block::{Counts, Kinds, UnjudgedBlock};
 use pbf_frame::{Drain, Feed, Frame, FrameKind, Stop};
@@ -28,7 +29,7 @@ fn pack_block<D: Drain, S: BuildHasher>(
     payload: &[u8],
     at: u64,
     counts: &mut Counts,
-    selection: Selection<'_>,
+    chosen: Option<&Chosen>,
     number: u8,
     packer: &mut Packer<D, S>,
 ) -> Result<(), Stop>
@@ -36,9 +37,9 @@ fn pack_block<D: Drain, S: BuildHasher>(
     requires short { length payload.now < 33554432 }
     requires begun { has_header packer.old ≡ true }
     requires packing { IsPacking packer.old }
-    ensures packed { OnOk result (PacksAgain D.Drain (pick_of selection.entry)
+    ensures packed { OnOk result (PacksAgain D.Drain (pick_of chosen.entry)
         (primitive_block at payload.now) packer.old packer.new counts.old counts.new) }
-    ensures stopped { IfErr result (FailsAgain D.Drain number (pick_of selection.entry)
+    ensures stopped { IfErr result (FailsAgain D.Drain number (pick_of chosen.entry)
         (primitive_block at payload.now) packer.old packer.new) }
     ensures keeps { KeepsPacker D.Drain packer.old packer.new }
 {
@@ -47,7 +48,7 @@ fn pack_block<D: Drain, S: BuildHasher>(
     };
     pack_runs(
         block.runs_among(Kinds::all()),
-        selection,
+        chosen,
         counts,
         number,
         packer,
@@ -60,22 +61,22 @@ fn pack_payload<D: Drain, S: BuildHasher>(
     alloc: Global,
     frame: &Frame<'_>,
     counts: &mut Counts,
-    selection: Selection<'_>,
+    chosen: Option<&Chosen>,
     number: u8,
     packer: &mut Packer<D, S>,
 ) -> Result<(), Stop>
     requires begun { has_header packer.old ≡ true }
     requires packing { IsPacking packer.old }
-    ensures packed { OnOk result (PacksAgain D.Drain (pick_of selection.entry)
+    ensures packed { OnOk result (PacksAgain D.Drain (pick_of chosen.entry)
         (lent_by frame.now) packer.old packer.new counts.old counts.new) }
-    ensures stopped { IfErr result (FailsAgain D.Drain number (pick_of selection.entry)
+    ensures stopped { IfErr result (FailsAgain D.Drain number (pick_of chosen.entry)
         (lent_by frame.now) packer.old packer.new) }
     ensures keeps { KeepsPacker D.Drain packer.old packer.new }
 {
     match frame.kind {
         FrameKind::Data => {
             let (payload, at) = (frame.payload, frame.payload_at);
-            pack_block(alloc, payload, at, counts, selection, number, packer)
+            pack_block(alloc, payload, at, counts, chosen, number, packer)
         }
         FrameKind::Header | FrameKind::Other => Ok(()),
     }
@@ -90,17 +91,17 @@ struct Writer<'a, D: Drain, S: BuildHasher> {
     packer: &'a mut Packer<D, S>,
     /// The numbers of the entities that were packed.
     counts: Counts,
-    selection: Selection<'a>,
+    chosen: Option<&'a Chosen>,
     /// The pass.
     number: u8,
 }
 
 impl<D: Drain, S: BuildHasher> Visit for Writer<'_, D, S> {
-    ghost took = { λ old f new. PacksNext D.Drain (pick_of old.selection)
+    ghost took = { λ old f new. PacksNext D.Drain (pick_of old.chosen)
         old.packer.now new.packer.now old.counts new.counts f
-        × (pick_of new.selection ≡ pick_of old.selection) × (new.number ≡ old.number) };
+        × (pick_of new.chosen ≡ pick_of old.chosen) × (new.number ≡ old.number) };
 
-    ghost failed = { λ old f new stop. FailsAtNext D.Drain old.number (pick_of old.selection)
+    ghost failed = { λ old f new stop. FailsAtNext D.Drain old.number (pick_of old.chosen)
         old.packer.now new.packer.now f stop };
 
     ghost ready = { λ v. (has_header v.packer.now ≡ true) × IsPacking v.packer.now };
@@ -112,7 +113,7 @@ impl<D: Drain, S: BuildHasher> Visit for Writer<'_, D, S> {
             alloc,
             frame,
             &mut self.counts,
-            self.selection,
+            self.chosen,
             self.number,
             self.packer,
         )
@@ -124,8 +125,8 @@ impl<D: Drain, S: BuildHasher> Visit for Writer<'_, D, S> {
 pub(crate) struct Writing<'a> {
     /// The header.
     pub(crate) header: &'a Header,
-    /// Which of the entities.
-    pub(crate) selection: Selection<'a>,
+    /// Which of the entities; all of them where nothing was chosen.
+    pub(crate) chosen: Option<&'a Chosen>,
 }
 
 /// Puts a header, what is picked of a whole file, in a pass of this number, and the last block through a packer.
@@ -140,9 +141,9 @@ fn pack_file<'a, F: Feed, D: Drain, S: BuildHasher>(
     requires short { IsShort (header_of writing.header.now) }
     ensures packed { IfOk result (λ wrote. GaveFile F.Feed feed.old feed.new wrote.input
         (λ file. Took D.Drain packer.old.drain packer.new.drain
-        (Packed (pick_of writing.entry.selection) (header_of writing.entry.header.now)
+        (Packed (pick_of writing.entry.chosen) (header_of writing.entry.header.now)
         wrote.counts (judged_file (Some file))))) }
-    ensures beginning { OnErr result (PacksFront (pick_of writing.entry.selection)
+    ensures beginning { OnErr result (PacksFront (pick_of writing.entry.chosen)
         (header_of writing.entry.header.now) (judged_file (F.remaining feed.old))
         (D.taken packer.old.drain) (D.taken packer.new.drain)) }
     ensures stops { IfErr result (StopsUnjudged number (judged_file (F.remaining feed.old))
@@ -154,7 +155,7 @@ fn pack_file<'a, F: Feed, D: Drain, S: BuildHasher>(
     let mut writer = Writer {
         packer,
         counts: Counts::none(),
-        selection: writing.selection,
+        chosen: writing.chosen,
         number,
     };
     let outcome = pass_over(alloc, feed, &mut writer);
@@ -178,9 +179,9 @@ pub(crate) fn write<F: Feed, D: Drain, S: BuildHasher + Drop>(
     requires { IsShort (header_of writing.header.now) }
     ensures packed { IfOk result (λ wrote. GaveFile F.Feed feed.old feed.new wrote.input
         (λ file. Took D.Drain drain.old drain.new
-        (Packed (pick_of writing.entry.selection) (header_of writing.entry.header.now)
+        (Packed (pick_of writing.entry.chosen) (header_of writing.entry.header.now)
         wrote.counts (judged_file (Some file))))) }
-    ensures beginning { OnErr result (PacksFront (pick_of writing.entry.selection)
+    ensures beginning { OnErr result (PacksFront (pick_of writing.entry.chosen)
         (header_of writing.entry.header.now) (judged_file (F.remaining feed.old))
         (D.taken drain.old) (D.taken drain.new)) }
     ensures stops { IfErr result (StopsUnjudged number (judged_file (F.remaining feed.old))

@@ -3,9 +3,10 @@
 
 use osm_entity::BoundingBox;
 use pbf_frame::{FromRead, Stop, ToWrite};
+use pbf_pass::HashedDrain;
 use pbfcut::{
-    Counts, Halt, Receipt, convert, convert_with_receipt, extract, extract_parents,
-    extract_parents_with_receipt, extract_with_receipt,
+    Counts, Halt, InputReceipt, convert_with_receipt, extract_parents_with_receipt,
+    extract_sorted_with_receipt,
 };
 use pbfcut_cli::Ending;
 use pbfcut_files::{
@@ -54,21 +55,20 @@ fn open_three(rt: &HostRuntime, files: Files<'_>, passes: u8) -> Result<Passes, 
     Ok(Passes { one, two, three })
 }
 
-/// What a call reports: the counts, or a receipt, for which OUT is hashed as it is written.
+/// What a call reports, with the digest of OUT where it was hashed as it was written.
 #[derive(Drop)]
-enum Report {
-    Counted(Counts),
-    Receipted(Receipt),
+struct Report {
+    receipt: InputReceipt,
+    output: Option<[u8; 32]>,
 }
 
-/// What a call without a receipt reports.
-fn counted(outcome: Result<Counts, Stop>) -> Result<Report, Halt> {
-    Ok(Report::Counted(outcome?))
-}
-
-/// What a call with a receipt reports.
-fn receipted(outcome: Result<Receipt, Halt>) -> Result<Report, Halt> {
-    Ok(Report::Receipted(outcome?))
+/// What a call reports that ended well.
+fn reported(
+    outcome: Result<InputReceipt, Halt>,
+    output: Option<[u8; 32]>,
+) -> Result<Report, Halt> {
+    let receipt = outcome?;
+    Ok(Report { receipt, output })
 }
 
 /// Writes to OUT what is left in its buffer, also after a stop, and prints after none what the call reports. Answers the counts.
@@ -92,18 +92,13 @@ fn end(
     if flushed.is_err() {
         return Err(Ending::Stopped(Stop::Write));
     }
-    match report {
-        Report::Counted(counts) => {
-            print_counts(rt, counts)?;
-            Ok(counts)
-        }
-        Report::Receipted(receipt) => {
-            print_counts(rt, receipt.counts)?;
-            print_digest(rt, receipt.input, files.input)?;
-            print_digest(rt, receipt.output, files.output)?;
-            Ok(receipt.counts)
-        }
+    let Report { receipt, output } = report;
+    print_counts(rt, receipt.counts)?;
+    if let Some(output) = output {
+        print_digest(rt, receipt.input, files.input)?;
+        print_digest(rt, output, files.output)?;
     }
+    Ok(receipt.counts)
 }
 
 /// `convert [--progress] [--digests] IN OUT`.
@@ -116,9 +111,11 @@ pub(crate) fn run_convert(rt: &HostRuntime, files: Files<'_>) -> Result<(), Endi
     let mut file = create_output(rt, files.output)?;
     let drain = &mut ToWrite::new(&mut file);
     let outcome = if files.digests {
-        receipted(convert_with_receipt(alloc, &mut first, &mut second, drain, hasher))
+        let mut hashed = HashedDrain::new(drain);
+        let outcome = convert_with_receipt(alloc, &mut first, &mut second, &mut hashed, hasher);
+        reported(outcome, Some(hashed.digest()))
     } else {
-        counted(convert(alloc, &mut first, &mut second, drain, hasher))
+        reported(convert_with_receipt(alloc, &mut first, &mut second, drain, hasher), None)
     };
     end(rt, files, &mut file, outcome)?;
     Ok(())
@@ -138,9 +135,11 @@ pub(crate) fn run_extract(
     let mut file = create_output(rt, files.output)?;
     let drain = &mut ToWrite::new(&mut file);
     let outcome = if files.digests {
-        receipted(extract_with_receipt(alloc, one, two, three, area, drain, hasher))
+        let mut hashed = HashedDrain::new(drain);
+        let outcome = extract_sorted_with_receipt(alloc, one, two, three, area, &mut hashed, hasher);
+        reported(outcome, Some(hashed.digest()))
     } else {
-        counted(extract(alloc, one, two, three, area, drain, hasher))
+        reported(extract_sorted_with_receipt(alloc, one, two, three, area, drain, hasher), None)
     };
     tell_empty(rt, end(rt, files, &mut file, outcome)?);
     Ok(())
@@ -161,9 +160,11 @@ pub(crate) fn run_extract_parents(
     let mut file = create_output(rt, files.output)?;
     let drain = &mut ToWrite::new(&mut file);
     let outcome = if files.digests {
-        receipted(extract_parents_with_receipt(alloc, one, two, three, four, area, drain, hasher))
+        let mut hashed = HashedDrain::new(drain);
+        let outcome = extract_parents_with_receipt(alloc, one, two, three, four, area, &mut hashed, hasher);
+        reported(outcome, Some(hashed.digest()))
     } else {
-        counted(extract_parents(alloc, one, two, three, four, area, drain, hasher))
+        reported(extract_parents_with_receipt(alloc, one, two, three, four, area, drain, hasher), None)
     };
     tell_empty(rt, end(rt, files, &mut file, outcome)?);
     Ok(())

@@ -1,8 +1,7 @@
 use Rattle.pbfcut.specs.Theorem.{IsConverted}
 use Rattle.pbfcut.proofs.ConvertingLemmas.{can_told}
-use Rattle.pbfcut.proofs.ExtractingLemmas.{same_digest}
 use Rattle.pbf_pass.proofs.GivenLemmas.{tells_file, told_digest}
-use Rattle.pbfcut.proofs.TheoremLemmas.{took_weaker, took_of_two}
+use Rattle.pbfcut.proofs.TheoremLemmas.{same_digest, took_weaker, took_of_two}
 use Rattle.pbfcut.proofs.converting.convert.Goals as goal
 
 pub returns-clause-judged : goal.returns-clause-judged

@@ -52,7 +52,9 @@ returns-clause-chosen g c =
         supplied = two.supplied;
         digest_is = two.digest_is;
         holding = record {
-          chosen = chooses c.args.area _ _ c.in_ok-told.told.pass _ _ _ _ _ _ _ one.holding.1 c.new-nodes.ensures c.in_ok-writable_header.ensures.header c.in_ok-writable_header.ensures.within c.in_ok-header.ensures c.in_ok-ways.ensures two.holding c.in_ok-chosen.ensures;
+          ways = _;
+          chosen = chooses c.args.area _ _ c.in_ok-told.told.pass _ _ _ _ _ _ one.holding.1 c.new-nodes.ensures c.in_ok-writable_header.ensures.header c.in_ok-writable_header.ensures.within c.in_ok-header.ensures c.in_ok-ways.ensures two.holding;
+          kept = c.in_ok-chosen.ensures;
           short = search rules;
         };
       };

@@ -1,5 +1,6 @@
-use Rattle.std.proofs.Common.{◌⊎◌, inr, refl}
+use Rattle.std.proofs.Common.{◌⊎◌, inr, refl, ap, ◌∙◌}
 use Rattle.std.proofs.lemmas.Result.{err_from_is_err_and}
+use Rattle.osm_ways.specs.Phases.{KeptSets, start_relations}
 use Rattle.pbfcut.specs.Calls.{ChangedIn}
 use Rattle.pbf_pass.specs.HeaderLimit.{judged_writable}
 use Rattle.pbf_pass.specs.Stops.{FaultOf}
@@ -42,7 +43,7 @@ returns-clause-chosen g c =
           supplied = three.supplied;
           digest_is = three.digest_is;
           holding = record {
-            chosen = chooses_parents c.args.area _ _ _ c.in_ok-choice.choice.chosen _ _ _ _ choice.chosen c.with_parents-relations.ensures three.holding c.in_ok-chosen.ensures.ways c.in_ok-chosen.ensures.least;
+            chosen = chooses_parents c.args.area _ _ _ choice.ways _ _ _ _ _ choice.chosen (c.with_parents-relations.ensures ∙ ap (λ (s : KeptSets). start_relations s.ways) choice.kept) three.holding c.in_ok-end_relations.ensures.ways c.in_ok-end_relations.ensures.least c.into_chosen-chosen.ensures;
             short = choice.short;
           };
         };

@@ -3,9 +3,8 @@ use Rattle.osm_ways.specs.Parents.{extract_with_parents}
 use Rattle.pbfcut.specs.Theorem.{IsExtraction}
 use Rattle.pbfcut.specs.Extracting.{all_parents}
 use Rattle.pbfcut.proofs.ConvertingLemmas.{can_told}
-use Rattle.pbfcut.proofs.ExtractingLemmas.{same_digest}
 use Rattle.pbf_pass.proofs.GivenLemmas.{tells_file, told_digest}
-use Rattle.pbfcut.proofs.TheoremLemmas.{took_weaker, took_of_four}
+use Rattle.pbfcut.proofs.TheoremLemmas.{same_digest, took_weaker, took_of_four}
 use Rattle.pbfcut.proofs.extracting.extract_parents.Goals as goal
 
 pub returns-clause-judged : goal.returns-clause-judged

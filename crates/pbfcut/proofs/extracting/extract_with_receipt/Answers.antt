@@ -50,7 +50,7 @@ returns-in_err-counts-clause-beginning g c =
     let two = one.holding in
     let choice = two.holding in
     rw p.1 (λ b supply.
-    extracts_front (complete_ways area) (λ meant. extract (seen_decoded area) meant) (complete_ways_select area) area edges b _ h (selects_chosen _ area b _ _ h (ap (λ (l : List ℕ). judged_file (Some l)) (tells_file g.F.Feed _ _ _ _ one b supply.0)) (ap (λ (l : List ℕ). judged_file (Some l)) (tells_file g.G.Feed _ _ _ _ two b supply.1)) choice.chosen) _ _ _ (ap judged_file supply.2) c.in_err-counts.ensures.beginning)
+    extracts_front (complete_ways area) (λ meant. extract (seen_decoded area) meant) (complete_ways_select area) area edges b _ h (selects_chosen _ area b _ _ h (tells_file g.F.Feed _ _ _ _ one b supply.0) (tells_file g.G.Feed _ _ _ _ two b supply.1) choice) _ _ _ (ap judged_file supply.2) c.in_err-counts.ensures.beginning)
 
 pub returns-clause-receipt : goal.returns-clause-receipt
 returns-clause-receipt g c =
@@ -63,4 +63,4 @@ returns-clause-receipt g c =
     let choice = two.holding in
     let three = c.in_ok-counts.ensures.packed in
     let took = three.holding in
-    record { file = one.file; supplied = one.supplied; digest_is = one.digest_is; holding = (chosen_sound area one.file _ _ h choice.chosen, record { file = two.file; supplied = two.supplied; digest_is = two.digest_is; holding = record { file = three.file; supplied = three.supplied; digest_is = three.digest_is; holding = record { written = took.written; added = took.added; holding = λ second third. extracted (complete_ways area) (λ meant. extract (seen_decoded area) meant) (complete_ways_select area) area edges one.file _ h (selects_chosen _ area one.file _ _ h refl (ap (λ (l : List ℕ). judged_file (Some l)) (sym second)) choice.chosen) c.in_ok-counts.counts _ took.written (ap (λ (l : List ℕ). judged_file (Some l)) (sym third)) took.holding } } }) }
+    record { file = one.file; supplied = one.supplied; digest_is = one.digest_is; holding = (chosen_sound area one.file _ _ h choice.chosen, record { file = two.file; supplied = two.supplied; digest_is = two.digest_is; holding = record { file = three.file; supplied = three.supplied; digest_is = three.digest_is; holding = record { written = took.written; added = took.added; holding = λ second third. extracted (complete_ways area) (λ meant. extract (seen_decoded area) meant) (complete_ways_select area) area edges one.file _ h (selects_chosen _ area one.file _ _ h refl (sym second) choice) c.in_ok-counts.counts _ took.written (ap (λ (l : List ℕ). judged_file (Some l)) (sym third)) took.holding } } }) }

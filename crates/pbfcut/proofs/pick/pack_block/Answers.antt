@@ -12,14 +12,14 @@ use Rattle.pbfcut.proofs.pick.pack_block.Goals as goal
 pub returns-in_err-pack_runs-clause-stopped : goal.returns-in_err-pack_runs-clause-stopped
 returns-in_err-pack_runs-clause-stopped g c =
     let p = err_from_is_err_and c.from_residual-in_err-pack_runs.result c.from_residual-in_err-pack_runs.ensures.1 in
-    let pick = pick_of c.args.selection in
+    let pick = pick_of c.args.chosen in
     let same = picked_runs pick c.all.result (joined_runs (runs_left c.runs_among.result)) c.args.at _ c.args.payload.now _ c.all.ensures c.in_ok-block.ensures.payload c.runs_among.ensures.exact in
     let payload = primitive_block c.args.at c.args.payload.now in
     rw (p.1, p.2) (stops_judged g.D.Drain 0 pick (fault_in payload) (joined_runs (runs_left c.runs_among.result)) (picked_in pick payload) c.args.packer.now c.pack_runs.new.packer _ c.in_ok-block.ensures.sound c.runs_among.ensures.fits same c.in_err-pack_runs.ensures.stopped)
 
 pub returns-clause-packed : goal.returns-clause-packed
 returns-clause-packed g c =
-    let pick = pick_of c.args.selection in
+    let pick = pick_of c.args.chosen in
     let same = picked_runs pick c.all.result (joined_runs (runs_left c.runs_among.result)) c.args.at _ c.args.payload.now _ c.all.ensures c.in_ok-block.ensures.payload c.runs_among.ensures.exact in
     record {
       sound = c.in_ok-block.ensures.sound;
@@ -29,6 +29,6 @@ returns-clause-packed g c =
 
 pub returns-clause-counted : goal.returns-clause-counted
 returns-clause-counted g c =
-    let pick = pick_of c.args.selection in
+    let pick = pick_of c.args.chosen in
     let same = picked_runs pick c.all.result (joined_runs (runs_left c.runs_among.result)) c.args.at _ c.args.payload.now _ c.all.ensures c.in_ok-block.ensures.payload c.runs_among.ensures.exact in
     c.in_ok-pack_runs.ensures.packed.counted [] c.none-counts.ensures ∙ ap counts_of same

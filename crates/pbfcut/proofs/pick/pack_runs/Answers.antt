@@ -10,17 +10,17 @@ pub loop-run-init : goal.loop-run-init
 loop-run-init g c = record {
   can = search rules;
   ends = search rules;
-  picker = c.picker-picker.ensures;
+  picker = c.of-picker.ensures;
   gone = [];
   split = search rules;
-  packed = packs_none g.D.Drain (pick_of c.args.selection) c.args.packer.now c.args.counts.now c.requires.packing;
+  packed = packs_none g.D.Drain (pick_of c.args.chosen) c.args.packer.now c.args.counts.now c.requires.packing;
   keeps = keeps_same g.D.Drain c.args.packer.now c.requires.begun;
 }
 
 pub loop-run-preserved : goal.loop-run-preserved
 loop-run-preserved g c =
     let so_far = c.loop-run.invariant in
-    let pick = pick_of c.args.selection in
+    let pick = pick_of c.args.chosen in
     let es = run_entities c.in-Some.run' in
     let here = subst (λ (p : Pick). PacksPicked g.D.Drain p es c.loop-run.packer c.pack_run.new.packer c.loop-run.counts c.pack_run.new.counts) so_far.picker c.in_ok-pack_run.ensures.packed in
     record {
@@ -37,7 +37,7 @@ pub returns-in_err-pack_run-clause-stopped : goal.returns-in_err-pack_run-clause
 returns-in_err-pack_run-clause-stopped g c =
     let p = err_from_is_err_and c.from_residual.result c.from_residual.ensures.1 in
     let so_far = c.loop-run.invariant in
-    let pick = pick_of c.args.selection in
+    let pick = pick_of c.args.chosen in
     let es = run_entities c.in-Some.run' in
     let here = subst (λ (p : Pick). StopsAmong g.D.Drain c.args.number p es c.loop-run.packer c.pack_run.new.packer c.in_err-pack_run.field-0.0) so_far.picker c.in_err-pack_run.ensures.stopped in
     let rest = joined_runs (runs_left c.next.new.self) in

@@ -9,9 +9,9 @@ abbrev pub invariant-loop-run : goal.invariant-loop-run
 invariant-loop-run g l = record {
   can : (goal.iterator-loop-run g).can_next l.run-iterator;
   ends : (goal.iterator-loop-run g).is_finite l.run-iterator;
-  picker : picks_of l.picker ≡ pick_of l.selection;
+  picker : picks_of l.picker ≡ pick_of l.chosen;
   gone : List EntitySpec;
   split : gone ++ joined_runs (runs_left l.run-iterator) ≡ joined_runs (runs_left l.fn.runs);
-  packed : PacksPicked g.D.Drain (pick_of l.selection) gone l.initial.packer l.packer l.initial.counts l.counts;
+  packed : PacksPicked g.D.Drain (pick_of l.chosen) gone l.initial.packer l.packer l.initial.counts l.counts;
   keeps : KeepsPacker g.D.Drain l.initial.packer l.packer;
 }

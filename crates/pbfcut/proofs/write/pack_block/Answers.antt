@@ -17,7 +17,7 @@ returns-in_err-block-clause-stopped g c =
 pub returns-in_err-pack_runs-clause-stopped : goal.returns-in_err-pack_runs-clause-stopped
 returns-in_err-pack_runs-clause-stopped g c =
     let p = err_from_is_err_and c.from_residual-in_err-pack_runs.result c.from_residual-in_err-pack_runs.ensures.1 in
-    let pick = pick_of c.args.selection in
+    let pick = pick_of c.args.chosen in
     let block = c.in-Some.block in
     let is = rw c.in-Some.is at c.in_ok-block.ensures.payload in
     let here : block_fault block.at block.payload.now ≡ block_fault c.args.at c.args.payload.now = ap₂ (λ (at : ℕ) (m : List ℕ). block_fault at m) is.1 is.0 in
@@ -26,7 +26,7 @@ returns-in_err-pack_runs-clause-stopped g c =
 
 pub returns-clause-packed : goal.returns-clause-packed
 returns-clause-packed g c =
-    let pick = pick_of c.args.selection in
+    let pick = pick_of c.args.chosen in
     let block = c.in-Some.block in
     let is = rw c.in-Some.is at c.in_ok-block.ensures.payload in
     let here : block_fault block.at block.payload.now ≡ block_fault c.args.at c.args.payload.now = ap₂ (λ (at : ℕ) (m : List ℕ). block_fault at m) is.1 is.0 in

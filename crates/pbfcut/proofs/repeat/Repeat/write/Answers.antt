@@ -12,7 +12,7 @@ returns-in_err-compare-in-Ok-clause-beginning g c =
     let p = err_from_is_err_and c.from_residual.result c.from_residual.ensures.1 in
     let given = c.in-Ok.ensures.packed in
     let took = given.holding in
-    rw p.1 (packed_front (pick_of c.args.writing.selection) (header_of c.args.writing.header.now) _ _ _ _ took.written
+    rw p.1 (packed_front (pick_of c.args.writing.chosen) (header_of c.args.writing.header.now) _ _ _ _ took.written
     (packed_told _ _ _ _ given.file took.written (tells_file g.F.Feed _ _ _ _ given) took.holding) took.added.told)
 
 pub returns-in-Err-clause-stops : goal.returns-in-Err-clause-stops

@@ -1,0 +1,148 @@
+//! The extracts in one pass less, of files whose ways come after their nodes.
+
+ghost use Rattle.std.specs.Prelude.{◌≡◌, ◌⊎◌, ℕ, List, IfOk, IfErr, OnOk, OnErr};
+ghost use Rattle.osm_ways.specs.Seen.{seen_decoded};
+ghost use Rattle.osm_ways.specs.Selection.{extract};
+ghost use Rattle.pbf_header.specs.Header.{header_of};
+ghost use Rattle.pbf_frame.specs.Devices.{IsFront};
+ghost use Rattle.pbfcut.specs.Calls.{AllSupply, GaveOrNot, ExtractStops, ChangedIn};
+ghost use Rattle.pbfcut.specs.Theorem.{Extracted, IsExtraction, Promised, Canonical};
+ghost use Rattle.pbfcut.specs.Converting.{CanBeWritten};
+ghost use Rattle.pbf_pass.specs.HeaderLimit.{judged_writable};
+ghost use Rattle.pbfcut.specs.Extracting.{complete_ways, IsChoice};
+ghost use Rattle.pbf_pass.specs.Given.{GaveFile, Took};
+ghost use Rattle.pbfcut.specs.Kept.{IsWritable, extract_of};
+ghost use Rattle.pbf_pass.specs.Refused.{RefusesFile, Halts, HaltsFile, stop_of};
+ghost use Rattle.pbfcut.specs.Repeat.{SameDigest};
+ghost use Rattle.pbf_pass.specs.Stops.{Caused, FaultOf, KeepsDrain, ReadFailed, WriteFailed};
+
+use crate::extracting::Choice;
+use crate::repeat::Repeat;
+use crate::write::Writing;
+use osm_entity::BoundingBox;
+use osm_ways::FirstPhase;
+use pbf_block::Counts;
+use pbf_frame::{Drain, Feed, Stop};
+use pbf_pass::{Halt, InputReceipt, judge, writable_header};
+use std::alloc::Global;
+use std::hash::BuildHasher;
+
+/// The passes before the one that writes: the first judges the file and takes the nodes of the box, and the ways as long as no node
+/// comes behind one. Where one did, the second takes the ways; otherwise it isn't made.
+pub(crate) fn choose_sorted<F: Feed, G: Feed>(
+    alloc: Global,
+    first: &mut F,
+    second: &mut G,
+    area: BoundingBox,
+) -> Result<Choice, Halt>
+    ensures chosen { IfOk result (λ choice. GaveFile F.Feed first.old first.new choice.digest (λ b.
+        GaveOrNot G.Feed second.old second.new choice.digest b
+        (λ c. IsChoice area b c choice.chosen (header_of choice.header)))) }
+    ensures refused { IfErr result
+        (Halts (RefusesFile F.Feed first.old first.new (λ b. judged_writable (Some b)))) }
+    ensures stops { IfErr result (λ h. Caused (FaultOf (judged_writable (F.remaining first.old)))
+        (ReadFailed F.Feed first.old first.new ⊎ ReadFailed G.Feed second.old second.new) ⊥
+        (ChangedIn 2 (F.remaining first.old) (G.remaining second.old)) (stop_of h)) }
+{
+    let mut phase = FirstPhase::new(alloc, area);
+    let told = judge(alloc, first, &mut phase)?;
+    let header = writable_header(&told)?.for_box(alloc, area)?;
+    let digest = told.digest;
+    let in_order = phase.is_in_order();
+    let mut ways = phase.end()?;
+    Repeat { number: 2, digest }.gather_rest(alloc, second, &mut ways, in_order)?;
+    let chosen = ways.end_ways()?;
+    Ok(Choice {
+        chosen,
+        header,
+        digest,
+    })
+}
+
+/// As [`extract`](crate::extract), in two passes where no node of the file comes behind a way: then the first gives the ways too, and
+/// nothing is read of the second feed. Of another file three passes are made, as there.
+///
+/// All that is said there holds. Space: besides, the refs and the ids of the ways are gathered while the first pass goes on.
+pub fn extract_sorted<F: Feed, G: Feed, H: Feed, D: Drain, S: BuildHasher + Drop>(
+    alloc: Global,
+    first: &mut F,
+    second: &mut G,
+    third: &mut H,
+    area: BoundingBox,
+    drain: &mut D,
+    hasher: S,
+) -> Result<Counts, Stop>
+    // The first file has no fault, and its header can be written.
+    ensures judged { OnOk result (CanBeWritten (judged_writable (F.remaining first.old))) }
+    // Where all feeds supply these bytes, the drain took bytes that decode to exactly the complete-ways extract of what they decode
+    // to, in input order, or they are refused for their first fault, with nothing written.
+    ensures promise { (b : List ℕ)
+        → AllSupply b (F.remaining first.old) (G.remaining second.old) (H.remaining third.old)
+        → Promised D.Drain drain.old drain.new b
+        (Extracted (complete_ways area) (extract (seen_decoded area)) area b) result }
+    // What the drain took is a beginning of the extract in canonical form, whatever stopped it, and all of it on success.
+    ensures canonical { (b : List ℕ)
+        → AllSupply b (F.remaining first.old) (G.remaining second.old) (H.remaining third.old)
+        → Canonical D.Drain drain.old drain.new (extract_of (complete_ways area) area) b result }
+    // No files that differ, unless two unlike lists share a digest; of the second feed, if it was read.
+    ensures digests { OnOk result ((SameDigest (F.remaining first.old) (G.remaining second.old)
+        ⊎ (second.new ≡ second.old))
+        × SameDigest (F.remaining first.old) (H.remaining third.old)) }
+    // Each stop has its cause; what is refused is the first file, by its first fault, and then the drain took nothing.
+    ensures stops { IfErr result (ExtractStops (F.remaining first.old) (G.remaining second.old)
+        (H.remaining third.old) (D.taken drain.old) (D.taken drain.new)
+        (ReadFailed F.Feed first.old first.new
+        ⊎ (ReadFailed G.Feed second.old second.new ⊎ ReadFailed H.Feed third.old third.new))
+        (WriteFailed D.Drain drain.old drain.new)) }
+{
+    let receipt = extract_sorted_with_receipt(alloc, first, second, third, area, drain, hasher)?;
+    Ok(receipt.counts)
+}
+
+/// As [`extract_sorted`], and reports the digest of what was read, as [`extract_with_receipt`](crate::extract_with_receipt) does.
+pub fn extract_sorted_with_receipt<F: Feed, G: Feed, H: Feed, D: Drain, S: BuildHasher + Drop>(
+    alloc: Global,
+    first: &mut F,
+    second: &mut G,
+    third: &mut H,
+    area: BoundingBox,
+    drain: &mut D,
+    hasher: S,
+) -> Result<InputReceipt, Halt>
+    // The first and the third feed gave a file of the digest `input`, to its end, and the second too or nothing. The first file has no
+    // fault, and its header can be written. The drain took bytes. Where the files are one, these bytes are exactly its complete-ways
+    // extract, and the counts are those of the entities in it.
+    ensures receipt { IfOk result (λ receipt. GaveFile F.Feed first.old first.new receipt.input
+        (λ b. IsWritable b
+        × GaveOrNot G.Feed second.old second.new receipt.input b
+        (λ c. GaveFile H.Feed third.old third.new receipt.input (λ d.
+        Took D.Drain drain.old drain.new
+        (λ written. b ≡ c → b ≡ d → IsExtraction (complete_ways area) (extract (seen_decoded area))
+        area b receipt.counts written))))) }
+    // The first feed gave as many bytes of this digest, the fault is the first of whatever begins so, and the drain took nothing.
+    ensures refused { IfErr result (HaltsFile F.Feed first.old first.new
+        D.Drain drain.old drain.new (λ b. judged_writable (Some b))) }
+    ensures stops { IfErr result (λ h. ExtractStops (F.remaining first.old) (G.remaining second.old)
+        (H.remaining third.old) (D.taken drain.old) (D.taken drain.new)
+        (ReadFailed F.Feed first.old first.new
+        ⊎ (ReadFailed G.Feed second.old second.new ⊎ ReadFailed H.Feed third.old third.new))
+        (WriteFailed D.Drain drain.old drain.new) (stop_of h)) }
+    // Whatever stopped it, where all feeds supply these bytes a prefix of the answer went out, and nothing where they have a fault.
+    ensures beginning { OnErr result ((b : List ℕ)
+        → AllSupply b (F.remaining first.old) (G.remaining second.old) (H.remaining third.old)
+        → IsFront (D.taken drain.old) (D.taken drain.new)
+        (extract_of (complete_ways area) area b)) }
+    ensures drain { KeepsDrain D.Drain drain.old drain.new }
+{
+    let choice = choose_sorted(alloc, first, second, area)?;
+    let digest = choice.digest;
+    let writing = Writing {
+        header: &choice.header,
+        chosen: Some(&choice.chosen),
+    };
+    let counts = Repeat { number: 3, digest }.write(alloc, third, drain, hasher, writing)?;
+    Ok(InputReceipt {
+        counts,
+        input: digest,
+    })
+}
