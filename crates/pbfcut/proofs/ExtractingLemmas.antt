@@ -12,7 +12,7 @@ use Rattle.std.specs.Int.Signed.{mag}
 use Rattle.osm_entity.specs.Entity.{EntitySpec, Decoded, node, way, relation}
 use Rattle.osm_ways.specs.declared.phases.Chosen.{Chosen}
 use Rattle.osm_ids.specs.Links.{IsLeast}
-use Rattle.osm_ways.specs.Parents.{keeps_with_parents}
+use Rattle.osm_ways.specs.Parents.{keeps_with_parents, extract_with_parents}
 use Rattle.osm_ways.specs.Phases.{NodeSets, WaySets, RelationSets, KeptSets, node_step, way_step, relation_step, start_nodes, start_ways, start_relations, node_pass, without_parents, way_pass, relation_pass, is_chosen}
 use Rattle.osm_ways.specs.First.{FirstSets, start_first, first_step}
 use Rattle.osm_ways.proofs.FirstLemmas.{first_in_order, first_broken}
@@ -36,11 +36,11 @@ use Rattle.pbf_pass.specs.HeaderLimit.{IsShort, header_limit, judged_writable, h
 use Rattle.pbf_pass.specs.Counting.{counts_of, stored_entities}
 use Rattle.pbfcut.specs.Calls.{GaveOrNot, Differ, ChangedIn, ChangedBefore, RefusedFirst, ConvertStops, ExtractStops, ParentsStops}
 use Rattle.pbfcut.specs.Theorem.{IsExtraction}
-use Rattle.pbfcut.specs.Extracting.{Choice, complete_ways, all_parents, extraction, extract_bytes, Chooses, ChoosesParents, IsChoice}
+use Rattle.pbfcut.specs.Extracting.{Choice, complete_ways, all_parents, extraction, extract_bytes, Chooses, ChoosesParents, IsChoice, IsChoiceWithParents}
 use Rattle.pbfcut.specs.Kept.{verdict_on, extract_of, IsWritable}
 use Rattle.pbf_pass.proofs.GivenLemmas.{IsDigest, gave_file_less}
 use Rattle.pbf_pass.specs.Given.{GaveFile, Took}
-use Rattle.pbfcut.proofs.KeptLaw.{IsSelection, IsKeptExtract, complete_ways_select, same_verdict, extract_kept}
+use Rattle.pbfcut.proofs.KeptLaw.{IsSelection, IsKeptExtract, complete_ways_select, all_parents_select, same_verdict, extract_kept}
 use Rattle.pbfcut.proofs.TheoremLemmas.{took_weaker}
 use Rattle.pbf_pass.specs.Pass.{with_node, with_first, with_way, with_relation, TakesFile, file_header}
 use Rattle.pbfcut.specs.declared.repeat.Repeat.{Repeat}
@@ -337,3 +337,9 @@ pub went_on : {H D : Type 0} (f : feed.Ghosts H) (d : drain.Ghosts D) (feed_old 
     → GaveFile f feed_old feed_new input (λ e. Took d old new (λ written. b ≡ c → b ≡ e → IsExtraction (complete_ways area) (λ meant. extract (seen_decoded area) meant) area b counts written))
 went_on f d feed_old feed_new old new input area edges b c chosen h counts choice wrote = gave_file_less f feed_old feed_new input _ _ (λ e took. took_weaker d old new _ _ (λ written packed second third.
     extracted (complete_ways area) (λ meant. extract (seen_decoded area) meant) (complete_ways_select area) area edges b _ h (selects_chosen chosen area b b c h refl (sym second) choice) counts _ written (ap (λ (l : List ℕ). judged_file (Some l)) (sym third)) packed) took) wrote
+
+pub went_on_with_parents : {H D : Type 0} (f : feed.Ghosts H) (d : drain.Ghosts D) (feed_old feed_new : H) (old new : D) (input : List ℕ) (area : BoundingBox) (edges : EdgesTyped (edges_of area)) (b c k : List ℕ) (chosen : Bor Chosen) (h : HeaderSpec) (counts : Counts) → IsChoiceWithParents area b c k chosen.now h
+    → GaveFile f feed_old feed_new input (λ file. Took d old new (Packed (pick_of (Some chosen)) h counts (judged_file (Some file))))
+    → GaveFile f feed_old feed_new input (λ e. Took d old new (λ written. b ≡ c → b ≡ k → b ≡ e → IsExtraction (all_parents area) (λ meant. extract_with_parents (seen_decoded area) meant) area b counts written))
+went_on_with_parents f d feed_old feed_new old new input area edges b c k chosen h counts choice wrote = gave_file_less f feed_old feed_new input _ _ (λ e took. took_weaker d old new _ _ (λ written packed second third fourth.
+    extracted (all_parents area) (λ meant. extract_with_parents (seen_decoded area) meant) (all_parents_select area) area edges b _ h (selects_parents chosen area b _ _ _ h refl (ap (λ (l : List ℕ). judged_file (Some l)) (sym second)) (ap (λ (l : List ℕ). judged_file (Some l)) (sym third)) choice.chosen) counts _ written (ap (λ (l : List ℕ). judged_file (Some l)) (sym fourth)) packed) took) wrote

@@ -22,4 +22,6 @@ pub use pbf_pass::{
 };
 pub use pick::{step_pack, step_write, step_write_parents};
 pub use showing::{show, show_with_receipt};
-pub use sorted::{extract_sorted, extract_sorted_with_receipt};
+pub use sorted::{
+    extract_parents_sorted_with_receipt, extract_sorted, extract_sorted_with_receipt,
+};

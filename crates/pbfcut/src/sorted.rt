@@ -1,15 +1,16 @@
 //! The extracts in one pass less, of files whose ways come after their nodes.
 
 ghost use Rattle.std.specs.Prelude.{◌≡◌, ◌⊎◌, ℕ, List, IfOk, IfErr, OnOk, OnErr};
+ghost use Rattle.osm_ways.specs.Parents.{extract_with_parents};
 ghost use Rattle.osm_ways.specs.Seen.{seen_decoded};
 ghost use Rattle.osm_ways.specs.Selection.{extract};
 ghost use Rattle.pbf_header.specs.Header.{header_of};
 ghost use Rattle.pbf_frame.specs.Devices.{IsFront};
-ghost use Rattle.pbfcut.specs.Calls.{AllSupply, GaveOrNot, ExtractStops, ChangedIn};
+ghost use Rattle.pbfcut.specs.Calls.{AllSupply, FourSupply, GaveOrNot, ExtractStops, ParentsStops, ChangedIn};
 ghost use Rattle.pbfcut.specs.Theorem.{Extracted, IsExtraction, Promised, Canonical};
 ghost use Rattle.pbfcut.specs.Converting.{CanBeWritten};
 ghost use Rattle.pbf_pass.specs.HeaderLimit.{judged_writable};
-ghost use Rattle.pbfcut.specs.Extracting.{complete_ways, IsChoice};
+ghost use Rattle.pbfcut.specs.Extracting.{complete_ways, all_parents, IsChoice, IsChoiceWithParents};
 ghost use Rattle.pbf_pass.specs.Given.{GaveFile, Took};
 ghost use Rattle.pbfcut.specs.Kept.{IsWritable, extract_of};
 ghost use Rattle.pbf_pass.specs.Refused.{RefusesFile, Halts, HaltsFile, stop_of};
@@ -141,6 +142,95 @@ pub fn extract_sorted_with_receipt<F: Feed, G: Feed, H: Feed, D: Drain, S: Build
         chosen: Some(&choice.chosen),
     };
     let counts = Repeat { number: 3, digest }.write(alloc, third, drain, hasher, writing)?;
+    Ok(InputReceipt {
+        counts,
+        input: digest,
+    })
+}
+
+/// The passes before the one that writes: over nodes and ways as without parents, and one that takes the relations.
+fn choose_parents_sorted<F: Feed, G: Feed, H: Feed>(
+    alloc: Global,
+    first: &mut F,
+    second: &mut G,
+    third: &mut H,
+    area: BoundingBox,
+) -> Result<Choice, Halt>
+    ensures chosen { IfOk result (λ choice. GaveFile F.Feed first.old first.new choice.digest (λ b.
+        GaveOrNot G.Feed second.old second.new choice.digest b
+        (λ c. GaveFile H.Feed third.old third.new choice.digest
+        (λ d. IsChoiceWithParents area b c d choice.chosen (header_of choice.header))))) }
+    ensures refused { IfErr result
+        (Halts (RefusesFile F.Feed first.old first.new (λ b. judged_writable (Some b)))) }
+    ensures stops { IfErr result (λ h. Caused (FaultOf (judged_writable (F.remaining first.old)))
+        (ReadFailed F.Feed first.old first.new
+        ⊎ (ReadFailed G.Feed second.old second.new ⊎ ReadFailed H.Feed third.old third.new)) ⊥
+        (λ pass. ChangedIn 2 (F.remaining first.old) (G.remaining second.old) pass
+        ⊎ ChangedIn 3 (F.remaining first.old) (H.remaining third.old) pass) (stop_of h)) }
+{
+    let choice = choose_sorted(alloc, first, second, area)?;
+    let digest = choice.digest;
+    let mut relations = choice.chosen.with_parents();
+    Repeat { number: 3, digest }.gather(alloc, third, &mut relations)?;
+    let chosen = relations.end_relations()?.into_chosen();
+    Ok(Choice {
+        chosen,
+        header: choice.header,
+        digest,
+    })
+}
+
+/// As [`extract_parents_with_receipt`](crate::extract_parents_with_receipt), in three passes where no node of the file comes behind a
+/// way, as [`extract_sorted`] spares one.
+pub fn extract_parents_sorted_with_receipt<
+    F: Feed,
+    G: Feed,
+    H: Feed,
+    I: Feed,
+    D: Drain,
+    S: BuildHasher + Drop,
+>(
+    alloc: Global,
+    first: &mut F,
+    second: &mut G,
+    third: &mut H,
+    fourth: &mut I,
+    area: BoundingBox,
+    drain: &mut D,
+    hasher: S,
+) -> Result<InputReceipt, Halt>
+    // Each feed gave a file of the digest `input`, to its end, or the second nothing; the first has no fault, and its header can be written. The drain took
+    // bytes. Where the files are one, these bytes are exactly its complete-ways extract with all parents, and the counts are those of the entities in it.
+    ensures receipt { IfOk result (λ receipt. GaveFile F.Feed first.old first.new receipt.input
+        (λ b. IsWritable b
+        × GaveOrNot G.Feed second.old second.new receipt.input b
+        (λ c. GaveFile H.Feed third.old third.new receipt.input (λ d.
+        GaveFile I.Feed fourth.old fourth.new receipt.input (λ e. Took D.Drain drain.old drain.new
+        (λ written. b ≡ c → b ≡ d → b ≡ e → IsExtraction (all_parents area)
+        (extract_with_parents (seen_decoded area)) area b receipt.counts written)))))) }
+    // The first feed gave as many bytes of this digest, the fault is the first of whatever begins so, and the drain took nothing.
+    ensures refused { IfErr result (HaltsFile F.Feed first.old first.new
+        D.Drain drain.old drain.new (λ b. judged_writable (Some b))) }
+    ensures stops { IfErr result (λ h. ParentsStops (F.remaining first.old) (G.remaining second.old)
+        (H.remaining third.old) (I.remaining fourth.old) (D.taken drain.old) (D.taken drain.new)
+        ((ReadFailed F.Feed first.old first.new
+        ⊎ (ReadFailed G.Feed second.old second.new ⊎ ReadFailed H.Feed third.old third.new))
+        ⊎ ReadFailed I.Feed fourth.old fourth.new)
+        (WriteFailed D.Drain drain.old drain.new) (stop_of h)) }
+    // Whatever stopped it, where all feeds supply these bytes a prefix of the answer went out, and nothing where they have a fault.
+    ensures beginning { OnErr result ((b : List ℕ)
+        → FourSupply b (F.remaining first.old) (G.remaining second.old) (H.remaining third.old)
+        (I.remaining fourth.old)
+        → IsFront (D.taken drain.old) (D.taken drain.new) (extract_of (all_parents area) area b)) }
+    ensures drain { KeepsDrain D.Drain drain.old drain.new }
+{
+    let choice = choose_parents_sorted(alloc, first, second, third, area)?;
+    let digest = choice.digest;
+    let writing = Writing {
+        header: &choice.header,
+        chosen: Some(&choice.chosen),
+    };
+    let counts = Repeat { number: 4, digest }.write(alloc, fourth, drain, hasher, writing)?;
     Ok(InputReceipt {
         counts,
         input: digest,

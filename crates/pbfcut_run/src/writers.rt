@@ -5,7 +5,7 @@ use osm_entity::BoundingBox;
 use pbf_frame::{FromRead, Stop, ToWrite};
 use pbf_pass::HashedDrain;
 use pbfcut::{
-    Counts, Halt, InputReceipt, convert_with_receipt, extract_parents_with_receipt,
+    Counts, Halt, InputReceipt, convert_with_receipt, extract_parents_sorted_with_receipt,
     extract_sorted_with_receipt,
 };
 use pbfcut_cli::Ending;
@@ -161,10 +161,10 @@ pub(crate) fn run_extract_parents(
     let drain = &mut ToWrite::new(&mut file);
     let outcome = if files.digests {
         let mut hashed = HashedDrain::new(drain);
-        let outcome = extract_parents_with_receipt(alloc, one, two, three, four, area, &mut hashed, hasher);
+        let outcome = extract_parents_sorted_with_receipt(alloc, one, two, three, four, area, &mut hashed, hasher);
         reported(outcome, Some(hashed.digest()))
     } else {
-        reported(extract_parents_with_receipt(alloc, one, two, three, four, area, drain, hasher), None)
+        reported(extract_parents_sorted_with_receipt(alloc, one, two, three, four, area, drain, hasher), None)
     };
     tell_empty(rt, end(rt, files, &mut file, outcome)?);
     Ok(())

@@ -1,0 +1,49 @@
+use Rattle.std.proofs.Common.{◌⊎◌, List, Some, None, inr, refl, ap, ◌∙◌}
+use Rattle.std.proofs.lemmas.Result.{err_from_is_err_and}
+use Rattle.osm_ways.specs.Phases.{KeptSets, start_relations}
+use Rattle.pbfcut.specs.Calls.{ChangedIn}
+use Rattle.pbf_pass.specs.HeaderLimit.{judged_writable}
+use Rattle.pbf_pass.specs.Stops.{FaultOf}
+use Rattle.pbfcut.proofs.ExtractingLemmas.{chooses_parents, stops_later}
+use Rattle.pbf_pass.proofs.GivenLemmas.{told_digest, told_says}
+use Rattle.pbf_frame.specs.Frames.{FrameSpec}
+use Rattle.pbf_frame.specs.Verdict.{Says}
+use Rattle.pbf_pass.specs.Judged.{judged_file}
+use Rattle.pbfcut.proofs.TheoremLemmas.{gave_or_not, gave_or_less}
+use Rattle.pbfcut.proofs.RepeatLemmas.{no_refusal}
+use Rattle.pbfcut.proofs.sorted.choose_parents_sorted.Goals as goal
+
+pub returns-in_err-gather-clause-refused : goal.returns-in_err-gather-clause-refused
+returns-in_err-gather-clause-refused g c =
+    let p = err_from_is_err_and c.from_residual-in_err-gather.result c.from_residual-in_err-gather.ensures.1 in
+    rw (p.1, p.2) (no_refusal _ _ _ _ _ c.in_err-gather.ensures.stops)
+
+pub returns-in_err-gather-clause-stops : goal.returns-in_err-gather-clause-stops
+returns-in_err-gather-clause-stops g c =
+    let p = err_from_is_err_and c.from_residual-in_err-gather.result c.from_residual-in_err-gather.ensures.1 in
+    let one = c.in_ok-choice.ensures.chosen in
+    let said : (frames : List FrameSpec) × Says (judged_file (Some one.file)) (frames, None) =
+    gave_or_not g.G.Feed _ _ _ one.file _ _ (λ file choice. (choice.chosen.frames, choice.chosen.judged)) one.holding in
+    let first = g.F.Feed.remaining c.args.first.now in
+    let third = g.H.Feed.remaining c.args.third.now in
+    rw (p.1, p.2) (stops_later (record { number = 3; digest = c.in_ok-choice.choice.digest }) first third _ said.0 (FaultOf (judged_writable first)) _ _ ⊥ (λ pass. ChangedIn 2 first (g.G.Feed.remaining c.args.second.now) pass ⊎ ChangedIn 3 first third pass) _
+    (told_digest g.F.Feed _ _ _ _ one) (told_says g.F.Feed _ _ _ _ _ one said.1) refl (λ r. inr (inr r)) (λ pass is. inr is) c.in_err-gather.ensures.stops)
+
+pub returns-clause-chosen : goal.returns-clause-chosen
+returns-clause-chosen g c =
+    let one = c.in_ok-choice.ensures.chosen in
+    let three = c.in_ok-gather.ensures.gathered in
+    record {
+      file = one.file;
+      supplied = one.supplied;
+      digest_is = one.digest_is;
+      holding = gave_or_less g.G.Feed _ _ _ one.file _ _ (λ file choice. record {
+        file = three.file;
+        supplied = three.supplied;
+        digest_is = three.digest_is;
+        holding = record {
+          chosen = chooses_parents c.args.area _ _ _ choice.ways _ _ _ _ _ choice.chosen (c.with_parents-relations.ensures ∙ ap (λ (s : KeptSets). start_relations s.ways) choice.kept) three.holding c.in_ok-end_relations.ensures.ways c.in_ok-end_relations.ensures.least c.into_chosen-chosen.ensures;
+          short = choice.short;
+        };
+      }) one.holding;
+    }
