@@ -6,6 +6,8 @@ use Rattle.osm_entity.specs.declared.member.MemberKind.TheVariants as kind
 use Rattle.osm_box.specs.BoundingBox.{is_inside}
 use Rattle.osm_entity.specs.Scale.{nano_lat, nano_lon}
 use Rattle.osm_entity.specs.Entity.{NodeSpec, MemberSpec, WaySpec, RelationSpec, EntitySpec, Decoded, node_at, way_through, relation_among, decoded}
+use Rattle.osm_entity.specs.Sources.{refs_left}
+use Rattle.osm_ways.specs.declared.phases.SeenWay.{SeenWay}
 use Rattle.osm_ways.specs.Selection.{MemberSeen, node_member, way_member, relation_member, Seen, a_node, a_way, a_relation}
 
 abbrev pub seen_node : BoundingBox → NodeSpec → Seen
@@ -13,6 +15,10 @@ seen_node area n = a_node n.id (is_inside area (nano_lat n.scale n.lat) (nano_lo
 
 abbrev pub seen_way : WaySpec → Seen
 seen_way w = a_way w.id w.refs
+
+-- by its id and its refs alone
+abbrev pub seen_refs : SeenWay → Seen
+seen_refs w = a_way w.id (refs_left w.refs)
 
 abbrev pub member_of_kind : MemberKind → ℤ → MemberSeen
 member_of_kind kind.Node id = node_member id

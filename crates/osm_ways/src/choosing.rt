@@ -2,15 +2,15 @@
 
 ghost use Rattle.std.specs.Prelude.{◌≡◌};
 ghost use Rattle.std.specs.FinSet as set;
-ghost use Rattle.osm_entity.specs.Sources.{lent_member};
+ghost use Rattle.osm_entity.specs.Sources.{lent_member, refs_left};
 ghost use Rattle.osm_entity.specs.Views.{way_of, relation_of};
-ghost use Rattle.osm_ways.specs.Selection.{is_selecting};
+ghost use Rattle.osm_ways.specs.Selection.{is_selecting, is_kept_way};
 ghost use Rattle.osm_ways.specs.Seen.{seen_way, seen_member, seen_relation};
 ghost use Rattle.osm_ways.specs.Phases.{is_chosen, ids_or_none};
 
 use crate::parents::ChosenParents;
 use crate::phases::{Chosen, is_kept_by};
-use osm_entity::{MemberKind, MemberRef, RelationRef, WayRef};
+use osm_entity::{MemberKind, MemberRef, Refs, RelationRef, WayRef};
 use osm_ids::Lookup;
 use std::marker::Model;
 
@@ -68,7 +68,16 @@ impl<'a> Chooser<'a> {
         ensures kept { result ≡ is_chosen self.old (seen_way (way_of way.now)) }
         ensures same { self.new ≡ self.old }
     {
-        is_kept_by(&mut self.box_ids, way)
+        self.keeps_refs(way.refs())
+    }
+
+    /// The same of a way by its refs, which are all that counts of it.
+    pub fn keeps_refs(&mut self, refs: Refs<'_>) -> bool
+        ensures kept { result
+            ≡ is_kept_way (set.contains self.old.ways.box_ids) (refs_left refs.entry) }
+        ensures same { self.new ≡ self.old }
+    {
+        is_kept_by(&mut self.box_ids, refs)
     }
 
     /// Whether the relation is kept: a node or a way among its members is, or a relation, with all parents. Of two relations of one

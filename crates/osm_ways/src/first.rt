@@ -5,9 +5,9 @@ ghost use Rattle.osm_box.specs.BoundingBox.{is_inside};
 ghost use Rattle.osm_entity.specs.Views.{node_of, way_of};
 ghost use Rattle.osm_ways.specs.First.{start_first, before_node, first_step};
 ghost use Rattle.osm_ways.specs.Selection.{a_node};
-ghost use Rattle.osm_ways.specs.Seen.{seen_node, seen_way};
+ghost use Rattle.osm_ways.specs.Seen.{seen_node, seen_way, seen_refs};
 
-use crate::phases::{WayPhase, add_way, sealed};
+use crate::phases::{SeenWay, WayPhase, add_way, sealed};
 use osm_entity::{BoundingBox, NodeRef, WayRef};
 use osm_ids::IdSet;
 use std::alloc::{AllocError, Global};
@@ -114,6 +114,17 @@ impl FirstPhase {
     /// Where memory is refused the phase may only be dropped.
     pub fn take_way(&mut self, way: &WayRef<'_>) -> Result<(), AllocError>
         ensures { OnOk result (self.new ≡ first_step self.old (seen_way (way_of way.now))) }
+    {
+        self.take_refs(SeenWay::of(way))
+    }
+
+    /// The same of a way by its id and its refs, which are all that counts of it.
+    ///
+    /// # Errors
+    ///
+    /// Where memory is refused the phase may only be dropped.
+    pub fn take_refs(&mut self, way: SeenWay<'_>) -> Result<(), AllocError>
+        ensures { OnOk result (self.new ≡ first_step self.old (seen_refs way.entry)) }
     {
         if !self.has_ways {
             // From here on the nodes are looked up.

@@ -10,4 +10,4 @@ mod phases;
 pub use choosing::Chooser;
 pub use first::FirstPhase;
 pub use parents::{ChosenParents, RelationPhase};
-pub use phases::{Chosen, NodePhase, WayPhase};
+pub use phases::{Chosen, NodePhase, SeenWay, WayPhase};

@@ -3,13 +3,14 @@
 ghost use Rattle.std.specs.Prelude.{◌≡◌, IfOk, OnOk, OnErr};
 ghost use Rattle.std.specs.List.{fold};
 ghost use Rattle.std.specs.FinSet as set;
+ghost use Rattle.osm_entity.specs.Sources.{refs_left};
 ghost use Rattle.osm_entity.specs.Views.{node_of, way_of};
 ghost use Rattle.osm_box.specs.BoundingBox.{is_inside};
 ghost use Rattle.osm_ways.specs.Selection.{is_kept_way, a_node};
-ghost use Rattle.osm_ways.specs.Seen.{seen_node, seen_way};
+ghost use Rattle.osm_ways.specs.Seen.{seen_node, seen_way, seen_refs};
 ghost use Rattle.osm_ways.specs.Phases.{start_nodes, start_ways, node_step, way_step, sets_of, without_parents};
 
-use osm_entity::{BoundingBox, NodeRef, WayRef};
+use osm_entity::{BoundingBox, NodeRef, Refs, WayRef};
 use osm_ids::{IdLookup, IdSet, SealedIds};
 use std::alloc::{AllocError, Global};
 use std::marker::Model;
@@ -129,6 +130,17 @@ impl WayPhase {
     pub fn take_way(&mut self, way: &WayRef<'_>) -> Result<(), AllocError>
         ensures { OnOk result (self.new ≡ way_step self.old (seen_way (way_of way.now))) }
     {
+        self.take_refs(SeenWay::of(way))
+    }
+
+    /// The same of a way by its id and its refs, which are all that counts of it.
+    ///
+    /// # Errors
+    ///
+    /// Where memory is refused the phase may only be dropped, as there.
+    pub fn take_refs(&mut self, way: SeenWay<'_>) -> Result<(), AllocError>
+        ensures { OnOk result (self.new ≡ way_step self.old (seen_refs way.entry)) }
+    {
         let mut known = self.box_ids.lookup();
         add_way(&mut known, &mut self.refs, &mut self.way_ids, way)
     }
@@ -169,12 +181,31 @@ pub(crate) fn sealed(ids: IdSet) -> Result<SealedIds, AllocError>
     }
 }
 
-/// Whether one of the way's refs is among the ids.
-pub(crate) fn is_kept_by<I: IdLookup>(ids: &mut I, way: &WayRef<'_>) -> bool
-    ensures kept { result ≡ is_kept_way (set.contains (I.ids ids.old)) (way_of way.now).refs }
+/// What counts of a way: its id and its refs.
+#[derive(Clone, Copy)]
+pub struct SeenWay<'a> {
+    pub id: i64,
+    pub refs: Refs<'a>,
+}
+
+impl<'a> SeenWay<'a> {
+    /// That of a way.
+    pub fn of(way: &WayRef<'a>) -> SeenWay<'a>
+        ensures { seen_refs result ≡ seen_way (way_of way.now) }
+    {
+        SeenWay {
+            id: way.id(),
+            refs: way.refs(),
+        }
+    }
+}
+
+/// Whether one of these refs is among the ids.
+pub(crate) fn is_kept_by<I: IdLookup>(ids: &mut I, refs: Refs<'_>) -> bool
+    ensures kept { result ≡ is_kept_way (set.contains (I.ids ids.old)) (refs_left refs.entry) }
     ensures same { ids.new ≡ ids.old }
 {
-    for id in way.refs() {
+    for id in refs {
         if ids.has(id) {
             return true;
         }
@@ -182,17 +213,17 @@ pub(crate) fn is_kept_by<I: IdLookup>(ids: &mut I, way: &WayRef<'_>) -> bool
     false
 }
 
-/// Adds all refs of the way that aren't known to the ids.
+/// Adds all of these refs that aren't known to the ids.
 fn add_refs<I: IdLookup>(
     known: &mut I,
     ids: &mut IdSet,
-    way: &WayRef<'_>,
+    refs: Refs<'_>,
 ) -> Result<(), AllocError>
     ensures refs { OnOk result (set.union (I.ids known.old) ids.new
-        ≡ fold set.insert (set.union (I.ids known.old) ids.old) (way_of way.now).refs) }
+        ≡ fold set.insert (set.union (I.ids known.old) ids.old) (refs_left refs.entry)) }
     ensures same { OnOk result (known.new ≡ known.old) }
 {
-    for id in way.refs() {
+    for id in refs {
         if known.has(id) {
             continue;
         }
@@ -206,14 +237,14 @@ pub(crate) fn add_way<I: IdLookup>(
     known: &mut I,
     refs: &mut IdSet,
     way_ids: &mut IdSet,
-    way: &WayRef<'_>,
+    way: SeenWay<'_>,
 ) -> Result<(), AllocError>
     ensures { OnOk result (sets_of (I.ids known.old) refs.new way_ids.new
-        ≡ way_step (sets_of (I.ids known.old) refs.old way_ids.old) (seen_way (way_of way.now))) }
+        ≡ way_step (sets_of (I.ids known.old) refs.old way_ids.old) (seen_refs way.entry)) }
 {
-    if is_kept_by(known, way) {
-        add_refs(known, refs, way)?;
-        way_ids.add(way.id())?;
+    if is_kept_by(known, way.refs) {
+        add_refs(known, refs, way.refs)?;
+        way_ids.add(way.id)?;
     }
     Ok(())
 }

@@ -2,25 +2,32 @@
 use Rattle.std.specs.Prelude.{List, [], ◌∷◌, ◌++◌, map, Option, Some, None}
 use Rattle.std.specs.List.{flat_map}
 use Rattle.pbf_wire.specs.Cursors.{found_left}
-use Rattle.pbf_wire.specs.Faults.{entered, fields_in}
+use Rattle.pbf_wire.specs.Faults.{entered, fields_in, found_in}
 use Rattle.pbf_wire.specs.Occurrence.{Occurrence}
-use Rattle.osm_entity.specs.Entity.{EntitySpec, node}
+use Rattle.osm_entity.specs.Entity.{WaySpec, EntitySpec, node, way}
 use Rattle.osm_entity.specs.Views.{entity_of}
 use Rattle.pbf_dense.specs.declared.dense.Dense.{Dense}
 use Rattle.pbf_dense.specs.Cursors.{dense_left}
 use Rattle.pbf_block.specs.declared.entities.Entities.{Entities}
 use Rattle.pbf_block.specs.declared.primitive_block.TheConstants.{PRIMITIVEGROUP}
 use Rattle.pbf_block.specs.declared.members.Members.{Members}
+use Rattle.pbf_block.specs.declared.way.UnmadeWay.{UnmadeWay}
+use Rattle.pbf_block.specs.Way.{way_in}
 use Rattle.pbf_block.specs.declared.runs.Run.{Run}
 use Rattle.pbf_block.specs.declared.runs.Run.TheVariants as run
 use Rattle.pbf_block.specs.declared.runs.Runs.{Runs}
 use Rattle.pbf_block.specs.Kinds.{member_entities_among}
 use Rattle.pbf_block.specs.PrimitiveBlock.{along}
 
+-- the way that a message holds, which is not made yet
+abbrev pub way_from : UnmadeWay → WaySpec
+way_from w = way_in along w.table.now w.scale (found_in w.message)
+
 -- those that a run holds
 abbrev pub run_entities : Run → List EntitySpec
 run_entities run.Nothing = []
 run_entities (run.One e) = entity_of e ∷ []
+run_entities (run.Way w) = way (way_from w) ∷ []
 run_entities (run.Dense dense) = map node (dense_left dense)
 
 -- those of runs one after another

@@ -47,6 +47,7 @@ impl<'a> Iterator for Entities<'a> {
             match self.runs.next()? {
                 Run::Nothing => {}
                 Run::One(entity) => return Some(entity),
+                Run::Way(way) => return Some(EntityRef::Way(way.make())),
                 Run::Dense(dense) => self.dense = Some(dense),
             }
         }

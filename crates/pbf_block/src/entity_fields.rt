@@ -133,3 +133,11 @@ pub(crate) fn last_signed(fields: Fields<'_>, number: u64) -> i64
 {
     last_value(fields, number).map_or(0, |(_, value)| unzigzag(value))
 }
+
+/// The same of a number in two's complement.
+pub(crate) fn last_wide(fields: Fields<'_>, number: u64) -> i64
+    ensures { (os : List Occurrence) → only_left number fields.entry ≡ only number os
+        → result ≡ number_or (pos 0) low_i64 number os }
+{
+    last_value(fields, number).map_or(0, |(_, value)| low_i64(value))
+}

@@ -33,3 +33,4 @@ pub use pbf_header::{Header, HeaderBox, MOST_HEADER_TEXT};
 pub use runs::{Run, Runs};
 pub use scale::DEFAULT_SCALE;
 pub use unjudged::UnjudgedBlock;
+pub use way::UnmadeWay;

@@ -11,7 +11,7 @@ use crate::kinds::Kinds;
 use crate::members::Members;
 use crate::node::node_in;
 use crate::relation::relation_in;
-use crate::way::way_in;
+use crate::way::UnmadeWay;
 use osm_entity::{EntityRef, Scale};
 use pbf_dense::Dense;
 use pbf_strings::Table;
@@ -22,8 +22,10 @@ use pbf_wire::{Field, Message, Payload};
 pub enum Run<'a> {
     /// None, or none of the kinds asked for.
     Nothing,
-    /// An entity with a message of its own.
+    /// A node or a relation, with a message of its own.
     One(EntityRef<'a>),
+    /// A way, which is not made yet.
+    Way(UnmadeWay<'a>),
     /// The nodes of a dense message, of which none is made yet.
     Dense(Dense<'a>),
 }
@@ -49,7 +51,11 @@ pub(crate) fn run_in<'a>(
     match field.number {
         NODES => Run::One(EntityRef::Node(node_in(message, table, scale))),
         DENSE => Run::Dense(Dense::over(message, table, scale)),
-        WAYS => Run::One(EntityRef::Way(way_in(message, table, scale))),
+        WAYS => Run::Way(UnmadeWay {
+            message,
+            table,
+            scale,
+        }),
         RELATIONS => Run::One(EntityRef::Relation(relation_in(message, table, scale))),
         _ => Run::Nothing,
     }

@@ -3,12 +3,14 @@
 ghost use Rattle.std.specs.Prelude.{◌≡◌};
 ghost use Rattle.pbf_wire.specs.Faults.{column_count, found_in};
 ghost use Rattle.pbf_wire.specs.Least.{least};
+ghost use Rattle.osm_entity.specs.Sources.{refs_left};
 ghost use Rattle.osm_entity.specs.Views.{way_of};
 ghost use Rattle.pbf_block.specs.PrimitiveBlock.{along};
+ghost use Rattle.pbf_block.specs.Runs.{way_from};
 ghost use Rattle.pbf_block.specs.Way.{are_located, way_structure, way_values, way_in};
 
 use crate::entity::{ID, INFO, KEYS, NO_FIELD, VALS, entity_counts, entity_values};
-use crate::entity_fields::{entity_fields, values};
+use crate::entity_fields::{entity_fields, last_wide, values};
 use crate::ranges::{judge_sums, judge_wide};
 use osm_entity::{Locations, Refs, Scale, SummedLocations, WayRef};
 use pbf_strings::Table;
@@ -83,4 +85,37 @@ pub(crate) fn way_in<'a>(message: Message<'a>, table: &'a Table<'a>, scale: Scal
         Locations::Summed(locations),
         scale,
     )
+}
+
+/// A way that is not made yet: what counts of it to a selection is read by itself.
+#[derive(Clone, Copy)]
+pub struct UnmadeWay<'a> {
+    pub(crate) message: Message<'a>,
+    pub(crate) table: &'a Table<'a>,
+    pub(crate) scale: Scale,
+}
+
+impl<'a> UnmadeWay<'a> {
+    /// Its id.
+    #[tactic(auto, unfolding(crate::specs::Way::way_in))]
+    pub fn id(&self) -> i64
+        ensures { result ≡ (way_from self.now).id }
+    {
+        last_wide(self.message.fields(), ID)
+    }
+
+    /// Its refs.
+    #[tactic(auto, unfolding(crate::specs::Way::way_in))]
+    pub fn refs(&self) -> Refs<'a>
+        ensures { refs_left result ≡ (way_from self.now).refs }
+    {
+        Refs::Summed(values(self.message.fields(), REFS))
+    }
+
+    /// The way.
+    pub fn make(&self) -> WayRef<'a>
+        ensures { way_of result ≡ way_from self.now }
+    {
+        way_in(self.message, self.table, self.scale)
+    }
 }

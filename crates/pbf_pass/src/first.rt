@@ -6,10 +6,10 @@ ghost use Rattle.osm_entity.specs.Entity.{node};
 ghost use Rattle.pbf_dense.specs.Cursors.{dense_left};
 ghost use Rattle.pbf_pass.specs.Pass.{with_first};
 
-use crate::pass::Gather;
+use crate::pass::{Gather, seen};
 use osm_entity::EntityRef;
 use osm_ways::FirstPhase;
-use pbf_block::Kinds;
+use pbf_block::{Kinds, UnmadeWay};
 use pbf_dense::Dense;
 use std::alloc::AllocError;
 
@@ -30,6 +30,10 @@ impl Gather for FirstPhase {
             EntityRef::Way(way) => self.take_way(way),
             EntityRef::Relation(_) => Ok(()),
         }
+    }
+
+    fn gather_way(&mut self, unmade: &UnmadeWay<'_>) -> Result<(), AllocError> {
+        self.take_refs(seen(unmade))
     }
 
     fn gather_dense(&mut self, dense: &Dense<'_>) -> Result<(), AllocError> {

@@ -2,11 +2,12 @@
 
 ghost use Rattle.std.specs.Prelude.{◌≡◌, ◌≤◌, ◌<◌, ◌+◌, ◌^◌, [], ◌∷◌, false, None, Some, Err, IfOk, IfErr, OnOk, length, map};
 ghost use Rattle.std.specs.List.{fold};
-ghost use Rattle.osm_entity.specs.Entity.{EntitySpec, node};
+ghost use Rattle.osm_entity.specs.Entity.{EntitySpec, node, way};
 ghost use Rattle.osm_entity.specs.Views.{entity_of};
+ghost use Rattle.osm_ways.specs.Seen.{seen_refs, seen_way};
 ghost use Rattle.pbf_block.specs.Kinds.{is_among};
 ghost use Rattle.pbf_block.specs.PrimitiveBlock.{entities};
-ghost use Rattle.pbf_block.specs.Runs.{joined_runs, run_entities, runs_left};
+ghost use Rattle.pbf_block.specs.Runs.{way_from, joined_runs, run_entities, runs_left};
 ghost use Rattle.pbf_dense.specs.Cursors.{dense_left};
 ghost use Rattle.pbf_frame.specs.Next.{place_of, held_by};
 ghost use Rattle.pbf_wire.specs.declared.fault.Fault.{Fault};
@@ -22,8 +23,8 @@ ghost use Rattle.pbf_pass.specs.Stops.{Caused, FaultOf, unchanged, ReadFailed};
 use crate::receipt::Halt;
 use crate::visit::{FileRead, Visit, pass_over, step};
 use osm_entity::EntityRef;
-use osm_ways::{NodePhase, RelationPhase, WayPhase};
-use pbf_block::{Block, Counts, Kinds, Run, Runs};
+use osm_ways::{NodePhase, RelationPhase, SeenWay, WayPhase};
+use pbf_block::{Block, Counts, Kinds, Run, Runs, UnmadeWay};
 use pbf_dense::Dense;
 use pbf_frame::{Feed, Frame, FrameKind, FrameReader, Stop};
 use pbf_header::Header;
@@ -43,6 +44,10 @@ pub trait Gather {
     /// Gathers an entity. Where memory is refused it may only be dropped.
     fn gather(&mut self, entity: &EntityRef<'_>) -> Result<(), AllocError>
         ensures { OnOk result (self.new ≡ gathered self.old (entity_of entity.now)) };
+
+    /// Gathers a way that is not made yet. Where memory is refused it may only be dropped.
+    fn gather_way(&mut self, unmade: &UnmadeWay<'_>) -> Result<(), AllocError>
+        ensures { OnOk result (self.new ≡ gathered self.old (way (way_from unmade.now))) };
 
     /// Gathers the nodes of a dense message. Where memory is refused it may only be dropped.
     fn gather_dense(&mut self, dense: &Dense<'_>) -> Result<(), AllocError>
@@ -66,6 +71,10 @@ impl Gather for Nothing {
     }
 
     fn gather(&mut self, _entity: &EntityRef<'_>) -> Result<(), AllocError> {
+        Ok(())
+    }
+
+    fn gather_way(&mut self, _unmade: &UnmadeWay<'_>) -> Result<(), AllocError> {
         Ok(())
     }
 
@@ -93,6 +102,10 @@ impl Gather for NodePhase {
         }
     }
 
+    fn gather_way(&mut self, _unmade: &UnmadeWay<'_>) -> Result<(), AllocError> {
+        Ok(())
+    }
+
     fn gather_dense(&mut self, dense: &Dense<'_>) -> Result<(), AllocError> {
         take_places(self, dense)
     }
@@ -114,6 +127,10 @@ impl Gather for WayPhase {
             EntityRef::Way(way) => self.take_way(way),
             EntityRef::Node(_) | EntityRef::Relation(_) => Ok(()),
         }
+    }
+
+    fn gather_way(&mut self, unmade: &UnmadeWay<'_>) -> Result<(), AllocError> {
+        self.take_refs(seen(unmade))
     }
 
     #[tactic(auto, using(crate::proofs::GatherLemmas::ways_of_nodes))]
@@ -140,9 +157,23 @@ impl Gather for RelationPhase {
         }
     }
 
+    fn gather_way(&mut self, _unmade: &UnmadeWay<'_>) -> Result<(), AllocError> {
+        Ok(())
+    }
+
     #[tactic(auto, using(crate::proofs::GatherLemmas::relations_of_nodes))]
     fn gather_dense(&mut self, _dense: &Dense<'_>) -> Result<(), AllocError> {
         Ok(())
+    }
+}
+
+/// What counts of a way that is not made yet.
+pub(crate) fn seen<'a>(unmade: &UnmadeWay<'a>) -> SeenWay<'a>
+    ensures { seen_refs result ≡ seen_way (way_from unmade.now) }
+{
+    SeenWay {
+        id: unmade.id(),
+        refs: unmade.refs(),
     }
 }
 
@@ -164,6 +195,7 @@ fn gather_run<G: Gather>(run: &Run<'_>, gathering: &mut G) -> Result<(), AllocEr
     match run {
         Run::Nothing => Ok(()),
         Run::One(entity) => gathering.gather(entity),
+        Run::Way(way) => gathering.gather_way(way),
         Run::Dense(dense) => gathering.gather_dense(dense),
     }
 }

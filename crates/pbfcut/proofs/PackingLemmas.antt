@@ -102,6 +102,10 @@ module _ {D S H : Type 0} (d : drain.Ghosts D) where
     counted = λ done is. p.counted done is ∙ ap (λ (l : List EntitySpec). counts_of (done ++ l)) same;
   }
 
+  -- the same of an entity that is equal
+  pub stops_as : (number : ℕ) (pick : Pick) (e made : EntitySpec) (old new : Packing D S H) (s : Stop) → made ≡ e → StopsAmong d number pick (made ∷ []) old new s → StopsAmong d number pick (e ∷ []) old new s
+  stops_as number pick e made old new s same stops = subst (λ x. StopsAmong d number pick (x ∷ []) old new s) same stops
+
   pub stops_same : (number : ℕ) (pick other : Pick) (xs : List EntitySpec) (a b : Packing D S H) (s : Stop) → filter pick xs ≡ filter other xs → StopsAmong d number pick xs a b s → StopsAmong d number other xs a b s
   stops_same number pick other xs a b s same stops = record { cause = stops.cause; begins = subst (λ (l : List EntitySpec). Begins d a b l) same stops.begins }
 

@@ -2,12 +2,12 @@
 
 ghost use Rattle.std.specs.Prelude.{true, [], ◌∷◌, ◌≡◌, ◌<◌, ◌≤◌, ◌+◌, ◌^◌, None, Err, IfOk, IfErr, OnOk, MatchOption, length, map, filter, take};
 ghost use Rattle.std.specs.Option.{option_map};
-ghost use Rattle.osm_entity.specs.Entity.{node};
+ghost use Rattle.osm_entity.specs.Entity.{node, way};
 ghost use Rattle.osm_entity.specs.Views.{entity_of};
 ghost use Rattle.osm_pack.specs.Packing.{IsPacking, has_header, packer_held};
 ghost use Rattle.osm_pack.specs.Packing as packing;
 ghost use Rattle.pbf_dense.specs.Cursors.{dense_left};
-ghost use Rattle.pbf_block.specs.Runs.{joined_runs, run_entities, runs_left};
+ghost use Rattle.pbf_block.specs.Runs.{way_from, joined_runs, run_entities, runs_left};
 ghost use Rattle.pbf_frame.specs.declared.stop.Stop.{Stop};
 ghost use Rattle.pbf_frame.specs.Next.{place_of, held_by};
 ghost use Rattle.pbf_pass.specs.Counting.{counts_of};
@@ -19,7 +19,7 @@ ghost use Rattle.pbfcut.specs.Pick.{everything, pick_of, picks_of, picked_in, pi
 use osm_entity::EntityRef;
 use osm_pack::Packer;
 use osm_ways::{Chooser, Chosen, ChosenParents};
-use pbf_block::{Block, Counts, Kinds, Run, Runs};
+use pbf_block::{Block, Counts, Kinds, Run, Runs, UnmadeWay};
 use pbf_dense::Dense;
 use pbf_frame::{Drain, Feed, Frame, FrameKind, FrameReader, Stop};
 use pbf_pass::Pass;
@@ -60,6 +60,18 @@ impl<'a> Picker<'a> {
                 EntityRef::Way(way) => chooser.keeps_way(way),
                 EntityRef::Relation(relation) => chooser.keeps_relation(relation),
             },
+        }
+    }
+
+    /// Whether a way is written that is not made yet.
+    #[tactic(auto, unfolding(crate::specs::Pick::picks_of))]
+    fn picks_way(&mut self, unmade: &UnmadeWay<'_>) -> bool
+        ensures picked { result ≡ picks_of self.old (way (way_from unmade.now)) }
+        ensures same { self.new ≡ self.old }
+    {
+        match &mut self.chooser {
+            None => true,
+            Some(chooser) => chooser.keeps_refs(unmade.refs()),
         }
     }
 
@@ -120,6 +132,30 @@ fn pack_entity<D: Drain, S: BuildHasher>(
     let is_picked = picker.picks(entity);
     if is_picked {
         pack(entity, counts, number, packer)?;
+    }
+    Ok(())
+}
+
+/// Packs a way if it is picked, which is made only then.
+fn pack_way<D: Drain, S: BuildHasher>(
+    unmade: &UnmadeWay<'_>,
+    picker: &mut Picker<'_>,
+    counts: &mut Counts,
+    number: u8,
+    packer: &mut Packer<D, S>,
+) -> Result<(), Stop>
+    requires begun { has_header packer.old ≡ true }
+    requires packing { IsPacking packer.old }
+    ensures packed { OnOk result (PacksPicked D.Drain (picks_of picker.old)
+        (way (way_from unmade.now) ∷ []) packer.old packer.new counts.old counts.new) }
+    ensures stopped { IfErr result (StopsAmong D.Drain number (picks_of picker.old)
+        (way (way_from unmade.now) ∷ []) packer.old packer.new) }
+    ensures keeps { KeepsPacker D.Drain packer.old packer.new }
+    ensures same { picker.new ≡ picker.old }
+{
+    let is_picked = picker.picks_way(unmade);
+    if is_picked {
+        pack(&EntityRef::Way(unmade.make()), counts, number, packer)?;
     }
     Ok(())
 }
@@ -197,6 +233,7 @@ fn pack_run<D: Drain, S: BuildHasher>(
     match run {
         Run::Nothing => Ok(()),
         Run::One(entity) => pack_entity(entity, picker, counts, number, packer),
+        Run::Way(unmade) => pack_way(unmade, picker, counts, number, packer),
         Run::Dense(dense) => pack_nodes(dense, picker, counts, number, packer),
     }
 }
