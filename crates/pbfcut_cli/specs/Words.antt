@@ -87,9 +87,9 @@ abbrev pub program_app : App
 program_app = with_subcommand (with_subcommand (with_subcommand writers_app check_app.top)
     show_app.top) blobs_app.top
 
--- ---- what the words come to
+-- ---- what the words mean
 
--- the value of an argument, empty where it has none
+-- the value of an argument, empty if it has none
 abbrev pub value_of : Text → List Row → Text
 value_of id rows = unwrap_or (first_of id rows) []
 
@@ -140,7 +140,7 @@ abbrev pub IsBox : CliFault → Type 0
 IsBox (Box fault) = Unit {0}
 IsBox _ = ⊥
 
--- a fault that may come where `clap` takes the words
+-- a fault that may come if `clap` accepts the words
 abbrev pub IsNoLine : CliFault → Type 0
 IsNoLine (Line text) = ⊥
 IsNoLine _ = Unit {0}

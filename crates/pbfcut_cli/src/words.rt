@@ -60,14 +60,14 @@ pub enum Command<'a> {
         progress: bool,
         digests: bool,
     },
-    /// Help or the version was asked for: this text of it, with its line ends, for standard output.
+    /// Help or the version is wanted: its text, with its line ends, for standard output.
     Help(String),
 }
 
 /// Why the words ask for nothing.
 #[derive(Debug, Drop)]
 pub enum CliFault {
-    /// The command line is invalid: what `clap` says of it, with its line ends, and for an option `-o` with a tip that serves.
+    /// The command line is invalid: what `clap` says of it, with its line ends, and for an option `-o` with another tip.
     Line(String),
     /// The box of `extract` is invalid.
     Box(BoxFault),
@@ -156,8 +156,8 @@ fn command_in<'a>(matches: &ArgMatches<'a>) -> Result<Command<'a>, BoxFault>
     }
 }
 
-/// What is said of a command line that names OUT by an option, as other programs have it: the text of `clap`, with a tip in place of its
-/// own, which would have `-o` be a file's name. Any other text stays as it is.
+/// What is said of a command line that names OUT by an option, as other programs do: the text of `clap`, with another tip than its own,
+/// which takes `-o` for a file's name. Any other text stays as it is.
 fn with_tip(alloc: Global, text: String) -> Result<String, AllocError> {
     let Some((found, rest)) = text.as_str().split_once("\n\n  tip: to pass '-") else {
         return Ok(text);
