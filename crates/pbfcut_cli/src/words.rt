@@ -165,7 +165,9 @@ fn with_tip(alloc: Global, text: String) -> Result<String, AllocError> {
     let names_output = found.ends_with("'-o' found") || found.ends_with("'--output' found");
     match rest.split_once("\n\n") {
         Some((_, usage)) if names_output => {
-            format!(in alloc; "{found}\n\n  tip: OUT is the last argument and has no option\n\n{usage}")
+            format!(in alloc;
+                "{found}\n\n  tip: OUT is the last argument and has no option\n\n{usage}"
+            )
         }
         _ => Ok(text),
     }
