@@ -24,7 +24,7 @@ begins_with_box _ = false
 -- the name and such a word are one word, as `--box=-0.5,51.25,0.3,51.7`
 unfoldable pub box_joined : List Text → List Text
 box_joined (word ∷ edges ∷ rest) = if begins_with_box (word ∷ edges ∷ rest)
-    then (word ++ codes "=" ++ edges) ∷ box_joined rest
+    then (word ++ (codes "=" ++ edges)) ∷ box_joined rest
     else word ∷ box_joined (edges ∷ rest)
 box_joined words = words
 
