@@ -16,6 +16,7 @@ PAGE = os.path.join(TOP, "docs", "STATEMENT.md")
 # Each public call, with the crate and the file that have it.
 CALLS = {
     "extract": ("pbfcut", "extracting"), "extract_with_receipt": ("pbfcut", "extracting"), "extract_parents": ("pbfcut", "extracting"),
+    "extract_sorted": ("pbfcut", "sorted"), "extract_sorted_with_receipt": ("pbfcut", "sorted"),
     "convert": ("pbfcut", "converting"), "show": ("pbfcut", "showing"), "check": ("pbf_pass", "checking"), "list_blobs": ("pbfcut", "blobs"),
 }
 # The calls with a clause of this name, which says what the answer means, and what is refused.
