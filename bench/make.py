@@ -5,8 +5,8 @@ usage: bench/make.py SMALL LARGE MEGABYTES
 
 LARGE has the entities of SMALL over and over, each copy a quarter of a degree further east, until it has so many megabytes: first the
 nodes of all copies, then their ways, then their relations, each sorted by id. The ids are numbered anew, from 1 on, those of the nodes nearly
-without gaps, since some programs keep room for each id below the greatest. It prints how many copies there are, and the three boxes that hold
-about 1 %, 25 % and 100 % of them. SMALL is raw, sorted, has dense nodes, and is less than a quarter of a degree wide.
+without gaps, since some programs keep room for each id below the greatest. It prints how many copies there are, the three boxes that hold
+about 1 %, 25 % and 100 % of them, and one that cuts through each of a row of copies: there no block is wholly in the box, as in real extracts. SMALL is raw, sorted, has dense nodes, and is less than a quarter of a degree wide.
 """
 import os
 import sys
@@ -16,6 +16,7 @@ import wire
 NODE, WAY, RELATION = 0, 1, 2  # the types of members
 CELL = 250_000_000  # a quarter of a degree, in nanodegrees
 COLUMNS = 600  # copies side by side; then a row further north
+HALF = "47.133"  # half of Liechtenstein's nodes lie south of it
 
 
 def signed(number: int) -> int:
@@ -159,7 +160,8 @@ def boxes(copies: int):
     for share in (1, 25, 100):
         width = max(1, copies * share // 100)
         east = 9_400_000_000 + min(width, COLUMNS) * CELL
-        yield share, f"9.4,47,{degrees(east)},{degrees(47_500_000_000 + (copies // COLUMNS) * CELL)}"
+        yield f"{share} %", f"9.4,47,{degrees(east)},{degrees(47_500_000_000 + (copies // COLUMNS) * CELL)}"
+    yield "half of each", f"9.4,47,{degrees(9_400_000_000 + min(copies, COLUMNS) * CELL)},{HALF}"
 
 
 def main(small: str, large: str, megabytes: str):
@@ -173,7 +175,7 @@ def main(small: str, large: str, megabytes: str):
                 file.write(b"".join(block.moved(copy) for block in blocks if kind in block.kinds))
     print(f"copies {copies}, {os.path.getsize(large)} bytes")
     for share, box in boxes(copies):
-        print(f"{share} % {box}")
+        print(f"{share} {box}")
 
 
 if __name__ == "__main__":

@@ -13,7 +13,7 @@ _pbfcut_words() {
 _pbfcut() {
   local word=${COMP_WORDS[COMP_CWORD]} command=${COMP_WORDS[1]-}
   if [ "$COMP_CWORD" -eq 1 ]; then
-    _pbfcut_words "$word" "extract convert check show blobs --help --version"
+    _pbfcut_words "$word" "extract convert check show blobs help --help --version"
     return
   fi
   case $command:$word in
@@ -21,6 +21,7 @@ _pbfcut() {
     convert:-* | check:-*) _pbfcut_words "$word" "--progress --digests --help" ;;
     show:-*) _pbfcut_words "$word" "--dates --progress --help" ;;
     blobs:-*) _pbfcut_words "$word" "--help" ;;
+    help:*) _pbfcut_words "$word" "extract convert check show blobs" ;;
     *) _pbfcut_files "$word" ;;
   esac
 }

@@ -1,10 +1,12 @@
 # Completion for pbfcut in fish.
-set -l commands extract convert check show blobs
+set -l commands extract convert check show blobs help
 complete -c pbfcut -n "not __fish_seen_subcommand_from $commands" -f -a extract -d "cut a bounding box out of a file"
 complete -c pbfcut -n "not __fish_seen_subcommand_from $commands" -f -a convert -d "write a file in one fixed form"
 complete -c pbfcut -n "not __fish_seen_subcommand_from $commands" -f -a check -d "validate a file and count its entities"
 complete -c pbfcut -n "not __fish_seen_subcommand_from $commands" -f -a show -d "print a file as text"
 complete -c pbfcut -n "not __fish_seen_subcommand_from $commands" -f -a blobs -d "list the frames of a file"
+complete -c pbfcut -n "not __fish_seen_subcommand_from $commands" -f -a help -d "print the help of a command"
+complete -c pbfcut -n "__fish_seen_subcommand_from help" -f -a "extract convert check show blobs"
 complete -c pbfcut -n "not __fish_seen_subcommand_from $commands" -l version -d "print the version"
 complete -c pbfcut -l help -d "print help"
 complete -c pbfcut -n "__fish_seen_subcommand_from extract" -l box -x -d "west,south,east,north, in degrees"

@@ -450,6 +450,7 @@ def names(bench: Bench):
     one_name = [BOX, "--keep-raw=./out", "zlib.osm.pbf", "out"]
     bench.case("one name for two files", one_name, status=2, parts=("have one name",), program=bench.path("fake"))
     for words, said in [([BOX, BOX], "the option '--box' cannot be used multiple times"), (["--foo", BOX], "unknown option '--foo'"),
+                        (["--bbox", "1,2,3,4", BOX], "the option '--box' cannot be used multiple times"),
                         ([BOX, "--keep-raw=a", "--keep-raw", "b"], "the option '--keep-raw' cannot be used multiple times"),
                         ([BOX, "--parents", "--parents"], "the option '--parents' cannot be used multiple times"),
                         ([BOX, "--parents=1"], "unknown option '--parents=1'")]:
@@ -462,7 +463,7 @@ def names(bench: Bench):
     shutil.copy(bench.path("zlib.osm.pbf"), bench.path(os.path.join(odd, odd)))
     long = odd + "o" * (255 - len(os.fsencode(odd)))
     before = bench.read("cut-zlib")
-    words = [BOX, "--keep-raw", os.path.join(odd, "raw"), "--", os.path.join(odd, odd), os.path.join(odd, long)]
+    words = [BOX.replace("--box", "--bbox"), "--keep-raw", os.path.join(odd, "raw"), "--", os.path.join(odd, odd), os.path.join(odd, long)]
     bench.case("names that aren't UTF-8", words, stdout=COUNTS)
     expect("the folder", {odd, "raw", long}, set(os.listdir(bench.path(odd))))
     expect("OUT", before, bench.read(os.path.join(odd, long)))

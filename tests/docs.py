@@ -1,11 +1,12 @@
 #!/usr/bin/env python3
-"""Runs each command line that README.md and docs/USING.md print, with the built program and the sample town.
+"""Runs each command line that the pages, the manual pages and the help print, with the built program and the sample town.
 
 usage: tests/docs.py PROGRAM
 
-The lines of a block run one after the other, as they stand, in a folder that is laid out as the repository; where a block is marked
-'console', what its lines print is compared with what the page says. A command inside a sentence runs alone, with file names in place
-of IN, OUT and the like. Links between the pages lead to files. What needs osmium or man, where it is not installed, is told and passed over.
+The lines of a block run one after the other, as they stand, in a folder that is laid out as the repository; if a block is marked
+'console', what its lines print is compared with what the page says. A command inside a sentence runs by itself, with file names in place
+of IN, OUT and the like; those of sample/README.md run in their order, and what its table says that they print is compared. Links between
+the pages lead to files. A command that needs what is not installed is named and passed over, and so are those of ELSEWHERE.
 """
 
 import os
@@ -19,6 +20,9 @@ TOP = os.path.dirname(os.path.dirname(os.path.abspath(__file__)))
 SECONDS = 120
 BLOCK = re.compile(r"^```(\w*)\n(.*?)^```$", re.M | re.S)
 SPAN = re.compile(r"`([^`]+)`")
+LITERAL = re.compile(r"^\.Bd -literal.*?\n(.*?)^\.Ed$", re.M | re.S)
+COMMANDS = ["extract", "convert", "check", "show", "blobs"]
+README_LINES, README_WORDS, USING_WORDS = 80, 900, 2205
 
 # what stands for the words of a command inside a sentence, and the values of a script's variables
 GIVEN = ["IN", "RAW", "OUT"]
@@ -28,6 +32,18 @@ n1 v2 dV c2 t2011-01-01T00:00:00Z i1 ua x0.6 y0.5
 n2 v1 dV c1 t2010-01-01T00:00:00Z i1 ua x0.5 y0.5
 n2 v2 dD c3 t2012-01-01T00:00:00Z i1 ua
 """
+
+# what a command line begins with that is not run here, and what runs it or what it needs
+ELSEWHERE = {
+    "apt-get install": "a network",
+    "vectors/run.py known": "the readers of docs/CONFORMANCE.md",
+    "vectors/run.py pbfcut": "run by tests/run",
+    "PBFCUT=": "run by tests/suite.py",
+    "bench/": "a large file",
+    "python3 tools/build.py": "the toolchain",
+    "crates/": "a program that the toolchain builds",
+    "python3 tests/inflate/fuzz.py": "run by the gate",
+}
 
 
 def filled(words: list) -> str:
@@ -43,8 +59,13 @@ def fail(what: str):
     sys.exit(f"tests/docs.py: {what}")
 
 
+def read(name: str) -> str:
+    with open(os.path.join(TOP, name), encoding="utf-8") as file:
+        return file.read()
+
+
 def shell(command: str, folder: str):
-    environment = {**os.environ, "box": BOX}
+    environment = {**os.environ, "box": BOX, "PATH": os.pathsep.join([folder, os.path.join(folder, "tools"), os.environ["PATH"]])}
     environment.pop("PBFCUT", None)
     return subprocess.run(["bash", "-o", "pipefail", "-c", command], cwd=folder, env=environment, stdin=subprocess.DEVNULL,
                           stdout=subprocess.PIPE, stderr=subprocess.STDOUT, timeout=SECONDS)
@@ -57,9 +78,15 @@ class Pages:
         os.mkdir(self.model)
         for name in ["tools", "sample", "docs"]:
             shutil.copytree(os.path.join(TOP, name), os.path.join(self.model, name))
-        with open(os.path.join(self.model, "pbfcut"), "w", encoding="utf-8") as file:
-            file.write(f"#!/bin/sh\nexec '{program}' \"$@\"\n")
-        os.chmod(os.path.join(self.model, "pbfcut"), 0o755)
+        os.symlink(os.path.join(TOP, "vectors"), os.path.join(self.model, "vectors"))
+        self.script("pbfcut", f"exec '{program}' \"$@\"")
+        self.script("my_reader", "exit 1")  # a reader that refuses all files
+
+    def script(self, name: str, line: str):
+        path = os.path.join(self.model, name)
+        with open(path, "w", encoding="utf-8") as file:
+            file.write(f"#!/bin/sh\n{line}\n")
+        os.chmod(path, 0o755)
 
     def make(self, command: str):
         """Makes a file that the commands read."""
@@ -68,15 +95,15 @@ class Pages:
             fail(f"'{command}' ends with {done.returncode}: {done.stdout.decode()}")
 
     def runs(self, command: str) -> bool:
-        """Whether the programs of this command are here."""
+        """Whether this command is run here."""
         lacking = [name for name in ["osmium", "man"] if re.search(rf"\b{name} ", command) and not shutil.which(name)]
         self.passed_over.update(lacking)
-        return not lacking
+        return not lacking and not any(command.startswith(start) for start in ELSEWHERE)
 
     def room(self) -> str:
         self.count += 1
         place = os.path.join(self.folder, f"room{self.count}")
-        shutil.copytree(self.model, place)
+        shutil.copytree(self.model, place, symlinks=True)
         return place
 
     def block(self, page: str, kind: str, text: str, place: str):
@@ -87,7 +114,7 @@ class Pages:
         elif self.runs(text):
             self.count += 1
             done = shell("set -e\n" + text.replace("status=$?", "status=$?; set +e"), place)
-            if done.returncode:
+            if done.returncode not in ((0, 1) if "my_reader" in text else (0,)):
                 fail(f"{page}: the block '{text}' ends with {done.returncode}: {done.stdout.decode()}")
 
     def command(self, page: str, command: str, place: str, printed=None):
@@ -101,30 +128,61 @@ class Pages:
         if done.returncode != (1 if printed and printed.startswith("pbfcut: refused") else 0):
             fail(f"{page}: '{command}' ends with {done.returncode}: {found}")
 
-    def page(self, name: str):
-        with open(os.path.join(TOP, name), encoding="utf-8") as file:
-            text = file.read()
-        place = self.room()
-        found = 0
-        for kind, block in BLOCK.findall(text):
+    def blocks(self, name: str, place: str):
+        for kind, block in BLOCK.findall(read(name)):
             if kind in ("sh", "console"):
                 self.block(name, kind, block, place)
-                found += 1
-        if not found:
-            fail(f"{name} has no block of commands")
-        for span in SPAN.findall(BLOCK.sub("", text)):
+
+    def page(self, name: str):
+        """The blocks and the sentences of a page for users."""
+        self.blocks(name, self.room())
+        for span in SPAN.findall(BLOCK.sub("", read(name))):
             words = span.split(" ")
             names_file = any(word in GIVEN or word.endswith((".pbf", ".1")) for word in words)
-            if words[0] in ("./pbfcut", "tools/pbfcut-any", "osmium", "man") and (names_file or "--help" in words):
+            known = words[0] in ("./pbfcut", "tools/pbfcut-any", "osmium", "man") or "&& ./pbfcut" in span
+            if known and (names_file or "--help" in words):
                 self.command(name, filled(words), self.room())
+
+    def sample(self, name: str):
+        """The commands of the sample's page, in their order."""
+        place, text = self.room(), read(name)
+        for command, told in re.findall(r"^\| `(\./pbfcut [^`]+)` \| (.*) \|$", text, re.M):
+            counts = re.fullmatch(r"`(.*)`", told)
+            self.command(name, command, place, counts[1] + "\n" if counts else None)
+        for command, printed in re.findall(r"^`(\./pbfcut [^`]+)` prints:\n\n```\n(.*?)^```$", text, re.M | re.S):
+            self.command(name, command, place, printed)
+        for command in re.findall(r"`(python3 [^`]+)`", text):
+            self.command(name, command, place)
+        self.blocks(name, place)
+
+    def manual(self, name: str):
+        """The examples of a manual page."""
+        place, text = self.room(), read(name)
+        examples = LITERAL.findall(text[text.index("\n.Sh EXAMPLES"):])
+        if not examples:
+            fail(f"{name} has no example")
+        for example in examples:
+            self.block(name, "sh", example.replace("\\-", "-").replace("\\e", "\\"), place)
+
+    def help(self, words: list):
+        """The examples of a text of help; those that make the same file have rooms of their own."""
+        name = " ".join(["pbfcut", *words, "--help"])
+        done = shell(name, self.model)
+        found = re.search(r"^Examples?\b.*?(?=^Exit status)", done.stdout.decode(), re.M | re.S)
+        if done.returncode or not found:
+            fail(f"{name} ends with {done.returncode}, or has no example")
+        for example in re.findall(r"(?:^  .*\n)+", found[0], re.M):
+            place = self.room()
+            if "unpack london.osm.pbf" in example:
+                shutil.copy(os.path.join(place, "england.osm.pbf"), os.path.join(place, "london.osm.pbf"))
+            self.block(name, "sh", re.sub(r"^  ", "", example, flags=re.M), place)
 
 
 def inputs(pages: Pages):
     """The files that the pages speak of, all of the sample."""
     for name in ["england", "one", "two"]:
         pages.make(f"tools/pbfcut-any pack sample/town.osm.pbf {name}.osm.pbf")
-    for name in ["given.raw", "one.raw", "two.raw"]:
-        pages.make(f"cp sample/town.osm.pbf {name}.osm.pbf")
+    pages.make("cp sample/town.osm.pbf given.raw.osm.pbf")
     if shutil.which("osmium"):
         with open(os.path.join(pages.model, "history.opl"), "w", encoding="utf-8") as file:
             file.write(HISTORY)
@@ -134,31 +192,47 @@ def inputs(pages: Pages):
         pages.make("cp sample/town.osm.pbf raw.osm.pbf")
 
 
-def links():
-    """Each page links to files that are there; README has at most 80 lines."""
-    for folder, _, names in os.walk(TOP):
-        if {".git", "out"} & set(os.path.relpath(folder, TOP).split(os.sep)):
-            continue
-        for name in (name for name in names if name.endswith(".md")):
-            with open(os.path.join(folder, name), encoding="utf-8") as file:
-                text = file.read()
-            for link in re.findall(r"\]\(([^)#]+)\)", text):
-                if not link.startswith("http") and not os.path.exists(os.path.join(folder, link)):
-                    fail(f"{os.path.join(folder, name)} links to '{link}', which is not there")
-    with open(os.path.join(TOP, "README.md"), encoding="utf-8") as file:
-        if sum(1 for _ in file) > 80:
-            fail("README.md has more than 80 lines")
+def all_pages() -> list:
+    """The pages of the repository."""
+    found = []
+    for folder, folders, names in os.walk(TOP):
+        folders[:] = sorted(name for name in folders if name not in (".git", "out"))
+        found += [os.path.relpath(os.path.join(folder, name), TOP) for name in sorted(names) if name.endswith(".md")]
+    return found
+
+
+def links(names: list):
+    """Each page links to files that are there; README and USING are short."""
+    for name in names:
+        for link in re.findall(r"\]\(([^)#]+)\)", read(name)):
+            if not link.startswith("http") and not os.path.exists(os.path.join(TOP, os.path.dirname(name), link)):
+                fail(f"{name} links to '{link}', which is not there")
+    for name, most in [("README.md", README_WORDS), ("docs/USING.md", USING_WORDS)]:
+        if len(read(name).split()) > most:
+            fail(f"{name} has more than {most} words")
+    if read("README.md").count("\n") > README_LINES:
+        fail(f"README.md has more than {README_LINES} lines")
 
 
 def main():
     if len(sys.argv) != 2 or not os.access(sys.argv[1], os.X_OK):
         sys.exit(__doc__)
-    links()
+    names = all_pages()
+    links(names)
     with tempfile.TemporaryDirectory(prefix="pbfcut-docs-") as folder:
         pages = Pages(os.path.abspath(sys.argv[1]), folder)
         inputs(pages)
-        for name in ["README.md", "docs/USING.md"]:
+        users = ["README.md", "docs/USING.md"]
+        for name in users:
             pages.page(name)
+        pages.sample("sample/README.md")
+        for name in names:
+            if name not in [*users, "sample/README.md"]:
+                pages.blocks(name, pages.room())
+        for name in ["docs/pbfcut.1", "docs/pbfcut-any.1"]:
+            pages.manual(name)
+        for words in [[], *([command] for command in COMMANDS)]:
+            pages.help(words)
     if pages.passed_over:
         print(f"tests/docs.py: not installed, so what needs it was passed over: {', '.join(sorted(pages.passed_over))}")
     print(f"tests/docs.py: {pages.count} commands and blocks run as the pages say")

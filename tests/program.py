@@ -8,7 +8,9 @@ PROGRAM is crates/pbfcut_run/out/pbfcut_run where it is left out. The files that
 at the first difference, with status 1.
 """
 
+import fcntl
 import hashlib
+import itertools
 import os
 import re
 import resource
@@ -17,12 +19,16 @@ import signal
 import subprocess
 import sys
 import tempfile
+import termios
 import time
 
 TOP = os.path.dirname(os.path.dirname(os.path.abspath(__file__)))
 BUILT = os.path.join(TOP, "crates", "pbfcut_run", "out", "pbfcut_run")
 SECONDS = 120
 NOBODY = 65534
+
+# Linux's number for setting the size of a pipe, and its least size
+SET_PIPE_SIZE, PAGE = 1031, 4096
 
 
 # ---- the wire form, as far as the files below need it
@@ -291,23 +297,26 @@ BOX = "--box=0,0,1,1"
 
 
 def words_of_all_kinds(bench: Bench):
-    commands = [b"blobs", b"show", b"check", b"convert", b"extract"]
+    commands = [b"extract", b"convert", b"check", b"show", b"blobs"]
 
     def helps(*parts):
-        needed = [b"Usage: pbfcut", b"Example", b"Exit status:", *parts]
-        return lambda text: all(part in text for part in needed)
+        needed = [b"Usage: pbfcut", b"raw blobs", b"pbfcut-any", b"Example", b"Exit status:", *parts]
+        return lambda text: all(part in text for part in needed) and max(map(len, text.splitlines())) <= 80
+
+    def lists_in_order(text: bytes) -> bool:
+        return helps(*commands)(text) and re.findall(rb"^  ([a-z]+)  ", text, re.M) == commands
 
     def refuses(*parts):
         return lambda text: text.startswith(b"error: ") and all(part in text for part in [b"Usage: pbfcut", *parts])
 
-    for asked in ["--help", "-h"]:
-        bench.case(f"help of the program by {asked}", [asked], stdout=helps(*commands))
+    for asked in ["--help", "-h", "help"]:
+        bench.case(f"help of the program by {asked}", [asked], stdout=lists_in_order)
         for command in commands:
-            words = [command.decode(), asked]
-            parts = [b"pbfcut " + command, b"<IN>"] + ([b"<OUT>"] if command in commands[3:] else [])
+            words = ["help", command.decode()] if asked == "help" else [command.decode(), asked]
+            parts = [b"Usage: pbfcut " + command, b"<IN>"] + ([b"<OUT>"] if command in commands[:2] else [])
             parts += [b"--dates"] if command == b"show" else []
-            parts += [b"--box", b"--parents", b"degrees", b"west,south,east,north"] if command == b"extract" else []
-            bench.case(f"help of {words[0]} by {asked}", words, stdout=helps(*parts))
+            parts += [b"--box", b"--bbox", b"--parents", b"degrees", b"west,south,east,north"] if command == b"extract" else []
+            bench.case(f"help of {command.decode()} by {asked}", words, stdout=helps(*parts))
     for asked in ["--version", "-V"]:
         bench.case(f"the version by {asked}", [asked], stdout=b"pbfcut 1.0.0 (rattle-kit-13f logic dac8208d650f15bf)\n")
     for words, part in [
@@ -323,6 +332,12 @@ def words_of_all_kinds(bench: Bench):
         (["extract", "in", "out"], b"--box"),
         (["extract", BOX, "in"], b"<OUT>"),
         (["extract", BOX, BOX, "in", "out"], b"--box"),
+        (["extract", BOX, "--bbox=0,0,1,1", "in", "out"], b"--box"),
+        (["help", "cut"], b"'cut'"),
+        (["check", "-o", "in"], b"tip: OUT is the last argument and has no option\n"),
+        (["extract", BOX, "in", "-o", "out"], b"'-o' found\n\n  tip: OUT is the last argument and has no option\n\nUsage: pbfcut extract"),
+        (["extract", BOX, "in", "--output=out"], b"'--output' found\n\n  tip: OUT is the last argument and has no option\n\nUsage: pbfcut"),
+        (["extract", BOX, "in", "-x", "out"], b"tip: to pass '-x' as a value"),
     ]:
         name = f"words that are no command: {words}"
         bench.case(name, words, given=THREE_DENSE, status=2, stderr=refuses(part))
@@ -332,6 +347,7 @@ def words_of_all_kinds(bench: Bench):
     bench.case("a file whose name is not ASCII", ["check", "höhe"], files={"höhe": THREE_DENSE}, stdout=counted(3, 0, 0))
     bench.case("a file whose name begins with -", ["check", "--", "-h"], files={"-h": THREE_DENSE},
                stdout=counted(3, 0, 0))
+    bench.case("a file of the name help", ["check", "help"], files={"help": THREE_DENSE}, stdout=counted(3, 0, 0))
 
 
 def boxes(bench: Bench):
@@ -356,7 +372,8 @@ def boxes(bench: Bench):
                files={"out": b"old"}, status=2, stderr=told("box: LeftOverRight"), out=b"old")
     london = field(1, scalar(1, zigzag(-500_000_000)) + scalar(2, zigzag(300_000_000))
                    + scalar(3, zigzag(51_700_000_000)) + scalar(4, zigzag(51_250_000_000)))
-    for box in [["--box=-0.5,51.25,0.3,51.7"], ["--box", "-0.5,51.25,0.3,51.7"]]:
+    edges = "-0.5,51.25,0.3,51.7"
+    for box in [[f"--box={edges}"], ["--box", edges], [f"--bbox={edges}"], ["--bbox", edges]]:
         bench.case(f"a box whose first number is negative, as {box}", ["extract", *box, "in", "out"],
                    given=THREE_DENSE, stdout=counted(0, 0, 0), out=frame("OSMHeader", london + PLAIN_HEADER[19:]))
     bench.case("a box of its own that is none", ["extract", "--box", "-x", "in", "out"], given=THREE_DENSE, status=2,
@@ -494,17 +511,82 @@ def files_that_cannot_be(bench: Bench):
                most=100, status=3, stderr=told("write failed"), out=THREE_DENSE_CUT[:100])
 
 
-def files_that_change(bench: Bench):
-    """A pipe gives its bytes to the first pass alone."""
+def pipes(bench: Bench):
+    """A pipe gives its bytes once. A command that reads IN more often refuses one at once, though nothing ever writes to it."""
     bench.case("check of a pipe", ["check", "in"], fifo=(THREE_DENSE, 1), stdout=counted(3, 0, 0))
-    bench.case("show of a pipe", ["show", "in"], fifo=(THREE_DENSE, 2), status=5, stdout=lambda text: True,
-               stderr=told("input changed in pass 2"))
-    bench.case("convert of a pipe", ["convert", "in", "out"], fifo=(THREE_DENSE, 2), status=5, out="any",
-               stderr=told("input changed in pass 2"))
-    bench.case("extract of a pipe", ["extract", BOX, "in", "out"], fifo=(THREE_DENSE, 3), status=5, out=b"",
-               stderr=told("input changed in pass 2"))
-    bench.case("extract --parents of a pipe", ["extract", "--parents", BOX, "in", "out"], fifo=(THREE_DENSE, 4),
-               status=5, out=b"", stderr=told("input changed in pass 2"))
+    bench.case("blobs of a pipe", ["blobs", "in"], fifo=(THREE_DENSE, 1), stdout=lines("0 OSMHeader 2 0", "19 OSMData 25 23"))
+    for words in [["show", "in"], ["convert", "in", "out"], ["extract", BOX, "in", "out"], ["extract", "--parents", BOX, "in", "out"]]:
+        bench.case(f"{words} of a pipe", words, fifo=(b"", 1), status=3, stderr=told("IN must be a file, not a pipe"))
+
+
+def unread(descriptor: int) -> int:
+    """How many bytes a pipe holds."""
+    return int.from_bytes(fcntl.ioctl(descriptor, termios.FIONREAD, bytes(4)), sys.byteorder)
+
+
+def files_that_change(bench: Bench):
+    """The last byte of IN is another one from pass N on, and OUT is empty if that isn't the pass that writes."""
+    path, out = os.path.join(bench.folder, "changing"), os.path.join(bench.folder, "changed")
+    for words, passes in [(["show", path], 2), (["convert", path, out], 2), (["extract", BOX, path, out], 3),
+                          (["extract", "--parents", BOX, path, out], 4)]:
+        for number in range(2, passes + 1):
+            status, errors = run_with_change([bench.program, *words, "--progress"], path, out, number)
+            compare(f"{words}, changed in pass {number}: status", 5, status)
+            compare(f"{words}, changed in pass {number}: last line", told(f"input changed in pass {number}"), errors.split(b"\n")[-2] + b"\n")
+            if os.path.exists(out):
+                compare(f"{words}, changed in pass {number}: OUT is empty", number < passes, os.path.getsize(out) == 0)
+                os.unlink(out)
+            bench.count += 1
+
+
+def run_with_change(words: list, path: str, out: str, number: int):
+    """A run that finds the last byte of IN changed from pass N on. It can't get further before that is done: standard error is a pipe that
+    has room for the progress of the passes before, and no more."""
+    with open(path, "wb") as file:
+        file.write(THREE_DENSE)
+    usual = subprocess.run(words, stdout=subprocess.DEVNULL, stderr=subprocess.PIPE, timeout=SECONDS).stderr
+    if os.path.exists(out):
+        os.unlink(out)
+    reading, writing = os.pipe()
+    fcntl.fcntl(writing, SET_PIPE_SIZE, PAGE)
+    os.write(writing, bytes(PAGE - usual.index(b"\rpass %d of" % number) - 1))
+    process = subprocess.Popen(words, stdout=subprocess.DEVNULL, stderr=writing)
+    os.close(writing)
+    while unread(reading) < PAGE - 1 and process.poll() is None:
+        time.sleep(0.005)
+    with open(path, "r+b") as file:
+        file.seek(-1, os.SEEK_END)
+        file.write(b"\x02")
+    with open(reading, "rb") as file:
+        errors = file.read()
+    return process.wait(SECONDS), errors
+
+
+def closed_descriptors(bench: Bench):
+    """If standard input, output or error are closed, no file that is opened stands in for them: OUT has the answer and nothing else."""
+    folder = os.path.join(bench.folder, "closed")
+    os.mkdir(folder)
+    given, out = os.path.join(folder, "in"), os.path.join(folder, "out")
+
+    def close(numbers):
+        for number in numbers:
+            os.close(number)
+
+    for count in (1, 2, 3):
+        for closed in itertools.combinations(range(3), count):
+            for words, content, answer in [(["convert"], THREE_DENSE, PLAIN_HEADER + DENSE_FRAME), (["extract", BOX], THREE_DENSE, THREE_DENSE_CUT),
+                                           (["extract", BOX], THREE_DENSE + b"\x00", b"")]:
+                with open(given, "wb") as file:
+                    file.write(content)
+                done = subprocess.run([bench.program, *words, "--progress", "--digests", given, out], stdin=subprocess.DEVNULL,
+                                      stdout=subprocess.DEVNULL, stderr=subprocess.DEVNULL, timeout=SECONDS,
+                                      preexec_fn=lambda: close(closed))
+                compare(f"{words} with {closed} closed: status", 1 if not answer else 3 if 1 in closed else 0, done.returncode)
+                for name, path, wanted in [("IN", given, content), ("OUT", out, answer)]:
+                    with open(path, "rb") as file:
+                        compare(f"{words} with {closed} closed: {name}", wanted, file.read())
+                os.unlink(out)
+                bench.count += 1
 
 
 def refused(bench: Bench, name: str, given: bytes, fault: str, listed=None, whole_listing=None):
@@ -771,9 +853,11 @@ def main():
     folder = tempfile.mkdtemp(prefix="pbfcut-program-")
     try:
         bench = Bench(program, folder)
-        for part in [words_of_all_kinds, boxes, progress, digests, files_that_cannot_be, files_that_change, files_that_are_refused,
-                     files_that_are_accepted, extracts, conversions, sample, millions]:
+        for part in [words_of_all_kinds, boxes, progress, digests, files_that_cannot_be, pipes, files_that_change, closed_descriptors,
+                     files_that_are_refused, files_that_are_accepted, extracts, conversions, sample, millions]:
             part(bench)
+    except Difference as difference:
+        sys.exit(f"tests/program.py: {difference}")
     finally:
         shutil.rmtree(folder)
     print(f"tests/program.py: {bench.count} cases as they have to be")

@@ -4,8 +4,8 @@
 usage: tests/statement.py [PROGRAM]      compares the page
        tests/statement.py --write        writes it
 
-PROGRAM is not run. The page is made of `specs/` and of the contracts in `src/` alone: a definition is under a contract where its name
-stands in it, or in a definition that is.
+PROGRAM is not run. The page is made only of `specs/` and of the contracts in `src/`: a definition is under a contract if the contract names it, or
+a definition under it does.
 """
 import os
 import re
@@ -16,6 +16,7 @@ PAGE = os.path.join(TOP, "docs", "STATEMENT.md")
 # Each public call, with the crate and the file that have it.
 CALLS = {
     "extract": ("pbfcut", "extracting"), "extract_with_receipt": ("pbfcut", "extracting"), "extract_parents": ("pbfcut", "extracting"),
+    "extract_sorted": ("pbfcut", "sorted"), "extract_sorted_with_receipt": ("pbfcut", "sorted"),
     "convert": ("pbfcut", "converting"), "show": ("pbfcut", "showing"), "check": ("pbf_pass", "checking"), "list_blobs": ("pbfcut", "blobs"),
 }
 # The calls with a clause of this name, which says what the answer means, and what is refused.
@@ -200,7 +201,7 @@ def sources_used(sources: Sources, found: list) -> list:
 
 def foreign_part(places: set):
     yield "\n## What is trusted of std and of the toolchain's crates\n"
-    yield "These words stand in the definitions above and are defined outside the repository.\n"
+    yield "The definitions above use these words, which are defined outside the repository.\n"
     yield "| Module | Words |\n|---|---|"
     modules = {}
     for module, name in places:
@@ -234,15 +235,16 @@ def page() -> str:
 INTRODUCTION = """# What one must believe
 
 To believe what a public call promises, read its contract and the definitions under it; no proof and no code has to be read. This page
-lists these definitions, from the calls down to the bytes, with the comment that stands above each. `tests/statement.py --write` makes it
-of the sources, and the gate compares it. What each clause says in words is in [PROMISES.md](PROMISES.md).
+lists these definitions, from the calls down to the bytes, with the comment above each. `tests/statement.py --write` generates it
+from the sources, and the gate compares it. [PROMISES.md](PROMISES.md) says in words what each clause says.
 
-`Laws` names the laws (functions in `src/laws.rt`) whose contract speaks of the definition: there it is held to a second one, as
-reading to writing. [The examples](../crates/pbf_examples/README.md) hold the definitions to files that are spelled out. Types of the code (structs
+`Laws` names the laws (functions in `src/laws.rt`) whose contract names the definition: there it is compared with a second one, as reading is
+with writing. [The examples](../crates/pbf_examples/README.md) compare the definitions with files that are spelled out. Types of the code (structs
 and enums) are not listed, nor are `Feed` and `Drain` of [device](../crates/pbf_frame/src/device.rt), whose contracts say what a device is.
 
-Begin with [Theorem](../crates/pbfcut/specs/Theorem.antt). The clause `promise` of a call says what the answer means, and what is refused; what stands
-under one is printed bold. The rest says how the answer is written, why a call stops, and what went through devices that report nothing.
+Begin with [Theorem](../crates/pbfcut/specs/Theorem.antt). The clause `promise` of a call says what the answer means, and what is refused; the
+definitions under one are printed in bold. The others say how the answer is written, why a call stops, and what went through devices that report
+nothing.
 """
 
 

@@ -1,10 +1,10 @@
 #!/usr/bin/env python3
-"""Runs the built program with standard error on a terminal: below its own line stands one that says what to do next.
+"""Runs the built program with standard error on a terminal: below its own line comes one that says what to do next.
 
 usage: tests/terminal.py PROGRAM
 
-Where standard error is no terminal there is no such line, which tests/program.py holds of every run. On a machine without terminals this is
-told, and nothing is run.
+If standard error is no terminal there is no such line, as tests/program.py shows in every run. On a machine without terminals nothing is run,
+which is said.
 """
 
 import os
@@ -116,6 +116,9 @@ def main():
              "hint: IN has history; this takes the state of now out of it: osmium time-filter IN -o NOW.osm.pbf",
              given=header_with(b"HistoricalInformation"))
         case("another fault", ["check", "in"], 1, "pbfcut: refused at 17: 15 NoRaw", given=frame(b""))
+        os.mkfifo(os.path.join(folder, "pipe"))
+        case("a pipe that is to be read twice", ["show", "pipe"], 3, "pbfcut: IN must be a file, not a pipe",
+             "hint: pbfcut reads IN more than once: write what the pipe has to a file first; 'check' and 'blobs' read a pipe")
         case("no IN", ["check", "nowhere"], 3, "pbfcut: cannot open", "hint: nowhere: No such file or directory (os error 2)")
         case("no folder for OUT", ["convert", "in", "no/out"], 3, "pbfcut: cannot open",
              "hint: no/out cannot be made: is its folder there, and may it be written to?")

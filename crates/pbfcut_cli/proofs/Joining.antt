@@ -4,13 +4,13 @@ use Rattle.clap.specs.Words.{Text}
 use Rattle.pbfcut_cli.specs.Joined.{begins_with_box, box_joined}
 
 two : (word : Text) (edges : Text) (rest : List Text) → begins_with_box (word ∷ edges ∷ rest) ≡ true
-    → box_joined (word ∷ edges ∷ rest) ≡ (codes "--box=" ++ edges) ∷ box_joined rest
+    → box_joined (word ∷ edges ∷ rest) ≡ (word ++ (codes "=" ++ edges)) ∷ box_joined rest
 unfolding box_joined
 two word edges rest e = rw e refl
 
 -- `--box` and its box
 pub joined_two : (word : Text) (after : List Text) (edges : Text) (rest : List Text) → after ≡ edges ∷ rest
-    → begins_with_box (word ∷ after) ≡ true → box_joined (word ∷ after) ≡ (codes "--box=" ++ edges) ∷ box_joined rest
+    → begins_with_box (word ∷ after) ≡ true → box_joined (word ∷ after) ≡ (word ++ (codes "=" ++ edges)) ∷ box_joined rest
 joined_two word after edges rest parts e =
     let same : begins_with_box (word ∷ edges ∷ rest) ≡ true = rw parts at e in
     rw parts (two word edges rest same)

@@ -57,7 +57,7 @@ named words p e =
 pub simple : is_simple program_app ≡ true
 simple = refl
 
--- where the matches are those of the words and have a subcommand, it is a command of the program
+-- if the matches are those of the words and have a subcommand, it is a command of the program
 pub offered : (m : ArgMatches) (words : List Text) → has_subcommand m ≡ true
     → subcommand_rows_of m ≡ subcommand_of program_app words → IsOffered (subcommand_rows_of m)
 offered m words has same =

@@ -1,4 +1,4 @@
--- How an ending is told: its exit status, and what is written to standard error.
+-- How an ending is reported: its exit status, and what is written to standard error.
 use Rattle.std.specs.Prelude.{ℕ, List, ◌++◌, codes, decimal}
 use Rattle.std.specs.String.{string_bytes}
 use Rattle.pbf_wire.specs.declared.fault.Reason.{Reason}
@@ -57,6 +57,7 @@ ending_status (ending.Words text) = 2
 ending_status ending.NotText = 2
 ending_status (ending.Box f) = 2
 ending_status ending.CannotOpen = 3
+ending_status ending.IsPipe = 3
 ending_status ending.OutExists = 3
 ending_status (ending.Stopped s) = status_of s
 
@@ -77,5 +78,6 @@ message_of (ending.Words text) = string_bytes text
 message_of ending.NotText = not_text
 message_of (ending.Box f) = codes "pbfcut: box: " ++ box_fault_name f ++ codes "\n"
 message_of ending.CannotOpen = codes "pbfcut: cannot open\n"
+message_of ending.IsPipe = codes "pbfcut: IN must be a file, not a pipe\n"
 message_of ending.OutExists = codes "pbfcut: OUT exists\n"
 message_of (ending.Stopped s) = line_of s ++ codes "\n"

@@ -1,5 +1,5 @@
--- The words as `clap` is to see them: `--box` and a box that begins with `-` are one word.
-use Rattle.std.specs.Prelude.{ℕ, Bool, false, List, ◌∷◌, ◌++◌, codes, nat_eq, nat_le, ◌&&◌, ◌||◌, if◌then◌else◌}
+-- The words as `clap` is to see them: `--box` and a box that begins with `-` are one word, and `help` is an option.
+use Rattle.std.specs.Prelude.{ℕ, Bool, false, List, [], ◌∷◌, ◌++◌, codes, nat_eq, nat_le, ◌&&◌, ◌||◌, if◌then◌else◌}
 use Rattle.std.specs.Str.{bytes_eq}
 use Rattle.clap.specs.Words.{Text}
 
@@ -12,14 +12,25 @@ abbrev pub begins_below_zero : Text → Bool
 begins_below_zero (sign ∷ byte ∷ rest) = nat_eq sign 45 && begins_number byte
 begins_below_zero _ = false
 
--- the first word is `--box`, and the second one begins so
+-- `--box`, or its other name
+abbrev pub names_box : Text → Bool
+names_box word = bytes_eq word (codes "--box") || bytes_eq word (codes "--bbox")
+
+-- the first word names the box, and the second one begins so
 abbrev pub begins_with_box : List Text → Bool
-begins_with_box (word ∷ edges ∷ rest) = bytes_eq word (codes "--box") && begins_below_zero edges
+begins_with_box (word ∷ edges ∷ rest) = names_box word && begins_below_zero edges
 begins_with_box _ = false
 
--- `--box` and such a word are one word, as `--box=-0.5,51.25,0.3,51.7`
+-- the name and such a word are one word, as `--box=-0.5,51.25,0.3,51.7`
 unfoldable pub box_joined : List Text → List Text
 box_joined (word ∷ edges ∷ rest) = if begins_with_box (word ∷ edges ∷ rest)
-    then (codes "--box=" ++ edges) ∷ box_joined rest
+    then (word ++ (codes "=" ++ edges)) ∷ box_joined rest
     else word ∷ box_joined (edges ∷ rest)
 box_joined words = words
+
+-- `help`, as the first word, is `--help` as the last one
+abbrev pub normalized : List Text → List Text
+normalized (word ∷ rest) = if bytes_eq word (codes "help")
+    then box_joined rest ++ codes "--help" ∷ []
+    else box_joined (word ∷ rest)
+normalized [] = []

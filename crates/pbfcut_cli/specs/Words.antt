@@ -1,5 +1,5 @@
 -- The program's commands, as `clap` sees them.
-use Rattle.std.specs.Prelude.{◌≡◌, ◌⊎◌, Bool, true, false, codes, List, [], Option, Some, None, Result, Ok, Err, MatchResult, map, unwrap_or}
+use Rattle.std.specs.Prelude.{◌≡◌, ◌⊎◌, Bool, true, false, codes, List, [], ◌∷◌, Option, Some, None, Result, Ok, Err, MatchResult, map, unwrap_or}
 use Rattle.std.specs.Borrow.{Bor}
 use Rattle.clap.specs.Words.{App, Row, Rule, Shape, Text, first_of, new_app, new_rule, one_of, subcommand_of, with_rule, with_subcommand}
 use Rattle.clap.specs.Simple.{on_top}
@@ -34,9 +34,11 @@ abbrev pub parents_rule : Rule
 parents_rule =
     record (new_rule (codes "parents")) { long = Some (codes "parents"); action = Some SetTrue }
 
+-- `--box`, also by the name that Osmium has for it
 abbrev pub box_rule : Rule
 box_rule = record (new_rule (codes "box")) {
   long = Some (codes "box");
+  aliases = codes "bbox" ∷ [];
   value_names = 1;
   required = true;
 }
@@ -77,16 +79,17 @@ settled s = record s {
 abbrev pub bare_app : App
 bare_app = on_top settled (new_app (codes "pbfcut"))
 
-abbrev pub readers_app : App
-readers_app = with_subcommand (with_subcommand (with_subcommand bare_app blobs_app.top)
-    show_app.top) check_app.top
+-- the commands that write a file
+abbrev pub writers_app : App
+writers_app = with_subcommand (with_subcommand bare_app extract_app.top) convert_app.top
 
 abbrev pub program_app : App
-program_app = with_subcommand (with_subcommand readers_app convert_app.top) extract_app.top
+program_app = with_subcommand (with_subcommand (with_subcommand writers_app check_app.top)
+    show_app.top) blobs_app.top
 
--- ---- what the words come to
+-- ---- what the words mean
 
--- the value of an argument, empty where it has none
+-- the value of an argument, empty if it has none
 abbrev pub value_of : Text → List Row → Text
 value_of id rows = unwrap_or (first_of id rows) []
 
@@ -126,8 +129,8 @@ HasBoxFault (Some p) fault =
 -- the name is that of a command
 abbrev pub IsOffered : Option (Text × List Row) → Type 0
 IsOffered None = ⊥
-IsOffered (Some p) = (p.0 ≡ codes "blobs") ⊎ ((p.0 ≡ codes "show") ⊎ ((p.0 ≡ codes "check")
-    ⊎ ((p.0 ≡ codes "convert") ⊎ (p.0 ≡ codes "extract"))))
+IsOffered (Some p) = (p.0 ≡ codes "extract") ⊎ ((p.0 ≡ codes "convert") ⊎ ((p.0 ≡ codes "check")
+    ⊎ ((p.0 ≡ codes "show") ⊎ (p.0 ≡ codes "blobs"))))
 
 abbrev pub IsHelp : Command → Type 0
 IsHelp (Help text) = Unit {0}
@@ -137,7 +140,7 @@ abbrev pub IsBox : CliFault → Type 0
 IsBox (Box fault) = Unit {0}
 IsBox _ = ⊥
 
--- a fault that may come where `clap` takes the words
+-- a fault that may come if `clap` accepts the words
 abbrev pub IsNoLine : CliFault → Type 0
 IsNoLine (Line text) = ⊥
 IsNoLine _ = Unit {0}

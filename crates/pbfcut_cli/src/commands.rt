@@ -19,8 +19,8 @@ ghost use Rattle.pbfcut_cli.specs.Words.{
   parents_rule,
   progress_rule,
   program_app,
-  readers_app,
   show_app,
+  writers_app,
 };
 
 use crate::help;
@@ -84,15 +84,16 @@ fn parents<'a>(alloc: Global) -> Arg<'a>
 }
 
 /// The box, as text.
-fn area<'a>(alloc: Global) -> Arg<'a>
-    ensures rule { rule_of result ≡ box_rule }
-    ensures local { result.global ≡ false }
+fn area<'a>(alloc: Global) -> Result<Arg<'a>, AllocError>
+    ensures rule { IfOk result (λ arg. rule_of arg ≡ box_rule) }
+    ensures local { IfOk result (λ arg. arg.global ≡ false) }
 {
     Arg::new(alloc, "box")
         .long("box")
         .value_name("WEST,SOUTH,EAST,NORTH")
         .required(true)
         .help(help::BOX)
+        .alias("bbox")
 }
 
 /// A command of this name, with no argument yet.
@@ -190,7 +191,7 @@ fn extract<'a>(alloc: Global) -> Result<Command<'a>, AllocError>
     ensures app { IfOk result (λ c. app_of c ≡ extract_app) }
     ensures local { IfOk result (λ c. (fields_of c).has_globals ≡ false) }
 {
-    let command = with_arg(options(alloc)?, area(alloc))?;
+    let command = with_arg(options(alloc)?, area(alloc)?)?;
     let command = with_arg(command, input(alloc))?;
     with_arg(command, output(alloc))
 }
@@ -210,21 +211,21 @@ fn bare<'a>(alloc: Global) -> Result<Command<'a>, AllocError>
         .bin_name("pbfcut")
 }
 
-/// The command line with the commands that write no file.
-fn readers<'a>(alloc: Global) -> Result<Command<'a>, AllocError>
-    ensures app { IfOk result (λ c. app_of c ≡ readers_app) }
+/// The command line with the commands that write a file.
+fn writers<'a>(alloc: Global) -> Result<Command<'a>, AllocError>
+    ensures app { IfOk result (λ c. app_of c ≡ writers_app) }
     ensures local { IfOk result (λ c. (fields_of c).has_globals ≡ false) }
 {
-    let command = with_command(bare(alloc)?, blobs(alloc)?)?;
-    let command = with_command(command, show(alloc)?)?;
-    with_command(command, check(alloc)?)
+    let command = with_command(bare(alloc)?, extract(alloc)?)?;
+    with_command(command, convert(alloc)?)
 }
 
-/// The command line of the program.
+/// The command line of the program, with the commands in the order in which help lists them.
 pub(crate) fn program<'a>(alloc: Global) -> Result<Command<'a>, AllocError>
     ensures app { IfOk result (λ c. app_of c ≡ program_app) }
     ensures local { IfOk result (λ c. (fields_of c).has_globals ≡ false) }
 {
-    let command = with_command(readers(alloc)?, convert(alloc)?)?;
-    with_command(command, extract(alloc)?)
+    let command = with_command(writers(alloc)?, check(alloc)?)?;
+    let command = with_command(command, show(alloc)?)?;
+    with_command(command, blobs(alloc)?)
 }

@@ -11,12 +11,12 @@ use pbf_frame::Stop;
 use pbf_wire::Reason;
 use std::alloc::{AllocError, Global};
 
-/// What is said of words that aren't UTF-8: the text that `clap` has for them where it meets such words itself.
+/// What is said of words that aren't UTF-8: the text that `clap` has for them if it meets such words itself.
 const NOT_TEXT: &str =
     "error: invalid UTF-8 was detected in one or more arguments\n\nUsage: pbfcut <COMMAND>\n\nFor more information, try '--help'.\n";
 
-/// The exit status of a stop: 1 where the input is refused, 3 where a read or a write failed, 4 where memory was refused, 5
-/// where the input changed.
+/// The exit status of a stop: 1 if the input is refused, 3 if a read or a write failed, 4 if memory was refused, 5 if the input
+/// changed.
 pub fn status(stop: &Stop) -> u8
     ensures { result ≡ status_of stop.now }
 {
@@ -60,7 +60,7 @@ fn reason_line(alloc: Global, reason: &Reason) -> Result<String, AllocError>
     }
 }
 
-/// The line of a refusal, by the place and the reason's text.
+/// The line of a refusal, by its offset and the reason's text.
 fn refused_line(alloc: Global, offset: u64, reason: &str) -> Result<String, AllocError>
     ensures { IfOk result (λ text. string_bytes text ≡ refused_text offset reason.now) }
 {
@@ -71,7 +71,7 @@ fn refused_line(alloc: Global, offset: u64, reason: &str) -> Result<String, Allo
 ///
 /// # Errors
 ///
-/// Where a request for memory was refused.
+/// If a request for memory was refused.
 pub fn line(alloc: Global, stop: &Stop) -> Result<String, AllocError>
     ensures { IfOk result (λ text. string_bytes text ≡ line_of stop.now) }
 {
@@ -87,20 +87,22 @@ pub fn line(alloc: Global, stop: &Stop) -> Result<String, AllocError>
     }
 }
 
-/// Why the program ends otherwise than well.
+/// Why the program fails.
 #[derive(Debug, Drop)]
 pub enum Ending {
-    /// The words are no command: what is said of them, with its line ends.
+    /// The command line is invalid: what is said of it, with its line ends.
     Words(String),
     /// A word isn't UTF-8.
     NotText,
-    /// The box is at fault.
+    /// The box is invalid.
     Box(BoxFault),
     /// IN can't be opened, there is no seed for the hasher, or OUT can't be created.
     CannotOpen,
+    /// IN is a pipe, which the command would have to read more than once.
+    IsPipe,
     /// OUT exists already.
     OutExists,
-    /// The engine stopped; or `Memory`, where the program itself was refused memory.
+    /// The engine stopped; or `Memory`, if the program itself was refused memory.
     Stopped(Stop),
 }
 
@@ -159,13 +161,13 @@ fn stop_message(alloc: Global, stop: &Stop) -> Result<String, AllocError>
 }
 
 impl Ending {
-    /// The exit status: 2 for words or a box, 3 where a file can't be opened or OUT exists, else that of the stop.
+    /// The exit status: 2 for a command line or a box, 3 if a file can't be used, and otherwise that of the stop.
     pub fn status(&self) -> u8
         ensures { result ≡ ending_status self.now }
     {
         match self {
             Ending::Words(_) | Ending::NotText | Ending::Box(_) => 2,
-            Ending::CannotOpen | Ending::OutExists => 3,
+            Ending::CannotOpen | Ending::IsPipe | Ending::OutExists => 3,
             Ending::Stopped(stop) => status(stop),
         }
     }
@@ -174,7 +176,7 @@ impl Ending {
     ///
     /// # Errors
     ///
-    /// Where a request for memory was refused.
+    /// If a request for memory was refused.
     pub fn message(&self, alloc: Global) -> Result<String, AllocError>
         ensures { IfOk result (λ text. string_bytes text ≡ message_of self.now) }
     {
@@ -183,6 +185,7 @@ impl Ending {
             Ending::NotText => String::from_str(alloc, NOT_TEXT),
             Ending::Box(fault) => box_message(alloc, fault),
             Ending::CannotOpen => String::from_str(alloc, "pbfcut: cannot open\n"),
+            Ending::IsPipe => String::from_str(alloc, "pbfcut: IN must be a file, not a pipe\n"),
             Ending::OutExists => String::from_str(alloc, "pbfcut: OUT exists\n"),
             Ending::Stopped(stop) => stop_message(alloc, stop),
         }

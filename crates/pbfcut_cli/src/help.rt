@@ -1,10 +1,14 @@
 //! What help says, to someone who makes maps. Lines have at most 80 columns.
 
-/// The last lines of each help, with what exit status 3 means there.
-macro_rules! exit_statuses {
-    ($text:literal, $files:literal) => {
+/// The text of a help after its arguments: what is said, what of raw blobs, the examples, and what exit status 3 means there.
+macro_rules! after_arguments {
+    ($text:literal, $raw:literal, $examples:literal, $files:literal) => {
         concat!(
             $text,
+            "\n",
+            $raw,
+            "\n",
+            $examples,
             "\n\
             Exit status:\n  \
               0  done, or help was asked for\n  \
@@ -20,20 +24,28 @@ macro_rules! exit_statuses {
 }
 
 /// The text of the program's help, or of a command's that writes OUT, after its arguments.
-macro_rules! with_exit_statuses {
-    ($text:literal) => {
-        exit_statuses!(
+macro_rules! after_arguments_of_writer {
+    ($text:literal, $raw:literal, $examples:literal) => {
+        after_arguments!(
             $text,
-            "IN can't be opened, OUT exists or can't be made, or reading or writing\n     \
-                 failed"
+            $raw,
+            $examples,
+            "IN can't be opened or is a pipe, OUT exists or can't be made, or reading\n     \
+                 or writing failed"
         )
     };
 }
 
 /// The text of a command's help that only prints, after its arguments.
-macro_rules! with_exit_statuses_of_readers {
-    ($text:literal) => {
-        exit_statuses!($text, "IN can't be opened, or reading or writing failed")
+macro_rules! after_arguments_of_reader {
+    ($text:literal, $examples:literal) => {
+        after_arguments!(
+            $text,
+            "IN must have raw blobs. Published files are compressed, and\n\
+            'pbfcut-any unpack' makes a raw copy.\n",
+            $examples,
+            "IN can't be opened or used, or reading or writing failed"
+        )
     };
 }
 
@@ -43,14 +55,12 @@ pub(crate) const VERSION: &str = "1.0.0 (rattle-kit-13f logic dac8208d650f15bf)"
 pub(crate) const PROGRAM: &str =
     "Cut a bounding box out of an OpenStreetMap PBF file; validate and print such\nfiles";
 
-pub(crate) const AFTER_PROGRAM: &str = with_exit_statuses!(
-    "'pbfcut COMMAND --help' prints what a command does, its units and an example.\n\
-    \n\
-    pbfcut reads and writes files with raw blobs, and refuses compressed ones.\n\
+pub(crate) const AFTER_PROGRAM: &str = after_arguments_of_writer!(
+    "'pbfcut help COMMAND' prints what a command does, its units and an example.\n",
+    "pbfcut reads and writes files with raw blobs, and refuses compressed ones.\n\
     Published files are compressed: pbfcut-any cuts them, and writes a compressed\n\
-    file; 'pbfcut-any unpack' or 'osmium cat' makes a raw copy.\n\
-    \n\
-    Example, which cuts London out of a published file of England:\n  \
+    file; 'pbfcut-any unpack' or 'osmium cat' makes a raw copy.\n",
+    "Example, which cuts London out of a published file of England:\n  \
       pbfcut-any --box=-0.5,51.25,0.3,51.7 england.osm.pbf london.osm.pbf\n"
 );
 
@@ -68,25 +78,25 @@ pub(crate) const DIGEST_OF_INPUT: &str = "Print the SHA-256 digest of IN";
 
 pub(crate) const PARENTS: &str = "Also keep relations that contain kept ones";
 
-pub(crate) const BOX: &str = "The edges of the box, in degrees";
+pub(crate) const BOX: &str = "Edges of the box, in degrees; also --bbox";
 
 pub(crate) const BLOBS: &str = "List the frames of IN: where they are, their types and sizes";
 
-pub(crate) const AFTER_BLOBS: &str = with_exit_statuses_of_readers!(
+pub(crate) const AFTER_BLOBS: &str = after_arguments_of_reader!(
     "The command prints a line for each frame of IN, as '19 OSMData 25 23': the byte\n\
     of IN at which the frame begins, its type, and the lengths in bytes of its blob\n\
     and of the payload in the blob. For a frame of another type than OSMHeader and\n\
     OSMData it prints the type in quotes, and 'skipped' instead of the last length.\n\
     It does not read payloads; 'pbfcut check' validates them. If IN is refused, the\n\
-    lines of the frames before the fault are printed.\n\
-    \n\
-    Example:\n  \
-      pbfcut blobs london.osm.pbf\n"
+    lines of the frames before the fault are printed. IN may be a pipe.\n",
+    "Example:\n  \
+      pbfcut-any unpack london.osm.pbf london.raw.osm.pbf\n  \
+      pbfcut blobs london.raw.osm.pbf\n"
 );
 
 pub(crate) const SHOW: &str = "Print the header and all nodes, ways and relations of IN as text";
 
-pub(crate) const AFTER_SHOW: &str = with_exit_statuses_of_readers!(
+pub(crate) const AFTER_SHOW: &str = after_arguments_of_reader!(
     "Lines that begin with H are of the header. Each other line is an entity, in the\n\
     order of IN:\n  \
       N 1 51500000000 -120000000 v2 \"highway\"=\"stop\"\n      \
@@ -97,26 +107,27 @@ pub(crate) const AFTER_SHOW: &str = with_exit_statuses_of_readers!(
           a relation: its id, and last its members with their roles; n is a node,\n      \
           w a way, r a relation\n\
     Latitudes and longitudes are nanodegrees of WGS84: 1000000000 is one degree, and\n\
-    a number below 0 lies south or west. Between them are, as far as IN has them: v\n\
+    a negative number lies south or west. Between them are, as far as IN has them: v\n\
     the version, t the time in milliseconds since 1970-01-01 UTC, c the changeset, u\n\
     the user's number, s the user's name, d1 visible or d0 deleted, and the tags.\n\
     With --dates a time from 1970 to 2099 is printed as t2009-02-13T23:31:30.000Z.\n\
     If IN is refused, nothing is printed. IN is read twice, so it must be a file,\n\
-    not a pipe.\n\
-    \n\
-    Example:\n  \
-      pbfcut show --dates london.osm.pbf\n"
+    not a pipe.\n",
+    "Example:\n  \
+      pbfcut-any unpack london.osm.pbf london.raw.osm.pbf\n  \
+      pbfcut show --dates london.raw.osm.pbf\n"
 );
 
 pub(crate) const CHECK: &str = "Validate all of IN, and count its nodes, ways and relations";
 
-pub(crate) const AFTER_CHECK: &str = with_exit_statuses_of_readers!(
+pub(crate) const AFTER_CHECK: &str = after_arguments_of_reader!(
     "If no field of IN has a fault, the command prints how many entities IN has, as\n\
     'nodes 3 ways 0 relations 0'. Otherwise it refuses IN at its first fault. IN may\n\
-    be a pipe, since it is read once.\n\
-    \n\
-    Examples, of a raw file and of a compressed one:\n  \
-      pbfcut check raw.osm.pbf\n  \
+    be a pipe, since it is read once.\n",
+    "Examples:\n  \
+      pbfcut-any unpack london.osm.pbf london.raw.osm.pbf\n  \
+      pbfcut check london.raw.osm.pbf\n\
+    or, with osmium and without a raw file:\n  \
       osmium cat england.osm.pbf -f pbf,pbf_compression=none -o - |\n    \
         pbfcut check /dev/stdin\n"
 );
@@ -124,17 +135,19 @@ pub(crate) const AFTER_CHECK: &str = with_exit_statuses_of_readers!(
 pub(crate) const CONVERT: &str =
     "Write the header and all entities of IN to OUT, in one fixed form";
 
-pub(crate) const AFTER_CONVERT: &str = with_exit_statuses!(
+pub(crate) const AFTER_CONVERT: &str = after_arguments_of_writer!(
     "OUT has the same nodes, ways and relations as IN in the same order, with dense\n\
     nodes, in raw blobs, and with at most 8000 entities in a block. Its form is\n\
     fixed: converting OUT again gives the same bytes. What the format does not name\n\
     is left out. The command prints how many entities it wrote, as\n\
     'nodes 3 ways 0 relations 0'.\n\
     IN is read twice, so it must be a file, not a pipe. A run that stops early may\n\
-    leave an incomplete OUT: delete it.\n\
-    \n\
-    Example:\n  \
-      pbfcut convert london.osm.pbf plain.osm.pbf\n"
+    leave an incomplete OUT: delete it.\n",
+    "IN must have raw blobs, and OUT has raw blobs. Published files are compressed:\n\
+    'pbfcut-any unpack' makes a raw copy, and 'pbfcut-any pack' compresses OUT.\n",
+    "Example:\n  \
+      pbfcut-any unpack london.osm.pbf london.raw.osm.pbf\n  \
+      pbfcut convert london.raw.osm.pbf plain.osm.pbf\n"
 );
 
 pub(crate) const EXTRACT: &str = "Cut a box out of IN and write it to OUT, with complete ways";
@@ -142,12 +155,12 @@ pub(crate) const EXTRACT: &str = "Cut a box out of IN and write it to OUT, with 
 pub(crate) const USAGE_OF_EXTRACT: &str =
     "pbfcut extract [OPTIONS] --box=<WEST,SOUTH,EAST,NORTH> <IN> <OUT>";
 
-pub(crate) const AFTER_EXTRACT: &str = with_exit_statuses!(
+pub(crate) const AFTER_EXTRACT: &str = after_arguments_of_writer!(
     "The box is four numbers in degrees of WGS84 with commas between them, in the\n\
     order west,south,east,north: the longitudes of its west and east edge from -180\n\
     to 180, and the latitudes of its south and north edge from -90 to 90. A number\n\
-    has up to nine digits after the point. West may not be greater than east: no box\n\
-    crosses the antimeridian.\n\
+    has up to nine digits after the point. West may not be greater than east: a box\n\
+    may not cross the antimeridian.\n\
     \n\
     OUT contains, in the order of IN and with all fields:\n  \
       - the nodes in the box and on its edges\n  \
@@ -157,13 +170,12 @@ pub(crate) const AFTER_EXTRACT: &str = with_exit_statuses!(
         --parents also each relation that has a kept relation as a member, level by\n    \
         level\n\
     The command prints how many entities it wrote, as 'nodes 3 ways 0 relations 0'.\n\
-    IN is read three times, with --parents four times, so it must be a file, not a\n\
-    pipe. A run that stops early may leave an incomplete OUT: delete it.\n\
-    \n\
-    IN must have raw blobs, and OUT has raw blobs. Published files are compressed:\n\
-    pbfcut-any cuts them, and writes a compressed file.\n\
-    \n\
-    Examples, which cut London out of a published file of England:\n  \
+    IN is read twice if no node comes after a way, otherwise three times, and with\n\
+    --parents once more, so it must be a file, not a pipe. A run that stops early may\n\
+    leave an incomplete OUT: delete it.\n",
+    "IN must have raw blobs, and OUT has raw blobs. Published files are compressed:\n\
+    pbfcut-any cuts them, and writes a compressed file.\n",
+    "Examples, which cut London out of a published file of England:\n  \
       pbfcut-any --box=-0.5,51.25,0.3,51.7 england.osm.pbf london.osm.pbf\n\
     or, with osmium:\n  \
       osmium cat england.osm.pbf -f pbf,pbf_compression=none -o raw.osm.pbf\n  \

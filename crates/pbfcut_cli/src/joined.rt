@@ -1,7 +1,7 @@
-//! The box as a word of its own: `--box -0.5,51.25,0.3,51.7`.
+//! The words as `clap` is to see them: the box as a word of its own, `--box -0.5,51.25,0.3,51.7`, and `help` as a command.
 
 ghost use Rattle.std.specs.Prelude.{◌≡◌, ◌≤◌, ◌∷◌, IfOk, length, map, string_bytes};
-ghost use Rattle.pbfcut_cli.specs.Joined.{begins_below_zero, begins_number, begins_with_box, box_joined};
+ghost use Rattle.pbfcut_cli.specs.Joined.{begins_below_zero, begins_number, begins_with_box, box_joined, names_box, normalized};
 
 use std::alloc::{AllocError, Global};
 
@@ -26,14 +26,21 @@ fn begins_below_zero(word: &str) -> bool
     begins_number(*byte)
 }
 
-/// Whether the first word is `--box`, and the one after it begins below zero.
+/// Whether the word is `--box` or its other name.
+fn names_box(word: &str) -> bool
+    ensures { result ≡ names_box word.now }
+{
+    word == "--box" || word == "--bbox"
+}
+
+/// Whether the first word names the box, and the one after it begins below zero.
 fn begins_with_box(first: &str, after: &[String]) -> bool
     ensures { result ≡ begins_with_box (first.now ∷ map string_bytes after.now) }
 {
     let Some((edges, _)) = after.split_first() else {
         return false;
     };
-    first == "--box" && begins_below_zero(edges.as_str())
+    names_box(first) && begins_below_zero(edges.as_str())
 }
 
 /// The first of the words as `clap` is to see it, and the words after it.
@@ -50,18 +57,14 @@ fn join_first<'a>(
         let Some((edges, rest)) = after.split_first() else {
             unreachable!();
         };
-        return Ok((format!(in alloc; "--box={edges}")?, rest));
+        return Ok((format!(in alloc; "{first}={edges}")?, rest));
     }
     Ok((String::from_str(alloc, first)?, after))
 }
 
 /// The words, with `--box` and a word after it that begins with `-` and a digit or a point as one word. `clap` takes no word
 /// that begins with `-` for a value.
-///
-/// # Errors
-///
-/// Where a request for memory was refused.
-pub fn join_box(alloc: Global, words: &[String]) -> Result<Vec<String>, AllocError>
+fn join_box(alloc: Global, words: &[String]) -> Result<Vec<String>, AllocError>
     ensures { IfOk result (λ joined. map string_bytes joined.items
         ≡ box_joined (map string_bytes words.now)) }
 {
@@ -73,4 +76,25 @@ pub fn join_box(alloc: Global, words: &[String]) -> Result<Vec<String>, AllocErr
         rest = left;
     }
     Ok(joined)
+}
+
+/// The words of the command line as `read_words` takes them: `--box` or `--bbox`, and a word after it that begins with `-` and a digit
+/// or a point, are one word, as `--box=-0.5,51.25,0.3,51.7`; and `help` as the first word is `--help` as the last one.
+///
+/// # Errors
+///
+/// If a request for memory was refused.
+pub fn normalize_words(alloc: Global, words: &[String]) -> Result<Vec<String>, AllocError>
+    ensures { IfOk result (λ seen. map string_bytes seen.items
+        ≡ normalized (map string_bytes words.now)) }
+{
+    let Some((first, rest)) = words.split_first() else {
+        return Ok(Vec::new(alloc));
+    };
+    if first.as_str() == "help" {
+        let mut seen = join_box(alloc, rest)?;
+        seen.push(String::from_str(alloc, "--help")?)?;
+        return Ok(seen);
+    }
+    join_box(alloc, words)
 }

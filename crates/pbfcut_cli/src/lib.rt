@@ -8,5 +8,5 @@ mod joined;
 mod words;
 
 pub use endings::{Ending, line, status};
-pub use joined::join_box;
+pub use joined::normalize_words;
 pub use words::{CliFault, Command, read_words};

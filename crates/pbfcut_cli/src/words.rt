@@ -51,7 +51,7 @@ pub enum Command<'a> {
         digests: bool,
     },
     /// `extract [--parents] --box=L,B,R,T IN OUT`: cut `area` out of the file at `input` into a new file at `output`, with
-    /// `parents` all relations above the kept ones too.
+    /// `parents` also all relations that contain kept ones.
     Extract {
         area: BoundingBox,
         parents: bool,
@@ -60,16 +60,16 @@ pub enum Command<'a> {
         progress: bool,
         digests: bool,
     },
-    /// Help or the version was asked for: this text of it, with its line ends, for standard output.
+    /// Help or the version is wanted: its text, with its line ends, for standard output.
     Help(String),
 }
 
 /// Why the words ask for nothing.
 #[derive(Debug, Drop)]
 pub enum CliFault {
-    /// The words are no command: what `clap` says of it, with its line ends.
+    /// The command line is invalid: what `clap` says of it, with its line ends, and for an option `-o` with another tip.
     Line(String),
-    /// The box of `extract` is at fault.
+    /// The box of `extract` is invalid.
     Box(BoxFault),
     /// A request for memory was refused.
     Memory,
@@ -83,7 +83,7 @@ impl From<AllocError> for CliFault {
     }
 }
 
-/// The value of an argument, or the empty text where it has none.
+/// The value of an argument, or the empty text if it has none.
 fn value<'a>(matches: &ArgMatches<'a>, id: &str) -> &'a str
     ensures { result.now ≡ value_of id.now (rows_of (found_of matches.now)) }
 {
@@ -156,6 +156,23 @@ fn command_in<'a>(matches: &ArgMatches<'a>) -> Result<Command<'a>, BoxFault>
     }
 }
 
+/// What is said of a command line that names OUT by an option, as other programs do: the text of `clap`, with another tip than its own,
+/// which takes `-o` for a file's name. Any other text stays as it is.
+fn with_tip(alloc: Global, text: String) -> Result<String, AllocError> {
+    let Some((found, rest)) = text.as_str().split_once("\n\n  tip: to pass '-") else {
+        return Ok(text);
+    };
+    let names_output = found.ends_with("'-o' found") || found.ends_with("'--output' found");
+    match rest.split_once("\n\n") {
+        Some((_, usage)) if names_output => {
+            format!(in alloc;
+                "{found}\n\n  tip: OUT is the last argument and has no option\n\n{usage}"
+            )
+        }
+        _ => Ok(text),
+    }
+}
+
 /// What an error of `clap` comes to.
 fn refused<'a>(alloc: Global, error: &Error) -> Result<Command<'a>, CliFault>
     ensures help { IfOk result (λ c. IsHelp c
@@ -169,17 +186,17 @@ fn refused<'a>(alloc: Global, error: &Error) -> Result<Command<'a>, CliFault>
         ErrorKind::DisplayHelp | ErrorKind::DisplayVersion => Ok(Command::Help(error.to_string(
             alloc,
         )?)),
-        _ => Err(CliFault::Line(error.to_string(alloc)?)),
+        _ => Err(CliFault::Line(with_tip(alloc, error.to_string(alloc)?)?)),
     }
 }
 
-/// The command that the words after the program's name ask for. Where it is another than `Help`, its name and values are those
+/// The command that the words after the program's name ask for. If it is another than `Help`, its name and values are those
 /// that `clap` reads in the words by its own definition, and the box is the one that `BoundingBox::parse` reads.
 ///
 /// # Errors
 ///
-/// `Line` where `clap` refuses the words, `Box` with the fault of the box of an `extract`, `Memory` where a request for memory
-/// was refused. Of words that `clap` takes neither `Line` nor `Help` is answered.
+/// `Line` if `clap` refuses the words, `Box` with the fault of the box of an `extract`, `Memory` if a request for memory was
+/// refused. Words that `clap` takes give neither `Line` nor `Help`.
 pub fn read_words<'a>(alloc: Global, words: &'a [&'a str]) -> Result<Command<'a>, CliFault>
     ensures read { IfOk result (λ c. IsHelp c ⊎ IsRead (words_of words.now) c) }
     ensures fault { IfErr result (FitsFault (words_of words.now)) }

@@ -3,8 +3,9 @@
 use crate::progress::{Line, Watched};
 use pbf_frame::{FromRead, Stop};
 use pbfcut_cli::Ending;
-use std::fs::{File, OpenOptions};
+use std::fs::{self, File, OpenOptions};
 use std::io::BufWriter;
+use std::os::unix::fs::FileTypeExt;
 
 /// The length of the buffer in front of OUT and of standard output.
 pub const OUTPUT_BUFFER: usize = 65_536;
@@ -17,7 +18,15 @@ pub fn open_input(rt: &HostRuntime, input: &str) -> Result<FromRead<File>, Endin
     }
 }
 
-/// The length of a file, or 0 where it has none, as a pipe.
+/// Whether IN is a pipe, which gives its bytes once. Its type is looked up by name, since to open it may wait for a writer.
+fn is_pipe(rt: &HostRuntime, input: &str) -> bool {
+    match fs::metadata(rt, input) {
+        Ok(metadata) => metadata.file_type().is_fifo(),
+        Err(_) => false,
+    }
+}
+
+/// The length of a file, or 0 if it has none, as a pipe.
 fn length_of(file: &File) -> u64 {
     match file.metadata() {
         Ok(metadata) => metadata.len(),
@@ -25,7 +34,8 @@ fn length_of(file: &File) -> u64 {
     }
 }
 
-/// Opens IN for this pass of so many, and with `progress` reports how much of it was read.
+/// Opens IN for this pass of so many, and with `progress` reports how much of it was read. A pipe is refused if there is more than one
+/// pass.
 pub fn open_pass(
     rt: &HostRuntime,
     input: &str,
@@ -33,6 +43,9 @@ pub fn open_pass(
     pass: u8,
     passes: u8,
 ) -> Result<Watched<FromRead<File>>, Ending> {
+    if passes > 1 && is_pipe(rt, input) {
+        return Err(Ending::IsPipe);
+    }
     let Ok(file) = File::open(rt, input) else {
         return Err(Ending::CannotOpen);
     };
@@ -52,7 +65,7 @@ pub fn refuse_existing(rt: &HostRuntime, output: &str) -> Result<(), Ending> {
     Ok(())
 }
 
-/// Makes OUT and a buffer in front of it. A file that is there is never opened, so none is ever emptied.
+/// Makes OUT and a buffer in front of it. A file that exists is never opened, so none is ever emptied.
 pub fn create_output(rt: &HostRuntime, output: &str) -> Result<BufWriter<File>, Ending> {
     let created = OpenOptions::new()
         .write(true)

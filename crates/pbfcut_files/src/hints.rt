@@ -1,5 +1,5 @@
-//! The line below pbfcut's own that says what to do next. It is for people, so it is written where standard error is a terminal, and
-//! nowhere else; IN is read again for it only if it is a plain file.
+//! The line below pbfcut's own that says what to do next. It is for people, so it is written only if standard error is a terminal; IN is
+//! read again for it only if it is a plain file.
 
 use pbf_frame::Stop;
 use pbf_pass::Counts;
@@ -178,6 +178,10 @@ fn hint(rt: &HostRuntime, asked: Asked<'_>, ending: &Ending) -> Option<String> {
     match ending {
         Ending::Words(_) | Ending::NotText | Ending::Box(_) => None,
         Ending::CannotOpen => of_files(rt, asked),
+        Ending::IsPipe => text(
+            rt,
+            "pbfcut reads IN more than once: write what the pipe has to a file first; 'check' and 'blobs' read a pipe",
+        ),
         Ending::OutExists => text(
             rt,
             "pbfcut writes new files only: remove OUT, or name another",
@@ -185,7 +189,7 @@ fn hint(rt: &HostRuntime, asked: Asked<'_>, ending: &Ending) -> Option<String> {
         Ending::Stopped(Stop::Refused(fault)) => of_fault(rt, asked, fault),
         Ending::Stopped(Stop::Changed(_)) => text(
             rt,
-            "something wrote to IN meanwhile, or IN is a pipe: copy it to a file that stays the same",
+            "something wrote to IN meanwhile: copy it to a file that stays the same",
         ),
         Ending::Stopped(Stop::Memory) if asked.cuts => {
             text(rt, "a smaller box takes less memory")

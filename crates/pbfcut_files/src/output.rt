@@ -32,7 +32,7 @@ pub fn print_digest(rt: &HostRuntime, digest: [u8; 32], path: &str) -> Result<()
     Ok(())
 }
 
-/// Reports to standard error, where IN is refused, how many of its bytes were read, and their digest. The fault is the first of every
+/// Reports to standard error, if IN is refused, how many of its bytes were read, and their digest. The fault is the first of every
 /// file that begins with these bytes; or IN ended there, and it is the first of the file that has these bytes and no more.
 pub fn report_refusal(rt: &HostRuntime, halt: &Halt, input: &str) -> Result<(), Ending> {
     let Halt::Refused(refusal) = halt else {
@@ -46,7 +46,7 @@ pub fn report_refusal(rt: &HostRuntime, halt: &Halt, input: &str) -> Result<(), 
     if put_digest_line(&mut line, &refusal.input, name.as_bytes()).is_err() {
         return Err(Ending::Stopped(Stop::Memory));
     }
-    // Where it can't be written, the refusal alone is reported.
+    // If it can't be written, only the refusal is reported.
     let _ = rt.stderr().write_all(&line);
     Ok(())
 }

@@ -14,11 +14,11 @@ pub struct Line {
     screen: Stderr,
     pass: u8,
     passes: u8,
-    /// The length of IN; 0 where it has none, as a pipe.
+    /// The length of IN; 0 if it has none, as a pipe.
     length: u64,
     /// How many bytes this pass has read.
     read: u64,
-    /// The number that the line shows, where it shows one.
+    /// The number that the line shows, if it shows one.
     shown: Option<u64>,
 }
 
@@ -44,7 +44,7 @@ impl Line {
         (self.read.saturating_mul(100) / self.length).min(100)
     }
 
-    /// Writes the line anew, with spaces after it over what an earlier pass left. Where it can't be written, the run goes on
+    /// Writes the line anew, with spaces after it over what an earlier pass left. If it can't be written, the run goes on
     /// without it.
     fn show(&mut self, number: u64) {
         let (pass, passes) = (self.pass, self.passes);
@@ -55,7 +55,7 @@ impl Line {
         }
     }
 
-    /// Counts bytes that were read, and shows the number where it is another one.
+    /// Counts bytes that were read, and shows the number if it is another one.
     fn count(&mut self, bytes: usize) {
         self.read = self.read.saturating_add(bytes as u64);
         let number = self.number();
@@ -66,14 +66,14 @@ impl Line {
     }
 }
 
-/// Ends the line of the last pass, where there is one.
+/// Ends the line of the last pass, if there is one.
 pub fn end_line(rt: &HostRuntime, progress: bool) {
     if progress {
         let _ = eprintln!(rt; "");
     }
 }
 
-/// A feed that reports what is read of it, where there is a line for it.
+/// A feed that reports what is read of it, if there is a line for it.
 #[derive(Drop)]
 pub struct Watched<F> {
     feed: F,

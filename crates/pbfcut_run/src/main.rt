@@ -5,9 +5,10 @@ mod readers;
 mod writers;
 
 use pbf_frame::Stop;
-use pbfcut_cli::{Command, Ending, join_box, read_words, status};
+use pbfcut_cli::{Command, Ending, normalize_words, read_words, status};
 use pbfcut_files::{Asked, print_help, tell_hint, tell_order};
 use readers::{run_blobs, run_check, run_show};
+use std::fs::File;
 use std::process::ExitCode;
 use std::{env, io};
 use writers::{Files, run_convert, run_extract, run_extract_parents};
@@ -80,12 +81,12 @@ fn run(rt: &HostRuntime, command: Command<'_>) -> Result<(), Ending> {
     }
 }
 
-/// Reads the words, does what they ask for, and reports how it ended. Answers the exit status, or why the words are no command.
+/// Reads the words, does what they ask for, and reports how it ended. Returns the exit status, or why the words are no command.
 fn work(rt: &HostRuntime) -> Result<u8, Ending> {
     let words = words(rt)?;
-    let joined = join_box(rt.alloc(), words.as_slice())?;
+    let normalized = normalize_words(rt.alloc(), words.as_slice())?;
     let mut texts = Vec::new(rt.alloc());
-    for word in &joined {
+    for word in &normalized {
         if texts.push(word.as_str()).is_err() {
             return Err(Ending::Stopped(Stop::Memory));
         }
@@ -102,8 +103,8 @@ fn work(rt: &HostRuntime) -> Result<u8, Ending> {
     }
 }
 
-/// Writes the ending's text to standard error, and answers the exit status. Where the text can't be written, nothing more can
-/// be reported; where there is no memory for it, that is reported.
+/// Writes the ending's text to standard error, and returns the exit status. If the text can't be written, nothing more can be
+/// reported; if there is no memory for it, that is reported.
 fn tell(rt: &HostRuntime, ending: &Ending) -> u8 {
     match ending.message(rt.alloc()) {
         Ok(text) => {
@@ -117,7 +118,15 @@ fn tell(rt: &HostRuntime, ending: &Ending) -> u8 {
     }
 }
 
+/// A file for each standard descriptor that may be closed. Otherwise the next files that are opened would get these numbers, and what is
+/// printed would go into OUT. The root folder can be opened everywhere, and nothing can be read from it or written to it.
+fn stand_ins(rt: &HostRuntime) -> [Option<File>; 3] {
+    let open = || File::open(rt, "/").ok();
+    [open(), open(), open()]
+}
+
 fn main(rt: HostRuntime) -> ExitCode {
+    let _kept_open = stand_ins(&rt);
     let status = match work(&rt) {
         Ok(status) => status,
         Err(ending) => {

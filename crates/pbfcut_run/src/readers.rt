@@ -8,7 +8,7 @@ use pbfcut_files::{
 };
 use std::io::{BufWriter, Write};
 
-/// `blobs IN`: the lines go to standard output through a buffer. They are written also where the file is refused; a line
+/// `blobs IN`: the lines go to standard output through a buffer. They are written even if the file is refused; a line
 /// that can't be written is reported in place of a later refusal, since it came first.
 pub(crate) fn run_blobs(rt: &HostRuntime, input: &str) -> Result<(), Ending> {
     let mut feed = open_input(rt, input)?;
@@ -51,7 +51,7 @@ pub(crate) fn run_show(
     Ok(())
 }
 
-/// `check [--progress] [--digests] IN`: the numbers of entities go to standard output, where the file is accepted, and with
+/// `check [--progress] [--digests] IN`: the numbers of entities go to standard output if the file is accepted, and with
 /// `digests` the digest of IN.
 pub(crate) fn run_check(
     rt: &HostRuntime,

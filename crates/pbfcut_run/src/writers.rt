@@ -17,7 +17,7 @@ use std::fs::File;
 use std::hash::RandomState;
 use std::io::{BufWriter, Write};
 
-/// The hasher of the texts of a block, with a seed of this run's own: whoever made IN chose the texts.
+/// The hasher of the texts of a block, with a seed of this run's own: IN is untrusted, and its strings are hashed.
 fn seeded(rt: &HostRuntime) -> Result<RandomState, Ending> {
     match RandomState::new(rt) {
         Ok(hasher) => Ok(hasher),
@@ -71,7 +71,7 @@ fn reported(
     Ok(Report { receipt, output })
 }
 
-/// Writes to OUT what is left in its buffer, also after a stop, and prints after none what the call reports. Answers the counts.
+/// Writes to OUT what is left in its buffer, even after a stop, and prints what the call reports if it didn't stop. Returns the counts.
 fn end(
     rt: &HostRuntime,
     files: Files<'_>,

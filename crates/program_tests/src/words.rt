@@ -1,9 +1,9 @@
-//! What no clause says: that words are taken at all, and the texts of `clap` and of help.
+//! What no clause says: that words are accepted at all, and the texts of `clap` and of help.
 
 use osm_entity::{BoundingBox, BoxFault};
 use pbf_frame::Stop;
 use pbf_wire::{Fault, Reason};
-use pbfcut_cli::{CliFault, Command, Ending, join_box, line, read_words, status};
+use pbfcut_cli::{CliFault, Command, Ending, line, normalize_words, read_words, status};
 use std::alloc::{AllocError, Global};
 use std::process::Abort;
 use std::test::Fail;
@@ -117,6 +117,8 @@ fn commands_that_write(rt: HostRuntime) {
         "b",
     ];
     assert!(rt; is_extract(rt.alloc(), &words, true));
+    let words = ["extract", "--bbox=-0.5,51.25,0.3,51.7", "a", "b"];
+    assert!(rt; is_extract(rt.alloc(), &words, false));
 }
 
 #[test]
@@ -160,13 +162,13 @@ fn owned(alloc: Global, words: &[&str]) -> Result<Vec<String>, AllocError> {
     Ok(given)
 }
 
-/// Whether the words, joined, are these.
-fn are_joined(alloc: Global, words: &[String], expected: &[&str]) -> Result<bool, AllocError> {
-    let joined = join_box(alloc, words)?;
-    if joined.len() != expected.len() {
+/// Whether the words are these as `read_words` takes them.
+fn are_seen(alloc: Global, words: &[String], expected: &[&str]) -> Result<bool, AllocError> {
+    let seen = normalize_words(alloc, words)?;
+    if seen.len() != expected.len() {
         return Ok(false);
     }
-    for (found, word) in joined.iter().zip(expected) {
+    for (found, word) in seen.iter().zip(expected) {
         if found.as_str() != *word {
             return Ok(false);
         }
@@ -176,7 +178,7 @@ fn are_joined(alloc: Global, words: &[String], expected: &[&str]) -> Result<bool
 
 fn joins(rt: &(impl Abort + AllocGlobal), words: &[&str], expected: &[&str]) -> Result<(), Fail> {
     let given = owned(rt.alloc(), words)?;
-    assert!(rt; are_joined(rt.alloc(), given.as_slice(), expected)?);
+    assert!(rt; are_seen(rt.alloc(), given.as_slice(), expected)?);
     Ok(())
 }
 
@@ -189,6 +191,7 @@ fn boxes_that_are_words_of_their_own(rt: HostRuntime) -> Result<(), Fail> {
         &["extract", "--box=-0.5,1,2,3", "a"],
     )?;
     joins(&rt, &["--box", "-.5"], &["--box=-.5"])?;
+    joins(&rt, &["--bbox", "-.5"], &["--bbox=-.5"])?;
     joins(
         &rt,
         &["--box", "--box", "-9", "-9"],
@@ -199,6 +202,15 @@ fn boxes_that_are_words_of_their_own(rt: HostRuntime) -> Result<(), Fail> {
     joins(&rt, &["--box", "-"], &["--box", "-"])?;
     joins(&rt, &["--dates", "-1"], &["--dates", "-1"])?;
     joins(&rt, &["check", "--box"], &["check", "--box"])
+}
+
+#[test]
+fn help_that_is_a_word(rt: HostRuntime) -> Result<(), Fail> {
+    joins(&rt, &["help"], &["--help"])?;
+    joins(&rt, &["help", "show"], &["show", "--help"])?;
+    joins(&rt, &["help", "--box", "-9"], &["--box=-9", "--help"])?;
+    joins(&rt, &["show", "help"], &["show", "help"])?;
+    joins(&rt, &["helps"], &["helps"])
 }
 
 /// Whether the text is a refusal of words, whose first line is this.
@@ -241,6 +253,8 @@ fn words_that_are_no_command(rt: HostRuntime) -> Result<(), Fail> {
         &["check", "--dates", "a"],
         "error: unexpected argument '--dates' found",
     )?;
+    let with_output = "error: unexpected argument '-o' found";
+    refuses_with(&rt, &["convert", "a", "-o", "b"], with_output)?;
     refuses_with(
         &rt,
         &["blobs", "a", "b"],
@@ -299,10 +313,10 @@ fn helps_with(rt: &(impl Abort + AllocGlobal), words: &[&str], parts: &[&str]) -
 
 #[test]
 fn help_of_each_command(rt: HostRuntime) -> Result<(), Fail> {
-    let commands = ["blobs", "show", "check", "convert", "extract"];
+    let commands = ["extract", "convert", "check", "show", "blobs", "pbfcut-any"];
     helps_with(&rt, &["--help"], &commands)?;
     helps_with(&rt, &["-h"], &commands)?;
-    helps_with(&rt, &["blobs", "--help"], &["<IN>", "bytes"])?;
+    helps_with(&rt, &["blobs", "--help"], &["<IN>", "bytes", "pbfcut-any"])?;
     helps_with(
         &rt,
         &["show", "--help"],
@@ -315,6 +329,8 @@ fn help_of_each_command(rt: HostRuntime) -> Result<(), Fail> {
         "west,south,east,north",
         "--parents",
         "--box=",
+        "--bbox",
+        "pbfcut-any",
         "<IN>",
         "<OUT>",
     ];
@@ -406,6 +422,8 @@ fn endings_of_the_program(rt: HostRuntime) -> Result<(), Fail> {
     assert!(rt; ends_with(alloc, &last, "pbfcut: box: BottomOverTop", 2)?);
     assert!(rt; ends_with(alloc, &Ending::CannotOpen, "pbfcut: cannot open", 3)?);
     assert!(rt; ends_with(alloc, &Ending::OutExists, "pbfcut: OUT exists", 3)?);
+    let pipe = "pbfcut: IN must be a file, not a pipe";
+    assert!(rt; ends_with(alloc, &Ending::IsPipe, pipe, 3)?);
     let memory = Ending::from(CliFault::Memory);
     assert!(rt; ends_with(alloc, &memory, "pbfcut: out of memory", 4)?);
     let digit = Ending::from(CliFault::Box(BoxFault::Digit));

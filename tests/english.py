@@ -1,0 +1,90 @@
+#!/usr/bin/env python3
+"""Counts phrases that read as if translated word by word, and says what a native writes in their place.
+
+usage: tests/english.py [--list] [PROGRAM]
+
+PROGRAM is not run. The pages for users have none of them; the other pages have no more than they had when this was written, and a page that
+is made clearer lowers the number. --list prints each line that has one. Code and the names in it are not counted. It is a reminder, and no judge
+of style: a page is finished when nobody has to read a sentence twice.
+"""
+
+import os
+import re
+import sys
+
+TOP = os.path.dirname(os.path.dirname(os.path.abspath(__file__)))
+USERS = ["README.md", "CHANGELOG.md", "CONTRIBUTING.md", "docs/USING.md", "docs/FORMAT.md", "docs/pbfcut.1", "docs/pbfcut-any.1",
+         "sample/README.md", "crates/pbfcut_cli/src/help.rt"]
+# made of other files
+MADE = ["docs/STATEMENT.md", "crates/pbf_vectors/data/README.md"]
+MOST_ELSEWHERE = 175
+
+PHRASES = {
+    r"[;,] (and )?else\b|\bElse\b": "otherwise",
+    r"\b(is|are|was) told\b|\btold (at|where|of|only)\b": "reported",
+    r"\b(is|are) looked (at|into)\b|\blooks? into\b": "validated, read",
+    r"\bsays? no\b": "rejects",
+    r"\bunlike\b": "different",
+    r"\balone\b": "only, nothing but",
+    r"\b[Ww]here (it (has|had|can|may|isn't)|they (have|can)|there|that|no|none|one|all|both|memory|IN|OUT|an? \w+ (has|is|was)|the \w+ (has|is \w+ed)|their)\b":
+        "if, when",
+    r"\bends? in\b(?! (the|a) )": "fails with",
+    r"\banswers?\b(?! to\b)(?= (its|the|a|by|it|of|whether|exactly|is)\b)|\b(is|are) answered\b": "returns",
+    r"\bstands? (in\b(?! for)|on\b|over\b|above\b|below\b|by\b|for itself|beside)|\bstood\b": "is in, depends on, is built on",
+    r"\basks? (nothing|for|no)\b": "has no precondition, requires",
+    r"\btakes? no memory\b": "does not allocate",
+    r"\bAs \[`|\bThe work of \[`": "Like `X`, but ..",
+    r"\bstrangers\b": "the input is untrusted",
+    r"\bwhoever\b": "the caller, the constructor",
+    r"\bof late\b|\blaid\b": "recently, appended",
+    r"\bno stated content\b": "unspecified",
+    r"\bbeginning of (the|that|this|its|a|bytes|what)\b|\bfronts?\b": "prefix",
+    r"\bat fault\b": "invalid",
+    r"\bhands? (on|in|over)\b|\bhanded (on|in)\b": "passes, passed in",
+    r"\bpass(es)? (it|its|these|them|\S+) on\b": "re-exports",
+    r"\bread past\b|\bpass(es|ed) over\b": "skip",
+}
+
+
+def text_of(name: str) -> str:
+    """A page without its code: blocks, names in backquotes, and what links lead to."""
+    with open(os.path.join(TOP, name), encoding="utf-8") as file:
+        text = file.read()
+    if name.endswith(".rt"):
+        return text
+    text = re.sub(r"^```.*?^```$", lambda found: "\n" * found[0].count("\n"), text, flags=re.M | re.S)
+    return re.sub(r"\]\([^)]*\)", "]", re.sub(r"`[^`\n]*`", "`X`", text))
+
+
+def pages() -> list:
+    found = []
+    for folder, folders, names in os.walk(TOP):
+        folders[:] = sorted(name for name in folders if name not in (".git", "out"))
+        found += [os.path.relpath(os.path.join(folder, name), TOP) for name in sorted(names) if name.endswith(".md")]
+    return [name for name in found if name not in MADE + USERS]
+
+
+def found_in(name: str):
+    """Each phrase of a page, with its line and what is better."""
+    for number, line in enumerate(text_of(name).splitlines(), 1):
+        if line.startswith("#"):
+            continue
+        for phrase, better in PHRASES.items():
+            for match in re.finditer(phrase, line):
+                yield f"{name}:{number}: '{match[0]}' ({better}): {line.strip()[:150]}"
+
+
+def main():
+    users = [line for name in USERS for line in found_in(name)]
+    others = [line for name in pages() for line in found_in(name)]
+    if "--list" in sys.argv:
+        print("\n".join(users + others))
+    if users:
+        sys.exit("\n".join(["tests/english.py: pages for users have such phrases:", *users]))
+    if len(others) > MOST_ELSEWHERE:
+        sys.exit(f"tests/english.py: {len(others)} such phrases in the other pages, and there were {MOST_ELSEWHERE}: see tests/english.py --list")
+    print(f"tests/english.py: no such phrase in the pages for users, {len(others)} in the others")
+
+
+if __name__ == "__main__":
+    main()
