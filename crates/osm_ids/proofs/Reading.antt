@@ -1,15 +1,16 @@
 -- How far one page has been read.
-use Rattle.std.proofs.Common.{◌≡◌, ℕ, ◌+◌, ◌-◌, ◌^◌, ◌%◌, ◌<◌, ◌≤◌, ◌⊎◌, inl, inr, ◌||◌, List, [], ◌∷◌, ◌++◌, length, drop, Result, Ok, ℤ, pos, negsuc, ◌+ℤ◌, ◌<ℤ◌, ◌≤ℤ◌, refl, sym, ap, subst, ◌∙◌, arith, FitsSigned, w64, length-append, length-drop}
+use Rattle.std.proofs.Common.{◌≡◌, ℕ, ◌+◌, ◌-◌, ◌^◌, ◌%◌, ◌<◌, ◌≤◌, ◌⊎◌, inl, inr, ◌||◌, List, [], ◌∷◌, ◌++◌, length, drop, get_or, Result, Ok, true, ℤ, pos, negsuc, ◌+ℤ◌, ◌<ℤ◌, ◌≤ℤ◌, refl, sym, ap, subst, ◌∙◌, arith, FitsSigned, w64, length-append, length-drop}
 use Rattle.std.specs.List.{list_any}
 use Rattle.std.specs.Ordering.{int_eq}
 use Rattle.std.proofs.lemmas.Int.{ints, to_z_pos, to_z-of_z, of_z-to_z}
 use Rattle.std.proofs.lemmas.Bool.{cases_lt}
 use Rattle.std.proofs.lemmas.Bool.Decides.{same_from_decides, Decides-like, Decides-eqb, Decides-int_eq}
 use Rattle.std.proofs.Common.{nat_eq, to_z, of_z}
-use Rattle.std.proofs.lemmas.List.{drop-drop}
+use Rattle.std.proofs.lemmas.List.{drop-drop, get_or-drop}
 use Rattle.std.proofs.Math.Seq.{drop-append_seam}
 use Rattle.pbf_wire.specs.declared.fault.Reason.{Reason}
 use Rattle.pbf_wire.specs.Varint.{shortest, varint_at, moved_by}
+use Rattle.pbf_wire.proofs.Varints.{one_byte}
 use Rattle.osm_ids.specs.declared.page.Cursor.{Cursor}
 use Rattle.osm_ids.specs.Pages.{gap, Rises, AllFit}
 use Rattle.osm_ids.specs.Cursors.{IsAt}
@@ -90,6 +91,19 @@ turn_at ids page last at d next n read =
     let same = pair_parts d next n.difference (at + length (shortest n.difference)) (read ∙ reads_next ids page last at n) in
     (subst (λ k. FitsSigned w64 (last +ℤ pos k)) (sym same.0) n.fits, subst (λ k. IsAt ids page (cursor last (last +ℤ pos k) next)) (sym same.0) (subst (λ k. IsAt ids page (cursor last (last +ℤ pos n.difference) k)) (sym same.1) n.then))
 
+-- where the next number is one byte, that byte is how far the next id is above `last`
+pub next_byte : (ids : List ℤ) (page : List ℕ) (passed last : ℤ) (at : ℕ) → IsAt ids page (cursor passed last at) → at < length page → get_or page at 0 < 128
+    → FitsSigned w64 (last +ℤ pos (get_or page at 0)) × IsAt ids page (cursor last (last +ℤ pos (get_or page at 0)) (at + 1))
+next_byte ids page passed last at h lt short =
+    let first : get_or (drop at page) 0 0 ≡ get_or page at 0 = get_or-drop at page 0 0 ∙ ap (λ k. get_or page k 0) (omega arith) in
+    let read = one_byte (drop at page) (omega (arith, length-drop at page)) (omega (arith, first)) in
+    turn_at ids page last at (get_or page at 0) (at + 1) (following ids page passed last at h lt)
+    (ap (λ b. Ok (b, at + 1)) (sym first) ∙ sym (ap (moved_by at) read))
+
+-- `last` is among the ids
+pub last_among : (ids : List ℤ) (page : List ℕ) (passed last : ℤ) (at : ℕ) → IsAt ids page (cursor passed last at) → list_any (int_eq last) ids ≡ true
+last_among ids page passed last at h = sym (h.answer last (inr (omega (arith, ints)))) ∙ first_among last h.rest
+
 -- what the loop over a page keeps
 pub record ReadsOn (first_passed first_last : ℤ) (first_at : ℕ) (id : ℤ) (page : List ℕ) (passed last : ℤ) (at : ℕ) : Type 0 where
   pub on : (ids : List ℤ) → IsAt ids page (cursor first_passed first_last first_at) → IsAt ids page (cursor passed last at)
@@ -117,6 +131,15 @@ pub wrapped_sum : (last : ℤ) (d : ℕ) (r : ℤ) → FitsSigned w64 last → r
 wrapped_sum last d r f is g =
     let same = is ∙ wrapped last d f g in
     ap (λ z. to_z w64 (of_z w64 z)) same ∙ to_z-of_z w64 (last +ℤ pos d) g
+
+-- one such step, as the code makes it
+pub steps_to : (ids : List ℤ) (page : List ℕ) (passed last seen : ℤ) (at byte d : ℕ) (sum : ℤ) → FitsSigned w64 last → seen ≡ last → byte ≡ get_or page at 0 → byte < 128 → at < length page → d ≡ byte → sum ≡ to_z w64 ((of_z w64 seen + d) % 2 ^ 64) → IsAt ids page (cursor passed last at) → IsAt ids page (cursor seen (to_z w64 (of_z w64 sum)) (at + 1))
+steps_to ids page passed last seen at byte d sum fits e is short lt f whole h =
+    let next = next_byte ids page passed last at h lt (omega (arith, is)) in
+    let same : d ≡ get_or page at 0 = f ∙ is in
+    let wrote = whole ∙ ap (λ z. to_z w64 ((of_z w64 z + d) % 2 ^ 64)) e ∙ ap (λ n. to_z w64 ((of_z w64 last + n) % 2 ^ 64)) same in
+    subst (λ z. IsAt ids page (cursor z (to_z w64 (of_z w64 sum)) (at + 1))) (sym e)
+    (subst (λ z. IsAt ids page (cursor last z (at + 1))) (sym (wrapped_sum last (get_or page at 0) sum fits wrote next.0)) next.1)
 
 -- one turn more, where the sum need fit only in a page
 pub reads_turn : (p l : ℤ) (a : ℕ) (id : ℤ) (page : List ℕ) (passed last : ℤ) (at d next : ℕ) (sum : ℤ) → ReadsOn p l a id page passed last at → last <ℤ id → at < length page → ◌≡◌ {A = Result (ℕ × ℕ) Reason} (Ok (d, next)) (moved_by at (varint_at (drop at page))) → (FitsSigned w64 (last +ℤ pos d) → sum ≡ last +ℤ pos d) → ReadsOn p l a id page last sum next

@@ -1,10 +1,12 @@
 //! Look-ups of ids that lie close together.
 
-ghost use Rattle.std.specs.Prelude.{◌≡◌, ◌-◌, ◌<◌, ◌≤◌, ◌<ℤ◌, ◌≤ℤ◌, ◌⊎◌, IsTrue, take, drop, length, get_or, int_le, List, ℕ};
+ghost use Rattle.std.specs.Prelude.{◌≡◌, ◌-◌, ◌<◌, ◌≤◌, ◌<ℤ◌, ◌≤ℤ◌, ◌⊎◌, IfSome, IsTrue, take, drop, length, get_or, int_le, List, ℕ, ℤ, true};
+ghost use Rattle.std.specs.List.{list_any};
 ghost use Rattle.std.specs.List.Sorted.{IsPartitionedBy};
+ghost use Rattle.std.specs.Ordering.{int_eq};
 ghost use Rattle.std.specs.FinSet as set;
 ghost use Rattle.osm_ids.specs.Pages.{Page, IsSealed};
-ghost use Rattle.osm_ids.specs.Cursors.{IsPassedAt, IsReadTo, Stands, AreAbsent, BeginFrom};
+ghost use Rattle.osm_ids.specs.Cursors.{IsAt, IsPassedAt, IsReadTo, Stands, AreAbsent, BeginFrom};
 
 use crate::page::{Cursor, read_up_to};
 use crate::pages::{PageStart, SealedIds};
@@ -48,7 +50,8 @@ impl<'a> Model for Lookup<'a> {
     ghost invariant = { λ a. ((pages : List Page) × IsSealed a.index.now a.bytes.now pages)
         × (a.cursor.at ≤ length a.page.now)
         × (0 < a.begun → Stands a.index.now a.bytes.now a.begun a.page.now a.cursor)
-        × AreAbsent a.index.now a.bytes.now a.absent.above a.absent.below };
+        × AreAbsent a.index.now a.bytes.now a.absent.above a.absent.below
+        × (a.cursor.at < length a.page.now → 0 < a.begun) };
 }
 
 impl SealedIds {
@@ -72,7 +75,7 @@ impl SealedIds {
 }
 
 impl<'a> Lookup<'a> {
-    /// Whether the set has the id. One that is known to be absent takes two comparisons.
+    /// Whether the set has the id. One that is known to be absent takes two comparisons, and the next one of a dense set no call.
     #[inline(always)]
     pub fn has(&mut self, id: i64) -> bool
         ensures found { result ≡ set.contains self.old id }
@@ -80,6 +83,10 @@ impl<'a> Lookup<'a> {
     {
         if is_within(self.absent, id) {
             return false;
+        }
+        if let Some(cursor) = short_step_to(self.page, self.cursor, id) {
+            self.cursor = cursor;
+            return true;
         }
         self.find(id)
     }
@@ -109,6 +116,33 @@ impl<'a> Lookup<'a> {
         self.absent = absent_near(self.index, begun, cursor, id);
         cursor.last == id
     }
+}
+
+/// The cursor one id further on, if that is the id asked for and its difference takes one byte, as most do in a dense set. `None`
+/// says nothing.
+#[inline(always)]
+fn short_step_to(page: &[u8], from: Cursor, id: i64) -> Option<Cursor>
+    ensures within { IfSome result (λ to. (from.at < length page.now)
+        × (to.at ≤ length page.now)) }
+    ensures on { (ids : List ℤ) → IsAt ids page.now from
+        → IfSome result (λ to. IsAt ids page.now to) }
+    ensures found { (ids : List ℤ) → IsAt ids page.now from
+        → IfSome result (λ _. list_any (int_eq id) ids ≡ true) }
+{
+    let byte = *page.get(from.at)?;
+    if byte >= 128 {
+        return None;
+    }
+    // A page's ids fit, so this wraps in no page.
+    let last = from.last.wrapping_add_unsigned(u64::from(byte));
+    if last != id {
+        return None;
+    }
+    Some(Cursor {
+        passed: from.last,
+        last,
+        at: from.at + 1,
+    })
 }
 
 /// Whether the id is one of these.

@@ -26,9 +26,10 @@ pub fn first_number(packed: &[u8]) -> Option<(u64, &[u8])>
 pub struct Column<'a> {
     fields: FoundFields<'a>,
     number: u64,
-    /// What is left of the packed occurrence that was begun, and its place.
+    /// What is left of the packed occurrence that was begun.
     packed: &'a [u8],
-    packed_place: u64,
+    /// Where the occurrence of the last number given stands. A packed occurrence is begun by giving its first number, so this is
+    /// the place of what is left of it too.
     place: u64,
 }
 
@@ -50,7 +51,6 @@ impl<'a> Column<'a> {
             fields: Fields::new(message, at).found(),
             number,
             packed: &[],
-            packed_place: at,
             place: at,
         }
     }
@@ -66,7 +66,6 @@ impl<'a> Column<'a> {
             fields: fields.found(),
             number,
             packed: &[],
-            packed_place: 0,
             place: 0,
         }
     }
@@ -105,7 +104,6 @@ impl<'a> Column<'a> {
     {
         let (value, rest) = first_number(self.packed)?;
         self.packed = rest;
-        self.place = self.packed_place;
         Some(value)
     }
 
@@ -124,21 +122,18 @@ impl<'a> Column<'a> {
             return false;
         }
         self.packed = rest;
-        self.place = self.packed_place;
         true
     }
 
-    /// The next number, by what is left of the packed occurrence that was begun, and then by the fields after it.
+    /// The next number, by the fields after the packed occurrence that was begun, of which no number is left.
     #[tactic(auto, unfolding(crate::specs::Cursors::column_left))]
     fn advance(&mut self) -> Option<u64>
+        requires { read_entries (entries self.old.packed.now) ≡ [] }
         ensures { MatchOption result ((column_left self.old ≡ []) × (column_left self.new ≡ [])
             × (place_of self.new ≡ place_of self.old))
             (λ value. column_left self.old ≡ (value, place_of self.new) ∷ column_left self.new) }
     {
         loop {
-            if let Some(value) = self.advance_packed() {
-                return Some(value);
-            }
             let field = self.fields.next()?;
             if field.number == self.number {
                 match field.payload {
@@ -147,8 +142,11 @@ impl<'a> Column<'a> {
                         return Some(value);
                     }
                     Payload::Bytes(bytes, _) => {
-                        self.packed = bytes;
-                        self.packed_place = field.offset;
+                        if let Some((value, rest)) = first_number(bytes) {
+                            self.packed = rest;
+                            self.place = field.offset;
+                            return Some(value);
+                        }
                     }
                     _ => {}
                 }

@@ -57,7 +57,7 @@ returns-clause-found c =
     ∙ ap (λ s. set.contains s id) c.self.view_is
 
 pub invariant_of-self : goal.invariant_of-self
-invariant_of-self c = (c.self.invariant.0, c.self.invariant.1, c.self.invariant.2, c.absent_first-self-inside.ensures c.self.inside.bytes.now _ c.self.invariant.0.1)
+invariant_of-self c = (c.self.invariant.0, c.self.invariant.1, c.self.invariant.2, c.absent_first-self-inside.ensures c.self.inside.bytes.now _ c.self.invariant.0.1, c.self.invariant.4)
 
 pub invariant_of-self-2 : goal.invariant_of-self-2
 invariant_of-self-2 c =
@@ -79,4 +79,4 @@ invariant_of-self-2 c =
           reads_still index bytes begun c.self.inside.begun _ _ from c.self.inside.cursor id _ w.if-begun-self.false (ap (λ (p : Bor (List ℕ)). p.now) w.page-is) w.cursor-is same some c.self.invariant.2 (w.if-not-is_ahead.ensures refl)
     ] in
     let stood = stands_on index bytes begun _ from c.read_up_to-cursor.result reads.stood c.read_up_to-cursor.ensures.on in
-    (c.self.invariant.0, c.read_up_to-cursor.ensures.within, λ _. stood, c.absent_near-self-inside.ensures bytes _ _ c.self.invariant.0.1 stood (c.read_up_to-cursor.ensures.all reads.stood.ids reads.stood.reached))
+    (c.self.invariant.0, c.read_up_to-cursor.ensures.within, λ _. stood, c.absent_near-self-inside.ensures bytes _ _ c.self.invariant.0.1 stood (c.read_up_to-cursor.ensures.all reads.stood.ids reads.stood.reached), λ _. some)
