@@ -106,8 +106,3 @@ module _ {F : Type 0} (f : feed.Ghosts F) (old new : F) where
     pub halts_first : (at : D) (h : Halt) → Halts (RefusesFile f old new judge) h → HaltsFile f old new d at at judge h
     halts_first at (halt.Refused r) halts = (halts, added_none d at)
     halts_first at (halt.Stopped s) halts = halts
-
-  -- what a device took went through the one below
-  pub halts_below : {D E : Type 0} (d : drain.Ghosts D) (below : drain.Ghosts E) (judge : List ℕ → Option Verdict) (before now : D) (first last : E) (h : Halt) → (Added d before [] now → Added below first [] last) → HaltsFile f old new d before now judge h → HaltsFile f old new below first last judge h
-  halts_below d below judge before now first last (halt.Refused r) step halts = (halts.0, step halts.1)
-  halts_below d below judge before now first last (halt.Stopped s) step halts = halts

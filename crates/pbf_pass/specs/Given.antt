@@ -30,10 +30,3 @@ pub record Took {D : Type 0} (d : drain.Ghosts D) (old new : D) (holds : List �
   pub written : List ℕ
   pub added : Added d old written new
   pub holding : holds written
-
--- a drain took bytes of this digest, and this holds of them
-pub record TookFile {D : Type 0} (d : drain.Ghosts D) (old new : D) (digest : List ℕ) (holds : List ℕ → Type 0) : Type 0 where
-  pub written : List ℕ
-  pub added : Added d old written new
-  pub digest_is : digest ≡ sha256 written
-  pub holding : holds written
