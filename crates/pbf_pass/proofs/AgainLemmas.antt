@@ -1,5 +1,5 @@
 -- What a pass after the one that judged the file has gathered, and why it stops.
-use Rattle.std.proofs.Common.{◌≡◌, ◌⊎◌, ℕ, inl, inr, List, [], ◌∷◌, ◌++◌, Option, Some, None, refl, sym, ap, ◌∙◌, subst}
+use Rattle.std.proofs.Common.{◌≡◌, ℕ, inl, inr, List, [], ◌∷◌, ◌++◌, Option, Some, None, refl, sym, ap, ◌∙◌, subst}
 use Rattle.std.specs.List.{AllByRecursion, fold}
 use Rattle.osm_entity.specs.Entity.{EntitySpec}
 use Rattle.pbf_frame.specs.declared.stop.Stop.{Stop}

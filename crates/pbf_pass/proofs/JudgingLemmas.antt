@@ -1,9 +1,8 @@
 -- What a visitor that judges has done, and why it stops.
-use Rattle.std.proofs.Common.{ℕ, ◌≡◌, ◌⊎◌, inl, inr, List, [], ◌∷◌, ◌++◌, Option, Some, None, refl, sym, ◌∙◌, subst}
+use Rattle.std.proofs.Common.{ℕ, ◌≡◌, inl, inr, List, [], ◌∷◌, Option, Some, None, refl, sym, subst}
 use Rattle.std.specs.List.{AllByRecursion, fold}
 use Rattle.osm_entity.specs.Entity.{EntitySpec}
 use Rattle.pbf_wire.proofs.MessageLemmas.{all_append}
-use Rattle.pbf_frame.specs.declared.frame.Frame.{Frame}
 use Rattle.pbf_frame.specs.declared.stop.Stop.{Stop}
 use Rattle.pbf_frame.specs.declared.stop.Stop.TheVariants as why
 use Rattle.pbf_frame.specs.Frames.{FrameSpec}

@@ -20,7 +20,7 @@ use Rattle.pbf_frame.proofs.Passed.{passes_none, passes_more, passes_same}
 use Rattle.pbf_frame.proofs.VerdictLemmas.{gone_more}
 use Rattle.pbf_pass.specs.Given.{GaveRest, judged_from}
 use Rattle.pbf_pass.specs.Refused.{RefusesRest}
-use Rattle.pbf_pass.specs.Visit.{Takes, Fails, Visited, StopsVisit, RefusesVisit}
+use Rattle.pbf_pass.specs.Visit.{Takes, Fails, Visited, RefusesVisit}
 use Rattle.pbf_pass.proofs.StepLemmas.{GaveOne, GaveNone, RefusedStep}
 
 joined_one : (frames : List FrameSpec) (f : FrameSpec) → joined_frames (frames ++ f ∷ []) ≡ joined_frames frames ++ frame_bytes f

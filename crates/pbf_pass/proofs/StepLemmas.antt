@@ -1,5 +1,5 @@
 -- One frame taken, and all frames.
-use Rattle.std.proofs.Common.{◌≡◌, ◌⊎◌, ℕ, ◌≤◌, ◌<◌, Result, Ok, Err, inl, inr, arith, List, [], ◌∷◌, ◌++◌, Bool, ◌||◌, true, false, Option, Some, None, subst, refl, sym, ap, ◌∙◌}
+use Rattle.std.proofs.Common.{◌≡◌, ◌⊎◌, ℕ, ◌<◌, Result, Ok, Err, inl, inr, List, [], ◌∷◌, ◌++◌, Bool, ◌||◌, true, false, Option, Some, None, subst, refl, sym, ap, ◌∙◌}
 use Rattle.std.specs.List.{flat_map, last_or}
 use Rattle.std.specs.Option.{option_map}
 use Rattle.std.proofs.lemmas.Grind.{flat_map-append}
@@ -12,7 +12,7 @@ use Rattle.pbf_frame.specs.declared.device.Feed as feed
 use Rattle.pbf_frame.specs.declared.reader.FrameReader.{FrameReader}
 use Rattle.pbf_frame.specs.declared.stop.Stop.{Stop}
 use Rattle.pbf_frame.specs.declared.stop.Stop.TheVariants as why
-use Rattle.pbf_frame.specs.Devices.{IsAtEnd, HasRisen, Passes, prepend}
+use Rattle.pbf_frame.specs.Devices.{IsAtEnd, Passes, prepend}
 use Rattle.pbf_frame.specs.Frames.{FrameSpec, is_header, frame_kind, frame_end, frame_bytes, next_of}
 use Rattle.pbf_frame.specs.Refusals.{Refuses, RefusedBy}
 use Rattle.pbf_frame.specs.Next.{Advances, Gave, IsReading, place_of, had_header_of, verdict}

@@ -4,7 +4,7 @@ use Rattle.pbf_wire.specs.declared.fault.Fault.{Fault}
 use Rattle.pbf_frame.specs.declared.stop.Stop.{Stop}
 use Rattle.pbf_frame.specs.declared.stop.Stop.TheVariants.{Refused}
 use Rattle.pbf_frame.specs.Frames.{FrameSpec}
-use Rattle.pbf_frame.specs.Verdict.{Verdict, judged_known, with_first_known, Gone, Says}
+use Rattle.pbf_frame.specs.Verdict.{Verdict, with_first_known, Gone, Says}
 use Rattle.pbf_pass.specs.Stops.{Caused, unchanged}
 
 -- what a visitor does with a frame, by what it was before and what it is then

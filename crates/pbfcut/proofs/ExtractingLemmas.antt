@@ -44,7 +44,7 @@ use Rattle.pbfcut.proofs.KeptLaw.{IsSelection, IsKeptExtract, complete_ways_sele
 use Rattle.pbfcut.proofs.TheoremLemmas.{took_weaker}
 use Rattle.pbf_pass.specs.Pass.{with_node, with_first, with_way, with_relation, TakesFile, file_header}
 use Rattle.pbfcut.specs.declared.repeat.Repeat.{Repeat}
-use Rattle.pbfcut.specs.Repeat.{Unlike, GathersRest, StopsAgain, SameDigest}
+use Rattle.pbfcut.specs.Repeat.{Unlike, GathersRest, StopsAgain}
 use Rattle.pbf_pass.specs.Stops.{Caused}
 use Rattle.pbf_pass.specs.Again.{GathersFile}
 use Rattle.pbf_pass.specs.Judged.{judged_file}

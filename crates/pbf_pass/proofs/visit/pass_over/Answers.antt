@@ -1,8 +1,7 @@
 use Rattle.std.proofs.Common.{zero, suc, [], false, Some, rules, ◌∙◌}
 use Rattle.pbf_frame.proofs.Refusing.{faulty_as}
 use Rattle.pbf_frame.specs.Verdict.{judged_known}
-use Rattle.pbf_pass.specs.Given.{judged_from}
-use Rattle.pbf_pass.specs.Visit.{VisitsAll, RefusesVisit, StopsVisit}
+use Rattle.pbf_pass.specs.Visit.{VisitsAll, RefusesVisit}
 use Rattle.pbf_pass.proofs.GivenLemmas.{supplied_as, holds_of_file}
 use Rattle.pbf_pass.proofs.HaltingLemmas.{halts_of, refuses_bytes_as}
 use Rattle.pbf_pass.proofs.visit.pass_over.Goals as goal

@@ -1,4 +1,4 @@
-use Rattle.std.proofs.Common.{◌⊎◌, List, ℕ, Some, None, ap, inr, refl}
+use Rattle.std.proofs.Common.{◌⊎◌, List, Some, None, ap, inr, refl}
 use Rattle.std.proofs.lemmas.Result.{err_from_is_err_and}
 use Rattle.pbf_header.specs.Header.{header_of}
 use Rattle.osm_ways.specs.Seen.{seen_decoded}
