@@ -4,9 +4,7 @@
 //! in a function without clauses: with both in the tests their proof takes ten times as long.
 
 use osm_entity::{BoundingBox, Member, MemberKind, Meta, Node, Relation, Scale, Way};
-use osm_ways::{
-    Chooser, Chosen, ChosenParents, FirstPhase, NodePhase, RelationPhase, WayPhase,
-};
+use osm_ways::{Chooser, Chosen, ChosenParents, FirstPhase, NodePhase, RelationPhase, WayPhase};
 use std::alloc::{AllocError, Global};
 
 /// From 0 to 1 degree both ways.
@@ -395,9 +393,15 @@ fn nodes_then_ways(rt: HostRuntime) -> Result<(), AllocError> {
     let ways: [WayRow<'_>; 2] = [(7, &[5, 1, 3], true), (6, &[2, 3], false)];
     let ids = [(1, true), (2, false), (3, true), (5, true), (8, true)];
     let rising = [(1, 1), (2, -1), (8, 1)];
-    assert_eq!(rt; extracts_first(rt.alloc(), &rising, &ways, &[], &ids)?, (true, true));
+    assert_eq!(rt;
+        extracts_first(rt.alloc(), &rising, &ways, &[], &ids)?,
+        (true, true)
+    );
     let falling = [(8, 1), (2, -1), (1, 1)];
-    assert_eq!(rt; extracts_first(rt.alloc(), &falling, &ways, &[], &ids)?, (true, true));
+    assert_eq!(rt;
+        extracts_first(rt.alloc(), &falling, &ways, &[], &ids)?,
+        (true, true)
+    );
     Ok(())
 }
 
@@ -407,7 +411,10 @@ fn node_behind_a_way(rt: HostRuntime) -> Result<(), AllocError> {
     let ways: [WayRow<'_>; 2] = [(7, &[5, 1, 3], true), (6, &[2, 3], true)];
     let ids = [(1, true), (2, true), (3, true), (5, true), (4, false)];
     let late = [(2, 1), (4, -1)];
-    assert_eq!(rt; extracts_first(rt.alloc(), &[(1, 1)], &ways, &late, &ids)?, (false, true));
+    assert_eq!(rt;
+        extracts_first(rt.alloc(), &[(1, 1)], &ways, &late, &ids)?,
+        (false, true)
+    );
     Ok(())
 }
 

@@ -105,9 +105,9 @@ before_same area false o box refs ways none e = ap (λ (w : WaySets). first_of a
 pub before_new : (area : BoundingBox) (h o : Bool) (box refs ways new newer : Ids) → h ≡ true → new ≡ set.empty → newer ≡ set.empty → first_of area h false (sets_of box new newer) ≡ before_node (first_of area h o (sets_of box refs ways))
 before_new area h o box refs ways new newer e f g =
     ap (λ (w : WaySets). first_of area h false w) (shown_start box box new newer refl f g) ∙ ap (λ b. first_of area h b (start_ways box)) (sym (and_false o) ∙ ap (λ b. o && not b) (sym e)) where
-  and_false : (b : Bool) → (b && false) ≡ false
-  and_false true = refl
-  and_false false = refl
+      and_false : (b : Bool) → (b && false) ≡ false
+      and_false true = refl
+      and_false false = refl
 
 -- a node of the box is added
 pub placed : (now : FirstSets) (area : BoundingBox) (h o : Bool) (box refs ways new all : Ids) → first_of area h o (sets_of box refs ways) ≡ before_node now → IsWayless h o refs ways → new ≡ all → first_of area h o (sets_of new refs ways) ≡ record (before_node now) { ways = start_ways all }

@@ -301,18 +301,21 @@ module _ {G : Type 0} (f : feed.Ghosts G) (old new : G) (digest : List ℕ) (are
       let es = stored_entities p.frames in
       let taken : phase ≡ fold with_first (start_first area) es = p.gathered_all ∙ ap (λ (s : FirstSets). fold with_first s es) fresh in
       let came = ways_came area es (ap (λ (s : FirstSets). s.in_order) (sym taken) ∙ sym order) in
-      inr (rest.0, record {
-        ways = ways;
-        kept = ends;
-        chosen = record {
-          frames = p.frames;
-          judged = p.says;
-          within = ap header_limit (sym told) ∙ within;
-          header = ap (λ (o : Option (ℕ × HeaderSpec)). option_map (λ p. header_out_for_box area p.1) o) (sym told ∙ held) ∙ ap (λ (g : HeaderSpec). Some g) (sym is);
-          chosen = λ frames known. rest.1 ∙ starts ∙ ap (λ (s : FirstSets). s.ways) taken ∙ came ∙ ap (λ (l : List FrameSpec). fold with_way (nodes_of area es) (stored_entities l)) (same_frames b p.frames frames (known_says b (p.frames, None) p.says) known);
-        };
-        short = short;
-      })
+      inr (
+        rest.0,
+        record {
+          ways = ways;
+          kept = ends;
+          chosen = record {
+            frames = p.frames;
+            judged = p.says;
+            within = ap header_limit (sym told) ∙ within;
+            header = ap (λ (o : Option (ℕ × HeaderSpec)). option_map (λ p. header_out_for_box area p.1) o) (sym told ∙ held) ∙ ap (λ (g : HeaderSpec). Some g) (sym is);
+            chosen = λ frames known. rest.1 ∙ starts ∙ ap (λ (s : FirstSets). s.ways) taken ∙ came ∙ ap (λ (l : List FrameSpec). fold with_way (nodes_of area es) (stored_entities l)) (same_frames b p.frames frames (known_says b (p.frames, None) p.says) known);
+          };
+          short = short;
+        },
+      )
   chooses_first false p fresh held within is short order starts rest ends =
       let told = held_is (file_header p.frames) pass p.header in
       let es = stored_entities p.frames in

@@ -240,7 +240,11 @@ pub fn extract_parents<F: Feed, G: Feed, H: Feed, I: Feed, D: Drain, S: BuildHas
         ⊎ ReadFailed I.Feed fourth.old fourth.new)
         (WriteFailed D.Drain drain.old drain.new)) }
 {
-    Ok(extract_parents_with_receipt(alloc, first, second, third, fourth, area, drain, hasher)?.counts)
+    Ok(
+        extract_parents_with_receipt(
+            alloc, first, second, third, fourth, area, drain, hasher,
+        )?.counts,
+    )
 }
 
 /// As [`extract_parents`], and reports the digest of what was read, as [`extract_with_receipt`] does.

@@ -14,8 +14,8 @@ ghost use Rattle.pbfcut.specs.Pick.{pick_of, KeepsPacker, IsFreshPacker};
 ghost use Rattle.pbfcut.specs.Write.{PacksAgain, FailsAgain, PacksNext, FailsAtNext, Packed, PacksFront};
 
 use crate::pick::pack_runs;
-use osm_ways::Chosen;
 use osm_pack::Packer;
+use osm_ways::Chosen;
 use pbf_block::{Counts, Kinds, UnjudgedBlock};
 use pbf_frame::{Drain, Feed, Frame, FrameKind, Stop};
 use pbf_header::Header;

@@ -63,10 +63,7 @@ struct Report {
 }
 
 /// What a call reports that ended well.
-fn reported(
-    outcome: Result<InputReceipt, Halt>,
-    output: Option<[u8; 32]>,
-) -> Result<Report, Halt> {
+fn reported(outcome: Result<InputReceipt, Halt>, output: Option<[u8; 32]>) -> Result<Report, Halt> {
     let receipt = outcome?;
     Ok(Report { receipt, output })
 }
@@ -115,7 +112,10 @@ pub(crate) fn run_convert(rt: &HostRuntime, files: Files<'_>) -> Result<(), Endi
         let outcome = convert_with_receipt(alloc, &mut first, &mut second, &mut hashed, hasher);
         reported(outcome, Some(hashed.digest()))
     } else {
-        reported(convert_with_receipt(alloc, &mut first, &mut second, drain, hasher), None)
+        reported(
+            convert_with_receipt(alloc, &mut first, &mut second, drain, hasher),
+            None,
+        )
     };
     end(rt, files, &mut file, outcome)?;
     Ok(())
@@ -136,10 +136,21 @@ pub(crate) fn run_extract(
     let drain = &mut ToWrite::new(&mut file);
     let outcome = if files.digests {
         let mut hashed = HashedDrain::new(drain);
-        let outcome = extract_sorted_with_receipt(alloc, one, two, three, area, &mut hashed, hasher);
+        let outcome = extract_sorted_with_receipt(
+            alloc,
+            one,
+            two,
+            three,
+            area,
+            &mut hashed,
+            hasher,
+        );
         reported(outcome, Some(hashed.digest()))
     } else {
-        reported(extract_sorted_with_receipt(alloc, one, two, three, area, drain, hasher), None)
+        reported(
+            extract_sorted_with_receipt(alloc, one, two, three, area, drain, hasher),
+            None,
+        )
     };
     tell_empty(rt, end(rt, files, &mut file, outcome)?);
     Ok(())
@@ -161,10 +172,22 @@ pub(crate) fn run_extract_parents(
     let drain = &mut ToWrite::new(&mut file);
     let outcome = if files.digests {
         let mut hashed = HashedDrain::new(drain);
-        let outcome = extract_parents_sorted_with_receipt(alloc, one, two, three, four, area, &mut hashed, hasher);
+        let outcome = extract_parents_sorted_with_receipt(
+            alloc,
+            one,
+            two,
+            three,
+            four,
+            area,
+            &mut hashed,
+            hasher,
+        );
         reported(outcome, Some(hashed.digest()))
     } else {
-        reported(extract_parents_sorted_with_receipt(alloc, one, two, three, four, area, drain, hasher), None)
+        reported(
+            extract_parents_sorted_with_receipt(alloc, one, two, three, four, area, drain, hasher),
+            None,
+        )
     };
     tell_empty(rt, end(rt, files, &mut file, outcome)?);
     Ok(())
