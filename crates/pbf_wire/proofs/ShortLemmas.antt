@@ -267,7 +267,7 @@ count_more k os rest o is same =
 pub nothing_begun : (column : Column) → length column.packed.now ≡ 0 → column_left column ≡ joined column.number (found_left column.fields)
 unfolding column_left
 nothing_begun column none =
-    ap (λ es. placed column.place (read_entries es) ++ joined column.number (found_left column.fields)) (entries_none column.packed.now none)
+    ap (λ es. placed column.packed_place (read_entries es) ++ joined column.number (found_left column.fields)) (entries_none column.packed.now none)
 
 -- a count of few
 pub count_few : (r : Option ℕ) (xs ys : List (ℕ × ℕ)) → xs ≡ ys → length ys ≤ 2 ^ 26 → MatchOption r ⊤ (λ n. n ≡ length ys) → MatchOption r ⊤ (λ n. (n ≡ length xs) × (n ≤ 2 ^ 26))

@@ -1,5 +1,5 @@
 -- Signed numbers, differences and sums undo each other.
-use Rattle.std.proofs.Common.{◌≡◌, Bool, Option, Some, None, ℕ, zero, suc, ◌+◌, ◌-◌, ◌*◌, ◌/◌, ◌%◌, ◌^◌, ◌<◌, ◌≤◌, true, false, ltb, eqb, ℤ, pos, negsuc, ◌+ℤ◌, ◌-ℤ◌, List, [], ◌∷◌, length, map, refl, sym, ap, ap₂, subst, ◌∙◌, arith, rules}
+use Rattle.std.proofs.Common.{◌≡◌, Bool, cond, Option, Some, None, ℕ, zero, suc, ◌+◌, ◌-◌, ◌*◌, ◌/◌, ◌%◌, ◌^◌, ◌<◌, ◌≤◌, true, false, ltb, eqb, ℤ, pos, negsuc, ◌+ℤ◌, ◌-ℤ◌, List, [], ◌∷◌, length, map, refl, sym, ap, ap₂, subst, ◌∙◌, arith, rules}
 use Rattle.std.specs.Prelude.{◌<ℤ◌, ◌≤ℤ◌, neg_ℤ}
 use Rattle.std.specs.List.{range_with_len, AllByRecursion}
 use Rattle.std.proofs.Math.Nat.{pow-suc}
@@ -7,7 +7,7 @@ use Rattle.std.proofs.lemmas.Int.{ints}
 use Rattle.std.proofs.lemmas.Bool.{le-ltb}
 use Rattle.std.proofs.lemmas.Bool.Decides.{nat_tests}
 use Rattle.pbf_wire.specs.Varint.{shortest, spelled_within}
-use Rattle.pbf_wire.specs.Signed.{zigzag, unzigzag, delta_in, low_i32, low_i64, sign_extended, IsWithin, is_within}
+use Rattle.pbf_wire.specs.Signed.{zigzag, unzigzag, low_i32, low_i64, sign_extended, IsWithin, is_within}
 use Rattle.pbf_wire.specs.Sums.{sum_at, sums, sums_from, sums_within, added, differences, deltas}
 
 -- ---- one number
@@ -162,13 +162,13 @@ not_within limit n h = by (is_within limit n) refl where
   by true e = absurd (h (within_is limit n e))
   by false e = refl
 
--- a number of 32 bits is read alike whether all bits count or the low 32
-pub quick_entry : (narrow : Bool) (number quick : ℕ) → number < quick → (narrow ≡ true → quick ≤ 2 ^ 32) → delta_in narrow number ≡ unzigzag number
-quick_entry true number quick lt low = let few = low refl in ap unzigzag (omega (arith, few))
-quick_entry false number quick lt low = refl
-
-pub added_same : (limit limit' total total' number number' : ℤ) → limit ≡ limit' → total ≡ total' → number ≡ number' → added limit total number ≡ added limit' total' number'
-added_same limit limit' total total' number number' e f g = cc
+pub added_out : (limit total number : ℤ) → ¬ IsWithin limit (total +ℤ number) → added limit total number ≡ None
+unfolding added
+added_out limit total number h = by (is_within limit (total +ℤ number)) refl
+  where
+    by : (b : Bool) → is_within limit (total +ℤ number) ≡ b → cond b (Some (total +ℤ number)) None ≡ None
+    by true e = absurd (h (within_is limit (total +ℤ number) e))
+    by false e = refl
 
 abbrev pub then_more : ℤ → List ℤ → Option ℤ → List ℤ
 then_more limit ds sum = elim sum [ None ↦ [] | Some sum ↦ sum ∷ sums_within limit sum ds ]

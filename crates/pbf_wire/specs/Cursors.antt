@@ -19,7 +19,7 @@ found_left fields = found (fields_left fields.0)
 
 -- the numbers that are left, each beside the place of its occurrence
 unfoldable pub column_left : Column → List (ℕ × ℕ)
-column_left column = placed column.place (read_entries (entries column.packed.now)) ++ joined column.number (found_left column.fields)
+column_left column = placed column.packed_place (read_entries (entries column.packed.now)) ++ joined column.number (found_left column.fields)
 
 -- the numbers that are left
 abbrev pub numbers_left : Column → List ℕ

@@ -1,5 +1,5 @@
 -- Columns of differences and their sums.
-use Rattle.std.specs.Prelude.{◌≡◌, Bool, true, ℕ, ◌<◌, ◌≤◌, ◌^◌, ◌≤ℤ◌, ℤ, pos, ◌+◌, ◌+ℤ◌, ◌-ℤ◌, if◌then◌else◌, Option, Some, None, List, [], ◌∷◌, length, map, take}
+use Rattle.std.specs.Prelude.{ℕ, ℤ, pos, ◌+◌, ◌+ℤ◌, ◌-ℤ◌, if◌then◌else◌, Option, Some, None, List, [], ◌∷◌, length, map, take}
 use Rattle.std.specs.List.{range_with_len}
 use Rattle.pbf_wire.specs.Signed.{zigzag, is_within}
 
@@ -34,10 +34,6 @@ added limit total number = if is_within limit (total +ℤ number) then Some (tot
 abbrev pub sums_within : ℤ → ℤ → List ℤ → List ℤ
 sums_within limit start [] = []
 sums_within limit start (d ∷ ds) = elim (added limit start d) [ None ↦ [] | Some sum ↦ sum ∷ sums_within limit sum ds ]
-
--- a number below `quick` means the same entry whether all its bits count or the low 32, and a value within the limit and that entry have a sum of 64 bits
-abbrev pub IsQuick : Bool → ℤ → ℕ → Type 0
-IsQuick narrow limit quick = (quick ≤ 2 ^ 63) × (0 < quick → limit ≤ℤ pos (2 ^ 62)) × (narrow ≡ true → quick ≤ 2 ^ 32)
 
 -- each value less the one before, and the first less a start
 abbrev pub differences : ℤ → List ℤ → List ℤ

@@ -26,10 +26,9 @@ pub fn first_number(packed: &[u8]) -> Option<(u64, &[u8])>
 pub struct Column<'a> {
     fields: FoundFields<'a>,
     number: u64,
-    /// What is left of the packed occurrence that was begun.
+    /// What is left of the packed occurrence that was begun, and its place.
     packed: &'a [u8],
-    /// Where the occurrence of the last number given stands. A packed occurrence is begun by giving its first number, so this is
-    /// the place of what is left of it too.
+    packed_place: u64,
     place: u64,
 }
 
@@ -51,6 +50,7 @@ impl<'a> Column<'a> {
             fields: Fields::new(message, at).found(),
             number,
             packed: &[],
+            packed_place: at,
             place: at,
         }
     }
@@ -66,6 +66,7 @@ impl<'a> Column<'a> {
             fields: fields.found(),
             number,
             packed: &[],
+            packed_place: 0,
             place: 0,
         }
     }
@@ -104,6 +105,7 @@ impl<'a> Column<'a> {
     {
         let (value, rest) = first_number(self.packed)?;
         self.packed = rest;
+        self.place = self.packed_place;
         Some(value)
     }
 
@@ -122,18 +124,21 @@ impl<'a> Column<'a> {
             return false;
         }
         self.packed = rest;
+        self.place = self.packed_place;
         true
     }
 
-    /// The next number, by the fields after the packed occurrence that was begun, of which no number is left.
+    /// The next number, by what is left of the packed occurrence that was begun, and then by the fields after it.
     #[tactic(auto, unfolding(crate::specs::Cursors::column_left))]
     fn advance(&mut self) -> Option<u64>
-        requires { read_entries (entries self.old.packed.now) ≡ [] }
         ensures { MatchOption result ((column_left self.old ≡ []) × (column_left self.new ≡ [])
             × (place_of self.new ≡ place_of self.old))
             (λ value. column_left self.old ≡ (value, place_of self.new) ∷ column_left self.new) }
     {
         loop {
+            if let Some(value) = self.advance_packed() {
+                return Some(value);
+            }
             let field = self.fields.next()?;
             if field.number == self.number {
                 match field.payload {
@@ -142,11 +147,8 @@ impl<'a> Column<'a> {
                         return Some(value);
                     }
                     Payload::Bytes(bytes, _) => {
-                        if let Some((value, rest)) = first_number(bytes) {
-                            self.packed = rest;
-                            self.place = field.offset;
-                            return Some(value);
-                        }
+                        self.packed = bytes;
+                        self.packed_place = field.offset;
                     }
                     _ => {}
                 }

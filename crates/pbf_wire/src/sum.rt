@@ -1,8 +1,7 @@
 //! A running sum that stays within its limit.
 
-ghost use Rattle.std.specs.Prelude.{◌≡◌, pos, ◌+ℤ◌, ◌≤ℤ◌, MatchOption, IfNone, if◌then◌else◌, Some, None, ⊤, FitsSigned};
-ghost use Rattle.std.specs.Int.{w64};
-ghost use Rattle.pbf_wire.specs.Signed.{IsWithin, is_within};
+ghost use Rattle.std.specs.Prelude.{◌≡◌, pos, ◌+ℤ◌, ◌≤ℤ◌, MatchOption, IfNone};
+ghost use Rattle.pbf_wire.specs.Signed.{IsWithin};
 ghost use Rattle.pbf_wire.specs.Sums.{Total, added};
 
 use std::marker::Model;
@@ -25,20 +24,6 @@ impl Model for Sum {
     ghost inverse = { λ v. record { total = v.total; limit = v.limit } };
 }
 
-/// A sum, if it is strictly between `-limit` and `limit`.
-#[inline(always)]
-pub(crate) fn if_within(sum: i64, limit: i64) -> Option<i64>
-    requires { pos 1 ≤ℤ limit }
-    ensures exact { result ≡ (if is_within limit sum then Some sum else None) }
-    ensures within { MatchOption result ⊤ (λ sum. IsWithin limit sum) }
-{
-    if sum.unsigned_abs() < limit as u64 {
-        Some(sum)
-    } else {
-        None
-    }
-}
-
 /// The sum of two numbers, if it is strictly between `-limit` and `limit`.
 #[tactic(auto, unfolding(crate::specs::Sums::added))]
 pub(crate) fn added(total: i64, number: i64, limit: i64) -> Option<i64>
@@ -47,19 +32,12 @@ pub(crate) fn added(total: i64, number: i64, limit: i64) -> Option<i64>
         ≡ total +ℤ number) × IsWithin limit sum) }
     ensures exact { result ≡ added limit total number }
 {
-    if_within(total.checked_add(number)?, limit)
-}
-
-/// As [`added`], for two numbers whose sum has 64 bits, so that no overflow is looked for.
-#[inline(always)]
-#[tactic(auto, unfolding(crate::specs::Sums::added))]
-pub(crate) fn added_low(total: i64, number: i64, limit: i64) -> Option<i64>
-    requires positive { pos 1 ≤ℤ limit }
-    requires fits { FitsSigned w64 (total +ℤ number) }
-    ensures exact { result ≡ added limit total number }
-    ensures within { MatchOption result ⊤ (λ sum. IsWithin limit sum) }
-{
-    if_within(total + number, limit)
+    let sum = total.checked_add(number)?;
+    if -limit < sum && sum < limit {
+        Some(sum)
+    } else {
+        None
+    }
 }
 
 impl Sum {

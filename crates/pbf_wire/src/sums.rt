@@ -1,16 +1,12 @@
 //! The values of a delta column.
 
 ghost use Rattle.std.specs.Prelude.{◌≡◌, ◌≤ℤ◌, pos};
-ghost use Rattle.pbf_wire.specs.Signed.{delta_in, IsWithin};
-ghost use Rattle.pbf_wire.specs.Sums.{IsQuick, added};
+ghost use Rattle.pbf_wire.specs.Signed.{delta_in};
 
 use crate::column::Column;
 use crate::fields::Fields;
 use crate::signed::{low_sint32, unzigzag};
-use crate::sum::{added, added_low};
-
-/// Up to this limit, a value and the entry of a number below 2^63 have a sum of 64 bits.
-const QUICK_LIMIT: i64 = 1 << 62;
+use crate::sum::added;
 
 /// The entry that a number of the column means.
 pub(crate) fn delta_in(narrow: bool, number: u64) -> i64
@@ -33,17 +29,13 @@ pub struct Sums<'a> {
     limit: i64,
     /// Whether the entries are `sint32`, of which the low 32 bits count.
     narrow: bool,
-    /// Numbers below this one are added without a test for overflow: none if the limit is above [`QUICK_LIMIT`], and only those of
-    /// 32 bits if the entries are `sint32`.
-    quick: u64,
-    ghost within: { IsWithin limit total },
-    ghost quick_fits: { IsQuick narrow limit quick },
+    ghost positive: { pos 1 ≤ℤ limit },
 }
 
 impl<'a> Sums<'a> {
     ghost use Rattle.std.specs.Prelude.{◌^◌, ⊤, MatchOption, length, map};
     ghost use Rattle.std.specs.List.{AllByRecursion};
-    ghost use Rattle.pbf_wire.specs.Signed.{unzigzag, low_sint32};
+    ghost use Rattle.pbf_wire.specs.Signed.{IsWithin, unzigzag, low_sint32};
     ghost use Rattle.pbf_wire.specs.Sums.{sums_within};
     ghost use Rattle.pbf_wire.specs.Cursors.{numbers_left, sums_left};
 
@@ -58,7 +50,6 @@ impl<'a> Sums<'a> {
             total: 0,
             limit,
             narrow: false,
-            quick: if limit <= QUICK_LIMIT { 1 << 63 } else { 0 },
         }
     }
 
@@ -73,21 +64,7 @@ impl<'a> Sums<'a> {
             total: 0,
             limit,
             narrow: true,
-            quick: if limit <= QUICK_LIMIT { 1 << 32 } else { 0 },
         }
-    }
-
-    /// The value that the next number of the column makes, if it is in range.
-    #[inline(always)]
-    fn value_after(&self, number: u64) -> Option<i64>
-        ensures exact { result
-            ≡ added self.now.limit self.now.total (delta_in self.now.narrow number) }
-        ensures within { MatchOption result ⊤ (λ value. IsWithin self.now.limit value) }
-    {
-        if number < self.quick {
-            return added_low(self.total, unzigzag(number), self.limit);
-        }
-        added(self.total, delta_in(self.narrow, number), self.limit)
     }
 
     /// How many values are still to come, if it is soon seen that each is in range; `None` says nothing. Only columns of `sint64`
@@ -118,7 +95,7 @@ impl<'a> Iterator for Sums<'a> {
     #[tactic(auto, unfolding(crate::specs::Occurrence::items_past))]
     fn next(&mut self) -> Option<i64> {
         let number = self.entries.next()?;
-        let Some(total) = self.value_after(number) else {
+        let Some(total) = added(self.total, delta_in(self.narrow, number), self.limit) else {
             self.entries = Column::over(Fields::new(&[], 0), 0);
             return None;
         };

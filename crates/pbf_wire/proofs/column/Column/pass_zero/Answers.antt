@@ -10,4 +10,4 @@ unfolding column_left
 returns-clause-passed c = λ _.
     let s = c.args.self.now in
     let more = joined s.number (found_left s.fields) in
-    rw take_rest (ap (λ ns. placed s.place ns ++ more) (zero_read s.packed.now c.in-len1-up.len_at_least c.if-first-ne0.false))
+    rw take_rest (ap (λ ns. placed s.packed_place ns ++ more) (zero_read s.packed.now c.in-len1-up.len_at_least c.if-first-ne0.false))
