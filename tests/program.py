@@ -409,7 +409,7 @@ def progress(bench: Bench):
 
 def digest(content: bytes, name: bytes) -> bytes:
     """The line of `sha256sum` for a file."""
-    escaped = name.replace(b"\\", b"\\\\").replace(b"\n", b"\\n")
+    escaped = name.replace(b"\\", b"\\\\").replace(b"\n", b"\\n").replace(b"\r", b"\\r")
     mark = b"" if escaped == name else b"\\"
     return mark + hashlib.sha256(content).hexdigest().encode() + b"  " + escaped + b"\n"
 
@@ -430,7 +430,7 @@ def digests(bench: Bench):
     for command in ["blobs", "show"]:
         bench.case(f"no digests of {command}", [command, "--digests", "in"], given=THREE_DENSE, status=2,
                    stderr=lambda text: b"'--digests'" in text)
-    for name in [b"a\\b", b"a\nb", b"\\\n\\n", "Stra\u00dfe \u6c34".encode()]:
+    for name in [b"a\\b", b"a\nb", b"a\rb", b"\\\n\\n\r", "Stra\u00dfe \u6c34".encode()]:
         bench.case(f"digest of a file of the name {name}", ["check", "--digests", name], files={name.decode(): THREE_DENSE},
                    stdout=counted(3, 0, 0) + digest(THREE_DENSE, name))
     checked_by_sha256sum(bench)
@@ -458,8 +458,8 @@ def checked_by_sha256sum(bench: Bench):
     """`sha256sum -c` says that the files are the ones that were read and written, and that a changed one isn't."""
     folder = os.path.join(bench.folder, "sums")
     os.mkdir(folder)
-    shutil.copy(os.path.join(TOP, "sample", "town.osm.pbf"), os.path.join(folder, "a\\ town\n.osm.pbf"))
-    words = ["extract", "--digests", "--box=9.997,49.999,10.003,50.003", "a\\ town\n.osm.pbf", "old\\town"]
+    shutil.copy(os.path.join(TOP, "sample", "town.osm.pbf"), os.path.join(folder, "a\\ town\n\r.osm.pbf"))
+    words = ["extract", "--digests", "--box=9.997,49.999,10.003,50.003", "a\\ town\n\r.osm.pbf", "old\\town"]
     printed = subprocess.run([bench.program, *words], cwd=folder, capture_output=True, check=True).stdout
     sums = b"".join(printed.splitlines(keepends=True)[-2:])
 

@@ -6,16 +6,17 @@ use Rattle.osm_text.specs.Quoted.{hex_digit}
 abbrev pub hex_byte : ℕ → List ℕ
 hex_byte b = hex_digit (b / 16) ∷ hex_digit (b % 16) ∷ []
 
--- a backslash, or a line feed
+-- a backslash, a line feed, or a carriage return
 abbrev pub is_escaped : ℕ → Bool
-is_escaped b = b == 92 || b == 10
+is_escaped b = b == 92 || (b == 10 || b == 13)
 
 -- one byte of a path
 abbrev pub path_byte : ℕ → List ℕ
 path_byte b =
     if b == 92 then 92 ∷ 92 ∷ []
     else (if b == 10 then 92 ∷ 110 ∷ []
-    else b ∷ [])
+    else (if b == 13 then 92 ∷ 114 ∷ []
+    else b ∷ []))
 
 -- a backslash before the line of a path with escapes
 abbrev pub escape_mark : List ℕ → List ℕ

@@ -12,7 +12,7 @@ fn has_escapes(path: &[u8]) -> bool
     ensures { result ≡ list_any is_escaped path.now }
 {
     for byte in path {
-        if *byte == b'\\' || *byte == b'\n' {
+        if *byte == b'\\' || *byte == b'\n' || *byte == b'\r' {
             return true;
         }
     }
@@ -36,6 +36,7 @@ fn put_path_byte(out: &mut Vec<u8>, byte: u8) -> Result<(), AllocError>
     match byte {
         b'\\' => out.extend_from_slice(b"\\\\")?,
         b'\n' => out.extend_from_slice(b"\\n")?,
+        b'\r' => out.extend_from_slice(b"\\r")?,
         _ => out.push(byte)?,
     }
     Ok(())
@@ -52,10 +53,10 @@ fn put_path(out: &mut Vec<u8>, path: &[u8]) -> Result<(), AllocError>
 }
 
 /// Appends the line of a file and its digest as `sha256sum` prints it and `sha256sum -c` reads it: the digest in hexadecimal digits,
-/// two spaces, the path, and a line feed. A backslash of the path is written as `\\` and a line feed as `\n`; a line with one of
-/// these begins with a backslash.
+/// two spaces, the path, and a line feed. In the path a backslash is written as `\\`, a line feed as `\n` and a carriage return as
+/// `\r`; a line with one of these begins with a backslash.
 ///
-/// An `Err` says that memory is refused; the output then has no stated content.
+/// An `Err` says that memory is refused; the output is then unspecified.
 pub fn put_digest_line(out: &mut Vec<u8>, digest: &[u8], path: &[u8]) -> Result<(), AllocError>
     ensures { OnOk result (out.new.items ≡ out.old.items ++ digest_line digest.now path.now) }
 {
