@@ -74,8 +74,8 @@ fn put_blob_head(room: &mut [u8], payload: usize) -> usize
     put_varint(room, end, payload as u64)
 }
 
-// All of a frame but its payload at the start of the room, and its length.
-fn put_head(room: &mut [u8], kind: FrameKind, payload: usize) -> usize
+/// Puts all of a frame but its payload, of which this is the length, at the start of the room, and returns how many bytes that is.
+pub fn put_head(room: &mut [u8], kind: FrameKind, payload: usize) -> usize
     requires room { length room.old ≡ 128 }
     requires short { payload < RAW_LIMIT }
     ensures head { (p : List ℕ) → length p ≡ payload

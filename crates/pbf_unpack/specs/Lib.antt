@@ -1,0 +1,4 @@
+pub mod Packed
+pub mod Unpacked
+pub mod Whole
+pub mod Payloads
