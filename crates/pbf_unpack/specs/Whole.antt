@@ -2,7 +2,7 @@
 use Rattle.std.specs.Prelude.{◌≡◌, ℕ, ◌+◌, ◌<◌, ◌≤◌, ◌^◌, List, ◌++◌, length, Option, Ok}
 use Rattle.byteorder.specs.Endian.{big_number}
 use Rattle.pbf_frame.specs.declared.header.Head.{Head}
-use Rattle.pbf_frame.specs.declared.header.TheConstants.{HEADER_LIMIT}
+use Rattle.pbf_frame.specs.declared.header.TheConstants.{HEADER_LIMIT, LARGEST_SIZE}
 use Rattle.pbf_frame.specs.Devices.{prepend, Passes, IsAtEnd}
 use Rattle.pbf_frame.specs.Steps.{head_of}
 use Rattle.pbf_unpack.specs.declared.whole.Found.{Found}
@@ -32,6 +32,7 @@ pub record HasHead (place : ℕ) (read header : List ℕ) (head : Head) : Type 0
   pub small : big_number 4 prefix < HEADER_LIMIT
   pub counted : length header ≡ big_number 4 prefix
   pub says : head_of (place + 4) header ≡ Ok head
+  pub within : head.size ≤ LARGEST_SIZE
 
 abbrev pub BeginsWith : ℕ → (read header : List ℕ) → Option (List ℕ) → Front → Type 0
 BeginsWith place read header left (front.Says head) = HasHead place read header head

@@ -1,0 +1,3 @@
+pub mod UnpackedLemmas
+pub mod WholeLemmas
+pub mod PayloadLemmas
