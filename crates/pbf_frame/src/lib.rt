@@ -22,7 +22,7 @@ pub use frame::{Frame, FrameKind, frame_end};
 pub use frame_parts::fill_vec;
 pub use header::{HEADER_LIMIT, Head, LARGEST_SIZE, read_head};
 pub use memory::{Pieces, Sink};
-pub use put::{put_frame, put_head};
+pub use put::{HEAD_ROOM, put_frame, put_head};
 pub use reader::FrameReader;
 pub use std_device::{FromRead, ToWrite};
 pub use stop::{DrainFault, FeedFault, Stop};

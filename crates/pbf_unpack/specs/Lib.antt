@@ -2,3 +2,4 @@ pub mod Packed
 pub mod Unpacked
 pub mod Whole
 pub mod Payloads
+pub mod Supplying

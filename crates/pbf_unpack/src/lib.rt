@@ -2,8 +2,13 @@
 #![tactic(auto)]
 
 mod blob;
+mod buffers;
 mod fault;
+mod feed;
 mod payload;
+mod supply;
+mod unpack;
 mod whole;
 
 pub use fault::{UnpackFault, UnpackReason};
+pub use feed::UnpackedFeed;

@@ -1,8 +1,8 @@
 //! A whole frame, read from a feed.
 
-ghost use Rattle.std.specs.Prelude.{◌≡◌, ◌+◌, ◌<◌, ◌≤◌, ◌^◌, ◌++◌, length, IfOk, OnOk, vec_len, max};
+ghost use Rattle.std.specs.Prelude.{◌≡◌, ◌+◌, ◌-◌, ◌<◌, ◌≤◌, ◌^◌, ◌++◌, length, IfOk, OnOk, vec_len, max};
 ghost use Rattle.pbf_frame.specs.declared.header.Head.{Head};
-ghost use Rattle.pbf_frame.specs.declared.header.TheConstants.{LARGEST_SIZE};
+ghost use Rattle.pbf_frame.specs.declared.header.TheConstants.{HEADER_LIMIT, LARGEST_SIZE};
 ghost use Rattle.pbf_frame.specs.Steps.{head_of};
 ghost use Rattle.pbf_unpack.specs.Whole.{Took, BeginsWith, Means, IsPlaced};
 
@@ -51,8 +51,8 @@ fn read_front<F: Feed>(
         (F.has_passed feed.new) (F.remaining feed.old) (F.remaining feed.new)) }
     ensures means { IfOk result
         (BeginsWith place front.new.items header.new.items (F.remaining feed.new)) }
-    ensures front_held { vec_len front.new ≤ max 65539 (vec_len front.old) }
-    ensures header_held { vec_len header.new ≤ max 65535 (vec_len header.old) }
+    ensures front_held { vec_len front.new ≤ max (HEADER_LIMIT + 3) (vec_len front.old) }
+    ensures header_held { vec_len header.new ≤ max (HEADER_LIMIT - 1) (vec_len header.old) }
     ensures lender { F.lender feed.new ≡ F.lender feed.old }
 {
     fill_vec(feed, front, 4)?;
@@ -88,8 +88,8 @@ pub(crate) fn read_whole<F: Feed>(
     ensures means { IfOk result (Means place (front.new.items ++ blob.new.items) blob.new.items
         (F.remaining feed.new)) }
     ensures placed { IfOk result (IsPlaced blob.new.items) }
-    ensures front_held { vec_len front.new ≤ max 65539 (vec_len front.old) }
-    ensures header_held { vec_len header.new ≤ max 65535 (vec_len header.old) }
+    ensures front_held { vec_len front.new ≤ max (HEADER_LIMIT + 3) (vec_len front.old) }
+    ensures header_held { vec_len header.new ≤ max (HEADER_LIMIT - 1) (vec_len header.old) }
     ensures blob_held { vec_len blob.new ≤ max LARGEST_SIZE (vec_len blob.old) }
     ensures lender { F.lender feed.new ≡ F.lender feed.old }
 {
