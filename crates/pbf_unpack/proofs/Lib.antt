@@ -1,3 +1,4 @@
 pub mod UnpackedLemmas
 pub mod WholeLemmas
 pub mod PayloadLemmas
+pub mod SupplyLemmas

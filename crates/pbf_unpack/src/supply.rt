@@ -39,7 +39,7 @@ fn copy_left(buffers: &Buffers, done: usize, buf: &mut [u8]) -> usize
     if done < front {
         copy_front(&buffers.front[done..], buf)
     } else {
-        copy_front(&buffers.raw[done - front..], buf)
+        copy_front(buffers.raw.split_at(done - front).1, buf)
     }
 }
 
