@@ -2,3 +2,4 @@ pub mod UnpackedLemmas
 pub mod WholeLemmas
 pub mod PayloadLemmas
 pub mod SupplyLemmas
+pub mod ReportLemmas

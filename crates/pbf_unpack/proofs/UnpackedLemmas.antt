@@ -20,6 +20,15 @@ joined_assoc (xs, Some d) (ys, e) (zs, f) = ap (λ (l : List ℕ). (l, Some d)) 
 pub joined_nothing : (a : Unpacked) → joined (as_they_stand []) a ≡ a
 joined_nothing (xs, e) = refl
 
+pub joined_end : (a : Unpacked) → joined a (as_they_stand []) ≡ a
+joined_end (xs, None) = ap (λ (l : List ℕ). (l, None)) (append-nil xs)
+joined_end (xs, Some e) = ap (λ (l : List ℕ). (l, Some e)) (append-nil xs)
+
+-- no bytes mean none
+pub nothing_more : (place : ℕ) → unpacked_from place [] ≡ as_they_stand []
+unfolding unpacked_from unpacked_within
+nothing_more place = refl
+
 -- ---- what makes a frame none
 
 first_test : (a b c d : Bool) → a ≡ false → (a && b && c && d) ≡ false

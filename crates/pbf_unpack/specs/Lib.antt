@@ -3,3 +3,4 @@ pub mod Unpacked
 pub mod Whole
 pub mod Payloads
 pub mod Supplying
+pub mod Reports

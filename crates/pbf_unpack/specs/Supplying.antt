@@ -50,3 +50,13 @@ IsReady Reading left = 0 < length left
 IsReady PassingOn left = Unit {0}
 IsReady Ended left = Unit {0}
 IsReady (Stopped stop) left = ⊥
+
+-- but for where frames come from, a feed is the same
+pub record IsSameBut {F : Type 0} (old new : UnpackedFeed F) : Type 0 where
+  pub feed : new.feed ≡ old.feed
+  pub buffers : new.buffers ≡ old.buffers
+  pub done : new.done ≡ old.done
+  pub place : new.place ≡ old.place
+  pub state : new.state ≡ old.state
+  pub fault : new.fault ≡ old.fault
+  pub failures : new.failures ≡ old.failures

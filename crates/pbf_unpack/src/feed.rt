@@ -21,9 +21,22 @@ pub(crate) enum State {
     Stopped(Stop),
 }
 
+/// Where a frame comes from.
+#[derive(Clone, Copy, PartialEq, Eq)]
+pub(crate) struct Origin {
+    /// Where it begins in the packed file.
+    pub(crate) packed: u64,
+    /// Where it begins in the raw file.
+    pub(crate) raw: u64,
+    /// Where in the raw file its payload begins, if it was unpacked.
+    pub(crate) payload: Option<u64>,
+}
+
 /// Supplies the raw file that the file of the feed below means.
 ///
-/// It holds one frame as it was read and one as it is supplied.
+/// A frame whose blob holds zlib data and no other is supplied in written form, with its payload raw; every other frame, and what is no
+/// whole frame, as it stands. Also a frame whose zlib data has a fault: its reader refuses it as `Zlib`, and [`fault`](Self::fault) says
+/// why. It holds one frame as it was read and one as it is supplied.
 #[derive(Drop)]
 pub struct UnpackedFeed<F> {
     pub(crate) feed: F,
@@ -37,6 +50,9 @@ pub struct UnpackedFeed<F> {
     // The first fault of zlib data.
     pub(crate) fault: Option<UnpackFault>,
     pub(crate) failures: u64,
+    // Of the frame in the buffers, and of the first one that is a header.
+    pub(crate) origin: Origin,
+    pub(crate) header: Option<Origin>,
     ghost in_range: { place ≤ 2 ^ 62 },
     ghost within: { done ≤ vec_len buffers.front + vec_len buffers.raw },
 }

@@ -5,10 +5,14 @@ mod blob;
 mod buffers;
 mod fault;
 mod feed;
+mod origin;
 mod payload;
+mod reports;
 mod supply;
 mod unpack;
 mod whole;
 
 pub use fault::{UnpackFault, UnpackReason};
 pub use feed::UnpackedFeed;
+pub use reports::Place;
+pub use zlib::Inflater;

@@ -4,14 +4,14 @@ ghost use Rattle.std.specs.Prelude.{◌≡◌, ◌+◌, ◌-◌, ◌<◌, ◌≤
 ghost use Rattle.std.specs.Option.{option_map};
 ghost use Rattle.pbf_frame.specs.Devices.{prepend, Passes, IsAtEnd, HasRisen};
 ghost use Rattle.pbf_unpack.specs.declared.feed.State.TheVariants as states;
-ghost use Rattle.pbf_unpack.specs.Supplying.{left_in, remaining_in, HasSupplied, GoesOn, IsReady};
+ghost use Rattle.pbf_unpack.specs.Supplying.{left_in, remaining_in, HasSupplied, GoesOn, IsReady, IsSameBut};
 ghost use Rattle.pbf_unpack.specs.Unpacked.{unpacked};
 
 use crate::buffers::Buffers;
-use crate::feed::{State, UnpackedFeed};
-use crate::unpack::unpack;
-use crate::whole::{Found, read_whole};
-use pbf_frame::{Feed, FeedFault, Stop};
+use crate::feed::{Origin, State, UnpackedFeed};
+use crate::unpack::{Outcome, unpack};
+use crate::whole::{Found, WholeFrame, read_whole};
+use pbf_frame::{Feed, FeedFault, FrameKind, Stop};
 
 /// Copies the front of some bytes, as many as there is room for.
 fn copy_front(from: &[u8], buf: &mut [u8]) -> usize
@@ -51,6 +51,31 @@ impl<F: Feed> UnpackedFeed<F> {
         self.done == self.buffers.front.len() + self.buffers.raw.len()
     }
 
+    /// Where the next frame comes from.
+    fn next_origin(&self) -> Origin {
+        let length = self.buffers.front.len() as u64 + self.buffers.raw.len() as u64;
+        Origin {
+            packed: self.place,
+            raw: self.origin.raw.saturating_add(length),
+            payload: None,
+        }
+    }
+
+    /// Keeps where the frame in the buffers comes from.
+    fn come_from(&mut self, from: Origin, frame: WholeFrame, outcome: Outcome)
+        ensures same { IsSameBut self.old self.new }
+        ensures lender { F.lender self.new.feed ≡ F.lender self.old.feed }
+    {
+        let mut origin = from;
+        if outcome == Outcome::Unpacked {
+            origin.payload = Some(from.raw.saturating_add(self.buffers.front.len() as u64));
+        }
+        self.origin = origin;
+        if frame.kind == FrameKind::Header && self.header.is_none() {
+            self.header = Some(origin);
+        }
+    }
+
     /// Reads the next frame into the buffers, unpacked, or what there is in its place.
     fn next_frame(&mut self) -> Result<(), Stop>
         requires reading { self.old.state ≡ states.Reading }
@@ -60,6 +85,7 @@ impl<F: Feed> UnpackedFeed<F> {
         ensures lender { F.lender self.new.feed ≡ F.lender self.old.feed }
         ensures failures { self.new.failures ≡ self.old.failures }
     {
+        let next = self.next_origin();
         self.done = 0;
         let found = read_whole(
             &mut self.feed,
@@ -70,17 +96,20 @@ impl<F: Feed> UnpackedFeed<F> {
         )?;
         match found {
             Found::Whole(frame) => {
-                let fault = unpack(&mut self.buffers, &mut self.inflater, frame)?;
-                self.fault = self.fault.or(fault);
+                let outcome = unpack(&mut self.buffers, &mut self.inflater, frame)?;
+                self.fault = self.fault.or(outcome.fault());
                 self.place = frame.end;
+                self.come_from(next, frame, outcome);
             }
             Found::Unfit => {
                 self.buffers.stand();
                 self.state = State::PassingOn;
+                self.origin = next;
             }
             Found::Cut => {
                 self.buffers.stand();
                 self.state = State::Ended;
+                self.origin = next;
             }
         }
         Ok(())
