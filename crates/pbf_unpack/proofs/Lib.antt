@@ -3,3 +3,4 @@ pub mod WholeLemmas
 pub mod PayloadLemmas
 pub mod SupplyLemmas
 pub mod ReportLemmas
+pub mod RawLemmas

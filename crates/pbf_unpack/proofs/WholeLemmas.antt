@@ -38,7 +38,7 @@ at_prefix : (place : ℕ) (prefix after : List ℕ) → length prefix ≡ 4 → 
 at_prefix place prefix after four =
     ap (λ (p : List ℕ). from_prefix place p (drop 4 (prefix ++ after))) (take_at prefix after 4 four) ∙ ap (from_prefix place prefix) (drop_at prefix after 4 four)
 
-at_header : (place : ℕ) (prefix header after : List ℕ) → length prefix ≡ 4 → length header ≡ big_number 4 prefix
+pub at_header : (place : ℕ) (prefix header after : List ℕ) → length prefix ≡ 4 → length header ≡ big_number 4 prefix
     → frame_at place (prefix ++ (header ++ after)) ≡ record { offset = place; prefix = prefix; header = header; blob = take (head_says (place + 4) header).size after }
 at_header place prefix header after four counted =
     at_prefix place prefix (header ++ after) four

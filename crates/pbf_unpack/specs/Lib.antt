@@ -4,3 +4,4 @@ pub mod Whole
 pub mod Payloads
 pub mod Supplying
 pub mod Reports
+pub mod Laws

@@ -5,6 +5,7 @@ mod blob;
 mod buffers;
 mod fault;
 mod feed;
+pub mod laws;
 mod origin;
 mod payload;
 mod reports;

@@ -36,18 +36,21 @@ fn fits_size(raw_size: Option<Field<'_>>, length: usize) -> bool
     }
 }
 
-/// The room that is tried first: what `raw_size` says where that is within the limit, and the limit otherwise.
-fn first_room(raw_size: Option<Field<'_>>) -> usize
+/// The most bytes that a byte of a stream can mean: copies of 258 bytes, of two bits each.
+const MOST_OF_A_BYTE: usize = 1032;
+
+/// The room that is tried first: what `raw_size` says or, without it, what a stream of this length can mean, within the limit.
+fn first_room(raw_size: Option<Field<'_>>, stream: usize) -> usize
     ensures { result < RAW_LIMIT }
 {
-    let Some(Field {
-        payload: Payload::Number(value),
-        ..
-    }) = raw_size
-    else {
-        return RAW_LIMIT - 1;
+    let room = match raw_size {
+        Some(Field {
+            payload: Payload::Number(value),
+            ..
+        }) => value as usize,
+        _ => stream.saturating_mul(MOST_OF_A_BYTE),
     };
-    (value as usize).min(RAW_LIMIT - 1)
+    room.min(RAW_LIMIT - 1)
 }
 
 /// Makes the vector the output of a stream, of at most this many bytes.
@@ -103,8 +106,9 @@ pub(crate) fn unpack_payload(
     ensures within { IfOk result (λ fault. IfNone fault (vec_len payload.new < RAW_LIMIT)) }
     ensures held { vec_len payload.new ≤ max (RAW_LIMIT - 1) (vec_len payload.old) }
 {
-    let room = first_room(raw_size);
-    let fault = inflate_raw(inflater, stream.payload.bytes(), room, payload)?;
+    let packed = stream.payload.bytes();
+    let room = first_room(raw_size, packed.len());
+    let fault = inflate_raw(inflater, packed, room, payload)?;
     let reason = match fault {
         Some(fault) => UnpackReason::Inflate(fault),
         None if fits_size(raw_size, payload.len()) => return Ok(None),

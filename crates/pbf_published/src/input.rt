@@ -3,7 +3,7 @@
 ghost use Rattle.std.specs.Prelude.{◌≡◌, ℕ, List, [], Some, IfOk};
 ghost use Rattle.std.specs.Option.{option_map};
 ghost use Rattle.pbf_unpack.specs.Unpacked.{unpacked};
-ghost use Rattle.pbfcutz.specs.Published.{MeansIfSome};
+ghost use Rattle.pbf_published.specs.Published.{MeansIfSome};
 
 use pbf_block::Counts;
 use pbf_frame::{Feed, Stop};
@@ -54,17 +54,15 @@ impl From<AllocError> for PublishedHalt {
 /// A published file from its start.
 pub(crate) fn open<F: Feed>(
     alloc: Global,
+    inflater: Inflater,
     feed: F,
-) -> Result<UnpackedFeed<HashedFeed<F>>, AllocError>
-    ensures remaining { IfOk result (λ u. ⟦<UnpackedFeed<HashedFeed<F>> as Feed>⟧.remaining u
-        ≡ option_map unpacked (F.remaining feed)) }
-    ensures supplied { IfOk result (λ u.
-        ⟦<UnpackedFeed<HashedFeed<F>> as Feed>⟧.has_passed u 0 []) }
-    ensures lender { IfOk result (λ u. ⟦<UnpackedFeed<HashedFeed<F>> as Feed>⟧.lender u
-        ≡ F.lender feed) }
+) -> UnpackedFeed<HashedFeed<F>>
+    ensures remaining { ⟦<UnpackedFeed<HashedFeed<F>> as Feed>⟧.remaining result
+        ≡ option_map unpacked (F.remaining feed) }
+    ensures supplied { ⟦<UnpackedFeed<HashedFeed<F>> as Feed>⟧.has_passed result 0 [] }
+    ensures lender { ⟦<UnpackedFeed<HashedFeed<F>> as Feed>⟧.lender result ≡ F.lender feed }
 {
-    let inflater = Inflater::new(alloc)?;
-    Ok(UnpackedFeed::new(alloc, inflater, HashedFeed::new(feed)))
+    UnpackedFeed::new(alloc, inflater, HashedFeed::new(feed))
 }
 
 /// The digest of the packed bytes that were read, if all that they mean was supplied, and the feed below.

@@ -7,11 +7,12 @@ ghost use Rattle.pbf_pass.specs.Given.{TookFile};
 ghost use Rattle.pbfcut.specs.Extracting.{complete_ways};
 ghost use Rattle.pbfcut.specs.Kept.{IsWritable};
 ghost use Rattle.pbfcut.specs.Theorem.{IsExtraction};
-ghost use Rattle.pbfcutz.specs.Published.{GavePublished};
+ghost use Rattle.pbf_published.specs.Published.{GavePublished};
 
 use crate::input::{PublishedHalt, PublishedReceipt, close, halted, open, same_digest};
 use osm_entity::BoundingBox;
 use pbf_frame::{Drain, Feed};
+use pbf_unpack::Inflater;
 use std::alloc::Global;
 use std::hash::BuildHasher;
 
@@ -42,9 +43,9 @@ pub fn extract_with_receipt<F: Feed, G: Feed, H: Feed, D: Drain, S: BuildHasher 
         (λ written. b ≡ c → b ≡ d → IsExtraction (complete_ways area) (extract (seen_decoded area))
         area b receipt.counts written))))) }
 {
-    let mut one = open(alloc, &mut *first)?;
-    let mut two = open(alloc, &mut *second)?;
-    let mut three = open(alloc, &mut *third)?;
+    let mut one = open(alloc, Inflater::new(alloc)?, &mut *first);
+    let mut two = open(alloc, Inflater::new(alloc)?, &mut *second);
+    let mut three = open(alloc, Inflater::new(alloc)?, &mut *third);
     let outcome = pbfcut::extract_with_receipt(
         alloc, &mut one, &mut two, &mut three, area, drain, hasher,
     );
