@@ -1,12 +1,11 @@
 -- A raw file without a fault means itself.
-use Rattle.std.proofs.Common.{◌≡◌, ℕ, ◌+◌, ◌<◌, ◌≤◌, ◌^◌, ◌==◌, ◌&&◌, ◌||◌, nat_lt, Bool, true, false, cond, List, [], ◌∷◌, ◌++◌, length, take, drop, Option, Some, None, Result, Ok, Err, refl, sym, ap, ◌∙◌, subst, append_assoc, length-append, arith}
-use Rattle.std.specs.Prelude.{is_none, is_ok, unwrap_or}
+use Rattle.std.proofs.Common.{◌≡◌, ℕ, ◌+◌, ◌≤◌, ◌^◌, ◌&&◌, ◌||◌, nat_lt, Bool, true, false, cond, List, [], ◌∷◌, ◌++◌, length, drop, Option, Some, None, Result, Ok, refl, sym, ap, ◌∙◌, subst, append_assoc, arith}
+use Rattle.std.specs.Prelude.{is_none, is_ok}
 use Rattle.std.proofs.lemmas.Bool.Decides.{nat_tests}
 use Rattle.std.proofs.lemmas.List.{append-nil, take_at, drop_at}
-use Rattle.byteorder.specs.Endian.{big_number}
 use Rattle.pbf_wire.specs.declared.fault.Fault.{Fault}
 use Rattle.pbf_wire.specs.declared.fault.Reason.{Reason}
-use Rattle.pbf_wire.specs.declared.fault.Reason.TheVariants.{SecondHeader, DataFirst, FileLong}
+use Rattle.pbf_wire.specs.declared.fault.Reason.TheVariants.{SecondHeader, FileLong}
 use Rattle.pbf_wire.specs.Faults.{fault_where}
 use Rattle.pbf_wire.specs.Least.{least}
 use Rattle.pbf_wire.specs.Occurrence.{Occurrence, items, found}
@@ -18,8 +17,8 @@ use Rattle.pbf_frame.specs.declared.frame.FrameKind.TheVariants as kind
 use Rattle.pbf_frame.specs.declared.header.Head.{Head}
 use Rattle.pbf_frame.specs.Blob.{blob_fault, blob_faults, raw_faults}
 use Rattle.pbf_frame.specs.Frames.{FrameSpec, is_header, header_at, blob_at, frame_end, frame_kind, frame_bytes, frame_at, order_faults, next_of}
-use Rattle.pbf_frame.specs.Header.{head_says, header_faults, size_of}
-use Rattle.pbf_frame.specs.Sound.{IsSound, IsFrame, AreFrames, EndsAs, IsLongestFront, had_after, place_after}
+use Rattle.pbf_frame.specs.Header.{head_says}
+use Rattle.pbf_frame.specs.Sound.{IsSound, IsFrame, AreFrames, EndsAs, had_after, place_after}
 use Rattle.pbf_frame.specs.Steps.{head_of}
 use Rattle.pbf_frame.specs.Verdict.{joined_frames, judged}
 use Rattle.pbf_frame.proofs.BlobLemmas.{least_none, earlier_none, blob_steps}

@@ -1,7 +1,6 @@
 -- What was supplied, once nothing is left.
-use Rattle.std.proofs.Common.{◌≡◌, ◌==◌, true, ℕ, List, [], ◌∷◌, ◌++◌, length, Option, Some, None, refl, sym, ap, ◌∙◌, arith}
+use Rattle.std.proofs.Common.{◌≡◌, ◌==◌, true, ℕ, List, [], ◌∷◌, ◌++◌, length, None, refl, sym, ap, ◌∙◌, arith}
 use Rattle.std.proofs.lemmas.List.{append-nil}
-use Rattle.pbf_unpack.specs.declared.fault.UnpackFault.{UnpackFault}
 use Rattle.pbf_unpack.specs.declared.feed.State.{State}
 use Rattle.pbf_unpack.specs.declared.feed.State.TheVariants.{Reading, PassingOn, Ended, Stopped}
 use Rattle.pbf_unpack.specs.declared.feed.UnpackedFeed.{UnpackedFeed}

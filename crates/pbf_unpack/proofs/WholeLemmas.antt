@@ -1,7 +1,7 @@
 -- Frames put together from the parts that were read.
-use Rattle.std.proofs.Common.{◌≡◌, ℕ, ◌+◌, ◌<◌, ◌≤◌, ◌^◌, ◌==◌, nat_lt, nat_le, Bool, true, false, List, [], ◌++◌, length, take, drop, Option, Some, None, Result, Ok, Err, refl, sym, ap, ◌∙◌, subst, append_assoc, length-append, arith}
+use Rattle.std.proofs.Common.{◌≡◌, ℕ, ◌+◌, ◌<◌, ◌≤◌, ◌^◌, ◌==◌, nat_lt, true, false, List, [], ◌++◌, length, take, drop, Option, Result, Err, refl, sym, ap, ◌∙◌, subst, append_assoc, length-append, arith}
 use Rattle.std.specs.Prelude.{is_ok}
-use Rattle.std.proofs.lemmas.List.{append-nil, take_at, drop_at, take_all, drop_all, drop_more}
+use Rattle.std.proofs.lemmas.List.{append-nil, take_at, drop_at, take_all}
 use Rattle.std.proofs.lemmas.Bool.Decides.{nat_tests}
 use Rattle.byteorder.specs.Endian.{big_number}
 use Rattle.pbf_wire.specs.declared.fault.Fault.{Fault}
@@ -9,7 +9,7 @@ use Rattle.pbf_frame.specs.declared.frame.FrameKind.{FrameKind}
 use Rattle.pbf_frame.specs.declared.header.Head.{Head}
 use Rattle.pbf_frame.specs.declared.header.TheConstants.{HEADER_LIMIT}
 use Rattle.pbf_frame.specs.Devices.{prepend, Passes, IsAtEnd}
-use Rattle.pbf_frame.specs.Frames.{FrameSpec, header_at, blob_at, frame_end, frame_kind, frame_bytes, frame_at}
+use Rattle.pbf_frame.specs.Frames.{FrameSpec, blob_at, frame_end, frame_kind, frame_bytes, frame_at}
 use Rattle.pbf_frame.specs.Header.{head_says}
 use Rattle.pbf_frame.specs.Steps.{head_of}
 use Rattle.pbf_frame.proofs.FrameLemmas.{head_parts}
@@ -58,10 +58,13 @@ module _ (place : ℕ) (read : List ℕ) (left : Option (List ℕ)) where
       (unfit place read (without_prefix f is), ended)
 
 pub long_header : (place : ℕ) (read : List ℕ) → length read ≡ 4 → HEADER_LIMIT ≤ big_number 4 read → IsUnfit place read
-long_header place read four long = (omega (arith, four), λ rest.
-    let f = from_prefix place read rest in
-    let is : is_whole f ≡ false = with_long_header f (grind (arith, nat_tests, four)) (grind (arith, nat_tests, long)) in
-    unfit place (read ++ rest) (ap is_whole (at_prefix place read rest four) ∙ is))
+long_header place read four long = (
+  omega (arith, four),
+  λ rest.
+      let f = from_prefix place read rest in
+      let is : is_whole f ≡ false = with_long_header f (grind (arith, nat_tests, four)) (grind (arith, nat_tests, long)) in
+      unfit place (read ++ rest) (ap is_whole (at_prefix place read rest four) ∙ is),
+)
 
 pub cut_header : (place : ℕ) (prefix header : List ℕ) (left : Option (List ℕ)) → length prefix ≡ 4 → big_number 4 prefix < HEADER_LIMIT → length header < big_number 4 prefix → IsAtEnd left → IsCut place (prefix ++ header) left
 cut_header place prefix header left four small short ended =
@@ -72,12 +75,15 @@ cut_header place prefix header left four small short ended =
     (unfit place (prefix ++ header) (ap is_whole (at_prefix place prefix header four) ∙ is), ended)
 
 pub no_head : (place : ℕ) (prefix header : List ℕ) (e : Fault) → length prefix ≡ 4 → length header ≡ big_number 4 prefix → head_of (place + 4) header ≡ Err e → IsUnfit place (prefix ++ header)
-no_head place prefix header e four counted says = (omega (arith, four, length-append prefix header), λ rest.
-    let f : FrameSpec = record { offset = place; prefix = prefix; header = header; blob = take (head_says (place + 4) header).size rest } in
-    let is : is_whole f ≡ false = without_head f (ap (λ (r : Result Head Fault). is_ok r) says) in
-    ap (unpacked_from place) (append_assoc prefix header rest)
-    ∙ unfit place (prefix ++ (header ++ rest)) (ap is_whole (at_header place prefix header rest four counted) ∙ is)
-    ∙ ap as_they_stand (sym (append_assoc prefix header rest)))
+no_head place prefix header e four counted says = (
+  omega (arith, four, length-append prefix header),
+  λ rest.
+      let f : FrameSpec = record { offset = place; prefix = prefix; header = header; blob = take (head_says (place + 4) header).size rest } in
+      let is : is_whole f ≡ false = without_head f (ap (λ (r : Result Head Fault). is_ok r) says) in
+      ap (unpacked_from place) (append_assoc prefix header rest)
+      ∙ unfit place (prefix ++ (header ++ rest)) (ap is_whole (at_header place prefix header rest four counted) ∙ is)
+      ∙ ap as_they_stand (sym (append_assoc prefix header rest)),
+)
 
 -- ---- a header that says where its frame ends
 
@@ -101,12 +107,15 @@ module _ (place : ℕ) (read header : List ℕ) (head : Head) (has : HasHead pla
   long = ap (λ (l : List ℕ). length l) has.split ∙ length-append has.prefix header ∙ ap (λ (n : ℕ). n + length header) has.four
 
   pub ends_too_far : 2 ^ 62 < place + length read + head.size → IsUnfit place (read ++ [])
-  ends_too_far far = (omega (arith, long, length-append read []), λ rest.
-      let f = parts rest in
-      let is : is_whole f ≡ false = too_far f (grind (arith, nat_tests, far, long, size_is)) in
-      ap (λ (l : List ℕ). unpacked_from place (l ++ rest)) (append-nil read)
-      ∙ unfit place (read ++ rest) (ap is_whole (begins rest) ∙ is)
-      ∙ ap (λ (l : List ℕ). as_they_stand (l ++ rest)) (sym (append-nil read)))
+  ends_too_far far = (
+    omega (arith, long, length-append read []),
+    λ rest.
+        let f = parts rest in
+        let is : is_whole f ≡ false = too_far f (grind (arith, nat_tests, far, long, size_is)) in
+        ap (λ (l : List ℕ). unpacked_from place (l ++ rest)) (append-nil read)
+        ∙ unfit place (read ++ rest) (ap is_whole (begins rest) ∙ is)
+        ∙ ap (λ (l : List ℕ). as_they_stand (l ++ rest)) (sym (append-nil read)),
+  )
 
   pub cut_blob : (blob : List ℕ) (left : Option (List ℕ)) → length blob < head.size → IsAtEnd left → IsCut place (read ++ blob) left
   cut_blob blob left short ended =
@@ -126,7 +135,7 @@ module _ (place : ℕ) (read header : List ℕ) (head : Head) (has : HasHead pla
       let blob_place : blob_at f ≡ place + length read = omega (arith, long) in
       let end_is : frame_end f ≡ place + length read + head.size = omega (arith, long, sized) in
       let after : drop (length (frame_bytes f)) (read ++ (blob ++ rest)) ≡ rest =
-          ap (λ (l : List ℕ). drop (length l) (read ++ (blob ++ rest))) bytes_are ∙ ap (drop (length (read ++ blob))) (sym (append_assoc read blob rest)) ∙ drop_at (read ++ blob) rest (length (read ++ blob)) refl in
+      ap (λ (l : List ℕ). drop (length l) (read ++ (blob ++ rest))) bytes_are ∙ ap (drop (length (read ++ blob))) (sym (append_assoc read blob rest)) ∙ drop_at (read ++ blob) rest (length (read ++ blob)) refl in
       ap (unpacked_from place) (append_assoc read blob rest)
       ∙ whole_then place (read ++ (blob ++ rest)) (ap is_whole at ∙ whole)
       ∙ ap (λ (g : FrameSpec). joined (unpacked_frame (frame_kind g) (blob_at g) (frame_bytes g) g.blob) (unpacked_from (frame_end g) (drop (length (frame_bytes g)) (read ++ (blob ++ rest))))) at
@@ -139,7 +148,10 @@ module _ (place : ℕ) (read header : List ℕ) (head : Head) (has : HasHead pla
   -- the same, as the code has the numbers
   pub whole_means : (blob : List ℕ) → length blob ≡ head.size → (at end : ℕ) → at ≡ place + length read → end ≡ place + length read + head.size → end ≤ 2 ^ 62
       → (0 < length (read ++ blob)) × ((rest : List ℕ) → unpacked_from place ((read ++ blob) ++ rest) ≡ joined (unpacked_frame head.kind at (read ++ blob) blob) (unpacked_from end rest))
-  whole_means blob sized at end at_is end_is fits = (omega (arith, long, length-append read blob), λ rest.
-      whole_frame blob sized (omega (arith, end_is, fits)) rest
-      ∙ ap (λ (n : ℕ). joined (unpacked_frame head.kind n (read ++ blob) blob) (unpacked_from (place + length read + head.size) rest)) (sym at_is)
-      ∙ ap (λ (n : ℕ). joined (unpacked_frame head.kind at (read ++ blob) blob) (unpacked_from n rest)) (sym end_is))
+  whole_means blob sized at end at_is end_is fits = (
+    omega (arith, long, length-append read blob),
+    λ rest.
+        whole_frame blob sized (omega (arith, end_is, fits)) rest
+        ∙ ap (λ (n : ℕ). joined (unpacked_frame head.kind n (read ++ blob) blob) (unpacked_from (place + length read + head.size) rest)) (sym at_is)
+        ∙ ap (λ (n : ℕ). joined (unpacked_frame head.kind at (read ++ blob) blob) (unpacked_from n rest)) (sym end_is),
+  )

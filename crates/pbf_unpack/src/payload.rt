@@ -44,10 +44,12 @@ fn first_room(raw_size: Option<Field<'_>>, stream: usize) -> usize
     ensures { result < RAW_LIMIT }
 {
     let room = match raw_size {
-        Some(Field {
-            payload: Payload::Number(value),
-            ..
-        }) => value as usize,
+        Some(
+            Field {
+                payload: Payload::Number(value),
+                ..
+            },
+        ) => value as usize,
         _ => stream.saturating_mul(MOST_OF_A_BYTE),
     };
     room.min(RAW_LIMIT - 1)

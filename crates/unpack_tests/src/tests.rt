@@ -9,7 +9,8 @@ use std::test::Fail;
 use zlib::InflateFault;
 
 /// A header, and a data frame with three dense nodes at byte 29, by zlib 1.2.13 at levels 6 and 9. The zlib data of the second is at byte 46.
-const PACKED: [u8; 79] = *b"\x00\x00\x00\x0d\x0a\x09OSMHeader\x18\x0c\x10\x00\x1a\x08x\x9c\x03\x00\x00\x00\x00\x01\x00\x00\x00\x0b\x0a\x07OSMData\x18#\x10\x17\x1a\x1fx\xda\xe3b\xe2b\x10\x12\x14\xe2\xe7b\x16a\xe2pbfbf\xf1bfb`\x00\x00\x0dI\x01#";
+const PACKED: [u8; 79] =
+    *b"\x00\x00\x00\x0d\x0a\x09OSMHeader\x18\x0c\x10\x00\x1a\x08x\x9c\x03\x00\x00\x00\x00\x01\x00\x00\x00\x0b\x0a\x07OSMData\x18#\x10\x17\x1a\x1fx\xda\xe3b\xe2b\x10\x12\x14\xe2\xe7b\x16a\xe2pbfbf\xf1bfb`\x00\x00\x0dI\x01#";
 
 /// The same raw; the data frame is at byte 19, and its payload at byte 36.
 const RAW: [u8; 59] =
@@ -74,7 +75,12 @@ fn both_frames_are_unpacked(rt: HostRuntime) -> Result<(), Fail> {
 
 #[test]
 fn however_the_feed_cuts_them(rt: HostRuntime) -> Result<(), Fail> {
-    let run = run(rt.alloc(), Pieces::new(&PACKED, &[1, 3, 0, 2], None), 100, 0)?;
+    let run = run(
+        rt.alloc(),
+        Pieces::new(&PACKED, &[1, 3, 0, 2], None),
+        100,
+        0,
+    )?;
     assert!(rt; means(&run, &RAW, &[], None));
     Ok(())
 }

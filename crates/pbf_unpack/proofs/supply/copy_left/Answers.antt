@@ -1,4 +1,4 @@
-use Rattle.std.proofs.Common.{◌≡◌, ◌-◌, ◌++◌, ℕ, List, take, drop, length, sym, ap, ◌∙◌, arith, rules}
+use Rattle.std.proofs.Common.{◌≡◌, ◌-◌, take, length, ap, ◌∙◌, arith, rules}
 use Rattle.pbf_unpack.proofs.SupplyLemmas.{drop_past}
 use Rattle.pbf_unpack.proofs.supply.copy_left.Goals as goal
 

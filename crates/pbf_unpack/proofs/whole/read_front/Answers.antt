@@ -1,6 +1,5 @@
-use Rattle.std.proofs.Common.{◌≡◌, ℕ, ◌+◌, ◌<◌, ◌≤◌, ◌++◌, List, length, sym, ap, ◌∙◌, subst, arith, rules}
+use Rattle.std.proofs.Common.{◌≡◌, ℕ, ◌+◌, ◌++◌, List, length, sym, ap, ◌∙◌, subst, arith, rules}
 use Rattle.byteorder.specs.Endian.{big_number}
-use Rattle.pbf_frame.specs.declared.header.TheConstants.{HEADER_LIMIT}
 use Rattle.pbf_frame.specs.Steps.{head_of}
 use Rattle.pbf_unpack.specs.Whole.{IsUnfit, IsCut}
 use Rattle.pbf_unpack.proofs.WholeLemmas.{took_two, cut_prefix, long_header, cut_header, no_head}

@@ -1,6 +1,6 @@
-use Rattle.std.proofs.Common.{◌≡◌, ℕ, ◌+◌, ◌<◌, ◌≤◌, ◌^◌, ◌++◌, [], List, length, refl, sym, ap, ◌∙◌, subst, arith, rules}
+use Rattle.std.proofs.Common.{◌≡◌, ℕ, ◌+◌, ◌++◌, List, length, refl, sym, subst, arith}
 use Rattle.pbf_unpack.specs.declared.whole.Front.{Front}
-use Rattle.pbf_unpack.specs.Whole.{BeginsWith, IsUnfit, IsCut}
+use Rattle.pbf_unpack.specs.Whole.{BeginsWith, IsUnfit}
 use Rattle.pbf_unpack.proofs.WholeLemmas.{took_two, ends_too_far, cut_blob, whole_means}
 use Rattle.pbf_unpack.proofs.whole.read_whole.Goals as goal
 

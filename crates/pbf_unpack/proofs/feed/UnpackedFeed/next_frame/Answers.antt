@@ -1,4 +1,4 @@
-use Rattle.std.proofs.Common.{◌≡◌, ◌<◌, ◌++◌, ℕ, List, length, subst, sym, ◌∙◌, rules}
+use Rattle.std.proofs.Common.{◌<◌, ◌++◌, length, subst, sym, ◌∙◌, rules}
 use Rattle.pbf_unpack.specs.declared.feed.State.{State}
 use Rattle.pbf_unpack.specs.declared.whole.Found.{Found}
 use Rattle.pbf_unpack.specs.Supplying.{IsReady, left_in}
