@@ -32,7 +32,12 @@ struct Run {
 }
 
 /// Reads up to so many pieces of at most seven bytes, until there are no more, and asks where a byte comes from.
-fn run<F: Feed + Drop>(alloc: Global, feed: F, pieces: usize, offset: u64) -> Result<Run, Stop> {
+fn read_all<F: Feed + Drop>(
+    alloc: Global,
+    feed: F,
+    pieces: usize,
+    offset: u64,
+) -> Result<Run, Stop> {
     let mut feed = UnpackedFeed::new(alloc, Inflater::new(alloc)?, feed);
     let mut bytes = Vec::new(alloc);
     for _ in 0..pieces {
@@ -68,14 +73,14 @@ const fn at_data(reason: UnpackReason) -> Option<UnpackFault> {
 
 #[test]
 fn both_frames_are_unpacked(rt: HostRuntime) -> Result<(), Fail> {
-    let run = run(rt.alloc(), PACKED.as_slice(), 100, 0)?;
+    let run = read_all(rt.alloc(), PACKED.as_slice(), 100, 0)?;
     assert!(rt; means(&run, &RAW, &[], None));
     Ok(())
 }
 
 #[test]
 fn however_the_feed_cuts_them(rt: HostRuntime) -> Result<(), Fail> {
-    let run = run(
+    let run = read_all(
         rt.alloc(),
         Pieces::new(&PACKED, &[1, 3, 0, 2], None),
         100,
@@ -87,14 +92,14 @@ fn however_the_feed_cuts_them(rt: HostRuntime) -> Result<(), Fail> {
 
 #[test]
 fn raw_frames_stand_as_they_are(rt: HostRuntime) -> Result<(), Fail> {
-    let run = run(rt.alloc(), RAW.as_slice(), 100, 0)?;
+    let run = read_all(rt.alloc(), RAW.as_slice(), 100, 0)?;
     assert!(rt; means(&run, &RAW, &[], None));
     Ok(())
 }
 
 #[test]
 fn a_file_that_is_cut(rt: HostRuntime) -> Result<(), Fail> {
-    let run = run(rt.alloc(), &PACKED[..78], 100, 0)?;
+    let run = read_all(rt.alloc(), &PACKED[..78], 100, 0)?;
     assert!(rt; means(&run, &RAW[..RAW_HEADER], &PACKED[PACKED_HEADER..78], None));
     Ok(())
 }
@@ -102,7 +107,7 @@ fn a_file_that_is_cut(rt: HostRuntime) -> Result<(), Fail> {
 #[test]
 fn what_is_no_pbf_file_is_passed_on(rt: HostRuntime) -> Result<(), Fail> {
     let text = b"<?xml version='1.0' encoding='UTF-8'?>".as_slice();
-    let run = run(rt.alloc(), text, 100, 0)?;
+    let run = read_all(rt.alloc(), text, 100, 0)?;
     assert!(rt; means(&run, text, &[], None));
     Ok(())
 }
@@ -111,7 +116,7 @@ fn what_is_no_pbf_file_is_passed_on(rt: HostRuntime) -> Result<(), Fail> {
 fn a_wrong_checksum(rt: HostRuntime) -> Result<(), Fail> {
     let mut file = PACKED;
     file[78] = 0x24;
-    let run = run(rt.alloc(), file.as_slice(), 100, 0)?;
+    let run = read_all(rt.alloc(), file.as_slice(), 100, 0)?;
     let fault = at_data(UnpackReason::Inflate(InflateFault::Checksum));
     assert!(rt; means(&run, &RAW[..RAW_HEADER], &file[PACKED_HEADER..], fault));
     Ok(())
@@ -121,7 +126,7 @@ fn a_wrong_checksum(rt: HostRuntime) -> Result<(), Fail> {
 fn a_raw_size_that_is_not_the_length(rt: HostRuntime) -> Result<(), Fail> {
     let mut file = PACKED;
     file[45] = 0x18;
-    let run = run(rt.alloc(), file.as_slice(), 100, 0)?;
+    let run = read_all(rt.alloc(), file.as_slice(), 100, 0)?;
     let fault = at_data(UnpackReason::RawSize);
     assert!(rt; means(&run, &RAW[..RAW_HEADER], &file[PACKED_HEADER..], fault));
     Ok(())
@@ -132,7 +137,7 @@ fn a_raw_size_that_is_too_small_for_a_fault(rt: HostRuntime) -> Result<(), Fail>
     let mut file = PACKED;
     file[45] = 0;
     file[78] = 0x24;
-    let run = run(rt.alloc(), file.as_slice(), 100, 0)?;
+    let run = read_all(rt.alloc(), file.as_slice(), 100, 0)?;
     let fault = at_data(UnpackReason::Inflate(InflateFault::Checksum));
     assert!(rt; means(&run, &RAW[..RAW_HEADER], &file[PACKED_HEADER..], fault));
     Ok(())
@@ -143,14 +148,14 @@ fn other_compressed_data(rt: HostRuntime) -> Result<(), Fail> {
     let mut file = PACKED;
     // The field lzma_data in place of zlib_data.
     file[46] = 0x22;
-    let run = run(rt.alloc(), file.as_slice(), 100, 0)?;
+    let run = read_all(rt.alloc(), file.as_slice(), 100, 0)?;
     assert!(rt; means(&run, &RAW[..RAW_HEADER], &file[PACKED_HEADER..], None));
     Ok(())
 }
 
 #[test]
 fn a_read_that_fails(rt: HostRuntime) -> Result<(), Fail> {
-    let run = run(rt.alloc(), Pieces::new(&PACKED, &[0], Some(3)), 100, 0)?;
+    let run = read_all(rt.alloc(), Pieces::new(&PACKED, &[0], Some(3)), 100, 0)?;
     assert!(rt; run.bytes.as_slice() == &RAW[..RAW_HEADER]);
     assert!(rt; run.stop == Some(Stop::Read) && !run.all);
     Ok(())
@@ -159,14 +164,14 @@ fn a_read_that_fails(rt: HostRuntime) -> Result<(), Fail> {
 #[test]
 fn a_byte_of_a_payload(rt: HostRuntime) -> Result<(), Fail> {
     // Four pieces are of the header, and then some of the data frame.
-    let run = run(rt.alloc(), PACKED.as_slice(), 8, 41)?;
+    let run = read_all(rt.alloc(), PACKED.as_slice(), 8, 41)?;
     assert!(rt; run.place == Place::InPayload(29, 5) && !run.all);
     Ok(())
 }
 
 #[test]
 fn a_frame_that_was_rewritten(rt: HostRuntime) -> Result<(), Fail> {
-    let run = run(rt.alloc(), PACKED.as_slice(), 8, 19)?;
+    let run = read_all(rt.alloc(), PACKED.as_slice(), 8, 19)?;
     assert!(rt; run.place == Place::Byte(29));
     Ok(())
 }
@@ -176,14 +181,14 @@ fn a_byte_of_a_frame_that_stands(rt: HostRuntime) -> Result<(), Fail> {
     let mut file = PACKED;
     file[78] = 0x24;
     // The tag of the zlib data, as the raw file has it.
-    let run = run(rt.alloc(), file.as_slice(), 8, 36)?;
+    let run = read_all(rt.alloc(), file.as_slice(), 8, 36)?;
     assert!(rt; run.place == Place::Byte(46));
     Ok(())
 }
 
 #[test]
 fn the_end_of_the_file(rt: HostRuntime) -> Result<(), Fail> {
-    let run = run(rt.alloc(), PACKED.as_slice(), 100, 59)?;
+    let run = read_all(rt.alloc(), PACKED.as_slice(), 100, 59)?;
     assert!(rt; run.place == Place::Byte(79));
     Ok(())
 }
