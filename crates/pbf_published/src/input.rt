@@ -11,17 +11,15 @@ use pbf_pass::{Halt, HashedFeed};
 use pbf_unpack::{Inflater, Place, UnpackFault, UnpackedFeed};
 use std::alloc::{AllocError, Global};
 
-/// What a call that writes reports: how many entities, and the SHA-256 digests of what went through its devices.
+/// What a call that reads reports: how many entities, and the SHA-256 digests of its input.
 #[derive(Clone, Copy, Debug)]
-pub struct PublishedReceipt {
+pub struct PublishedInput {
     /// The numbers of the entities.
     pub counts: Counts,
-    /// The digest of the packed bytes that each of the feeds gave.
+    /// The digest of the packed bytes that the feed gave.
     pub input: [u8; 32],
     /// The digest of the raw file that they mean.
     pub raw: [u8; 32],
-    /// The digest of the bytes that the drain took.
-    pub output: [u8; 32],
 }
 
 /// Why a call over published files stopped before its end.
@@ -52,7 +50,7 @@ impl From<AllocError> for PublishedHalt {
 }
 
 /// A published file from its start.
-pub(crate) fn open<F: Feed>(
+pub fn open<F: Feed>(
     alloc: Global,
     inflater: Inflater,
     feed: F,
@@ -66,7 +64,7 @@ pub(crate) fn open<F: Feed>(
 }
 
 /// The digest of the packed bytes that were read, if all that they mean was supplied, and the feed below.
-pub(crate) fn close<F: Feed>(
+pub fn close<F: Feed>(
     feed: UnpackedFeed<HashedFeed<F>>,
 ) -> (Option<[u8; 32]>, F)
     ensures supplied { (raw : List ℕ)
@@ -80,53 +78,19 @@ pub(crate) fn close<F: Feed>(
     (if all { Some(digest) } else { None }, hashed.into_inner())
 }
 
-/// The digest that three inputs share. It has to be there; if a later one is another, the input has changed.
-pub(crate) fn same_digest(
-    one: Option<[u8; 32]>,
-    two: Option<[u8; 32]>,
-    three: Option<[u8; 32]>,
-) -> Result<[u8; 32], Stop>
-    ensures first { IfOk result (λ digest. one ≡ Some digest) }
-    ensures second { IfOk result (λ digest. two ≡ Some digest) }
-    ensures third { IfOk result (λ digest. three ≡ Some digest) }
-{
-    let Some(digest) = one else {
-        return Err(Stop::Read);
-    };
-    if two != Some(digest) {
-        return Err(Stop::Changed(2));
-    }
-    if three != Some(digest) {
-        return Err(Stop::Changed(3));
-    }
-    Ok(digest)
-}
-
-/// Whether one of the feeds failed for want of memory.
-fn wants_memory(first: Option<Stop>, second: Option<Stop>, third: Option<Stop>) -> bool {
-    first == Some(Stop::Memory) || second == Some(Stop::Memory) || third == Some(Stop::Memory)
-}
-
-/// What a halt of a call over raw files says of the published ones.
-pub(crate) fn halted<F: Feed>(
-    halt: Halt,
-    one: &UnpackedFeed<HashedFeed<F>>,
-    two: Option<Stop>,
-    three: Option<Stop>,
-) -> PublishedHalt {
+/// What a halt of a call over raw files says of the published one.
+pub fn halted<F: Feed>(halt: Halt, input: &UnpackedFeed<HashedFeed<F>>) -> PublishedHalt {
     let stop = Stop::from(halt);
     let place = match stop {
-        Stop::Refused(fault) => Some(one.place_of(fault.offset)),
+        Stop::Refused(fault) => Some(input.place_of(fault.offset)),
         _ => None,
     };
-    let stop = if stop == Stop::Read && wants_memory(one.stop(), two, three) {
-        Stop::Memory
-    } else {
-        stop
-    };
     PublishedHalt {
-        stop,
+        stop: match (stop, input.stop()) {
+            (Stop::Read, Some(why)) => why,
+            _ => stop,
+        },
         place,
-        fault: one.fault(),
+        fault: input.fault(),
     }
 }

@@ -1,9 +1,9 @@
-//! The calls of pbfcut over published files, whose blobs are zlib streams: what they promise of a raw file holds of the raw file that a
+//! A published file, whose blobs are zlib streams: what a call promises of the raw file that a feed gave holds of the raw file that the
 //! published one means, and no raw file is written.
 #![tactic(auto)]
 
-mod extracting;
+mod checking;
 mod input;
 
-pub use extracting::extract_with_receipt;
-pub use input::{PublishedHalt, PublishedReceipt};
+pub use checking::check_with_receipt;
+pub use input::{PublishedHalt, PublishedInput, close, halted, open};
