@@ -25,7 +25,10 @@ pub fn check_with_receipt<F: Feed>(
     let outcome = pbf_pass::check_with_receipt(alloc, &mut input);
     let receipt = match outcome {
         Ok(receipt) => receipt,
-        Err(halt) => return Err(halted(halt, &input)),
+        Err(halt) => {
+            let why = input.stop();
+            return Err(halted(halt, &input, why));
+        }
     };
     let (digest, _feed) = close(input);
     let Some(digest) = digest else {

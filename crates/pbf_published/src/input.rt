@@ -22,6 +22,19 @@ pub struct PublishedInput {
     pub raw: [u8; 32],
 }
 
+/// What a call that writes reports: how many entities, and the SHA-256 digests of what went through its devices.
+#[derive(Clone, Copy, Debug)]
+pub struct PublishedReceipt {
+    /// The numbers of the entities.
+    pub counts: Counts,
+    /// The digest of the packed bytes that each of the feeds gave.
+    pub input: [u8; 32],
+    /// The digest of the raw file that they mean.
+    pub raw: [u8; 32],
+    /// The digest of the bytes that the drain took.
+    pub output: [u8; 32],
+}
+
 /// Why a call over published files stopped before its end.
 #[derive(Clone, Copy, Debug)]
 pub struct PublishedHalt {
@@ -78,15 +91,41 @@ pub fn close<F: Feed>(
     (if all { Some(digest) } else { None }, hashed.into_inner())
 }
 
-/// What a halt of a call over raw files says of the published one.
-pub fn halted<F: Feed>(halt: Halt, input: &UnpackedFeed<HashedFeed<F>>) -> PublishedHalt {
+/// The digest that three inputs share, if each has it. `Changed` names the first that has another.
+pub fn same_digest(
+    one: Option<[u8; 32]>,
+    two: Option<[u8; 32]>,
+    three: Option<[u8; 32]>,
+) -> Result<[u8; 32], Stop>
+    ensures first { IfOk result (λ digest. one ≡ Some digest) }
+    ensures second { IfOk result (λ digest. two ≡ Some digest) }
+    ensures third { IfOk result (λ digest. three ≡ Some digest) }
+{
+    let Some(digest) = one else {
+        return Err(Stop::Read);
+    };
+    if two != Some(digest) {
+        return Err(Stop::Changed(2));
+    }
+    if three != Some(digest) {
+        return Err(Stop::Changed(3));
+    }
+    Ok(digest)
+}
+
+/// What a halt of a call over raw files says of published ones: the first of them, and why reading failed.
+pub fn halted<F: Feed>(
+    halt: Halt,
+    input: &UnpackedFeed<HashedFeed<F>>,
+    why: Option<Stop>,
+) -> PublishedHalt {
     let stop = Stop::from(halt);
     let place = match stop {
         Stop::Refused(fault) => Some(input.place_of(fault.offset)),
         _ => None,
     };
     PublishedHalt {
-        stop: match (stop, input.stop()) {
+        stop: match (stop, why) {
             (Stop::Read, Some(why)) => why,
             _ => stop,
         },

@@ -3,7 +3,11 @@
 #![tactic(auto)]
 
 mod checking;
+mod extracting;
 mod input;
 
 pub use checking::check_with_receipt;
-pub use input::{PublishedHalt, PublishedInput, close, halted, open};
+pub use extracting::extract_with_receipt;
+pub use input::{
+    PublishedHalt, PublishedInput, PublishedReceipt, close, halted, open, same_digest,
+};
