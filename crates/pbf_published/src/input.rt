@@ -63,11 +63,7 @@ impl From<AllocError> for PublishedHalt {
 }
 
 /// A published file from its start.
-pub fn open<F: Feed>(
-    alloc: Global,
-    inflater: Inflater,
-    feed: F,
-) -> UnpackedFeed<HashedFeed<F>>
+pub fn open<F: Feed>(alloc: Global, inflater: Inflater, feed: F) -> UnpackedFeed<HashedFeed<F>>
     ensures remaining { ⟦<UnpackedFeed<HashedFeed<F>> as Feed>⟧.remaining result
         ≡ option_map unpacked (F.remaining feed) }
     ensures supplied { ⟦<UnpackedFeed<HashedFeed<F>> as Feed>⟧.has_passed result 0 [] }
@@ -77,9 +73,7 @@ pub fn open<F: Feed>(
 }
 
 /// The digest of the packed bytes that were read, if all that they mean was supplied, and the feed below.
-pub fn close<F: Feed>(
-    feed: UnpackedFeed<HashedFeed<F>>,
-) -> (Option<[u8; 32]>, F)
+pub fn close<F: Feed>(feed: UnpackedFeed<HashedFeed<F>>) -> (Option<[u8; 32]>, F)
     ensures supplied { (raw : List ℕ)
         → ⟦<UnpackedFeed<HashedFeed<F>> as Feed>⟧.has_passed feed 0 raw
         → MeansIfSome result.0 raw }
