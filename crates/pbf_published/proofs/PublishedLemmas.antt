@@ -1,5 +1,5 @@
 -- What a feed gave, unpacked, is the raw file that packed bytes mean.
-use Rattle.std.proofs.Common.{◌≡◌, ℕ, zero, List, [], ◌++◌, Option, Some, None, refl, sym, ap, ◌∙◌, subst}
+use Rattle.std.proofs.Common.{◌≡◌, ℕ, zero, List, [], Option, Some, sym, ap, ◌∙◌, subst}
 use Rattle.std.specs.Option.{option_map}
 use Rattle.sha2.specs.Sha256.{sha256}
 use Rattle.pbf_frame.specs.declared.device.Feed as feed

@@ -1,4 +1,3 @@
-use Rattle.std.proofs.Common.{List, ℕ}
 use Rattle.pbf_published.proofs.PublishedLemmas.{published_of, means_some}
 use Rattle.pbf_published.proofs.extracting.extract_with_receipt.Goals as goal
 
