@@ -16,22 +16,22 @@ use pbf_wire::{
 };
 
 // The fields of a Blob.
-pub(crate) const RAW: u64 = 1;
+pub const RAW: u64 = 1;
 
-pub(crate) const RAW_SIZE: u64 = 2;
+pub const RAW_SIZE: u64 = 2;
 
-pub(crate) const ZLIB_DATA: u64 = 3;
+pub const ZLIB_DATA: u64 = 3;
 
-pub(crate) const LZMA_DATA: u64 = 4;
+pub const LZMA_DATA: u64 = 4;
 
-pub(crate) const BZIP2_DATA: u64 = 5;
+pub const BZIP2_DATA: u64 = 5;
 
-pub(crate) const LZ4_DATA: u64 = 6;
+pub const LZ4_DATA: u64 = 6;
 
-pub(crate) const ZSTD_DATA: u64 = 7;
+pub const ZSTD_DATA: u64 = 7;
 
 /// How the fields of a Blob are stored.
-pub(crate) const BLOB_KINDS: [(u64, Kind); 7] = [
+pub const BLOB_KINDS: [(u64, Kind); 7] = [
     (RAW, Kind::Bytes),
     (RAW_SIZE, Kind::Number),
     (ZLIB_DATA, Kind::Bytes),
@@ -42,7 +42,7 @@ pub(crate) const BLOB_KINDS: [(u64, Kind); 7] = [
 ];
 
 /// The length from which on raw data is refused: 32 MiB.
-pub(crate) const RAW_LIMIT: usize = 33_554_432;
+pub const RAW_LIMIT: usize = 33_554_432;
 
 /// Why data under this field number is not read.
 fn compression_of(number: u64) -> Option<Reason>

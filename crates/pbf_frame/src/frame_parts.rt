@@ -31,8 +31,9 @@ fn refused(offset: u64, reason: Reason) -> Stop
     Stop::Refused(Fault { offset, reason })
 }
 
-// Makes the vector the next bytes of the feed, this many, or fewer only at the end of the feed.
-fn fill_vec<F: Feed>(feed: &mut F, buf: &mut Vec<u8>, count: usize) -> Result<(), Stop>
+/// Makes the vector the next bytes of the feed, this many, or fewer only at the end of the feed. `Read` says that a read failed, and
+/// `Memory` that the vector could not grow.
+pub fn fill_vec<F: Feed>(feed: &mut F, buf: &mut Vec<u8>, count: usize) -> Result<(), Stop>
     ensures reads { OnOk result
         (Reads (F.remaining feed.old) (F.remaining feed.new) count buf.new.items) }
     ensures bytes { OnOk result (F.remaining feed.old

@@ -32,16 +32,17 @@ pub(crate) const HEADER_KINDS: [(u64, Kind); 3] = [
 ];
 
 /// The length from which on a BlobHeader is refused.
-pub(crate) const HEADER_LIMIT: u32 = 65_536;
+pub const HEADER_LIMIT: u32 = 65_536;
 
 /// The largest `datasize`: the longest raw data, with room for its tag, its length and `raw_size`.
-pub(crate) const LARGEST_SIZE: u32 = 33_555_455;
+pub const LARGEST_SIZE: u32 = 33_555_455;
 
 /// What a BlobHeader says of its frame.
 #[derive(Clone, Copy, PartialEq, Eq)]
-pub(crate) struct Head {
-    pub(crate) kind: FrameKind,
-    pub(crate) size: u32,
+pub struct Head {
+    pub kind: FrameKind,
+    /// `datasize`: the length of the blob.
+    pub size: u32,
 }
 
 /// The text of a field, and no bytes where it is absent.
@@ -131,7 +132,7 @@ fn judge_fields(header: Message<'_>) -> Option<Fault>
 
 /// What a header says of its frame, or its first fault. Its first byte stands at `at` in the file.
 #[tactic(auto, unfolding(crate::specs::Steps::head_of))]
-pub(crate) fn read_head(header: &[u8], at: u64) -> Result<Head, Fault>
+pub fn read_head(header: &[u8], at: u64) -> Result<Head, Fault>
     requires { at + length header.now ≤ 2 ^ 63 }
     ensures exact { result ≡ head_of at header.now }
     ensures small { IfOk result (λ head. head.size ≤ LARGEST_SIZE) }

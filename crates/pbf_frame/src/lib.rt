@@ -14,10 +14,15 @@ mod std_device;
 mod stop;
 mod transfer;
 
+pub use blob::{
+    BLOB_KINDS, BZIP2_DATA, LZ4_DATA, LZMA_DATA, RAW, RAW_LIMIT, RAW_SIZE, ZLIB_DATA, ZSTD_DATA,
+};
 pub use device::{Drain, Feed};
 pub use frame::{Frame, FrameKind, frame_end};
+pub use frame_parts::fill_vec;
+pub use header::{HEADER_LIMIT, Head, LARGEST_SIZE, read_head};
 pub use memory::{Pieces, Sink};
-pub use put::put_frame;
+pub use put::{HEAD_ROOM, put_frame, put_head};
 pub use reader::FrameReader;
 pub use std_device::{FromRead, ToWrite};
 pub use stop::{DrainFault, FeedFault, Stop};

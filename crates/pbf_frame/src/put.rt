@@ -7,6 +7,7 @@ ghost use Rattle.pbf_frame.specs.Transfers.{Added};
 ghost use Rattle.pbf_frame.specs.Reads.{IsWriteStop};
 ghost use Rattle.pbf_frame.specs.Writing.{written_name, written_header, written_blob, written_frame};
 ghost use Rattle.pbf_frame.specs.declared.blob.TheConstants.{RAW_LIMIT};
+ghost use Rattle.pbf_frame.specs.declared.put.TheConstants.{HEAD_ROOM};
 ghost use Rattle.pbf_frame.specs.declared.frame.FrameKind.TheVariants as kinds;
 
 use crate::blob::{RAW, RAW_LIMIT};
@@ -17,6 +18,9 @@ use crate::stop::Stop;
 use crate::transfer::write_all;
 use byteorder::{BigEndian, ByteOrder};
 use pbf_wire::shortest_spelling;
+
+/// The room for all of a frame but its payload.
+pub const HEAD_ROOM: usize = 128;
 
 // Puts bytes after the first ones of the room, and reports how many there are then.
 fn put(room: &mut [u8], at: usize, bytes: &[u8]) -> usize
@@ -74,13 +78,13 @@ fn put_blob_head(room: &mut [u8], payload: usize) -> usize
     put_varint(room, end, payload as u64)
 }
 
-// All of a frame but its payload at the start of the room, and its length.
-fn put_head(room: &mut [u8], kind: FrameKind, payload: usize) -> usize
-    requires room { length room.old ≡ 128 }
+/// Puts all of a frame but its payload, of which this is the length, at the start of the room, and returns how many bytes that is.
+pub fn put_head(room: &mut [u8], kind: FrameKind, payload: usize) -> usize
+    requires room { length room.old ≡ HEAD_ROOM }
     requires short { payload < RAW_LIMIT }
     ensures head { (p : List ℕ) → length p ≡ payload
         → take result room.new ++ p ≡ written_frame kind p }
-    ensures end { result ≤ 128 }
+    ensures end { result ≤ HEAD_ROOM }
 {
     let mut blob = [0; 32];
     let blob_end = put_blob_head(&mut blob, payload);
@@ -103,7 +107,7 @@ pub fn put_frame<D: Drain>(drain: &mut D, kind: FrameKind, payload: &[u8]) -> Re
     ensures stops { IfErr result (IsWriteStop (D.failures drain.old) (D.failures drain.new)) }
     ensures lender { D.lender drain.new ≡ D.lender drain.old }
 {
-    let mut head = [0; 128];
+    let mut head = [0; HEAD_ROOM];
     let length = put_head(&mut head, kind, payload.len());
     write_all(drain, &head[..length])?;
     write_all(drain, payload)?;

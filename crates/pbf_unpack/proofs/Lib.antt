@@ -1,0 +1,6 @@
+pub mod UnpackedLemmas
+pub mod WholeLemmas
+pub mod PayloadLemmas
+pub mod SupplyLemmas
+pub mod ReportLemmas
+pub mod RawLemmas

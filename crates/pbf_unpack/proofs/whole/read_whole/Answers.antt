@@ -1,0 +1,55 @@
+use Rattle.std.proofs.Common.{◌≡◌, ℕ, ◌+◌, ◌++◌, List, length, refl, sym, subst, arith}
+use Rattle.pbf_unpack.specs.declared.whole.Front.{Front}
+use Rattle.pbf_unpack.specs.Whole.{BeginsWith, IsUnfit}
+use Rattle.pbf_unpack.proofs.WholeLemmas.{took_two, ends_too_far, cut_blob, whole_means}
+use Rattle.pbf_unpack.proofs.whole.read_whole.Goals as goal
+
+pub returns-then-end-clause-means : goal.returns-then-end-clause-means
+returns-then-end-clause-means g c =
+    let read = c.read_front.new.front in
+    let has = subst (λ (x : Front). BeginsWith c.args.place read.items c.read_front.new.header.items (g.F.Feed.remaining c.read_front.new.feed) x) c.in-Says.is c.in_ok-head.ensures.means in
+    subst (λ (l : List ℕ). IsUnfit c.args.place (read.items ++ l)) (sym c.clear.ensures.items)
+    (ends_too_far c.args.place read.items c.read_front.new.header.items c.in-Says.head has (omega (arith, c.if-end.true, c.len.ensures, c.from.ensures, read.ok.0)))
+
+pub returns-in_err-fill_vec-clause-blob_held : goal.returns-in_err-fill_vec-clause-blob_held
+returns-in_err-fill_vec-clause-blob_held g c =
+    let has = subst (λ (x : Front). BeginsWith c.args.place c.read_front.new.front.items c.read_front.new.header.items (g.F.Feed.remaining c.read_front.new.feed) x) c.in-Says.is c.in_ok-head.ensures.means in
+    omega (arith, has.within, c.fill_vec.ensures.held, c.clear.ensures.len)
+
+pub returns-then-len-head-clause-blob_held : goal.returns-then-len-head-clause-blob_held
+returns-then-len-head-clause-blob_held g c =
+    let has = subst (λ (x : Front). BeginsWith c.args.place c.read_front.new.front.items c.read_front.new.header.items (g.F.Feed.remaining c.read_front.new.feed) x) c.in-Says.is c.in_ok-head.ensures.means in
+    omega (arith, has.within, c.fill_vec.ensures.held, c.clear.ensures.len)
+
+pub returns-clause-blob_held : goal.returns-clause-blob_held
+returns-clause-blob_held g c =
+    let has = subst (λ (x : Front). BeginsWith c.args.place c.read_front.new.front.items c.read_front.new.header.items (g.F.Feed.remaining c.read_front.new.feed) x) c.in-Says.is c.in_ok-head.ensures.means in
+    omega (arith, has.within, c.fill_vec.ensures.held, c.clear.ensures.len)
+
+pub returns-then-len-head-clause-took : goal.returns-then-len-head-clause-took
+returns-then-len-head-clause-took g c =
+    let first = c.in_ok-head.ensures.took in
+    took_two (g.F.Feed.has_passed c.args.feed.now) (g.F.Feed.has_passed c.read_front.new.feed) (g.F.Feed.has_passed c.fill_vec.new.feed) (g.F.Feed.remaining c.args.feed.now) (g.F.Feed.remaining c.read_front.new.feed) (g.F.Feed.remaining c.fill_vec.new.feed) c.read_front.new.front.items c.fill_vec.new.buf.items (c.read_front.new.front.items ++ c.fill_vec.new.buf.items)
+    refl first.told first.logged c.in_ok-fill_vec.ensures.bytes c.in_ok-fill_vec.ensures.passed
+
+pub returns-clause-took : goal.returns-clause-took
+returns-clause-took g c =
+    let first = c.in_ok-head.ensures.took in
+    took_two (g.F.Feed.has_passed c.args.feed.now) (g.F.Feed.has_passed c.read_front.new.feed) (g.F.Feed.has_passed c.fill_vec.new.feed) (g.F.Feed.remaining c.args.feed.now) (g.F.Feed.remaining c.read_front.new.feed) (g.F.Feed.remaining c.fill_vec.new.feed) c.read_front.new.front.items c.fill_vec.new.buf.items (c.read_front.new.front.items ++ c.fill_vec.new.buf.items)
+    refl first.told first.logged c.in_ok-fill_vec.ensures.bytes c.in_ok-fill_vec.ensures.passed
+
+pub returns-then-len-head-clause-means : goal.returns-then-len-head-clause-means
+returns-then-len-head-clause-means g c =
+    let read = c.read_front.new.front in
+    let blob = c.fill_vec.new.buf in
+    let has = subst (λ (x : Front). BeginsWith c.args.place read.items c.read_front.new.header.items (g.F.Feed.remaining c.read_front.new.feed) x) c.in-Says.is c.in_ok-head.ensures.means in
+    cut_blob c.args.place read.items c.read_front.new.header.items c.in-Says.head has blob.items (g.F.Feed.remaining c.fill_vec.new.feed) (omega (arith, c.if-len-head.true, c.len-2.ensures, blob.ok.0)) (c.in_ok-fill_vec.ensures.end (omega (arith, c.if-len-head.true, c.len-2.ensures)))
+
+pub returns-clause-means : goal.returns-clause-means
+returns-clause-means g c =
+    let read = c.read_front.new.front in
+    let blob = c.fill_vec.new.buf in
+    let has = subst (λ (x : Front). BeginsWith c.args.place read.items c.read_front.new.header.items (g.F.Feed.remaining c.read_front.new.feed) x) c.in-Says.is c.in_ok-head.ensures.means in
+    let place : c.args.place + c.len.result ≡ c.args.place + length read.items = omega (arith, c.len.ensures, read.ok.0) in
+    let sized : length blob.items ≡ c.in-Says.head.size = omega (arith, c.if-len-head.false, c.len-2.ensures, blob.ok.0, c.in_ok-fill_vec.ensures.bound) in
+    whole_means c.args.place read.items c.read_front.new.header.items c.in-Says.head has blob.items sized _ _ place (omega (arith, c.from.ensures, place)) (omega (arith, c.if-end.false, c.from.ensures, place))

@@ -1,0 +1,25 @@
+-- What a feed of unpacked bytes says of itself.
+use Rattle.std.specs.Prelude.{◌≡◌, ℕ, ◌+◌, List, length, Option, Some, None}
+use Rattle.pbf_frame.specs.declared.stop.Stop.{Stop}
+use Rattle.pbf_unpack.specs.declared.fault.UnpackFault.{UnpackFault}
+use Rattle.pbf_unpack.specs.declared.feed.State.{State}
+use Rattle.pbf_unpack.specs.declared.feed.State.TheVariants.{Reading, PassingOn, Ended, Stopped}
+use Rattle.pbf_unpack.specs.declared.feed.UnpackedFeed.{UnpackedFeed}
+use Rattle.pbf_unpack.specs.Unpacked.{unpacked_from}
+
+-- why a feed failed
+abbrev pub stop_in : State → Option Stop
+stop_in (Stopped stop) = Some stop
+stop_in Reading = None
+stop_in PassingOn = None
+stop_in Ended = None
+
+-- packed bytes passed by this log of a feed; these are the raw file that they mean, and this is their first fault
+pub record GavePacked {F : Type 0} (has_passed : F → ℕ → List ℕ → Type 0) (feed : F) (log : ℕ) (raw : List ℕ) (fault : Option UnpackFault) : Type 0 where
+  pub packed : List ℕ
+  pub passed : has_passed feed log packed
+  pub means : unpacked_from 0 packed ≡ (raw, fault)
+
+-- the bytes held
+abbrev pub held_by : {F : Type 0} → UnpackedFeed F → ℕ
+held_by u = length u.buffers.front.items + length u.buffers.header.items + length u.buffers.packed.items + length u.buffers.raw.items

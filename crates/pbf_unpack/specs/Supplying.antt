@@ -1,0 +1,62 @@
+-- What a feed of unpacked bytes has supplied, and what it has still to supply.
+use Rattle.std.specs.Prelude.{◌≡◌, ℕ, ◌<◌, List, [], ◌++◌, length, drop, Option}
+use Rattle.std.specs.Option.{option_map}
+use Rattle.pbf_unpack.specs.declared.feed.State.{State}
+use Rattle.pbf_unpack.specs.declared.feed.State.TheVariants.{Reading, PassingOn, Ended, Stopped}
+use Rattle.pbf_unpack.specs.declared.feed.UnpackedFeed.{UnpackedFeed}
+use Rattle.pbf_unpack.specs.Unpacked.{Unpacked, joined, as_they_stand, unpacked_from}
+
+-- what the bytes that follow at this place mean: frames, or bytes as they stand, or nothing more
+abbrev pub more : State → ℕ → List ℕ → Unpacked
+more Reading place rest = unpacked_from place rest
+more PassingOn place rest = as_they_stand rest
+more Ended place rest = as_they_stand []
+more (Stopped stop) place rest = as_they_stand []
+
+-- nothing follows the end, and of what follows a failure nothing is said
+abbrev pub CanFollow : State → List ℕ → Type 0
+CanFollow Reading rest = Unit {0}
+CanFollow PassingOn rest = Unit {0}
+CanFollow Ended rest = rest ≡ []
+CanFollow (Stopped stop) rest = ⊥
+
+-- bytes that were read from one place up to another mean this, and then what those that follow mean
+abbrev pub Carries : (start : ℕ) → State → (place : ℕ) → List ℕ → Unpacked → Type 0
+Carries start state place read meaning = (rest : List ℕ) → CanFollow state rest → unpacked_from start (read ++ rest) ≡ joined meaning (more state place rest)
+
+-- the bytes in the buffers that are still to supply
+abbrev pub left_in : {F : Type 0} → UnpackedFeed F → List ℕ
+left_in u = drop u.done (u.buffers.front.items ++ u.buffers.raw.items)
+
+-- all bytes that are still to supply, where the feed below reports its own
+abbrev pub remaining_in : {F : Type 0} → (F → Option (List ℕ)) → UnpackedFeed F → Option (List ℕ)
+remaining_in remaining u = option_map (λ bytes. left_in u ++ (more u.state u.place bytes).0) (remaining u.feed)
+
+-- these bytes were supplied: by a log of the feed below packed bytes have passed, and they mean these bytes, those in the buffers, and then what
+-- those that follow mean; and the fault that is kept is the first of them
+pub record HasSupplied {F : Type 0} (has_passed : F → ℕ → List ℕ → Type 0) (u : UnpackedFeed F) (log : ℕ) (bytes : List ℕ) : Type 0 where
+  pub packed : List ℕ
+  pub passed : has_passed u.feed log packed
+  pub carries : Carries 0 u.state u.place packed (bytes ++ left_in u, u.fault)
+
+-- a feed that is still to supply the same, and has supplied the same
+pub record GoesOn {F : Type 0} (remaining : F → Option (List ℕ)) (has_passed : F → ℕ → List ℕ → Type 0) (old new : UnpackedFeed F) : Type 0 where
+  pub remaining_same : remaining_in remaining old ≡ remaining_in remaining new
+  pub supplied_same : (log : ℕ) (bytes : List ℕ) → HasSupplied has_passed old log bytes → HasSupplied has_passed new log bytes
+
+-- bytes are at hand, or the end was met
+abbrev pub IsReady : State → List ℕ → Type 0
+IsReady Reading left = 0 < length left
+IsReady PassingOn left = Unit {0}
+IsReady Ended left = Unit {0}
+IsReady (Stopped stop) left = ⊥
+
+-- but for where frames come from, a feed is the same
+pub record IsSameBut {F : Type 0} (old new : UnpackedFeed F) : Type 0 where
+  pub feed : new.feed ≡ old.feed
+  pub buffers : new.buffers ≡ old.buffers
+  pub done : new.done ≡ old.done
+  pub place : new.place ≡ old.place
+  pub state : new.state ≡ old.state
+  pub fault : new.fault ≡ old.fault
+  pub failures : new.failures ≡ old.failures

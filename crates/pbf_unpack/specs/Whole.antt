@@ -1,0 +1,52 @@
+-- What was read of a feed where a frame is to begin.
+use Rattle.std.specs.Prelude.{◌≡◌, ℕ, ◌+◌, ◌<◌, ◌≤◌, ◌^◌, List, ◌++◌, length, Option, Ok}
+use Rattle.byteorder.specs.Endian.{big_number}
+use Rattle.pbf_frame.specs.declared.header.Head.{Head}
+use Rattle.pbf_frame.specs.declared.header.TheConstants.{HEADER_LIMIT, LARGEST_SIZE}
+use Rattle.pbf_frame.specs.Devices.{prepend, Passes, IsAtEnd}
+use Rattle.pbf_frame.specs.Steps.{head_of}
+use Rattle.pbf_unpack.specs.declared.whole.Found.{Found}
+use Rattle.pbf_unpack.specs.declared.whole.Found.TheVariants as found
+use Rattle.pbf_unpack.specs.declared.whole.Front.{Front}
+use Rattle.pbf_unpack.specs.declared.whole.Front.TheVariants as front
+use Rattle.pbf_unpack.specs.Unpacked.{joined, as_they_stand, unpacked_frame, unpacked_from}
+
+-- these bytes were read
+pub record Took (read : List ℕ) (before now : ℕ → List ℕ → Type 0) (old new : Option (List ℕ)) : Type 0 where
+  pub told : old ≡ prepend read new
+  pub logged : Passes before read now
+
+-- they begin no whole frame, whatever follows
+abbrev pub IsUnfit : ℕ → List ℕ → Type 0
+IsUnfit place read = (0 < length read) × ((rest : List ℕ) → unpacked_from place (read ++ rest) ≡ as_they_stand (read ++ rest))
+
+-- they are all that there was, and no whole frame
+abbrev pub IsCut : ℕ → List ℕ → Option (List ℕ) → Type 0
+IsCut place read left = (unpacked_from place read ≡ as_they_stand read) × IsAtEnd left
+
+-- the four bytes and the header of a frame, which says this
+pub record HasHead (place : ℕ) (read header : List ℕ) (head : Head) : Type 0 where
+  pub prefix : List ℕ
+  pub split : read ≡ prefix ++ header
+  pub four : length prefix ≡ 4
+  pub small : big_number 4 prefix < HEADER_LIMIT
+  pub counted : length header ≡ big_number 4 prefix
+  pub says : head_of (place + 4) header ≡ Ok head
+  pub within : head.size ≤ LARGEST_SIZE
+
+abbrev pub BeginsWith : ℕ → (read header : List ℕ) → Option (List ℕ) → Front → Type 0
+BeginsWith place read header left (front.Says head) = HasHead place read header head
+BeginsWith place read header left front.Unfit = IsUnfit place read
+BeginsWith place read header left front.Cut = IsCut place read left
+
+-- these are a whole frame, whatever follows; or bytes that begin none; or all that there was
+abbrev pub Means : ℕ → (read blob : List ℕ) → Option (List ℕ) → Found → Type 0
+Means place read blob left (found.Whole w) = (0 < length read) × ((rest : List ℕ) → unpacked_from place (read ++ rest) ≡ joined (unpacked_frame w.kind w.blob_at read blob) (unpacked_from w.end rest))
+Means place read blob left found.Unfit = IsUnfit place read
+Means place read blob left found.Cut = IsCut place read left
+
+-- the blob and the frame end within the limit of a file
+abbrev pub IsPlaced : List ℕ → Found → Type 0
+IsPlaced blob (found.Whole w) = (w.end ≤ 2 ^ 62) × (w.blob_at + length blob ≤ 2 ^ 62)
+IsPlaced blob found.Unfit = Unit {0}
+IsPlaced blob found.Cut = Unit {0}

@@ -1,0 +1,58 @@
+//! The raw file that a packed one means, as a feed.
+
+ghost use Rattle.std.specs.Prelude.{◌≡◌, ◌+◌, ◌≤◌, ◌^◌, vec_len};
+
+use crate::buffers::Buffers;
+use crate::fault::UnpackFault;
+use pbf_frame::{Feed, Stop};
+use std::alloc::{AllocError, Global};
+use zlib::Inflater;
+
+/// How a feed goes on.
+#[derive(Clone, Copy, PartialEq, Eq)]
+pub(crate) enum State {
+    /// With the next frame.
+    Reading,
+    /// With bytes as they stand, since they begin no whole frame.
+    PassingOn,
+    /// With what is in the buffers, after which there is nothing.
+    Ended,
+    /// Not at all.
+    Stopped(Stop),
+}
+
+/// Where a frame comes from.
+#[derive(Clone, Copy, PartialEq, Eq)]
+pub(crate) struct Origin {
+    /// Where it begins in the packed file.
+    pub(crate) packed: u64,
+    /// Where it begins in the raw file.
+    pub(crate) raw: u64,
+    /// Where in the raw file its payload begins, if it was unpacked.
+    pub(crate) payload: Option<u64>,
+}
+
+/// Supplies the raw file that the file of the feed below means.
+///
+/// A frame whose blob holds zlib data and no other is supplied in written form, with its payload raw; every other frame, and what is no
+/// whole frame, as it stands. Also a frame whose zlib data has a fault: its reader refuses it as `Zlib`, and [`fault`](Self::fault) says
+/// why. It holds one frame as it was read and one as it is supplied.
+#[derive(Drop)]
+pub struct UnpackedFeed<F> {
+    pub(crate) feed: F,
+    pub(crate) inflater: Inflater,
+    pub(crate) buffers: Buffers,
+    // How many bytes of those in the buffers were supplied.
+    pub(crate) done: usize,
+    // Where in the packed file the frame in the buffers ends.
+    pub(crate) place: u64,
+    pub(crate) state: State,
+    // The first fault of zlib data.
+    pub(crate) fault: Option<UnpackFault>,
+    pub(crate) failures: u64,
+    // Of the frame in the buffers, and of the first one that is a header.
+    pub(crate) origin: Origin,
+    pub(crate) header: Option<Origin>,
+    ghost in_range: { place ≤ 2 ^ 62 },
+    ghost within: { done ≤ vec_len buffers.front + vec_len buffers.raw },
+}

@@ -1,0 +1,96 @@
+//! What a feed of unpacked bytes says of itself.
+
+ghost use Rattle.std.specs.Prelude.{◌≡◌, ◌+◌, ◌*◌, ◌≤◌, ℕ, List, [], None, true};
+ghost use Rattle.std.specs.Option.{option_map};
+ghost use Rattle.pbf_frame.specs.declared.header.TheConstants.{HEADER_LIMIT, LARGEST_SIZE};
+ghost use Rattle.pbf_unpack.specs.Reports.{stop_in, GavePacked, held_by};
+ghost use Rattle.pbf_unpack.specs.Supplying.{remaining_in, HasSupplied};
+ghost use Rattle.pbf_unpack.specs.Unpacked.{unpacked};
+
+use crate::buffers::Buffers;
+use crate::fault::UnpackFault;
+use crate::feed::{Origin, State, UnpackedFeed};
+use pbf_frame::{Feed, Stop};
+use std::alloc::Global;
+use zlib::Inflater;
+
+/// Where a byte of the raw file comes from.
+#[derive(Clone, Copy, Debug, PartialEq, Eq)]
+pub enum Place {
+    /// This byte of the packed file, or a frame that begins there and was rewritten.
+    Byte(u64),
+    /// Of the frame that begins at the first place in the packed file, this byte of the payload.
+    InPayload(u64, u64),
+}
+
+impl<F: Feed> UnpackedFeed<F> {
+    /// A feed over one at the start of a file. It takes no memory before the first frame.
+    pub fn new(alloc: Global, inflater: Inflater, feed: F) -> Self
+        ensures feed { result.feed ≡ feed }
+        ensures lender { F.lender result.feed ≡ F.lender feed }
+        ensures remaining { remaining_in F.remaining result
+            ≡ option_map unpacked (F.remaining feed) }
+        ensures supplied { (log : ℕ) → F.has_passed feed log []
+            → HasSupplied F.has_passed result log [] }
+        ensures fault { result.fault ≡ None }
+        ensures failures { result.failures ≡ 0 }
+    {
+        UnpackedFeed {
+            feed,
+            inflater,
+            buffers: Buffers::new(alloc),
+            done: 0,
+            place: 0,
+            state: State::Reading,
+            fault: None,
+            failures: 0,
+            origin: Origin {
+                packed: 0,
+                raw: 0,
+                payload: None,
+            },
+            header: None,
+        }
+    }
+
+    /// The first fault of zlib data in what was read, with its place in the packed file.
+    pub fn fault(&self) -> Option<UnpackFault>
+        ensures { result ≡ self.now.fault }
+    {
+        self.fault
+    }
+
+    /// Why reads fail, once one did: `Read` if one of the feed below did, `Memory` if memory was refused.
+    pub fn stop(&self) -> Option<Stop>
+        ensures { result ≡ stop_in self.now.state }
+    {
+        match self.state {
+            State::Stopped(stop) => Some(stop),
+            State::Reading | State::PassingOn | State::Ended => None,
+        }
+    }
+
+    /// Whether what was supplied is all that the packed bytes read so far mean.
+    pub fn has_given_all(&self) -> bool
+        ensures { (log : ℕ) (raw : List ℕ) → result ≡ true → HasSupplied F.has_passed self.now log raw
+            → GavePacked F.has_passed self.now.feed log raw self.now.fault }
+    {
+        self.stop().is_none() && self.is_spent()
+    }
+
+    /// The bytes held, beside the tables of the [`Inflater`]: one packed frame and a raw one.
+    pub fn held(&self) -> u64
+        ensures value { result ≡ held_by self.now }
+        ensures bound { result ≤ 2 * (LARGEST_SIZE + HEADER_LIMIT + 1) }
+    {
+        self.buffers.held()
+    }
+
+    /// The feed below.
+    pub fn into_feed(self) -> F
+        ensures feed { result ≡ self.feed }
+        ensures lender { F.lender result ≡ F.lender self.feed }
+    {
+        self.feed
+    }
+}

@@ -1,0 +1,86 @@
+//! One frame, unpacked.
+
+ghost use Rattle.std.specs.Prelude.{◌≡◌, ◌+◌, ◌<◌, ◌≤◌, ◌^◌, ◌++◌, length, IfOk, OnOk, vec_len};
+ghost use Rattle.pbf_frame.specs.declared.blob.TheConstants.{RAW_LIMIT};
+ghost use Rattle.pbf_frame.specs.declared.frame.FrameKind.TheVariants as kinds;
+ghost use Rattle.pbf_frame.specs.Writing.{written_frame};
+ghost use Rattle.pbf_unpack.specs.Payloads.{fault_in};
+ghost use Rattle.pbf_unpack.specs.Unpacked.{unpacked_frame};
+
+use crate::blob::packed_field;
+use crate::buffers::Buffers;
+use crate::fault::UnpackFault;
+use crate::payload::unpack_payload;
+use crate::whole::WholeFrame;
+use pbf_frame::{FrameKind, HEAD_ROOM, RAW_SIZE, put_head};
+use pbf_wire::{Message, last_field};
+use std::alloc::AllocError;
+use zlib::Inflater;
+
+/// What became of a frame.
+#[derive(Clone, Copy, PartialEq, Eq)]
+pub(crate) enum Outcome {
+    /// It has no zlib data, and stands as it is.
+    Kept,
+    /// It is in written form, with its payload.
+    Unpacked,
+    /// Its zlib data has a fault, and it stands as it is.
+    Faulty(UnpackFault),
+}
+
+impl Outcome {
+    /// The fault of its zlib data, if it has one.
+    pub(crate) fn fault(self) -> Option<UnpackFault>
+        ensures { result ≡ fault_in self }
+    {
+        match self {
+            Outcome::Faulty(fault) => Some(fault),
+            Outcome::Kept | Outcome::Unpacked => None,
+        }
+    }
+}
+
+/// Makes the vector what a written frame has before its payload.
+fn put_front(front: &mut Vec<u8>, kind: FrameKind, payload: &[u8]) -> Result<(), AllocError>
+    requires known { kind ≡ kinds.Other → ⊥ }
+    requires short { length payload.now < RAW_LIMIT }
+    ensures front { OnOk result (front.new.items ++ payload.now ≡ written_frame kind payload.now) }
+    ensures held { vec_len front.new ≤ HEAD_ROOM }
+{
+    front.resize(HEAD_ROOM, 0)?;
+    let end = put_head(front, kind, payload.len());
+    front.truncate(end);
+    Ok(())
+}
+
+/// Puts what a whole frame means where it is supplied from.
+pub(crate) fn unpack(
+    buffers: &mut Buffers,
+    inflater: &mut Inflater,
+    frame: WholeFrame,
+) -> Result<Outcome, AllocError>
+    requires { frame.blob_at + vec_len buffers.old.packed ≤ 2 ^ 63 }
+    ensures { IfOk result (λ outcome. unpacked_frame frame.kind frame.blob_at
+        (buffers.old.front.items ++ buffers.old.packed.items) buffers.old.packed.items
+        ≡ (buffers.new.front.items ++ buffers.new.raw.items, fault_in outcome)) }
+{
+    if frame.kind == FrameKind::Other {
+        buffers.stand();
+        return Ok(Outcome::Kept);
+    }
+    let blob = Message {
+        bytes: &buffers.packed,
+        at: frame.blob_at,
+    };
+    let Some(stream) = packed_field(blob) else {
+        buffers.stand();
+        return Ok(Outcome::Kept);
+    };
+    let raw_size = last_field(blob, RAW_SIZE);
+    if let Some(fault) = unpack_payload(inflater, stream, raw_size, &mut buffers.raw)? {
+        buffers.stand();
+        return Ok(Outcome::Faulty(fault));
+    }
+    put_front(&mut buffers.front, frame.kind, &buffers.raw)?;
+    Ok(Outcome::Unpacked)
+}

@@ -1,0 +1,116 @@
+//! A whole frame, read from a feed.
+
+ghost use Rattle.std.specs.Prelude.{◌≡◌, ◌+◌, ◌-◌, ◌<◌, ◌≤◌, ◌^◌, ◌++◌, length, IfOk, OnOk, vec_len, max};
+ghost use Rattle.pbf_frame.specs.declared.header.Head.{Head};
+ghost use Rattle.pbf_frame.specs.declared.header.TheConstants.{HEADER_LIMIT, LARGEST_SIZE};
+ghost use Rattle.pbf_frame.specs.Steps.{head_of};
+ghost use Rattle.pbf_unpack.specs.Whole.{Took, BeginsWith, Means, IsPlaced};
+
+use byteorder::{BigEndian, ByteOrder};
+use pbf_frame::{Feed, FrameKind, HEADER_LIMIT, Head, Stop, fill_vec, read_head};
+
+/// A whole frame. Its blob may be anything.
+#[derive(Clone, Copy, PartialEq, Eq)]
+pub(crate) struct WholeFrame {
+    pub(crate) kind: FrameKind,
+    /// Where in the packed file its blob begins.
+    pub(crate) blob_at: u64,
+    /// Where it ends.
+    pub(crate) end: u64,
+}
+
+/// What a feed has where a frame is to begin.
+#[derive(Clone, Copy, PartialEq, Eq)]
+pub(crate) enum Found {
+    /// A whole frame.
+    Whole(WholeFrame),
+    /// Bytes that begin no whole frame, whatever follows them.
+    Unfit,
+    /// What there is up to the end of the feed: no whole frame, or nothing at all.
+    Cut,
+}
+
+/// The same of the four bytes and the header of a frame.
+#[derive(Clone, Copy, PartialEq, Eq)]
+enum Front {
+    /// They are there, and the header says this.
+    Says(Head),
+    Unfit,
+    Cut,
+}
+
+/// Reads the four bytes and the header of a frame into `front`, and the header into `header` too.
+fn read_front<F: Feed>(
+    feed: &mut F,
+    front: &mut Vec<u8>,
+    header: &mut Vec<u8>,
+    place: u64,
+) -> Result<Front, Stop>
+    requires { place ≤ 2 ^ 62 }
+    ensures took { OnOk result (Took front.new.items (F.has_passed feed.old)
+        (F.has_passed feed.new) (F.remaining feed.old) (F.remaining feed.new)) }
+    ensures means { IfOk result
+        (BeginsWith place front.new.items header.new.items (F.remaining feed.new)) }
+    ensures front_held { vec_len front.new ≤ max (HEADER_LIMIT + 3) (vec_len front.old) }
+    ensures header_held { vec_len header.new ≤ max (HEADER_LIMIT - 1) (vec_len header.old) }
+    ensures lender { F.lender feed.new ≡ F.lender feed.old }
+{
+    fill_vec(feed, front, 4)?;
+    if front.len() < 4 {
+        return Ok(Front::Cut);
+    }
+    let length = BigEndian::read_u32(front);
+    if length >= HEADER_LIMIT {
+        return Ok(Front::Unfit);
+    }
+    fill_vec(feed, header, length as usize)?;
+    front.extend_from_slice(header)?;
+    if header.len() < length as usize {
+        return Ok(Front::Cut);
+    }
+    match read_head(header, place + 4) {
+        Ok(head) => Ok(Front::Says(head)),
+        Err(_) => Ok(Front::Unfit),
+    }
+}
+
+/// What a feed has where a frame is to begin, all of it read: a blob into `blob`, and what is before it into `front`.
+pub(crate) fn read_whole<F: Feed>(
+    feed: &mut F,
+    front: &mut Vec<u8>,
+    header: &mut Vec<u8>,
+    blob: &mut Vec<u8>,
+    place: u64,
+) -> Result<Found, Stop>
+    requires { place ≤ 2 ^ 62 }
+    ensures took { OnOk result (Took (front.new.items ++ blob.new.items) (F.has_passed feed.old)
+        (F.has_passed feed.new) (F.remaining feed.old) (F.remaining feed.new)) }
+    ensures means { IfOk result (Means place (front.new.items ++ blob.new.items) blob.new.items
+        (F.remaining feed.new)) }
+    ensures placed { IfOk result (IsPlaced blob.new.items) }
+    ensures front_held { vec_len front.new ≤ max (HEADER_LIMIT + 3) (vec_len front.old) }
+    ensures header_held { vec_len header.new ≤ max (HEADER_LIMIT - 1) (vec_len header.old) }
+    ensures blob_held { vec_len blob.new ≤ max LARGEST_SIZE (vec_len blob.old) }
+    ensures lender { F.lender feed.new ≡ F.lender feed.old }
+{
+    blob.clear();
+    let head = match read_front(feed, front, header, place)? {
+        Front::Says(head) => head,
+        Front::Unfit => return Ok(Found::Unfit),
+        Front::Cut => return Ok(Found::Cut),
+    };
+    let blob_at = place + front.len() as u64;
+    let end = blob_at + u64::from(head.size);
+    if end > 1 << 62 {
+        return Ok(Found::Unfit);
+    }
+    fill_vec(feed, blob, head.size as usize)?;
+    if blob.len() < head.size as usize {
+        return Ok(Found::Cut);
+    }
+    Ok(Found::Whole(WholeFrame {
+        kind: head.kind,
+        blob_at,
+        end,
+    }))
+}
