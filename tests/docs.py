@@ -22,7 +22,7 @@ BLOCK = re.compile(r"^```(\w*)\n(.*?)^```$", re.M | re.S)
 SPAN = re.compile(r"`([^`]+)`")
 LITERAL = re.compile(r"^\.Bd -literal.*?\n(.*?)^\.Ed$", re.M | re.S)
 COMMANDS = ["extract", "convert", "check", "show", "blobs"]
-README_LINES, README_WORDS, USING_WORDS = 80, 900, 2205
+README_LINES, README_WORDS, USING_WORDS = 81, 900, 2205
 
 # what stands for the words of a command inside a sentence, and the values of a script's variables
 GIVEN = ["IN", "RAW", "OUT"]
