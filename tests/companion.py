@@ -7,6 +7,7 @@ Where osmium is installed, its reading of the files is compared too; else that i
 """
 
 import bz2
+import gzip
 import importlib.machinery
 import importlib.util
 import json
@@ -269,7 +270,14 @@ def refusals(bench: Bench):
     damaged[len(whole) // 2] ^= 255
     refused("damaged data", bytes(damaged), "17 Zlib, and its data are damaged")
     refused("a file that ends too early", whole[:-1], "13 BlobCut")
-    refused("an HTML page", b"<!DOCTYPE html>" + whole, "refused at 0: 11 HeaderLong")
+    refused("an HTML page", b"<!DOCTYPE html>" + whole, "refused at 0: 11 HeaderLong", "hint: IN is an HTML page")
+    bench.case("a box without nodes", ["--box=20,20,21,21", "zlib.osm.pbf", "empty"], stdout="nodes 0 ways 0 relations 0\n",
+               parts=("hint: no node of IN is in the box",), left=("empty",))
+    refused("an XML file", b"\xef\xbb\xbf<?xml version='1.0'?><osm/>", "refused at 0: 11 HeaderLong", "hint: IN is an XML file")
+    refused("a file in gzip", gzip.compress(whole), "hint: IN is compressed by gzip")
+    refused("a file in bzip2", bz2.compress(whole), "hint: IN is compressed by bzip2")
+    refused("an o5m file", b"\xff\xe0\x04o5m2" + bytes(9), "hint: IN is an o5m file")
+    refused("an OPL file", b"n1 v1 dV c0 t i0 u T x1.5 y2.5\n", "hint: IN is an OPL file")
     wrong = town.scalar(2, 1) + town.nested(3, zlib.compress(b"ab"))
     refused("a raw_size that is wrong", frame(b"OSMHeader", wrong), "raw_size is not the length")
     bomb = town.nested(3, zlib.compress(bytes(33_554_432)))
