@@ -171,8 +171,8 @@ pub(crate) const AFTER_EXTRACT: &str = after_arguments_of_writer!(
         level\n\
     The command prints how many entities it wrote, as 'nodes 3 ways 0 relations 0'.\n\
     IN is read twice if no node comes after a way, otherwise three times, and with\n\
-    --parents once more, so it must be a file, not a pipe. A run that stops early may\n\
-    leave an incomplete OUT: delete it.\n",
+    --parents once more. So it must be a file, not a pipe. A run that stops early\n\
+    may leave an incomplete OUT: delete it.\n",
     "IN must have raw blobs, and OUT has raw blobs. Published files are compressed:\n\
     pbfcut-any cuts them, and writes a compressed file.\n",
     "Examples, which cut London out of a published file of England:\n  \
