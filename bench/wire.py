@@ -1,15 +1,12 @@
 """Protobuf's wire encoding and the frames of raw files, as far as bench/make.py needs them: for sound files only."""
 
+import os
+import sys
+
+sys.path.insert(0, os.path.join(os.path.dirname(os.path.dirname(os.path.abspath(__file__))), "sample"))
+from town import varint  # noqa: E402
+
 TYPE, DATASIZE, RAW = 1, 3, 1
-
-
-def varint(number: int) -> bytes:
-    spelled = bytearray()
-    while number > 127:
-        spelled.append(number & 127 | 128)
-        number >>= 7
-    spelled.append(number)
-    return bytes(spelled)
 
 
 def scalar(number: int, value: int) -> bytes:

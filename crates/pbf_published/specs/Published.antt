@@ -4,8 +4,7 @@ use Rattle.sha2.specs.Sha256.{sha256}
 use Rattle.pbf_frame.specs.declared.device.Feed as feed
 use Rattle.pbf_unpack.specs.Unpacked.{unpacked}
 
--- the feed gave packed bytes of one digest; the raw file that they mean has another, and this holds of it. Where the feed reports its bytes, they
--- mean the same file
+-- packed bytes of one digest mean a raw file of another, and this holds of it. Where the feed reports its bytes, they mean the same file
 pub record GavePublished {F : Type 0} (f : feed.Ghosts F) (old : F) (digest raw_digest : List ℕ) (holds : List ℕ → Type 0) : Type 0 where
   pub packed : List ℕ
   pub digest_is : digest ≡ sha256 packed

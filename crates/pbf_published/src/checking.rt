@@ -17,7 +17,7 @@ pub fn check_with_receipt<F: Feed>(
     alloc: Global,
     feed: &mut F,
 ) -> Result<PublishedInput, PublishedHalt>
-    // The feed gave packed bytes of the digest `input`. The raw file that they mean has no fault, and the counts are those of its entities.
+    // Packed bytes of the digest `input` mean a raw file without a fault, and the counts are those of its entities.
     ensures receipt { IfOk result (λ receipt. GavePublished F.Feed feed.old receipt.input receipt.raw
         (λ file. CountsFile (judged_file (Some file)) receipt.counts)) }
 {

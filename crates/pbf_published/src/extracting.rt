@@ -32,7 +32,7 @@ pub fn extract_with_receipt<F: Feed, G: Feed, H: Feed, D: Drain, S: BuildHasher 
     drain: &mut D,
     hasher: S,
 ) -> Result<PublishedInput, PublishedHalt>
-    // Each feed gave packed bytes of the digest `input`, which mean a raw file of the digest `raw`. That of the first has no fault, and its
+    // For each feed packed bytes of the digest `input` mean a raw file of the digest `raw`. That of the first has no fault, and its
     // header can be written. The drain took bytes. Where the raw files are one, these bytes are exactly its
     // complete-ways extract, and the counts are those of the entities in it.
     ensures receipt { IfOk result (λ receipt.

@@ -11,12 +11,12 @@ use pbf_pass::{Halt, HashedFeed};
 use pbf_unpack::{Inflater, Place, UnpackFault, UnpackedFeed};
 use std::alloc::{AllocError, Global};
 
-/// What a call that reads reports: how many entities, and the SHA-256 digests of its input.
+/// What a call reports: how many entities, and the SHA-256 digests of its input.
 #[derive(Clone, Copy, Debug)]
 pub struct PublishedInput {
     /// The numbers of the entities.
     pub counts: Counts,
-    /// The digest of the packed bytes that the feed gave.
+    /// The digest of the packed bytes that each feed gave.
     pub input: [u8; 32],
     /// The digest of the raw file that they mean.
     pub raw: [u8; 32],
