@@ -1,5 +1,6 @@
 #!/usr/bin/env python3
-"""The map in docs/ARCHITECTURE.md is the tree's: each crate, and each file of its src/, is named there, and nothing else.
+"""The map in docs/ARCHITECTURE.md is the tree's: each crate, and each file of its src/, is named there, and nothing else. The calls, clauses and
+definitions that the tables of docs/PROMISES.md name are in the sources.
 
 usage: tests/architecture.py [PROGRAM]
 
@@ -50,12 +51,33 @@ def is_of_tests(name: str) -> bool:
     return name.endswith("tests")
 
 
+def words_of_sources(crates: set) -> set:
+    found = set(crates)
+    for crate in crates:
+        for part in ("src", "specs"):
+            for folder, _, files in os.walk(os.path.join(TOP, "crates", crate, part)):
+                for name in files:
+                    found |= set(re.findall(r"\w+", read(os.path.join(folder, name))))
+    return found
+
+
+def unknown_promises(words: set) -> list:
+    """What the second and the third column of a table of promises name that no source has."""
+    found = []
+    for number, line in enumerate(read(os.path.join(TOP, "docs", "PROMISES.md")).splitlines(), 1):
+        cells = line.split(" | ")
+        if line.startswith("| ") and len(cells) > 2:
+            named = re.findall(r"`([\w:]+)`", cells[1] + cells[2])
+            found += [f"docs/PROMISES.md, line {number}: no source has '{name}'" for name in named if not set(name.split("::")) <= words]
+    return found
+
+
 def main():
     text = read(PAGE)
     lines = read(os.path.join(TOP, "crates.txt")).splitlines()
     crates = {line.split(":")[0].split(" ")[0] for line in lines if line.strip() and not line.startswith("#")}
     code = {crate for crate in crates if not is_of_tests(crate)}
-    faults = []
+    faults = unknown_promises(words_of_sources(crates))
 
     def differ(what: str, listed: set, there: set):
         faults.extend(f"{what}: '{name}' is on the page, and not there" for name in sorted(listed - there))
