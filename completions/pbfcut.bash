@@ -1,4 +1,4 @@
-# Completion for pbfcut and pbfcut-any in bash.
+# Completion for pbfcut, pbfcutz and pbfcut-any in bash.
 
 _pbfcut_files() {
   mapfile -t COMPREPLY < <(compgen -f -- "$1")
@@ -29,18 +29,21 @@ _pbfcut() {
 _pbfcut_any() {
   local word=${COMP_WORDS[COMP_CWORD]} command=${COMP_WORDS[1]-}
   case $command:$word in
-    unpack:* | pack:*) _pbfcut_files "$word" ;;
-    *:-*) _pbfcut_words "$word" "--box= --parents --keep-raw --help" ;;
+    check:-* | show:-* | blobs:-*) _pbfcut ;;
+    convert:-*) _pbfcut_words "$word" "--level --tmp --json --help" ;;
+    pack:-*) _pbfcut_words "$word" "--level --json --help" ;;
+    unpack:-*) _pbfcut_words "$word" "--help" ;;
+    *:-*) _pbfcut_words "$word" "--box= --parents --level --tmp --json --help" ;;
     *)
       _pbfcut_files "$word"
       if [ "$COMP_CWORD" -eq 1 ]; then
         local files=("${COMPREPLY[@]}")
-        _pbfcut_words "$word" "unpack pack"
+        _pbfcut_words "$word" "extract convert check show blobs unpack pack"
         COMPREPLY+=("${files[@]}")
       fi
       ;;
   esac
 }
 
-complete -F _pbfcut pbfcut
+complete -F _pbfcut pbfcut pbfcutz
 complete -F _pbfcut_any pbfcut-any

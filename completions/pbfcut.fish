@@ -1,16 +1,18 @@
-# Completion for pbfcut in fish.
+# Completion for pbfcut and pbfcutz in fish, which take the same words; installed under both names, it completes the one that it is
+# called by.
+set -l program (string replace -r '^.*/([^/]*)\.fish$' '$1' (status filename))
 set -l commands extract convert check show blobs help
-complete -c pbfcut -n "not __fish_seen_subcommand_from $commands" -f -a extract -d "cut a bounding box out of a file"
-complete -c pbfcut -n "not __fish_seen_subcommand_from $commands" -f -a convert -d "write a file in one fixed form"
-complete -c pbfcut -n "not __fish_seen_subcommand_from $commands" -f -a check -d "validate a file and count its entities"
-complete -c pbfcut -n "not __fish_seen_subcommand_from $commands" -f -a show -d "print a file as text"
-complete -c pbfcut -n "not __fish_seen_subcommand_from $commands" -f -a blobs -d "list the frames of a file"
-complete -c pbfcut -n "not __fish_seen_subcommand_from $commands" -f -a help -d "print the help of a command"
-complete -c pbfcut -n "__fish_seen_subcommand_from help" -f -a "extract convert check show blobs"
-complete -c pbfcut -n "not __fish_seen_subcommand_from $commands" -l version -d "print the version"
-complete -c pbfcut -l help -d "print help"
-complete -c pbfcut -n "__fish_seen_subcommand_from extract" -l box -x -d "west,south,east,north, in degrees"
-complete -c pbfcut -n "__fish_seen_subcommand_from extract" -l parents -d "keep relations that contain kept relations, too"
-complete -c pbfcut -n "__fish_seen_subcommand_from show" -l dates -d "print times from 1970 to 2099 as dates"
-complete -c pbfcut -n "__fish_seen_subcommand_from extract convert check show" -l progress -d "report progress on standard error"
-complete -c pbfcut -n "__fish_seen_subcommand_from extract convert check" -l digests -d "print SHA-256 digests"
+complete -c $program -n "not __fish_seen_subcommand_from $commands" -f -a extract -d "cut a bounding box out of a file"
+complete -c $program -n "not __fish_seen_subcommand_from $commands" -f -a convert -d "write a file in one fixed form"
+complete -c $program -n "not __fish_seen_subcommand_from $commands" -f -a check -d "validate a file and count its entities"
+complete -c $program -n "not __fish_seen_subcommand_from $commands" -f -a show -d "print a file as text"
+complete -c $program -n "not __fish_seen_subcommand_from $commands" -f -a blobs -d "list the frames of a file"
+complete -c $program -n "not __fish_seen_subcommand_from $commands" -f -a help -d "print the help of a command"
+complete -c $program -n "__fish_seen_subcommand_from help" -f -a "extract convert check show blobs"
+complete -c $program -n "not __fish_seen_subcommand_from $commands" -l version -d "print the version"
+complete -c $program -l help -d "print help"
+complete -c $program -n "__fish_seen_subcommand_from extract" -l box -x -d "west,south,east,north, in degrees"
+complete -c $program -n "__fish_seen_subcommand_from extract" -l parents -d "keep relations that contain kept relations, too"
+complete -c $program -n "__fish_seen_subcommand_from show" -l dates -d "print times from 1970 to 2099 as dates"
+complete -c $program -n "__fish_seen_subcommand_from extract convert check show" -l progress -d "report progress on standard error"
+complete -c $program -n "__fish_seen_subcommand_from extract convert check" -l digests -d "print SHA-256 digests"

@@ -4,7 +4,7 @@ definitions that the tables of docs/PROMISES.md name are in the sources.
 
 usage: tests/architecture.py [PROGRAM]
 
-PROGRAM is not run. The files of tests, lib.rt and main.rt need not be named; crates of tests are one row.
+PROGRAM is not run. The files of tests and of uses, lib.rt and main.rt need not be named; crates of tests are one row.
 """
 
 import os
@@ -48,7 +48,7 @@ def mapped(text: str) -> dict:
 
 
 def is_of_tests(name: str) -> bool:
-    return name.endswith("tests")
+    return name.endswith("tests") or name == "uses"
 
 
 def words_of_sources(crates: set) -> set:

@@ -6,7 +6,8 @@ usage: tests/docs.py PROGRAM
 The lines of a block run one after the other, as they stand, in a folder that is laid out as the repository; if a block is marked
 'console', what its lines print is compared with what the page says. A command inside a sentence runs by itself, with file names in place
 of IN, OUT and the like; those of sample/README.md run in their order, and what its table says that they print is compared. Links between
-the pages lead to files. A command that needs what is not installed is named and passed over, and so are those of ELSEWHERE.
+the pages lead to files, and examples in Rattle are pieces of what the crates CALLERS prove. A command that needs what is not installed is
+named and skipped, and so are those of ELSEWHERE.
 """
 
 import os
@@ -22,6 +23,7 @@ BLOCK = re.compile(r"^```(\w*)\n(.*?)^```$", re.M | re.S)
 SPAN = re.compile(r"`([^`]+)`")
 LITERAL = re.compile(r"^\.Bd -literal.*?\n(.*?)^\.Ed$", re.M | re.S)
 COMMANDS = ["extract", "convert", "check", "show", "blobs"]
+CALLERS = ["uses", "zlib_examples"]
 README_LINES, README_WORDS, USING_WORDS = 81, 900, 2205
 
 # what stands for the words of a command inside a sentence, and the values of a script's variables
@@ -38,7 +40,7 @@ ELSEWHERE = {
     "apt-get install": "a network",
     "vectors/run.py known": "the readers of docs/CONFORMANCE.md",
     "vectors/run.py pbfcut": "run by tests/run",
-    "PBFCUT=": "run by tests/suite.py",
+    "PBFCUTZ=": "run by tests/suite.py",
     "bench/": "a large file",
     "python3 tools/build.py": "the toolchain",
     "crates/": "a program that the toolchain builds",
@@ -66,7 +68,7 @@ def read(name: str) -> str:
 
 def shell(command: str, folder: str):
     environment = {**os.environ, "box": BOX, "PATH": os.pathsep.join([folder, os.path.join(folder, "tools"), os.environ["PATH"]])}
-    environment.pop("PBFCUT", None)
+    environment.pop("PBFCUTZ", None)
     return subprocess.run(["bash", "-o", "pipefail", "-c", command], cwd=folder, env=environment, stdin=subprocess.DEVNULL,
                           stdout=subprocess.PIPE, stderr=subprocess.STDOUT, timeout=SECONDS)
 
@@ -80,6 +82,7 @@ class Pages:
             shutil.copytree(os.path.join(TOP, name), os.path.join(self.model, name))
         os.symlink(os.path.join(TOP, "vectors"), os.path.join(self.model, "vectors"))
         self.script("pbfcut", f"exec '{program}' \"$@\"")
+        os.symlink(program, os.path.join(self.model, "pbfcutz"))
         self.script("my_reader", "exit 1")  # a reader that refuses all files
 
     def script(self, name: str, line: str):
@@ -139,7 +142,7 @@ class Pages:
         for span in SPAN.findall(BLOCK.sub("", read(name))):
             words = span.split(" ")
             names_file = any(word in GIVEN or word.endswith((".pbf", ".1")) for word in words)
-            known = words[0] in ("./pbfcut", "tools/pbfcut-any", "osmium", "man") or "&& ./pbfcut" in span
+            known = words[0] in ("./pbfcut", "./pbfcutz", "tools/pbfcut-any", "osmium", "man") or "&& ./pbfcut" in span
             if known and (names_file or "--help" in words):
                 self.command(name, filled(words), self.room())
 
@@ -165,8 +168,8 @@ class Pages:
             self.block(name, "sh", example.replace("\\-", "-").replace("\\e", "\\"), place)
 
     def help(self, words: list):
-        """The examples of a text of help; those that make the same file have rooms of their own."""
-        name = " ".join(["pbfcut", *words, "--help"])
+        """The examples of a text of help, asked for by these words; those that make the same file have rooms of their own."""
+        name = " ".join([*words, "--help"])
         done = shell(name, self.model)
         found = re.search(r"^Examples?\b.*?(?=^Exit status)", done.stdout.decode(), re.M | re.S)
         if done.returncode or not found:
@@ -201,6 +204,15 @@ def all_pages() -> list:
     return found
 
 
+def callers(names: list):
+    """Each example of a call in the page of a crate is proved code, to the letter."""
+    proved = [read(os.path.join("crates", crate, "src", file)) for crate in CALLERS for file in os.listdir(os.path.join(TOP, "crates", crate, "src"))]
+    for name in names:
+        for kind, block in BLOCK.findall(read(name)):
+            if kind == "rust" and not any(block in text for text in proved):
+                fail(f"{name} shows a caller that no file of {' or '.join(CALLERS)} has: '{block.partition(chr(10))[0]} ..'")
+
+
 def links(names: list):
     """Each page links to files that are there; README and USING are short."""
     for name in names:
@@ -219,6 +231,7 @@ def main():
         sys.exit(__doc__)
     names = all_pages()
     links(names)
+    callers(names)
     with tempfile.TemporaryDirectory(prefix="pbfcut-docs-") as folder:
         pages = Pages(os.path.abspath(sys.argv[1]), folder)
         inputs(pages)
@@ -229,9 +242,9 @@ def main():
         for name in names:
             if name not in [*users, "sample/README.md"]:
                 pages.blocks(name, pages.room())
-        for name in ["docs/pbfcut.1", "docs/pbfcut-any.1"]:
+        for name in ["docs/pbfcut.1", "docs/pbfcutz.1", "docs/pbfcut-any.1"]:
             pages.manual(name)
-        for words in [[], *([command] for command in COMMANDS)]:
+        for words in [[name, *command] for name in ("pbfcut", "pbfcutz") for command in [[], *([command] for command in COMMANDS)]]:
             pages.help(words)
     if pages.passed_over:
         print(f"tests/docs.py: not installed, so what needs it was passed over: {', '.join(sorted(pages.passed_over))}")

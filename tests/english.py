@@ -3,8 +3,8 @@
 
 usage: tests/english.py [--list] [PROGRAM]
 
-PROGRAM is not run. The pages for users have none of them; the other pages have no more than they had when this was written, and a page that
-is made clearer lowers the number. --list prints each line that has one. Code and the names in it are not counted. It is a reminder, and no judge
+PROGRAM is not run. The pages for users have none of them; the other pages and the comments of sources, definitions and proofs have no more than
+they had when this was written, and what is made clearer lowers the number. --list prints each line that has one. Code and the names in it are not counted. It is a reminder, and no judge
 of style: a page is finished when nobody has to read a sentence twice.
 """
 
@@ -13,11 +13,12 @@ import re
 import sys
 
 TOP = os.path.dirname(os.path.dirname(os.path.abspath(__file__)))
-USERS = ["README.md", "CHANGELOG.md", "CONTRIBUTING.md", "docs/USING.md", "docs/FORMAT.md", "docs/pbfcut.1", "docs/pbfcut-any.1",
-         "sample/README.md", "crates/pbfcut_cli/src/help.rt"]
+USERS = ["README.md", "CHANGELOG.md", "CONTRIBUTING.md", "docs/USING.md", "docs/FORMAT.md", "docs/pbfcut.1", "docs/pbfcutz.1",
+         "docs/pbfcut-any.1",         "sample/README.md", "crates/pbfcut_cli/src/help.rt"]
 # made of other files
-MADE = ["docs/STATEMENT.md", "crates/pbf_vectors/data/README.md"]
-MOST_ELSEWHERE = 175
+MADE = ["docs/STATEMENT.md", "docs/PROMISES.md", "crates/pbf_vectors/data/README.md"]
+MOST_ELSEWHERE = 4
+MOST_IN_COMMENTS = 177
 
 PHRASES = {
     r"[;,] (and )?else\b|\bElse\b": "otherwise",
@@ -50,7 +51,7 @@ def text_of(name: str) -> str:
     """A page without its code: blocks, names in backquotes, and what links lead to."""
     with open(os.path.join(TOP, name), encoding="utf-8") as file:
         text = file.read()
-    if name.endswith(".rt"):
+    if name.endswith((".rt", ".antt")):
         return text
     text = re.sub(r"^```.*?^```$", lambda found: "\n" * found[0].count("\n"), text, flags=re.M | re.S)
     return re.sub(r"\]\([^)]*\)", "]", re.sub(r"`[^`\n]*`", "`X`", text))
@@ -64,9 +65,26 @@ def pages() -> list:
     return [name for name in found if name not in MADE + USERS]
 
 
+def sources() -> list:
+    """The files of the crates that have comments: sources, definitions and proofs."""
+    found = []
+    for folder, folders, names in os.walk(os.path.join(TOP, "crates")):
+        folders[:] = sorted(name for name in folders if name != "out")
+        found += [os.path.relpath(os.path.join(folder, name), TOP) for name in sorted(names) if name.endswith((".rt", ".antt"))]
+    return [name for name in found if name not in USERS]
+
+
+def comment_of(line: str) -> str:
+    """The text of a line that is a comment, without the code in it; of another line nothing."""
+    found = re.match(r"\s*(//[/!]?|--) (.*)$", line)
+    return re.sub(r"`[^`]*`", "`X`", found[2]) if found else ""
+
+
 def found_in(name: str):
-    """Each phrase of a page, with its line and what is better."""
+    """Each phrase of a page or of a source's comments, with its line and what is better."""
     for number, line in enumerate(text_of(name).splitlines(), 1):
+        if name.endswith((".rt", ".antt")) and name not in USERS:
+            line = comment_of(line)
         if line.startswith("#"):
             continue
         for phrase, better in PHRASES.items():
@@ -77,13 +95,16 @@ def found_in(name: str):
 def main():
     users = [line for name in USERS for line in found_in(name)]
     others = [line for name in pages() for line in found_in(name)]
+    comments = [line for name in sources() for line in found_in(name)]
     if "--list" in sys.argv:
-        print("\n".join(users + others))
+        print("\n".join(users + others + comments))
     if users:
         sys.exit("\n".join(["tests/english.py: pages for users have such phrases:", *users]))
     if len(others) > MOST_ELSEWHERE:
         sys.exit(f"tests/english.py: {len(others)} such phrases in the other pages, and there were {MOST_ELSEWHERE}: see tests/english.py --list")
-    print(f"tests/english.py: no such phrase in the pages for users, {len(others)} in the others")
+    if len(comments) > MOST_IN_COMMENTS:
+        sys.exit(f"tests/english.py: {len(comments)} such phrases in comments, and there were {MOST_IN_COMMENTS}: see tests/english.py --list")
+    print(f"tests/english.py: no such phrase in the pages for users, {len(others)} in the others, {len(comments)} in comments")
 
 
 if __name__ == "__main__":

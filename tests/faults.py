@@ -4,7 +4,7 @@
 usage: tests/faults.py PROGRAM [--all]
 
 Whatever is refused or fails, the program gives its usual answer, or ends with the one status and line that fits; and what it wrote to
-OUT and to standard output is a beginning of what it usually writes. tests/faults.c does the refusing, and cc builds it: where there is
+OUT and to standard output is a beginning of what it usually writes. The same of pbfcutz, over compressed files. tests/faults.c does the refusing, and cc builds it: where there is
 no cc, this is told, and nothing is run. With --all more files are read, and from each request on all are refused over the sample too. A
 series of faults ends at its first run that is out of place, and then the status is 1.
 """
@@ -20,6 +20,11 @@ import time
 HERE = os.path.dirname(os.path.abspath(__file__))
 TOP = os.path.dirname(HERE)
 VECTORS = os.path.join(TOP, "vectors")
+sys.dont_write_bytecode = True
+sys.path.insert(0, HERE)
+
+from published import packed
+
 SAMPLE = os.path.join(TOP, "sample", "town.osm.pbf")
 SECONDS = 60
 MOST = 20_000
@@ -31,9 +36,9 @@ MORE = ["chain_of_relations_and_two_rings", "way_with_locations", "header_with_e
 COMMANDS = [["blobs"], ["check"], ["show"], ["show", "--dates"], ["convert"], ["extract", "--box={box}"], ["extract", "--parents", "--box={box}"],
             ["check", "--digests"], ["extract", "--digests", "--box={box}"]]
 
-MEMORY = (4, b"pbfcut: out of memory\n")
-READ = (3, b"pbfcut: read failed\n")
-WRITE = (3, b"pbfcut: write failed\n")
+MEMORY = (4, b": out of memory\n")
+READ = (3, b": read failed\n")
+WRITE = (3, b": write failed\n")
 # A sort of fault, what a run with it may end in beside the usual answer, and whether it may end as usual once the fault was met
 SORTS = [
     ("memory", MEMORY, True),
@@ -52,10 +57,11 @@ class OutOfPlace(Exception):
 
 
 class Bench:
-    """The program, the library, and a folder for files."""
+    """The program by one of its names, the library, and a folder for files."""
 
-    def __init__(self, program: str, library: str, folder: str):
-        self.program = os.path.abspath(program)
+    def __init__(self, program: str, name: str, library: str, folder: str):
+        self.program, self.name = os.path.join(folder, name), name.encode()
+        os.symlink(os.path.abspath(program), self.program)
         self.library = library
         self.folder = folder
         self.out = os.path.join(folder, "out")
@@ -86,6 +92,9 @@ class Bench:
         """Runs with one fault; answers whether it was met."""
         status, text, error, out, met = self.run(words, fault)
         as_usual = (status, text, error, out) == usual[:4]
+        # a program that had no memory to read its words does not know its name
+        named = b"pbfcut" if ends == MEMORY and error == b"pbfcut" + MEMORY[1] else self.name
+        ends = ends and (ends[0], named + ends[1])
         fits = ended_so(status, error, usual[2], ends) and usual[1].startswith(text) and usual[3].startswith(out)
         if not (as_usual and (may_be_usual or not met)) and not (fits and met):
             said = error.decode("utf-8", "replace").strip()
@@ -131,28 +140,39 @@ def build(folder: str) -> str:
     return library
 
 
-def run_series(program: str, library: str, path: str, words: list, sorts: list) -> tuple:
+def run_series(program: str, name: str, library: str, path: str, words: list, sorts: list) -> tuple:
     """One command over one file, in a folder of its own: the runs, the faults that were met, and what was out of place."""
+    with open(path, "rb") as file:
+        data = file.read()
     with tempfile.TemporaryDirectory() as folder:
-        shutil.copy(path, os.path.join(folder, "in"))
-        bench = Bench(program, library, folder)
+        with open(os.path.join(folder, "in"), "wb") as file:
+            file.write(packed(data) if name == "pbfcutz" else data)
+        bench = Bench(program, name, library, folder)
         try:
             series(bench, words, sorts)
         except OutOfPlace as error:
-            return bench.runs, bench.met, f"{path}: {error}"
+            return bench.runs, bench.met, f"{name}, {path}: {error}"
     return bench.runs, bench.met, ""
+
+
+def named_files(every: bool):
+    """The name that the program is called by, and (file, box)."""
+    for path, box in files(every):
+        yield "pbfcut", path, box
+        if every or os.path.basename(os.path.dirname(path)) in ROWS[:2]:
+            yield "pbfcutz", path, box
 
 
 def all_series(program: str, library: str, every: bool) -> list:
     """Each command over each file, as many at a time as there are processors."""
     with concurrent.futures.ThreadPoolExecutor(os.cpu_count()) as pool:
         waiting = []
-        for path, box in files(every):
+        for name, path, box in named_files(every):
             for command in COMMANDS:
                 words = [word.format(box=box) for word in command] + ["in"]
                 words += ["out"] if command[0] in ("convert", "extract") else []
                 sorts = [sort for sort in SORTS if every or path != SAMPLE or sort[0] != "memory-from"]
-                waiting.append(pool.submit(run_series, program, library, path, words, sorts))
+                waiting.append(pool.submit(run_series, program, name, library, path, words, sorts))
         return [task.result() for task in waiting]
 
 

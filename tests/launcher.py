@@ -26,7 +26,7 @@ SOURCE = "crates/pbf_wire/src/lib.rt"
 KIT = "rattle-kit-0 logic 0"
 
 # All that a user's machine must have: bash, gzip, sha256sum and other basic tools; no Python and no toolchain.
-TOOLS = ["bash", "env", "awk", "cat", "chmod", "cmp", "cp", "cut", "date", "df", "dirname", "find", "gzip", "mkdir", "mktemp", "mv", "readlink",
+TOOLS = ["bash", "env", "awk", "cat", "chmod", "cmp", "cp", "cut", "date", "df", "dirname", "find", "gzip", "ln", "mkdir", "mktemp", "mv", "readlink",
          "rm", "sed", "sha256sum", "sort", "tail", "uname", "xargs"]
 
 NO_TOOLCHAIN = "the Rattle toolchain, which proves and builds it, is not here"
@@ -63,7 +63,7 @@ class Copy:
         os.mkdir(self.bin)
         for name in TOOLS:
             os.symlink(shutil.which(name), os.path.join(self.bin, name))
-        for name in ["pbfcut", "install", "tools", "completions", "docs/pbfcut.1", "docs/pbfcut-any.1"]:
+        for name in ["pbfcut", "install", "tools", "completions", "docs/pbfcut.1", "docs/pbfcutz.1", "docs/pbfcut-any.1"]:
             copy = shutil.copytree if os.path.isdir(os.path.join(TOP, name)) else shutil.copy
             os.makedirs(os.path.dirname(self.path(name)), exist_ok=True)
             copy(os.path.join(TOP, name), self.path(name))
@@ -237,9 +237,10 @@ def files_below(folder: str) -> set:
     return {os.path.relpath(os.path.join(at, name), folder) for at, _, names in os.walk(folder) for name in names}
 
 
-INSTALLED = {"bin/pbfcut", "bin/pbfcut-any", "share/man/man1/pbfcut.1", "share/man/man1/pbfcut-any.1",
-             "share/bash-completion/completions/pbfcut", "share/bash-completion/completions/pbfcut-any",
-             "share/zsh/site-functions/_pbfcut", "share/fish/vendor_completions.d/pbfcut.fish",
+INSTALLED = {"bin/pbfcut", "bin/pbfcutz", "bin/pbfcut-any", "share/man/man1/pbfcut.1", "share/man/man1/pbfcutz.1",
+             "share/man/man1/pbfcut-any.1", "share/bash-completion/completions/pbfcut", "share/bash-completion/completions/pbfcutz",
+             "share/bash-completion/completions/pbfcut-any", "share/zsh/site-functions/_pbfcut",
+             "share/fish/vendor_completions.d/pbfcut.fish", "share/fish/vendor_completions.d/pbfcutz.fish",
              "share/fish/vendor_completions.d/pbfcut-any.fish"}
 
 

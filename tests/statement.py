@@ -12,7 +12,6 @@ import re
 import sys
 
 TOP = os.path.dirname(os.path.dirname(os.path.abspath(__file__)))
-PAGE = os.path.join(TOP, "docs", "STATEMENT.md")
 # Each public call, with the crate and the file that have it.
 CALLS = {
     "extract": ("pbfcut", "extracting"), "extract_with_receipt": ("pbfcut", "extracting"), "extract_parents": ("pbfcut", "extracting"),
@@ -44,7 +43,9 @@ class Scope:
 
     def __init__(self, lines: list):
         self.names, self.modules = {}, {}
-        for line in lines:
+        # an import on several lines is as one on one line
+        text = re.sub(r"(?<=\.)\{\n([^}]*)\}(?=;)", lambda found: "{" + ", ".join(found[1].replace(",", " ").split()) + "}", "\n".join(lines))
+        for line in text.splitlines():
             found = re.match(r"\s*(?:ghost )?use Rattle\.([\w.-]+?)(?:\.\{(.*)\}| as (\w+));?$", line)
             if not found:
                 continue
@@ -248,14 +249,18 @@ nothing.
 """
 
 
-def main():
-    made = page()
+def settle(script: str, name: str, made: str):
+    """Writes a page of docs/ with --write; otherwise compares it."""
     if "--write" in sys.argv:
-        with open(PAGE, "w", encoding="utf-8") as file:
+        with open(os.path.join(TOP, "docs", name), "w", encoding="utf-8") as file:
             file.write(made)
-    elif made != read("docs", "STATEMENT.md"):
-        sys.exit("tests/statement.py: docs/STATEMENT.md is not what the sources say: tests/statement.py --write")
-    print("tests/statement.py: docs/STATEMENT.md is what the sources say")
+    elif made != read("docs", name):
+        sys.exit(f"{script}: docs/{name} is not what the sources say: {script} --write")
+    print(f"{script}: docs/{name} is what the sources say")
+
+
+def main():
+    settle("tests/statement.py", "STATEMENT.md", page())
 
 
 if __name__ == "__main__":

@@ -1,5 +1,5 @@
 #!/usr/bin/env python3
-"""Tests the scripts of vectors/ with small readers made here, and pbfcut-any with the cases of the packing itself.
+"""Tests the scripts of vectors/ with small readers made here, and pbfcutz with the cases of the packing itself.
 
 usage: tests/suite.py PROGRAM
 """
@@ -148,13 +148,13 @@ def the_reference():
     require([line for recipe in RECIPES for line in written_files(recipe, True)] == [], "recipes.py and the folders")
 
 
-def the_companion(program: str, folder: str):
-    """pbfcut-any over the cases of the packing: all sound ones as meant, all broken ones refused."""
-    os.environ["PBFCUT"] = os.path.abspath(program)
-    os.environ["PBFCUT_ANY"] = os.path.join(TOP, "tools", "pbfcut-any")
+def packed_files(program: str, folder: str):
+    """pbfcutz, which is the program by that name, over the cases of the packing: all sound ones as meant, all broken ones refused."""
+    os.environ["PBFCUTZ"] = os.path.join(folder, "pbfcutz")
+    os.symlink(os.path.abspath(program), os.environ["PBFCUTZ"])
     adapter = os.path.join(VECTORS, "adapters", "pbfcut_lines.py")
     done = run("reader", "--set", "zlib", "--batch", "--list", "--jobs", "4", "--", sys.executable, adapter)
-    require(done.returncode == 0, f"pbfcut-any over the packed cases:\n{done.stdout}{done.stderr}")
+    require(done.returncode == 0, f"pbfcutz over the packed cases:\n{done.stdout}{done.stderr}")
     written = run("write", "--set", "zlib", os.path.join(folder, "files"))
     require(written.returncode == 0 and len(os.listdir(os.path.join(folder, "files"))) == 90, "run.py write")
 
@@ -168,7 +168,7 @@ def main(program: str):
         the_forms()
         packed_twins()
         the_reference()
-        the_companion(program, folder)
+        packed_files(program, folder)
     print("the scripts of vectors/ do what they say")
 
 

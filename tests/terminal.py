@@ -14,6 +14,7 @@ import subprocess
 import sys
 import tempfile
 import time
+import zlib
 
 TOP = os.path.dirname(os.path.dirname(os.path.abspath(__file__)))
 TOWN = os.path.join(TOP, "sample", "town.osm.pbf")
@@ -95,16 +96,23 @@ def main():
             if os.path.exists(os.path.join(folder, "out")):
                 os.unlink(os.path.join(folder, "out"))
 
-        for number, name in [(3, "17 Zlib"), (4, "18 Lzma"), (5, "19 Bzip2"), (6, "20 Lz4"), (7, "21 Zstd")]:
-            packed, told = frame(field(number, b"xyz")), f"pbfcut: refused at 17: {name}"
-            if number < 6:
-                case(f"{name}, extract", ["extract", BOX, "in", "out"], 1, told,
-                     "hint: IN is compressed; this cuts it: pbfcut-any --box=BOX IN OUT", given=packed)
-                case(f"{name}, check", ["check", "in"], 1, told,
-                     "hint: IN is compressed; this makes a raw file of it: pbfcut-any unpack IN RAW", given=packed)
-            else:
-                case(name, ["check", "in"], 1, told,
-                     "hint: IN is compressed; this makes a raw file of it: osmium cat IN -f pbf,pbf_compression=none -o RAW", given=packed)
+        zlib_blob = frame(field(3, b"xyz"))
+        case("zlib, extract", ["extract", BOX, "in", "out"], 1, "pbfcut: refused at 17: 17 Zlib",
+             "hint: IN is compressed; this cuts it: pbfcut-any --box=BOX IN OUT", given=zlib_blob)
+        case("zlib, check", ["check", "in"], 1, "pbfcut: refused at 17: 17 Zlib",
+             "hint: IN is compressed; pbfcutz, which takes the same words, reads it", given=zlib_blob)
+        program = os.path.join(folder, "pbfcutz")
+        os.symlink(os.path.abspath(sys.argv[1]), program)
+        case("pbfcutz, damaged data", ["check", "in"], 1, "pbfcutz: refused at 17: 17 Zlib: Header",
+             "hint: the compressed data of IN is damaged: fetch the file again", given=zlib_blob)
+        header = zlib.compress(field(4, b"Elsewise"))
+        case("pbfcutz, a fault in a blob", ["check", "in"], 1, "pbfcutz: refused in the blob at 0, byte 0 of its payload: 55 Feature",
+             given=frame(field(3, header)))
+        program = os.path.abspath(sys.argv[1])
+        for number, name in [(4, "18 Lzma"), (5, "19 Bzip2"), (6, "20 Lz4"), (7, "21 Zstd")]:
+            case(name, ["check", "in"], 1, f"pbfcut: refused at 17: {name}",
+                 "hint: IN is compressed by another method; this makes a raw file of it: osmium cat IN -f pbf,pbf_compression=none -o RAW",
+                 given=frame(field(number, b"xyz")))
         for name, (start, hint) in FORMATS.items():
             case(name, ["check", "in"], 1, "pbfcut: refused at 0: 11 HeaderLong", f"hint: {hint}", given=start + bytes(100))
         case("a file that ends too early", ["check", "in"], 1, "pbfcut: refused at 0: 10 PrefixCut",
@@ -118,12 +126,12 @@ def main():
         case("another fault", ["check", "in"], 1, "pbfcut: refused at 17: 15 NoRaw", given=frame(b""))
         os.mkfifo(os.path.join(folder, "pipe"))
         case("a pipe that is to be read twice", ["show", "pipe"], 3, "pbfcut: IN must be a file, not a pipe",
-             "hint: pbfcut reads IN more than once: write what the pipe has to a file first; 'check' and 'blobs' read a pipe")
+             "hint: IN is read more than once: write what the pipe has to a file first; 'check' and 'blobs' read a pipe")
         case("no IN", ["check", "nowhere"], 3, "pbfcut: cannot open", "hint: nowhere: No such file or directory (os error 2)")
         case("no folder for OUT", ["convert", "in", "no/out"], 3, "pbfcut: cannot open",
              "hint: no/out cannot be made: is its folder there, and may it be written to?")
         case("an OUT that exists", ["convert", "in", "in"], 3, "pbfcut: OUT exists",
-             "hint: pbfcut writes new files only: remove OUT, or name another")
+             "hint: only new files are written: remove OUT, or name another")
         for box, fault in [("1,2", "Shape"), ("a,0,1,1", "Digit"), ("181,0,182,1", "Range"), ("2,0,1,1", "LeftOverRight"), ("0,2,1,1", "BottomOverTop")]:
             case(f"a box: {fault}", ["extract", f"--box={box}", "in", "out"], 2, f"pbfcut: box: {fault}", ORDER)
         with open(TOWN, "rb") as file:

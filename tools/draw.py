@@ -1,11 +1,13 @@
 #!/usr/bin/env python3
 """Draws what 'pbfcut show' prints, as an SVG picture for light and dark pages.
 
-usage: pbfcut show FILE | tools/draw.py [--box=WEST,SOUTH,EAST,NORTH] [--view=WEST,SOUTH,EAST,NORTH] [--title=TEXT] >OUT.svg
+usage: pbfcut show FILE | tools/draw.py [--box=WEST,SOUTH,EAST,NORTH] [--view=WEST,SOUTH,EAST,NORTH] [--nodes] [--title=TEXT] [--note=TEXT] >OUT.svg
 
   --box     draws the edges of this box
   --view    draws what lies in this area; without it, all nodes
+  --nodes   draws each node of a way: blue, but red if it is outside the box
   --title   says what the picture shows
+  --note    is printed in the lower right corner, as whose data this is
 
 Ways are drawn by their tags, areas and multipolygons filled, nodes with tags as dots. It holds all nodes: it is for towns, of
 up to some 100,000 nodes. Standard input is read, and standard output written, by the standard library alone.
@@ -58,7 +60,10 @@ STYLE = """
     .cable { stroke: #57606a; stroke-width: 1.2; stroke-dasharray: 1 4 }
     .line { stroke: #c8ccd0; stroke-width: 1 }
     .dot { fill: #1a7f37 }
+    .inside { stroke: #35659c; stroke-width: 1.8 }
+    .outside { stroke: #cf222e; stroke-width: 4.4 }
     .box { fill: none; stroke: #35659c; stroke-width: 2; stroke-dasharray: 7 4 }
+    .note { fill: #57606a; font: 11px sans-serif; text-anchor: end }
     @media (prefers-color-scheme: dark) {
       .page { fill: #161b22 }
       .green { fill: #1f3a24 }
@@ -71,7 +76,9 @@ STYLE = """
       .rail, .cable { stroke: #9198a1 }
       .line { stroke: #3d444d }
       .dot { fill: #3fb950 }
-      .box { stroke: #79aee8 }
+      .box, .inside { stroke: #79aee8 }
+      .outside { stroke: #ff7b72 }
+      .note { fill: #9198a1 }
     }
 """
 
@@ -124,8 +131,9 @@ def class_of(tags: dict, classes: dict):
 
 class Picture:
     def __init__(self, drawn: Map, view: tuple):
-        self.map = drawn
-        self.west, south, self.east, self.north = view
+        self.map, self.drawn = drawn, set()
+        self.west, self.south, self.east, self.north = view
+        south = self.south
         self.narrow = math.cos(math.radians((south + self.north) / 2))
         self.scale = WIDTH / max((self.east - self.west) * self.narrow, 1e-9)
         self.height = min(max(round((self.north - south) * self.scale), 40), 4 * WIDTH)
@@ -137,10 +145,26 @@ class Picture:
 
     def path(self, refs: list, closed: bool) -> str:
         """The line through those nodes that are there."""
-        points = [self.point(self.map.places[ref]) for ref in refs if ref in self.map.places]
-        if len(points) < 2:
+        there = [ref for ref in refs if ref in self.map.places]
+        if len(there) < 2 or not self.is_in_view([self.map.places[ref] for ref in there]):
             return ""
+        self.drawn.update(there)
+        points = [self.point(self.map.places[ref]) for ref in there]
         return "M" + "L".join(points[:-1] if closed else points) + ("Z" if closed else "")
+
+    def is_in_view(self, places: list) -> bool:
+        """Whether the line through these places may be seen."""
+        lats, lons = zip(*places)
+        return min(lats) <= self.north and max(lats) >= self.south and min(lons) <= self.east and max(lons) >= self.west
+
+    def nodes(self, box):
+        """The nodes of what is drawn, as dots: those in the box, and the others."""
+        west, south, east, north = box or (-180, -90, 180, 90)
+        dots = {"inside": [], "outside": []}
+        for ref in sorted(self.drawn):
+            lat, lon = self.map.places[ref]
+            dots["inside" if south <= lat <= north and west <= lon <= east else "outside"].append(f"M{self.point((lat, lon))}h0")
+        return [f'  <path class="{kind}" d="' + "\n".join(found) + '"/>' for kind, found in dots.items() if found]
 
     def gather(self):
         """Puts each way and multipolygon to its class."""
@@ -157,7 +181,7 @@ class Picture:
             if tags or number not in in_rings:
                 self.paths[area or class_of(tags, LINES) or "line"].append(self.path(refs, closed))
 
-    def svg(self, box, title: str) -> str:
+    def svg(self, box, title: str, note: str, has_nodes: bool) -> str:
         self.gather()
         parts = [f'<svg xmlns="http://www.w3.org/2000/svg" viewBox="0 0 {WIDTH} {self.height}" width="{WIDTH}" '
                  f'height="{self.height}" role="img" aria-labelledby="title">',
@@ -166,13 +190,16 @@ class Picture:
         for kind, paths in self.paths.items():
             if any(paths):
                 parts.append(f'  <path class="{kind}" d="' + "\n".join(path for path in paths if path) + '"/>')
-        for place in self.map.dots:
+        parts += self.nodes(box) if has_nodes else []
+        for place in [] if has_nodes else [place for place in self.map.dots if self.is_in_view([place])]:
             x, y = self.point(place).split(" ")
             parts.append(f'  <circle class="dot" cx="{x}" cy="{y}" r="2.6"/>')
         if box:
             west, south, east, north = box
             corners = [(south, west), (south, east), (north, east), (north, west)]
             parts.append('  <path class="box" d="M' + "L".join(map(self.point, corners)) + 'Z"/>')
+        if note:
+            parts.append(f'  <text class="note" x="{WIDTH - 6}" y="{self.height - 6}">{escape(note)}</text>')
         return "\n".join([*parts, "</svg>", ""])
 
 
@@ -185,7 +212,7 @@ def edges(text: str) -> tuple:
 
 def main():
     words = dict(word.removeprefix("--").partition("=")[::2] for word in sys.argv[1:])
-    if set(words) - {"box", "view", "title"}:
+    if set(words) - {"box", "view", "nodes", "title", "note"}:
         sys.exit(__doc__)
     try:
         box, view = (edges(words[name]) if name in words else None for name in ("box", "view"))
@@ -195,7 +222,8 @@ def main():
     sys.stdin.reconfigure(encoding="utf-8")
     sys.stdout.reconfigure(encoding="utf-8")
     drawn.read(sys.stdin)
-    sys.stdout.write(Picture(drawn, view or drawn.bounds()).svg(box, words.get("title", "A map drawn from what pbfcut shows")))
+    picture = Picture(drawn, view or drawn.bounds())
+    sys.stdout.write(picture.svg(box, words.get("title", "A map drawn from what pbfcut shows"), words.get("note", ""), "nodes" in words))
 
 
 if __name__ == "__main__":

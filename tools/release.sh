@@ -68,12 +68,14 @@ make_archive() {
   trap 'rm -rf "$folder"' EXIT
   mkdir "$folder/$name"
   unpack_to "$folder/$name/pbfcut" || fail "${packed#"$top"/} is not what MANIFEST says"
-  cp --parents -r install tools/pbfcut-any docs/pbfcut.1 docs/pbfcut-any.1 completions "$folder/$name"
+  ln -s pbfcut "$folder/$name/pbfcutz"
+  cp --parents -r install tools/pbfcut-any docs/pbfcut.1 docs/pbfcutz.1 docs/pbfcut-any.1 completions "$folder/$name"
   cp "$manifest" CHANGELOG.md "$folder/$name"
   cat >"$folder/$name/README" <<'TEXT'
-pbfcut cuts a bounding box out of an OpenStreetMap PBF file; pbfcut-any does so with compressed files, as they are published.
+pbfcut cuts a bounding box out of an OpenStreetMap PBF file. pbfcutz, the same program under another name, reads compressed files, as they are
+published, and pbfcut-any writes them too.
 
-  ./install                installs both, with manual pages and completions, below /usr/local
+  ./install                installs all three, with manual pages and completions, below /usr/local
   ./install $HOME/.local   ... or below another folder
   ./pbfcut --help          runs pbfcut from here
 

@@ -1,4 +1,4 @@
-//! What no clause says: that a payload is read where there is memory, and the heaviest entities. Which fault a payload has is said of
+//! What no clause says: that a payload is read if there is memory, and the heaviest entities. Which fault a payload has is said of
 //! many by the laws of `pbf_examples`, and shown by the cases of `pbf_vectors`.
 
 use osm_entity::{EntityRef, WayRef};

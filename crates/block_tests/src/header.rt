@@ -131,7 +131,7 @@ fn headers_without_fields(rt: HostRuntime) {
     }
 }
 
-/// Fields of a box that aren't known are passed over, and of two left edges the last counts.
+/// Fields of a box that aren't known are skipped, and of two left edges the last counts.
 #[test]
 fn a_box_with_more_fields(rt: HostRuntime) {
     let payload = b"\x0a\x12H\x07\x08\x00\x10\x00\x18\x00\x20\x00\xc2>\x03abc\x08\x01";

@@ -173,7 +173,7 @@ fn weighs(alloc: Global, sketch: &Sketch<'_>, weight: u64) -> Result<bool, Alloc
     Ok(made_relation(alloc, sketch)?.view().weight() == weight)
 }
 
-/// Makes an entity and packs it; an error where it can't be made for want of memory.
+/// Makes an entity and packs it; an error if it can't be made for want of memory.
 fn push_sketch(
     rt: &(impl Abort + AllocGlobal),
     packer: &mut Packing,

@@ -180,7 +180,7 @@ fn is_second_of_ann(meta: MetaRef<'_>) -> bool {
     meta.version == Some(2) && meta.user == Some(b"ann".as_slice()) && meta.visible.is_none()
 }
 
-/// Whether the node stands where that of [`a_dense_node`] does.
+/// Whether the node stands if that of [`a_dense_node`] does.
 fn is_placed(node: NodeRef<'_>) -> bool {
     node.id() == 1
         && node.lat() == 1

@@ -22,7 +22,7 @@ pub struct BoundingBox {
     pub top: i64,
 }
 
-/// What is wrong with a box. Of several faults the one with the least number is answered. Each is printed by its name.
+/// What is wrong with a box. Of several faults the one with the least number is returned. Each is printed by its name.
 #[derive(Clone, Copy, Debug, PartialEq, Eq, Error)]
 pub enum BoxFault {
     /// 1: there aren't exactly three commas.

@@ -163,7 +163,7 @@ impl<'a> NodeRef<'a> {
         self.meta.millis(self.scale)
     }
 
-    /// What the node counts for in a block, or the greatest number where it is more.
+    /// What the node counts for in a block, or the greatest number if it is more.
     pub fn weight(&self) -> u64
         ensures { result ≡ min (node_weight (node_of self.now)) (2 ^ 64 - 1) }
     {

@@ -130,7 +130,7 @@ impl<'a> RelationRef<'a> {
             .saturating_add(160)
     }
 
-    /// What the relation counts for in a block, or the greatest number where it is more.
+    /// What the relation counts for in a block, or the greatest number if it is more.
     pub fn weight(&self) -> u64
         ensures { result ≡ min (relation_weight (relation_of self.now)) (2 ^ 64 - 1) }
     {

@@ -10,7 +10,7 @@ use std::alloc::{AllocError, Global};
 /// A key and its value.
 pub type Tag = (Vec<u8>, Vec<u8>);
 
-/// The text that a stored number names, of which the low 32 bits count; empty where the table has none.
+/// The text that a stored number names, of which the low 32 bits count; empty if the table has none.
 pub(crate) fn named<'a>(table: &'a Table<'a>, number: u64) -> &'a [u8]
     ensures { result.now ≡ named table.now number }
 {

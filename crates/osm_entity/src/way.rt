@@ -157,7 +157,7 @@ impl<'a> WayRef<'a> {
             .saturating_add(160)
     }
 
-    /// What the way counts for in a block, or the greatest number where it is more.
+    /// What the way counts for in a block, or the greatest number if it is more.
     pub fn weight(&self) -> u64
         ensures { result ≡ min (way_weight (way_of self.now)) (2 ^ 64 - 1) }
     {

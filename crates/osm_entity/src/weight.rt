@@ -31,7 +31,7 @@ pub(crate) fn light(weight: u64) -> Option<u64>
     Some(weight)
 }
 
-/// What the tags weigh: 32 for each, and the lengths of its texts. Where it is more than a `u64` holds, the greatest.
+/// What the tags weigh: 32 for each, and the lengths of its texts. If it is more than a `u64` holds, the greatest.
 pub(crate) fn tags_weight(tags: Tags<'_>) -> u64
     ensures { result ≡ min (tags_weight (tags_left tags.entry)) (2 ^ 64 - 1) }
 {

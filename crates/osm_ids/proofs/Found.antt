@@ -156,7 +156,7 @@ none_at_all index bytes pages id n sealed point zero_is =
 abbrev pub EndsAt : List PageStart → List ℕ → ℕ → ℕ → Type 0
 EndsAt index bytes n end = ((next : PageStart) × (n < length index) × (next ≡ get_or index n next) × (end ≡ next.place)) ⊎ ((length index ≤ n) × (end ≡ length bytes))
 
--- where that is so of the last of them, and not of the next
+-- if that is so of the last of them, and not of the next
 pub passed_here : (index : List PageStart) (id : ℤ) (n : ℕ) (d : PageStart) → IsPartitionedBy (λ (s : PageStart). int_le s.first id) index → 0 < n → n ≤ length index → int_le (get_or index (n - 1) d).first id ≡ true → (n < length index → int_le (get_or index n d).first id ≡ false) → IsPassedAt index id n
 passed_here index id n d parted some le low high = (
   λ i e ge lt. parted i (n - 1) e (omega arith) (omega arith) (ap (λ (s : PageStart). int_le s.first id) (get_or_default index (n - 1) e d (omega arith)) ∙ low),

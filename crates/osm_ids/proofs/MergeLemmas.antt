@@ -17,7 +17,7 @@ use Rattle.osm_ids.proofs.Rising.{rising_tail, insert_rises, insert_rising, or_n
 use Rattle.osm_ids.proofs.Found.{rises_from}
 use Rattle.osm_ids.proofs.OrderLemmas.{with_late, contains-with_late, same_ids, none_late, or_assoc}
 
--- ---- where an id is inserted
+-- ---- if an id is inserted
 
 cmp_below : (a b : ℤ) → a <ℤ b → int_cmp a b ≡ Less
 cmp_below a b h =

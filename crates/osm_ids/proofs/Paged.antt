@@ -5,7 +5,7 @@ use Rattle.std.proofs.Math.Seq.{take-append_seam, drop-nil}
 use Rattle.std.proofs.lemmas.Bool.{cases_lt}
 use Rattle.osm_ids.specs.Pages.{Page, page_ids, ids_of_pages, pages_past, pages_of, IsFilled}
 
--- ids that are passed over begin no page
+-- ids that are skipped begin no page
 past_all : (ids : List ℤ) (skip : ℕ) → length ids ≤ skip → pages_past skip ids ≡ []
 unfolding pages_past
 past_all [] skip le = refl

@@ -49,7 +49,7 @@ mask_told xs long = ap (λ ms. mask_l ms % 2 ^ 64) (tops_compared w8 leb (replic
 test_is : (b : ℕ) → leb 128 b ≡ not (is_short b)
 test_is b = grind (arith, nat_tests)
 
--- no byte has its top bit set where all are short
+-- no byte has its top bit set if all are short
 pub all_short : (xs : List ℕ) → mask_l (map (λ b. leb 128 b) xs) ≡ 0 → list_all is_short xs ≡ true
 all_short [] e = refl
 all_short (x ∷ xs) e = grind (arith, nat_tests, all_short xs)

@@ -10,11 +10,11 @@ abbrev pub merged : List ℤ → List ℤ → List ℤ
 merged [] ids = ids
 merged (other ∷ others) ids = insert_key int_cmp (merged others ids) other
 
--- no id stands in both
+-- no id is in both
 abbrev pub AreApart : List ℤ → List ℤ → Type 0
 AreApart others ids = (x : ℤ) → list_any (int_eq x) others ≡ true → list_any (int_eq x) ids ≡ false
 
--- both rise, and no id stands in both
+-- both rise, and no id is in both
 pub record IsMerging (others ids : List ℤ) : Type 0 where
   pub others_rise : IsRising others
   pub ids_rise : IsRising ids

@@ -25,7 +25,7 @@ struct Absent {
 pub struct Lookup<'a> {
     index: &'a [PageStart],
     bytes: &'a [u8],
-    /// The ids round the last one that was looked up. Where the set has few, most that are asked for lie there.
+    /// The ids round the last one that was looked up. If the set has few, most that are asked for lie there.
     absent: Absent,
     /// How many pages begin at or below the id last asked for; the last of them is read. None yet is 0.
     begun: usize,

@@ -9,7 +9,7 @@ use std::collections::BTreeSet;
 use std::collections::btree_set::Iter;
 use std::marker::Model;
 
-/// The ids of pages and of an ordered set that are still to come, in rising order. It takes no memory. Contracts see it as their
+/// The ids of pages and of an ordered set that are still to come, in rising order. It does not allocate. Contracts see it as their
 /// list.
 #[derive(Drop)]
 pub(crate) struct Merged<'a> {

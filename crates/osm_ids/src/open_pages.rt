@@ -12,7 +12,7 @@ use std::marker::Model;
 #[derive(Drop)]
 pub(crate) struct OpenPages {
     ids: SealedIds,
-    /// The greatest of the ids, 0 where there are none.
+    /// The greatest of the ids, 0 if there are none.
     last: i64,
 }
 
@@ -32,7 +32,7 @@ impl Model for OpenPages {
 }
 
 impl OpenPages {
-    /// No ids, which take no memory yet.
+    /// No ids, which allocate nothing yet.
     pub(crate) fn new(alloc: Global) -> OpenPages
         ensures { result ≡ set.empty }
     {

@@ -11,7 +11,7 @@ use std::simd::prelude::*;
 /// How far a page is read.
 #[derive(Clone, Copy)]
 pub(crate) struct Cursor {
-    /// The id before `last`; where that is the page's first, or many were read at once, the same.
+    /// The id before `last`; if that is the page's first, or many were read at once, the same.
     pub(crate) passed: i64,
     /// The last id that was read.
     pub(crate) last: i64,
@@ -19,7 +19,7 @@ pub(crate) struct Cursor {
     pub(crate) at: usize,
 }
 
-/// The sum of sixteen differences that take one byte each, where all do. Most do in a dense set.
+/// The sum of sixteen differences that take one byte each, if all do. Most do in a dense set.
 fn short_sum(block: &[u8; 16]) -> Option<u16>
     ensures { result ≡ (if list_all is_short block.now then Some (sum block.now) else None) }
 {

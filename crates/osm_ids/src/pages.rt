@@ -48,7 +48,7 @@ impl Model for SealedIds {
 const PAGE: u64 = 128;
 
 impl SealedIds {
-    /// No ids, which take no memory yet.
+    /// No ids, which allocate nothing yet.
     pub(crate) fn new(alloc: Global) -> SealedIds
         ensures { result ≡ set.empty }
     {

@@ -38,7 +38,7 @@ impl Model for IdSet {
 }
 
 impl IdSet {
-    /// The empty set, which takes no memory yet.
+    /// The empty set, which allocates nothing yet.
     pub fn new(alloc: Global) -> IdSet
         ensures { result ≡ set.empty }
     {
@@ -95,7 +95,7 @@ impl IdSet {
         }
     }
 
-    /// Lays the ids that came late among the others, so that all are looked up alike. Memory is taken only where there are any. The
+    /// Lays the ids that came late among the others, so that all are looked up alike. Memory is taken only if there are any. The
     /// set stays the same, at an `Err` too.
     pub fn settle(&mut self) -> Result<(), AllocError>
         ensures { self.new ≡ self.old }

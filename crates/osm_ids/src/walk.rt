@@ -11,7 +11,7 @@ use crate::pages::{PageStart, SealedIds};
 use pbf_wire::get_varint;
 use std::marker::Model;
 
-/// The ids of pages that are still to come, in rising order. It takes no memory. Contracts see it as their list.
+/// The ids of pages that are still to come, in rising order. It does not allocate. Contracts see it as their list.
 #[derive(Drop)]
 pub(crate) struct Walk<'a> {
     next: Option<i64>,

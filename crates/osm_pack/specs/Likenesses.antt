@@ -42,7 +42,7 @@ same_present f g =
 abbrev pub same_likeness : Likeness → Likeness → Bool
 same_likeness s t = same_kind s.kind t.kind && (same_scale s.scale t.scale && same_present s.fields t.fields)
 
--- where there are entities, it is like theirs
+-- if there are entities, it is like theirs
 abbrev pub is_like : Option Likeness → Likeness → Bool
 is_like None other = true
 is_like (Some likeness) other = same_likeness likeness other

@@ -1,6 +1,7 @@
 //! What all entities of a block have alike.
 
-ghost use Rattle.std.specs.Prelude.{◌≡◌};
+ghost use Rattle.std.specs.Prelude.{◌≡◌, ◌&&◌};
+ghost use Rattle.std.specs.Ordering.{int_eq};
 ghost use Rattle.osm_entity.specs.Views.{meta_of, entity_of};
 ghost use Rattle.pbf_block.specs.WrittenBlock.{both, same_scale};
 ghost use Rattle.osm_pack.specs.Likenesses.{present_fields, no_fields, likeness_of, same_kind, same_present, same_likeness};
@@ -67,14 +68,21 @@ impl PresentFields {
     }
 }
 
+/// Whether stored coordinates count from the same place.
+#[inline]
+fn has_same_offsets(scale: Scale, other: Scale) -> bool
+    ensures { result ≡ int_eq scale.lat_offset other.lat_offset && int_eq scale.lon_offset other.lon_offset }
+{
+    scale.lat_offset == other.lat_offset && scale.lon_offset == other.lon_offset
+}
+
 /// Whether stored numbers mean the same.
 fn is_same_scale(scale: Scale, other: Scale) -> bool
     ensures { result ≡ same_scale scale other }
 {
     scale.granularity == other.granularity
         && scale.date_granularity == other.date_granularity
-        && scale.lat_offset == other.lat_offset
-        && scale.lon_offset == other.lon_offset
+        && has_same_offsets(scale, other)
 }
 
 /// Whether entities are of one kind.
@@ -109,7 +117,7 @@ impl Likeness {
         }
     }
 
-    /// Whether entities of the one and of the other may stand in one block.
+    /// Whether entities of the one and of the other may be in one block.
     pub(crate) fn same(self, other: Likeness) -> bool
         ensures { result ≡ same_likeness self other }
     {

@@ -59,7 +59,7 @@ fn remember(likeness: &mut Option<Likeness>, entity: &EntityRef<'_>)
 }
 
 impl<S: BuildHasher> OpenBlock<S> {
-    /// A block without entities, which takes no memory yet.
+    /// A block without entities, which allocates nothing yet.
     pub(crate) fn new(alloc: Global, hasher: S) -> OpenBlock<S>
         ensures { Holds result [] }
     {
@@ -136,7 +136,7 @@ impl<S: BuildHasher> OpenBlock<S> {
         Ok(())
     }
 
-    /// Adds an entity of this weight after the others. After an `Err` the block has no stated content.
+    /// Adds an entity of this weight after the others. After an `Err` the block is unspecified.
     pub(crate) fn add(&mut self, entity: &EntityRef<'_>, weight: u64) -> Result<(), AllocError>
         requires open { IsOpen self.old }
         requires fits { EntityFits (entity_of entity.now) }
@@ -188,7 +188,7 @@ impl<S: BuildHasher> OpenBlock<S> {
 
     /// Takes the texts out, and then adds the message of the nodes to the group. The texts go first, so that no more than two
     /// copies of them are held at a time. The table, the columns and the message are held beside each other (`made`), and then
-    /// the table, the message and the group (`room`). After an `Err` the block has no stated content.
+    /// the table, the message and the group (`room`). After an `Err` the block is unspecified.
     fn end_group(&mut self, alloc: Global) -> Result<(), AllocError>
         ensures closing { (es : List EntitySpec) → Holds self.old es
             → OnOk result (IsClosing self.new (table_message self.old.texts) es) }
@@ -222,7 +222,7 @@ impl<S: BuildHasher> OpenBlock<S> {
         Ok(payload)
     }
 
-    /// The PrimitiveBlock of the entities, which are taken out. After an `Err` the block has no stated content.
+    /// The PrimitiveBlock of the entities, which are taken out. After an `Err` the block is unspecified.
     pub(crate) fn close(&mut self, alloc: Global) -> Result<Vec<u8>, AllocError>
         requires { IsOpen self.old }
         ensures payload { (es : List EntitySpec) → Holds self.old es

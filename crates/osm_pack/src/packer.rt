@@ -56,7 +56,7 @@ impl<D: Drain, S: BuildHasher> Packer<D, S> {
     ghost use Rattle.osm_pack.specs.Stops.{IsPackStop};
     ghost use Rattle.osm_pack.specs.Packing.{Pending, IsPacking, HasStopped, has_header, packer_held};
 
-    /// A packer over a drain. Strangers choose the texts of a file, so the hasher should be seeded.
+    /// A packer over a drain. The input is untrusted, so the hasher should be seeded.
     pub fn new(alloc: Global, drain: D, hasher: S) -> Packer<D, S>
         ensures drain { result.drain ≡ drain }
         ensures lender { D.lender result.drain ≡ D.lender drain }
@@ -90,7 +90,7 @@ impl<D: Drain, S: BuildHasher> Packer<D, S> {
     /// Writes the header of the file, in the form that [`Header::write`] gives it. It comes first and once. The caller sees that
     /// its source and its base URL have at most 12,000,000 bytes together.
     ///
-    /// After a stop a prefix of its frame went out, and the packer is spent: it answers the same stop again, and touches no
+    /// After a stop a prefix of its frame went out, and the packer is spent: it returns the same stop again, and touches no
     /// device.
     pub fn put_header(&mut self, header: &Header) -> Result<(), Stop>
         requires once { has_header self.old ≡ false }
@@ -126,7 +126,7 @@ impl<D: Drain, S: BuildHasher> Packer<D, S> {
         outcome
     }
 
-    /// Adds an entity after the others: to those that wait, or, where their block has no room for it, it waits alone, and
+    /// Adds an entity after the others: to those that wait, or, if their block has no room for it, it waits alone, and
     /// they are written. The caller sees that the entity fits, and that a header was put.
     ///
     /// After a stop nothing went out, or a prefix of the block that was to be written, and the packer is spent.

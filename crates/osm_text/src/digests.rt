@@ -20,7 +20,7 @@ fn has_escapes(path: &[u8]) -> bool
 }
 
 /// Appends bytes, each as two digits of base 16.
-fn put_hex(out: &mut Vec<u8>, bytes: &[u8]) -> Result<(), AllocError>
+pub fn put_hex(out: &mut Vec<u8>, bytes: &[u8]) -> Result<(), AllocError>
     ensures { OnOk result (out.new.items ≡ out.old.items ++ flat_map hex_byte bytes.now) }
 {
     for byte in bytes {

@@ -17,7 +17,7 @@ use osm_entity::{
 };
 use std::alloc::AllocError;
 
-/// Appends a space, a mark and a number, where there is one.
+/// Appends a space, a mark and a number, if there is one.
 fn put_number_part(out: &mut Vec<u8>, mark: u8, number: Option<i64>) -> Result<(), AllocError>
     ensures { OnOk result (out.new.items ≡ out.old.items ++ number_part mark number) }
 {
@@ -28,7 +28,7 @@ fn put_number_part(out: &mut Vec<u8>, mark: u8, number: Option<i64>) -> Result<(
     Ok(())
 }
 
-/// Appends a space, `t` and a time, where there is one.
+/// Appends a space, `t` and a time, if there is one.
 fn put_time_part(out: &mut Vec<u8>, millis: Option<i128>, dates: bool) -> Result<(), AllocError>
     ensures { OnOk result (out.new.items ≡ out.old.items ++ time_part dates millis) }
 {
@@ -39,7 +39,7 @@ fn put_time_part(out: &mut Vec<u8>, millis: Option<i128>, dates: bool) -> Result
     Ok(())
 }
 
-/// Appends a space, `s` and a user, where there is one.
+/// Appends a space, `s` and a user, if there is one.
 fn put_user_part(out: &mut Vec<u8>, user: Option<&[u8]>) -> Result<(), AllocError>
     ensures { OnOk result
         (out.new.items ≡ out.old.items ++ user_part (option_map (λ text. text.now) user.entry)) }
@@ -51,7 +51,7 @@ fn put_user_part(out: &mut Vec<u8>, user: Option<&[u8]>) -> Result<(), AllocErro
     Ok(())
 }
 
-/// Appends a space and whether an entity is visible, where that is known.
+/// Appends a space and whether an entity is visible, if that is known.
 fn put_visible_part(out: &mut Vec<u8>, visible: Option<bool>) -> Result<(), AllocError>
     ensures { OnOk result (out.new.items ≡ out.old.items ++ visible_part visible) }
 {
@@ -63,7 +63,7 @@ fn put_visible_part(out: &mut Vec<u8>, visible: Option<bool>) -> Result<(), Allo
     Ok(())
 }
 
-/// A number in 64 bits, where there is one.
+/// A number in 64 bits, if there is one.
 fn widened(number: Option<i32>) -> Option<i64>
     ensures { result ≡ number }
 {
@@ -257,7 +257,7 @@ fn put_relation(out: &mut Vec<u8>, view: &RelationRef<'_>, dates: bool) -> Resul
 /// Times are milliseconds since 1970; where `dates` are asked for, those of the years from 1970 to 2099 are dates and times of
 /// day in UTC, as `2009-02-13T23:31:30.000Z`.
 ///
-/// An `Err` says that memory is refused; the output then has no stated content.
+/// An `Err` says that memory is refused; the output then is unspecified.
 pub fn put_entity(out: &mut Vec<u8>, entity: &EntityRef<'_>, dates: bool) -> Result<(), AllocError>
     ensures { OnOk result
         (out.new.items ≡ out.old.items ++ entity_line dates (entity_of entity.now)) }

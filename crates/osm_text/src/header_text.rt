@@ -33,7 +33,7 @@ fn put_text_lines(out: &mut Vec<u8>, word: &[u8], texts: &[Vec<u8>]) -> Result<(
     Ok(())
 }
 
-/// Appends the line of a text, where there is one.
+/// Appends the line of a text, if there is one.
 fn put_maybe_text(out: &mut Vec<u8>, word: &[u8], text: &Option<Vec<u8>>) -> Result<(), AllocError>
     ensures { OnOk result
         (out.new.items ≡ out.old.items ++ maybe_text_line word.now (option_map text_of text.now)) }
@@ -44,7 +44,7 @@ fn put_maybe_text(out: &mut Vec<u8>, word: &[u8], text: &Option<Vec<u8>>) -> Res
     Ok(())
 }
 
-/// Appends the line of a number, where there is one.
+/// Appends the line of a number, if there is one.
 fn put_maybe_number(out: &mut Vec<u8>, word: &[u8], number: Option<i64>) -> Result<(), AllocError>
     ensures { OnOk result (out.new.items ≡ out.old.items ++ maybe_number_line word.now number) }
 {
@@ -66,7 +66,7 @@ fn put_edges(out: &mut Vec<u8>, edges: HeaderBox) -> Result<(), AllocError>
     Ok(())
 }
 
-/// Appends the line of the box, where there is one.
+/// Appends the line of the box, if there is one.
 fn put_maybe_box(out: &mut Vec<u8>, bbox: Option<HeaderBox>) -> Result<(), AllocError>
     ensures { OnOk result (out.new.items ≡ out.old.items ++ maybe_box_line bbox) }
 {
@@ -112,7 +112,7 @@ fn put_changes(out: &mut Vec<u8>, header: &Header) -> Result<(), AllocError>
 /// for each feature), `program`, `source`, `timestamp` (in seconds since 1970), `sequence` and `url`, in this order. Texts stand
 /// between quotation marks.
 ///
-/// An `Err` says that memory is refused; the output then has no stated content.
+/// An `Err` says that memory is refused; the output then is unspecified.
 pub fn put_header(out: &mut Vec<u8>, header: &Header) -> Result<(), AllocError>
     ensures { OnOk result (out.new.items ≡ out.old.items ++ header_text (header_of header.now)) }
 {

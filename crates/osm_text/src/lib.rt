@@ -9,7 +9,7 @@ mod header_text;
 mod number;
 mod quoted;
 
-pub use digests::put_digest_line;
+pub use digests::{put_digest_line, put_hex};
 pub use entity_text::put_entity;
 pub use header_text::put_header;
 pub use number::put_number;

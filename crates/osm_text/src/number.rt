@@ -7,7 +7,7 @@ ghost use Rattle.osm_text.specs.EntityText.{spaced, spaced_pair};
 use itoa::Buffer;
 use std::alloc::AllocError;
 
-/// Appends a number in decimal, without leading zeros. An `Err`, where memory is refused, leaves the output as it was.
+/// Appends a number in decimal, without leading zeros. An `Err`, if memory is refused, leaves the output as it was.
 pub fn put_number(out: &mut Vec<u8>, number: u64) -> Result<(), AllocError>
     ensures ok { OnOk result (out.new.items ≡ out.old.items ++ decimal number) }
     ensures err { OnErr result (out.new.items ≡ out.old.items) }

@@ -25,7 +25,7 @@ fn is_utf8(bytes: &[u8]) -> bool
     simdutf8::basic::from_utf8(bytes).is_ok()
 }
 
-/// Appends one byte of a text, escaped where it has to be.
+/// Appends one byte of a text, escaped if it has to be.
 fn put_quoted_byte(out: &mut Vec<u8>, byte: u8, is_utf8: bool) -> Result<(), AllocError>
     ensures { OnOk result (out.new.items ≡ out.old.items ++ quoted_byte is_utf8 byte) }
 {
@@ -44,7 +44,7 @@ fn put_quoted_byte(out: &mut Vec<u8>, byte: u8, is_utf8: bool) -> Result<(), All
 /// byte 127 and, where the text as a whole is not UTF-8, each byte from 128 on are written as `\x` and two hexadecimal
 /// digits.
 ///
-/// An `Err` says that memory is refused; the output then has no stated content.
+/// An `Err` says that memory is refused; the output then is unspecified.
 pub fn put_quoted(out: &mut Vec<u8>, text: &[u8]) -> Result<(), AllocError>
     ensures { OnOk result (out.new.items ≡ out.old.items ++ quoted text.now) }
 {

@@ -1,4 +1,4 @@
--- Nodes and ways in one pass: the sets are those of the two passes, where no node comes behind a way.
+-- Nodes and ways in one pass: the sets are those of the two passes, if no node comes behind a way.
 use Rattle.std.proofs.Common.{◌≡◌, Bool, true, false, ◌&&◌, not, cond, List, [], ◌∷◌, refl, sym, ap, ap₂, ◌∙◌, true≢false}
 use Rattle.std.specs.List.{fold}
 use Rattle.std.specs.FinSet as set

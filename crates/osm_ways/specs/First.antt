@@ -1,4 +1,4 @@
--- Nodes and ways in one pass: where no node comes behind a way, the sets are those of the two passes.
+-- Nodes and ways in one pass: if no node comes behind a way, the sets are those of the two passes.
 use Rattle.std.specs.Prelude.{◌≡◌, Bool, true, false, ◌&&◌, not, if◌then◌else◌, List, refl}
 use Rattle.std.specs.Coded.{Coded, code_by, coded×, coded_bool}
 use Rattle.std.specs.List.{fold}
@@ -7,7 +7,7 @@ use Rattle.osm_box.specs.declared.bounding_box.BoundingBox.{BoundingBox}
 use Rattle.osm_ways.specs.Selection.{Seen, a_node, a_way, a_relation}
 use Rattle.osm_ways.specs.Phases.{Ids, WaySets, NodeSets, node_sets_code, way_sets_code, start_ways, node_step, way_step}
 
--- the box; whether a way was met; whether no node came behind one; and the sets, where one did those of the nodes alone
+-- the box; whether a way was met; whether no node came behind one; and the sets, if one did those of the nodes alone
 pub record FirstSets : Type 0 where
   pub area : BoundingBox
   pub has_ways : Bool
@@ -17,7 +17,7 @@ pub record FirstSets : Type 0 where
 abbrev pub first_sets_code : Coded FirstSets
 first_sets_code = code_by (NodeSets × (Bool × (Bool × WaySets))) (coded× node_sets_code (coded× coded_bool (coded× coded_bool way_sets_code))) (λ s. (record { area = s.area; box_ids = s.ways.box_ids }, (s.has_ways, (s.in_order, s.ways)))) (λ p. record { area = p.0.area; has_ways = p.1.0; in_order = p.1.1.0; ways = p.1.1.1 }) (λ _. refl)
 
--- where no way was met, or they were forgotten, there are none
+-- if no way was met, or they were forgotten, there are none
 abbrev pub IsWayless : (has_ways in_order : Bool) (refs ways : Ids) → Type 0
 IsWayless has_ways in_order refs ways = (has_ways && in_order) ≡ false → (refs ≡ set.empty) × (ways ≡ set.empty)
 

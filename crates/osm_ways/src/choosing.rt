@@ -15,7 +15,7 @@ use osm_ids::Lookup;
 use std::marker::Model;
 
 /// What was chosen, to be asked of many entities one after another: each look-up begins where the last one ended, so ids that
-/// lie close together are cheap. It takes no memory.
+/// lie close together are cheap. It does not allocate.
 #[derive(Drop)]
 pub struct Chooser<'a> {
     box_ids: Lookup<'a>,

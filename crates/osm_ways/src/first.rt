@@ -49,7 +49,7 @@ impl Model for FirstPhase {
 }
 
 impl FirstPhase {
-    /// The phase of a box, with no nodes and no ways yet. It takes no memory yet.
+    /// The phase of a box, with no nodes and no ways yet. It allocates nothing yet.
     pub fn new(alloc: Global, area: BoundingBox) -> FirstPhase
         ensures { result ≡ start_first area }
     {
@@ -68,7 +68,7 @@ impl FirstPhase {
     ///
     /// # Errors
     ///
-    /// Where memory is refused the phase may only be dropped.
+    /// If memory is refused, the phase may only be dropped.
     pub fn take_node(&mut self, node: &NodeRef<'_>) -> Result<(), AllocError>
         ensures { OnOk result
             (self.new ≡ first_step self.old (seen_node self.old.area (node_of node.now))) }
@@ -80,7 +80,7 @@ impl FirstPhase {
     ///
     /// # Errors
     ///
-    /// Where memory is refused the phase may only be dropped.
+    /// If memory is refused, the phase may only be dropped.
     pub fn take_place(&mut self, id: i64, lat: i128, lon: i128) -> Result<(), AllocError>
         ensures { OnOk result
             (self.new ≡ first_step self.old (a_node id (is_inside self.old.area lat lon))) }
@@ -111,7 +111,7 @@ impl FirstPhase {
     ///
     /// # Errors
     ///
-    /// Where memory is refused the phase may only be dropped.
+    /// If memory is refused, the phase may only be dropped.
     pub fn take_way(&mut self, way: &WayRef<'_>) -> Result<(), AllocError>
         ensures { OnOk result (self.new ≡ first_step self.old (seen_way (way_of way.now))) }
     {
@@ -122,7 +122,7 @@ impl FirstPhase {
     ///
     /// # Errors
     ///
-    /// Where memory is refused the phase may only be dropped.
+    /// If memory is refused, the phase may only be dropped.
     pub fn take_refs(&mut self, way: SeenWay<'_>) -> Result<(), AllocError>
         ensures { OnOk result (self.new ≡ first_step self.old (seen_refs way.entry)) }
     {
@@ -149,7 +149,7 @@ impl FirstPhase {
     ///
     /// # Errors
     ///
-    /// Where memory is refused the phase is gone.
+    /// If memory is refused, the phase is gone.
     pub fn end(self) -> Result<WayPhase, AllocError>
         ensures { IfOk result (λ phase. phase ≡ self.ways) }
     {

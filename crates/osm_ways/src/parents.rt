@@ -1,4 +1,4 @@
-//! The phase of relations, where all parents of kept relations are kept too.
+//! The phase of relations, if all parents of kept relations are kept too.
 
 ghost use Rattle.std.specs.Prelude.{◌≡◌, map, IfOk, OnOk};
 ghost use Rattle.std.specs.List.{fold};
@@ -16,7 +16,7 @@ use std::alloc::AllocError;
 use std::marker::Model;
 
 impl Chosen {
-    /// The phase that takes relations, with none yet. It takes no memory yet.
+    /// The phase that takes relations, with none yet. It allocates nothing yet.
     pub fn with_parents(self) -> RelationPhase
         ensures { result ≡ start_relations self.ways }
     {
@@ -61,7 +61,7 @@ impl RelationPhase {
     ///
     /// # Errors
     ///
-    /// Where memory is refused the phase may have the id and some of the links. It may only be dropped.
+    /// If memory is refused, the phase may have the id and some of the links. It may only be dropped.
     pub fn take_relation(&mut self, relation: &RelationRef<'_>) -> Result<(), AllocError>
         ensures { OnOk result
             (self.new ≡ relation_step self.old (seen_relation (relation_of relation.now))) }
@@ -78,7 +78,7 @@ impl RelationPhase {
     ///
     /// # Errors
     ///
-    /// Where memory is refused the phase is gone.
+    /// If memory is refused, the phase is gone.
     pub fn end_relations(self) -> Result<ChosenParents, AllocError>
         ensures ways { IfOk result (λ chosen. chosen.ways ≡ self.ways) }
         ensures least { IfOk result

@@ -34,7 +34,7 @@ impl Model for NodePhase {
 }
 
 impl NodePhase {
-    /// The phase of a box, with no nodes yet. It takes no memory yet.
+    /// The phase of a box, with no nodes yet. It allocates nothing yet.
     pub fn new(alloc: Global, area: BoundingBox) -> NodePhase
         ensures { result ≡ start_nodes area }
     {
@@ -49,7 +49,7 @@ impl NodePhase {
     ///
     /// # Errors
     ///
-    /// Where memory is refused the phase is as it was.
+    /// If memory is refused, the phase is as it was.
     pub fn take_node(&mut self, node: &NodeRef<'_>) -> Result<(), AllocError>
         ensures ok { OnOk result (self.new
             ≡ record {
@@ -66,7 +66,7 @@ impl NodePhase {
     ///
     /// # Errors
     ///
-    /// Where memory is refused the phase is as it was.
+    /// If memory is refused, the phase is as it was.
     pub fn take_place(&mut self, id: i64, lat: i128, lon: i128) -> Result<(), AllocError>
         ensures ok { OnOk result (self.new
             ≡ record {
@@ -86,7 +86,7 @@ impl NodePhase {
     ///
     /// # Errors
     ///
-    /// Where memory is refused the phase is gone.
+    /// If memory is refused, the phase is gone.
     pub fn end_nodes(self) -> Result<WayPhase, AllocError>
         ensures { IfOk result (λ phase. phase ≡ start_ways self.box_ids) }
     {
@@ -121,12 +121,12 @@ impl Model for WayPhase {
 }
 
 impl WayPhase {
-    /// Adds a way with a ref among the box's nodes: its id, and all its refs, of which those that are there take no memory.
+    /// Adds a way with a ref among the box's nodes: its id, and all its refs, of which those that are there take no room.
     /// Another way changes nothing.
     ///
     /// # Errors
     ///
-    /// Where memory is refused the phase may have refs of the way, but not its id. It may only be dropped.
+    /// If memory is refused, the phase may have refs of the way, but not its id. It may only be dropped.
     pub fn take_way(&mut self, way: &WayRef<'_>) -> Result<(), AllocError>
         ensures { OnOk result (self.new ≡ way_step self.old (seen_way (way_of way.now))) }
     {
@@ -137,7 +137,7 @@ impl WayPhase {
     ///
     /// # Errors
     ///
-    /// Where memory is refused the phase may only be dropped, as there.
+    /// If memory is refused, the phase may only be dropped, as there.
     pub fn take_refs(&mut self, way: SeenWay<'_>) -> Result<(), AllocError>
         ensures { OnOk result (self.new ≡ way_step self.old (seen_refs way.entry)) }
     {
@@ -149,7 +149,7 @@ impl WayPhase {
     ///
     /// # Errors
     ///
-    /// Where memory is refused the phase is gone.
+    /// If memory is refused, the phase is gone.
     pub fn end_ways(self) -> Result<Chosen, AllocError>
         ensures { IfOk result (λ chosen. chosen ≡ without_parents self) }
     {
@@ -228,7 +228,7 @@ fn add_refs<I: IdLookup>(known: &mut I, ids: &mut IdSet, refs: Refs<'_>) -> Resu
     Ok(())
 }
 
-/// Adds a way with a ref among the box's nodes: its id, and all its refs, of which those that are known take no memory.
+/// Adds a way with a ref among the box's nodes: its id, and all its refs, of which those that are known take no room.
 pub(crate) fn add_way<I: IdLookup>(
     known: &mut I,
     refs: &mut IdSet,
@@ -245,7 +245,7 @@ pub(crate) fn add_way<I: IdLookup>(
     Ok(())
 }
 
-/// What was chosen: the ids of the box's nodes, of all nodes that are kept, and of the ways that are kept; and where all parents are
+/// What was chosen: the ids of the box's nodes, of all nodes that are kept, and of the ways that are kept; and if all parents are
 /// kept, of all relations that are.
 #[derive(Drop)]
 pub struct Chosen {

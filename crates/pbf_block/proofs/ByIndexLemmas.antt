@@ -1,4 +1,4 @@
--- Where a payload has no fault of the wire form, of structure and of values, the cursors give what is said by index.
+-- If a payload has no fault of the wire form, of structure and of values, the cursors give what is said by index.
 use Rattle.std.proofs.Common.{◌≡◌, ℕ, ℤ, pos, ◌^◌, ◌≤◌, eqb, false, List, [], ◌∷◌, length, map, refl, ap, ap₂, ◌∙◌}
 use Rattle.std.specs.List.{flat_map, AllByRecursion, zip}
 use Rattle.std.proofs.lemmas.Bool.{eqb-true}

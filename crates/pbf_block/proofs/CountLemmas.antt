@@ -14,7 +14,7 @@ pub record Adds (k n : ℕ) (left all : List Occurrence) : Type 0 where
 pub adds_all : (k at : ℕ) (m : List ℕ) → at + length m ≤ 2 ^ 63 → Adds k 0 (fields_in at m) (fields_in at m)
 adds_all k at m fits = record { sum = omega arith; room = omega (arith, count_short k at m, fits) }
 
--- where no info came twice so far, the infos that are left say whether one does
+-- if no info came twice so far, the infos that are left say whether one does
 abbrev pub infos_of : Bool → List Occurrence → List Occurrence
 infos_of seen os = if seen then filter (λ o. o.number == INFO) os else drop 1 (filter (λ o. o.number == INFO) os)
 

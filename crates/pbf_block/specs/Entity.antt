@@ -21,7 +21,7 @@ use Rattle.pbf_block.specs.Info.{info_values}
 abbrev pub entity_structure : ℕ → List Occurrence → List Fault
 entity_structure place os = missing ID place os ++ twice INFO os ++ fault_where (not (column_count KEYS os == column_count VALS os)) place TagColumns
 
--- tags and Infos, where the table has as many texts as the limit; an id is stored in two ways, and judged by its kind
+-- tags and Infos, if the table has as many texts as the limit; an id is stored in two ways, and judged by its kind
 abbrev pub entity_values : ℕ → List Occurrence → List Fault
 entity_values limit os = index_faults limit (joined KEYS os) ++ index_faults limit (joined VALS os) ++ flat_map (entered INFO (info_values limit)) os
 
@@ -52,7 +52,7 @@ pub record AreOwnCounts (own : ℕ × ℕ × ℕ) (counts : ℕ × ℕ × ℕ) (
   pub second : counts.1 ≡ column_count own.1 os
   pub third : counts.2 ≡ column_count own.2 os
 
--- what is judged of the values of all entities, where the table has as many texts as the limit
+-- what is judged of the values of all entities, if the table has as many texts as the limit
 pub record AreValues (limit : ℕ) (values : EntityValues) (os : List Occurrence) : Type 0 where
   pub id : values.id ≡ last_value ID os
   pub keys : values.keys ≡ least (index_faults limit (joined KEYS os))

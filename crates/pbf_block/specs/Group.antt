@@ -44,7 +44,7 @@ is_member k = k == NODES || k == DENSE || k == WAYS || k == RELATIONS
 abbrev pub first_member : List Occurrence → Option ℕ
 first_member os = option_map (λ o. o.number) (find (λ o. is_member o.number) os)
 
--- it holds entities of another kind than the first, where there is a first
+-- it holds entities of another kind than the first, if there is a first
 abbrev pub is_other : Option ℕ → ℕ → Bool
 is_other first k = is_member k && not (k == unwrap_or first k)
 
@@ -59,7 +59,7 @@ member_structure first o =
 abbrev pub group_structure : ℕ → ℕ → List ℕ → List Fault
 group_structure place at m = let os = fields_in at m in twice DENSE os ++ flat_map (member_structure (first_member os)) os
 
--- ---- values, where the table has as many texts as the limit
+-- ---- values, if the table has as many texts as the limit
 
 abbrev pub member_values : ℕ → Occurrence → List Fault
 member_values limit o = entered NODES (node_values limit) o ++ entered DENSE (dense_values limit) o ++ entered WAYS (way_values limit) o ++ entered RELATIONS (relation_values limit) o
@@ -89,6 +89,6 @@ member_weights how table scale o = flat_map (weight_fault o.place) (member_entit
 
 -- ---- groups in a block
 
--- where a field of the block is a group, what f gives for each field of that group; else nothing
+-- where a field of the block is a group, what f gives for each field of that group; otherwise nothing
 abbrev pub in_group : {X : Type 0} → (Occurrence → List X) → Occurrence → List X
 in_group f o = entered PRIMITIVEGROUP (λ place at m. flat_map f (fields_in at m)) o

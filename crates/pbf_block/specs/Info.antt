@@ -16,7 +16,7 @@ use Rattle.pbf_block.specs.declared.info.InfoNumbers.{InfoNumbers}
 abbrev pub out_of_range : ℕ → (ℕ → ℤ) → ℕ → ℕ → List Fault
 out_of_range bits read place v = range_fault (pos (2 ^ bits)) place (read v)
 
--- the faults of values, where the table has as many texts as the limit
+-- the faults of values, if the table has as many texts as the limit
 abbrev pub info_values : ℕ → ℕ → ℕ → List ℕ → List Fault
 info_values limit place at m =
     let os = fields_in at m in

@@ -26,7 +26,7 @@ holds_kind kinds k =
     else (if k == RELATIONS then kinds.relations
     else false)))
 
--- ---- the entities of these kinds, where other fields are passed over
+-- ---- the entities of these kinds, where other fields are skipped
 
 abbrev pub member_entities_among : Kinds → How → List (List ℕ) → Scale → Occurrence → List EntitySpec
 member_entities_among kinds how table scale o = if holds_kind kinds o.number then member_entities how table scale o else []

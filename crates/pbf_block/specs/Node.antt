@@ -15,7 +15,7 @@ use Rattle.pbf_block.specs.Scale.{number_or}
 abbrev pub node_structure : ℕ → ℕ → List ℕ → List Fault
 node_structure place at m = let os = fields_in at m in entity_structure place os ++ missing NODE_LAT place os ++ missing NODE_LON place os
 
--- where the table has as many texts as the limit
+-- if the table has as many texts as the limit
 abbrev pub node_values : ℕ → ℕ → ℕ → List ℕ → List Fault
 node_values limit place at m =
     let os = fields_in at m in

@@ -20,7 +20,7 @@ abbrev pub relations_of : EntitySpec → ℕ
 relations_of (relation r) = 1
 relations_of _ = 0
 
--- a number as a u64, the greatest one where there are more
+-- a number as a u64, the greatest one if there are more
 abbrev pub capped : ℕ → ℕ
 capped n = min n (2 ^ 64 - 1)
 

@@ -53,7 +53,7 @@ part_structure o = entered STRINGTABLE table_structure o ++ entered PRIMITIVEGRO
 unfoldable pub structure_faults : ℕ → List ℕ → List Fault
 structure_faults at m = let os = fields_in at m in missing STRINGTABLE at os ++ twice STRINGTABLE os ++ flat_map part_structure os
 
--- ---- values: numbers out of range, each at the field that holds it, where the table has as many texts as the limit
+-- ---- values: numbers out of range, each at the field that holds it, if the table has as many texts as the limit
 
 -- a number that must be at least 1
 abbrev pub positive : Reason → ℕ → ℕ → List Fault

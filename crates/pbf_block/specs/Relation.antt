@@ -24,7 +24,7 @@ are_members os = column_count ROLES_SID os == column_count MEMIDS os && column_c
 abbrev pub relation_structure : ℕ → ℕ → List ℕ → List Fault
 relation_structure place at m = let os = fields_in at m in entity_structure place os ++ fault_where (not (are_members os)) place MemberColumns
 
--- where the table has as many texts as the limit
+-- if the table has as many texts as the limit
 abbrev pub relation_values : ℕ → ℕ → ℕ → List ℕ → List Fault
 relation_values limit place at m =
     let os = fields_in at m in

@@ -22,7 +22,7 @@ are_located os = column_count WAY_LAT os == column_count WAY_LON os && goes_with
 abbrev pub way_structure : ℕ → ℕ → List ℕ → List Fault
 way_structure place at m = let os = fields_in at m in entity_structure place os ++ fault_where (not (are_located os)) place LocationColumns
 
--- where the table has as many texts as the limit
+-- if the table has as many texts as the limit
 abbrev pub way_values : ℕ → ℕ → ℕ → List ℕ → List Fault
 way_values limit place at m =
     let os = fields_in at m in

@@ -103,7 +103,7 @@ impl<'a> Block<'a> {
     ///
     /// Refuses its first fault: the least of the first phase that has one, the phases being the wire form, the structure, the
     /// values and the weights, each over the whole payload and all messages in it. Memory is asked for the places of the
-    /// table's texts alone, once the first two phases are passed; where it is refused no later fault is reported.
+    /// table's texts alone, once the first two phases are passed; if it is refused no later fault is reported.
     pub fn read(alloc: Global, payload: &'a [u8], at: u64) -> Result<Block<'a>, ReadFault>
         requires placed { at + length payload.now ≤ 2 ^ 63 }
         requires short { length payload.now < 33554432 }
@@ -127,7 +127,7 @@ impl<'a> Block<'a> {
         })
     }
 
-    /// The entities in order. Each can be written again. Takes no memory.
+    /// The entities in order. Each can be written again. Does not allocate.
     pub fn entities(&self) -> Entities<'_>
         ensures exact { entities_left result ≡ entities self.now.at self.now.payload.now }
         ensures fits { AllByRecursion EntityFits (entities_left result) }

@@ -40,7 +40,7 @@ pub fn put_dense(group: &mut Vec<u8>, dense: &[u8]) -> Result<(), AllocError>
 }
 
 /// Appends a PrimitiveBlock: the message of its string table, one group with these bytes, and those numbers of the scale that
-/// are not the defaults. After an `Err` the output has no stated content.
+/// are not the defaults. After an `Err` the output is unspecified.
 pub fn put_block(
     out: &mut Vec<u8>,
     table: &[u8],

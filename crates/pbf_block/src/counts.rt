@@ -16,7 +16,7 @@ use osm_entity::EntityRef;
 use pbf_dense::Dense;
 use pbf_wire::{Field, Message, Payload};
 
-/// The numbers of nodes, ways and relations, each the greatest `u64` where there are more.
+/// The numbers of nodes, ways and relations, each the greatest `u64` if there are more.
 #[derive(Clone, Copy, Debug, PartialEq, Eq)]
 pub struct Counts {
     pub nodes: u64,
@@ -75,7 +75,7 @@ fn count_member(field: Field<'_>) -> Counts
     counts
 }
 
-/// Counts the entities of a payload, as they are where it has no wire fault. No entity is made.
+/// Counts the entities of a payload, as they are if it has no wire fault. No entity is made.
 #[tactic(auto, using(crate::proofs::NumberLemmas::counts_more, crate::proofs::NumberLemmas::counts_nothing))]
 pub(crate) fn count_entities(payload: Message<'_>) -> Counts
     ensures { (table : List (List ℕ)) (scale : Scale)

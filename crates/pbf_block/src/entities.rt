@@ -4,7 +4,7 @@ use crate::runs::{Run, Runs};
 use osm_entity::EntityRef;
 use pbf_dense::Dense;
 
-/// The entities of a block that are still to come, in the order of its groups: an iterator over its runs, which takes no memory. A
+/// The entities of a block that are still to come, in the order of its groups: an iterator over its runs, which does not allocate. A
 /// copy of it goes on by itself.
 #[derive(Clone, Copy)]
 pub struct Entities<'a> {

@@ -76,14 +76,14 @@ pub(crate) fn entity_fields<const FIRST: u64, const SECOND: u64, const THIRD: u6
 }
 
 impl<'a> EntityFields<'a> {
-    /// The id as a `sint64`, which it is of a node, and 0 where it is absent.
+    /// The id as a `sint64`, which it is of a node, and 0 if it is absent.
     pub(crate) fn signed_id(&self) -> i64
         ensures { (os : List Occurrence) → AreFields self.now os → result ≡ number_or (pos 0) unzigzag ID os }
     {
         self.id.map_or(0, |(_, number)| unzigzag(number))
     }
 
-    /// The id as an `int64`, which it is of a way or a relation, and 0 where it is absent.
+    /// The id as an `int64`, which it is of a way or a relation, and 0 if it is absent.
     pub(crate) fn wide_id(&self) -> i64
         ensures { (os : List Occurrence) → AreFields self.now os → result ≡ number_or (pos 0) low_i64 ID os }
     {

@@ -40,7 +40,7 @@ pub struct EntityOut {
 }
 
 impl EntityOut {
-    /// It takes no memory yet.
+    /// It allocates nothing yet.
     pub fn new(alloc: Global) -> EntityOut
         ensures { writer_length result ≡ 0 }
     {
@@ -136,7 +136,7 @@ impl EntityOut {
     /// Appends a way to a group, and adds its texts to the table: the keys and values of its tags in turn, then its user. The
     /// caller sees that the way fits, and that the table has room for its texts, repeats counted. The clause on the group
     /// also says that the way is written as it would be with a table that more texts are added to later. Then nothing of the
-    /// way stays in the writer. After an `Err` group, table and writer have no stated content.
+    /// way stays in the writer. After an `Err` group, table and writer are unspecified.
     pub fn put_way<S: BuildHasher>(
         &mut self,
         group: &mut Vec<u8>,

@@ -168,7 +168,7 @@ fn judge_weight(entity: EntityRef<'_>, place: u64) -> Option<Fault>
     fault_where(entity.weight() > HIGHEST_WEIGHT, place, Reason::EntityLarge)
 }
 
-/// Whether entities of so many tags, refs, locations and members can't be too heavy, where no text is longer than `longest`.
+/// Whether entities of so many tags, refs, locations and members can't be too heavy, if no text is longer than `longest`.
 #[tactic(auto, using(crate::proofs::LightLemmas::product_small))]
 fn are_light(parts: u64, longest: u64) -> bool
     ensures { IsTrue result → 160 + longest + parts * (32 + 2 * longest) ≤ HIGHEST_WEIGHT }
@@ -178,7 +178,7 @@ fn are_light(parts: u64, longest: u64) -> bool
         && 160 + longest + parts * (32 + 2 * longest) <= HIGHEST_WEIGHT
 }
 
-/// Whether no entity of a field can be too heavy, by how much there is of it, where no text is longer than `longest`. None is
+/// Whether no entity of a field can be too heavy, by how much there is of it, if no text is longer than `longest`. None is
 /// looked at.
 #[tactic(auto, using(crate::proofs::LightLemmas::dense_member, crate::proofs::LightLemmas::other_member))]
 fn is_light(field: Field<'_>, longest: u64) -> bool
@@ -197,7 +197,7 @@ fn is_light(field: Field<'_>, longest: u64) -> bool
     length <= HIGHEST_WEIGHT && are_light(3 * length, longest)
 }
 
-/// `EntityLarge` at a field of a group, where one of its entities is too heavy.
+/// `EntityLarge` at a field of a group, if one of its entities is too heavy.
 fn judge_members<'a>(field: Field<'a>, table: &'a Table<'a>, scale: Scale) -> Option<Fault>
     ensures { result ≡ least (member_weights along table.now scale (occurrence field.entry)) }
 {
@@ -209,8 +209,8 @@ fn judge_members<'a>(field: Field<'a>, table: &'a Table<'a>, scale: Scale) -> Op
     }
 }
 
-/// The weights of the entities that a field of a group holds, where no text is longer than `longest`: most fields are short enough
-/// to be passed over.
+/// The weights of the entities that a field of a group holds, if no text is longer than `longest`: most fields are short enough
+/// to be skipped.
 #[derive(Clone, Copy)]
 pub(crate) struct MemberWeights<'a> {
     pub(crate) table: &'a Table<'a>,

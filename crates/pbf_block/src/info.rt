@@ -79,7 +79,7 @@ impl JudgeMessage for InfoRanges {
     }
 }
 
-/// The numbers of the Info that a field holds, and none where it is absent.
+/// The numbers of the Info that a field holds, and none if it is absent.
 fn numbers_in(info: Option<Field<'_>>) -> InfoNumbers
     ensures { AreNumbers result (fields_of (option_map occurrence info.entry)) }
 {
@@ -94,7 +94,7 @@ fn numbers_in(info: Option<Field<'_>>) -> InfoNumbers
     }
 }
 
-/// The text that a number names, of which the low 32 bits count; empty where the table has none.
+/// The text that a number names, of which the low 32 bits count; empty if the table has none.
 fn named<'a>(last: Option<(u64, u64)>, table: &'a Table<'a>) -> Option<&'a [u8]>
     ensures { option_map (λ text. text.now) result
         ≡ option_map (named table.now) (option_map (λ p. p.1) last) }
@@ -103,7 +103,7 @@ fn named<'a>(last: Option<(u64, u64)>, table: &'a Table<'a>) -> Option<&'a [u8]>
     Some(table.text(low_u32(number) as usize))
 }
 
-/// The metadata that a field holds: nothing where it is absent.
+/// The metadata that a field holds: nothing if it is absent.
 pub(crate) fn meta_in<'a>(info: Option<Field<'a>>, table: &'a Table<'a>) -> MetaRef<'a>
     ensures { meta_of result ≡ info_in table.now (fields_of (option_map occurrence info.entry)) }
 {

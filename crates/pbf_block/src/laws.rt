@@ -76,7 +76,7 @@ pub fn written_relation_is_read()
         → relation_values (length (table_of texts)) place at (relation_message texts r) ≡ [] }
 {}
 
-/// A written block is at most 380 bytes longer than twice its weight; so entities that may stand in one block fit a frame.
+/// A written block is at most 380 bytes longer than twice its weight; so entities that may be in one block fit a frame.
 #[tactic(auto, using(crate::proofs::LengthLaw::block_short, crate::proofs::LengthLaw::block_fits))]
 pub fn written_block_fits()
     ensures short { (es : List EntitySpec)
@@ -85,7 +85,7 @@ pub fn written_block_fits()
         → length (block_message es) < 33554432 }
 {}
 
-/// Entities that may stand in one block are written as a block that has no fault of any phase, and that holds those entities,
+/// Entities that may be in one block are written as a block that has no fault of any phase, and that holds those entities,
 /// wherever in a file it stands.
 #[tactic(auto, using(crate::proofs::WrittenLaw::written_sound, crate::proofs::WrittenLaw::written_read))]
 pub fn written_block_is_read()

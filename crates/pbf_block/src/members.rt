@@ -3,7 +3,7 @@
 use crate::primitive_block::PRIMITIVEGROUP;
 use pbf_wire::{Field, Fields, FoundFields, Message, Payload};
 
-/// The fields of a block's groups that are still to come, in order: an iterator over the payload, which takes no memory.
+/// The fields of a block's groups that are still to come, in order: an iterator over the payload, which does not allocate.
 #[derive(Clone, Copy)]
 pub(crate) struct Members<'a> {
     /// What is left of the group that was begun.

@@ -40,7 +40,7 @@ pub(crate) fn judge_structure(message: Message<'_>, place: u64) -> Option<Fault>
     lesser(lat, judge_missing(message, place, NODE_LON))
 }
 
-/// The least fault of values, where the table has `limit` texts.
+/// The least fault of values, if the table has `limit` texts.
 #[inline(never)]
 #[tactic(auto, using(crate::proofs::Parts::lesser_parts))]
 pub(crate) fn judge_values(message: Message<'_>, limit: u64) -> Option<Fault>
@@ -52,7 +52,7 @@ pub(crate) fn judge_values(message: Message<'_>, limit: u64) -> Option<Fault>
     lesser(lat, judge_signed(last_value(lon, NODE_LON)))
 }
 
-/// The node of a message. Reads the message's fields once and takes no memory.
+/// The node of a message. Reads the message's fields once and does not allocate.
 #[tactic(auto, unfolding(crate::specs::Node::node_in))]
 pub(crate) fn node_in<'a>(message: Message<'a>, table: &'a Table<'a>, scale: Scale) -> NodeRef<'a>
     ensures { node_of result ≡ node_in table.now scale (found_in message.entry) }

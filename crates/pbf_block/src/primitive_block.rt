@@ -111,7 +111,7 @@ pub(crate) fn judge_values(payload: Message<'_>, limit: u64) -> Option<Fault>
 }
 
 /// The least weight fault of a payload: `EntityLarge` at the first field of a group with an entity above [`HIGHEST_WEIGHT`]. Goes
-/// through those entities that may be too heavy by the length of their message. Takes no memory.
+/// through those entities that may be too heavy by the length of their message. Does not allocate.
 pub(crate) fn judge_weights<'a>(
     payload: Message<'a>,
     table: &'a Table<'a>,

@@ -56,7 +56,7 @@ pub(crate) fn judge_structure(message: Message<'_>, place: u64) -> Option<Fault>
     )
 }
 
-/// The least fault of values, where the table has `limit` texts.
+/// The least fault of values, if the table has `limit` texts.
 #[inline(never)]
 #[tactic(auto, using(crate::proofs::Parts::lesser_parts))]
 pub(crate) fn judge_values(message: Message<'_>, limit: u64) -> Option<Fault>
@@ -71,7 +71,7 @@ pub(crate) fn judge_values(message: Message<'_>, limit: u64) -> Option<Fault>
     lesser(ids, kinds)
 }
 
-/// The relation of a message. Reads the message's fields once and takes no memory.
+/// The relation of a message. Reads the message's fields once and does not allocate.
 #[tactic(auto, unfolding(crate::specs::Relation::relation_in))]
 pub(crate) fn relation_in<'a>(
     message: Message<'a>,

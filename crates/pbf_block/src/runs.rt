@@ -62,7 +62,7 @@ pub(crate) fn run_in<'a>(
 }
 
 /// The runs of a block that are still to come, one for each field of its groups, in order: an iterator over the payload, which
-/// takes no memory.
+/// does not allocate.
 #[derive(Clone, Copy)]
 pub struct Runs<'a> {
     members: Members<'a>,

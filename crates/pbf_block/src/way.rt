@@ -34,7 +34,7 @@ pub(crate) const WAY_KINDS: [(u64, Kind); 7] = [
     (WAY_LON, Kind::Column),
 ];
 
-/// Whether a way has no locations, or as many as refs: these are counted only where there are locations.
+/// Whether a way has no locations, or as many as refs: these are counted only if there are locations.
 fn are_located(message: Message<'_>, lats: usize, lons: usize) -> bool
     requires lats { lats ≡ column_count WAY_LAT (found_in message) }
     requires lons { lons ≡ column_count WAY_LON (found_in message) }
@@ -57,7 +57,7 @@ pub(crate) fn judge_structure(message: Message<'_>, place: u64) -> Option<Fault>
     )
 }
 
-/// The least fault of values, where the table has `limit` texts.
+/// The least fault of values, if the table has `limit` texts.
 #[inline(never)]
 #[tactic(auto, using(crate::proofs::Parts::lesser_parts))]
 pub(crate) fn judge_values(message: Message<'_>, limit: u64) -> Option<Fault>
@@ -70,7 +70,7 @@ pub(crate) fn judge_values(message: Message<'_>, limit: u64) -> Option<Fault>
     lesser(lats, judge_sums(lons, WAY_LON))
 }
 
-/// The way of a message. Reads the message's fields once and takes no memory.
+/// The way of a message. Reads the message's fields once and does not allocate.
 #[tactic(auto, unfolding(crate::specs::Way::way_in))]
 pub(crate) fn way_in<'a>(message: Message<'a>, table: &'a Table<'a>, scale: Scale) -> WayRef<'a>
     ensures { way_of result ≡ way_in along table.now scale (found_in message.entry) }

@@ -119,7 +119,7 @@ runs_below texts (n ∷ ns) h =
     (all_append (λ n. n < length (table_of texts)) (tag_numbers texts n.tags) (0 ∷ []) (tags_below texts n.tags h.0.0) (omega arith, tt))
     (runs_below texts ns h.1)
 
--- the runs, where a node has a tag
+-- the runs, if a node has a tag
 abbrev pub written_runs : Bool → List ℕ → List ℕ
 written_runs tagged runs = if tagged then runs else []
 

@@ -107,7 +107,7 @@ node_pushed texts ns n old user ids lats lons versions times changesets uids use
     let g : tagged ≡ list_any has_tag (ns ++ n ∷ []) = eg ∙ (ap (λ (q : Bool). q || are_some n.tags) (ap (λ (c : DenseColumns). c.tagged) h) ∙ any_one ns n) in
     rw (i, a, o, v, t, s, x, p, b, r, g) refl
 
--- the runs are left out where no node has a tag
+-- the runs are left out if no node has a tag
 pub no_runs : (tagged : Bool) (runs old : List ℕ) → tagged ≡ false → old ≡ old ++ slot_bytes (Column 10 (if tagged then runs else []))
 no_runs tagged runs old e = rw e (nothing_put (Column 10 []) old (column_empty 10 [] refl))
 

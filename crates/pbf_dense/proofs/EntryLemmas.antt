@@ -1,4 +1,4 @@
--- Entries that are passed over.
+-- Entries that are skipped.
 use Rattle.std.proofs.Common.{◌≡◌, ◌≤◌, ℕ, zero, suc, List, [], ◌∷◌, drop, refl, sym, ap, ◌∙◌, ◌+◌, add-one, arith}
 use Rattle.std.specs.Prelude.{slice_get, None}
 use Rattle.std.proofs.Math.Seq.{drop-nil}
@@ -21,7 +21,7 @@ one_more (suc n) (x ∷ xs) = one_more n xs
 pub passed_one : {A : Type 0} (n : ℕ) (xs : List A) → drop 1 (drop n xs) ≡ drop (n + 1) xs
 passed_one n xs = rw add-one (one_more n xs)
 
--- where a column has no entry after n, there is none after more either
+-- if a column has no entry after n, there is none after more either
 pub all_passed : {A : Type 0} (n count : ℕ) (xs : List A) → n ≤ count → slice_get (drop n xs) 0 ≡ None → drop 1 (drop n xs) ≡ drop count xs
 all_passed n count xs within h =
     let e = nothing_first (drop n xs) h in ap (drop 1) e ∙ (refl ∙ sym (ended n count xs within e))

@@ -40,7 +40,7 @@ module _ (k : ℕ) (f : ℕ → ℕ → List ℕ → List Fault) (Q : List Occur
         | false ↦ λ e. of_kept os s h.1 q
       ]) h.0
 
-  -- where no message at the field k has a fault, the last has what that shows
+  -- if no message at the field k has a fault, the last has what that shows
   embedded_has : (os : List Occurrence) → flat_map (entered k f) os ≡ [] → Q (embedded k os)
   embedded_has os e = of_kept os None (all_nil (entered k f) os e) none
 

@@ -112,7 +112,7 @@ as_stored = record { granularity = pos 1; date_granularity = pos 1; lat_offset =
 unfoldable pub early_fault : ℕ → ℕ → ℕ → List ℕ → Option Fault
 early_fault limit place at m = option_or (least (dense_wire place at m)) (option_or (least (dense_structure place at m)) (least (dense_values limit place at m)))
 
--- where there is none, these
+-- if there is none, these
 abbrev pub if_none : Option Fault → List Fault → List Fault
 if_none None faults = faults
 if_none (Some f) faults = []

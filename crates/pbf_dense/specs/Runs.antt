@@ -3,7 +3,7 @@ use Rattle.std.specs.Prelude.{ℕ, zero, suc, List, [], ◌∷◌, map, slice_in
 use Rattle.osm_entity.specs.Entity.{TagSpec}
 use Rattle.osm_entity.specs.Sources.{tag_of}
 
--- the runs with this pair in front of the first; where there is none, a run of the pair alone
+-- the runs with this pair in front of the first; if there is none, a run of the pair alone
 abbrev pub with_pair : ℕ × ℕ → List (List (ℕ × ℕ)) → List (List (ℕ × ℕ))
 with_pair pair [] = (pair ∷ []) ∷ []
 with_pair pair (run ∷ later) = (pair ∷ run) ∷ later
@@ -15,7 +15,7 @@ runs_in (zero ∷ rest) = [] ∷ runs_in rest
 runs_in (suc key ∷ []) = []
 runs_in (suc key ∷ value ∷ rest) = with_pair (suc key, value) (runs_in rest)
 
--- the tags of node i: run i, and none where there are fewer runs
+-- the tags of node i: run i, and none if there are fewer runs
 unfoldable pub tags_at : List (List ℕ) → List ℕ → ℕ → List TagSpec
 tags_at table column i = map (tag_of table) (slice_index_or (runs_in column) i [])
 

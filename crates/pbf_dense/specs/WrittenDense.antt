@@ -83,7 +83,7 @@ columns_of texts ns = record {
   tagged = list_any has_tag ns;
 }
 
--- a DenseNodes: the runs of tags are left out where no node has a tag
+-- a DenseNodes: the runs of tags are left out if no node has a tag
 abbrev pub dense_slots : DenseColumns → List Slot
 dense_slots columns =
     Column ID (deltas columns.ids)

@@ -37,7 +37,7 @@ fn skip_runs(numbers: &mut Column<'_>, count: usize)
     }
 }
 
-/// The tags of the next node, whose run is passed over. Most nodes have none, and cost no copy of the column.
+/// The tags of the next node, whose run is skipped. Most nodes have none, and cost no copy of the column.
 fn take_tags<'a>(numbers: &mut Column<'a>, table: &'a Table<'a>) -> Tags<'a>
     ensures tags { tags_left result ≡ run_tags table.now (numbers_left numbers.old) }
     ensures rest { map low_32 (numbers_left numbers.new)
@@ -54,7 +54,7 @@ fn take_tags<'a>(numbers: &mut Column<'a>, table: &'a Table<'a>) -> Tags<'a>
     }
 }
 
-/// The nodes of a dense message that are still to come: an iterator over its columns, which takes no memory.
+/// The nodes of a dense message that are still to come: an iterator over its columns, which does not allocate.
 #[derive(Clone, Copy)]
 pub struct Dense<'a> {
     ids: Sums<'a>,
@@ -76,7 +76,7 @@ impl<'a> Dense<'a> {
     ghost use Rattle.pbf_dense.specs.Places.{place_of, places_left, BeginWithIds};
 
     /// The nodes of a dense message, whatever is wrong with it: as long as there are an id, a latitude and a longitude, up to a
-    /// sum that is out of range. Goes through the message's fields once for each of its columns and takes no memory.
+    /// sum that is out of range. Goes through the message's fields once for each of its columns and does not allocate.
     #[tactic(auto, unfolding(crate::specs::Cursors::dense_left, crate::specs::Nodes::nodes_along))]
     pub fn over(message: Message<'a>, table: &'a Table<'a>, scale: Scale) -> Dense<'a>
         ensures { dense_left result ≡ nodes_along table.now scale (found_in message.entry) }
@@ -113,7 +113,7 @@ impl<'a> Dense<'a> {
         self.ids
     }
 
-    /// Passes over as many nodes, or over all where there are fewer. None is made: each column is moved on by itself.
+    /// Skips as many nodes, or all if there are fewer. None is made: each column is moved on by itself.
     #[inline(always)]
     pub fn pass(&mut self, count: usize)
         ensures { dense_left self.new ≡ drop count (dense_left self.old) }
@@ -123,7 +123,7 @@ impl<'a> Dense<'a> {
         }
     }
 
-    /// As [`Dense::pass`], where there are some to pass over.
+    /// Like [`Dense::pass`], if there are some to pass over.
     #[inline(never)]
     fn move_on(&mut self, count: usize)
         ensures { dense_left self.new ≡ drop count (dense_left self.old) }

@@ -57,7 +57,7 @@ impl Dense<'_> {
 
 // Its structure.
 
-/// `ColumnLengths` at `place`, where there aren't as many latitudes and as many longitudes as ids.
+/// `ColumnLengths` at `place`, if there aren't as many latitudes and as many longitudes as ids.
 fn judge_coordinates(message: Message<'_>, place: u64) -> Option<Fault>
     ensures { result ≡ least (coordinate_counts place (found_in message.entry)) }
 {
@@ -99,8 +99,8 @@ fn are_tags(keys_vals: Column<'_>, nodes: usize) -> bool
 }
 
 impl Dense<'_> {
-    /// The least fault of structure of a dense message, whose field stands at `place`: columns of unlike counts, tags that are
-    /// not of their form, a second DenseInfo. Where the message has a wire fault, its fields before that count. Decodes no
+    /// The least fault of structure of a dense message, whose field stands at `place`: columns of different counts, tags that are
+    /// not of their form, a second DenseInfo. If the message has a wire fault, its fields before that count. Decodes no
     /// column but that of the tags.
     #[tactic(auto, using(crate::proofs::Parts::lesser_parts), unfolding(crate::specs::Judged::dense_structure))]
     pub fn judge_structure(message: Message<'_>, place: u64) -> Option<Fault>
@@ -175,7 +175,7 @@ fn judge_node(node: NodeRef<'_>, place: u64) -> Option<Fault>
 }
 
 impl Dense<'_> {
-    /// `EntityLarge` at `place`, where one of the nodes that are still to come is too heavy.
+    /// `EntityLarge` at `place`, if one of the nodes that are still to come is too heavy.
     #[tactic(auto, using(crate::proofs::Parts::least_more, crate::proofs::Parts::lesser_nothing), unfolding(crate::specs::Judged::dense_weights))]
     pub fn judge_nodes(self, place: u64) -> Option<Fault>
         ensures { result ≡ least (dense_weights place (dense_left self.entry)) }
@@ -187,7 +187,7 @@ impl Dense<'_> {
         least
     }
 
-    /// `EntityLarge` at `place`, where a node is too heavy of those that [`Dense::over`] gives.
+    /// `EntityLarge` at `place`, if a node is too heavy of those that [`Dense::over`] gives.
     pub fn judge_weights(message: Message<'_>, place: u64, table: &Table<'_>) -> Option<Fault>
         ensures { result ≡ least (dense_weights place
             (nodes_along table.now as_stored (found_in message.entry))) }

@@ -57,7 +57,7 @@ fn push_tags<S: BuildHasher>(
 }
 
 impl DenseOut {
-    /// No nodes, which take no memory yet.
+    /// No nodes, which allocate nothing yet.
     pub fn new(alloc: Global) -> DenseOut
         ensures { (texts : List (List ℕ)) → HoldsNodes result texts [] }
     {
@@ -73,7 +73,7 @@ impl DenseOut {
 
     /// Adds a node after the others, and its texts to the table: the keys and values of its tags in turn, then its user. The
     /// caller sees that the node fits, that the table has room for its texts, repeats counted, and, for a message that can be
-    /// read, that all nodes have the same fields of metadata. After an `Err` nodes and table have no stated content.
+    /// read, that all nodes have the same fields of metadata. After an `Err` nodes and table are unspecified.
     pub fn push<S: BuildHasher>(
         &mut self,
         node: &NodeRef<'_>,

@@ -25,7 +25,7 @@ pub(crate) fn next_sum(sums: &mut Sums<'_>) -> Option<i64>
     sums.next()
 }
 
-/// Passes over as many numbers of a column. They are read from a copy, which stays in registers.
+/// Skips as many numbers of a column. They are read from a copy, which stays in registers.
 #[tactic(auto, using(crate::proofs::EntryLemmas::passed_one, crate::proofs::EntryLemmas::all_passed))]
 pub(crate) fn pass_numbers(numbers: &mut Column<'_>, count: usize)
     ensures { numbers_left numbers.new ≡ drop count (numbers_left numbers.old) }
@@ -39,7 +39,7 @@ pub(crate) fn pass_numbers(numbers: &mut Column<'_>, count: usize)
     *numbers = rest;
 }
 
-/// Passes over as many values of a column of differences.
+/// Skips as many values of a column of differences.
 #[tactic(auto, using(crate::proofs::EntryLemmas::passed_one))]
 pub(crate) fn pass_sums(sums: &mut Sums<'_>, count: usize)
     ensures { sums_left sums.new ≡ drop count (sums_left sums.old) }

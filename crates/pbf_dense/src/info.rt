@@ -14,7 +14,7 @@ use osm_entity::{MetaRef, STORED_LIMIT, UID_LIMIT};
 use pbf_strings::Table;
 use pbf_wire::{Column, Field, Message, Payload, Sums, last_field, low_i32};
 
-/// The text of an index, if there is one; the empty text where it is negative or the table has none.
+/// The text of an index, if there is one; the empty text if it is negative or the table has none.
 fn user_text<'a>(table: &'a Table<'a>, index: Option<i64>) -> Option<&'a [u8]>
     ensures { option_map (λ text. text.now) result ≡ option_map (user_text table.now) index }
 {
@@ -107,7 +107,7 @@ impl<'a> InfoColumns<'a> {
         }
     }
 
-    /// Passes over the metadata of as many nodes.
+    /// Skips the metadata of as many nodes.
     #[tactic(auto, using(crate::proofs::InfoLemmas::still_within))]
     pub(crate) fn pass(&mut self, count: usize)
         ensures { info_left self.new ≡ later_by count (info_left self.old) }

@@ -45,7 +45,7 @@ fn push_value(column: &mut DeltaOut, value: Option<i64>) -> Result<(), AllocErro
 }
 
 impl InfoOut {
-    /// Columns without values, which take no memory yet.
+    /// Columns without values, which allocate nothing yet.
     pub(crate) fn new(alloc: Global) -> InfoOut
         ensures { (texts : List (List ℕ)) → info_held result ≡ info_columns texts [] }
     {

@@ -1,4 +1,4 @@
-//! The judgement of a dense message, and its reading where it has no fault.
+//! The judgement of a dense message, and its reading if it has no fault.
 
 ghost use Rattle.std.specs.Prelude.{◌≡◌, ◌+◌, ◌≤◌, ◌^◌, length};
 ghost use Rattle.pbf_wire.specs.Least.{least};
@@ -31,7 +31,7 @@ fn early_fault(message: Message<'_>, place: u64, table: &Table<'_>) -> Option<Fa
     Dense::judge_values(message, limit)
 }
 
-/// The least fault of the weights, where there is none before them.
+/// The least fault of the weights, if there is none before them.
 #[tactic(auto, using(crate::proofs::Phases::weights_last))]
 fn late_fault(
     early: Option<Fault>,

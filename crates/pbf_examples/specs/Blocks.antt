@@ -107,7 +107,7 @@ pub record ScaleFaults : Type 0 where
   pub goes_on : scaled (hex "80 80 80 80 80 80 80 80 80 80") refused_at 59 for VarintLong
   pub cut : scaled (hex "80 80 80 80 80 80 80 80 80") refused_at 59 for VarintCut
 
--- ---- which of several faults is answered
+-- ---- which of several faults is returned
 
 -- of one frame: by phase (wire form, structure, values), then by offset; and no frame behind it is
 -- looked at

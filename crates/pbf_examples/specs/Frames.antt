@@ -106,7 +106,7 @@ pub record SpelledFrames : Type 0 where
   pub longer : hex "00 00 00 0e" ++ header_type ++ hex "18 82 00  0a 00" means []
   pub longer_listed :
       hex "00 00 00 0e" ++ header_type ++ hex "18 82 00  0a 00" lists "0 OSMHeader 2 0" ∷ []
-  -- 2 `indexdata` is not looked at, and an unknown field 4 is passed over
+  -- 2 `indexdata` is not looked at, and an unknown field 4 is skipped
   pub more : hex "00 00 00 13" ++ header_type ++ hex "12 01 ff  22 01 ff  18 02  0a 00" means []
   -- the last `datasize` counts, and so does the last `raw`
   pub sized_twice : hex "00 00 00 0f" ++ header_type ++ hex "18 07  18 02  0a 00" means []
@@ -120,7 +120,7 @@ pub record SpelledFrames : Type 0 where
 abbrev pub foo : List ℕ
 foo = hex "00 00 00 07  0a 03 46 6f 6f  18 02" ++ hex "ff ff"
 
--- a blob of another type is passed over
+-- a blob of another type is skipped
 pub record OtherTypes : Type 0 where
   pub between : header ++ foo ++ node_1 means one
   pub first : foo ++ header ++ node_1 means one
@@ -181,7 +181,7 @@ pub record LongestFile : Type 0 where
   pub most : (judged false (2 ^ 62 - 19) header).1 ≡ None
   pub over : (judged false (2 ^ 62 - 18) header).1 ≡ Some (fault (2 ^ 62 - 18) FileLong)
 
--- a compressed blob is refused at the field that says so, also where there is a `raw`
+-- a compressed blob is refused at the field that says so, also if there is a `raw`
 pub record Compressed : Type 0 where
   pub none : header_head ++ hex "02  10 05" refused_at 17 for NoRaw
   pub zlib : header_head ++ hex "02  1a 00" refused_at 17 for Zlib

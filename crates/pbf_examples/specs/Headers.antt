@@ -118,7 +118,7 @@ pub record SpelledHeaders : Type 0 where
 
 -- ---- features
 
--- of the optional features three are written again where the file has them, each once, in the order
+-- of the optional features three are written again if the file has them, each once, in the order
 -- of `kept_features`
 abbrev pub repeated_features : List ℕ
 repeated_features =

@@ -68,7 +68,7 @@ pub record FieldOrder : Type 0 where
   -- of a field that occurs again the last counts
   pub twice : with_node (hex "08 16  40 02  48 02  08 14") means ten
 
--- a field that is not known is passed over, by its wire type; what it holds is not looked at
+-- a field that is not known is skipped, by its wire type; what it holds is not looked at
 pub record UnknownFields : Type 0 where
   pub number : with_node (hex "08 14  78 05  40 02  48 02") means ten
   pub eight_bytes : with_node (hex "79 ff ff ff ff ff ff ff ff  08 14  40 02  48 02") means ten

@@ -1,4 +1,4 @@
--- A beginning of bytes went out.
+-- A prefix of bytes went out.
 use Rattle.std.proofs.Common.{◌≡◌, ℕ, ◌+◌, ◌≤◌, min, List, ◌++◌, length, take, Option, sym, ap, ◌∙◌, arith}
 use Rattle.std.proofs.lemmas.List.{take-append-le, take_all, take_min}
 use Rattle.std.proofs.Math.Seq.{take-append-add}

@@ -22,7 +22,7 @@ pub bytes_at_front : (cut : Fault) (n : ℕ) (read rest : List ℕ) → length r
 bytes_at_front cut n read rest long =
     bytes_at_ok cut n read (read ++ rest) (sym (take_at read rest n long)) (omega (arith, long)) ∙ ap (λ (l : List ℕ). Ok (read, l)) (drop_at read rest n long)
 
--- where there are fewer
+-- if there are fewer
 pub bytes_at_short : (cut : Fault) (n : ℕ) (bytes : List ℕ) → length bytes < n → bytes_at cut n bytes ≡ Err cut
 unfolding bytes_at
 bytes_at_short cut n bytes short = rw (take_all n bytes (omega arith)) (grind (arith, nat_tests))

@@ -42,7 +42,7 @@ frame_put k payload header blob e1 e2 e3 is_blob is_header p1 p2 p3 =
 
 -- ---- a beginning
 
--- what went out of the first part is a beginning of the whole
+-- what went out of the first part is a prefix of the whole
 pub front_first : (old new : Option (List ℕ)) (first second whole : List ℕ) → first ++ second ≡ whole → IsFront old new first → IsFront old new whole
 front_first old new first second whole is front = record {
   count = min front.count (length first);

@@ -18,7 +18,7 @@ abbrev pub int32_held : Content → ℤ
 int32_held (Number v) = low_i32 v
 int32_held _ = pos 0
 
--- a size of a blob, where it may be one
+-- a size of a blob, if it may be one
 abbrev pub size_within : ℤ → Option ℕ
 size_within (pos n) = if nat_le n LARGEST_SIZE then Some n else None
 size_within (negsuc n) = None

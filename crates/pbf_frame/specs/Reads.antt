@@ -12,7 +12,7 @@ use Rattle.pbf_frame.specs.Frames.{FrameSpec, blob_at, frame_kind, frame_bytes, 
 use Rattle.pbf_frame.specs.Sound.{IsFrame}
 use Rattle.pbf_frame.specs.Steps.{blob_of}
 
--- what was read is the first n bytes, or all where there are fewer, and the others are left
+-- what was read is the first n bytes, or all if there are fewer, and the others are left
 pub record Reads (old new : Option (List ℕ)) (n : ℕ) (read : List ℕ) : Type 0 where
   pub front : (bytes : List ℕ) → old ≡ Some bytes → (read ≡ take n bytes) × (new ≡ Some (drop n bytes))
   pub untold : old ≡ None → new ≡ None

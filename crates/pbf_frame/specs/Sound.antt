@@ -14,7 +14,7 @@ use Rattle.pbf_frame.specs.Blob.{blob_fault}
 use Rattle.pbf_frame.specs.Frames.{FrameSpec, is_header, header_at, blob_at, frame_kind, frame_end, order_faults, next_of}
 use Rattle.pbf_frame.specs.Verdict.{Verdict, joined_frames}
 
--- a blob that is looked into has no fault
+-- a blob that is read has no fault
 abbrev pub IsSound : FrameKind → ℕ → List ℕ → Type 0
 IsSound kind.Header at blob = blob_fault at blob ≡ None
 IsSound kind.Data at blob = blob_fault at blob ≡ None

@@ -21,7 +21,7 @@ abbrev pub unless : {A : Type 0} → Option Fault → Result A Fault → Result 
 unless None later = later
 unless (Some f) later = Err f
 
--- what follows the first step, where that gave something
+-- what follows the first step, if that gave something
 infixl 10 ◌>>=◌
 abbrev pub ◌>>=◌ : {A B : Type 0} → Result A Fault → (A → Result B Fault) → Result B Fault
 (Ok x) >>= f = f x
@@ -33,7 +33,7 @@ abbrev pub ◌>>=◌ : {A B : Type 0} → Result A Fault → (A → Result B Fau
 unfoldable pub head_of : ℕ → List ℕ → Result Head Fault
 head_of at header = unless (wire HEADER_KINDS (items at header)) (unless (least (header_faults at header)) (Ok (head_says at header)))
 
--- the first n bytes and the others, where there are n
+-- the first n bytes and the others, if there are n
 unfoldable pub bytes_at : Fault → ℕ → List ℕ → Result (List ℕ × List ℕ) Fault
 bytes_at cut n bytes = if nat_lt (length (take n bytes)) n then Err cut else Ok (take n bytes, drop n bytes)
 

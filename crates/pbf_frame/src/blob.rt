@@ -110,7 +110,7 @@ pub(crate) fn judge_blob(blob: &[u8], at: u64) -> Option<Fault>
     judge_raw(at, last_field(blob, RAW), judge_compressions(blob))
 }
 
-/// Where the text of a field begins, and `at` where it is absent.
+/// Where the text of a field begins, and `at` if it is absent.
 fn text_place(field: Option<Field<'_>>, at: u64) -> u64
     requires { at ≤ 2 ^ 63 }
     ensures place { result ≡ raw_at at (option_map occurrence field.entry) }
@@ -127,7 +127,7 @@ fn text_place(field: Option<Field<'_>>, at: u64) -> u64
     }
 }
 
-/// The payload, and where its first byte stands in the file.
+/// The payload, and where its first byte is in the file.
 #[tactic(auto, using(crate::proofs::BlobLemmas::payload_short))]
 pub(crate) fn payload_in(blob: &[u8], at: u64) -> (&[u8], u64)
     requires { at + length blob.now ≤ 2 ^ 63 }

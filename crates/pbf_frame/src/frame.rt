@@ -10,7 +10,7 @@ pub enum FrameKind {
     Header,
     /// `OSMData`: the payload is a PrimitiveBlock.
     Data,
-    /// Another type: the blob is read past.
+    /// Another type: the blob is skipped.
     Other,
 }
 

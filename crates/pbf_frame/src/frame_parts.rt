@@ -22,7 +22,7 @@ use crate::transfer::fill;
 use byteorder::{BigEndian, ByteOrder};
 use pbf_wire::{Fault, Reason, fault_where, lesser};
 
-// How many bytes of a blob of another type are read past at a time.
+// How many bytes of a blob of another type are skipped at a time.
 const PIECE: usize = 8192;
 
 fn refused(offset: u64, reason: Reason) -> Stop
@@ -239,7 +239,7 @@ fn read_known_blob<F: Feed>(
     Ok(())
 }
 
-// The blob after a header; one of another type is read past.
+// The blob after a header; one of another type is skipped.
 fn read_blob<F: Feed>(feed: &mut F, blob: &mut Vec<u8>, head: Head, at: u64) -> Result<(), Stop>
     requires in_range { at + head.size ≤ 2 ^ 63 }
     ensures gave { OnOk result

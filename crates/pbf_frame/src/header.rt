@@ -45,7 +45,7 @@ pub struct Head {
     pub size: u32,
 }
 
-/// The text of a field, and no bytes where it is absent.
+/// The text of a field, and no bytes if it is absent.
 pub(crate) fn occurrence_text(field: Option<Field<'_>>) -> &[u8]
     ensures { result.now ≡ occurrence_text (option_map occurrence field.entry) }
 {
@@ -74,7 +74,7 @@ fn size_in(payload: Payload<'_>) -> Option<u32>
     }
 }
 
-/// The size of the blob by the last `datasize`, and 0 where it is none.
+/// The size of the blob by the last `datasize`, and 0 if it is none.
 fn size_in_header(header: Message<'_>) -> u32
     ensures size { result
         ≡ unwrap_or (size_of (last_of DATASIZE (found_in header.entry))) 0 }

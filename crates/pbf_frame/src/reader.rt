@@ -48,7 +48,7 @@ impl<F: Feed> FrameReader<F> {
     ghost use Rattle.pbf_frame.specs.Sound.{IsSound};
     ghost use Rattle.pbf_frame.specs.Next.{IsSeeingNext, IsLendingNext, IsReading, Shows, place_of, had_header_of, held_by, verdict};
 
-    /// A reader at the start of a file. It takes no memory before the first frame.
+    /// A reader at the start of a file. It allocates nothing before the first frame.
     pub fn new(alloc: Global, feed: F) -> Self
         ensures feed { result.feed ≡ feed }
         ensures lender { F.lender result.feed ≡ F.lender feed }
@@ -101,7 +101,7 @@ impl<F: Feed> FrameReader<F> {
 
     /// The next frame, lent until the next call; `None` at the end of an input that had its header.
     ///
-    /// `Refused` names the least fault of the frame. After a stop the reader is spent: it answers the same stop again and
+    /// `Refused` names the least fault of the frame. After a stop the reader is spent: it returns the same stop again and
     /// touches no device. `None` stays `None`.
     pub fn next(&mut self) -> Result<Option<Frame<'_>>, Stop>
         ensures* after { sem 𝓛 (follows_so (the_row F.row) (the_row F.row)

@@ -18,7 +18,7 @@ pub struct FeedFault;
 #[error("write failed")]
 pub struct DrainFault;
 
-/// Why work stopped before its end. What answered it is spent: it answers the same again, and touches no device.
+/// Why work stopped before its end. What answered it is spent: it returns the same again, and touches no device.
 #[derive(Clone, Copy, Debug, PartialEq, Eq, Error)]
 pub enum Stop {
     /// The input is refused.

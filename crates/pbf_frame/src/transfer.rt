@@ -30,7 +30,7 @@ pub(crate) fn fill<F: Feed>(feed: &mut F, buf: &mut [u8]) -> Result<usize, FeedF
     Ok(done)
 }
 
-/// Writes all of the bytes; after a failure a prefix of them went out. It takes no memory.
+/// Writes all of the bytes; after a failure a prefix of them went out. It does not allocate.
 pub fn write_all<D: Drain>(drain: &mut D, bytes: &[u8]) -> Result<(), DrainFault>
     ensures ok { OnOk result (Added D.Drain drain.old bytes.now drain.new) }
     ensures front { IsFront (D.taken drain.old) (D.taken drain.new) bytes.now }

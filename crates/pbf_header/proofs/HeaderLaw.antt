@@ -128,7 +128,7 @@ all_known = (λ place at. refl, (λ place at. refl, tt))
 abbrev BoxFaults : Type 0
 BoxFaults = ℕ → ℕ → List ℕ → List Fault
 
--- where no box has a fault there is none
+-- if no box has a fault there is none
 box_alone : (f : BoxFaults) (h : HeaderSpec) → AllByRecursion (λ m. (place at : ℕ) → f place at m ≡ []) (option_to_list (option_map box_message h.bbox)) → AllByRecursion (SlotQuiet (entered BBOX f)) (header_slots h)
 box_alone f h boxes =
     let inner = entered BBOX f in

@@ -45,7 +45,7 @@ fields_wide at m = let cut = is_cutting at m in joined_wide (fields_in at m) at 
 abbrev IsValueWide : Option (ℕ × ℕ) → Type 0
 IsValueWide value = IfSome IsWide (option_map (λ p. p.1) value)
 
--- the last number of a field, where one came before or none
+-- the last number of a field, if one came before or none
 number_wide : (b : Bool) (place : ℕ) (c : Content) (vs : List (ℕ × ℕ)) (before : Option (ℕ × ℕ)) → HoldsWide c → IsValueWide before → ((before : Option (ℕ × ℕ)) → IsValueWide before → IsValueWide (last_or before vs))
     → IsValueWide (last_or before (cons_option (if b then value_in place c else None) vs))
 number_wide false place c vs before wide h more = more before h

@@ -41,7 +41,7 @@ header_of h = record {
 
 -- ---- as it stands in a message
 
--- the last number of the field k as an sint64, and 0 where there is none
+-- the last number of the field k as an sint64, and 0 if there is none
 abbrev pub edge : ℕ → List Occurrence → ℤ
 edge k os = unzigzag (unwrap_or (last_number k os) 0)
 

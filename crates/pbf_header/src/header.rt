@@ -60,7 +60,7 @@ pub(crate) fn has(texts: &[Vec<u8>], text: &[u8]) -> bool
     texts.iter().any(|held| text == held.as_slice())
 }
 
-/// A text of one's own, where there is one.
+/// A text of one's own, if there is one.
 pub(crate) fn copied(alloc: Global, text: Option<&[u8]>) -> Result<Option<Vec<u8>>, AllocError>
     ensures { IfOk result
         (λ owned. option_map text_of owned ≡ option_map (λ text. text.now) text.entry) }

@@ -99,7 +99,7 @@ impl JudgeMessage for FeatureValue {
     }
 }
 
-/// The first fault of a HeaderBlock. Takes no memory.
+/// The first fault of a HeaderBlock. Does not allocate.
 #[tactic(auto, unfolding(crate::specs::HeaderFaults::header_fault))]
 pub(crate) fn judge_header(payload: Message<'_>) -> Result<(), Fault>
     ensures { result ≡ judged (header_fault payload.entry.at payload.entry.bytes.now) }

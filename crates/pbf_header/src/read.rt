@@ -17,7 +17,7 @@ use crate::header_block::{
 use pbf_wire::{Message, Payload, ReadFault, last_number, low_i64, unzigzag};
 use std::alloc::{AllocError, Global};
 
-/// An edge of a box, and 0 where it is absent.
+/// An edge of a box, and 0 if it is absent.
 fn edge(message: &[u8], number: u64) -> i64
     ensures { result ≡ edge number (fields_in 0 message.now) }
 {
@@ -71,7 +71,7 @@ fn texts(alloc: Global, payload: Message<'_>, number: u64) -> Result<Vec<Vec<u8>
     Ok(texts)
 }
 
-/// What a HeaderBlock says; where it has a fault, what its fields before the fault say.
+/// What a HeaderBlock says; if it has a fault, what its fields before the fault say.
 #[tactic(auto, unfolding(crate::specs::Header::header_in))]
 fn header_in(alloc: Global, payload: Message<'_>) -> Result<Header, AllocError>
     ensures { IfOk result (λ header. header_of header

@@ -1,5 +1,5 @@
 -- What holds of the bytes that went through a device holds of those that it reports.
-use Rattle.std.proofs.Common.{◌≡◌, ℕ, Bool, false, List, ◌++◌, Option, Some, None, refl, sym, ap, ◌∙◌, subst}
+use Rattle.std.proofs.Common.{◌≡◌, ℕ, Bool, false, List, ◌∷◌, ◌++◌, Option, Some, None, refl, sym, ap, ◌∙◌, subst}
 use Rattle.std.proofs.lemmas.List.{append-nil}
 use Rattle.sha2.specs.Sha256.{sha256}
 use Rattle.osm_entity.specs.Entity.{EntitySpec}
@@ -65,6 +65,10 @@ gave_file_less f old new digest holds less step given = record {
 -- two feeds that report the same bytes gave one file
 pub one_file : (first other : Option (List ℕ)) (file second b : List ℕ) → Tells first file → Tells other second → first ≡ Some b → other ≡ Some b → file ≡ second
 one_file first other file second b tells too is also = tells b is ∙ sym (too b also)
+
+-- references are the same below one that is
+pub same_below : {N : Type 0} (first other : N) (below also : List N) → first ∷ below ≡ other ∷ also → below ≡ also
+same_below first other below also e = cc
 
 -- the same of devices that are equal
 pub supplied_as : {F : Type 0} (f : feed.Ghosts F) (first old last new : F) (file : List ℕ) → first ≡ old → last ≡ new → Supplied f first file last → Supplied f old file new

@@ -77,8 +77,8 @@ module _ {F : Type 0} (g : feed.Ghosts F) where
       }
 
   -- at the end these frames are all, and their bytes are what the feed gave
-  pub has_passed_all : (first mid now : FrameReader F) (frames : List FrameSpec) (holds : Option Verdict → Type 0) → HasPassed g first frames mid → GaveNone g mid now → holds (Some (frames, None)) → GaveRest g first now holds
-  has_passed_all first mid now frames holds so_far none holding =
+  pub has_passed_all : (first mid now : FrameReader F) (frames : List FrameSpec) (holds : Option Verdict → Type 0) → HasPassed g first frames mid → GaveNone g mid now → g.lender now.feed ≡ g.lender first.feed → holds (Some (frames, None)) → GaveRest g first now holds
+  has_passed_all first mid now frames holds so_far none lender holding =
       let all = so_far.gone [] ∙ ap (λ (v : Option Verdict). option_map (with_all frames) v) (nothing_left (had_header_of mid) (place_of mid) none.had_header) in
       let whole : judged (had_header_of first) (place_of first) (joined_frames frames ++ []) ≡ (frames ++ [], None) = some_same _ _ all in
       let is : judged (had_header_of first) (place_of first) (joined_frames frames) ≡ (frames, None) =
@@ -89,6 +89,7 @@ module _ {F : Type 0} (g : feed.Ghosts F) where
           told = so_far.told ∙ ap (prepend (joined_frames frames)) none.told;
           end = none.end;
           logged = λ log b h. none.logged log (b ++ joined_frames frames) (so_far.logged log b h);
+          lender = lender;
         };
         holding = subst (λ (v : Verdict). holds (Some v)) (sym is) holding;
       }

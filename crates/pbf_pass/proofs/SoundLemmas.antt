@@ -38,7 +38,7 @@ fully_gone first rest fs sound gone = ap fully_known gone ∙ of rest where
   of None = refl
   of (Some v) = ap (λ (v : Verdict). Some v) (front_over fs v.0 v.1 sound)
 
--- where it has no fault, the frames are such
+-- if it has no fault, the frames are such
 pub sound_frames : (fs : List FrameSpec) (e : Option Fault) → (sound_front fs e).1 ≡ None → AllByRecursion IsSound fs
 sound_frames [] e is = tt
 sound_frames (f ∷ fs) e is = of (payload_fault f) refl (λ rest. sound_frames fs e rest) is where

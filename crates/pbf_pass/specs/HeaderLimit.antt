@@ -23,7 +23,7 @@ is_short h = nat_le (text_weight h.source + text_weight h.url) MOST_HEADER_TEXT
 abbrev pub IsShort : HeaderSpec → Type 0
 IsShort h = text_weight h.source + text_weight h.url ≤ MOST_HEADER_TEXT
 
--- the fault of a header that can't be written, at its place; where there is none, which a file without a fault has
+-- the fault of a header that can't be written, at its place; if there is none, which a file without a fault has
 abbrev pub header_limit : Option (ℕ × HeaderSpec) → Option Fault
 header_limit None = Some (fault 0 NoHeader)
 header_limit (Some header) = if is_short header.1 then None else Some (fault header.0 EntityLarge)

@@ -22,7 +22,7 @@ abbrev pub sound_first : Option Fault → FrameSpec → Verdict → Verdict
 sound_first None f verdict = with_first f verdict
 sound_first (Some e) f verdict = ([], Some e)
 
--- the frames before the first one whose payload has a fault, and that fault; where none has one, all of them and what follows them
+-- the frames before the first one whose payload has a fault, and that fault; if none has one, all of them and what follows them
 abbrev pub sound_front : List FrameSpec → Option Fault → Verdict
 sound_front [] ending = ([], ending)
 sound_front (f ∷ fs) ending = sound_first (payload_fault f) f (sound_front fs ending)

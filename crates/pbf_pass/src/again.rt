@@ -59,7 +59,7 @@ fn gather_payload<G: Gather>(
 /// Gathers the entities of frames that were judged in a pass before.
 ///
 /// The reader judges frames, but nothing judges their payloads: of a frame that has a fault anything may be gathered, or `Changed`
-/// with the number is answered.
+/// with the number is returned.
 #[derive(Drop)]
 pub struct Later<'a, G> {
     /// What the entities are gathered in.
@@ -85,7 +85,7 @@ impl<G: Gather> Visit for Later<'_, G> {
 /// that had its header.
 ///
 /// The reader judges frames, but nothing judges their payloads: of a frame that has a fault anything may be gathered, or `Changed`
-/// with the number is answered. After a stop the reader and what was gathered may only be dropped, or the reader taken apart.
+/// with the number is returned. After a stop the reader and what was gathered may only be dropped, or the reader taken apart.
 pub fn step_again<F: Feed, G: Gather>(
     alloc: Global,
     reader: &mut FrameReader<F>,
@@ -101,7 +101,7 @@ pub fn step_again<F: Feed, G: Gather>(
     step(alloc, reader, &mut Later { gathering, number })
 }
 
-/// Gathers the entities of a whole file in a pass of this number, after the one that judged the file, and answers the digest of its
+/// Gathers the entities of a whole file in a pass of this number, after the one that judged the file, and returns the digest of its
 /// bytes.
 ///
 /// What was gathered has a meaning where the digest is that of the bytes which were judged. `Refused` and `Changed` say that the

@@ -17,7 +17,7 @@ use pbf_header::{Header, MOST_HEADER_TEXT};
 use pbf_wire::{Fault, Reason};
 
 /// The header of the file that was judged, if it can be written: its source and its base URL have at most [`MOST_HEADER_TEXT`] bytes
-/// together. Else it is refused as too large an entity is, at the place of its message.
+/// together. Otherwise it is refused as too large an entity is, at the place of its message.
 pub fn writable_header(told: &Judged) -> Result<&Header, Halt>
     ensures header { IfOk result (λ header. held_header told.now.pass
         ≡ Some (told.now.pass.header_at, header_of header.now)) }
@@ -55,7 +55,7 @@ fn is_short(header: &Header) -> bool
     text_len(&header.source).saturating_add(text_len(&header.url)) <= MOST_HEADER_TEXT
 }
 
-/// The length of a text, and 0 where there is none.
+/// The length of a text, and 0 if there is none.
 fn text_len(text: &Option<Vec<u8>>) -> u64
     ensures { result ≡ text_weight (option_map text_of text.now) }
 {

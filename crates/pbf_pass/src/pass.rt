@@ -41,15 +41,15 @@ pub trait Gather {
         ensures { (so_far : Self) (e : EntitySpec) → is_among result e ≡ false
             → gathered so_far e ≡ so_far };
 
-    /// Gathers an entity. Where memory is refused it may only be dropped.
+    /// Gathers an entity. If memory is refused, it may only be dropped.
     fn gather(&mut self, entity: &EntityRef<'_>) -> Result<(), AllocError>
         ensures { OnOk result (self.new ≡ gathered self.old (entity_of entity.now)) };
 
-    /// Gathers a way that is not made yet. Where memory is refused it may only be dropped.
+    /// Gathers a way that is not made yet. If memory is refused, it may only be dropped.
     fn gather_way(&mut self, unmade: &UnmadeWay<'_>) -> Result<(), AllocError>
         ensures { OnOk result (self.new ≡ gathered self.old (way (way_from unmade.now))) };
 
-    /// Gathers the nodes of a dense message. Where memory is refused it may only be dropped.
+    /// Gathers the nodes of a dense message. If memory is refused, it may only be dropped.
     fn gather_dense(&mut self, dense: &Dense<'_>) -> Result<(), AllocError>
         ensures { OnOk result
             (self.new ≡ fold gathered self.old (map node (dense_left dense.now))) };
@@ -359,7 +359,7 @@ pub fn step_count<F: Feed>(
     step_gather(alloc, reader, pass, &mut Nothing)
 }
 
-/// As [`step_count`], and takes the nodes of the frame in order. After a stop the phase too may only be dropped.
+/// Like [`step_count`], and takes the nodes of the frame in order. After a stop the phase too may only be dropped.
 pub fn step_nodes<F: Feed>(
     alloc: Global,
     reader: &mut FrameReader<F>,
@@ -375,7 +375,7 @@ pub fn step_nodes<F: Feed>(
     step_gather(alloc, reader, pass, phase)
 }
 
-/// As [`step_count`], and takes the ways of the frame in order. After a stop the phase too may only be dropped.
+/// Like [`step_count`], and takes the ways of the frame in order. After a stop the phase too may only be dropped.
 pub fn step_ways<F: Feed>(
     alloc: Global,
     reader: &mut FrameReader<F>,
@@ -391,7 +391,7 @@ pub fn step_ways<F: Feed>(
     step_gather(alloc, reader, pass, phase)
 }
 
-/// As [`step_count`], and takes the relations of the frame in order. After a stop the phase too may only be dropped.
+/// Like [`step_count`], and takes the relations of the frame in order. After a stop the phase too may only be dropped.
 pub fn step_relations<F: Feed>(
     alloc: Global,
     reader: &mut FrameReader<F>,

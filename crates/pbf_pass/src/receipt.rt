@@ -15,7 +15,7 @@ use std::alloc::AllocError;
 pub struct InputReceipt {
     /// The numbers of the entities.
     pub counts: Counts,
-    /// The digest of the bytes that the feed gave; where a call has several feeds, of those that each of them gave that was read.
+    /// The digest of the bytes that the feed gave; if a call has several feeds, of those that each of them gave that was read.
     pub input: [u8; 32],
 }
 

@@ -26,7 +26,7 @@ pub trait Visit {
     /// Why it stops at a frame: what it was before, and what it is then.
     ghost failed: { Self → FrameSpec → Self → Stop → Type 0 };
 
-    /// Where it can take a frame. It stays so until it stops.
+    /// Whether it can take a frame. It stays so until it stops.
     ghost ready: { Self → Type 0 } = { λ _. Unit {0} };
 
     /// The references that it goes through.
@@ -64,7 +64,7 @@ pub fn step<F: Feed, V: Visit>(
     Ok(true)
 }
 
-/// Visits the frames that are left, by steps, and answers how many there are: after each step its clause `space` bounds what the reader
+/// Visits the frames that are left, by steps, and returns how many there are: after each step its clause `space` bounds what the reader
 /// holds.
 pub fn visit_rest<F: Feed, V: Visit>(
     alloc: Global,

@@ -1,28 +1,107 @@
 -- What a feed gave, unpacked, is the raw file that packed bytes mean.
-use Rattle.std.proofs.Common.{◌≡◌, ℕ, zero, List, [], Option, Some, sym, ap, ◌∙◌, subst}
+use Rattle.std.proofs.Common.{◌≡◌, ◌⊎◌, inl, inr, ℕ, zero, suc, Bool, true, false, List, [], Option, Some, Result, Ok, Err, IfErr, sym, ap, ◌∙◌, subst}
 use Rattle.std.specs.Option.{option_map}
 use Rattle.sha2.specs.Sha256.{sha256}
+use Rattle.pbf_wire.specs.declared.fault.Fault.{Fault}
 use Rattle.pbf_frame.specs.declared.device.Feed as feed
+use Rattle.pbf_frame.specs.declared.stop.Stop.{Stop}
+use Rattle.pbf_frame.specs.declared.stop.Stop.TheVariants as stop
+use Rattle.pbf_frame.specs.Devices.{IsFront}
 use Rattle.pbf_pass.specs.Given.{GaveFile}
+use Rattle.pbf_pass.specs.Stops.{Caused}
 use Rattle.pbf_pass.proofs.GivenLemmas.{tells_file}
 use Rattle.pbf_unpack.specs.Unpacked.{unpacked}
-use Rattle.pbf_published.specs.Published.{GavePublished, Means, MeansIfSome}
+use Rattle.pbf_pass.specs.HeaderLimit.{judged_writable}
+use Rattle.pbfcut.specs.Calls.{GaveOrNot, RefusedFirst}
+use Rattle.pbfcut.proofs.ConvertingLemmas.{nothing_out}
+use Rattle.pbf_published.specs.declared.input.PublishedHalt.{PublishedHalt}
+use Rattle.pbf_published.specs.Published.{GavePublished, GaveOrNone, Means, MeansIfSome, PassedAs, PassedIfSome, IsRefusedBy, UnlessChanged, told_by}
 
--- what is said of the file that an unpacking feed gave is said of the raw file that packed bytes mean
-pub published_of : {F U : Type 0} (f : feed.Ghosts F) (u : feed.Ghosts U) (first : F) (old new : U) (digest raw_digest : List ℕ) (holds keeps : List ℕ → Type 0)
-    → u.remaining old ≡ option_map unpacked (f.remaining first) → u.has_passed old zero [] → ((raw : List ℕ) → u.has_passed new zero raw → Means digest raw)
-    → ((file : List ℕ) → holds file → keeps file) → GaveFile u old new raw_digest holds → GavePublished f first digest raw_digest keeps
-published_of f u first old new digest raw_digest holds keeps start fresh means step given =
-    let file = given.file in
-    let m = means file (given.supplied.logged zero [] fresh) in
-    record {
-      packed = m.packed;
-      digest_is = m.digest_is;
-      raw_digest_is = given.digest_is ∙ ap sha256 (sym m.means);
-      told = λ all is. sym (tells_file u old new raw_digest holds given (unpacked all) (start ∙ ap (λ (k : Option (List ℕ)). option_map unpacked k) is)) ∙ sym m.means;
-      holding = subst keeps (sym m.means) (step file given.holding);
-    }
+-- what an unpacking feed says of the feed below, as it is opened and as it is closed, with a digest of what was read
+pub record IsOver {F U : Type 0} (f : feed.Ghosts F) (u : feed.Ghosts U) (first last : F) (old new : U) (digest : List ℕ) : Type 0 where
+  pub remaining : u.remaining old ≡ option_map unpacked (f.remaining first)
+  pub hashed : u.has_passed old zero []
+  pub logged : (log : ℕ) → f.has_passed first log [] → u.has_passed old (suc log) []
+  pub means : (raw : List ℕ) → u.has_passed new zero raw → Means digest raw
+  pub passed : (log : ℕ) (raw : List ℕ) → u.has_passed new (suc log) raw → PassedAs f.has_passed last log raw
+
+-- its digest is this, or that of nothing
+pub either_over : {F U : Type 0} (f : feed.Ghosts F) (u : feed.Ghosts U) (first last : F) (old new : U) (o : Option (List ℕ)) (digest : List ℕ) → (o ≡ Some digest) ⊎ (o ≡ Some (sha256 []))
+    → ((d : List ℕ) → o ≡ Some d → IsOver f u first last old new d) → IsOver f u first last old new digest ⊎ IsOver f u first last old new (sha256 [])
+either_over f u first last old new o digest (inl is) over = inl (over digest is)
+either_over f u first last old new o digest (inr is) over = inr (over (sha256 []) is)
+
+-- what is one with a third is the same
+pub same_by : {F : Type 0} (mid last first : F) → mid ≡ last → mid ≡ first → last ≡ first
+same_by mid last first e e2 = sym e ∙ e2
+
+module _ {F U : Type 0} (f : feed.Ghosts F) (u : feed.Ghosts U) (first last : F) (old new : U) (raw_digest : List ℕ) (holds keeps : List ℕ → Type 0) (step : (file : List ℕ) → holds file → keeps file) where
+  -- what is said of the file that an unpacking feed gave is said of the raw file that packed bytes mean
+  pub published_of : (digest : List ℕ) → IsOver f u first last old new digest → GaveFile u old new raw_digest holds → GavePublished f first last digest raw_digest keeps
+  published_of digest over given =
+      let file = given.file in
+      let m = over.means file (given.supplied.logged zero [] over.hashed) in
+      record {
+        packed = m.packed;
+        digest_is = m.digest_is;
+        raw_digest_is = given.digest_is ∙ ap sha256 (sym m.means);
+        told = λ all is. sym (tells_file u old new raw_digest holds given (unpacked all) (over.remaining ∙ ap (λ (k : Option (List ℕ)). option_map unpacked k) is)) ∙ sym m.means;
+        logged = λ log start.
+            let p = over.passed log file (given.supplied.logged (suc log) [] (over.logged log start)) in
+            record { packed = p.packed; passed = p.passed; means = p.means ∙ sym m.means };
+        holding = subst keeps (sym m.means) (step file given.holding);
+      }
+
+  -- the same of a feed of which perhaps nothing was read
+  pub published_or_none : (digest file : List ℕ) → IsOver f u first last old new digest ⊎ IsOver f u first last old new (sha256 []) → (new ≡ old → last ≡ first) → GaveOrNot u old new raw_digest file holds
+      → GaveOrNone f first last digest raw_digest file keeps
+  published_or_none digest file (inl over) same (inl given) = inl (inl (published_of digest over given))
+  published_or_none digest file (inr over) same (inl given) = inl (inr (published_of (sha256 []) over given))
+  published_or_none digest file over same (inr (is, holding)) = inr (same is, step file holding)
 
 -- a digest that is there
 pub means_some : (o : Option (List ℕ)) (digest raw : List ℕ) → o ≡ Some digest → MeansIfSome o raw → Means digest raw
 means_some o digest raw is means = subst (λ (x : Option (List ℕ)). MeansIfSome x raw) is means
+
+-- and what passed below the feed that was closed, which goes through a reference to the one that is spoken of
+pub passed_below : {R F : Type 0} (below : R → ℕ → List ℕ → Type 0) (r : R) (has_passed : F → ℕ → List ℕ → Type 0) (last : F) (o : Option (List ℕ)) (digest : List ℕ) (log : ℕ) (raw : List ℕ) → o ≡ Some digest
+    → ((packed : List ℕ) → below r log packed → has_passed last log packed) → PassedIfSome below r o log raw → PassedAs has_passed last log raw
+passed_below below r has_passed last o digest log raw is same passed =
+    let p = subst (λ (x : Option (List ℕ)). PassedIfSome below r x log raw) is passed in
+    record { packed = p.packed; passed = same p.packed p.passed; means = p.means }
+
+-- what a call over raw files says of a refusal is said of published ones
+refused_told : (at_fault : Fault → Type 0) (read wrote : Type 0) (changed : ℕ → Type 0) (lacks : Bool) (s told : Stop) → told ≡ told_by lacks s → Caused at_fault read wrote changed s → IsRefusedBy at_fault told
+refused_told at_fault read wrote changed lacks s told is caused = subst (λ (x : Stop). IsRefusedBy at_fault x) (sym is) (of lacks s caused) where
+  of : (lacks : Bool) (s : Stop) → Caused at_fault read wrote changed s → IsRefusedBy at_fault (told_by lacks s)
+  of true (stop.Refused e) caused = caused
+  of false (stop.Refused e) caused = caused
+  of true stop.Read caused = tt
+  of false stop.Read caused = tt
+  of true stop.Write caused = tt
+  of false stop.Write caused = tt
+  of true stop.Memory caused = tt
+  of false stop.Memory caused = tt
+  of true (stop.Changed pass) caused = tt
+  of false (stop.Changed pass) caused = tt
+
+-- the same of a file that can't be written
+pub refused_raw : (known raw old new : Option (List ℕ)) (read wrote : Type 0) (changed : ℕ → Type 0) (lacks : Bool) (s told : Stop) → known ≡ raw → told ≡ told_by lacks s → Caused (RefusedFirst (judged_writable known) old new) read wrote changed s
+    → IsRefusedBy (RefusedFirst (judged_writable raw) old new) told
+refused_raw known raw old new read wrote changed lacks s told same is caused =
+    refused_told (RefusedFirst (judged_writable raw) old new) read wrote changed lacks s told is (subst (λ (k : Option (List ℕ)). Caused (RefusedFirst (judged_writable k) old new) read wrote changed s) same caused)
+
+-- what holds after every stop
+pub unless_changed : (holds : Type 0) (s : Stop) → holds → UnlessChanged holds s
+unless_changed holds stop.Read h = h
+unless_changed holds stop.Write h = h
+unless_changed holds stop.Memory h = h
+unless_changed holds (stop.Refused e) h = h
+unless_changed holds (stop.Changed pass) h = tt
+
+-- before a drain was used, whatever is said
+pub nothing_went_out : {A : Type 0} (r : Result A PublishedHalt) (old new : Option (List ℕ)) (whole : List ℕ → List ℕ) (supplies : List ℕ → Type 0) → new ≡ old
+    → IfErr r (λ h. UnlessChanged ((b : List ℕ) → supplies b → IsFront old new (whole b)) h.stop)
+nothing_went_out (Ok x) old new whole supplies is = tt
+nothing_went_out (Err h) old new whole supplies is =
+    unless_changed _ h.stop (λ b supply. subst (λ (k : Option (List ℕ)). IsFront old k (whole b)) (sym is) (nothing_out old (whole b)))

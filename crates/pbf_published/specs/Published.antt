@@ -1,16 +1,38 @@
--- What a call over a published file was given: packed bytes, and the raw file that they mean.
-use Rattle.std.specs.Prelude.{◌≡◌, ℕ, List, Option, Some, None}
+-- What a call over published files was given: packed bytes, and the raw files that they mean.
+use Rattle.std.specs.Prelude.{◌≡◌, ◌⊎◌, ℕ, List, [], Bool, true, false, Option, Some, None}
+use Rattle.std.specs.Option.{option_map}
 use Rattle.sha2.specs.Sha256.{sha256}
+use Rattle.pbf_wire.specs.declared.fault.Fault.{Fault}
 use Rattle.pbf_frame.specs.declared.device.Feed as feed
+use Rattle.pbf_frame.specs.declared.stop.Stop.{Stop}
+use Rattle.pbf_frame.specs.declared.stop.Stop.TheVariants.{Refused, Read, Write, Memory, Changed}
+use Rattle.pbf_pass.specs.Stops.{Caused}
 use Rattle.pbf_unpack.specs.Unpacked.{unpacked}
 
--- packed bytes of one digest mean a raw file of another, and this holds of it. Where the feed reports its bytes, they mean the same file
-pub record GavePublished {F : Type 0} (f : feed.Ghosts F) (old : F) (digest raw_digest : List ℕ) (holds : List ℕ → Type 0) : Type 0 where
+-- ---- what was given
+
+-- by a log of a feed packed bytes passed that mean this raw file
+pub record PassedAs {F : Type 0} (has_passed : F → ℕ → List ℕ → Type 0) (feed : F) (log : ℕ) (raw : List ℕ) : Type 0 where
+  pub packed : List ℕ
+  pub passed : has_passed feed log packed
+  pub means : unpacked packed ≡ raw
+
+-- a feed gave packed bytes of one digest, which mean a raw file of another, and this holds of that file
+pub record GavePublished {F : Type 0} (f : feed.Ghosts F) (old new : F) (digest raw_digest : List ℕ) (holds : List ℕ → Type 0) : Type 0 where
   pub packed : List ℕ
   pub digest_is : digest ≡ sha256 packed
   pub raw_digest_is : raw_digest ≡ sha256 (unpacked packed)
+  -- what the feed had to supply means that file, where it reports its bytes
   pub told : (all : List ℕ) → f.remaining old ≡ Some all → unpacked all ≡ unpacked packed
+  -- and so do the bytes that passed by each log of a feed that was at its start
+  pub logged : (log : ℕ) → f.has_passed old log [] → PassedAs f.has_passed new log (unpacked packed)
   pub holding : holds (unpacked packed)
+
+-- a later feed did so; or it had no bytes; or nothing was read of it, and this holds of the file before
+abbrev pub GaveOrNone : {F : Type 0} → feed.Ghosts F → (old new : F) → (digest raw_digest raw : List ℕ) → (List ℕ → Type 0) → Type 0
+GaveOrNone f old new digest raw_digest raw holds = (GavePublished f old new digest raw_digest holds ⊎ GavePublished f old new (sha256 []) raw_digest holds) ⊎ ((new ≡ old) × holds raw)
+
+-- ---- the digest of a feed that was read
 
 -- packed bytes of this digest mean this raw file
 pub record Means (digest raw : List ℕ) : Type 0 where
@@ -18,7 +40,36 @@ pub record Means (digest raw : List ℕ) : Type 0 where
   pub digest_is : digest ≡ sha256 packed
   pub means : unpacked packed ≡ raw
 
--- so they do, where there is a digest
+-- so they do, if there is a digest
 abbrev pub MeansIfSome : Option (List ℕ) → List ℕ → Type 0
 MeansIfSome (Some digest) raw = Means digest raw
 MeansIfSome None raw = Unit {0}
+
+-- and they passed by this log
+abbrev pub PassedIfSome : {F : Type 0} → (F → ℕ → List ℕ → Type 0) → F → Option (List ℕ) → ℕ → List ℕ → Type 0
+PassedIfSome has_passed feed (Some digest) log raw = PassedAs has_passed feed log raw
+PassedIfSome has_passed feed None log raw = Unit {0}
+
+-- ---- why a call stops
+
+-- the raw file that a feed is to supply, where it reports its bytes
+abbrev pub raw_of : Option (List ℕ) → Option (List ℕ)
+raw_of known = option_map unpacked known
+
+-- a refusal is for such a fault; of other stops nothing is said
+abbrev pub IsRefusedBy : (Fault → Type 0) → Stop → Type 0
+IsRefusedBy at_fault stop = Caused at_fault (Unit {0}) (Unit {0}) (λ pass. Unit {0}) stop
+
+-- this holds, whatever the stop is but that a later pass met other bytes
+abbrev pub UnlessChanged : Type 0 → Stop → Type 0
+UnlessChanged holds Read = holds
+UnlessChanged holds Write = holds
+UnlessChanged holds Memory = holds
+UnlessChanged holds (Refused e) = holds
+UnlessChanged holds (Changed pass) = Unit {0}
+
+-- if memory was refused to a feed, a read that failed for it is told as that
+abbrev pub told_by : Bool → Stop → Stop
+told_by false s = s
+told_by true Read = Memory
+told_by true s = s

@@ -1,12 +1,15 @@
 //! `check` of a published file.
 
-ghost use Rattle.std.specs.Prelude.{Some, IfOk};
+ghost use Rattle.std.specs.Prelude.{Some, IfOk, IfErr};
 ghost use Rattle.pbf_pass.specs.Judged.{judged_file};
 ghost use Rattle.pbf_pass.specs.Pass.{CountsFile};
-ghost use Rattle.pbf_published.specs.Published.{GavePublished};
+ghost use Rattle.pbf_pass.specs.Stops.{FaultOf};
+ghost use Rattle.pbf_published.specs.Published.{GavePublished, IsRefusedBy, raw_of};
 
-use crate::input::{PublishedHalt, PublishedInput, close, halted, open};
-use pbf_frame::{Feed, Stop};
+use crate::input::{
+    PublishedHalt, PublishedInput, close, first_digest, halted, lacks_memory, open,
+};
+use pbf_frame::Feed;
 use pbf_unpack::Inflater;
 use std::alloc::Global;
 
@@ -17,26 +20,25 @@ pub fn check_with_receipt<F: Feed>(
     alloc: Global,
     feed: &mut F,
 ) -> Result<PublishedInput, PublishedHalt>
-    // Packed bytes of the digest `input` mean a raw file without a fault, and the counts are those of its entities.
-    ensures receipt { IfOk result (λ receipt. GavePublished F.Feed feed.old receipt.input receipt.raw
+    // The feed gave packed bytes of the digest `input`, which mean a raw file of the digest `raw`. That file has no fault, and the
+    // counts are those of its entities.
+    ensures receipt { IfOk result (λ receipt. GavePublished F.Feed feed.old feed.new
+        receipt.input receipt.raw
         (λ file. CountsFile (judged_file (Some file)) receipt.counts)) }
+    // What is refused is the raw file that the feed's bytes mean, by its first fault.
+    ensures refused { IfErr result (λ h. IsRefusedBy
+        (FaultOf (judged_file (raw_of (F.remaining feed.old)))) h.stop) }
 {
     let mut input = open(alloc, Inflater::new(alloc)?, &mut *feed);
     let outcome = pbf_pass::check_with_receipt(alloc, &mut input);
     let receipt = match outcome {
         Ok(receipt) => receipt,
-        Err(halt) => {
-            let why = input.stop();
-            return Err(halted(halt, &input, why));
-        }
+        Err(halt) => return Err(halted(halt, &input, lacks_memory(&input))),
     };
     let (digest, _feed) = close(input);
-    let Some(digest) = digest else {
-        return Err(PublishedHalt::from(Stop::Read));
-    };
     Ok(PublishedInput {
         counts: receipt.counts,
-        input: digest,
+        input: first_digest(digest)?,
         raw: receipt.input,
     })
 }

@@ -1,29 +1,36 @@
-//! `extract` over published files.
+//! `extract` of published files.
 
-ghost use Rattle.std.specs.Prelude.{◌≡◌, IfOk};
+ghost use Rattle.std.specs.Prelude.{◌≡◌, ℕ, List, IfOk, IfErr};
 ghost use Rattle.osm_ways.specs.Seen.{seen_decoded};
 ghost use Rattle.osm_ways.specs.Selection.{extract};
+ghost use Rattle.pbf_frame.specs.Devices.{IsFront};
 ghost use Rattle.pbf_pass.specs.Given.{Took};
+ghost use Rattle.pbf_pass.specs.HeaderLimit.{judged_writable};
+ghost use Rattle.pbfcut.specs.Calls.{AllSupply, RefusedFirst};
 ghost use Rattle.pbfcut.specs.Extracting.{complete_ways};
-ghost use Rattle.pbfcut.specs.Kept.{IsWritable};
+ghost use Rattle.pbfcut.specs.Kept.{IsWritable, extract_of};
 ghost use Rattle.pbfcut.specs.Theorem.{IsExtraction};
-ghost use Rattle.pbf_published.specs.Published.{GavePublished};
+ghost use Rattle.pbf_published.specs.Published.{GavePublished, GaveOrNone, IsRefusedBy, UnlessChanged, raw_of};
 
-use crate::input::{PublishedHalt, PublishedInput, close, halted, open, same_digest};
+use crate::input::{
+    PublishedHalt, PublishedInput, close, compare, compare_or_none, first_digest, halted,
+    lacks_memory, open,
+};
 use osm_entity::BoundingBox;
 use pbf_frame::{Drain, Feed};
 use pbf_unpack::Inflater;
 use std::alloc::Global;
 use std::hash::BuildHasher;
 
-/// Writes the complete-ways extract of the box out of the raw file that a published one means, as `extract_with_receipt` of pbfcut does out of a
-/// raw file.
+/// Writes the complete-ways extract of the box out of the raw file that a published one means, as `extract_sorted_with_receipt` of
+/// pbfcut does out of a raw file.
 ///
-/// All three feeds have to supply the same bytes. `Changed` says that one did not; what was written before `Changed(3)` has no meaning. A
-/// refusal has the place of the fault in the published file, and nothing is written then.
+/// All feeds that are read have to supply the same bytes; of the second nothing is read if no node of the file comes after a way.
+/// `Changed` says that one did not; what was written before `Changed(3)` has no meaning. A refusal has the place of the fault in the
+/// published file, and nothing is written then.
 ///
-/// Space: that of `extract`, and for each feed one packed frame and a raw one.
-pub fn extract_with_receipt<F: Feed, G: Feed, H: Feed, D: Drain, S: BuildHasher + Drop>(
+/// Space: that of `extract_sorted`, and for each feed one packed frame and a raw one.
+pub fn extract_sorted_with_receipt<F: Feed, G: Feed, H: Feed, D: Drain, S: BuildHasher + Drop>(
     alloc: Global,
     first: &mut F,
     second: &mut G,
@@ -32,34 +39,46 @@ pub fn extract_with_receipt<F: Feed, G: Feed, H: Feed, D: Drain, S: BuildHasher 
     drain: &mut D,
     hasher: S,
 ) -> Result<PublishedInput, PublishedHalt>
-    // For each feed packed bytes of the digest `input` mean a raw file of the digest `raw`. That of the first has no fault, and its
-    // header can be written. The drain took bytes. Where the raw files are one, these bytes are exactly its
-    // complete-ways extract, and the counts are those of the entities in it.
-    ensures receipt { IfOk result (λ receipt.
-        GavePublished F.Feed first.old receipt.input receipt.raw (λ b. IsWritable b
-        × GavePublished G.Feed second.old receipt.input receipt.raw
-        (λ c. GavePublished H.Feed third.old receipt.input receipt.raw
+    // The first and the third feed gave packed bytes of the digest `input`, which mean a raw file of the digest `raw`, and the second
+    // too or nothing. The first raw file has no fault, and its header can be written. The drain took bytes. Where the raw files are one,
+    // these bytes are exactly its complete-ways extract, and the counts are those of the entities in it.
+    ensures receipt { IfOk result (λ receipt. GavePublished F.Feed first.old first.new
+        receipt.input receipt.raw (λ b. IsWritable b
+        × GaveOrNone G.Feed second.old second.new receipt.input receipt.raw b
+        (λ c. GavePublished H.Feed third.old third.new receipt.input receipt.raw
         (λ d. Took D.Drain drain.old drain.new
         (λ written. b ≡ c → b ≡ d → IsExtraction (complete_ways area) (extract (seen_decoded area))
         area b receipt.counts written))))) }
+    // What is refused is the raw file that the first feed's bytes mean, by its first fault, and then the drain took nothing.
+    ensures refused { IfErr result (λ h. IsRefusedBy (RefusedFirst
+        (judged_writable (raw_of (F.remaining first.old))) (D.taken drain.old) (D.taken drain.new))
+        h.stop) }
+    // Whatever stopped it but a change, if all feeds mean this raw file a prefix of its extract went out.
+    ensures beginning { IfErr result (λ h. UnlessChanged ((b : List ℕ)
+        → AllSupply b (raw_of (F.remaining first.old)) (raw_of (G.remaining second.old))
+        (raw_of (H.remaining third.old))
+        → IsFront (D.taken drain.old) (D.taken drain.new)
+        (extract_of (complete_ways area) area b)) h.stop) }
 {
     let mut one = open(alloc, Inflater::new(alloc)?, &mut *first);
     let mut two = open(alloc, Inflater::new(alloc)?, &mut *second);
     let mut three = open(alloc, Inflater::new(alloc)?, &mut *third);
-    let outcome = pbfcut::extract_with_receipt(
+    let outcome = pbfcut::extract_sorted_with_receipt(
         alloc, &mut one, &mut two, &mut three, area, drain, hasher,
     );
     let receipt = match outcome {
         Ok(receipt) => receipt,
         Err(halt) => {
-            let why = one.stop().or(two.stop()).or(three.stop());
-            return Err(halted(halt, &one, why));
+            let is_memory = lacks_memory(&one) || lacks_memory(&two) || lacks_memory(&three);
+            return Err(halted(halt, &one, is_memory));
         }
     };
     let (one, _first) = close(one);
     let (two, _second) = close(two);
     let (three, _third) = close(three);
-    let input = same_digest(one, two, three)?;
+    let input = first_digest(one)?;
+    compare_or_none(input, two, 2)?;
+    compare(input, three, 3)?;
     Ok(PublishedInput {
         counts: receipt.counts,
         input,

@@ -1,14 +1,16 @@
 //! A published file as it is read: hashed as it is, and unpacked.
 
-ghost use Rattle.std.specs.Prelude.{◌≡◌, ℕ, List, [], Some, IfOk};
-ghost use Rattle.std.specs.Option.{option_map};
-ghost use Rattle.pbf_unpack.specs.Unpacked.{unpacked};
-ghost use Rattle.pbf_published.specs.Published.{MeansIfSome};
+ghost use Rattle.std.specs.Prelude.{◌≡◌, ◌⊎◌, ℕ, suc, List, [], Some, IfOk, IfErr, OnOk};
+ghost use Rattle.sha2.specs.Sha256.{sha256};
+ghost use Rattle.pbf_frame.specs.declared.stop.Stop.TheVariants as stop;
+ghost use Rattle.pbf_pass.specs.Refused.{stop_of};
+ghost use Rattle.pbf_published.specs.Published.{MeansIfSome, PassedIfSome, raw_of, told_by};
 
 use pbf_block::Counts;
 use pbf_frame::{Feed, Stop};
-use pbf_pass::{Halt, HashedFeed};
+use pbf_pass::{Halt, HashedFeed, Refusal};
 use pbf_unpack::{Inflater, Place, UnpackFault, UnpackedFeed};
+use sha2::{Digest, Sha256};
 use std::alloc::{AllocError, Global};
 
 /// What a call reports: how many entities, and the SHA-256 digests of its input.
@@ -16,7 +18,7 @@ use std::alloc::{AllocError, Global};
 pub struct PublishedInput {
     /// The numbers of the entities.
     pub counts: Counts,
-    /// The digest of the packed bytes that each feed gave.
+    /// The digest of the packed bytes that each feed gave that was read.
     pub input: [u8; 32],
     /// The digest of the raw file that they mean.
     pub raw: [u8; 32],
@@ -25,25 +27,32 @@ pub struct PublishedInput {
 /// Why a call over published files stopped before its end.
 #[derive(Clone, Copy, Debug)]
 pub struct PublishedHalt {
-    /// The stop. The offset of a refusal is in the raw file.
+    /// The stop. The offset of a fault is one in the raw file that the first feed's bytes mean.
     pub stop: Stop,
     /// Where in the packed file the fault of a refusal is.
     pub place: Option<Place>,
-    /// The first fault of zlib data in what was read.
+    /// The first fault of zlib data in what was read of the first feed.
     pub fault: Option<UnpackFault>,
+    /// What was read of that raw file until a refusal, where the call hashes it.
+    pub refusal: Option<Refusal>,
 }
 
 impl From<Stop> for PublishedHalt {
+    ghost from_gives = { λ stop e. e.stop ≡ stop };
+
     fn from(stop: Stop) -> PublishedHalt {
         PublishedHalt {
             stop,
             place: None,
             fault: None,
+            refusal: None,
         }
     }
 }
 
 impl From<AllocError> for PublishedHalt {
+    ghost from_gives = { λ _ e. e.stop ≡ stop.Memory };
+
     fn from(_error: AllocError) -> PublishedHalt {
         PublishedHalt::from(Stop::Memory)
     }
@@ -51,9 +60,12 @@ impl From<AllocError> for PublishedHalt {
 
 /// A published file from its start.
 pub fn open<F: Feed>(alloc: Global, inflater: Inflater, feed: F) -> UnpackedFeed<HashedFeed<F>>
+    ensures feed { result.feed.feed ≡ feed }
     ensures remaining { ⟦<UnpackedFeed<HashedFeed<F>> as Feed>⟧.remaining result
-        ≡ option_map unpacked (F.remaining feed) }
-    ensures supplied { ⟦<UnpackedFeed<HashedFeed<F>> as Feed>⟧.has_passed result 0 [] }
+        ≡ raw_of (F.remaining feed) }
+    ensures hashed { ⟦<UnpackedFeed<HashedFeed<F>> as Feed>⟧.has_passed result 0 [] }
+    ensures logged { (log : ℕ) → F.has_passed feed log []
+        → ⟦<UnpackedFeed<HashedFeed<F>> as Feed>⟧.has_passed result (suc log) [] }
     ensures lender { ⟦<UnpackedFeed<HashedFeed<F>> as Feed>⟧.lender result ≡ F.lender feed }
 {
     UnpackedFeed::new(alloc, inflater, HashedFeed::new(feed))
@@ -61,9 +73,13 @@ pub fn open<F: Feed>(alloc: Global, inflater: Inflater, feed: F) -> UnpackedFeed
 
 /// The digest of the packed bytes that were read, if all that they mean was supplied, and the feed below.
 pub fn close<F: Feed>(feed: UnpackedFeed<HashedFeed<F>>) -> (Option<[u8; 32]>, F)
-    ensures supplied { (raw : List ℕ)
+    ensures hashed { (raw : List ℕ)
         → ⟦<UnpackedFeed<HashedFeed<F>> as Feed>⟧.has_passed feed 0 raw
         → MeansIfSome result.0 raw }
+    ensures logged { (log : ℕ) (raw : List ℕ)
+        → ⟦<UnpackedFeed<HashedFeed<F>> as Feed>⟧.has_passed feed (suc log) raw
+        → PassedIfSome F.has_passed result.1 result.0 log raw }
+    ensures feed { result.1 ≡ feed.feed.feed }
     ensures lender { F.lender result.1 ≡ ⟦<UnpackedFeed<HashedFeed<F>> as Feed>⟧.lender feed }
 {
     let all = feed.has_given_all();
@@ -72,45 +88,80 @@ pub fn close<F: Feed>(feed: UnpackedFeed<HashedFeed<F>>) -> (Option<[u8; 32]>, F
     (if all { Some(digest) } else { None }, hashed.into_inner())
 }
 
-/// The digest that three inputs share, if each has it. `Changed` names the first that has another.
-pub fn same_digest(
-    one: Option<[u8; 32]>,
-    two: Option<[u8; 32]>,
-    three: Option<[u8; 32]>,
-) -> Result<[u8; 32], Stop>
-    ensures first { IfOk result (λ digest. one ≡ Some digest) }
-    ensures second { IfOk result (λ digest. two ≡ Some digest) }
-    ensures third { IfOk result (λ digest. three ≡ Some digest) }
+/// The digest of the feed of the first pass, which has one after a call that succeeded.
+pub fn first_digest(first: Option<[u8; 32]>) -> Result<[u8; 32], Stop>
+    ensures there { IfOk result (λ digest. first ≡ Some digest) }
+    ensures stops { IfErr result (λ s. s ≡ stop.Changed 1) }
 {
-    let Some(digest) = one else {
-        return Err(Stop::Read);
-    };
-    if two != Some(digest) {
-        return Err(Stop::Changed(2));
-    }
-    if three != Some(digest) {
-        return Err(Stop::Changed(3));
-    }
-    Ok(digest)
+    first.ok_or(Stop::Changed(1))
 }
 
-/// What a halt of a call over raw files says of published ones: the first of them, and why reading failed.
-pub fn halted<F: Feed>(
-    halt: Halt,
-    input: &UnpackedFeed<HashedFeed<F>>,
-    why: Option<Stop>,
-) -> PublishedHalt {
-    let stop = Stop::from(halt);
+/// Another digest in a later pass is a change.
+pub fn compare(digest: [u8; 32], later: Option<[u8; 32]>, pass: u8) -> Result<(), Stop>
+    ensures same { OnOk result (later ≡ Some digest) }
+    ensures stops { IfErr result (λ s. s ≡ stop.Changed pass) }
+{
+    if later == Some(digest) {
+        Ok(())
+    } else {
+        Err(Stop::Changed(pass))
+    }
+}
+
+/// The same, where nothing may have been read.
+pub fn compare_or_none(digest: [u8; 32], later: Option<[u8; 32]>, pass: u8) -> Result<(), Stop>
+    ensures same { OnOk result ((later ≡ Some digest) ⊎ (later ≡ Some (sha256 []))) }
+    ensures stops { IfErr result (λ s. s ≡ stop.Changed pass) }
+{
+    let mut hasher = Sha256::new();
+    if later == Some(hasher.finalize_reset()) {
+        return Ok(());
+    }
+    compare(digest, later, pass)
+}
+
+/// What a stop of a call over raw files says of published ones: of the first of them, and of a feed that was refused memory.
+pub fn stopped<F: Feed>(
+    stop: Stop,
+    first: &UnpackedFeed<HashedFeed<F>>,
+    lacks_memory: bool,
+) -> PublishedHalt
+    ensures { result.stop ≡ told_by lacks_memory stop }
+{
     let place = match stop {
-        Stop::Refused(fault) => Some(input.place_of(fault.offset)),
+        Stop::Refused(fault) => Some(first.place_of(fault.offset)),
         _ => None,
     };
     PublishedHalt {
-        stop: match (stop, why) {
-            (Stop::Read, Some(why)) => why,
-            _ => stop,
+        stop: match stop {
+            Stop::Read if lacks_memory => Stop::Memory,
+            other => other,
         },
         place,
-        fault: input.fault(),
+        fault: first.fault(),
+        refusal: None,
     }
+}
+
+/// The same of a halt.
+pub fn halted<F: Feed>(
+    halt: Halt,
+    first: &UnpackedFeed<HashedFeed<F>>,
+    lacks_memory: bool,
+) -> PublishedHalt
+    ensures { result.stop ≡ told_by lacks_memory (stop_of halt) }
+{
+    let refusal = match halt {
+        Halt::Refused(refusal) => Some(refusal),
+        Halt::Stopped(_) => None,
+    };
+    PublishedHalt {
+        refusal,
+        ..stopped(Stop::from(halt), first, lacks_memory)
+    }
+}
+
+/// Whether a feed was refused memory.
+pub fn lacks_memory<F: Feed>(feed: &UnpackedFeed<F>) -> bool {
+    feed.stop() == Some(Stop::Memory)
 }

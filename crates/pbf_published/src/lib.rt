@@ -3,9 +3,18 @@
 #![tactic(auto)]
 
 mod checking;
+mod converting;
 mod extracting;
 mod input;
+mod parents;
+mod showing;
 
 pub use checking::check_with_receipt;
-pub use extracting::extract_with_receipt;
-pub use input::{PublishedHalt, PublishedInput, close, halted, open, same_digest};
+pub use converting::convert_with_receipt;
+pub use extracting::extract_sorted_with_receipt;
+pub use input::{
+    PublishedHalt, PublishedInput, close, compare, compare_or_none, first_digest, halted,
+    lacks_memory, open, stopped,
+};
+pub use parents::extract_parents_sorted_with_receipt;
+pub use showing::{list_blobs, show_with_receipt};

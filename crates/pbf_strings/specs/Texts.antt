@@ -14,7 +14,7 @@ use Rattle.pbf_wire.specs.Wire.{wire}
 abbrev pub texts : List ℕ → List (List ℕ)
 texts message = each 1 (found (items 0 message))
 
--- text i, or the empty text where there is none
+-- text i, or the empty text if there is none
 abbrev pub text : List (List ℕ) → ℕ → List ℕ
 text table i = unwrap_or (slice_get table i) []
 

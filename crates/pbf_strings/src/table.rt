@@ -1,4 +1,4 @@
-//! A table that is read: where each text stands in the message.
+//! A table that is read: where each text is in the message.
 
 ghost use Rattle.std.specs.Prelude.{◌≡◌, ◌+◌, ◌*◌, ◌≤◌, ◌<◌, ◌^◌, ◌↔◌, [], Some, None, Err, IsTrue, IfOk, OnOk, length, map, slice_get, ℕ, MatchOption, ⊤, nat_lt};
 ghost use Rattle.std.specs.Option.{option_map};
@@ -72,7 +72,7 @@ fn text_at(message: &[u8], place: usize) -> &[u8]
     }
 }
 
-/// How many texts a StringTable has; where it has a wire fault, how many stand before that.
+/// How many texts a StringTable has; if it has a wire fault, how many stand before that.
 pub fn text_count(message: &[u8]) -> usize
     requires { length message.now ≤ 2 ^ 63 }
     ensures { result ≡ length (texts message.now) }
@@ -97,7 +97,7 @@ fn are_too_many(message: &[u8]) -> bool
     message.len() > MOST_TEXTS && text_count(message) > MOST_TEXTS
 }
 
-/// Where each text of a StringTable stands in the message, and the length of the longest.
+/// Where each text of a StringTable is in the message, and the length of the longest.
 fn places(alloc: Global, message: &[u8]) -> Result<(Vec<u32>, usize), AllocError>
     requires { length message.now < 33554432 }
     ensures exact { IfOk result (λ found. map (text_at message.now) found.0.items
@@ -139,8 +139,8 @@ impl<'a> Model for Table<'a> {
 }
 
 impl<'a> Table<'a> {
-    /// Judges the count of the texts alone: `TooManyStrings` at `place`, that of the table's field in the file, where there
-    /// are more than [`MOST_TEXTS`]. Takes no memory.
+    /// Judges the count of the texts alone: `TooManyStrings` at `place`, that of the table's field in the file, if there
+    /// are more than [`MOST_TEXTS`]. Does not allocate.
     pub fn judge_count(message: &[u8], place: u64) -> Result<(), Fault>
         requires { length message.now ≤ 2 ^ 63 }
         ensures { result ≡ judged (count_fault place message.now) }
@@ -177,7 +177,7 @@ impl<'a> Table<'a> {
         Ok(Table::open(alloc, message)?)
     }
 
-    /// The texts of a StringTable that was judged to have no more than [`MOST_TEXTS`]. Judges nothing: where the message has a
+    /// The texts of a StringTable that was judged to have no more than [`MOST_TEXTS`]. Judges nothing: if the message has a
     /// wire fault, its texts before that count.
     pub fn open(alloc: Global, message: &'a [u8]) -> Result<Table<'a>, AllocError>
         requires short { length message.now < 33554432 }
@@ -207,7 +207,7 @@ impl<'a> Table<'a> {
         self.places.is_empty()
     }
 
-    /// The text of an index, counted from 0. Takes no memory.
+    /// The text of an index, counted from 0. Does not allocate.
     pub fn get(&self, index: usize) -> Option<&'a [u8]>
         ensures { option_map (λ text. text.now) result ≡ slice_get self.now index }
     {
@@ -215,14 +215,14 @@ impl<'a> Table<'a> {
         Some(text_at(self.message, place as usize))
     }
 
-    /// The text of an index, counted from 0, or the empty text where there is none. Takes no memory.
+    /// The text of an index, counted from 0, or the empty text if there is none. Does not allocate.
     pub fn text(&self, index: usize) -> &'a [u8]
         ensures { result.now ≡ text self.now index }
     {
         self.get(index).unwrap_or(&[])
     }
 
-    /// The length of the longest text, and 0 where there is none.
+    /// The length of the longest text, and 0 if there is none.
     pub fn longest(&self) -> usize
         ensures { result ≡ longest self.now }
     {

@@ -43,7 +43,7 @@ fn is_same(one: &[u8], other: &[u8]) -> bool
     true
 }
 
-/// The texts of a block that is being written, in order of first use. The hasher is handed in, as strangers choose the texts.
+/// The texts of a block that is being written, in order of first use. The hasher is handed in, as the input is untrusted.
 /// Contracts see it as the list of the texts. The empty text that every table begins with isn't among them.
 #[derive(Drop)]
 pub struct TableOut<S: BuildHasher> {
@@ -62,7 +62,7 @@ impl<S: BuildHasher> Model for TableOut<S> {
 }
 
 impl<S: BuildHasher> TableOut<S> {
-    /// A table without texts, which takes no memory yet.
+    /// A table without texts, which allocates nothing yet.
     pub fn new(alloc: Global, hasher: S) -> TableOut<S>
         ensures { result ≡ [] }
     {
@@ -110,7 +110,7 @@ impl<S: BuildHasher> TableOut<S> {
         }
     }
 
-    /// As [`TableOut::index_of`], by the hash of the text.
+    /// Like [`TableOut::index_of`], by the hash of the text.
     fn index_by_hash(&mut self, text: &[u8]) -> Result<u32, AllocError>
         requires { length self.old < 1048575 }
         ensures texts { OnOk result (self.new ≡ with_text self.old text.now) }
@@ -173,7 +173,7 @@ impl<S: BuildHasher> TableOut<S> {
         texts_held(self.texts.as_slice())
     }
 
-    /// Appends the StringTable: the empty text, and then the texts. After an `Err` the output has no stated content.
+    /// Appends the StringTable: the empty text, and then the texts. After an `Err` the output is unspecified.
     pub fn write(&self, out: &mut Vec<u8>) -> Result<(), AllocError>
         ensures { OnOk result (out.new.items ≡ out.old.items ++ table_message self.now) }
     {

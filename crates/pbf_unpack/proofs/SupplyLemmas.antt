@@ -1,6 +1,7 @@
 -- What is supplied, and what is left.
-use Rattle.std.proofs.Common.{◌≡◌, ℕ, ◌+◌, ◌-◌, ◌<◌, ◌≤◌, List, ◌++◌, length, drop, Option, Some, None, Result, Ok, Err, ap, ◌∙◌, length-append, arith}
+use Rattle.std.proofs.Common.{◌≡◌, ℕ, ◌+◌, ◌-◌, ◌<◌, ◌≤◌, List, ◌++◌, length, take, drop, Option, Some, None, Result, Ok, Err, ap, sym, ◌∙◌, length-append, take-append-drop, arith}
 use Rattle.std.proofs.Math.Seq.{drop-append-add}
+use Rattle.std.proofs.lemmas.List.{drop-drop}
 use Rattle.byteorder.specs.Numbers.{length-bytes_high_first}
 use Rattle.pbf_wire.specs.Occurrence.{Occurrence, items, found}
 use Rattle.pbf_wire.specs.Reading.{last_of}
@@ -38,3 +39,12 @@ pub frame_some : (k : FrameKind) (at : ℕ) (frame blob : List ℕ) → 0 < leng
 frame_some kind.Header at frame blob some = data_some kind.Header frame (packed_in at blob) (last_of RAW_SIZE (found (items at blob))) some
 frame_some kind.Data at frame blob some = data_some kind.Data frame (packed_in at blob) (last_of RAW_SIZE (found (items at blob))) some
 frame_some kind.Other at frame blob some = some
+
+-- ---- bytes that are given
+
+-- what was left is what was given, and what is left then
+pub given : (done count : ℕ) (supplied bytes : List ℕ) → take count supplied ≡ take count (drop done bytes) → drop done bytes ≡ take count supplied ++ drop (done + count) bytes
+given done count supplied bytes e =
+    sym (take-append-drop count (drop done bytes))
+    ∙ ap (λ (xs : List ℕ). xs ++ drop count (drop done bytes)) (sym e)
+    ∙ ap (λ (xs : List ℕ). take count supplied ++ xs) (drop-drop count done bytes)

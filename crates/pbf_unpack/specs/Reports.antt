@@ -1,7 +1,10 @@
 -- What a feed of unpacked bytes says of itself.
-use Rattle.std.specs.Prelude.{◌≡◌, ℕ, ◌+◌, List, length, Option, Some, None}
+use Rattle.std.specs.Prelude.{◌≡◌, ℕ, ◌+◌, List, length, codes, Option, Some, None}
 use Rattle.pbf_frame.specs.declared.stop.Stop.{Stop}
+use Rattle.zlib.specs.Names.{fault_name}
 use Rattle.pbf_unpack.specs.declared.fault.UnpackFault.{UnpackFault}
+use Rattle.pbf_unpack.specs.declared.fault.UnpackReason.{UnpackReason}
+use Rattle.pbf_unpack.specs.declared.fault.UnpackReason.TheVariants.{Inflate, RawSize}
 use Rattle.pbf_unpack.specs.declared.feed.State.{State}
 use Rattle.pbf_unpack.specs.declared.feed.State.TheVariants.{Reading, PassingOn, Ended, Stopped}
 use Rattle.pbf_unpack.specs.declared.feed.UnpackedFeed.{UnpackedFeed}
@@ -13,6 +16,11 @@ stop_in (Stopped stop) = Some stop
 stop_in Reading = None
 stop_in PassingOn = None
 stop_in Ended = None
+
+-- what a fault of zlib data is called
+abbrev pub reason_name : UnpackReason → List ℕ
+reason_name (Inflate fault) = fault_name fault
+reason_name RawSize = codes "RawSize"
 
 -- packed bytes passed by this log of a feed; these are the raw file that they mean, and this is their first fault
 pub record GavePacked {F : Type 0} (has_passed : F → ℕ → List ℕ → Type 0) (feed : F) (log : ℕ) (raw : List ℕ) (fault : Option UnpackFault) : Type 0 where

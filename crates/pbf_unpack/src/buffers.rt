@@ -23,7 +23,7 @@ pub(crate) struct Buffers {
 }
 
 impl Buffers {
-    /// Nothing. It takes no memory.
+    /// Nothing. It does not allocate.
     pub(crate) fn new(alloc: Global) -> Buffers
         ensures front { vec_len result.front ≡ 0 }
         ensures raw { vec_len result.raw ≡ 0 }

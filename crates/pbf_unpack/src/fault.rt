@@ -1,5 +1,8 @@
 //! Why the zlib data of a blob is not unpacked.
 
+ghost use Rattle.std.specs.Prelude.{◌≡◌};
+ghost use Rattle.pbf_unpack.specs.Reports.{reason_name};
+
 use zlib::InflateFault;
 
 /// What is wrong with zlib data.
@@ -9,6 +12,18 @@ pub enum UnpackReason {
     Inflate(InflateFault),
     /// `raw_size` is not the length of the payload.
     RawSize,
+}
+
+impl UnpackReason {
+    /// The name of the fault.
+    pub fn name(self) -> &'static str
+        ensures { result.now ≡ reason_name self }
+    {
+        match self {
+            UnpackReason::Inflate(fault) => fault.name(),
+            UnpackReason::RawSize => "RawSize",
+        }
+    }
 }
 
 /// The fault of a blob's zlib data.

@@ -24,7 +24,7 @@ pub enum Place {
 }
 
 impl<F: Feed> UnpackedFeed<F> {
-    /// A feed over one at the start of a file. It takes no memory before the first frame.
+    /// A feed over one at the start of a file. It does not allocate before the first frame.
     pub fn new(alloc: Global, inflater: Inflater, feed: F) -> Self
         ensures feed { result.feed ≡ feed }
         ensures lender { F.lender result.feed ≡ F.lender feed }

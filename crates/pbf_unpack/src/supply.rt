@@ -87,13 +87,7 @@ impl<F: Feed> UnpackedFeed<F> {
     {
         let next = self.next_origin();
         self.done = 0;
-        let found = read_whole(
-            &mut self.feed,
-            &mut self.buffers.front,
-            &mut self.buffers.header,
-            &mut self.buffers.packed,
-            self.place,
-        )?;
+        let found = read_whole(&mut self.feed, &mut self.buffers, self.place)?;
         match found {
             Found::Whole(frame) => {
                 let outcome = unpack(&mut self.buffers, &mut self.inflater, frame)?;
@@ -115,7 +109,7 @@ impl<F: Feed> UnpackedFeed<F> {
         Ok(())
     }
 
-    /// Sees that bytes are at hand where there are any.
+    /// Sees that bytes are at hand if there are any.
     fn make_ready(&mut self) -> Result<(), Stop>
         ensures goes_on { OnOk result (GoesOn F.remaining F.has_passed self.old self.new) }
         ensures ready { OnOk result (IsReady self.new.state (left_in self.new)) }

@@ -6,6 +6,7 @@ ghost use Rattle.pbf_frame.specs.declared.header.TheConstants.{HEADER_LIMIT, LAR
 ghost use Rattle.pbf_frame.specs.Steps.{head_of};
 ghost use Rattle.pbf_unpack.specs.Whole.{Took, BeginsWith, Means, IsPlaced};
 
+use crate::buffers::Buffers;
 use byteorder::{BigEndian, ByteOrder};
 use pbf_frame::{Feed, FrameKind, HEADER_LIMIT, Head, Stop, fill_vec, read_head};
 
@@ -74,38 +75,34 @@ fn read_front<F: Feed>(
     }
 }
 
-/// What a feed has where a frame is to begin, all of it read: a blob into `blob`, and what is before it into `front`.
+/// What a feed has where a frame is to begin, all of it read: what is packed into `packed`, and what is before it into `front`.
 pub(crate) fn read_whole<F: Feed>(
     feed: &mut F,
-    front: &mut Vec<u8>,
-    header: &mut Vec<u8>,
-    blob: &mut Vec<u8>,
+    buffers: &mut Buffers,
     place: u64,
 ) -> Result<Found, Stop>
     requires { place ≤ 2 ^ 62 }
-    ensures took { OnOk result (Took (front.new.items ++ blob.new.items) (F.has_passed feed.old)
-        (F.has_passed feed.new) (F.remaining feed.old) (F.remaining feed.new)) }
-    ensures means { IfOk result (Means place (front.new.items ++ blob.new.items) blob.new.items
-        (F.remaining feed.new)) }
-    ensures placed { IfOk result (IsPlaced blob.new.items) }
-    ensures front_held { vec_len front.new ≤ max (HEADER_LIMIT + 3) (vec_len front.old) }
-    ensures header_held { vec_len header.new ≤ max (HEADER_LIMIT - 1) (vec_len header.old) }
-    ensures blob_held { vec_len blob.new ≤ max LARGEST_SIZE (vec_len blob.old) }
+    ensures took { OnOk result (Took (buffers.new.front.items ++ buffers.new.packed.items)
+        (F.has_passed feed.old) (F.has_passed feed.new) (F.remaining feed.old) (F.remaining feed.new)) }
+    ensures means { IfOk result (Means place (buffers.new.front.items ++ buffers.new.packed.items)
+        buffers.new.packed.items (F.remaining feed.new)) }
+    ensures placed { IfOk result (IsPlaced buffers.new.packed.items) }
+    ensures raw { buffers.new.raw ≡ buffers.old.raw }
     ensures lender { F.lender feed.new ≡ F.lender feed.old }
 {
-    blob.clear();
-    let head = match read_front(feed, front, header, place)? {
+    buffers.packed.clear();
+    let head = match read_front(feed, &mut buffers.front, &mut buffers.header, place)? {
         Front::Says(head) => head,
         Front::Unfit => return Ok(Found::Unfit),
         Front::Cut => return Ok(Found::Cut),
     };
-    let blob_at = place + front.len() as u64;
+    let blob_at = place + buffers.front.len() as u64;
     let end = blob_at + u64::from(head.size);
     if end > 1 << 62 {
         return Ok(Found::Unfit);
     }
-    fill_vec(feed, blob, head.size as usize)?;
-    if blob.len() < head.size as usize {
+    fill_vec(feed, &mut buffers.packed, head.size as usize)?;
+    if buffers.packed.len() < head.size as usize {
         return Ok(Found::Cut);
     }
     Ok(Found::Whole(WholeFrame {

@@ -288,7 +288,7 @@ pub embedded_written : (k at : ℕ) (slots : List Slot) (m : List ℕ) → AllBy
     → (inner : ℕ) × (embedded k (fields_in at (message slots)) ≡ fields_in inner m)
 embedded_written k at slots m fits lt e h = let held = last_held k at slots m fits lt e h in (held.1, ap fields_of held.2)
 
--- and nothing where there is none
+-- and nothing if there is none
 pub embedded_none : (k at : ℕ) (slots : List Slot) → AllByRecursion SlotFits slots → length (message slots) < 2 ^ 64 → flat_map (messages_at k) slots ≡ [] → flat_map (scalars_at k) slots ≡ [] → embedded k (fields_in at (message slots)) ≡ []
 embedded_none k at slots fits lt e h =
     ap (embedded k) (fields_written at slots fits lt)
@@ -331,7 +331,7 @@ module _ (k : ℕ) (f : ℕ → ℕ → List Fault) where
   last_quiet [] before h e = e
   last_quiet (v ∷ vs) before h e = last_quiet vs (Some v) h.1 (h.0 v.0)
 
-  -- the last number gives nothing where no number at the field does
+  -- the last number gives nothing if no number at the field does
   pub in_last_written : (at : ℕ) (slots : List Slot) → AllByRecursion SlotFits slots → length (message slots) < 2 ^ 64 → AllQuiet (flat_map (scalars_at k) slots) → in_last k f (fields_in at (message slots)) ≡ []
   in_last_written at slots fits lt h =
       ap (in_last k f) (fields_written at slots fits lt)

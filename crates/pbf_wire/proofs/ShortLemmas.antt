@@ -263,7 +263,7 @@ count_more k os rest o is same =
     ∙ ap (λ (b : Bool). length (if b then placed o.place (numbers_in o.content) else []) + length (joined k rest)) (eq-eqb _ _ same)
     ∙ ap (λ n. n + length (joined k rest)) (length-map {B = ℕ × ℕ} (numbers_in o.content) (λ v. (v, o.place)))
 
--- where no packed occurrence is begun, the column is that of the fields
+-- if no packed occurrence is begun, the column is that of the fields
 pub nothing_begun : (column : Column) → length column.packed.now ≡ 0 → column_left column ≡ joined column.number (found_left column.fields)
 unfolding column_left
 nothing_begun column none =

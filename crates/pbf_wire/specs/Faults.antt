@@ -42,7 +42,7 @@ found_in m = fields_in m.at m.bytes.now
 abbrev pub fields_of : Option Occurrence → List Occurrence
 fields_of last = option_map_or (λ o. inside fields_in o.content) last []
 
--- the occurrences in the last message that the field k holds, and none where there is no such field
+-- the occurrences in the last message that the field k holds, and none if there is no such field
 abbrev pub embedded : ℕ → List Occurrence → List Occurrence
 embedded k os = fields_of (last_of k os)
 

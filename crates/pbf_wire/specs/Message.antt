@@ -29,7 +29,7 @@ slot_bytes slot = written (parts_of slot)
 unfoldable pub message : List Slot → List ℕ
 message slots = written (flat_map parts_of slots)
 
--- a message that is left out where it has no field
+-- a message that is left out if it has no field
 abbrev pub unless_empty : List ℕ → List (List ℕ)
 unless_empty [] = []
 unless_empty (byte ∷ bytes) = (byte ∷ bytes) ∷ []

@@ -76,7 +76,7 @@ abbrev pub items_from : ℕ → Result (Occurrence × ℕ) Reason → (ℕ → L
 items_from place (Ok front) more = Ok front.0 ∷ more (front.1 - 1)
 items_from place (Err reason) more = Err (record { offset = place; reason = reason }) ∷ []
 
--- the items of a message of which some bytes are still to be passed over
+-- the items of a message of which some bytes are still to be skipped
 unfoldable pub items_past : ℕ → ℕ → List ℕ → List Item
 items_past skip at [] = []
 items_past (suc skip) at (b ∷ bs) = items_past skip (at + 1) bs

@@ -21,7 +21,7 @@ pub fn first_number(packed: &[u8]) -> Option<(u64, &[u8])>
 }
 
 /// A cursor over a column: it gives the numbers of all occurrences of one field in order, and says where the occurrence
-/// of the last one stands. It takes no memory, and a copy of it goes on by itself.
+/// of the last one stands. It does not allocate, and a copy of it goes on by itself.
 #[derive(Clone, Copy)]
 pub struct Column<'a> {
     fields: FoundFields<'a>,
@@ -71,7 +71,7 @@ impl<'a> Column<'a> {
         }
     }
 
-    /// Where the occurrence of the last number given stands in the file. Before the first it is where the message does, or 0 for
+    /// Where the occurrence of the last number given is in the file. Before the first it is where the message is, or 0 for
     /// a column over fields.
     pub fn place(&self) -> u64
         ensures { result ≡ place_of self.now }
@@ -95,7 +95,7 @@ impl<'a> Column<'a> {
         count_small_left(self.fields.0, self.number)
     }
 
-    /// The next number of the packed occurrence that was begun. Where it has none nothing changes.
+    /// The next number of the packed occurrence that was begun. If it has none nothing changes.
     #[inline(always)]
     #[tactic(auto, unfolding(crate::specs::Cursors::column_left))]
     fn advance_packed(&mut self) -> Option<u64>
@@ -109,7 +109,7 @@ impl<'a> Column<'a> {
         Some(value)
     }
 
-    /// Passes over the next number, if it is a 0 of one byte in the packed occurrence that was begun. Many columns are mostly such.
+    /// Skips the next number, if it is a 0 of one byte in the packed occurrence that was begun. Many columns are mostly such.
     #[inline(always)]
     #[tactic(auto, unfolding(crate::specs::Cursors::column_left))]
     pub fn pass_zero(&mut self) -> bool

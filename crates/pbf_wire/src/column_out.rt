@@ -25,7 +25,7 @@ impl Model for ColumnOut {
 }
 
 impl ColumnOut {
-    /// A column without numbers, which takes no memory yet.
+    /// A column without numbers, which allocates nothing yet.
     #[tactic(auto, unfolding(crate::specs::Columns::entries_past))]
     pub fn new(alloc: Global) -> Self
         ensures { result ≡ [] }

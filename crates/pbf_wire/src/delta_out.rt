@@ -30,7 +30,7 @@ impl Model for DeltaOut {
 }
 
 impl DeltaOut {
-    /// A column without values, which takes no memory yet.
+    /// A column without values, which allocates nothing yet.
     #[tactic(auto, unfolding(crate::specs::Columns::entries_past))]
     pub fn new(alloc: Global) -> Self
         ensures { result ≡ [] }

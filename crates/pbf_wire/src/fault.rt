@@ -68,7 +68,7 @@ pub enum Reason {
     TooManyStrings,
     /// 31: a text is named that the string table does not have.
     StringIndex,
-    /// 40: columns of dense nodes that belong together have unlike counts.
+    /// 40: columns of dense nodes that belong together have different counts.
     ColumnLengths,
     /// 41: the keys and values of dense nodes are not one run for each node.
     KeysVals,
@@ -88,9 +88,9 @@ pub enum Reason {
     DateGranularity,
     /// 55: a required feature is not known.
     Feature,
-    /// 57: the keys and the values of an entity have unlike counts.
+    /// 57: the keys and the values of an entity have different counts.
     TagColumns,
-    /// 58: the three columns of a relation's members have unlike counts.
+    /// 58: the three columns of a relation's members have different counts.
     MemberColumns,
     /// 59: the kind of a member is none of node, way and relation.
     MemberKind,

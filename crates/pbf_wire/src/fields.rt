@@ -85,7 +85,7 @@ fn field_at(bytes: &[u8], place: u64) -> Result<(Field<'_>, usize), Reason>
     ))
 }
 
-/// The fields of a message, in order: an iterator over the bytes, which takes no memory. A fault ends it: after an `Err`
+/// The fields of a message, in order: an iterator over the bytes, which does not allocate. A fault ends it: after an `Err`
 /// there are no more items.
 #[derive(Clone, Copy)]
 pub struct Fields<'a> {
@@ -171,7 +171,7 @@ impl<'a> Iterator for Fields<'a> {
     }
 }
 
-/// The fields of a message that stand before its first fault, in order. It takes no memory.
+/// The fields of a message that stand before its first fault, in order. It does not allocate.
 #[derive(Clone, Copy)]
 pub struct FoundFields<'a>(pub(crate) Fields<'a>);
 

@@ -48,7 +48,7 @@ fn judge_packed(packed: &[u8]) -> Result<(), Reason>
     Ok(())
 }
 
-/// The kind of a field, if it is listed; the first, where it is listed twice. Looks through the list from its start.
+/// The kind of a field, if it is listed; the first, if it is listed twice. Looks through the list from its start.
 #[inline(always)]
 pub fn kind_of(kinds: &[(u64, Kind)], number: u64) -> Option<Kind>
     ensures { result ≡ kind_of kinds.now number }
@@ -120,7 +120,7 @@ pub fn judge_leaf(message: Message<'_>, kinds: &[(u64, Kind)]) -> Option<Fault>
 }
 
 /// The first wire fault of a message whose first byte stands at `at` in the file. `kinds` lists the known fields by their
-/// numbers; others may have any wire type. Embedded messages are not entered. Reads all bytes once and takes no memory.
+/// numbers; others may have any wire type. Embedded messages are not entered. Reads all bytes once and does not allocate.
 #[inline(always)]
 pub fn judge_wire(message: &[u8], at: u64, kinds: &[(u64, Kind)]) -> Result<(), Fault>
     requires { at + length message.now ≤ 2 ^ 63 }

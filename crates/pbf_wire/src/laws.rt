@@ -75,7 +75,7 @@ pub fn signed_numbers_are_read()
 {}
 
 /// A running sum is, at each entry, the sum of that entry and all before it; and the sums of the differences of values are
-/// the values. Where no sum is out of range, the sums up to the first that is out of range are all sums.
+/// the values. If no sum is out of range, the sums up to the first that is out of range are all sums.
 pub fn sums_undo_differences()
     ensures running { (entries : List ℤ) → sums_from (pos 0) entries ≡ sums entries }
     ensures values { (values : List ℤ) → sums (map unzigzag (deltas values)) ≡ values }

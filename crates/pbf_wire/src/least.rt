@@ -19,7 +19,7 @@ pub fn comes_before(one: Fault, other: Fault) -> bool
     one.reason.missing_field() < other.reason.missing_field()
 }
 
-/// The lesser of two faults, where there are any; of two that are alike the first.
+/// The lesser of two faults, if there are any; of two that are alike the first.
 #[inline(always)]
 pub fn lesser(one: Option<Fault>, other: Option<Fault>) -> Option<Fault>
     ensures { result ≡ lesser one other }

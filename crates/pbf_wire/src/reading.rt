@@ -12,8 +12,8 @@ use crate::field::{Field, Payload};
 use crate::fields::Fields;
 use crate::message::Message;
 
-/// The last occurrence of a field, of any wire type. Where the message has a fault, its fields before the fault count. Reads all
-/// fields once and takes no memory.
+/// The last occurrence of a field, of any wire type. If the message has a fault, its fields before the fault count. Reads all
+/// fields once and does not allocate.
 pub fn last_field(message: Message<'_>, number: u64) -> Option<Field<'_>>
     ensures { option_map occurrence result ≡ last_of number (found_in message.entry) }
 {

@@ -15,7 +15,7 @@ use crate::fields::Fields;
 /// How many bytes are looked at at once, of which all but the last four are judged: from these a varint may end further on.
 const WINDOW: usize = 64;
 
-/// Fields of at most so many bytes have no more than 2^26 numbers in a column. Where no entry is further than 2^34 from 0, their
+/// Fields of at most so many bytes have no more than 2^26 numbers in a column. If no entry is further than 2^34 from 0, their
 /// sums are no further than 2^60.
 pub(crate) const MOST_BYTES: usize = 1 << 26;
 
@@ -56,7 +56,7 @@ fn window_of(bytes: &[u8]) -> [u8; WINDOW]
     window
 }
 
-/// As [`count_short`], for bytes that one window has room for. It is part of its callers, of which one needs no count.
+/// Like [`count_short`], for bytes that one window has room for. It is part of its callers, of which one needs no count.
 #[inline(always)]
 fn count_short_few(bytes: &[u8]) -> Option<usize>
     requires { length bytes.now < 64 }

@@ -11,7 +11,7 @@ use crate::judge::fault_where;
 use crate::least::lesser;
 use crate::message::Message;
 
-/// `Missing` at `place`, where the message has no field of this number.
+/// `Missing` at `place`, if the message has no field of this number.
 pub fn judge_missing(message: Message<'_>, place: u64, number: u64) -> Option<Fault>
     ensures { result ≡ least (missing number place (found_in message.entry)) }
 {

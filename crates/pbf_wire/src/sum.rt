@@ -49,7 +49,7 @@ impl Sum {
         Sum { total: 0, limit }
     }
 
-    /// Adds a number and answers the sum; `None`, and the sum as it was, where it would reach `limit` or `-limit`.
+    /// Adds a number and returns the sum; `None`, and the sum as it was, if it would reach `limit` or `-limit`.
     pub fn add(&mut self, number: i64) -> Option<i64>
         ensures sum { MatchOption result (¬ IsWithin self.old.limit (self.old.total +ℤ number))
             (λ sum. (sum ≡ self.old.total +ℤ number) × IsWithin self.old.limit sum

@@ -73,7 +73,7 @@ fn has_small_sums(fields: Fields<'_>, number: u64) -> bool
     fields.len() <= MOST_BYTES && count_small_left(fields, number).is_some()
 }
 
-/// Adds the entry that a number of a column means to the sum of those before it, and answers whether that is a good value: strictly
+/// Adds the entry that a number of a column means to the sum of those before it, and returns whether that is a good value: strictly
 /// between `-limit` and `limit` and, if it is not `signed`, not below 0.
 fn add_entry(sum: &mut Sum, narrow: bool, number: u64, limit: u64, signed: bool) -> bool
     requires { (limit ≤ 2 ^ 62) × (sum.old.limit ≡ pos (2 ^ 62)) }
@@ -87,7 +87,7 @@ fn add_entry(sum: &mut Sum, narrow: bool, number: u64, limit: u64, signed: bool)
     }
 }
 
-/// The least fault of the values of a column of differences in the fields that are still to come: the reason, where one is not
+/// The least fault of the values of a column of differences in the fields that are still to come: the reason, if one is not
 /// strictly between `-limit` and `limit` or, if they are not `signed`, below 0. Of `narrow` columns the low 32 bits of each entry
 /// count. Reads up to the first such value.
 fn judge_values(
@@ -116,7 +116,7 @@ fn judge_values(
     None
 }
 
-/// As [`judge_sums_left`], where there are fields.
+/// Like [`judge_sums_left`], if there are fields.
 fn judge_sums_of(fields: Fields<'_>, number: u64, limit: u64, narrow: bool) -> Option<Fault>
     requires { (1 ≤ limit) × (limit ≤ 2 ^ 62) }
     ensures { result
@@ -128,7 +128,7 @@ fn judge_sums_of(fields: Fields<'_>, number: u64, limit: u64, narrow: bool) -> O
     judge_values(fields, number, limit, narrow, true, Reason::OutOfRange)
 }
 
-/// The least fault of the values of a column of differences in the fields that are still to come: `OutOfRange` where one isn't
+/// The least fault of the values of a column of differences in the fields that are still to come: `OutOfRange` if one isn't
 /// strictly between `-limit` and `limit`. Of `narrow` columns the low 32 bits of each entry count. Reads up to the first such
 /// value.
 #[inline(always)]
@@ -144,7 +144,7 @@ pub fn judge_sums_left(fields: Fields<'_>, number: u64, limit: u64, narrow: bool
     judge_sums_of(fields, number, limit, narrow)
 }
 
-/// As [`judge_sums_left`], of all of a message.
+/// Like [`judge_sums_left`], of all of a message.
 pub fn judge_sums(message: Message<'_>, number: u64, limit: u64, narrow: bool) -> Option<Fault>
     requires { (1 ≤ limit) × (limit ≤ 2 ^ 62) }
     ensures { result
@@ -153,7 +153,7 @@ pub fn judge_sums(message: Message<'_>, number: u64, limit: u64, narrow: bool) -
     judge_sums_left(message.fields(), number, limit, narrow)
 }
 
-/// The least fault of the values of a narrow column of differences that are indexes: `StringIndex` where one is below 0 or
+/// The least fault of the values of a narrow column of differences that are indexes: `StringIndex` if one is below 0 or
 /// not below `limit`, the length of a table. Reads up to the first such value.
 pub fn judge_index_sums(message: Message<'_>, number: u64, limit: u64) -> Option<Fault>
     requires { limit ≤ 2 ^ 62 }

@@ -7,7 +7,7 @@ use crate::fault::Reason;
 use std::alloc::AllocError;
 
 /// The number that the bytes begin with, and how many bytes it takes, byte by byte. A length of 0 says that there is none: so two plain
-/// numbers are answered, for which no room in memory is cleared where it is called.
+/// numbers are returned, for which no room in memory is cleared if it is called.
 fn any_varint(bytes: &[u8]) -> (u64, usize)
     ensures exact { told bytes.now result ≡ varint_at bytes.now }
     ensures taken { result.1 ≤ length bytes.now }
@@ -25,7 +25,7 @@ fn any_varint(bytes: &[u8]) -> (u64, usize)
     (0, 0)
 }
 
-/// As [`any_varint`], for numbers that take four bytes or more: most of them take four or five.
+/// Like [`any_varint`], for numbers that take four bytes or more: most of them take four or five.
 #[inline(never)]
 fn longer_varint(bytes: &[u8]) -> (u64, usize)
     ensures exact { told bytes.now result ≡ varint_at bytes.now }
@@ -117,7 +117,7 @@ pub(crate) fn first_varint(bytes: &[u8]) -> Result<(u64, usize), Reason>
 pub fn get_varint(bytes: &[u8], at: usize) -> Result<(u64, usize), Reason>
     requires { at ≤ length bytes.now }
 
-    // A number is answered exactly where the bytes are a spelling of it.
+    // A number is returned exactly where the bytes are a spelling of it.
     ensures found { IfOk result (λ found. (at < found.1) × (found.1 ≤ length bytes.now)
         × IsVarint found.0 (slice_range bytes.now at found.1)) }
     ensures only { (v k : ℕ) → at ≤ k → k ≤ length bytes.now
@@ -134,7 +134,7 @@ pub fn get_varint(bytes: &[u8], at: usize) -> Result<(u64, usize), Reason>
     Ok((value, at + length))
 }
 
-/// The shortest spelling, at the start of the array, and its length. It takes no memory.
+/// The shortest spelling, at the start of the array, and its length. It does not allocate.
 pub fn shortest_spelling(value: u64) -> ([u8; 10], usize)
     ensures within { result.1 ≤ 10 }
     ensures spelling { take result.1 result.0 ≡ shortest value }
@@ -151,7 +151,7 @@ pub fn shortest_spelling(value: u64) -> ([u8; 10], usize)
     (spelling, length + 1)
 }
 
-/// As [`put_varint`], of a number that takes two bytes or more: most of them take two or three, which are spelled at once.
+/// Like [`put_varint`], of a number that takes two bytes or more: most of them take two or three, which are spelled at once.
 #[inline(never)]
 fn put_longer(out: &mut Vec<u8>, value: u64) -> Result<(), AllocError>
     requires { 128 ≤ value }

@@ -69,7 +69,7 @@ pub fn put_unless_empty(out: &mut Vec<u8>, number: u64, message: &[u8]) -> Resul
     Ok(())
 }
 
-/// Appends a packed column, as `ColumnOut::bytes` and `DeltaOut::bytes` give it; nothing where it is empty.
+/// Appends a packed column, as `ColumnOut::bytes` and `DeltaOut::bytes` give it; nothing if it is empty.
 #[tactic(auto, using(crate::proofs::WritingLemmas::column_put))]
 pub fn put_column(out: &mut Vec<u8>, number: u64, column: &[u8]) -> Result<(), AllocError>
     requires { number < 2 ^ 29 }

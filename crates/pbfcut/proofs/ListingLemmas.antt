@@ -37,7 +37,7 @@ texts_more text before mid now xs x e e2 = e2 ∙ ap (λ (k : Option (List ℕ))
 pub texts_added : {A D : Type 0} (d : drain.Ghosts D) (text : A → List ℕ) (before mid now : D) (xs : List A) (x : A) → Added d before (flat_map text xs) mid → Added d mid (text x) now → Added d before (flat_map text (xs ++ x ∷ [])) now
 texts_added d text before mid now xs x so_far more = added_same d before now _ _ (sym (text_one text xs x)) (added_more d before mid now (flat_map text xs) (text x) so_far more)
 
--- of the next frame nothing went out, or a beginning of its text
+-- of the next frame nothing went out, or a prefix of its text
 abbrev pub StoppedWithin : (FrameSpec → List ℕ) → Option Verdict → Option (List ℕ) → Option (List ℕ) → Type 0
 StoppedWithin text known old new = (new ≡ old) ⊎ ((f : FrameSpec) × (rest : Option Verdict) × (known ≡ with_first_known f rest) × IsFront old new (text f))
 

@@ -48,7 +48,7 @@ count_next done e = by e ∙ counts_together done (e ∷ [])
     by (relation r) = same_counts _ _ (omega arith) (omega arith) (omega arith)
 
 module _ {D S H : Type 0} (d : drain.Ghosts D) where
-  -- ---- whatever is answered
+  -- ---- whatever is returned
 
   pub keeps_same : (packer : Packing D S H) → has_header packer ≡ true → KeepsPacker d packer packer
   keeps_same packer begun = record { header = begun; drain_kept = record { counts = omega arith; lender = refl } }

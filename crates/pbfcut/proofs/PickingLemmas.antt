@@ -127,7 +127,7 @@ pack_stop first before now changed stop.Write l h = omega (arith, l, h)
 pack_stop first before now changed stop.Memory l h = tt
 pack_stop first before now changed (stop.Changed pass) l h = absurd h
 
--- where all of them can be written, it is one of a payload without a fault
+-- if all of them can be written, it is one of a payload without a fault
 pub stops_judged : {D S H : Type 0} (d : drain.Ghosts D) (number : ℕ) (pick : Pick) (fault : Option Fault) (es all : List EntitySpec) (old new : Packing D S H) (s : Stop) → fault ≡ None → AllByRecursion EntityFits es → filter pick es ≡ all
     → StopsAmong d number pick es old new s → StopsPacking d fault all old new s
 stops_judged d number pick fault es all old new s sound fits same stops = record {

@@ -15,7 +15,7 @@ abbrev pub conversion : Option (ℕ × HeaderSpec) → List EntitySpec → List 
 conversion None es = []
 conversion (Some header) es = written_file header.1 es
 
--- what is to be written for a file with this verdict: nothing where it has a fault
+-- what is to be written for a file with this verdict: nothing if it has a fault
 abbrev pub answer_bytes : Verdict → List ℕ
 answer_bytes (frames, None) = conversion (file_header frames) (stored_entities frames)
 answer_bytes (frames, Some e) = []

@@ -38,7 +38,7 @@ abbrev pub extraction : Choice → BoundingBox → Option (ℕ × HeaderSpec) �
 extraction choose area None es = []
 extraction choose area (Some header) es = written_file (header_out_for_box area header.1) (choose es)
 
--- what is to be written for a file with this verdict: nothing where it has a fault
+-- what is to be written for a file with this verdict: nothing if it has a fault
 abbrev pub extract_bytes : Choice → BoundingBox → Verdict → List ℕ
 extract_bytes choose area (frames, None) = extraction choose area (file_header frames) (stored_entities frames)
 extract_bytes choose area (frames, Some e) = []

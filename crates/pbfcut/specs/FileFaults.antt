@@ -15,7 +15,7 @@ payload_phases (header_block at message) = header_phases at message
 payload_phases (primitive_block at message) = block_phases at message
 payload_phases unknown = []
 
--- those of a frame and of its payload, each with its phase: seven for a frame whose payload is looked into, and then those of the payload
+-- those of a frame and of its payload, each with its phase: seven for a frame whose payload is read, and then those of the payload
 abbrev pub frame_faults : Bool → FrameSpec → List (ℕ × Fault)
 frame_faults had_header f = in_phases 1 (frame_phases had_header f ++ payload_phases (payload_of f))
 

@@ -19,11 +19,11 @@ pub record Lists {D : Type 0} (d : drain.Ghosts D) (old new : D) (known : Option
   pub added : Added d old (lines frames) new
   pub counted : count ≡ length frames
 
--- a beginning of the lines of all frames before the fault went out
+-- a prefix of the lines of all frames before the fault went out
 abbrev pub ListsFront : {D : Type 0} → drain.Ghosts D → D → D → Option Verdict → Type 0
 ListsFront d old new known = (all : Verdict) → known ≡ Some all → IsFront (d.taken old) (d.taken new) (lines all.0)
 
--- where the file is refused, by its first frame fault, the lines of the frames before it went out
+-- if the file is refused, by its first frame fault, the lines of the frames before it went out
 pub record ListsToFault {D : Type 0} (d : drain.Ghosts D) (old new : D) (known : Option Verdict) (e : Fault) : Type 0 where
   pub frames : List FrameSpec
   pub says : Says known (frames, Some e)
@@ -36,7 +36,7 @@ pub record ListsNext {D : Type 0} (d : drain.Ghosts D) (old new : D) (f : FrameS
   pub added : Added d old (line f) new
   pub counts : d.failures old ≤ d.failures new
 
--- a step stopped at a frame, by its write or without memory, and a beginning of the frame's line went out
+-- a step stopped at a frame, by its write or without memory, and a prefix of the frame's line went out
 pub record StopsListing {D : Type 0} (d : drain.Ghosts D) (old new : D) (f : FrameSpec) (stop : Stop) : Type 0 where
   pub cause : Caused (Only None) ⊥ (WriteFailed d old new) unchanged stop
   pub front : IsFront (d.taken old) (d.taken new) (line f)

@@ -40,7 +40,7 @@ picked_by sets (node n) = set.contains sets.ways.node_ids n.id
 picked_by sets (way w) = is_chosen sets (seen_way w)
 picked_by sets (relation r) = is_chosen sets (seen_relation r)
 
--- by the sets that were chosen, or all where none were
+-- by the sets that were chosen, or all if none were
 abbrev pub picked_by_some : Option KeptSets → Pick
 picked_by_some None = everything
 picked_by_some (Some sets) = picked_by sets
@@ -67,7 +67,7 @@ pub record HasPacked {D S H : Type 0} (d : drain.Ghosts D) (start : D) (done : L
   pub added : Added d start (written_after [] done) packer.drain
   pub pending : Pending packer (pending_after [] done)
 
--- whatever comes behind these entities, what went out is a beginning of what is written for all
+-- whatever comes behind these entities, what went out is a prefix of what is written for all
 abbrev pub BeginsAll : Option (List ℕ) → List EntitySpec → Option (List ℕ) → Type 0
 BeginsAll start done taken = (rest : List EntitySpec) → IsFront start taken (written_entities (done ++ rest))
 
@@ -87,7 +87,7 @@ pub record PacksAll {D S H : Type 0} (d : drain.Ghosts D) (fault : Option Fault)
   pub packs : Packs d old new es
   pub going : IsPacking new
 
--- a call stopped: for the fault, then nothing went out; else a beginning of these entities did
+-- a call stopped: for the fault, then nothing went out; otherwise a prefix of these entities did
 pub record StopsPacking {D S H : Type 0} (d : drain.Ghosts D) (fault : Option Fault) (es : List EntitySpec) (old new : Packing D S H) (stop : Stop) : Type 0 where
   pub cause : Caused (Only fault) ⊥ (WriteFailed d old.drain new.drain) unchanged stop
   pub front : (d.taken new.drain ≡ d.taken old.drain) ⊎ ((fault ≡ None) × Begins d old new es)

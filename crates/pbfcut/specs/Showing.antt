@@ -31,7 +31,7 @@ frame_text dates f = text_in dates (payload_of f)
 abbrev pub file_text : Bool → List FrameSpec → List ℕ
 file_text dates frames = flat_map (frame_text dates) frames
 
--- what is to be written for a file with this verdict: nothing where it has a fault
+-- what is to be written for a file with this verdict: nothing if it has a fault
 abbrev pub answer_text : Bool → Verdict → List ℕ
 answer_text dates (frames, None) = file_text dates frames
 answer_text dates (frames, Some e) = []
@@ -44,13 +44,13 @@ pub record Shown (dates : Bool) (known : Option Verdict) (written : List ℕ) : 
   pub says : Says known (frames, None)
   pub is : written ≡ file_text dates frames
 
--- a beginning of what is to be written for the file went out
+-- a prefix of what is to be written for the file went out
 abbrev pub ShowsFront : Bool → Option Verdict → Option (List ℕ) → Option (List ℕ) → Type 0
 ShowsFront dates known old new = (all : Verdict) → known ≡ Some all → IsFront old new (answer_text dates all)
 
 -- ---- the pass that writes
 
--- a beginning of the text of the frames before the first fault went out
+-- a prefix of the text of the frames before the first fault went out
 abbrev pub WritesFront : Bool → Option Verdict → Option (List ℕ) → Option (List ℕ) → Type 0
 WritesFront dates known old new = (all : Verdict) → known ≡ Some all → IsFront old new (file_text dates all.0)
 
@@ -61,7 +61,7 @@ pub record ShowsText {D : Type 0} (d : drain.Ghosts D) (fault : Option Fault) (t
   pub sound : fault ≡ None
   pub added : Added d old text new
 
--- a call stopped: for the fault, then nothing went out; else a beginning of the text did
+-- a call stopped: for the fault, then nothing went out; otherwise a prefix of the text did
 pub record StopsShowing {D : Type 0} (d : drain.Ghosts D) (fault : Option Fault) (text : List ℕ) (old new : D) (stop : Stop) : Type 0 where
   pub cause : Caused (Only fault) ⊥ (WriteFailed d old new) unchanged stop
   pub front : (d.taken new ≡ d.taken old) ⊎ ((fault ≡ None) × IsFront (d.taken old) (d.taken new) text)

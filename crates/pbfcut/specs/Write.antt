@@ -29,7 +29,7 @@ pub record PacksAgain {D S H : Type 0} (d : drain.Ghosts D) (pick : Pick) (p : P
   pub counted : (done : List EntitySpec) → before ≡ counts_of done → now ≡ counts_of (done ++ es)
 
 -- a call stopped at a payload: it has a fault, which says that the bytes changed since they were judged; or a write failed, or memory was
--- refused. If it has none, a beginning of what is picked of it went out
+-- refused. If it has none, a prefix of what is picked of it went out
 pub record FailsAgain {D S H : Type 0} (d : drain.Ghosts D) (number : ℕ) (pick : Pick) (p : Payload) (old new : Packing D S H) (stop : Stop) : Type 0 where
   pub cause : StopsAtPayload number (WriteFailed d old.drain new.drain) p stop
   pub begins : fault_in p ≡ None → Begins d old new (picked_in pick p)
@@ -61,6 +61,6 @@ pub record IsPacked (pick : Pick) (h : HeaderSpec) (counts : Counts) (frames : L
 abbrev pub Packed : Pick → HeaderSpec → Counts → Option Verdict → List ℕ → Type 0
 Packed pick h counts known written = (frames : List FrameSpec) → known ≡ Some (frames, None) → IsPacked pick h counts frames written
 
--- if the file has no fault, a beginning of the header and of what is picked went out
+-- if the file has no fault, a prefix of the header and of what is picked went out
 abbrev pub PacksFront : Pick → HeaderSpec → Option Verdict → (old new : Option (List ℕ)) → Type 0
 PacksFront pick h known old new = (frames : List FrameSpec) → known ≡ Some (frames, None) → IsFront old new (written_file h (filter pick (stored_entities frames)))

@@ -13,7 +13,7 @@ use pbf_frame::{Drain, Feed, Frame, FrameKind, FrameReader, Stop, write_all};
 use pbf_pass::{Visit, visit_rest};
 use std::alloc::{AllocError, Global};
 
-/// Appends the type of a frame: as it stands where it is known, else in quotation marks.
+/// Appends the type of a frame: as it stands if it is known, otherwise in quotation marks.
 fn put_name(out: &mut Vec<u8>, kind: FrameKind, name: &[u8]) -> Result<(), AllocError>
     ensures { OnOk result (out.new.items ≡ out.old.items ++ shown_name kind name.now) }
 {
@@ -84,7 +84,7 @@ impl<D: Drain> Visit for Listing<'_, D> {
     }
 }
 
-/// Writes one line for each frame, and answers how many frames there are: the frame's place, its type, the size of its blob
+/// Writes one line for each frame, and returns how many frames there are: the frame's place, its type, the size of its blob
 /// and the length of its payload, with single spaces between. A blob of another type than `OSMHeader` and `OSMData` has its
 /// type in quotation marks, and `skipped` for the length.
 ///
@@ -101,7 +101,7 @@ pub fn list_blobs<F: Feed, D: Drain>(
     // Whatever stopped it, a prefix of the lines of the frames before the first fault went out.
     ensures beginning { OnErr result (ListsFront D.Drain drain.old drain.new
         (judged_known false 0 (F.remaining feed.old))) }
-    // Each stop has its cause; where the file is refused, all the lines of the frames before the fault went out.
+    // Each stop has its cause; if the file is refused, all the lines of the frames before the fault went out.
     ensures stops { IfErr result (Caused
         (ListsToFault D.Drain drain.old drain.new (judged_known false 0 (F.remaining feed.old)))
         (ReadFailed F.Feed feed.old feed.new) (WriteFailed D.Drain drain.old drain.new) unchanged) }

@@ -20,12 +20,12 @@ use pbf_pass::{Halt, InputReceipt, Nothing, judge, writable_header};
 use std::alloc::Global;
 use std::hash::BuildHasher;
 
-/// Writes all entities in canonical form, after the header in written form, and answers their numbers.
+/// Writes all entities in canonical form, after the header in written form, and returns their numbers.
 ///
 /// Both feeds have to supply the same bytes. The first is judged as a whole before anything is written: `Refused` names its
 /// first fault, of any phase, or `EntityLarge` at its HeaderBlock where the header's source and base URL have more than
 /// 12,000,000 bytes together. The second is written from. `Changed(2)` says that it had a fault or another digest, so that its
-/// bytes aren't those of the first; what was written then has no meaning. Strangers choose the texts of a file, so the hasher
+/// bytes aren't those of the first; what was written then has no meaning. The input is untrusted, so the hasher
 /// should be seeded.
 ///
 /// A conversion of what was written is the same bytes: see [`crate::laws`].
@@ -38,14 +38,14 @@ pub fn convert<F: Feed, G: Feed, D: Drain, S: BuildHasher + Drop>(
 ) -> Result<Counts, Stop>
     // The first file has no fault, and its header can be written.
     ensures judged { OnOk result (CanBeWritten (judged_writable (F.remaining first.old))) }
-    // Where both feeds supply these bytes, the drain took bytes that decode to exactly what they do, or they are refused for their
+    // If both feeds supply these bytes, the drain took bytes that decode to exactly what they do, or they are refused for their
     // first fault, with nothing written.
     ensures promise { (b : List ℕ) → BothSupply b (F.remaining first.old) (G.remaining second.old)
         → Promised D.Drain drain.old drain.new b (Converted b) result }
-    // What the drain took is a beginning of the conversion in canonical form, whatever stopped it, and all of it on success.
+    // What the drain took is a prefix of the conversion in canonical form, whatever stopped it, and all of it on success.
     ensures canonical { (b : List ℕ) → BothSupply b (F.remaining first.old) (G.remaining second.old)
         → Canonical D.Drain drain.old drain.new conversion_of b result }
-    // No files that differ, unless two unlike lists share a digest.
+    // No files that differ, unless two different lists share a digest.
     ensures digests { OnOk result (SameDigest (F.remaining first.old) (G.remaining second.old)) }
     // Each stop has its cause; what is refused is the first file, by its first fault, and then the drain took nothing.
     ensures stops { IfErr result (ConvertStops (F.remaining first.old) (G.remaining second.old)
@@ -56,7 +56,7 @@ pub fn convert<F: Feed, G: Feed, D: Drain, S: BuildHasher + Drop>(
     Ok(convert_with_receipt(alloc, first, second, drain, hasher)?.counts)
 }
 
-/// As [`convert`], and reports the digest of what was read, whether the devices report their bytes or not. That of what was written a
+/// Like [`convert`], and returns the digest of what was read, whether the devices report their bytes or not. That of what was written a
 /// [`pbf_pass::HashedDrain`] tells: see [`crate::laws::hashed_drain_took`].
 pub fn convert_with_receipt<F: Feed, G: Feed, D: Drain, S: BuildHasher + Drop>(
     alloc: Global,
@@ -66,7 +66,7 @@ pub fn convert_with_receipt<F: Feed, G: Feed, D: Drain, S: BuildHasher + Drop>(
     hasher: S,
 ) -> Result<InputReceipt, Halt>
     // Each feed gave a file of the digest `input`, to its end; the first has no fault, and its header can be written. The drain took
-    // bytes. Where both files are one, these bytes are exactly its conversion, and the counts are its.
+    // bytes. If both files are one, these bytes are exactly its conversion, and the counts are its.
     ensures receipt { IfOk result (λ receipt. GaveFile F.Feed first.old first.new receipt.input
         (λ b. IsWritable b
         × GaveFile G.Feed second.old second.new receipt.input (λ c. Took D.Drain drain.old drain.new
@@ -78,7 +78,7 @@ pub fn convert_with_receipt<F: Feed, G: Feed, D: Drain, S: BuildHasher + Drop>(
         (D.taken drain.old) (D.taken drain.new)
         (ReadFailed F.Feed first.old first.new ⊎ ReadFailed G.Feed second.old second.new)
         (WriteFailed D.Drain drain.old drain.new) (stop_of h)) }
-    // Whatever stopped it, where both feeds supply these bytes a prefix of their conversion went out, and nothing where they have a fault.
+    // Whatever stopped it, if both feeds supply these bytes a prefix of their conversion went out, and nothing if they have a fault.
     ensures beginning { OnErr result ((b : List ℕ)
         → BothSupply b (F.remaining first.old) (G.remaining second.old)
         → IsFront (D.taken drain.old) (D.taken drain.new) (conversion_of b)) }

@@ -79,7 +79,7 @@ fn choose<F: Feed, G: Feed>(
 /// URL have more than 12,000,000 bytes together; nothing is written then. `Changed(2)` or `Changed(3)` says that the second or the
 /// third feed's bytes aren't those of the first; after `Changed(2)` nothing is written, and what was written before `Changed(3)`
 /// has no meaning. `Read` and `Write` say that a device failed, and `Memory` that memory was refused: what went out is a prefix of
-/// the answer. Strangers choose the texts of a file, so the hasher should be seeded.
+/// the answer. The input is untrusted, so the hasher should be seeded.
 ///
 /// Space: one frame, the block that is open, and the sets of ids of the nodes in the box, of the refs and of the ways.
 pub fn extract<F: Feed, G: Feed, H: Feed, D: Drain, S: BuildHasher + Drop>(
@@ -93,17 +93,17 @@ pub fn extract<F: Feed, G: Feed, H: Feed, D: Drain, S: BuildHasher + Drop>(
 ) -> Result<Counts, Stop>
     // The first file has no fault, and its header can be written.
     ensures judged { OnOk result (CanBeWritten (judged_writable (F.remaining first.old))) }
-    // Where all feeds supply these bytes, the drain took bytes that decode to exactly the complete-ways extract of what they decode
+    // If all feeds supply these bytes, the drain took bytes that decode to exactly the complete-ways extract of what they decode
     // to, in input order, or they are refused for their first fault, with nothing written.
     ensures promise { (b : List ℕ)
         → AllSupply b (F.remaining first.old) (G.remaining second.old) (H.remaining third.old)
         → Promised D.Drain drain.old drain.new b
         (Extracted (complete_ways area) (extract (seen_decoded area)) area b) result }
-    // What the drain took is a beginning of the extract in canonical form, whatever stopped it, and all of it on success.
+    // What the drain took is a prefix of the extract in canonical form, whatever stopped it, and all of it on success.
     ensures canonical { (b : List ℕ)
         → AllSupply b (F.remaining first.old) (G.remaining second.old) (H.remaining third.old)
         → Canonical D.Drain drain.old drain.new (extract_of (complete_ways area) area) b result }
-    // No files that differ, unless two unlike lists share a digest.
+    // No files that differ, unless two different lists share a digest.
     ensures digests { OnOk result (SameDigest (F.remaining first.old) (G.remaining second.old)
         × SameDigest (F.remaining first.old) (H.remaining third.old)) }
     // Each stop has its cause; what is refused is the first file, by its first fault, and then the drain took nothing.
@@ -116,7 +116,7 @@ pub fn extract<F: Feed, G: Feed, H: Feed, D: Drain, S: BuildHasher + Drop>(
     Ok(extract_with_receipt(alloc, first, second, third, area, drain, hasher)?.counts)
 }
 
-/// As [`extract`], and reports the digest of what was read, whether the devices report their bytes or not. That of what was written a
+/// Like [`extract`], and returns the digest of what was read, whether the devices report their bytes or not. That of what was written a
 /// [`HashedDrain`] tells: see [`crate::laws::hashed_drain_took`].
 pub fn extract_with_receipt<F: Feed, G: Feed, H: Feed, D: Drain, S: BuildHasher + Drop>(
     alloc: Global,
@@ -128,7 +128,7 @@ pub fn extract_with_receipt<F: Feed, G: Feed, H: Feed, D: Drain, S: BuildHasher 
     hasher: S,
 ) -> Result<InputReceipt, Halt>
     // Each feed gave a file of the digest `input`, to its end; the first has no fault, and its header can be written. The drain took
-    // bytes. Where the files are one, these bytes are exactly its complete-ways extract, and the counts are those of the entities in it.
+    // bytes. If the files are one, these bytes are exactly its complete-ways extract, and the counts are those of the entities in it.
     ensures receipt { IfOk result (λ receipt. GaveFile F.Feed first.old first.new receipt.input
         (λ b. IsWritable b
         × GaveFile G.Feed second.old second.new receipt.input
@@ -144,7 +144,7 @@ pub fn extract_with_receipt<F: Feed, G: Feed, H: Feed, D: Drain, S: BuildHasher 
         (ReadFailed F.Feed first.old first.new
         ⊎ (ReadFailed G.Feed second.old second.new ⊎ ReadFailed H.Feed third.old third.new))
         (WriteFailed D.Drain drain.old drain.new) (stop_of h)) }
-    // Whatever stopped it, where all feeds supply these bytes a prefix of the answer went out, and nothing where they have a fault.
+    // Whatever stopped it, if all feeds supply these bytes a prefix of the answer went out, and nothing if they have a fault.
     ensures beginning { OnErr result ((b : List ℕ)
         → AllSupply b (F.remaining first.old) (G.remaining second.old) (H.remaining third.old)
         → IsFront (D.taken drain.old) (D.taken drain.new)
@@ -216,19 +216,19 @@ pub fn extract_parents<F: Feed, G: Feed, H: Feed, I: Feed, D: Drain, S: BuildHas
 ) -> Result<Counts, Stop>
     // The first file has no fault, and its header can be written.
     ensures judged { OnOk result (CanBeWritten (judged_writable (F.remaining first.old))) }
-    // Where all feeds supply these bytes, the drain took bytes that decode to exactly the complete-ways extract with all parents of
+    // If all feeds supply these bytes, the drain took bytes that decode to exactly the complete-ways extract with all parents of
     // what they decode to, in input order, or they are refused for their first fault, with nothing written.
     ensures promise { (b : List ℕ)
         → FourSupply b (F.remaining first.old) (G.remaining second.old) (H.remaining third.old)
         (I.remaining fourth.old)
         → Promised D.Drain drain.old drain.new b
         (Extracted (all_parents area) (extract_with_parents (seen_decoded area)) area b) result }
-    // What the drain took is a beginning of the extract in canonical form, whatever stopped it, and all of it on success.
+    // What the drain took is a prefix of the extract in canonical form, whatever stopped it, and all of it on success.
     ensures canonical { (b : List ℕ)
         → FourSupply b (F.remaining first.old) (G.remaining second.old) (H.remaining third.old)
         (I.remaining fourth.old)
         → Canonical D.Drain drain.old drain.new (extract_of (all_parents area) area) b result }
-    // No files that differ, unless two unlike lists share a digest.
+    // No files that differ, unless two different lists share a digest.
     ensures digests { OnOk result (SameDigest (F.remaining first.old) (G.remaining second.old)
         × SameDigest (F.remaining first.old) (H.remaining third.old)
         × SameDigest (F.remaining first.old) (I.remaining fourth.old)) }
@@ -247,7 +247,7 @@ pub fn extract_parents<F: Feed, G: Feed, H: Feed, I: Feed, D: Drain, S: BuildHas
     )
 }
 
-/// As [`extract_parents`], and reports the digest of what was read, as [`extract_with_receipt`] does.
+/// Like [`extract_parents`], and returns the digest of what was read, as [`extract_with_receipt`] does.
 pub fn extract_parents_with_receipt<
     F: Feed,
     G: Feed,
@@ -266,7 +266,7 @@ pub fn extract_parents_with_receipt<
     hasher: S,
 ) -> Result<InputReceipt, Halt>
     // Each feed gave a file of the digest `input`, to its end; the first has no fault, and its header can be written. The drain took
-    // bytes. Where the files are one, these bytes are exactly its complete-ways extract with all parents, and the counts are those of the entities in it.
+    // bytes. If the files are one, these bytes are exactly its complete-ways extract with all parents, and the counts are those of the entities in it.
     ensures receipt { IfOk result (λ receipt. GaveFile F.Feed first.old first.new receipt.input
         (λ b. IsWritable b
         × GaveFile G.Feed second.old second.new receipt.input
@@ -283,7 +283,7 @@ pub fn extract_parents_with_receipt<
         ⊎ (ReadFailed G.Feed second.old second.new ⊎ ReadFailed H.Feed third.old third.new))
         ⊎ ReadFailed I.Feed fourth.old fourth.new)
         (WriteFailed D.Drain drain.old drain.new) (stop_of h)) }
-    // Whatever stopped it, where all feeds supply these bytes a prefix of the answer went out, and nothing where they have a fault.
+    // Whatever stopped it, if all feeds supply these bytes a prefix of the answer went out, and nothing if they have a fault.
     ensures beginning { OnErr result ((b : List ℕ)
         → FourSupply b (F.remaining first.old) (G.remaining second.old) (H.remaining third.old)
         (I.remaining fourth.old)

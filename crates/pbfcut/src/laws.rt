@@ -39,7 +39,7 @@ pub fn file_faults_are_one_order()
         ≡ Some (option_map (λ p. p.1.1) (least_by file_rank (file_faults file))) }
 {}
 
-/// A file that is written is read back: where it is at most 2^62 bytes long, it has no fault of any phase, its header is the
+/// A file that is written is read back: if it is at most 2^62 bytes long, it has no fault of any phase, its header is the
 /// header that was written, and its entities are those that were written.
 pub fn written_file_is_read()
     ensures { (h : HeaderSpec) (es : List EntitySpec) → HeaderFits (header_out_for_convert h)

@@ -160,10 +160,10 @@ fn pack_way<D: Drain, S: BuildHasher>(
     Ok(())
 }
 
-/// So many nodes at the most are passed over at a time.
+/// So many nodes at the most are skipped at a time.
 const MOST_PASSED: usize = 8_000;
 
-/// How many nodes, of those that are still to come, stand before the next that is picked, or some of them; `None` where none of them is
+/// How many nodes, of those that are still to come, stand before the next that is picked, or some of them; `None` if none of them is
 /// picked. Their ids tell, and nothing else is read.
 fn unpicked(dense: &Dense<'_>, picker: &mut Picker<'_>) -> Option<usize>
     ensures none { MatchOption result
@@ -181,8 +181,8 @@ fn unpicked(dense: &Dense<'_>, picker: &mut Picker<'_>) -> Option<usize>
     None
 }
 
-/// Packs those nodes of a dense message that are picked. After one that is not, all up to the next that is are passed over together, and
-/// not made; where there is none, nothing more is read.
+/// Packs those nodes of a dense message that are picked. After one that is not, all up to the next that is are skipped together, and
+/// not made; if there is none, nothing more is read.
 fn pack_nodes<D: Drain, S: BuildHasher>(
     dense: &Dense<'_>,
     picker: &mut Picker<'_>,
@@ -262,7 +262,7 @@ pub(crate) fn pack_runs<D: Drain, S: BuildHasher>(
     Ok(())
 }
 
-/// Judges a PrimitiveBlock whose first byte stands at `at` in the file, packs what is picked of it, and answers the numbers of
+/// Judges a PrimitiveBlock whose first byte stands at `at` in the file, packs what is picked of it, and returns the numbers of
 /// these entities.
 fn pack_block<D: Drain, S: BuildHasher>(
     alloc: Global,
@@ -328,8 +328,8 @@ fn pack_payload<D: Drain, S: BuildHasher>(
 /// It writes no header: the caller sees that one was put.
 ///
 /// `Refused` names the first fault of the frame, and then nothing went out; on another stop, of a frame without a fault, a
-/// beginning of its entities may have gone out. After a stop the reader and the packer may only be dropped or taken apart, and
-/// the pass may only be dropped. A spent packer answers its stop again, before the reader is asked.
+/// prefix of its entities may have gone out. After a stop the reader and the packer may only be dropped or taken apart, and
+/// the pass may only be dropped. A spent packer returns its stop again, before the reader is asked.
 pub fn step_pack<F: Feed, D: Drain, S: BuildHasher>(
     alloc: Global,
     reader: &mut FrameReader<F>,

@@ -71,7 +71,7 @@ impl Repeat {
         }
     }
 
-    /// The same; or nothing, where all was gathered in the first pass.
+    /// The same; or nothing, if all was gathered in the first pass.
     pub(crate) fn gather_rest<F: Feed, G: Gather>(
         self,
         alloc: Global,

@@ -163,7 +163,7 @@ impl<D: Drain> Visit for Showing<'_, D> {
     }
 }
 
-/// Writes the text of a whole file, and answers the digest of its bytes.
+/// Writes the text of a whole file, and returns the digest of its bytes.
 fn write_text<F: Feed, D: Drain>(
     alloc: Global,
     feed: &mut F,
@@ -187,7 +187,7 @@ fn write_text<F: Feed, D: Drain>(
     Ok(pass_over(alloc, feed, &mut showing)?.digest)
 }
 
-/// Writes a line for each field of the header and for each entity, and answers the numbers of entities. With `dates` times
+/// Writes a line for each field of the header and for each entity, and returns the numbers of entities. With `dates` times
 /// are written as dates.
 ///
 /// Both feeds have to supply the same bytes. The first is judged as a whole before anything is written: `Refused` names its
@@ -206,7 +206,7 @@ pub fn show<F: Feed, G: Feed, D: Drain>(
     // The drain took exactly the text of the second file, which has no fault.
     ensures shown { OnOk result (Took D.Drain drain.old drain.new
         (Shown dates (judged_file (G.remaining second.old)))) }
-    // No files that differ, unless two unlike lists share a digest.
+    // No files that differ, unless two different lists share a digest.
     ensures digests { OnOk result (SameDigest (F.remaining first.old) (G.remaining second.old)) }
     // Each stop has its cause; what is refused is the first file, by its first fault, and then the drain took nothing.
     ensures stops { IfErr result (Caused
@@ -214,7 +214,7 @@ pub fn show<F: Feed, G: Feed, D: Drain>(
         (ReadFailed F.Feed first.old first.new ⊎ ReadFailed G.Feed second.old second.new)
         (WriteFailed D.Drain drain.old drain.new)
         (ChangedIn 2 (F.remaining first.old) (G.remaining second.old))) }
-    // Whatever stopped it, where the feeds are alike a prefix of that file's text went out, and nothing where it has a fault.
+    // Whatever stopped it, if the feeds are alike a prefix of that file's text went out, and nothing if it has a fault.
     ensures beginning { OnErr result (F.remaining first.old ≡ G.remaining second.old
         → ShowsFront dates (judged_file (F.remaining first.old))
         (D.taken drain.old) (D.taken drain.new)) }
@@ -222,7 +222,7 @@ pub fn show<F: Feed, G: Feed, D: Drain>(
     Ok(show_with_receipt(alloc, first, second, drain, dates)?.counts)
 }
 
-/// As [`show`], and reports the digest of what was read, whether the devices report their bytes or not. That of the text a
+/// Like [`show`], and returns the digest of what was read, whether the devices report their bytes or not. That of the text a
 /// [`pbf_pass::HashedDrain`] tells: see [`crate::laws::hashed_drain_took`].
 pub fn show_with_receipt<F: Feed, G: Feed, D: Drain>(
     alloc: Global,

@@ -29,7 +29,7 @@ use std::alloc::Global;
 use std::hash::BuildHasher;
 
 /// The passes before the one that writes: the first judges the file and takes the nodes of the box, and the ways as long as no node
-/// comes behind one. Where one did, the second takes the ways; otherwise it isn't made.
+/// comes behind one. If one did, the second takes the ways; otherwise it isn't made.
 pub(crate) fn choose_sorted<F: Feed, G: Feed>(
     alloc: Global,
     first: &mut F,
@@ -60,7 +60,7 @@ pub(crate) fn choose_sorted<F: Feed, G: Feed>(
     })
 }
 
-/// As [`extract`](crate::extract), in two passes where no node of the file comes behind a way: then the first gives the ways too, and
+/// Like [`extract`](crate::extract), in two passes if no node of the file comes behind a way: then the first gives the ways too, and
 /// nothing is read of the second feed. Of another file three passes are made, as there.
 ///
 /// All that is said there holds. Space: besides, the refs and the ids of the ways are gathered while the first pass goes on.
@@ -75,17 +75,17 @@ pub fn extract_sorted<F: Feed, G: Feed, H: Feed, D: Drain, S: BuildHasher + Drop
 ) -> Result<Counts, Stop>
     // The first file has no fault, and its header can be written.
     ensures judged { OnOk result (CanBeWritten (judged_writable (F.remaining first.old))) }
-    // Where all feeds supply these bytes, the drain took bytes that decode to exactly the complete-ways extract of what they decode
+    // If all feeds supply these bytes, the drain took bytes that decode to exactly the complete-ways extract of what they decode
     // to, in input order, or they are refused for their first fault, with nothing written.
     ensures promise { (b : List ℕ)
         → AllSupply b (F.remaining first.old) (G.remaining second.old) (H.remaining third.old)
         → Promised D.Drain drain.old drain.new b
         (Extracted (complete_ways area) (extract (seen_decoded area)) area b) result }
-    // What the drain took is a beginning of the extract in canonical form, whatever stopped it, and all of it on success.
+    // What the drain took is a prefix of the extract in canonical form, whatever stopped it, and all of it on success.
     ensures canonical { (b : List ℕ)
         → AllSupply b (F.remaining first.old) (G.remaining second.old) (H.remaining third.old)
         → Canonical D.Drain drain.old drain.new (extract_of (complete_ways area) area) b result }
-    // No files that differ, unless two unlike lists share a digest; of the second feed, if it was read.
+    // No files that differ, unless two different lists share a digest; of the second feed, if it was read.
     ensures digests { OnOk result ((SameDigest (F.remaining first.old) (G.remaining second.old)
         ⊎ (second.new ≡ second.old))
         × SameDigest (F.remaining first.old) (H.remaining third.old)) }
@@ -100,7 +100,7 @@ pub fn extract_sorted<F: Feed, G: Feed, H: Feed, D: Drain, S: BuildHasher + Drop
     Ok(receipt.counts)
 }
 
-/// As [`extract_sorted`], and reports the digest of what was read, as [`extract_with_receipt`](crate::extract_with_receipt) does.
+/// Like [`extract_sorted`], and returns the digest of what was read, as [`extract_with_receipt`](crate::extract_with_receipt) does.
 pub fn extract_sorted_with_receipt<F: Feed, G: Feed, H: Feed, D: Drain, S: BuildHasher + Drop>(
     alloc: Global,
     first: &mut F,
@@ -111,7 +111,7 @@ pub fn extract_sorted_with_receipt<F: Feed, G: Feed, H: Feed, D: Drain, S: Build
     hasher: S,
 ) -> Result<InputReceipt, Halt>
     // The first and the third feed gave a file of the digest `input`, to its end, and the second too or nothing. The first file has no
-    // fault, and its header can be written. The drain took bytes. Where the files are one, these bytes are exactly its complete-ways
+    // fault, and its header can be written. The drain took bytes. If the files are one, these bytes are exactly its complete-ways
     // extract, and the counts are those of the entities in it.
     ensures receipt { IfOk result (λ receipt. GaveFile F.Feed first.old first.new receipt.input
         (λ b. IsWritable b
@@ -128,7 +128,7 @@ pub fn extract_sorted_with_receipt<F: Feed, G: Feed, H: Feed, D: Drain, S: Build
         (ReadFailed F.Feed first.old first.new
         ⊎ (ReadFailed G.Feed second.old second.new ⊎ ReadFailed H.Feed third.old third.new))
         (WriteFailed D.Drain drain.old drain.new) (stop_of h)) }
-    // Whatever stopped it, where all feeds supply these bytes a prefix of the answer went out, and nothing where they have a fault.
+    // Whatever stopped it, if all feeds supply these bytes a prefix of the answer went out, and nothing if they have a fault.
     ensures beginning { OnErr result ((b : List ℕ)
         → AllSupply b (F.remaining first.old) (G.remaining second.old) (H.remaining third.old)
         → IsFront (D.taken drain.old) (D.taken drain.new)
@@ -180,7 +180,7 @@ fn choose_parents_sorted<F: Feed, G: Feed, H: Feed>(
     })
 }
 
-/// As [`extract_parents_with_receipt`](crate::extract_parents_with_receipt), in three passes where no node of the file comes behind a
+/// Like [`extract_parents_with_receipt`](crate::extract_parents_with_receipt), in three passes if no node of the file comes behind a
 /// way, as [`extract_sorted`] spares one.
 pub fn extract_parents_sorted_with_receipt<
     F: Feed,
@@ -200,7 +200,7 @@ pub fn extract_parents_sorted_with_receipt<
     hasher: S,
 ) -> Result<InputReceipt, Halt>
     // Each feed gave a file of the digest `input`, to its end, or the second nothing; the first has no fault, and its header can be written. The drain took
-    // bytes. Where the files are one, these bytes are exactly its complete-ways extract with all parents, and the counts are those of the entities in it.
+    // bytes. If the files are one, these bytes are exactly its complete-ways extract with all parents, and the counts are those of the entities in it.
     ensures receipt { IfOk result (λ receipt. GaveFile F.Feed first.old first.new receipt.input
         (λ b. IsWritable b
         × GaveOrNot G.Feed second.old second.new receipt.input b
@@ -217,7 +217,7 @@ pub fn extract_parents_sorted_with_receipt<
         ⊎ (ReadFailed G.Feed second.old second.new ⊎ ReadFailed H.Feed third.old third.new))
         ⊎ ReadFailed I.Feed fourth.old fourth.new)
         (WriteFailed D.Drain drain.old drain.new) (stop_of h)) }
-    // Whatever stopped it, where all feeds supply these bytes a prefix of the answer went out, and nothing where they have a fault.
+    // Whatever stopped it, if all feeds supply these bytes a prefix of the answer went out, and nothing if they have a fault.
     ensures beginning { OnErr result ((b : List ℕ)
         → FourSupply b (F.remaining first.old) (G.remaining second.old) (H.remaining third.old)
         (I.remaining fourth.old)

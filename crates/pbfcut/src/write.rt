@@ -85,7 +85,7 @@ fn pack_payload<D: Drain, S: BuildHasher>(
 /// Packs what is picked of frames that were judged in a pass before, and counts it.
 ///
 /// The reader judges frames, but nothing judges their payloads: of a frame that has a fault anything that can be written may go out, or
-/// `Changed` with the number is answered. On another stop, of a frame without a fault, a beginning of its entities may have gone out.
+/// `Changed` with the number is returned. On another stop, of a frame without a fault, a prefix of its entities may have gone out.
 #[derive(Drop)]
 struct Writer<'a, D: Drain, S: BuildHasher> {
     packer: &'a mut Packer<D, S>,

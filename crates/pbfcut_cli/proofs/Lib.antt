@@ -1,3 +1,4 @@
 mod Rows
 mod ReasonText
 mod Joining
+mod CommandLemmas

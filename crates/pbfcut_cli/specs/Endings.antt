@@ -1,13 +1,20 @@
 -- How an ending is reported: its exit status, and what is written to standard error.
-use Rattle.std.specs.Prelude.{ℕ, List, ◌++◌, codes, decimal}
+use Rattle.std.specs.Prelude.{ℕ, List, ◌++◌, Option, Some, None, codes, decimal}
 use Rattle.std.specs.String.{string_bytes}
 use Rattle.pbf_wire.specs.declared.fault.Reason.{Reason}
 use Rattle.pbf_wire.specs.declared.fault.Reason.TheVariants.{Missing}
-use Rattle.pbf_wire.specs.Reasons.{reason_number, reason_name}
+use Rattle.pbf_wire.specs.Reasons as wire
 use Rattle.pbf_frame.specs.declared.stop.Stop.{Stop}
 use Rattle.pbf_frame.specs.declared.stop.Stop.TheVariants as stop
 use Rattle.osm_box.specs.declared.bounding_box.BoxFault.{BoxFault}
 use Rattle.osm_box.specs.declared.bounding_box.BoxFault.TheVariants as box
+use Rattle.pbf_unpack.specs.declared.fault.UnpackReason.{UnpackReason}
+use Rattle.pbf_unpack.specs.declared.reports.Place.{Place}
+use Rattle.pbf_unpack.specs.declared.reports.Place.TheVariants as place
+use Rattle.pbf_unpack.specs.Reports.{reason_name}
+use Rattle.pbfcut_cli.specs.declared.packed.PackedRefusal.{PackedRefusal}
+use Rattle.pbfcut_cli.specs.declared.programs.Program.{Program}
+use Rattle.pbfcut_cli.specs.declared.programs.Program.TheVariants as program
 use Rattle.pbfcut_cli.specs.declared.words.CliFault.{CliFault}
 use Rattle.pbfcut_cli.specs.declared.words.CliFault.TheVariants as fault
 use Rattle.pbfcut_cli.specs.declared.endings.Ending.{Ending}
@@ -32,18 +39,34 @@ field_text field = codes "(" ++ decimal field ++ codes ")"
 -- as `25 Missing(1)`, or without a field
 abbrev pub reason_text : Reason → List ℕ
 reason_text (Missing field) = plain_text 25 (codes "Missing") ++ field_text field
-reason_text r = plain_text (reason_number r) (reason_name r)
+reason_text r = plain_text (wire.reason_number r) (wire.reason_name r)
 
-abbrev pub refused_text : ℕ → List ℕ → List ℕ
-refused_text offset reason = codes "pbfcut: refused at " ++ decimal offset ++ codes ": " ++ reason
+abbrev pub refused_text : (program : List ℕ) → ℕ → (reason : List ℕ) → List ℕ
+refused_text program offset reason = program ++ codes ": refused at " ++ decimal offset ++ codes ": " ++ reason
+
+-- the line of a program, without its end
+abbrev pub line_of : (program : List ℕ) → Stop → List ℕ
+line_of program (stop.Refused f) = refused_text program f.offset (reason_text f.reason)
+line_of program stop.Read = program ++ codes ": read failed"
+line_of program stop.Write = program ++ codes ": write failed"
+line_of program stop.Memory = program ++ codes ": out of memory"
+line_of program (stop.Changed pass) = program ++ codes ": input changed in pass " ++ decimal pass
+
+-- ---- a refusal of a published file
+
+-- as `refused at 1234`; the first number of the other form is where the frame begins
+abbrev pub place_text : Place → List ℕ
+place_text (place.Byte offset) = codes "refused at " ++ decimal offset
+place_text (place.InPayload frame byte) = codes "refused in the blob at " ++ decimal frame ++ codes ", byte " ++ decimal byte ++ codes " of its payload"
+
+-- as `: Checksum`, where the zlib data has a fault
+abbrev pub detail_text : Option UnpackReason → List ℕ
+detail_text (Some reason) = codes ": " ++ reason_name reason
+detail_text None = codes ""
 
 -- the line, without its end
-abbrev pub line_of : Stop → List ℕ
-line_of (stop.Refused f) = refused_text f.offset (reason_text f.reason)
-line_of stop.Read = codes "pbfcut: read failed"
-line_of stop.Write = codes "pbfcut: write failed"
-line_of stop.Memory = codes "pbfcut: out of memory"
-line_of (stop.Changed pass) = codes "pbfcut: input changed in pass " ++ decimal pass
+abbrev pub packed_text : (program : List ℕ) → PackedRefusal → List ℕ
+packed_text program r = program ++ codes ": " ++ place_text r.place ++ codes ": " ++ reason_text r.reason ++ detail_text r.detail
 
 -- ---- an ending of the program
 
@@ -60,6 +83,7 @@ ending_status ending.CannotOpen = 3
 ending_status ending.IsPipe = 3
 ending_status ending.OutExists = 3
 ending_status (ending.Stopped s) = status_of s
+ending_status (ending.RefusedPacked r) = 1
 
 abbrev pub box_fault_name : BoxFault → List ℕ
 box_fault_name box.Shape = codes "Shape"
@@ -69,15 +93,22 @@ box_fault_name box.LeftOverRight = codes "LeftOverRight"
 box_fault_name box.BottomOverTop = codes "BottomOverTop"
 
 -- what `clap` would say of a word that isn't UTF-8
-abbrev pub not_text : List ℕ
-not_text = codes "error: invalid UTF-8 was detected in one or more arguments\n\nUsage: pbfcut <COMMAND>\n\nFor more information, try '--help'.\n"
+abbrev pub not_text : (program : List ℕ) → List ℕ
+not_text program = codes "error: invalid UTF-8 was detected in one or more arguments\n\nUsage: " ++ program ++ codes " <COMMAND>\n\nFor more information, try '--help'.\n"
 
--- all that is written, line ends included
-abbrev pub message_of : Ending → List ℕ
-message_of (ending.Words text) = string_bytes text
-message_of ending.NotText = not_text
-message_of (ending.Box f) = codes "pbfcut: box: " ++ box_fault_name f ++ codes "\n"
-message_of ending.CannotOpen = codes "pbfcut: cannot open\n"
-message_of ending.IsPipe = codes "pbfcut: IN must be a file, not a pipe\n"
-message_of ending.OutExists = codes "pbfcut: OUT exists\n"
-message_of (ending.Stopped s) = line_of s ++ codes "\n"
+-- all that a program writes, line ends included
+abbrev pub message_of : (program : List ℕ) → Ending → List ℕ
+message_of program (ending.Words text) = string_bytes text
+message_of program ending.NotText = not_text program
+message_of program (ending.Box f) = program ++ codes ": box: " ++ box_fault_name f ++ codes "\n"
+message_of program ending.CannotOpen = program ++ codes ": cannot open\n"
+message_of program ending.IsPipe = program ++ codes ": IN must be a file, not a pipe\n"
+message_of program ending.OutExists = program ++ codes ": OUT exists\n"
+message_of program (ending.Stopped s) = line_of program s ++ codes "\n"
+message_of program (ending.RefusedPacked r) = packed_text program r ++ codes "\n"
+
+-- ---- the programs
+
+abbrev pub program_name : Program → List ℕ
+program_name program.Pbfcut = codes "pbfcut"
+program_name program.Pbfcutz = codes "pbfcutz"

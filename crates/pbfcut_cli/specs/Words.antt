@@ -34,14 +34,13 @@ abbrev pub parents_rule : Rule
 parents_rule =
     record (new_rule (codes "parents")) { long = Some (codes "parents"); action = Some SetTrue }
 
+-- `--box`
+abbrev pub lone_box_rule : Rule
+lone_box_rule = record (new_rule (codes "box")) { long = Some (codes "box"); value_names = 1; required = true }
+
 -- `--box`, also by the name that Osmium has for it
 abbrev pub box_rule : Rule
-box_rule = record (new_rule (codes "box")) {
-  long = Some (codes "box");
-  aliases = codes "bbox" ∷ [];
-  value_names = 1;
-  required = true;
-}
+box_rule = record lone_box_rule { aliases = codes "bbox" ∷ [] }
 
 -- ---- commands
 
@@ -68,9 +67,11 @@ options_app = with_rule (with_rule (with_rule (new_app (codes "extract")) parent
 abbrev pub extract_app : App
 extract_app = with_rule (with_rule (with_rule options_app box_rule) input_rule) output_rule
 
+abbrev pub versioned : Shape → Shape
+versioned s = record s { has_version = true }
+
 abbrev pub settled : Shape → Shape
-settled s = record s {
-  has_version = true;
+settled s = record (versioned s) {
   no_binary_name = true;
   subcommand_required = true;
   disable_help_subcommand = true;

@@ -1,6 +1,7 @@
 //! The commands and their arguments, as `clap` takes them.
 
-ghost use Rattle.std.specs.Prelude.{◌≡◌, IfOk, false};
+ghost use Rattle.std.specs.Prelude.{◌≡◌, IfOk, false, codes};
+ghost use Rattle.clap.specs.Simple.{on_top};
 ghost use Rattle.clap.specs.Words.{app_of, new_app, rule_of, with_rule, with_subcommand};
 ghost use Rattle.clap.specs.declared.builder.command.Command.TheViews.{out-Command as fields_of};
 ghost use Rattle.pbfcut_cli.specs.Words.{
@@ -14,25 +15,27 @@ ghost use Rattle.pbfcut_cli.specs.Words.{
   digests_rule,
   extract_app,
   input_rule,
+  lone_box_rule,
   options_app,
   output_rule,
   parents_rule,
   progress_rule,
   program_app,
   show_app,
+  versioned,
   writers_app,
 };
 
-use crate::help;
+use crate::help::{self, Help};
 use clap::{Arg, ArgAction, Command};
 use std::alloc::{AllocError, Global};
 
 /// The file that is read.
-fn input<'a>(alloc: Global) -> Arg<'a>
+fn input<'a>(alloc: Global, help: &'a Help) -> Arg<'a>
     ensures rule { rule_of result ≡ input_rule }
     ensures local { result.global ≡ false }
 {
-    Arg::new(alloc, "IN").required(true).help(help::INPUT)
+    Arg::new(alloc, "IN").required(true).help(help.input)
 }
 
 /// The file that is written.
@@ -83,17 +86,24 @@ fn parents<'a>(alloc: Global) -> Arg<'a>
         .help(help::PARENTS)
 }
 
-/// The box, as text.
-fn area<'a>(alloc: Global) -> Result<Arg<'a>, AllocError>
-    ensures rule { IfOk result (λ arg. rule_of arg ≡ box_rule) }
-    ensures local { IfOk result (λ arg. arg.global ≡ false) }
+/// The box, as text, by one name.
+fn box_alone<'a>(alloc: Global) -> Arg<'a>
+    ensures rule { rule_of result ≡ lone_box_rule }
+    ensures local { result.global ≡ false }
 {
     Arg::new(alloc, "box")
         .long("box")
         .value_name("WEST,SOUTH,EAST,NORTH")
         .required(true)
         .help(help::BOX)
-        .alias("bbox")
+}
+
+/// The box, as text.
+fn area<'a>(alloc: Global) -> Result<Arg<'a>, AllocError>
+    ensures rule { IfOk result (λ arg. rule_of arg ≡ box_rule) }
+    ensures local { IfOk result (λ arg. arg.global ≡ false) }
+{
+    box_alone(alloc).alias("bbox")
 }
 
 /// A command of this name, with no argument yet.
@@ -127,105 +137,120 @@ fn with_command<'a>(command: Command<'a>, below: Command<'a>) -> Result<Command<
     command.subcommand(below)
 }
 
-fn blobs<'a>(alloc: Global) -> Result<Command<'a>, AllocError>
+fn blobs<'a>(alloc: Global, help: &'a Help) -> Result<Command<'a>, AllocError>
     ensures app { IfOk result (λ c. app_of c ≡ blobs_app) }
     ensures local { IfOk result (λ c. (fields_of c).has_globals ≡ false) }
 {
     with_arg(
-        named(alloc, "blobs", help::BLOBS, help::AFTER_BLOBS),
-        input(alloc),
+        named(alloc, "blobs", help::BLOBS, help.blobs),
+        input(alloc, help),
     )
 }
 
-fn show<'a>(alloc: Global) -> Result<Command<'a>, AllocError>
+fn show<'a>(alloc: Global, help: &'a Help) -> Result<Command<'a>, AllocError>
     ensures app { IfOk result (λ c. app_of c ≡ show_app) }
     ensures local { IfOk result (λ c. (fields_of c).has_globals ≡ false) }
 {
-    let command = named(alloc, "show", help::SHOW, help::AFTER_SHOW);
+    let command = named(alloc, "show", help::SHOW, help.show);
     let command = with_arg(command, dates(alloc))?;
     let command = with_arg(command, progress(alloc))?;
-    with_arg(command, input(alloc))
+    with_arg(command, input(alloc, help))
 }
 
-fn check<'a>(alloc: Global) -> Result<Command<'a>, AllocError>
+fn check<'a>(alloc: Global, help: &'a Help) -> Result<Command<'a>, AllocError>
     ensures app { IfOk result (λ c. app_of c ≡ check_app) }
     ensures local { IfOk result (λ c. (fields_of c).has_globals ≡ false) }
 {
-    let command = named(alloc, "check", help::CHECK, help::AFTER_CHECK);
+    let command = named(alloc, "check", help::CHECK, help.check);
     let command = with_arg(command, progress(alloc))?;
-    let command = with_arg(command, digests(alloc, help::DIGEST_OF_INPUT))?;
-    with_arg(command, input(alloc))
+    let command = with_arg(command, digests(alloc, help.digest_of_input))?;
+    with_arg(command, input(alloc, help))
 }
 
 /// `convert` with its options.
-fn conversion<'a>(alloc: Global) -> Result<Command<'a>, AllocError>
+fn conversion<'a>(alloc: Global, help: &'a Help) -> Result<Command<'a>, AllocError>
     ensures app { IfOk result (λ c. app_of c ≡ conversion_app) }
     ensures local { IfOk result (λ c. (fields_of c).has_globals ≡ false) }
 {
-    let command = named(alloc, "convert", help::CONVERT, help::AFTER_CONVERT);
+    let command = named(alloc, "convert", help::CONVERT, help.convert);
     let command = with_arg(command, progress(alloc))?;
-    with_arg(command, digests(alloc, help::DIGESTS))
+    with_arg(command, digests(alloc, help.digests))
 }
 
-fn convert<'a>(alloc: Global) -> Result<Command<'a>, AllocError>
+fn convert<'a>(alloc: Global, help: &'a Help) -> Result<Command<'a>, AllocError>
     ensures app { IfOk result (λ c. app_of c ≡ convert_app) }
     ensures local { IfOk result (λ c. (fields_of c).has_globals ≡ false) }
 {
-    let command = with_arg(conversion(alloc)?, input(alloc))?;
+    let command = with_arg(conversion(alloc, help)?, input(alloc, help))?;
     with_arg(command, output(alloc))
+}
+
+/// `extract` with no argument yet.
+fn extraction<'a>(alloc: Global, help: &'a Help) -> Command<'a>
+    ensures app { app_of result ≡ new_app (codes "extract") }
+    ensures local { (fields_of result).has_globals ≡ false }
+{
+    named(alloc, "extract", help::EXTRACT, help.extract).override_usage(help.usage_of_extract)
 }
 
 /// `extract` with its flags.
-fn options<'a>(alloc: Global) -> Result<Command<'a>, AllocError>
+fn options<'a>(alloc: Global, help: &'a Help) -> Result<Command<'a>, AllocError>
     ensures app { IfOk result (λ c. app_of c ≡ options_app) }
     ensures local { IfOk result (λ c. (fields_of c).has_globals ≡ false) }
 {
-    let command = named(alloc, "extract", help::EXTRACT, help::AFTER_EXTRACT);
-    let command = command.override_usage(help::USAGE_OF_EXTRACT);
-    let command = with_arg(command, parents(alloc))?;
+    let command = with_arg(extraction(alloc, help), parents(alloc))?;
     let command = with_arg(command, progress(alloc))?;
-    with_arg(command, digests(alloc, help::DIGESTS))
+    with_arg(command, digests(alloc, help.digests))
 }
 
-fn extract<'a>(alloc: Global) -> Result<Command<'a>, AllocError>
+fn extract<'a>(alloc: Global, help: &'a Help) -> Result<Command<'a>, AllocError>
     ensures app { IfOk result (λ c. app_of c ≡ extract_app) }
     ensures local { IfOk result (λ c. (fields_of c).has_globals ≡ false) }
 {
-    let command = with_arg(options(alloc)?, area(alloc)?)?;
-    let command = with_arg(command, input(alloc))?;
+    let command = with_arg(options(alloc, help)?, area(alloc)?)?;
+    let command = with_arg(command, input(alloc, help))?;
     with_arg(command, output(alloc))
 }
 
+/// The command line with what it says of itself.
+fn titled<'a>(alloc: Global, help: &'a Help) -> Command<'a>
+    ensures app { app_of result ≡ on_top versioned (new_app (codes "pbfcut")) }
+    ensures local { (fields_of result).has_globals ≡ false }
+{
+    Command::new(alloc, "pbfcut")
+        .about(help.about)
+        .version(help::VERSION)
+        .after_help(help.after)
+}
+
 /// The command line with no command yet.
-fn bare<'a>(alloc: Global) -> Result<Command<'a>, AllocError>
+fn bare<'a>(alloc: Global, help: &'a Help) -> Result<Command<'a>, AllocError>
     ensures app { IfOk result (λ c. app_of c ≡ bare_app) }
     ensures local { IfOk result (λ c. (fields_of c).has_globals ≡ false) }
 {
-    Command::new(alloc, "pbfcut")
-        .about(help::PROGRAM)
-        .version(help::VERSION)
-        .after_help(help::AFTER_PROGRAM)
+    titled(alloc, help)
         .no_binary_name(true)
         .subcommand_required(true)
         .disable_help_subcommand(true)
-        .bin_name("pbfcut")
+        .bin_name(help.name)?
+        .display_name(help.name)
 }
 
 /// The command line with the commands that write a file.
-fn writers<'a>(alloc: Global) -> Result<Command<'a>, AllocError>
+fn writers<'a>(alloc: Global, help: &'a Help) -> Result<Command<'a>, AllocError>
     ensures app { IfOk result (λ c. app_of c ≡ writers_app) }
     ensures local { IfOk result (λ c. (fields_of c).has_globals ≡ false) }
 {
-    let command = with_command(bare(alloc)?, extract(alloc)?)?;
-    with_command(command, convert(alloc)?)
+    let command = with_command(bare(alloc, help)?, extract(alloc, help)?)?;
+    with_command(command, convert(alloc, help)?)
 }
 
-/// The command line of the program, with the commands in the order in which help lists them.
-pub(crate) fn program<'a>(alloc: Global) -> Result<Command<'a>, AllocError>
+/// The command line of a program with this help, with the commands in the order in which help lists them.
+pub(crate) fn command_line<'a>(alloc: Global, help: &'a Help) -> Result<Command<'a>, AllocError>
     ensures app { IfOk result (λ c. app_of c ≡ program_app) }
     ensures local { IfOk result (λ c. (fields_of c).has_globals ≡ false) }
 {
-    let command = with_command(writers(alloc)?, check(alloc)?)?;
-    let command = with_command(command, show(alloc)?)?;
-    with_command(command, blobs(alloc)?)
+    let command = with_command(writers(alloc, help)?, check(alloc, help)?)?;
+    let command = with_command(command, show(alloc, help)?)?;
+    with_command(command, blobs(alloc, help)?)
 }

@@ -1,19 +1,17 @@
 //! How each ending of the program is reported: the exit status, and what is written to standard error.
 
-ghost use Rattle.std.specs.Prelude.{◌≡◌, ◌++◌, IfOk, string_bytes};
+ghost use Rattle.std.specs.Prelude.{◌≡◌, ◌++◌, IfOk, codes, string_bytes};
 ghost use Rattle.pbf_frame.specs.declared.stop.Stop.TheVariants as stop;
 ghost use Rattle.pbfcut_cli.specs.declared.endings.Ending.TheVariants as ending;
-ghost use Rattle.pbfcut_cli.specs.Endings.{box_fault_name, ending_of, ending_status, field_text, line_of, message_of, plain_text, reason_text, refused_text, status_of};
+ghost use Rattle.pbfcut_cli.specs.Endings.{box_fault_name, ending_of, ending_status, field_text, line_of, message_of, not_text, plain_text, program_name, reason_text, refused_text, status_of};
 
+use crate::packed::{PackedRefusal, packed_line};
+use crate::programs::Program;
 use crate::words::CliFault;
 use osm_entity::BoxFault;
 use pbf_frame::Stop;
 use pbf_wire::Reason;
 use std::alloc::{AllocError, Global};
-
-/// What is said of words that aren't UTF-8: the text that `clap` has for them if it meets such words itself.
-const NOT_TEXT: &str =
-    "error: invalid UTF-8 was detected in one or more arguments\n\nUsage: pbfcut <COMMAND>\n\nFor more information, try '--help'.\n";
 
 /// The exit status of a stop: 1 if the input is refused, 3 if a read or a write failed, 4 if memory was refused, 5 if the input
 /// changed.
@@ -49,7 +47,7 @@ fn reason_with_field(
 }
 
 /// A reason's number and name, and for `Missing` the field.
-fn reason_line(alloc: Global, reason: &Reason) -> Result<String, AllocError>
+pub(crate) fn reason_line(alloc: Global, reason: &Reason) -> Result<String, AllocError>
     ensures { IfOk result (λ text. string_bytes text ≡ reason_text reason.now) }
 {
     let number = reason.number();
@@ -61,10 +59,32 @@ fn reason_line(alloc: Global, reason: &Reason) -> Result<String, AllocError>
 }
 
 /// The line of a refusal, by its offset and the reason's text.
-fn refused_line(alloc: Global, offset: u64, reason: &str) -> Result<String, AllocError>
-    ensures { IfOk result (λ text. string_bytes text ≡ refused_text offset reason.now) }
+fn refused_line(
+    alloc: Global,
+    program: &str,
+    offset: u64,
+    reason: &str,
+) -> Result<String, AllocError>
+    ensures { IfOk result (λ text. string_bytes text
+        ≡ refused_text program.now offset reason.now) }
 {
-    format!(in alloc; "pbfcut: refused at {offset}: {reason}")
+    format!(in alloc; "{program}: refused at {offset}: {reason}")
+}
+
+/// The line of a stop of this program, without its end.
+fn line_by(alloc: Global, program: &str, stop: &Stop) -> Result<String, AllocError>
+    ensures { IfOk result (λ text. string_bytes text ≡ line_of program.now stop.now) }
+{
+    match stop {
+        Stop::Refused(fault) => {
+            let reason = reason_line(alloc, &fault.reason)?;
+            refused_line(alloc, program, fault.offset, reason.as_str())
+        }
+        Stop::Read => format!(in alloc; "{program}: read failed"),
+        Stop::Write => format!(in alloc; "{program}: write failed"),
+        Stop::Memory => format!(in alloc; "{program}: out of memory"),
+        Stop::Changed(pass) => format!(in alloc; "{program}: input changed in pass {pass}"),
+    }
 }
 
 /// The line of a stop for standard error, without its end, as `pbfcut: refused at 36: 25 Missing(1)`.
@@ -73,18 +93,9 @@ fn refused_line(alloc: Global, offset: u64, reason: &str) -> Result<String, Allo
 ///
 /// If a request for memory was refused.
 pub fn line(alloc: Global, stop: &Stop) -> Result<String, AllocError>
-    ensures { IfOk result (λ text. string_bytes text ≡ line_of stop.now) }
+    ensures { IfOk result (λ text. string_bytes text ≡ line_of (codes "pbfcut") stop.now) }
 {
-    match stop {
-        Stop::Refused(fault) => {
-            let reason = reason_line(alloc, &fault.reason)?;
-            refused_line(alloc, fault.offset, reason.as_str())
-        }
-        Stop::Read => String::from_str(alloc, "pbfcut: read failed"),
-        Stop::Write => String::from_str(alloc, "pbfcut: write failed"),
-        Stop::Memory => String::from_str(alloc, "pbfcut: out of memory"),
-        Stop::Changed(pass) => format!(in alloc; "pbfcut: input changed in pass {pass}"),
-    }
+    line_by(alloc, "pbfcut", stop)
 }
 
 /// Why the program fails.
@@ -104,6 +115,8 @@ pub enum Ending {
     OutExists,
     /// The engine stopped; or `Memory`, if the program itself was refused memory.
     Stopped(Stop),
+    /// A published file is refused.
+    RefusedPacked(PackedRefusal),
 }
 
 impl From<CliFault> for Ending {
@@ -146,18 +159,35 @@ fn fault_name(fault: &BoxFault) -> &'static str
     }
 }
 
-fn box_message(alloc: Global, fault: &BoxFault) -> Result<String, AllocError>
-    ensures { IfOk result (λ text. string_bytes text ≡ message_of (ending.Box fault.now)) }
+/// The line of a fault of a box that has this name.
+fn box_line(alloc: Global, program: &str, name: &str) -> Result<String, AllocError>
+    ensures { IfOk result (λ text. string_bytes text
+        ≡ program.now ++ codes ": box: " ++ name.now ++ codes "\n") }
 {
-    let name = fault_name(fault);
-    format!(in alloc; "pbfcut: box: {name}\n")
+    format!(in alloc; "{program}: box: {name}\n")
 }
 
-fn stop_message(alloc: Global, stop: &Stop) -> Result<String, AllocError>
-    ensures { IfOk result (λ text. string_bytes text ≡ message_of (ending.Stopped stop.now)) }
+fn box_message(alloc: Global, program: &str, fault: &BoxFault) -> Result<String, AllocError>
+    ensures { IfOk result (λ text. string_bytes text
+        ≡ message_of program.now (ending.Box fault.now)) }
 {
-    let line = line(alloc, stop)?;
+    box_line(alloc, program, fault_name(fault))
+}
+
+/// A line with its end.
+fn ended(alloc: Global, line: &str) -> Result<String, AllocError>
+    ensures { IfOk result (λ text. string_bytes text ≡ line.now ++ codes "\n") }
+{
     format!(in alloc; "{line}\n")
+}
+
+/// What is said of words that aren't UTF-8: the text that `clap` has for them if it meets such words itself.
+fn not_text(alloc: Global, program: &str) -> Result<String, AllocError>
+    ensures { IfOk result (λ text. string_bytes text ≡ not_text program.now) }
+{
+    format!(in alloc;
+        "error: invalid UTF-8 was detected in one or more arguments\n\nUsage: {program} <COMMAND>\n\nFor more information, try '--help'.\n"
+    )
 }
 
 impl Ending {
@@ -169,25 +199,31 @@ impl Ending {
             Ending::Words(_) | Ending::NotText | Ending::Box(_) => 2,
             Ending::CannotOpen | Ending::IsPipe | Ending::OutExists => 3,
             Ending::Stopped(stop) => status(stop),
+            Ending::RefusedPacked(_) => 1,
         }
     }
 
-    /// What is written to standard error, with its line ends.
+    /// What this program writes to standard error, with its line ends.
     ///
     /// # Errors
     ///
     /// If a request for memory was refused.
-    pub fn message(&self, alloc: Global) -> Result<String, AllocError>
-        ensures { IfOk result (λ text. string_bytes text ≡ message_of self.now) }
+    pub fn message(&self, alloc: Global, program: Program) -> Result<String, AllocError>
+        ensures { IfOk result (λ text. string_bytes text
+            ≡ message_of (program_name program) self.now) }
     {
+        let name = program.name();
         match self {
             Ending::Words(text) => String::from_str(alloc, text.as_str()),
-            Ending::NotText => String::from_str(alloc, NOT_TEXT),
-            Ending::Box(fault) => box_message(alloc, fault),
-            Ending::CannotOpen => String::from_str(alloc, "pbfcut: cannot open\n"),
-            Ending::IsPipe => String::from_str(alloc, "pbfcut: IN must be a file, not a pipe\n"),
-            Ending::OutExists => String::from_str(alloc, "pbfcut: OUT exists\n"),
-            Ending::Stopped(stop) => stop_message(alloc, stop),
+            Ending::NotText => not_text(alloc, name),
+            Ending::Box(fault) => box_message(alloc, name, fault),
+            Ending::CannotOpen => format!(in alloc; "{name}: cannot open\n"),
+            Ending::IsPipe => format!(in alloc; "{name}: IN must be a file, not a pipe\n"),
+            Ending::OutExists => format!(in alloc; "{name}: OUT exists\n"),
+            Ending::Stopped(stop) => ended(alloc, line_by(alloc, name, stop)?.as_str()),
+            Ending::RefusedPacked(refusal) => {
+                ended(alloc, packed_line(alloc, name, refusal)?.as_str())
+            }
         }
     }
 }

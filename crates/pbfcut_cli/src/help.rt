@@ -1,12 +1,34 @@
 //! What help says, to someone who makes maps. Lines have at most 80 columns.
 
-/// The text of a help after its arguments: what is said, what of raw blobs, the examples, and what exit status 3 means there.
+/// What the help of a program says that the other's does not.
+#[derive(Drop)]
+pub(crate) struct Help {
+    /// The name that the program is called by.
+    pub(crate) name: &'static str,
+    pub(crate) about: &'static str,
+    /// What IN is.
+    pub(crate) input: &'static str,
+    pub(crate) digests: &'static str,
+    /// The same of `check`, which has no OUT.
+    pub(crate) digest_of_input: &'static str,
+    pub(crate) usage_of_extract: &'static str,
+    /// What the program's help says after the commands.
+    pub(crate) after: &'static str,
+    /// What the help of each command says after its arguments.
+    pub(crate) extract: &'static str,
+    pub(crate) convert: &'static str,
+    pub(crate) check: &'static str,
+    pub(crate) show: &'static str,
+    pub(crate) blobs: &'static str,
+}
+
+/// The text of a help after its arguments: what is said, what of blobs, the examples, and what exit status 3 means there.
 macro_rules! after_arguments {
-    ($text:literal, $raw:literal, $examples:literal, $files:literal) => {
+    ($text:literal, $blobs:literal, $examples:literal, $files:literal) => {
         concat!(
             $text,
             "\n",
-            $raw,
+            $blobs,
             "\n",
             $examples,
             "\n\
@@ -25,10 +47,10 @@ macro_rules! after_arguments {
 
 /// The text of the program's help, or of a command's that writes OUT, after its arguments.
 macro_rules! after_arguments_of_writer {
-    ($text:literal, $raw:literal, $examples:literal) => {
+    ($text:literal, $blobs:literal, $examples:literal) => {
         after_arguments!(
             $text,
-            $raw,
+            $blobs,
             $examples,
             "IN can't be opened or is a pipe, OUT exists or can't be made, or reading\n     \
                  or writing failed"
@@ -38,13 +60,111 @@ macro_rules! after_arguments_of_writer {
 
 /// The text of a command's help that only prints, after its arguments.
 macro_rules! after_arguments_of_reader {
-    ($text:literal, $examples:literal) => {
+    ($text:literal, $blobs:literal, $examples:literal) => {
         after_arguments!(
             $text,
-            "IN must have raw blobs. Published files are compressed, and\n\
-            'pbfcut-any unpack' makes a raw copy.\n",
+            $blobs,
             $examples,
             "IN can't be opened or used, or reading or writing failed"
+        )
+    };
+}
+
+/// What the help of `extract` says after its arguments, with what is said of blobs and the examples.
+macro_rules! after_extract {
+    ($blobs:literal, $examples:literal) => {
+        after_arguments_of_writer!(
+            "The box is four numbers in degrees of WGS84 with commas between them, in the\n\
+            order west,south,east,north: the longitudes of its west and east edge from -180\n\
+            to 180, and the latitudes of its south and north edge from -90 to 90. A number\n\
+            has up to nine digits after the point. West may not be greater than east: a box\n\
+            may not cross the antimeridian.\n\
+            \n\
+            OUT contains, in the order of IN and with all fields:\n  \
+              - the nodes in the box and on its edges\n  \
+              - each way that has a node in the box, whole, with all of its nodes, wherever\n    \
+                they are\n  \
+              - each relation that has one of these nodes or ways as a member; with\n    \
+                --parents also each relation that has a kept relation as a member, level by\n    \
+                level\n\
+            The command prints how many entities it wrote, as 'nodes 3 ways 0 relations 0'.\n\
+            IN is read twice if no node comes after a way, otherwise three times, and with\n\
+            --parents once more. So it must be a file, not a pipe. A run that stops early\n\
+            may leave an incomplete OUT: delete it.\n",
+            $blobs,
+            $examples
+        )
+    };
+}
+
+/// The same of `convert`.
+macro_rules! after_convert {
+    ($blobs:literal, $examples:literal) => {
+        after_arguments_of_writer!(
+            "OUT has the same nodes, ways and relations as IN in the same order, with dense\n\
+            nodes, in raw blobs, and with at most 8000 entities in a block. Its form is\n\
+            fixed: converting OUT again gives the same bytes. What the format does not name\n\
+            is left out. The command prints how many entities it wrote, as\n\
+            'nodes 3 ways 0 relations 0'.\n\
+            IN is read twice, so it must be a file, not a pipe. A run that stops early may\n\
+            leave an incomplete OUT: delete it.\n",
+            $blobs,
+            $examples
+        )
+    };
+}
+
+/// The same of `check`.
+macro_rules! after_check {
+    ($blobs:literal, $examples:literal) => {
+        after_arguments_of_reader!(
+            "If no field of IN has a fault, the command prints how many entities IN has, as\n\
+            'nodes 3 ways 0 relations 0'. Otherwise it refuses IN at its first fault. IN may\n\
+            be a pipe, since it is read once.\n",
+            $blobs,
+            $examples
+        )
+    };
+}
+
+/// The same of `show`.
+macro_rules! after_show {
+    ($blobs:literal, $examples:literal) => {
+        after_arguments_of_reader!(
+            "Lines that begin with H are of the header. Each other line is an entity, in the\n\
+            order of IN:\n  \
+              N 1 51500000000 -120000000 v2 \"highway\"=\"stop\"\n      \
+                  a node: its id, its latitude and its longitude\n  \
+              W 7 v1 \"highway\"=\"path\" n1 n2 n3\n      \
+                  a way: its id, and at the end the ids of its nodes\n  \
+              R 8 v1 \"type\"=\"route\" w7@\"forward\"\n      \
+                  a relation: its id, and last its members with their roles; n is a node,\n      \
+                  w a way, r a relation\n\
+            Latitudes and longitudes are nanodegrees of WGS84: 1000000000 is one degree, and\n\
+            a negative number lies south or west. Between them are, as far as IN has them: v\n\
+            the version, t the time in milliseconds since 1970-01-01 UTC, c the changeset, u\n\
+            the user's number, s the user's name, d1 visible or d0 deleted, and the tags.\n\
+            With --dates a time from 1970 to 2099 is printed as t2009-02-13T23:31:30.000Z.\n\
+            If IN is refused, nothing is printed. IN is read twice, so it must be a file,\n\
+            not a pipe.\n",
+            $blobs,
+            $examples
+        )
+    };
+}
+
+/// The same of `blobs`.
+macro_rules! after_blobs {
+    ($blobs:literal, $examples:literal) => {
+        after_arguments_of_reader!(
+            "The command prints a line for each frame of IN, as '19 OSMData 25 23': the byte\n\
+            of IN at which the frame begins, its type, and the lengths in bytes of its blob\n\
+            and of the payload in the blob. For a frame of another type than OSMHeader and\n\
+            OSMData it prints the type in quotes, and 'skipped' instead of the last length.\n\
+            It does not read payloads; 'check' validates them. If IN is refused, the lines\n\
+            of the frames before the fault are printed. IN may be a pipe.\n",
+            $blobs,
+            $examples
         )
     };
 }
@@ -52,133 +172,131 @@ macro_rules! after_arguments_of_reader {
 /// What `--version` prints after the name.
 pub(crate) const VERSION: &str = "1.0.0 (rattle-kit-13f logic dac8208d650f15bf)";
 
-pub(crate) const PROGRAM: &str =
-    "Cut a bounding box out of an OpenStreetMap PBF file; validate and print such\nfiles";
-
-pub(crate) const AFTER_PROGRAM: &str = after_arguments_of_writer!(
-    "'pbfcut help COMMAND' prints what a command does, its units and an example.\n",
-    "pbfcut reads and writes files with raw blobs, and refuses compressed ones.\n\
-    Published files are compressed: pbfcut-any cuts them, and writes a compressed\n\
-    file; 'pbfcut-any unpack' or 'osmium cat' makes a raw copy.\n",
-    "Example, which cuts London out of a published file of England:\n  \
-      pbfcut-any --box=-0.5,51.25,0.3,51.7 england.osm.pbf london.osm.pbf\n"
-);
-
-pub(crate) const INPUT: &str = "The OpenStreetMap PBF file to read; its blobs must be raw";
-
 pub(crate) const OUTPUT: &str = "The file to write; it must not exist";
 
 pub(crate) const DATES: &str = "Print times from 1970 to 2099 as dates";
 
 pub(crate) const PROGRESS: &str = "Show progress on standard error";
 
-pub(crate) const DIGESTS: &str = "Print the SHA-256 digests of IN and OUT";
-
-pub(crate) const DIGEST_OF_INPUT: &str = "Print the SHA-256 digest of IN";
-
 pub(crate) const PARENTS: &str = "Also keep relations that contain kept ones";
 
 pub(crate) const BOX: &str = "Edges of the box, in degrees; also --bbox";
 
-pub(crate) const BLOBS: &str = "List the frames of IN: where they are, their types and sizes";
-
-pub(crate) const AFTER_BLOBS: &str = after_arguments_of_reader!(
-    "The command prints a line for each frame of IN, as '19 OSMData 25 23': the byte\n\
-    of IN at which the frame begins, its type, and the lengths in bytes of its blob\n\
-    and of the payload in the blob. For a frame of another type than OSMHeader and\n\
-    OSMData it prints the type in quotes, and 'skipped' instead of the last length.\n\
-    It does not read payloads; 'pbfcut check' validates them. If IN is refused, the\n\
-    lines of the frames before the fault are printed. IN may be a pipe.\n",
-    "Example:\n  \
-      pbfcut-any unpack london.osm.pbf london.raw.osm.pbf\n  \
-      pbfcut blobs london.raw.osm.pbf\n"
-);
-
-pub(crate) const SHOW: &str = "Print the header and all nodes, ways and relations of IN as text";
-
-pub(crate) const AFTER_SHOW: &str = after_arguments_of_reader!(
-    "Lines that begin with H are of the header. Each other line is an entity, in the\n\
-    order of IN:\n  \
-      N 1 51500000000 -120000000 v2 \"highway\"=\"stop\"\n      \
-          a node: its id, its latitude and its longitude\n  \
-      W 7 v1 \"highway\"=\"path\" n1 n2 n3\n      \
-          a way: its id, and at the end the ids of its nodes\n  \
-      R 8 v1 \"type\"=\"route\" w7@\"forward\"\n      \
-          a relation: its id, and last its members with their roles; n is a node,\n      \
-          w a way, r a relation\n\
-    Latitudes and longitudes are nanodegrees of WGS84: 1000000000 is one degree, and\n\
-    a negative number lies south or west. Between them are, as far as IN has them: v\n\
-    the version, t the time in milliseconds since 1970-01-01 UTC, c the changeset, u\n\
-    the user's number, s the user's name, d1 visible or d0 deleted, and the tags.\n\
-    With --dates a time from 1970 to 2099 is printed as t2009-02-13T23:31:30.000Z.\n\
-    If IN is refused, nothing is printed. IN is read twice, so it must be a file,\n\
-    not a pipe.\n",
-    "Example:\n  \
-      pbfcut-any unpack london.osm.pbf london.raw.osm.pbf\n  \
-      pbfcut show --dates london.raw.osm.pbf\n"
-);
-
-pub(crate) const CHECK: &str = "Validate all of IN, and count its nodes, ways and relations";
-
-pub(crate) const AFTER_CHECK: &str = after_arguments_of_reader!(
-    "If no field of IN has a fault, the command prints how many entities IN has, as\n\
-    'nodes 3 ways 0 relations 0'. Otherwise it refuses IN at its first fault. IN may\n\
-    be a pipe, since it is read once.\n",
-    "Examples:\n  \
-      pbfcut-any unpack london.osm.pbf london.raw.osm.pbf\n  \
-      pbfcut check london.raw.osm.pbf\n\
-    or, with osmium and without a raw file:\n  \
-      osmium cat england.osm.pbf -f pbf,pbf_compression=none -o - |\n    \
-        pbfcut check /dev/stdin\n"
-);
+pub(crate) const EXTRACT: &str = "Cut a box out of IN and write it to OUT, with complete ways";
 
 pub(crate) const CONVERT: &str =
     "Write the header and all entities of IN to OUT, in one fixed form";
 
-pub(crate) const AFTER_CONVERT: &str = after_arguments_of_writer!(
-    "OUT has the same nodes, ways and relations as IN in the same order, with dense\n\
-    nodes, in raw blobs, and with at most 8000 entities in a block. Its form is\n\
-    fixed: converting OUT again gives the same bytes. What the format does not name\n\
-    is left out. The command prints how many entities it wrote, as\n\
-    'nodes 3 ways 0 relations 0'.\n\
-    IN is read twice, so it must be a file, not a pipe. A run that stops early may\n\
-    leave an incomplete OUT: delete it.\n",
-    "IN must have raw blobs, and OUT has raw blobs. Published files are compressed:\n\
-    'pbfcut-any unpack' makes a raw copy, and 'pbfcut-any pack' compresses OUT.\n",
-    "Example:\n  \
-      pbfcut-any unpack london.osm.pbf london.raw.osm.pbf\n  \
-      pbfcut convert london.raw.osm.pbf plain.osm.pbf\n"
-);
+pub(crate) const CHECK: &str = "Validate all of IN, and count its nodes, ways and relations";
 
-pub(crate) const EXTRACT: &str = "Cut a box out of IN and write it to OUT, with complete ways";
+pub(crate) const SHOW: &str = "Print the header and all nodes, ways and relations of IN as text";
 
-pub(crate) const USAGE_OF_EXTRACT: &str =
-    "pbfcut extract [OPTIONS] --box=<WEST,SOUTH,EAST,NORTH> <IN> <OUT>";
+pub(crate) const BLOBS: &str = "List the frames of IN: where they are, their types and sizes";
 
-pub(crate) const AFTER_EXTRACT: &str = after_arguments_of_writer!(
-    "The box is four numbers in degrees of WGS84 with commas between them, in the\n\
-    order west,south,east,north: the longitudes of its west and east edge from -180\n\
-    to 180, and the latitudes of its south and north edge from -90 to 90. A number\n\
-    has up to nine digits after the point. West may not be greater than east: a box\n\
-    may not cross the antimeridian.\n\
-    \n\
-    OUT contains, in the order of IN and with all fields:\n  \
-      - the nodes in the box and on its edges\n  \
-      - each way that has a node in the box, whole, with all of its nodes, wherever\n    \
-        they are\n  \
-      - each relation that has one of these nodes or ways as a member; with\n    \
-        --parents also each relation that has a kept relation as a member, level by\n    \
-        level\n\
-    The command prints how many entities it wrote, as 'nodes 3 ways 0 relations 0'.\n\
-    IN is read twice if no node comes after a way, otherwise three times, and with\n\
-    --parents once more. So it must be a file, not a pipe. A run that stops early\n\
-    may leave an incomplete OUT: delete it.\n",
-    "IN must have raw blobs, and OUT has raw blobs. Published files are compressed:\n\
-    pbfcut-any cuts them, and writes a compressed file.\n",
-    "Examples, which cut London out of a published file of England:\n  \
-      pbfcut-any --box=-0.5,51.25,0.3,51.7 england.osm.pbf london.osm.pbf\n\
-    or, with osmium:\n  \
-      osmium cat england.osm.pbf -f pbf,pbf_compression=none -o raw.osm.pbf\n  \
-      pbfcut extract --box=-0.5,51.25,0.3,51.7 raw.osm.pbf cut.osm.pbf\n  \
-      osmium cat cut.osm.pbf -o london.osm.pbf\n"
-);
+/// What pbfcut's help says.
+pub(crate) const OF_PBFCUT: Help = Help {
+    name: "pbfcut",
+    about: "Cut a bounding box out of an OpenStreetMap PBF file; validate and print such\nfiles",
+    input: "The OpenStreetMap PBF file to read; its blobs must be raw",
+    digests: "Print the SHA-256 digests of IN and OUT",
+    digest_of_input: "Print the SHA-256 digest of IN",
+    usage_of_extract: "pbfcut extract [OPTIONS] --box=<WEST,SOUTH,EAST,NORTH> <IN> <OUT>",
+    after: after_arguments_of_writer!(
+        "'pbfcut help COMMAND' prints what a command does, its units and an example.\n",
+        "pbfcut reads and writes files with raw blobs, and refuses compressed ones.\n\
+        Published files are compressed: pbfcutz, which takes the same words, reads them,\n\
+        and pbfcut-any cuts them and writes a compressed file.\n",
+        "Example, which cuts London out of a published file of England:\n  \
+          pbfcut-any --box=-0.5,51.25,0.3,51.7 england.osm.pbf london.osm.pbf\n"
+    ),
+    extract: after_extract!(
+        "IN must have raw blobs, and OUT has raw blobs. Published files are compressed:\n\
+        pbfcut-any cuts them, and writes a compressed file.\n",
+        "Examples, which cut London out of a published file of England:\n  \
+          pbfcut-any --box=-0.5,51.25,0.3,51.7 england.osm.pbf london.osm.pbf\n\
+        or, with osmium:\n  \
+          osmium cat england.osm.pbf -f pbf,pbf_compression=none -o raw.osm.pbf\n  \
+          pbfcut extract --box=-0.5,51.25,0.3,51.7 raw.osm.pbf cut.osm.pbf\n  \
+          osmium cat cut.osm.pbf -o london.osm.pbf\n"
+    ),
+    convert: after_convert!(
+        "IN must have raw blobs, and OUT has raw blobs. Published files are compressed:\n\
+        'pbfcutz convert' reads them, and 'pbfcut-any pack' compresses OUT.\n",
+        "Example:\n  \
+          pbfcut-any unpack london.osm.pbf london.raw.osm.pbf\n  \
+          pbfcut convert london.raw.osm.pbf plain.osm.pbf\n"
+    ),
+    check: after_check!(
+        "IN must have raw blobs. Published files are compressed: 'pbfcutz check' reads\n\
+        them.\n",
+        "Examples:\n  \
+          pbfcut-any unpack london.osm.pbf london.raw.osm.pbf\n  \
+          pbfcut check london.raw.osm.pbf\n\
+        or, with osmium and without a raw file:\n  \
+          osmium cat england.osm.pbf -f pbf,pbf_compression=none -o - |\n    \
+            pbfcut check /dev/stdin\n"
+    ),
+    show: after_show!(
+        "IN must have raw blobs. Published files are compressed: 'pbfcutz show' reads\n\
+        them.\n",
+        "Example:\n  \
+          pbfcut-any unpack london.osm.pbf london.raw.osm.pbf\n  \
+          pbfcut show --dates london.raw.osm.pbf\n"
+    ),
+    blobs: after_blobs!(
+        "IN must have raw blobs. Published files are compressed: 'pbfcutz blobs' reads\n\
+        them.\n",
+        "Example:\n  \
+          pbfcut-any unpack london.osm.pbf london.raw.osm.pbf\n  \
+          pbfcut blobs london.raw.osm.pbf\n"
+    ),
+};
+
+/// What pbfcutz's help says.
+pub(crate) const OF_PBFCUTZ: Help = Help {
+    name: "pbfcutz",
+    about: "Cut a bounding box out of a compressed OpenStreetMap PBF file; validate and\nprint such files",
+    input: "The OpenStreetMap PBF file to read; its blobs are raw or zlib",
+    digests: "Print the SHA-256 digests of IN, of IN unpacked, and of OUT",
+    digest_of_input: "Print the SHA-256 digests of IN and of IN unpacked",
+    usage_of_extract: "pbfcutz extract [OPTIONS] --box=<WEST,SOUTH,EAST,NORTH> <IN> <OUT>",
+    after: after_arguments_of_writer!(
+        "'pbfcutz help COMMAND' prints what a command does, its units and an example.\n",
+        "pbfcutz takes the words of pbfcut. It reads files whose blobs are compressed by\n\
+        zlib, as published files are, or raw; it writes raw ones, and pbfcut-any cuts\n\
+        and compresses in one step.\n",
+        "Example, which cuts London out of a published file of England:\n  \
+          pbfcutz extract --box=-0.5,51.25,0.3,51.7 england.osm.pbf london.osm.pbf\n"
+    ),
+    extract: after_extract!(
+        "IN has zlib or raw blobs, and OUT has raw blobs. pbfcut-any writes a compressed\n\
+        file.\n",
+        "Examples, which cut London out of a published file of England:\n  \
+          pbfcutz extract --box=-0.5,51.25,0.3,51.7 england.osm.pbf london.osm.pbf\n\
+        and with an OUT that is compressed:\n  \
+          pbfcut-any --box=-0.5,51.25,0.3,51.7 england.osm.pbf small.osm.pbf\n"
+    ),
+    convert: after_convert!(
+        "IN has zlib or raw blobs, and OUT has raw blobs. 'pbfcut-any pack' compresses\n\
+        it.\n",
+        "Example:\n  \
+          pbfcutz convert england.osm.pbf plain.osm.pbf\n"
+    ),
+    check: after_check!(
+        "IN has zlib or raw blobs. A fault in a compressed blob is named by the byte of\n\
+        IN where the frame begins, and by the byte of the payload.\n",
+        "Example:\n  \
+          pbfcutz check england.osm.pbf\n"
+    ),
+    show: after_show!(
+        "IN has zlib or raw blobs.\n",
+        "Example:\n  \
+          pbfcutz show --dates england.osm.pbf\n"
+    ),
+    blobs: after_blobs!(
+        "IN has zlib or raw blobs. The bytes and lengths printed are those of IN with its\n\
+        blobs unpacked; a refusal names a byte of IN as it is.\n",
+        "Example:\n  \
+          pbfcutz blobs england.osm.pbf\n"
+    ),
+};

@@ -1,12 +1,16 @@
-//! The command line of pbfcut: what its words ask for, what help says, and how each ending is reported.
+//! The command line of pbfcut and pbfcutz: what its words ask for, what help says, and how each ending is reported.
 #![tactic(auto)]
 
 mod commands;
 mod endings;
 mod help;
 mod joined;
+mod packed;
+mod programs;
 mod words;
 
 pub use endings::{Ending, line, status};
 pub use joined::normalize_words;
+pub use packed::PackedRefusal;
+pub use programs::Program;
 pub use words::{CliFault, Command, read_words};

@@ -18,7 +18,8 @@ ghost use Rattle.pbfcut_cli.specs.Words.{
 };
 ghost use Rattle.pbfcut_cli.specs.declared.words.CliFault.TheVariants as fault;
 
-use crate::commands::program;
+use crate::commands::command_line;
+use crate::programs::Program;
 use clap::error::ErrorKind;
 use clap::{ArgMatches, Error};
 use osm_entity::{BoundingBox, BoxFault};
@@ -190,20 +191,24 @@ fn refused<'a>(alloc: Global, error: &Error) -> Result<Command<'a>, CliFault>
     }
 }
 
-/// The command that the words after the program's name ask for. If it is another than `Help`, its name and values are those
+/// The command that the words after this program's name ask for. If it is another than `Help`, its name and values are those
 /// that `clap` reads in the words by its own definition, and the box is the one that `BoundingBox::parse` reads.
 ///
 /// # Errors
 ///
 /// `Line` if `clap` refuses the words, `Box` with the fault of the box of an `extract`, `Memory` if a request for memory was
 /// refused. Words that `clap` takes give neither `Line` nor `Help`.
-pub fn read_words<'a>(alloc: Global, words: &'a [&'a str]) -> Result<Command<'a>, CliFault>
+pub fn read_words<'a>(
+    alloc: Global,
+    program: Program,
+    words: &'a [&'a str],
+) -> Result<Command<'a>, CliFault>
     ensures read { IfOk result (λ c. IsHelp c ⊎ IsRead (words_of words.now) c) }
     ensures fault { IfErr result (FitsFault (words_of words.now)) }
     ensures taken { takes program_app (texts words.now) ≡ true → IsTaken result }
 {
-    let program = program(alloc)?;
-    match program.try_get_matches_from(words) {
+    let command_line = command_line(alloc, program.help())?;
+    match command_line.try_get_matches_from(words) {
         Ok(matches) => match command_in(&matches) {
             Ok(command) => Ok(command),
             Err(fault) => Err(CliFault::Box(fault)),

@@ -10,12 +10,12 @@ use std::os::unix::fs::FileTypeExt;
 /// The length of the buffer in front of OUT and of standard output.
 pub const OUTPUT_BUFFER: usize = 65_536;
 
-/// Opens IN for the one pass of `blobs`.
-pub fn open_input(rt: &HostRuntime, input: &str) -> Result<FromRead<File>, Ending> {
-    match File::open(rt, input) {
-        Ok(file) => Ok(FromRead::new(file)),
-        Err(_) => Err(Ending::CannotOpen),
-    }
+/// IN, and whether the run reports how far it has come.
+#[derive(Clone, Copy)]
+pub struct Input<'a> {
+    /// The path of IN.
+    pub path: &'a str,
+    pub progress: bool,
 }
 
 /// Whether IN is a pipe, which gives its bytes once. Its type is looked up by name, since to open it may wait for a writer.
@@ -34,22 +34,20 @@ fn length_of(file: &File) -> u64 {
     }
 }
 
-/// Opens IN for this pass of so many, and with `progress` reports how much of it was read. A pipe is refused if there is more than one
-/// pass.
+/// Opens IN for this pass of so many. A pipe is refused if there is more than one pass.
 pub fn open_pass(
     rt: &HostRuntime,
-    input: &str,
-    progress: bool,
+    input: Input<'_>,
     pass: u8,
     passes: u8,
 ) -> Result<Watched<FromRead<File>>, Ending> {
-    if passes > 1 && is_pipe(rt, input) {
+    if passes > 1 && is_pipe(rt, input.path) {
         return Err(Ending::IsPipe);
     }
-    let Ok(file) = File::open(rt, input) else {
+    let Ok(file) = File::open(rt, input.path) else {
         return Err(Ending::CannotOpen);
     };
-    let line = if progress {
+    let line = if input.progress {
         Some(Line::new(rt, pass, passes, length_of(&file)))
     } else {
         None

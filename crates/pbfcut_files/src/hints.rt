@@ -3,17 +3,19 @@
 
 use pbf_frame::Stop;
 use pbf_pass::Counts;
-use pbf_wire::{Fault, Reason};
-use pbfcut_cli::{Command, Ending};
+use pbf_unpack::Place;
+use pbf_wire::Reason;
+use pbfcut_cli::{Command, Ending, PackedRefusal, Program};
 use std::fs::{self, File};
 use std::io::{self, IsTerminal, Read, Seek, SeekFrom};
 
 /// How many bytes of IN are read to see what it is.
 const GLANCE: usize = 96;
 
-/// The files that a command names, and whether it is `extract`.
+/// The files that a command names, whether it is `extract`, and the program that was asked.
 #[derive(Clone, Copy)]
 pub struct Asked<'a> {
+    program: Program,
     input: &'a str,
     output: Option<&'a str>,
     cuts: bool,
@@ -21,7 +23,7 @@ pub struct Asked<'a> {
 
 impl<'a> Asked<'a> {
     /// What a command asks for, if it asks for more than help.
-    pub fn of(command: &Command<'a>) -> Option<Asked<'a>> {
+    pub fn of(program: Program, command: &Command<'a>) -> Option<Asked<'a>> {
         let (input, output, cuts) = match command {
             Command::Help(_) => return None,
             Command::Blobs { input } => (*input, None, false),
@@ -31,6 +33,7 @@ impl<'a> Asked<'a> {
             Command::Extract { input, output, .. } => (*input, Some(*output), true),
         };
         Some(Asked {
+            program,
             input,
             output,
             cuts,
@@ -119,36 +122,50 @@ fn of_feature(rt: &HostRuntime, bytes: &[u8]) -> Option<String> {
     format!(in rt.alloc(); "IN requires the feature {feature}, which pbfcut does not know").ok()
 }
 
-/// What to do with a file that is refused for this fault.
-fn of_fault(rt: &HostRuntime, asked: Asked<'_>, fault: &Fault) -> Option<String> {
-    match fault.reason {
-        Reason::Zlib | Reason::Lzma | Reason::Bzip2 if asked.cuts => {
-            text(
-                rt,
-                "IN is compressed; this cuts it: pbfcut-any --box=BOX IN OUT",
-            )
+/// What pbfcut and pbfcutz say of blobs that they don't read.
+fn of_blobs(asked: Asked<'_>, reason: Reason) -> Option<&'static str> {
+    match reason {
+        Reason::Zlib if asked.program == Program::Pbfcutz => {
+            Some("the compressed data of IN is damaged: fetch the file again")
         }
-        Reason::Zlib | Reason::Lzma | Reason::Bzip2 => {
-            text(
-                rt,
-                "IN is compressed; this makes a raw file of it: pbfcut-any unpack IN RAW",
-            )
+        Reason::Zlib if asked.cuts => {
+            Some("IN is compressed; this cuts it: pbfcut-any --box=BOX IN OUT")
         }
-        Reason::Lz4 | Reason::Zstd => text(
-            rt,
-            "IN is compressed; this makes a raw file of it: osmium cat IN -f pbf,pbf_compression=none -o RAW",
+        Reason::Zlib => Some("IN is compressed; pbfcutz, which takes the same words, reads it"),
+        Reason::Lzma | Reason::Bzip2 | Reason::Lz4 | Reason::Zstd => Some(
+            "IN is compressed by another method; this makes a raw file of it: osmium cat IN -f pbf,pbf_compression=none -o RAW",
         ),
-        Reason::PrefixCut | Reason::HeaderCut | Reason::BlobCut => {
+        _ => None,
+    }
+}
+
+/// What to do with a file that is refused for this reason, at this byte of it unless it is one of a compressed blob.
+fn of_fault(
+    rt: &HostRuntime,
+    asked: Asked<'_>,
+    reason: Reason,
+    offset: Option<u64>,
+) -> Option<String> {
+    match (reason, offset) {
+        (Reason::PrefixCut | Reason::HeaderCut | Reason::BlobCut, _) => {
             text(
                 rt,
                 "IN ends too early, most often because a download broke off: fetch it again",
             )
         }
-        Reason::HeaderLong if fault.offset == 0 => {
-            of_start(rt, glance(rt, asked.input, 0)?.as_slice())
+        (Reason::HeaderLong, Some(0)) => of_start(rt, glance(rt, asked.input, 0)?.as_slice()),
+        (Reason::Feature, Some(offset)) => {
+            of_feature(rt, glance(rt, asked.input, offset)?.as_slice())
         }
-        Reason::Feature => of_feature(rt, glance(rt, asked.input, fault.offset)?.as_slice()),
-        _ => None,
+        _ => text(rt, of_blobs(asked, reason)?),
+    }
+}
+
+/// The byte of IN that a refusal of a published file names.
+fn offset_of(refusal: &PackedRefusal) -> Option<u64> {
+    match refusal.place {
+        Place::Byte(offset) => Some(offset),
+        Place::InPayload(_, _) => None,
     }
 }
 
@@ -180,13 +197,18 @@ fn hint(rt: &HostRuntime, asked: Asked<'_>, ending: &Ending) -> Option<String> {
         Ending::CannotOpen => of_files(rt, asked),
         Ending::IsPipe => text(
             rt,
-            "pbfcut reads IN more than once: write what the pipe has to a file first; 'check' and 'blobs' read a pipe",
+            "IN is read more than once: write what the pipe has to a file first; 'check' and 'blobs' read a pipe",
         ),
         Ending::OutExists => text(
             rt,
-            "pbfcut writes new files only: remove OUT, or name another",
+            "only new files are written: remove OUT, or name another",
         ),
-        Ending::Stopped(Stop::Refused(fault)) => of_fault(rt, asked, fault),
+        Ending::Stopped(Stop::Refused(fault)) => {
+            of_fault(rt, asked, fault.reason, Some(fault.offset))
+        }
+        Ending::RefusedPacked(refusal) => {
+            of_fault(rt, asked, refusal.reason, offset_of(refusal))
+        }
         Ending::Stopped(Stop::Changed(_)) => text(
             rt,
             "something wrote to IN meanwhile: copy it to a file that stays the same",

@@ -6,7 +6,7 @@ mod hints;
 mod output;
 mod progress;
 
-pub use files::{OUTPUT_BUFFER, create_output, open_input, open_pass, refuse_existing};
+pub use files::{Input, OUTPUT_BUFFER, create_output, open_pass, refuse_existing};
 pub use hints::{Asked, tell_empty, tell_hint, tell_order};
-pub use output::{print_counts, print_digest, print_help, report_refusal};
+pub use output::{print_counts, print_digest, print_help, print_unpacked, report_refusal};
 pub use progress::{Line, Watched, end_line};

@@ -1,9 +1,9 @@
 //! What goes to standard output beside listings and texts: counts, digests and help.
 
-use osm_text::put_digest_line;
+use osm_text::{put_digest_line, put_hex};
 use pbf_frame::Stop;
-use pbf_pass::{Counts, Halt};
-use pbfcut_cli::Ending;
+use pbf_pass::{Counts, Refusal};
+use pbfcut_cli::{Ending, Program};
 use std::io::Write;
 
 /// Prints the line of counts.
@@ -19,28 +19,60 @@ pub fn print_counts(rt: &HostRuntime, counts: Counts) -> Result<(), Ending> {
     Ok(())
 }
 
+fn print_line(rt: &HostRuntime, line: &[u8]) -> Result<(), Ending> {
+    let mut screen = rt.stdout();
+    if screen.write_all(line).is_err() || screen.flush().is_err() {
+        return Err(Ending::Stopped(Stop::Write));
+    }
+    Ok(())
+}
+
 /// Prints the line of a file and its digest, as `sha256sum` does.
 pub fn print_digest(rt: &HostRuntime, digest: [u8; 32], path: &str) -> Result<(), Ending> {
     let mut line = Vec::new(rt.alloc());
     if put_digest_line(&mut line, &digest, path.as_bytes()).is_err() {
         return Err(Ending::Stopped(Stop::Memory));
     }
-    let mut screen = rt.stdout();
-    if screen.write_all(&line).is_err() || screen.flush().is_err() {
-        return Err(Ending::Stopped(Stop::Write));
+    print_line(rt, &line)
+}
+
+/// Prints the digest of IN unpacked, if it is. The line is none of `sha256sum`, since there is no such file.
+pub fn print_unpacked(rt: &HostRuntime, digest: Option<[u8; 32]>) -> Result<(), Ending> {
+    let Some(digest) = digest else {
+        return Ok(());
+    };
+    let mut line = Vec::new(rt.alloc());
+    let put = line.extend_from_slice(b"unpacked ").is_ok()
+        && put_hex(&mut line, &digest).is_ok()
+        && line.push(b'\n').is_ok();
+    if !put {
+        return Err(Ending::Stopped(Stop::Memory));
     }
-    Ok(())
+    print_line(rt, &line)
+}
+
+/// What a refusal counts of IN: pbfcutz judges its bytes unpacked.
+fn unit_of(program: Program) -> &'static str {
+    match program {
+        Program::Pbfcut => "bytes",
+        Program::Pbfcutz => "unpacked bytes",
+    }
 }
 
 /// Reports to standard error, if IN is refused, how many of its bytes were read, and their digest. The fault is the first of every
 /// file that begins with these bytes; or IN ended there, and it is the first of the file that has these bytes and no more.
-pub fn report_refusal(rt: &HostRuntime, halt: &Halt, input: &str) -> Result<(), Ending> {
-    let Halt::Refused(refusal) = halt else {
+pub fn report_refusal(
+    rt: &HostRuntime,
+    program: Program,
+    refusal: Option<Refusal>,
+    input: &str,
+) -> Result<(), Ending> {
+    let Some(refusal) = refusal else {
         return Ok(());
     };
-    let read = refusal.read;
+    let (read, unit) = (refusal.read, unit_of(program));
     let mut line = Vec::new(rt.alloc());
-    let Ok(name) = format!(in rt.alloc(); "first {read} bytes of {input}") else {
+    let Ok(name) = format!(in rt.alloc(); "first {read} {unit} of {input}") else {
         return Err(Ending::Stopped(Stop::Memory));
     };
     if put_digest_line(&mut line, &refusal.input, name.as_bytes()).is_err() {

@@ -1,19 +1,35 @@
-//! The program: reads its words, opens the files, runs the engine and reports how it ended.
+//! The program, which is pbfcut or pbfcutz by the name that it is called by: reads its words, opens the files, runs the engine and reports
+//! how it ended.
 #![tactic(auto)]
 
+mod engine;
 mod readers;
 mod writers;
 
+use engine::Engine;
 use pbf_frame::Stop;
-use pbfcut_cli::{Command, Ending, normalize_words, read_words, status};
-use pbfcut_files::{Asked, print_help, tell_hint, tell_order};
+use pbfcut_cli::{Command, Ending, Program, normalize_words, read_words, status};
+use pbfcut_files::{Asked, Input, print_help, tell_hint, tell_order};
 use readers::{run_blobs, run_check, run_show};
 use std::fs::File;
 use std::process::ExitCode;
 use std::{env, io};
 use writers::{Files, run_convert, run_extract, run_extract_parents};
 
-/// The words after the program's name.
+/// The program that this path names, which is the first word of a command line.
+fn program_named(path: &str) -> Program {
+    let name = match path.rsplit_once('/') {
+        Some((_, name)) => name,
+        None => path,
+    };
+    if name == Program::Pbfcutz.name() {
+        Program::Pbfcutz
+    } else {
+        Program::Pbfcut
+    }
+}
+
+/// All words of the command line, the program's name too.
 fn words(rt: &HostRuntime) -> Result<Vec<String>, Ending> {
     let args = match env::args(rt) {
         Ok(args) => args,
@@ -21,7 +37,7 @@ fn words(rt: &HostRuntime) -> Result<Vec<String>, Ending> {
         Err(_) => return Err(Ending::Stopped(Stop::Memory)),
     };
     let mut words = Vec::new(rt.alloc());
-    for word in args.skip(1) {
+    for word in args {
         if words.push(word).is_err() {
             return Err(Ending::Stopped(Stop::Memory));
         }
@@ -30,73 +46,77 @@ fn words(rt: &HostRuntime) -> Result<Vec<String>, Ending> {
 }
 
 /// Does what a command asks for.
-fn run(rt: &HostRuntime, command: Command<'_>) -> Result<(), Ending> {
+fn run(rt: &HostRuntime, engine: Engine, command: Command<'_>) -> Result<(), Ending> {
     match command {
         Command::Help(text) => print_help(rt, text.as_str()),
-        Command::Blobs { input } => run_blobs(rt, input),
+        Command::Blobs { input } => run_blobs(rt, engine, input),
         Command::Show {
-            input,
+            input: path,
             dates,
             progress,
-        } => run_show(rt, input, dates, progress),
+        } => run_show(rt, engine, Input { path, progress }, dates),
         Command::Check {
-            input,
+            input: path,
             progress,
             digests,
-        } => run_check(rt, input, progress, digests),
+        } => run_check(rt, engine, Input { path, progress }, digests),
         Command::Convert {
-            input,
+            input: path,
             output,
             progress,
             digests,
         } => {
+            let input = Input { path, progress };
             let files = Files {
                 input,
                 output,
-                progress,
                 digests,
             };
-            run_convert(rt, files)
+            run_convert(rt, engine, files)
         }
         Command::Extract {
             area,
             parents,
-            input,
+            input: path,
             output,
             progress,
             digests,
         } => {
+            let input = Input { path, progress };
             let files = Files {
                 input,
                 output,
-                progress,
                 digests,
             };
             if parents {
-                run_extract_parents(rt, area, files)
+                run_extract_parents(rt, engine, area, files)
             } else {
-                run_extract(rt, area, files)
+                run_extract(rt, engine, area, files)
             }
         }
     }
 }
 
-/// Reads the words, does what they ask for, and reports how it ended. Returns the exit status, or why the words are no command.
-fn work(rt: &HostRuntime) -> Result<u8, Ending> {
-    let words = words(rt)?;
-    let normalized = normalize_words(rt.alloc(), words.as_slice())?;
+/// Does what the words after the program's name ask for, and reports how it ended. Returns the exit status, or why the words are no
+/// command.
+fn work(rt: &HostRuntime, program: Program, words: &[String]) -> Result<u8, Ending> {
+    let normalized = normalize_words(rt.alloc(), words)?;
     let mut texts = Vec::new(rt.alloc());
     for word in &normalized {
         if texts.push(word.as_str()).is_err() {
             return Err(Ending::Stopped(Stop::Memory));
         }
     }
-    let command = read_words(rt.alloc(), texts.as_slice())?;
-    let asked = Asked::of(&command);
-    match run(rt, command) {
+    let command = read_words(rt.alloc(), program, texts.as_slice())?;
+    let asked = Asked::of(program, &command);
+    let engine = Engine {
+        program,
+        alloc: rt.alloc(),
+    };
+    match run(rt, engine, command) {
         Ok(()) => Ok(0),
         Err(ending) => {
-            let status = tell(rt, &ending);
+            let status = tell(rt, program, &ending);
             tell_hint(rt, asked, &ending);
             Ok(status)
         }
@@ -105,14 +125,15 @@ fn work(rt: &HostRuntime) -> Result<u8, Ending> {
 
 /// Writes the ending's text to standard error, and returns the exit status. If the text can't be written, nothing more can be
 /// reported; if there is no memory for it, that is reported.
-fn tell(rt: &HostRuntime, ending: &Ending) -> u8 {
-    match ending.message(rt.alloc()) {
+fn tell(rt: &HostRuntime, program: Program, ending: &Ending) -> u8 {
+    match ending.message(rt.alloc(), program) {
         Ok(text) => {
             let _ = eprint!(rt; "{text}");
             ending.status()
         }
         Err(_) => {
-            let _ = eprintln!(rt; "pbfcut: out of memory");
+            let name = program.name();
+            let _ = eprintln!(rt; "{name}: out of memory");
             status(&Stop::Memory)
         }
     }
@@ -125,17 +146,29 @@ fn stand_ins(rt: &HostRuntime) -> [Option<File>; 3] {
     [open(), open(), open()]
 }
 
-fn main(rt: HostRuntime) -> ExitCode {
-    let _kept_open = stand_ins(&rt);
-    let status = match work(&rt) {
+/// The exit status of a run of these words.
+fn status_of(rt: &HostRuntime, words: &[String]) -> u8 {
+    let (program, rest) = match words.split_first() {
+        Some((name, rest)) => (program_named(name.as_str()), rest),
+        None => (Program::Pbfcut, words),
+    };
+    match work(rt, program, rest) {
         Ok(status) => status,
         Err(ending) => {
-            let status = tell(&rt, &ending);
+            let status = tell(rt, program, &ending);
             if matches!(&ending, Ending::Box(_)) {
-                tell_order(&rt);
+                tell_order(rt);
             }
             status
         }
+    }
+}
+
+fn main(rt: HostRuntime) -> ExitCode {
+    let _kept_open = stand_ins(&rt);
+    let status = match words(&rt) {
+        Ok(words) => status_of(&rt, words.as_slice()),
+        Err(ending) => tell(&rt, Program::Pbfcut, &ending),
     };
     ExitCode::from(status)
 }

@@ -1,17 +1,15 @@
 //! The commands that write a file: `convert` and `extract`. Before anything is written it is settled that OUT is new, IN is
 //! opened once for each pass, and there is a seed.
 
+use crate::engine::{Engine, FourPasses, Halted, Passes, Report, TwoPasses};
 use osm_entity::BoundingBox;
-use pbf_frame::{FromRead, Stop, ToWrite};
+use pbf_frame::{Stop, ToWrite};
 use pbf_pass::HashedDrain;
-use pbfcut::{
-    Counts, Halt, InputReceipt, convert_with_receipt, extract_parents_sorted_with_receipt,
-    extract_sorted_with_receipt,
-};
+use pbfcut::Counts;
 use pbfcut_cli::Ending;
 use pbfcut_files::{
-    Watched, create_output, end_line, open_pass, print_counts, print_digest, refuse_existing,
-    report_refusal, tell_empty,
+    Input, create_output, end_line, open_pass, print_counts, print_digest, print_unpacked,
+    refuse_existing, report_refusal, tell_empty,
 };
 use std::fs::File;
 use std::hash::RandomState;
@@ -28,167 +26,143 @@ fn seeded(rt: &HostRuntime) -> Result<RandomState, Ending> {
 /// The files of a command that writes, and what it reports of them.
 #[derive(Clone, Copy)]
 pub(crate) struct Files<'a> {
-    /// The path of IN.
-    pub(crate) input: &'a str,
+    pub(crate) input: Input<'a>,
     /// The path of OUT.
     pub(crate) output: &'a str,
-    /// Whether the run reports how far it has come.
-    pub(crate) progress: bool,
     /// Whether the digests of IN and OUT are printed.
     pub(crate) digests: bool,
 }
 
-/// IN, opened once for each of the passes that both extracts make.
-#[derive(Drop)]
-struct Passes {
-    one: Watched<FromRead<File>>,
-    two: Watched<FromRead<File>>,
-    three: Watched<FromRead<File>>,
-}
-
 /// Opens IN for the first three of so many passes.
-fn open_three(rt: &HostRuntime, files: Files<'_>, passes: u8) -> Result<Passes, Ending> {
-    let (input, progress) = (files.input, files.progress);
-    let one = open_pass(rt, input, progress, 1, passes)?;
-    let two = open_pass(rt, input, progress, 2, passes)?;
-    let three = open_pass(rt, input, progress, 3, passes)?;
+fn open_three(rt: &HostRuntime, input: Input<'_>, passes: u8) -> Result<Passes, Ending> {
+    let one = open_pass(rt, input, 1, passes)?;
+    let two = open_pass(rt, input, 2, passes)?;
+    let three = open_pass(rt, input, 3, passes)?;
     Ok(Passes { one, two, three })
 }
 
-/// What a call reports, with the digest of OUT where it was hashed as it was written.
+/// What a call came to, and the digest of OUT if it was hashed as it was written.
 #[derive(Drop)]
-struct Report {
-    receipt: InputReceipt,
+struct Outcome {
+    result: Result<Report, Halted>,
     output: Option<[u8; 32]>,
-}
-
-/// What a call reports that ended well.
-fn reported(outcome: Result<InputReceipt, Halt>, output: Option<[u8; 32]>) -> Result<Report, Halt> {
-    let receipt = outcome?;
-    Ok(Report { receipt, output })
 }
 
 /// Writes to OUT what is left in its buffer, even after a stop, and prints what the call reports if it didn't stop. Returns the counts.
 fn end(
     rt: &HostRuntime,
+    engine: Engine,
     files: Files<'_>,
     file: &mut BufWriter<File>,
-    outcome: Result<Report, Halt>,
+    outcome: Outcome,
 ) -> Result<Counts, Ending> {
-    end_line(rt, files.progress);
+    let path = files.input.path;
+    end_line(rt, files.input.progress);
     let flushed = file.flush();
-    let report = match outcome {
+    let report = match outcome.result {
         Ok(report) => report,
-        Err(halt) => {
+        Err(halted) => {
             if files.digests {
-                report_refusal(rt, &halt, files.input)?;
+                report_refusal(rt, engine.program, halted.refusal, path)?;
             }
-            return Err(Ending::Stopped(Stop::from(halt)));
+            return Err(halted.ending);
         }
     };
     if flushed.is_err() {
         return Err(Ending::Stopped(Stop::Write));
     }
-    let Report { receipt, output } = report;
-    print_counts(rt, receipt.counts)?;
-    if let Some(output) = output {
-        print_digest(rt, receipt.input, files.input)?;
+    print_counts(rt, report.counts)?;
+    if let Some(output) = outcome.output {
+        print_digest(rt, report.input, path)?;
+        print_unpacked(rt, report.raw)?;
         print_digest(rt, output, files.output)?;
     }
-    Ok(receipt.counts)
+    Ok(report.counts)
 }
 
 /// `convert [--progress] [--digests] IN OUT`.
-pub(crate) fn run_convert(rt: &HostRuntime, files: Files<'_>) -> Result<(), Ending> {
-    let (alloc, input, progress) = (rt.alloc(), files.input, files.progress);
+pub(crate) fn run_convert(
+    rt: &HostRuntime,
+    engine: Engine,
+    files: Files<'_>,
+) -> Result<(), Ending> {
     refuse_existing(rt, files.output)?;
-    let mut first = open_pass(rt, input, progress, 1, 2)?;
-    let mut second = open_pass(rt, input, progress, 2, 2)?;
+    let one = open_pass(rt, files.input, 1, 2)?;
+    let two = open_pass(rt, files.input, 2, 2)?;
+    let mut passes = TwoPasses { one, two };
     let hasher = seeded(rt)?;
     let mut file = create_output(rt, files.output)?;
     let drain = &mut ToWrite::new(&mut file);
     let outcome = if files.digests {
         let mut hashed = HashedDrain::new(drain);
-        let outcome = convert_with_receipt(alloc, &mut first, &mut second, &mut hashed, hasher);
-        reported(outcome, Some(hashed.digest()))
+        let result = engine.convert(&mut passes, &mut hashed, hasher);
+        let output = Some(hashed.digest());
+        Outcome { result, output }
     } else {
-        reported(
-            convert_with_receipt(alloc, &mut first, &mut second, drain, hasher),
-            None,
-        )
+        let result = engine.convert(&mut passes, drain, hasher);
+        Outcome {
+            result,
+            output: None,
+        }
     };
-    end(rt, files, &mut file, outcome)?;
+    end(rt, engine, files, &mut file, outcome)?;
     Ok(())
 }
 
 /// `extract [--progress] [--digests] --box=L,B,R,T IN OUT`.
 pub(crate) fn run_extract(
     rt: &HostRuntime,
+    engine: Engine,
     area: BoundingBox,
     files: Files<'_>,
 ) -> Result<(), Ending> {
-    let alloc = rt.alloc();
     refuse_existing(rt, files.output)?;
-    let mut passes = open_three(rt, files, 3)?;
-    let Passes { one, two, three } = &mut passes;
+    let mut passes = open_three(rt, files.input, 3)?;
     let hasher = seeded(rt)?;
     let mut file = create_output(rt, files.output)?;
     let drain = &mut ToWrite::new(&mut file);
     let outcome = if files.digests {
         let mut hashed = HashedDrain::new(drain);
-        let outcome = extract_sorted_with_receipt(
-            alloc,
-            one,
-            two,
-            three,
-            area,
-            &mut hashed,
-            hasher,
-        );
-        reported(outcome, Some(hashed.digest()))
+        let result = engine.extract(&mut passes, area, &mut hashed, hasher);
+        let output = Some(hashed.digest());
+        Outcome { result, output }
     } else {
-        reported(
-            extract_sorted_with_receipt(alloc, one, two, three, area, drain, hasher),
-            None,
-        )
+        let result = engine.extract(&mut passes, area, drain, hasher);
+        Outcome {
+            result,
+            output: None,
+        }
     };
-    tell_empty(rt, end(rt, files, &mut file, outcome)?);
+    tell_empty(rt, end(rt, engine, files, &mut file, outcome)?);
     Ok(())
 }
 
 /// `extract --parents [--progress] [--digests] --box=L,B,R,T IN OUT`.
 pub(crate) fn run_extract_parents(
     rt: &HostRuntime,
+    engine: Engine,
     area: BoundingBox,
     files: Files<'_>,
 ) -> Result<(), Ending> {
-    let alloc = rt.alloc();
     refuse_existing(rt, files.output)?;
-    let mut passes = open_three(rt, files, 4)?;
-    let Passes { one, two, three } = &mut passes;
-    let four = &mut open_pass(rt, files.input, files.progress, 4, 4)?;
+    let three = open_three(rt, files.input, 4)?;
+    let four = open_pass(rt, files.input, 4, 4)?;
+    let mut passes = FourPasses { three, four };
     let hasher = seeded(rt)?;
     let mut file = create_output(rt, files.output)?;
     let drain = &mut ToWrite::new(&mut file);
     let outcome = if files.digests {
         let mut hashed = HashedDrain::new(drain);
-        let outcome = extract_parents_sorted_with_receipt(
-            alloc,
-            one,
-            two,
-            three,
-            four,
-            area,
-            &mut hashed,
-            hasher,
-        );
-        reported(outcome, Some(hashed.digest()))
+        let result = engine.extract_parents(&mut passes, area, &mut hashed, hasher);
+        let output = Some(hashed.digest());
+        Outcome { result, output }
     } else {
-        reported(
-            extract_parents_sorted_with_receipt(alloc, one, two, three, four, area, drain, hasher),
-            None,
-        )
+        let result = engine.extract_parents(&mut passes, area, drain, hasher);
+        Outcome {
+            result,
+            output: None,
+        }
     };
-    tell_empty(rt, end(rt, files, &mut file, outcome)?);
+    tell_empty(rt, end(rt, engine, files, &mut file, outcome)?);
     Ok(())
 }

@@ -3,7 +3,7 @@
 use osm_entity::{BoundingBox, BoxFault};
 use pbf_frame::Stop;
 use pbf_wire::{Fault, Reason};
-use pbfcut_cli::{CliFault, Command, Ending, line, normalize_words, read_words, status};
+use pbfcut_cli::{CliFault, Command, Ending, Program, line, normalize_words, read_words, status};
 use std::alloc::{AllocError, Global};
 use std::process::Abort;
 use std::test::Fail;
@@ -17,13 +17,13 @@ const LONDON: BoundingBox = BoundingBox {
 
 /// Whether these words ask for the frames of this file.
 fn is_blobs(alloc: Global, words: &[&str], input: &str) -> bool {
-    let read = read_words(alloc, words);
+    let read = read_words(alloc, Program::Pbfcut, words);
     matches!(&read, Ok(Command::Blobs { input: found }) if *found == input)
 }
 
 /// Whether they ask for the text of this file, with dates and with progress or without.
 fn is_show(alloc: Global, words: &[&str], input: &str, asked: (bool, bool)) -> bool {
-    let read = read_words(alloc, words);
+    let read = read_words(alloc, Program::Pbfcut, words);
     match &read {
         Ok(
             Command::Show {
@@ -38,7 +38,7 @@ fn is_show(alloc: Global, words: &[&str], input: &str, asked: (bool, bool)) -> b
 
 /// Whether they ask to check this file, with progress and with digests or without.
 fn is_check(alloc: Global, words: &[&str], input: &str, asked: (bool, bool)) -> bool {
-    let read = read_words(alloc, words);
+    let read = read_words(alloc, Program::Pbfcut, words);
     match &read {
         Ok(
             Command::Check {
@@ -53,7 +53,7 @@ fn is_check(alloc: Global, words: &[&str], input: &str, asked: (bool, bool)) -> 
 
 /// Whether they ask to convert `a` to `b`, with progress and with digests or without.
 fn is_convert(alloc: Global, words: &[&str], asked: (bool, bool)) -> bool {
-    let read = read_words(alloc, words);
+    let read = read_words(alloc, Program::Pbfcut, words);
     match &read {
         Ok(
             Command::Convert {
@@ -69,7 +69,7 @@ fn is_convert(alloc: Global, words: &[&str], asked: (bool, bool)) -> bool {
 
 /// Whether they ask to cut London out of `a` into `b`, with all parents, with progress and with digests, or with none of these.
 fn is_extract(alloc: Global, words: &[&str], asked: bool) -> bool {
-    let read = read_words(alloc, words);
+    let read = read_words(alloc, Program::Pbfcut, words);
     match &read {
         Ok(
             Command::Extract {
@@ -222,7 +222,7 @@ fn is_refusal(text: &str, first_line: &str) -> bool {
 
 /// Whether the words are refused, with a text that names the program and gives this line first.
 fn is_refused(alloc: Global, words: &[&str], first_line: &str) -> bool {
-    let read = read_words(alloc, words);
+    let read = read_words(alloc, Program::Pbfcut, words);
     match &read {
         Err(CliFault::Line(text)) => is_refusal(text.as_str(), first_line),
         _ => false,
@@ -295,7 +295,7 @@ fn is_help(alloc: Global, words: &[&str], parts: &[&str]) -> bool {
         "Exit status:\n  0  done",
         "5  IN changed",
     ];
-    let read = read_words(alloc, words);
+    let read = read_words(alloc, Program::Pbfcut, words);
     match &read {
         Ok(Command::Help(text)) => {
             is_narrow(text.as_str())
@@ -347,7 +347,7 @@ fn is_line(alloc: Global, stop: &Stop, text: &str) -> Result<bool, AllocError> {
 
 /// Whether this is the message of the ending, without its line end.
 fn is_message(alloc: Global, ending: &Ending, text: &str) -> Result<bool, AllocError> {
-    let message = ending.message(alloc)?;
+    let message = ending.message(alloc, Program::Pbfcut)?;
     Ok(message.as_str().strip_suffix("\n") == Some(text))
 }
 
@@ -395,13 +395,13 @@ fn ends_with(alloc: Global, ending: &Ending, text: &str, number: u8) -> Result<b
 
 /// Whether the message of the ending begins so, and its status is that of words that are wrong.
 fn begins_with(alloc: Global, ending: &Ending, text: &str) -> Result<bool, AllocError> {
-    let message = ending.message(alloc)?;
+    let message = ending.message(alloc, Program::Pbfcut)?;
     Ok(ending.status() == 2 && message.as_str().starts_with(text))
 }
 
 /// Whether these words end in a message that begins so.
 fn end_in(alloc: Global, words: &[&str], text: &str) -> Result<bool, AllocError> {
-    match read_words(alloc, words) {
+    match read_words(alloc, Program::Pbfcut, words) {
         Ok(_) => Ok(false),
         Err(fault) => begins_with(alloc, &Ending::from(fault), text),
     }

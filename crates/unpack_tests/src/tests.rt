@@ -1,4 +1,4 @@
-//! What no clause says: that the calls succeed where there is memory, on blobs that Python's zlib packed, and from which place a byte comes.
+//! What no clause says: that the calls succeed if there is memory, on blobs that Python's zlib packed, and from which place a byte comes.
 //!
 //! That a failed allocation is reported as `Memory` is tried by hand, by `rt try --test --fail-alloc N`.
 

@@ -1,4 +1,4 @@
-//! What no clause says: that the calls succeed where there is memory, on streams that zlib wrote, and on known check values.
+//! What no clause says: that the calls succeed if there is memory, on streams that zlib wrote, and on known check values.
 //!
 //! That a failed allocation is reported as `Memory` is tried by hand, by `rt try --test --fail-alloc N`.
 

@@ -1,14 +1,13 @@
 #!/usr/bin/env python3
-"""Prints the entities of a file as the suite's JSON lines, as pbfcut reads them; packed files are unpacked by pbfcut-any first.
+"""Prints the entities of a file as the suite's JSON lines, as pbfcutz reads them, which is pbfcut for packed files.
 
-The environment variable PBFCUT names the program pbfcut, and PBFCUT_ANY pbfcut-any, if they aren't on the path.
+The environment variable PBFCUTZ names the program pbfcutz, if it isn't on the path.
 """
 
 import json
 import os
 import re
 import subprocess
-import tempfile
 
 import batch
 
@@ -66,12 +65,7 @@ def entity_of(line: bytes) -> dict:
 
 
 def main(file: str) -> int:
-    program, companion = os.environ.get("PBFCUT", "pbfcut"), os.environ.get("PBFCUT_ANY", "pbfcut-any")
-    with tempfile.TemporaryDirectory() as folder:
-        raw = os.path.join(folder, "raw")
-        if subprocess.run([companion, "unpack", file, raw], check=False).returncode:
-            return 1
-        shown = subprocess.run([program, "show", raw], stdout=subprocess.PIPE, check=False)
+    shown = subprocess.run([os.environ.get("PBFCUTZ", "pbfcutz"), "show", file], stdout=subprocess.PIPE, check=False)
     for line in shown.stdout.split(b"\n"):
         if line and not line.startswith(b"H "):
             print(json.dumps(entity_of(line), ensure_ascii=False))

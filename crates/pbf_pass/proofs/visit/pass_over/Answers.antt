@@ -2,7 +2,7 @@ use Rattle.std.proofs.Common.{zero, suc, [], false, Some, rules, ◌∙◌}
 use Rattle.pbf_frame.proofs.Refusing.{faulty_as}
 use Rattle.pbf_frame.specs.Verdict.{judged_known}
 use Rattle.pbf_pass.specs.Visit.{VisitsAll, RefusesVisit}
-use Rattle.pbf_pass.proofs.GivenLemmas.{supplied_as, holds_of_file}
+use Rattle.pbf_pass.proofs.GivenLemmas.{supplied_as, same_below, holds_of_file}
 use Rattle.pbf_pass.proofs.HaltingLemmas.{halts_of, refuses_bytes_as}
 use Rattle.pbf_pass.proofs.visit.pass_over.Goals as goal
 
@@ -16,6 +16,7 @@ returns-in-Ok-clause-visited g c =
         told = given.supplied.told;
         end = given.supplied.end;
         logged = λ log. given.supplied.logged (suc log);
+        lender = same_below _ _ _ _ given.supplied.lender;
       };
       digest_is = c.digest-digest.ensures.digest given.bytes read.0;
       holding = (

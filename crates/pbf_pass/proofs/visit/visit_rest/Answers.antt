@@ -58,7 +58,7 @@ returns-clause-visited g c =
     let so_far = c.frames.invariant in
     let frames = so_far.done.0 in
     let e = met_end g.F.Feed _ _ _ _ _ _ c.if-branch.false so_far.reading c.in_ok-step.ensures.step in
-    has_passed_all g.F.Feed _ _ _ frames _ so_far.done.3 e.gave record {
+    has_passed_all g.F.Feed _ _ _ frames _ so_far.done.3 e.gave (e.keeps.lender ∙ so_far.lender) record {
       frames = frames;
       says = refl;
       counted = so_far.done.4;

@@ -1,7 +1,15 @@
-use Rattle.pbf_published.proofs.PublishedLemmas.{published_of, means_some}
+use Rattle.std.proofs.Common.{rules, subst}
+use Rattle.pbf_published.proofs.PublishedLemmas.{published_of, means_some, passed_below}
 use Rattle.pbf_published.proofs.checking.check_with_receipt.Goals as goal
 
-pub returns : goal.returns
-returns g c = record {
-  receipt = published_of g.F.Feed _ c.args.feed.now _ _ c.in-Some.digest c.in-Ok.receipt.input _ _ c.open-input.ensures.remaining c.open-input.ensures.supplied (λ raw has. means_some _ c.in-Some.digest raw c.in-Some.is (c.close-digest.ensures.supplied raw has)) (λ file holds. holds) c.in-Ok.ensures.receipt;
-}
+pub returns-clause-receipt : goal.returns-clause-receipt
+returns-clause-receipt g c =
+    let digest = c.in_ok-first_digest.field-0 in
+    let is = c.in_ok-first_digest.ensures.there in
+    published_of g.F.Feed _ c.args.feed.now _ _ _ c.in-Ok.receipt.input _ _ (λ file holds. holds) digest record {
+      remaining = c.open-input.ensures.remaining;
+      hashed = c.open-input.ensures.hashed;
+      logged = c.open-input.ensures.logged;
+      means = λ raw has. means_some _ digest raw is (c.close-digest.ensures.hashed raw has);
+      passed = λ log raw has. passed_below _ _ g.F.Feed.has_passed _ _ digest log raw is (λ packed p. subst (λ (x : g.row.F.Denot). g.F.Feed.has_passed x log packed) (search rules) p) (c.close-digest.ensures.logged log raw has);
+    } c.in-Ok.ensures.receipt

@@ -1,5 +1,8 @@
-use Rattle.std.proofs.Common.{zero}
+use Rattle.std.proofs.Common.{zero, suc}
 use Rattle.pbf_published.proofs.input.open.Goals as goal
 
-pub returns-clause-supplied : goal.returns-clause-supplied
-returns-clause-supplied g c = c.new-2.ensures.supplied zero (c.new.ensures.hasher, c.new.ensures.count)
+pub returns-clause-hashed : goal.returns-clause-hashed
+returns-clause-hashed g c = c.new-2.ensures.supplied zero (c.new.ensures.hasher, c.new.ensures.count)
+
+pub returns-clause-logged : goal.returns-clause-logged
+returns-clause-logged g c = λ log start. c.new-2.ensures.supplied (suc log) (rw c.new.ensures.feed start)

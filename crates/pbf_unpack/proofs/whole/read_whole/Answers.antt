@@ -11,21 +11,6 @@ returns-then-end-clause-means g c =
     subst (λ (l : List ℕ). IsUnfit c.args.place (read.items ++ l)) (sym c.clear.ensures.items)
     (ends_too_far c.args.place read.items c.read_front.new.header.items c.in-Says.head has (omega (arith, c.if-end.true, c.len.ensures, c.from.ensures, read.ok.0)))
 
-pub returns-in_err-fill_vec-clause-blob_held : goal.returns-in_err-fill_vec-clause-blob_held
-returns-in_err-fill_vec-clause-blob_held g c =
-    let has = subst (λ (x : Front). BeginsWith c.args.place c.read_front.new.front.items c.read_front.new.header.items (g.F.Feed.remaining c.read_front.new.feed) x) c.in-Says.is c.in_ok-head.ensures.means in
-    omega (arith, has.within, c.fill_vec.ensures.held, c.clear.ensures.len)
-
-pub returns-then-len-head-clause-blob_held : goal.returns-then-len-head-clause-blob_held
-returns-then-len-head-clause-blob_held g c =
-    let has = subst (λ (x : Front). BeginsWith c.args.place c.read_front.new.front.items c.read_front.new.header.items (g.F.Feed.remaining c.read_front.new.feed) x) c.in-Says.is c.in_ok-head.ensures.means in
-    omega (arith, has.within, c.fill_vec.ensures.held, c.clear.ensures.len)
-
-pub returns-clause-blob_held : goal.returns-clause-blob_held
-returns-clause-blob_held g c =
-    let has = subst (λ (x : Front). BeginsWith c.args.place c.read_front.new.front.items c.read_front.new.header.items (g.F.Feed.remaining c.read_front.new.feed) x) c.in-Says.is c.in_ok-head.ensures.means in
-    omega (arith, has.within, c.fill_vec.ensures.held, c.clear.ensures.len)
-
 pub returns-then-len-head-clause-took : goal.returns-then-len-head-clause-took
 returns-then-len-head-clause-took g c =
     let first = c.in_ok-head.ensures.took in

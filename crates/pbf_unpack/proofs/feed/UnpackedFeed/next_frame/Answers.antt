@@ -8,10 +8,10 @@ use Rattle.pbf_unpack.proofs.feed.UnpackedFeed.next_frame.Goals as goal
 
 pub returns-in_ok-outcome-in-Whole-clause-ready : goal.returns-in_ok-outcome-in-Whole-clause-ready
 returns-in_ok-outcome-in-Whole-clause-ready g c =
-    let read = c.read_whole.new.front.items ++ c.read_whole.new.blob.items in
+    let read = c.read_whole.new.buffers.front.items ++ c.read_whole.new.buffers.packed.items in
     let frame = c.in-Whole.frame in
-    let means = subst (λ (x : Found). Means c.args.self.now.place read c.read_whole.new.blob.items (g.F.Feed.remaining c.read_whole.new.feed) x) c.in-Whole.is c.in_ok-found.ensures.means in
-    let some = frame_some frame.kind frame.blob_at read c.read_whole.new.blob.items means.0 in
+    let means = subst (λ (x : Found). Means c.args.self.now.place read c.read_whole.new.buffers.packed.items (g.F.Feed.remaining c.read_whole.new.feed) x) c.in-Whole.is c.in_ok-found.ensures.means in
+    let some = frame_some frame.kind frame.blob_at read c.read_whole.new.buffers.packed.items means.0 in
     let given : 0 < length (c.unpack.new.buffers.front.items ++ c.unpack.new.buffers.raw.items) = search (rules, some) in
     let same = c.come_from.ensures.same in
     let left : 0 < length (left_in c.come_from.new.self) = rw (same.buffers, same.done) given in

@@ -1,0 +1,69 @@
+//! `convert` of published files.
+
+ghost use Rattle.std.specs.Prelude.{◌≡◌, ℕ, List, IfOk, IfErr};
+ghost use Rattle.pbf_frame.specs.Devices.{IsFront};
+ghost use Rattle.pbf_pass.specs.Given.{Took};
+ghost use Rattle.pbf_pass.specs.HeaderLimit.{judged_writable};
+ghost use Rattle.pbfcut.specs.Calls.{BothSupply, RefusedFirst};
+ghost use Rattle.pbfcut.specs.Kept.{IsWritable, conversion_of};
+ghost use Rattle.pbfcut.specs.Theorem.{IsConverted};
+ghost use Rattle.pbf_published.specs.Published.{GavePublished, IsRefusedBy, UnlessChanged, raw_of};
+
+use crate::input::{
+    PublishedHalt, PublishedInput, close, compare, first_digest, halted, lacks_memory, open,
+};
+use pbf_frame::{Drain, Feed};
+use pbf_unpack::Inflater;
+use std::alloc::Global;
+use std::hash::BuildHasher;
+
+/// Writes all entities of the raw file that a published one means, as `convert_with_receipt` of pbfcut does those of a raw file.
+///
+/// Both feeds have to supply the same bytes. `Changed(2)` says that they did not; what was written before has no meaning. A refusal has
+/// the place of the fault in the published file, and nothing is written then.
+///
+/// Space: that of `convert`, and for each feed one packed frame and a raw one.
+pub fn convert_with_receipt<F: Feed, G: Feed, D: Drain, S: BuildHasher + Drop>(
+    alloc: Global,
+    first: &mut F,
+    second: &mut G,
+    drain: &mut D,
+    hasher: S,
+) -> Result<PublishedInput, PublishedHalt>
+    // Each feed gave packed bytes of the digest `input`, which mean a raw file of the digest `raw`. That of the first has no fault, and
+    // its header can be written. The drain took bytes. If both raw files are one, these bytes are exactly its conversion, and the
+    // counts are its.
+    ensures receipt { IfOk result (λ receipt. GavePublished F.Feed first.old first.new
+        receipt.input receipt.raw (λ b. IsWritable b
+        × GavePublished G.Feed second.old second.new receipt.input receipt.raw
+        (λ c. Took D.Drain drain.old drain.new
+        (λ written. b ≡ c → IsConverted b receipt.counts written)))) }
+    // What is refused is the raw file that the first feed's bytes mean, by its first fault, and then the drain took nothing.
+    ensures refused { IfErr result (λ h. IsRefusedBy (RefusedFirst
+        (judged_writable (raw_of (F.remaining first.old))) (D.taken drain.old) (D.taken drain.new))
+        h.stop) }
+    // Whatever stopped it but a change, if both feeds mean this raw file a prefix of its conversion went out.
+    ensures beginning { IfErr result (λ h. UnlessChanged ((b : List ℕ)
+        → BothSupply b (raw_of (F.remaining first.old)) (raw_of (G.remaining second.old))
+        → IsFront (D.taken drain.old) (D.taken drain.new) (conversion_of b)) h.stop) }
+{
+    let mut one = open(alloc, Inflater::new(alloc)?, &mut *first);
+    let mut two = open(alloc, Inflater::new(alloc)?, &mut *second);
+    let outcome = pbfcut::convert_with_receipt(alloc, &mut one, &mut two, drain, hasher);
+    let receipt = match outcome {
+        Ok(receipt) => receipt,
+        Err(halt) => {
+            let is_memory = lacks_memory(&one) || lacks_memory(&two);
+            return Err(halted(halt, &one, is_memory));
+        }
+    };
+    let (one, _first) = close(one);
+    let (two, _second) = close(two);
+    let input = first_digest(one)?;
+    compare(input, two, 2)?;
+    Ok(PublishedInput {
+        counts: receipt.counts,
+        input,
+        raw: receipt.input,
+    })
+}

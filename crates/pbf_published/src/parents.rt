@@ -1,0 +1,95 @@
+//! `extract --parents` of published files.
+
+ghost use Rattle.std.specs.Prelude.{◌≡◌, ℕ, List, IfOk, IfErr};
+ghost use Rattle.osm_ways.specs.Parents.{extract_with_parents};
+ghost use Rattle.osm_ways.specs.Seen.{seen_decoded};
+ghost use Rattle.pbf_frame.specs.Devices.{IsFront};
+ghost use Rattle.pbf_pass.specs.Given.{Took};
+ghost use Rattle.pbf_pass.specs.HeaderLimit.{judged_writable};
+ghost use Rattle.pbfcut.specs.Calls.{FourSupply, RefusedFirst};
+ghost use Rattle.pbfcut.specs.Extracting.{all_parents};
+ghost use Rattle.pbfcut.specs.Kept.{IsWritable, extract_of};
+ghost use Rattle.pbfcut.specs.Theorem.{IsExtraction};
+ghost use Rattle.pbf_published.specs.Published.{GavePublished, GaveOrNone, IsRefusedBy, UnlessChanged, raw_of};
+
+use crate::input::{
+    PublishedHalt, PublishedInput, close, compare, compare_or_none, first_digest, halted,
+    lacks_memory, open,
+};
+use osm_entity::BoundingBox;
+use pbf_frame::{Drain, Feed};
+use pbf_unpack::Inflater;
+use std::alloc::Global;
+use std::hash::BuildHasher;
+
+/// Like [`extract_sorted_with_receipt`](crate::extract_sorted_with_receipt), with all parents, as `extract_parents_sorted_with_receipt` of pbfcut.
+pub fn extract_parents_sorted_with_receipt<
+    F: Feed,
+    G: Feed,
+    H: Feed,
+    I: Feed,
+    D: Drain,
+    S: BuildHasher + Drop,
+>(
+    alloc: Global,
+    first: &mut F,
+    second: &mut G,
+    third: &mut H,
+    fourth: &mut I,
+    area: BoundingBox,
+    drain: &mut D,
+    hasher: S,
+) -> Result<PublishedInput, PublishedHalt>
+    // Each feed gave packed bytes of the digest `input`, which mean a raw file of the digest `raw`, or the second nothing. The first raw
+    // file has no fault, and its header can be written. The drain took bytes. Where the raw files are one, these bytes are exactly its
+    // complete-ways extract with all parents, and the counts are those of the entities in it.
+    ensures receipt { IfOk result (λ receipt. GavePublished F.Feed first.old first.new
+        receipt.input receipt.raw (λ b. IsWritable b
+        × GaveOrNone G.Feed second.old second.new receipt.input receipt.raw b
+        (λ c. GavePublished H.Feed third.old third.new receipt.input receipt.raw
+        (λ d. GavePublished I.Feed fourth.old fourth.new receipt.input receipt.raw
+        (λ e. Took D.Drain drain.old drain.new
+        (λ written. b ≡ c → b ≡ d → b ≡ e → IsExtraction (all_parents area)
+        (extract_with_parents (seen_decoded area)) area b receipt.counts written)))))) }
+    // What is refused is the raw file that the first feed's bytes mean, by its first fault, and then the drain took nothing.
+    ensures refused { IfErr result (λ h. IsRefusedBy (RefusedFirst
+        (judged_writable (raw_of (F.remaining first.old))) (D.taken drain.old) (D.taken drain.new))
+        h.stop) }
+    // Whatever stopped it but a change, if all feeds mean this raw file a prefix of its extract went out.
+    ensures beginning { IfErr result (λ h. UnlessChanged ((b : List ℕ)
+        → FourSupply b (raw_of (F.remaining first.old)) (raw_of (G.remaining second.old))
+        (raw_of (H.remaining third.old)) (raw_of (I.remaining fourth.old))
+        → IsFront (D.taken drain.old) (D.taken drain.new)
+        (extract_of (all_parents area) area b)) h.stop) }
+{
+    let mut one = open(alloc, Inflater::new(alloc)?, &mut *first);
+    let mut two = open(alloc, Inflater::new(alloc)?, &mut *second);
+    let mut three = open(alloc, Inflater::new(alloc)?, &mut *third);
+    let mut four = open(alloc, Inflater::new(alloc)?, &mut *fourth);
+    let outcome = pbfcut::extract_parents_sorted_with_receipt(
+        alloc, &mut one, &mut two, &mut three, &mut four, area, drain, hasher,
+    );
+    let receipt = match outcome {
+        Ok(receipt) => receipt,
+        Err(halt) => {
+            let is_memory = lacks_memory(&one)
+                || lacks_memory(&two)
+                || lacks_memory(&three)
+                || lacks_memory(&four);
+            return Err(halted(halt, &one, is_memory));
+        }
+    };
+    let (one, _first) = close(one);
+    let (two, _second) = close(two);
+    let (three, _third) = close(three);
+    let (four, _fourth) = close(four);
+    let input = first_digest(one)?;
+    compare_or_none(input, two, 2)?;
+    compare(input, three, 3)?;
+    compare(input, four, 4)?;
+    Ok(PublishedInput {
+        counts: receipt.counts,
+        input,
+        raw: receipt.input,
+    })
+}

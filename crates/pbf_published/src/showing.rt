@@ -1,0 +1,96 @@
+//! `show` and `blobs` of published files.
+
+ghost use Rattle.std.specs.Prelude.{◌≡◌, IfOk, IfErr, OnErr, Some, false};
+ghost use Rattle.pbf_frame.specs.Verdict.{judged_known};
+ghost use Rattle.pbf_pass.specs.Given.{Took};
+ghost use Rattle.pbf_pass.specs.Judged.{judged_file};
+ghost use Rattle.pbf_pass.specs.Pass.{CountsFile};
+ghost use Rattle.pbfcut.specs.Listing.{Lists, ListsFront, ListsToFault};
+ghost use Rattle.pbfcut.specs.Calls.{RefusedFirst};
+ghost use Rattle.pbfcut.specs.Showing.{Shown, ShowsFront};
+ghost use Rattle.pbf_published.specs.Published.{GavePublished, IsRefusedBy, UnlessChanged, raw_of};
+
+use crate::input::{
+    PublishedHalt, PublishedInput, close, compare, first_digest, halted, lacks_memory, open,
+    stopped,
+};
+use pbf_frame::{Drain, Feed};
+use pbf_unpack::Inflater;
+use std::alloc::Global;
+
+/// Writes the text of the raw file that a published one means, as `show_with_receipt` of pbfcut does that of a raw file.
+///
+/// Both feeds have to supply the same bytes. `Changed(2)` says that they did not; what was written before has no meaning. A refusal has
+/// the place of the fault in the published file, and nothing is written then.
+///
+/// Space: that of `show`, and for each feed one packed frame and a raw one.
+pub fn show_with_receipt<F: Feed, G: Feed, D: Drain>(
+    alloc: Global,
+    first: &mut F,
+    second: &mut G,
+    drain: &mut D,
+    dates: bool,
+) -> Result<PublishedInput, PublishedHalt>
+    // Each feed gave packed bytes of the digest `input`, which mean a raw file of the digest `raw`. That of the first has no fault, and
+    // the counts are those of its entities. The drain took exactly the text of that of the second, which has no fault.
+    ensures receipt { IfOk result (λ receipt. GavePublished F.Feed first.old first.new
+        receipt.input receipt.raw (λ b. CountsFile (judged_file (Some b)) receipt.counts
+        × GavePublished G.Feed second.old second.new receipt.input receipt.raw
+        (λ c. Took D.Drain drain.old drain.new (Shown dates (judged_file (Some c)))))) }
+    // What is refused is the raw file that the first feed's bytes mean, by its first fault, and then the drain took nothing.
+    ensures refused { IfErr result (λ h. IsRefusedBy (RefusedFirst
+        (judged_file (raw_of (F.remaining first.old))) (D.taken drain.old) (D.taken drain.new))
+        h.stop) }
+    // Whatever stopped it but a change, if both feeds mean one raw file a prefix of its text went out, and nothing if it has a fault.
+    ensures beginning { IfErr result (λ h. UnlessChanged
+        (raw_of (F.remaining first.old) ≡ raw_of (G.remaining second.old)
+        → ShowsFront dates (judged_file (raw_of (F.remaining first.old)))
+        (D.taken drain.old) (D.taken drain.new)) h.stop) }
+{
+    let mut one = open(alloc, Inflater::new(alloc)?, &mut *first);
+    let mut two = open(alloc, Inflater::new(alloc)?, &mut *second);
+    let outcome = pbfcut::show_with_receipt(alloc, &mut one, &mut two, drain, dates);
+    let receipt = match outcome {
+        Ok(receipt) => receipt,
+        Err(halt) => {
+            let is_memory = lacks_memory(&one) || lacks_memory(&two);
+            return Err(halted(halt, &one, is_memory));
+        }
+    };
+    let (one, _first) = close(one);
+    let (two, _second) = close(two);
+    let input = first_digest(one)?;
+    compare(input, two, 2)?;
+    Ok(PublishedInput {
+        counts: receipt.counts,
+        input,
+        raw: receipt.input,
+    })
+}
+
+/// Writes one line for each frame of the raw file that a published one means, as `list_blobs` of pbfcut does for a raw file. So the
+/// places and the sizes of blobs are those of the raw file.
+///
+/// A refusal has the place of the fault in the published file. Reads once, and holds one packed frame and two raw ones.
+pub fn list_blobs<F: Feed, D: Drain>(
+    alloc: Global,
+    feed: &mut F,
+    drain: &mut D,
+) -> Result<u64, PublishedHalt>
+    // The raw file that the feed's bytes mean has no frame fault, and the drain took exactly the lines of its frames, of which there are
+    // so many.
+    ensures listed { IfOk result (Lists D.Drain drain.old drain.new
+        (judged_known false 0 (raw_of (F.remaining feed.old)))) }
+    // Where it is refused, all the lines of the frames before the fault went out.
+    ensures refused { IfErr result (λ h. IsRefusedBy (ListsToFault D.Drain drain.old drain.new
+        (judged_known false 0 (raw_of (F.remaining feed.old)))) h.stop) }
+    // Whatever stopped it, a prefix of the lines of the frames before the first fault went out.
+    ensures beginning { OnErr result (ListsFront D.Drain drain.old drain.new
+        (judged_known false 0 (raw_of (F.remaining feed.old)))) }
+{
+    let mut input = open(alloc, Inflater::new(alloc)?, &mut *feed);
+    match pbfcut::list_blobs(alloc, &mut input, drain) {
+        Ok(frames) => Ok(frames),
+        Err(stop) => Err(stopped(stop, &input, lacks_memory(&input))),
+    }
+}

@@ -1,0 +1,232 @@
+//! The calls of both programs: those of pbfcut over raw files, and those of pbfcutz over published ones.
+
+use osm_entity::BoundingBox;
+use pbf_frame::{Drain, FromRead, Stop};
+use pbf_pass::Refusal;
+use pbf_published::{PublishedHalt, PublishedInput};
+use pbf_unpack::UnpackReason;
+use pbf_wire::{Fault, Reason};
+use pbfcut::{Counts, Halt, InputReceipt};
+use pbfcut_cli::{Ending, PackedRefusal, Program};
+use pbfcut_files::Watched;
+use std::alloc::Global;
+use std::fs::File;
+use std::hash::RandomState;
+
+/// IN, opened for a pass.
+pub(crate) type Pass = Watched<FromRead<File>>;
+
+/// IN, opened for each of two passes.
+#[derive(Drop)]
+pub(crate) struct TwoPasses {
+    pub(crate) one: Pass,
+    pub(crate) two: Pass,
+}
+
+/// IN, opened for each of the passes that both extracts make.
+#[derive(Drop)]
+pub(crate) struct Passes {
+    pub(crate) one: Pass,
+    pub(crate) two: Pass,
+    pub(crate) three: Pass,
+}
+
+/// IN, opened for each pass of an extract with all parents.
+#[derive(Drop)]
+pub(crate) struct FourPasses {
+    pub(crate) three: Passes,
+    pub(crate) four: Pass,
+}
+
+/// What a call reports that ended well.
+#[derive(Clone, Copy)]
+pub(crate) struct Report {
+    pub(crate) counts: Counts,
+    /// The digest of IN.
+    pub(crate) input: [u8; 32],
+    /// The digest of IN unpacked, where it is.
+    pub(crate) raw: Option<[u8; 32]>,
+}
+
+impl From<InputReceipt> for Report {
+    fn from(receipt: InputReceipt) -> Report {
+        let input = receipt.input;
+        Report {
+            counts: receipt.counts,
+            input,
+            raw: None,
+        }
+    }
+}
+
+impl From<PublishedInput> for Report {
+    fn from(receipt: PublishedInput) -> Report {
+        let (input, raw) = (receipt.input, receipt.raw);
+        Report {
+            counts: receipt.counts,
+            input,
+            raw: Some(raw),
+        }
+    }
+}
+
+/// How a call ended that did not end well, and what was read of IN, or of IN unpacked, until a refusal.
+#[derive(Drop)]
+pub(crate) struct Halted {
+    pub(crate) ending: Ending,
+    pub(crate) refusal: Option<Refusal>,
+}
+
+impl From<Halt> for Halted {
+    fn from(halt: Halt) -> Halted {
+        let refusal = match halt {
+            Halt::Refused(refusal) => Some(refusal),
+            Halt::Stopped(_) => None,
+        };
+        Halted {
+            ending: Ending::Stopped(Stop::from(halt)),
+            refusal,
+        }
+    }
+}
+
+impl From<Stop> for Halted {
+    fn from(stop: Stop) -> Halted {
+        Halted {
+            ending: Ending::Stopped(stop),
+            refusal: None,
+        }
+    }
+}
+
+/// What is wrong with zlib data, if that is what the refusal is for.
+fn detail_of(halt: &PublishedHalt, fault: Fault) -> Option<UnpackReason> {
+    match halt.fault {
+        Some(found) if fault.reason == Reason::Zlib => Some(found.reason),
+        _ => None,
+    }
+}
+
+/// How pbfcutz ends after such a halt.
+fn ending_of(halt: &PublishedHalt) -> Ending {
+    match (halt.stop, halt.place) {
+        (Stop::Refused(fault), Some(place)) => Ending::RefusedPacked(PackedRefusal {
+            reason: fault.reason,
+            place,
+            detail: detail_of(halt, fault),
+        }),
+        (stop, _) => Ending::Stopped(stop),
+    }
+}
+
+impl From<PublishedHalt> for Halted {
+    fn from(halt: PublishedHalt) -> Halted {
+        Halted {
+            ending: ending_of(&halt),
+            refusal: halt.refusal,
+        }
+    }
+}
+
+/// The calls of a program.
+#[derive(Clone, Copy)]
+pub(crate) struct Engine {
+    pub(crate) program: Program,
+    pub(crate) alloc: Global,
+}
+
+impl Engine {
+    pub(crate) fn check(self, pass: &mut Pass) -> Result<Report, Halted> {
+        Ok(match self.program {
+            Program::Pbfcut => pbfcut::check_with_receipt(self.alloc, pass)?.into(),
+            Program::Pbfcutz => pbf_published::check_with_receipt(self.alloc, pass)?.into(),
+        })
+    }
+
+    /// Writes the lines of the frames.
+    pub(crate) fn list_blobs<D: Drain>(
+        self,
+        pass: &mut Pass,
+        drain: &mut D,
+    ) -> Result<u64, Halted> {
+        Ok(match self.program {
+            Program::Pbfcut => pbfcut::list_blobs(self.alloc, pass, drain)?,
+            Program::Pbfcutz => pbf_published::list_blobs(self.alloc, pass, drain)?,
+        })
+    }
+
+    /// Writes the text of all that IN has.
+    pub(crate) fn show<D: Drain>(
+        self,
+        passes: &mut TwoPasses,
+        drain: &mut D,
+        dates: bool,
+    ) -> Result<Report, Halted> {
+        let alloc = self.alloc;
+        let TwoPasses { one, two } = passes;
+        Ok(match self.program {
+            Program::Pbfcut => pbfcut::show_with_receipt(alloc, one, two, drain, dates)?.into(),
+            Program::Pbfcutz => {
+                pbf_published::show_with_receipt(alloc, one, two, drain, dates)?.into()
+            }
+        })
+    }
+
+    pub(crate) fn convert<D: Drain>(
+        self,
+        passes: &mut TwoPasses,
+        drain: &mut D,
+        hasher: RandomState,
+    ) -> Result<Report, Halted> {
+        let alloc = self.alloc;
+        let TwoPasses { one, two } = passes;
+        Ok(match self.program {
+            Program::Pbfcut => {
+                pbfcut::convert_with_receipt(alloc, one, two, drain, hasher)?.into()
+            }
+            Program::Pbfcutz => {
+                pbf_published::convert_with_receipt(alloc, one, two, drain, hasher)?.into()
+            }
+        })
+    }
+
+    pub(crate) fn extract<D: Drain>(
+        self,
+        passes: &mut Passes,
+        area: BoundingBox,
+        drain: &mut D,
+        hasher: RandomState,
+    ) -> Result<Report, Halted> {
+        let alloc = self.alloc;
+        let Passes { one, two, three } = passes;
+        Ok(match self.program {
+            Program::Pbfcut => pbfcut::extract_sorted_with_receipt(
+                alloc, one, two, three, area, drain, hasher,
+            )?.into(),
+            Program::Pbfcutz => pbf_published::extract_sorted_with_receipt(
+                alloc, one, two, three, area, drain, hasher,
+            )?.into(),
+        })
+    }
+
+    /// The same with all parents, for which IN is read once more.
+    pub(crate) fn extract_parents<D: Drain>(
+        self,
+        passes: &mut FourPasses,
+        area: BoundingBox,
+        drain: &mut D,
+        hasher: RandomState,
+    ) -> Result<Report, Halted> {
+        let alloc = self.alloc;
+        let FourPasses { three, four } = passes;
+        let Passes { one, two, three } = three;
+        Ok(match self.program {
+            Program::Pbfcut => pbfcut::extract_parents_sorted_with_receipt(
+                alloc, one, two, three, four, area, drain, hasher,
+            )?.into(),
+            Program::Pbfcutz => pbf_published::extract_parents_sorted_with_receipt(
+                alloc, one, two, three, four, area, drain, hasher,
+            )?.into(),
+        })
+    }
+}
