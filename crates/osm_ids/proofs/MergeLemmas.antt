@@ -73,7 +73,7 @@ ids_of-merged (other ∷ others) ids =
     ∙ or_swap (int_eq x other) (set.contains (ids_of ids) x) (list_any (int_eq x) others)
     ∙ sym (contains-with_late (ids_of ids) (other ∷ others) x))
 
--- late ids stand in no page
+-- no late id is in a page
 pub late_apart : (ids : Ids) (late all : List ℤ) → AreLate ids late → ids_of all ≡ ids → AreApart late all
 late_apart ids late all l e x in_late = sym (contains-ids_of all x) ∙ ap (λ (s : Ids). set.contains s x) e ∙ (l x in_late).0
 
@@ -129,7 +129,7 @@ merging others ids next left e h k a = record { others_rise = subst IsRising e h
 pub fewer : (s t : List ℤ) (x : ℤ) → s ≡ x ∷ t → length t < length s
 fewer s t x e = omega (arith, ap length e)
 
--- ---- laid one after the other
+-- ---- appended one after the other
 
 pub record Gathered (done : Ids) (left all : List ℤ) : Type 0 where
   pub whole : (x : ℤ) → (set.contains done x || list_any (int_eq x) left) ≡ list_any (int_eq x) all

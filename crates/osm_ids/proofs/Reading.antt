@@ -66,7 +66,7 @@ next_of ids page passed last at (x ∷ rest) rises fits left answer lt =
 pub following : (ids : List ℤ) (page : List ℕ) (passed last : ℤ) (at : ℕ) → IsAt ids page (cursor passed last at) → at < length page → Next ids page last at
 following ids page passed last at h lt = next_of ids page passed last at h.rest h.rises h.fits h.left h.answer lt
 
--- past the id, or at the end, the answer is whether last is the id
+-- past the id, or at the end, the look-up returns whether last is the id
 pub answer_past : (ids : List ℤ) (id : ℤ) (page : List ℕ) (passed last : ℤ) (at : ℕ) → IsAt ids page (cursor passed last at) → IsAhead passed last id → id ≤ℤ last → int_eq id last ≡ list_any (int_eq id) ids
 answer_past ids id page passed last at h ahead high = sym (or_none (int_eq id last)) ∙ ap (λ b. int_eq id last || b) (sym (none_above last h.rest id h.rises high)) ∙ h.answer id ahead
 

@@ -40,7 +40,7 @@ is_among links l = list_any (eq_by_cmp link_cmp l) links
 abbrev pub is_of : ℤ → Link → Bool
 is_of id l = int_eq l.member id
 
--- what stands in a list of work
+-- whether an id is in a list of work
 abbrev pub is_in : List ℤ → ℤ → Bool
 is_in work id = list_any (int_eq id) work
 

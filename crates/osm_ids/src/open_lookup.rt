@@ -27,7 +27,7 @@ impl IdLookup for Lookup<'_> {
     }
 }
 
-/// The ids of a set that may still grow: those that are laid into pages, and those that came late. Contracts see it as a finite set
+/// The ids of a set that may still grow: those in pages, and those that came out of order. Contracts see it as a finite set
 /// of numbers.
 #[derive(Drop)]
 pub struct OpenLookup<'a> {

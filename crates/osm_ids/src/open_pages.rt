@@ -1,4 +1,4 @@
-//! Ids that are laid into pages as they come.
+//! Ids that are appended to pages as they come.
 
 ghost use Rattle.std.specs.Prelude.{◌≡◌, true, false, OnOk, OnErr};
 ghost use Rattle.std.specs.FinSet as set;
@@ -42,7 +42,7 @@ impl OpenPages {
         }
     }
 
-    /// Whether the id is above all others, so that it can be laid after them.
+    /// Whether the id is above all others, so that it can be appended.
     pub(crate) fn takes(&self, id: i64) -> bool
         ensures above { result ≡ true → IsAbove self.now id }
         ensures reached { result ≡ false → IsReached self.now id }

@@ -12,12 +12,12 @@ use std::alloc::{AllocError, Global};
 use std::collections::BTreeSet;
 use std::marker::Model;
 
-/// A set of ids that grows: an id above all others is laid into pages at once, as the sealed set has it, and one that comes late
-/// stands beside them. Contracts see it as a finite set of numbers.
+/// A set of ids that grows: an id above all others is appended to pages at once, as the sealed set has it, and one that comes out of
+/// order is kept beside them. Contracts see it as a finite set of numbers.
 #[derive(Drop)]
 pub struct IdSet {
     laid: OpenPages,
-    /// The ids that came when a greater one was laid.
+    /// The ids that came after a greater one had been appended.
     late: BTreeSet<i64>,
     alloc: Global,
 }
@@ -118,7 +118,7 @@ impl IdSet {
     }
 }
 
-/// Rising ids, laid into pages.
+/// Rising ids, in pages.
 fn laid(alloc: Global, ids: Merged<'_>) -> Result<OpenPages, AllocError>
     requires { IsRising ids }
     ensures { IfOk result (λ pages. pages ≡ set.from_list ids.entry) }
