@@ -3,7 +3,7 @@ use Rattle.std.specs.Prelude.{ℕ, zero, suc, List, [], ◌∷◌, map, slice_in
 use Rattle.osm_entity.specs.Entity.{TagSpec}
 use Rattle.osm_entity.specs.Sources.{tag_of}
 
--- the runs with this pair in front of the first; if there is none, a run of the pair alone
+-- the runs with this pair added at the start of the first; if there is none, a run of only this pair
 abbrev pub with_pair : ℕ × ℕ → List (List (ℕ × ℕ)) → List (List (ℕ × ℕ))
 with_pair pair [] = (pair ∷ []) ∷ []
 with_pair pair (run ∷ later) = (pair ∷ run) ∷ later

@@ -136,7 +136,7 @@ impl<'a> Dense<'a> {
     }
 
     /// How many nodes there are in a dense message without a wire fault: as many as ids. No number is decoded, and no other
-    /// column is looked at.
+    /// column is read.
     #[tactic(auto, using(crate::proofs::SoundDense::ids_are_nodes))]
     pub fn count(message: Message<'_>) -> usize
         ensures exact { result ≡ id_count (found_in message.entry) }

@@ -29,8 +29,8 @@ pub struct DenseOut {
     tagged: bool,
 }
 
-/// Adds the indexes of the keys and values of a node's tags in turn, and then a 0. Where the node is seen to have no tag, no
-/// copy of them is made: its run is the 0 alone.
+/// Adds the indexes of the keys and values of a node's tags in turn, and then a 0. If the node is seen to have no tag, no
+/// copy of them is made: its run is only the 0.
 fn push_tags<S: BuildHasher>(
     runs: &mut ColumnOut,
     node: &NodeRef<'_>,
