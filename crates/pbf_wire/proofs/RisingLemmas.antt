@@ -1,4 +1,4 @@
--- The numbers of a column stand in order, so the first value that isn't good is the least fault.
+-- The offsets of a column's numbers rise, so the first value that isn't good is the least fault.
 use Rattle.std.proofs.Common.{◌≡◌, ℕ, zero, suc, ◌+◌, ◌-◌, ◌≤◌, List, [], ◌∷◌, ◌++◌, map, refl, ap, sym, ◌∙◌, arith, ◌==◌, true, false, Bool, ℤ, pos, ◌+ℤ◌}
 use Rattle.std.proofs.lemmas.Int.{ints}
 use Rattle.std.specs.Prelude.{Some, Result, Ok, Err, if◌then◌else◌, not}
@@ -68,7 +68,7 @@ joined_rise k p (o ∷ os) h = chosen_rise (o.number == k) p o.place (numbers_in
 pub column_rises : (k at : ℕ) (m : List ℕ) → Rising (joined k (fields_in at m))
 column_rises k at m = rises at (joined k (found (items at m))) (joined_rise k at (found (items at m)) (follows 0 at m))
 
--- the numbers of a column that is left stand in order
+-- the offsets of the numbers that are left of a column rise
 pub left_rises : (k : ℕ) (fields : Fields) → Rising (joined k (found (fields_left fields)))
 unfolding fields_left
 left_rises k fields = column_rises k fields.at fields.rest.now

@@ -39,7 +39,7 @@ bit_is mask i h = sym (and_mask (mask / 2 ^ i) 1) ∙ (bit_set_by_shift mask i).
 is_set : (mask i : ℕ) → bit_at mask i ≡ 1 → IsBitSet mask i
 is_set mask i e = (bit_set_by_shift mask i).0 (and_mask (mask / 2 ^ i) 1 ∙ e)
 
--- of the ends in both halves
+-- an end in the whole is an end in one of the halves
 pub both_halves : (front back i : ℕ) → front < 2 ^ 32 → IsBitSet (back * 2 ^ 32 + front) i → (i < 32) × IsBitSet front i ⊎ (32 ≤ i) × IsBitSet back (i - 32)
 both_halves front back i small h =
     elim (cases_lt i 32) [
@@ -118,7 +118,7 @@ last_ends most bytes i lt near last =
     let at : i + (length bytes - 1 - i) ≡ length bytes - 1 = omega (arith, lt) in
     (length bytes - 1 - i, omega (arith, lt, near), omega (arith, lt), omega (arith, last, ap (λ k. get_or bytes k 0) at))
 
--- one window more of the bytes that are looked at from the left
+-- one more window of the bytes, which are read from the left
 pub one_more : (bytes window : List ℕ) (n : ℕ) → window ≡ take 64 (drop n bytes) → ((i : ℕ) → i < 60 → EndsWithin 5 window i) → ((i : ℕ) → i < n → EndsWithin 5 bytes i) → (i : ℕ) → i < n + 60 → EndsWithin 5 bytes i
 one_more bytes window n is here done i lt =
     elim (cases_lt i n) [
@@ -176,7 +176,7 @@ within_rest most bytes n i h =
 each_of_rest : (most : ℕ) (bytes : List ℕ) (n : ℕ) → EachEnds most bytes → EachEnds most (drop n bytes)
 each_of_rest most bytes n h = λ i lt. within_rest most bytes n i (h (n + i) (omega (arith, lt, length-drop n bytes)))
 
--- the number at the front
+-- the number at the start
 record Front (most : ℕ) (bytes : List ℕ) : Type 0 where
   value : ℕ
   size : ℕ

@@ -102,7 +102,7 @@ all_unzigzag (d ∷ ds) = ap₂ (λ (x : ℤ) (xs : List ℤ). x ∷ xs) (unzigz
 pub sums_undo_deltas : (values : List ℤ) → sums_from (pos 0) (map unzigzag (deltas values)) ≡ values
 sums_undo_deltas values = ap (sums_from (pos 0)) (all_unzigzag (differences (pos 0) values)) ∙ sums_undo_differences (pos 0) values
 
--- ---- running sums are the sums of all fronts, each by itself
+-- ---- running sums are the sums of all prefixes, each by itself
 
 shifted : {X : Type 0} (f : ℕ → X) (a n : ℕ) → map f (range_with_len (a + 1) n) ≡ map (λ i. f (i + 1)) (range_with_len a n)
 shifted f a zero = refl

@@ -52,6 +52,6 @@ column_of k o = if o.number == k then placed o.place (numbers_in o.content) else
 abbrev pub joined : ℕ → List Occurrence → List (ℕ × ℕ)
 joined k os = flat_map (column_of k) os
 
--- the numbers alone
+-- only the numbers
 abbrev pub column : ℕ → List Occurrence → List ℕ
 column k os = map (λ p. p.0) (joined k os)

@@ -49,7 +49,7 @@ abbrev pub ◌>>=◌ : {A B : Type 0} → Result A Reason → (A → Result B Re
 (Ok x) >>= f = f x
 (Err e) >>= f = Err e
 
--- the content at the front of the bytes, behind a tag of this wire type, and its length
+-- the content at the start of the bytes, after a tag of this wire type, and its length
 unfoldable pub body_at : ℕ → ℕ → List ℕ → Result (Content × ℕ) Reason
 body_at kind at bytes =
     if kind == 0 then (varint_at bytes >>= λ v. Ok (Number v.0, v.1))
@@ -58,7 +58,7 @@ body_at kind at bytes =
     else (if kind == 5 then (if nat_lt (length bytes) 4 then Err FixedCut else Ok (Four (take 4 bytes), 4))
     else (if nat_lt kind 5 then Err Group else Err WireType))))
 
--- the occurrence at the front of the bytes and its length, or the first reason why there is none
+-- the occurrence at the start of the bytes and its length, or the first reason why there is none
 unfoldable pub occurrence_at : ℕ → List ℕ → Result (Occurrence × ℕ) Reason
 occurrence_at place bytes =
     varint_at bytes >>= λ tag.
@@ -71,7 +71,7 @@ occurrence_at place bytes =
 abbrev pub Item : Type 0
 Item = Result Occurrence Fault
 
--- what follows once the front is judged
+-- the items of a message, from what its first occurrence is
 abbrev pub items_from : ℕ → Result (Occurrence × ℕ) Reason → (ℕ → List Item) → List Item
 items_from place (Ok front) more = Ok front.0 ∷ more (front.1 - 1)
 items_from place (Err reason) more = Err (record { offset = place; reason = reason }) ∷ []
@@ -102,7 +102,7 @@ abbrev pub EndsWith : ℕ → List ℕ → Option Fault → Type 0
 EndsWith place left None = left ≡ []
 EndsWith place left (Some f) = (f.offset ≡ place) × (occurrence_at place left ≡ Err f.reason) × ((o : Occurrence) (s rest : List ℕ) → left ≡ s ++ rest → o.place ≡ place → IsSpelled o s → ⊥)
 
--- a longest front of the message that its occurrences spell, and what is left of it
+-- the occurrences spell a prefix of the message, and no longer prefix is spelled; what is left of it
 pub record IsCutting (at : ℕ) (m : List ℕ) (os : List Occurrence) (fault : Option Fault) : Type 0 where
   pub front : List ℕ
   pub left : List ℕ
@@ -119,6 +119,6 @@ unplaced (Eight bytes) = Eight bytes
 unplaced (Four bytes) = Four bytes
 unplaced (Bytes bytes at) = Bytes bytes 0
 
--- the occurrence as if it and its bytes stood at the file's beginning
+-- the occurrence with 0 for its offset and for that of its bytes
 abbrev pub without_places : Occurrence → Occurrence
 without_places o = record { place = 0; number = o.number; content = unplaced o.content }

@@ -178,7 +178,7 @@ impl<'a> Iterator for Column<'a> {
             × (place_of self.new ≡ place_of self.old))
             (λ value. column_left self.old ≡ (value, place_of self.new) ∷ column_left self.new) }
     {
-        // Most numbers stand in the packed occurrence that was begun, and after it there is mostly nothing.
+        // Most numbers are in the packed occurrence that was begun, and mostly nothing follows it.
         if let Some(value) = self.advance_packed() {
             return Some(value);
         }

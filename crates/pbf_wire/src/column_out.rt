@@ -7,7 +7,7 @@ use crate::varint::put_varint;
 use std::alloc::{AllocError, Global};
 use std::marker::Model;
 
-/// A packed column, encoded as it is pushed to: it holds bytes alone. Contracts see it as the list of its numbers.
+/// A packed column that encodes each number as it is pushed, and holds only the bytes. Contracts see it as the list of its numbers.
 #[derive(Drop)]
 pub struct ColumnOut {
     bytes: Vec<u8>,

@@ -1,8 +1,8 @@
 //! The protobuf wire encoding, read and written: varints, fields, columns, running sums. It knows nothing of OpenStreetMap,
 //! but for the list of reasons for which a file is refused.
 //!
-//! Two words say where in a file: `at`, where the first byte of a message or of a field's bytes stands, and `place`, where the
-//! first byte of a field's tag stands. Faults are told at places: a `Field`'s and a `Fault`'s `offset` is one.
+//! Two words name offsets in a file: `at` is that of the first byte of a message or of a field's bytes, and `place` that of the
+//! first byte of a field's tag. Faults are reported at places: the `offset` of a `Field` and of a `Fault` is one.
 #![tactic(auto)]
 
 mod column;

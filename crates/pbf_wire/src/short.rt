@@ -12,7 +12,7 @@ use crate::count::{count_ends, end_mask};
 use crate::field::Payload;
 use crate::fields::Fields;
 
-/// How many bytes are looked at at once, of which all but the last four are judged: from these a varint may end further on.
+/// How many bytes are tested at once. A varint that begins in the last four of them may end after them, so only the others are judged.
 const WINDOW: usize = 64;
 
 /// Fields of at most so many bytes have no more than 2^26 numbers in a column. If no entry is further than 2^34 from 0, their
