@@ -7,7 +7,7 @@ use pbf_wire::{Fault, ReadFault, Reason, put_bytes};
 use std::alloc::{AllocError, Global};
 use std::test::Fail;
 
-/// Where the payload of these tests stands in its file: after a header's frame of 19 bytes, and 17 bytes of its own frame.
+/// The offset of the payload of these tests in its file: after a header's frame of 19 bytes, and 17 bytes of its own frame.
 const PLACE: u64 = 36;
 
 /// Whether this is way 7 over the nodes 1 and 3, with one tag.

@@ -23,7 +23,7 @@ const THREE_NODES: [u8; 15] = *b"\x0a\x03\x14\x02\x08\x42\x03\x02\x03\x04\x4a\x0
 
 const THREE_PLACES: [(i64, i64, i64); 3] = [(10, 1, 1), (11, -1, 1), (15, 1, 1)];
 
-/// Where the field of a dense message stands in the file of these tests, and the first byte of the message.
+/// The offsets, in the file of these tests, of the field of a dense message and of the first byte of the message.
 const TAG: u64 = 62;
 
 const AT: u64 = 64;
@@ -327,7 +327,7 @@ fn faults_of_structure(rt: HostRuntime) {
 fn faults_of_values(rt: HostRuntime) {
     let table = table_of(&rt, rt.alloc(), &FOUR_TEXTS);
     for (message, fault) in [
-        // an id of 2^62, alone and as a sum, a latitude in the second occurrence, a longitude
+        // an id of 2^62, by itself and as a sum, a latitude in the second occurrence, a longitude
         (
             b"\x0a\x0a\x80\x80\x80\x80\x80\x80\x80\x80\x80\x01\x42\x01\x02\x4a\x01\x02".as_slice(),
             at(64, Reason::OutOfRange),
@@ -393,12 +393,12 @@ fn faults_of_values(rt: HostRuntime) {
     }
 }
 
-/// Whether this is the first fault of this phase alone.
+/// Whether this is the first fault of this one phase.
 fn finds(message: &[u8], phase: Phase, table: &Table<'_>, fault: Option<Fault>) -> bool {
     message.len() < 1 << 20 && Dense::judge(message, AT, TAG, phase, table).err() == fault
 }
 
-/// Whether no node is read, where nothing is judged.
+/// Whether no node is read, if nothing is judged.
 fn gives_nothing(message: &[u8], table: &Table<'_>) -> bool {
     if message.len() >= 1 << 20 {
         return false;

@@ -202,7 +202,7 @@ fn begun(alloc: Global, sink: Sink) -> (Result<(), Stop>, Packing) {
     (packer.put_header(&header), packer)
 }
 
-/// After a stop each later call answers the same.
+/// After a stop each later call returns the same.
 fn stays(rt: &impl Abort, before: Result<(), Stop>, next: Result<(), Stop>) {
     if before.is_err() {
         assert_eq!(rt; next, before);
@@ -321,7 +321,7 @@ fn node_and_way_with_a_text_in_common(rt: HostRuntime) -> Result<(), Fail> {
     )
 }
 
-/// The second has a version, so that no two of them stand in one block.
+/// The second has a version, so that no two of them share a block.
 #[test]
 fn three_nodes_of_which_the_second_has_a_version(rt: HostRuntime) -> Result<(), Fail> {
     let second = Sketch {
