@@ -1,4 +1,4 @@
-//! One pass of SHA-256 over standard input, which is what the times of docs/PERFORMANCE.md are told beside. It prints the digest.
+//! One pass of SHA-256 over standard input, with which docs/PERFORMANCE.md compares its times. It prints the digest.
 #![tactic(auto)]
 
 use sha2::{Digest, Sha256};
