@@ -241,7 +241,7 @@ fn way_sums<'a>(number: u64) -> Sums<'a> {
     Sums::new(way_column(number), 1 << 62)
 }
 
-/// A way whose refs, latitudes and longitudes stand in these fields of [`WAY`].
+/// A way whose refs, latitudes and longitudes are in these fields of [`WAY`].
 fn way_in<'a>(table: &'a Table<'a>, refs: u64, lats: u64, lons: u64) -> WayRef<'a> {
     let tags = Tags::Paired(PairedTags::new(way_column(2), way_column(3), table));
     let places = Locations::Summed(SummedLocations::new(way_sums(lats), way_sums(lons)));
@@ -298,7 +298,7 @@ fn a_way_with_locations(rt: HostRuntime) -> Result<(), Fail> {
     Ok(())
 }
 
-/// A way fits without locations, and not with locations alone.
+/// A way without locations fits, and one with only locations does not.
 #[test]
 fn a_way_without_locations(rt: HostRuntime) {
     let table = four_texts(&rt, rt.alloc());

@@ -1,6 +1,6 @@
 //! What no clause says: that the calls succeed, and how many bytes known sets take.
 //!
-//! Sets are held by functions that answer a `bool`: a test that holds one while it asserts takes far longer to prove.
+//! Sets are held by functions that return a `bool`: a test that holds one while it asserts takes far longer to prove.
 
 use osm_ids::{IdSet, Links, SealedIds};
 use std::alloc::{AllocError, Global};

@@ -317,7 +317,7 @@ fn extracts_first(
     Ok((in_order, keeps(alloc, &chosen, ways, &[], ids)?))
 }
 
-/// The same with all parents, where node 1 alone is in the box.
+/// The same with all parents, if only node 1 is in the box.
 fn keeps_with_parents(
     alloc: Global,
     chosen: &ChosenParents,
