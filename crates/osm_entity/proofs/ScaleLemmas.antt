@@ -38,6 +38,6 @@ total_kept a x s p as_a small =
     let both : nat_abs (a +ℤ s) ≤ 2 ^ 95 = omega (arith, ints) in
     rw (widened a x p as_a, kept a one, kept s other, kept (a +ℤ s) both) refl
 
--- a product, told of the numbers that were passed
+-- a product, as one of the numbers that were passed
 pub product_told : (a b r : ℤ) → FitsSigned w32 a → FitsSigned w64 b → r ≡ to_z w32 (of_z w32 a) *ℤ to_z w64 (of_z w64 b) → r ≡ a *ℤ b
 product_told a b r p q e = e ∙ rw (to_z-of_z p, to_z-of_z q) refl
