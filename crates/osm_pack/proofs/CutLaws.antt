@@ -29,7 +29,7 @@ extra_kept (suc most) e es h =
     elim (is_block (e ∷ take (suc most) es)) as (λ b. is_block (e ∷ take (suc most) es) ≡ b → is_block (e ∷ take (cond b (suc most) (extra most e es)) es) ≡ true)
     [ true ↦ λ k. k | false ↦ λ _. extra_kept most e es h ] refl
 
--- no longer front may stand in a block
+-- no longer prefix may be a block
 pub extra_longest : (most : ℕ) (e : EntitySpec) (es : List EntitySpec) (n : ℕ) → n ≤ most → is_block (e ∷ take n es) ≡ true → n ≤ extra most e es
 extra_longest zero e es n h k = omega arith
 extra_longest (suc most) e es n h k =
@@ -86,7 +86,7 @@ pub cuts_longest : (es : List EntitySpec) → AreLongest (cuts es)
 unfolding cuts
 cuts_longest es = longest_from (length es) es
 
--- what is left of what may stand in a block, without its last ones
+-- entities that may share a block, without the last ones
 pub front_kept : (xs ys : List EntitySpec) → is_block (xs ++ ys) ≡ true → is_block xs ≡ true
 front_kept [] ys h = kept_none
 front_kept (x ∷ xs) ys h = kept_left x xs ys h

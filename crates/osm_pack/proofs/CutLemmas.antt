@@ -48,7 +48,7 @@ kept_from e es h =
     let weight : leb (sum_by entity_weight (e ∷ es)) HIGHEST_WEIGHT ≡ true = le-leb _ _ (omega (arith, h.weight, sum_by-cons entity_weight e es)) in
     rw (h.kinds, count, weight) refl
 
--- a front of what may stand in a block may stand in one
+-- a prefix of what may be a block may be one
 pub kept_left : (e : EntitySpec) (xs ys : List EntitySpec) → is_block (e ∷ (xs ++ ys)) ≡ true → is_block (e ∷ xs) ≡ true
 kept_left e xs ys h =
     let k = kept_parts e (xs ++ ys) h in
@@ -63,7 +63,7 @@ kept_front e es m n h k =
     let split : take m (take n es) ++ drop m (take n es) ≡ take n es = take-append-drop m (take n es) in
     subst (λ xs. is_block (e ∷ xs) ≡ true) (take-take m n es h) (kept_left e (take m (take n es)) (drop m (take n es)) (subst (λ xs. is_block (e ∷ xs) ≡ true) (sym split) k))
 
--- the longest front
+-- the longest prefix
 pub extra_is : (most k : ℕ) (e : EntitySpec) (es : List EntitySpec) → k ≤ most → is_block (e ∷ take k es) ≡ true → ((n : ℕ) → k < n → n ≤ most → is_block (e ∷ take n es) ≡ false) → extra most e es ≡ k
 extra_is zero k e es h keep ends = omega arith
 extra_is (suc most) k e es h keep ends =
@@ -182,7 +182,7 @@ pub end_keeps : (es : List EntitySpec) → is_block es ≡ true → at_end es �
 end_keeps [] h = sym bytes_none
 end_keeps (e ∷ es) h = sym (bytes_last e es h)
 
--- what is pending may stand in one block
+-- what is pending may share one block
 pub pending_kept : (es : List EntitySpec) (e : EntitySpec) → is_block (e ∷ []) ≡ true → is_block (then_pending es e) ≡ true
 pending_kept es e k = by (is_block (es ++ e ∷ [])) refl
   where

@@ -150,7 +150,7 @@ like_relation r (node m ∷ es) h = absurd (true≢false (sym h))
 like_relation r (way v ∷ es) h = absurd (true≢false (sym h))
 like_relation r (relation q ∷ es) h = like_relation r es (both (are_alike (relation r) (relation q)) (list_all (are_alike (relation r)) es) h).1
 
--- a block has nodes alone, or none
+-- a block has only nodes, or none
 pub nodes_or_others : (es : List EntitySpec) → is_block es ≡ true → (nodes_among es ≡ []) ⊎ ((ways_among es ≡ []) × (relations_among es ≡ []))
 nodes_or_others [] h = inl refl
 nodes_or_others (node n ∷ es) h = inr (like_node n es (kept_parts (node n) es h).kinds)
@@ -221,7 +221,7 @@ light (node n) h = h.light
 light (way w) h = h.light
 light (relation r) h = h.light
 
--- an entity that fits may stand alone
+-- an entity that fits may be a block by itself
 pub alone : (e : EntitySpec) → EntityFits e → is_block (e ∷ []) ≡ true
 alone e h = kept_one e (light e h)
 

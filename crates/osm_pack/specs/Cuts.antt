@@ -15,7 +15,7 @@ abbrev pub extra : ℕ → EntitySpec → List EntitySpec → ℕ
 extra zero e es = zero
 extra (suc most) e es = if is_block (e ∷ take (suc most) es) then suc most else extra most e es
 
--- each block is the longest front of what is left that may stand in one block; at most `most` blocks
+-- each block is the longest prefix of what is left that may be one block; at most `most` blocks
 abbrev pub cuts_at_most : ℕ → List EntitySpec → List (List EntitySpec)
 cuts_at_most zero es = []
 cuts_at_most (suc most) [] = []
@@ -31,7 +31,7 @@ AreLongest [] = Unit {0}
 AreLongest (block ∷ []) = Unit {0}
 AreLongest (block ∷ next ∷ more) = (is_block (block ++ take 1 next) ≡ false) × AreLongest (next ∷ more)
 
--- there are entities in it, and they may stand in one block
+-- there are entities in it, and they may share one block
 abbrev pub MayStand : List EntitySpec → Type 0
 MayStand block = (block ≡ [] → ⊥) × (is_block block ≡ true)
 

@@ -16,8 +16,8 @@ abbrev pub likeness_among : List EntitySpec → Option Likeness
 likeness_among [] = None
 likeness_among (e ∷ es) = Some (likeness_of e)
 
--- its fields are those of these entities, which may stand in one block, whatever texts are used later; of none of them does
--- anything stay in the writer
+-- its fields are those of these entities, which may share one block, whatever texts are used later; nothing of any of them
+-- stays in the writer
 pub record Holds {S H : Type 0} (b : OpenBlock S H) (es : List EntitySpec) : Type 0 where
   pub block : is_block es ≡ true
   pub likeness : b.likeness ≡ likeness_among es

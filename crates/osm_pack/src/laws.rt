@@ -18,8 +18,8 @@ pub fn cuts_are_blocks()
         → AllByRecursion (λ block. is_block block ≡ true) (cuts es) }
 {}
 
-/// Each block is as long as may be: it ends only where the next entity may not join it. Since a front of what may stand in a
-/// block may stand in one, no two neighbours could have been one block. And no other list of blocks is so.
+/// Each block is as long as may be: it ends only where the next entity may not join it. A prefix of what may be a block may be one
+/// too, so no two neighbours could have been one block. And no other list of blocks is so.
 pub fn cuts_are_longest()
     ensures longest { (es : List EntitySpec) → AreLongest (cuts es) }
     ensures fronts { (xs ys : List EntitySpec) → is_block (xs ++ ys) ≡ true → is_block xs ≡ true }

@@ -104,8 +104,8 @@ impl<S: BuildHasher> OpenBlock<S> {
         }
     }
 
-    /// Whether one more entity of this weight may stand in the block. The weight is the caller's, as it takes going through all of
-    /// an entity's texts and lists.
+    /// Whether one more entity of this weight may join the block. The caller passes the weight, because to find it means to go through
+    /// all of an entity's texts and lists.
     pub(crate) fn takes(&self, entity: &EntityRef<'_>, weight: u64) -> bool
         requires weighs { weight ≡ entity_weight (entity_of entity.now) }
         ensures { (es : List EntitySpec) → Holds self.now es

@@ -126,8 +126,8 @@ impl<D: Drain, S: BuildHasher> Packer<D, S> {
         outcome
     }
 
-    /// Adds an entity after the others: to those that wait, or, if their block has no room for it, it waits alone, and
-    /// they are written. The caller sees that the entity fits, and that a header was put.
+    /// Adds an entity after the others: to those that wait, or, if their block has no room for it, they are written and it
+    /// waits by itself. The caller sees that the entity fits, and that a header was put.
     ///
     /// After a stop nothing went out, or a prefix of the block that was to be written, and the packer is spent.
     #[tactic(auto, using(crate::proofs::OpenLemmas::exact))]
