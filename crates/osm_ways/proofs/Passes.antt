@@ -155,7 +155,7 @@ links-relation_pass sets (a_relation own members ∷ seen) l =
 pub none_kept : ◌≡◌ {A = ℤ → Bool} (set.contains {R = int_cmp} set.empty) no_ids
 none_kept = λ i x. set.contains-empty int_cmp x i
 
--- ---- the passes over the whole list
+-- ---- the passes, each over the whole list
 
 module _ (seen : List Seen) where
   after_nodes : set.contains (node_pass seen) ≡ box_ids seen

@@ -7,7 +7,7 @@ use Rattle.osm_box.specs.declared.bounding_box.BoundingBox.{BoundingBox}
 use Rattle.osm_ways.specs.Selection.{Seen, a_node, a_way, a_relation}
 use Rattle.osm_ways.specs.Phases.{Ids, WaySets, NodeSets, node_sets_code, way_sets_code, start_ways, node_step, way_step}
 
--- the box; whether a way was met; whether no node came behind one; and the sets, if one did those of the nodes alone
+-- the box; whether there was a way; whether no node came after one; and the sets, which are only those of the nodes if one did
 pub record FirstSets : Type 0 where
   pub area : BoundingBox
   pub has_ways : Bool

@@ -1,4 +1,4 @@
--- The passes over a list, each entity by itself, and the sets that they gather.
+-- What the passes do with each entity of a list, and the sets that they gather.
 use Rattle.std.specs.Prelude.{ℤ, Bool, if◌then◌else◌, List, refl, Option, Some, None}
 use Rattle.std.specs.Coded.{Coded, code_by, coded×, coded_ℤ}
 use Rattle.std.specs.List.{fold}

@@ -16,7 +16,7 @@ seen_node area n = a_node n.id (is_inside area (nano_lat n.scale n.lat) (nano_lo
 abbrev pub seen_way : WaySpec → Seen
 seen_way w = a_way w.id w.refs
 
--- by its id and its refs alone
+-- by only its id and its refs
 abbrev pub seen_refs : SeenWay → Seen
 seen_refs w = a_way w.id (refs_left w.refs)
 

@@ -13,8 +13,8 @@ use osm_ids::IdSet;
 use std::alloc::{AllocError, Global};
 use std::marker::Model;
 
-/// The first phase of a file whose ways mostly follow its nodes: it takes nodes, and ways as long as no node comes behind one. From
-/// then on it takes nodes alone, and the ways need a phase of their own.
+/// The first phase of a file whose ways mostly follow its nodes: it takes nodes, and ways as long as no node comes after one. From
+/// then on it takes only nodes, and the ways need a phase of their own.
 #[derive(Drop)]
 pub struct FirstPhase {
     area: BoundingBox,

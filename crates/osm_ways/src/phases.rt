@@ -171,7 +171,7 @@ impl WayPhase {
     }
 }
 
-/// The sealed set, or the refusal alone.
+/// The sealed set, or only the refusal.
 pub(crate) fn sealed(ids: IdSet) -> Result<SealedIds, AllocError>
     ensures { IfOk result (λ sealed. sealed ≡ ids) }
 {
