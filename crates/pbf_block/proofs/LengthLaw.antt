@@ -229,7 +229,7 @@ block_short es =
       parts_room texts es,
     )
 
--- entities that may stand in one block are written as a block that a frame may have
+-- entities that may share one block are written as a block that a frame may have
 pub block_fits : (es : List EntitySpec) → is_block es ≡ true → length (block_message es) < 33554432
 unfolding is_block
 block_fits es h =

@@ -1,4 +1,4 @@
--- What is known of the fields of a payload's groups, and of the messages in them: of each alone, and of what all of them give. Where a
+-- What is known of the fields of a payload's groups, and of the messages in them: of each by itself, and of all together. If a
 -- payload has no fault of the wire form, of structure and of values, none of them has one.
 use Rattle.std.proofs.Common.{◌≡◌, ◌==◌, ℕ, Bool, true, false, cond, eqb, List, [], ◌∷◌, ◌++◌, refl, ap, ap₂, sym, ◌∙◌, arith}
 use Rattle.std.specs.Prelude.{if◌then◌else◌, Option}

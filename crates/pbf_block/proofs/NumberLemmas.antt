@@ -30,7 +30,7 @@ counts_more c xs ys = same_counts (counted_with (counted_with c (counts_of xs)) 
 pub counts_nothing : (c d : Counts) → counted_with (counted_with c d) (counts_of []) ≡ counted_with c d
 counts_nothing c d = same_counts (counted_with (counted_with c d) (counts_of [])) (counted_with c d) (omega arith) (omega arith) (omega arith)
 
--- nodes alone
+-- only nodes
 node_numbers : (ns : List NodeSpec) → (sum_by nodes_of (map node ns) ≡ length ns) × (sum_by ways_of (map node ns) ≡ 0) × (sum_by relations_of (map node ns) ≡ 0)
 node_numbers [] = (omega arith, omega arith, omega arith)
 node_numbers (n ∷ ns) =

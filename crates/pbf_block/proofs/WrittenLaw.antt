@@ -1,4 +1,4 @@
--- Entities that may stand in one block are written as a block that has no fault and holds them.
+-- Entities that may share one block are written as a block that has no fault and holds them.
 use Rattle.pbf_wire.proofs.QuietLemmas.{unless_below}
 use Rattle.std.proofs.Common.{◌≡◌, ℕ, ◌*◌, ◌^◌, ◌<◌, ◌≤◌, ◌&&◌, ℤ, Bool, true, false, List, [], ◌∷◌, ◌++◌, length, length-append, map, None, refl, sym, ap, subst, arith, true≢false}
 use Rattle.std.specs.Prelude.{nat_le}

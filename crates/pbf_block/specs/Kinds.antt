@@ -1,4 +1,4 @@
--- The entities of some kinds alone.
+-- Only the entities of some kinds.
 use Rattle.std.specs.Prelude.{ℕ, ◌==◌, Bool, false, List, [], if◌then◌else◌}
 use Rattle.std.specs.List.{flat_map}
 use Rattle.pbf_wire.specs.Faults.{entered, fields_in}

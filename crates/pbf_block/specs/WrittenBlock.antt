@@ -1,4 +1,4 @@
--- A PrimitiveBlock as it is written, and the entities that may stand in one.
+-- A PrimitiveBlock as it is written, and the entities that may share one.
 use Rattle.std.specs.Prelude.{ℕ, ℤ, Bool, true, false, ◌&&◌, not, nat_le, if◌then◌else◌, List, [], ◌∷◌, ◌++◌, length, map, Option, Some, None}
 use Rattle.std.specs.List.{flat_map, list_all, sum_by}
 use Rattle.std.specs.Option.{is_some}
@@ -18,7 +18,7 @@ use Rattle.osm_entity.specs.declared.weight.TheConstants.{HIGHEST_WEIGHT}
 use Rattle.pbf_block.specs.declared.block_write.TheConstants.{MOST_ENTITIES}
 use Rattle.pbf_block.specs.declared.scale.TheConstants.{DEFAULT_SCALE}
 
--- ---- what may stand in one block
+-- ---- what may share one block
 
 abbrev pub same_scale : Scale → Scale → Bool
 same_scale s t =
@@ -36,7 +36,7 @@ same_fields m n =
     && both (is_some m.changeset) (is_some n.changeset) && both (is_some m.uid) (is_some n.uid)
     && both (is_some m.user) (is_some n.user) && both (is_some m.visible) (is_some n.visible)
 
--- two entities are of one kind and one scale; and nodes, which stand in columns, have the same fields of metadata
+-- two entities are of one kind and one scale; and nodes, which are in columns, have the same fields of metadata
 abbrev pub are_alike : EntitySpec → EntitySpec → Bool
 are_alike (node m) (node n) = same_scale m.scale n.scale && same_fields m.meta n.meta
 are_alike (way v) (way w) = same_scale v.scale w.scale
@@ -48,7 +48,7 @@ abbrev pub all_alike : List EntitySpec → Bool
 all_alike [] = true
 all_alike (e ∷ es) = list_all (are_alike e) es
 
--- they may stand in one block: they are alike, not too many, and together no heavier than one entity may be
+-- they may share one block: they are alike, not too many, and together no heavier than one entity may be
 unfoldable pub is_block : List EntitySpec → Bool
 is_block es = all_alike es && (nat_le (length es) MOST_ENTITIES && nat_le (sum_by entity_weight es) HIGHEST_WEIGHT)
 
@@ -82,7 +82,7 @@ group_slots texts es =
 unfoldable pub group_message : List (List ℕ) → List EntitySpec → List ℕ
 group_message texts es = message (group_slots texts es)
 
--- the fields of ways and relations alone
+-- only the fields of ways and relations
 abbrev pub messages_among : List (List ℕ) → List EntitySpec → List ℕ
 messages_among texts es =
     slot_bytes (Each WAYS (map (way_message texts) (ways_among es))) ++ slot_bytes (Each RELATIONS (map (relation_message texts) (relations_among es)))
@@ -111,6 +111,6 @@ scale_among (e ∷ es) = entity_scale e
 abbrev pub texts_of_all : List EntitySpec → List (List ℕ)
 texts_of_all es = texts_after [] (flat_map entity_texts es)
 
--- the PrimitiveBlock of entities that may stand in one block
+-- the PrimitiveBlock of entities that may share one block
 unfoldable pub block_message : List EntitySpec → List ℕ
 block_message es = message (block_slots (scale_among es) (texts_of_all es) (group_message (texts_of_all es) es))

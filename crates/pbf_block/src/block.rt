@@ -99,11 +99,11 @@ impl<'a> Model for Block<'a> {
 }
 
 impl<'a> Block<'a> {
-    /// Judges and reads a PrimitiveBlock whose first byte stands at `at` in the file.
+    /// Judges and reads a PrimitiveBlock whose first byte is at `at` in the file.
     ///
-    /// Refuses its first fault: the least of the first phase that has one, the phases being the wire form, the structure, the
-    /// values and the weights, each over the whole payload and all messages in it. Memory is asked for the places of the
-    /// table's texts alone, once the first two phases are passed; if it is refused no later fault is reported.
+    /// Refuses its first fault: the least of the first phase that has one. The phases are the wire form, the structure, the
+    /// values and the weights, each over the whole payload and all messages in it. Memory is requested only for the places of the
+    /// table's texts, once the first two phases are passed; if it is refused, no later fault is reported.
     pub fn read(alloc: Global, payload: &'a [u8], at: u64) -> Result<Block<'a>, ReadFault>
         requires placed { at + length payload.now ≤ 2 ^ 63 }
         requires short { length payload.now < 33554432 }

@@ -1,5 +1,5 @@
-//! What a Node, a Way and a Relation have alike: fields, and rules phase by phase. Each phase finds what it asks for in one pass over
-//! the message, together with what it asks of the fields that the kind has of its own.
+//! What a Node, a Way and a Relation have in common: fields, and rules phase by phase. Each phase finds the fields that it judges in
+//! one pass over the message, together with those that the kind has of its own.
 
 ghost use Rattle.std.specs.Prelude.{◌≡◌, ◌+◌, ℕ, List};
 ghost use Rattle.pbf_wire.specs.Faults.{twice, found_in};
@@ -35,7 +35,7 @@ pub(crate) struct EntityCounts {
 }
 
 /// The counts of a message: of what all entities have, and of the numbers in the three columns that its kind has of its own. No
-/// packed payload is decoded. It is part of what judges a kind, so that the answer is not moved.
+/// packed payload is decoded. It is inlined into what judges a kind, so that the result is not copied.
 #[inline(always)]
 pub(crate) fn entity_counts<const FIRST: u64, const SECOND: u64, const THIRD: u64>(
     message: Message<'_>,
@@ -110,7 +110,7 @@ pub(crate) struct EntityValues {
 
 /// The values of a message whose texts are named in a table of `limit` texts: what is judged of all entities, and the fields of
 /// the three numbers that its kind has of its own, which are judged after it. These begin at the first of their number, so that
-/// an absent column takes no pass. It is part of what judges a kind, so that the answer is not moved.
+/// an absent column takes no pass. It is inlined into what judges a kind, so that the result is not copied.
 #[inline(always)]
 #[tactic(auto, using(crate::proofs::Parts::least_more, crate::proofs::Parts::lesser_nothing, crate::proofs::ValueLemmas::texts_are))]
 pub(crate) fn entity_values<const FIRST: u64, const SECOND: u64, const THIRD: u64>(

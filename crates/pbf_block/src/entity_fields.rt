@@ -22,7 +22,7 @@ use pbf_strings::Table;
 use pbf_wire::{Column, Field, Fields, Message, Sums, low_i64, unzigzag};
 
 /// Where the fields are that all entities have. Those of a column begin at the first of its number, so that a column over them
-/// passes over no field before its own.
+/// skips no field before its own.
 #[derive(Clone, Copy)]
 pub(crate) struct EntityFields<'a> {
     id: Option<(u64, u64)>,

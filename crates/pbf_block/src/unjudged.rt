@@ -56,10 +56,10 @@ impl<'a> UnjudgedBlock<'a> {
         }
     }
 
-    /// Opens a PrimitiveBlock whose first byte stands at `at` in the file. Nothing is judged but what memory hangs on: `None` where
+    /// Opens a PrimitiveBlock whose first byte is at `at` in the file. Nothing is judged but what memory depends on: `None` if
     /// the string table has more texts than it may have.
     ///
-    /// Memory is asked for the places of the table's texts alone.
+    /// Memory is requested only for the places of the table's texts.
     pub fn open(
         alloc: Global,
         payload: &'a [u8],

@@ -22,7 +22,7 @@ scale_put : (scale : Scale) (texts : List (List ℕ)) (group old all : List ℕ)
     → all ≡ old ++ message (block_slots scale texts group)
 scale_put scale texts group old all g d a o p q r s h = rw (sym p, sym q, sym r, sym s) h
 
--- the same slot, where the default is told in another way
+-- the same slot, if the default is named in another way
 same_default : (k : ℕ) (old out : List ℕ) (default other v : ℤ) → default ≡ other → out ≡ old ++ slot_bytes (Scalar k (unless_default default v)) → out ≡ old ++ slot_bytes (Scalar k (unless_default other v))
 same_default k old out default other v p h = subst (λ (d : ℤ). out ≡ old ++ slot_bytes (Scalar k (unless_default d v))) p h
 
