@@ -84,13 +84,13 @@ pub record Scales : Type 0 where
       scaled (hex "88 01 e8 07" ++ hex "98 01 ff ff ff ff ff ff ff ff ff 01"
       ++ hex "a0 01 ff ff ff ff ff ff ff ff ff 01")
       means node (pos 1) (pos 999) (pos 999) [] ∷ []
-  -- in front of the table and of the groups
+  -- before the table and the groups
   pub in_front :
       with_block (hex "a0 01 07  88 01 e8 07" ++ one_text ++ dense_1)
       means node (pos 1) (pos 1000) (pos 1007) [] ∷ []
   -- an int32 is the low 32 bits: 2^32 + 100
   pub high_bits : scaled (hex "88 01 e4 80 80 80 10") means one
-  -- the last counts, and it alone is judged
+  -- the last counts, and only the last is judged
   pub twice : scaled (hex "88 01 00  88 01 07") means node (pos 1) (pos 7) (pos 7) [] ∷ []
 
 pub record ScaleFaults : Type 0 where
@@ -132,7 +132,7 @@ pub record FirstFault : Type 0 where
   -- a granularity of 0, and a group with changesets behind it
   pub structure_first :
       with_block (one_text ++ hex "88 01 00" ++ hex "12 02 2a 00") refused_at 45 for Changesets
-  -- a block with changesets, and a byte behind it; `blobs`, which looks at frames alone, lists the
+  -- a block with changesets, and a byte after it; `blobs`, which reads only frames, lists the
   -- block
   pub frame_by_frame :
       with_block (one_text ++ hex "12 02  2a 00") ++ 0 ∷ [] refused_at 42 for Changesets

@@ -144,7 +144,7 @@ pub record WayExtracts : Type 0 where
   pub located :
       header ++ located_frame ++ nodes_frame
       cut_by box gives written_header ++ located_frame ++ nodes_frame
-  -- a way through node 2 alone, which is outside
+  -- a way through only node 2, which is outside
   pub outside :
       header ++ data_frame (one_text ++ field "12" way_6) ++ nodes_frame
       cut_by box gives written_header ++ node_1

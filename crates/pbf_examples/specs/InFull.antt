@@ -46,7 +46,7 @@ odd_relation =
     hex "52 06 02 81 80 80 80 10  42 01 03  08 0c  4a 02 3c 31  50 00"
     ++ hex "42 06 00 84 80 80 80 10  48 04"
 
--- a group in front of the table, one without a field, and the scale between them; the granularity
+-- a group before the table, one without a field, and the scale between them; the granularity
 -- comes twice, and is 2^32 + 250 at last. The payload has 250 bytes, and its blob 253: fa 01, fd 01
 abbrev pub odd_block : List ℕ
 odd_block =

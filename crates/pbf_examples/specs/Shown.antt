@@ -1,6 +1,6 @@
 -- What is printed. `show` writes a line for each entity: its kind and id, a node's place in
--- nanodegrees, metadata, tags, refs, members. A text stands in quotes, and bytes that have no
--- form in it as `\x` and two digits.
+-- nanodegrees, metadata, tags, refs, members. A text is printed in quotes, and a byte that has no
+-- other form in it as `\x` and two digits.
 use Rattle.std.specs.Prelude.{ℕ, List, [], ◌∷◌, ◌++◌}
 use Rattle.pbf_examples.specs.Hex.{hex}
 use Rattle.pbf_examples.specs.Reading.{◌shows◌, ◌shows_dated◌}

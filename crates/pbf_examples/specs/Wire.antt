@@ -126,7 +126,7 @@ pub record WireFaults : Type 0 where
 -- refused
 
 -- fields of these tags, of a byte each, with eight bytes, which no known field has; and the same of
--- tags that end in one more byte
+-- tags of one more byte
 abbrev pub eight : String → List (List ℕ)
 eight tags = map (λ tag. tag ∷ replicate 8 0) (hex tags)
 
