@@ -26,7 +26,7 @@ append_more before now after bytes n m e f =
 pub prepend_more : (before now after : Option (List ℕ)) (xs ys : List ℕ) → before ≡ prepend xs now → now ≡ prepend ys after → before ≡ prepend (xs ++ ys) after
 prepend_more before now after xs ys e f = e ∙ ap (prepend xs) f ∙ prepend_prepend after xs ys
 
--- the front of a buffer that was read into from a on
+-- the filled prefix of a buffer that was read into from a on
 pub take_read : (a m : ℕ) (xs ys : List ℕ) → a ≤ length xs → length ys ≡ length xs - a → m ≤ length ys → take (a + m) (put_mid a (length xs - a) xs ys) ≡ take a xs ++ take m ys
 take_read a m xs ys low len within =
     let front : length (take a xs) ≡ a = length-take-le a xs low in

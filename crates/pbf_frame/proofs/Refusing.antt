@@ -40,7 +40,7 @@ refuses_more first then before mid now old between new read told passed step ref
   faulty (inl always) = inl (λ rest. subst first (sym (append_assoc read refuses.read rest)) (step (refuses.read ++ rest) (always rest)))
   faulty (inr (ended, is)) = inr (ended, step refuses.read is)
 
--- judged otherwise, they are at fault too
+-- bytes that are faulty by one judgment are so by another that it implies
 pub faulty_as : (first then : List ℕ → Type 0) (read : List ℕ) (left : Option (List ℕ)) → ((bytes : List ℕ) → then bytes → first bytes) → (((rest : List ℕ) → then (read ++ rest)) ⊎ (IsAtEnd left × then read)) → (((rest : List ℕ) → first (read ++ rest)) ⊎ (IsAtEnd left × first read))
 faulty_as first then read left step (inl always) = inl (λ rest. step (read ++ rest) (always rest))
 faulty_as first then read left step (inr (ended, is)) = inr (ended, step read is)
@@ -53,7 +53,7 @@ refuses_as first then before now old new step refuses = record {
   faulty = faulty_as first then refuses.read new step refuses.faulty;
 }
 
--- where the feed tells its bytes, these are at fault
+-- if the feed reports its bytes, they are faulty
 pub refused_told : (at_fault : List ℕ → Type 0) (before now : ℕ → List ℕ → Type 0) (old new : Option (List ℕ)) (bytes : List ℕ) → Refuses at_fault before now old new → old ≡ Some bytes → at_fault bytes
 refused_told at_fault before now old new bytes refuses is = told new refuses.faulty (sym is ∙ refuses.told) where
   told : (left : Option (List ℕ)) → (((rest : List ℕ) → at_fault (refuses.read ++ rest)) ⊎ (IsAtEnd left × at_fault refuses.read)) → Some bytes ≡ prepend refuses.read left → at_fault bytes

@@ -11,7 +11,7 @@ gone_more first mid rest frames f gone e = gone ∙ ap (λ (v : Option Verdict).
   same None = refl
   same (Some verdict) = ap (λ (l : List FrameSpec). let v : Verdict = (l, verdict.1) in Some v) (sym (append_assoc frames (f ∷ []) verdict.0))
 
--- of known verdicts, what is done is a front of all
+-- of known verdicts, the frames that are done are a prefix of all
 pub gone_split : (first mid : Option Verdict) (fs : List FrameSpec) (all : Verdict) → Gone first fs mid → first ≡ Some all → (rest : Verdict) × (mid ≡ Some rest) × (all.0 ≡ fs ++ rest.0)
 gone_split first None fs all gone e = absurd (never first all gone e) where
   never : (v : Option Verdict) (all : Verdict) → v ≡ None → v ≡ Some all → ⊥

@@ -5,7 +5,7 @@ use Rattle.pbf_frame.specs.declared.stop.Stop.{Stop}
 use Rattle.pbf_frame.specs.declared.stop.Stop.TheVariants.{Refused, Read, Write, Memory, Changed}
 use Rattle.pbf_frame.specs.Devices.{prepend, Passes, IsAtEnd}
 
--- a feed gave bytes that are at fault: whatever follows them, or by themselves, where it was at its end
+-- a feed gave bytes that are faulty: whatever follows them, or by themselves if the feed was at its end
 pub record Refuses (at_fault : List ℕ → Type 0) (before now : ℕ → List ℕ → Type 0) (old new : Option (List ℕ)) : Type 0 where
   pub read : List ℕ
   pub told : old ≡ prepend read new

@@ -1,4 +1,4 @@
--- A frame in written form: a BlobHeader with its type and `datasize`, and a Blob with raw data alone.
+-- A frame in written form: a BlobHeader with its type and `datasize`, and a Blob with only raw data.
 use Rattle.std.specs.Prelude.{ℕ, List, [], ◌∷◌, length, Some, codes}
 use Rattle.byteorder.specs.Endian.{big_bytes}
 use Rattle.pbf_wire.specs.Message.{Scalar, Each, message}

@@ -20,7 +20,7 @@ pub struct Frame<'a> {
     /// Where in the file it begins.
     pub offset: u64,
     pub kind: FrameKind,
-    /// The type as it stands in the BlobHeader.
+    /// The type as it is in the BlobHeader.
     pub name: &'a [u8],
     /// `datasize`: the length of the blob, at most 33,555,455.
     pub size: u32,

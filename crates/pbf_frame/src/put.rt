@@ -95,8 +95,8 @@ pub fn put_head(room: &mut [u8], kind: FrameKind, payload: usize) -> usize
     put(room, end, &blob[..blob_end])
 }
 
-/// Writes the frame of a payload: a BlobHeader with its type and `datasize`, and a Blob with raw data alone. It takes no
-/// memory. After a stop a prefix of the frame went out.
+/// Writes the frame of a payload: a BlobHeader with its type and `datasize`, and a Blob with only raw data. It does
+/// not allocate. After a stop a prefix of the frame went out.
 pub fn put_frame<D: Drain>(drain: &mut D, kind: FrameKind, payload: &[u8]) -> Result<(), Stop>
     requires known { kind ≡ kinds.Other → ⊥ }
     requires short { length payload.now < RAW_LIMIT }
