@@ -39,7 +39,7 @@ header_of h = record {
   sequence = h.sequence;
 }
 
--- ---- as it stands in a message
+-- ---- as it is in a message
 
 -- the last number of the field k as an sint64, and 0 if there is none
 abbrev pub edge : ℕ → List Occurrence → ℤ
