@@ -29,7 +29,7 @@ module _ {S : Type 0} (gathered : S → EntitySpec → S) (kinds : Kinds) (ignor
   gathered_next s e es true h rest = rw h (rest (gathered s e))
   gathered_next s e es false h rest = rw h (rest s ∙ ap (λ (t : S). fold gathered t es) (sym (ignored s e h)))
 
-  -- gathering these alone gives what gathering all does
+  -- gathering only these gives what gathering all does
   pub gathered_among : (s : S) (es : List EntitySpec) → fold gathered s (filter (is_among kinds) es) ≡ fold gathered s es
   gathered_among s [] = refl
   gathered_among s (e ∷ es) = gathered_next s e es (is_among kinds e) refl (λ t. gathered_among t es)

@@ -29,7 +29,7 @@ pub limit_caused : (told : Judged) (h : Halt) → IsLimitRefused told h → Caus
 limit_caused told (halt.Refused r) limit = limit.0
 limit_caused told (halt.Stopped s) limit = absurd limit
 
--- ---- of a reader that halts; which feed it has is told by what it keeps of it
+-- ---- of a reader that halts, which keeps its feed
 
 pub halts_of : {F : Type 0} {f : feed.Ghosts F} (old new : F) (at_fault : Fault → List ℕ → Type 0) (refused : Refusal → Type 0) (count : ℕ) (digest : List ℕ) (s : Stop) → KeepsFeed f old new → RefusesRest f old new at_fault s
     → ((e : Fault) → RefusesRest f old new at_fault (stop.Refused e) → refused (record { fault = e; read = count; input = digest })) → Halts refused (halted s count digest)

@@ -22,7 +22,7 @@ sound_last (g ∷ fs) f sound = sound_last fs f sound.1
 
 -- ---- the verdict of all phases
 
--- on such frames it is that of frames alone
+-- on such frames it is the verdict of frames
 pub front_of_sound : (fs : List FrameSpec) (e : Option Fault) → AllByRecursion IsSound fs → sound_front fs e ≡ (fs, e)
 front_of_sound [] e sound = refl
 front_of_sound (f ∷ fs) e sound = ap (λ (o : Option Fault). sound_first o f (sound_front fs e)) sound.0 ∙ ap (with_first f) (front_of_sound fs e sound.1)

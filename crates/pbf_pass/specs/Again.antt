@@ -1,5 +1,5 @@
--- What a pass after the one that judged the file takes, and why it stops. It judges no payload, so what it takes is told of files without
--- a fault alone.
+-- What a pass after the one that judged the file takes, and why it stops. It judges no payload, so what it takes is stated only for
+-- files without a fault.
 use Rattle.std.specs.Prelude.{◌≡◌, ℕ, List, Option, Some, None}
 use Rattle.std.specs.List.{fold}
 use Rattle.osm_entity.specs.Entity.{EntitySpec}

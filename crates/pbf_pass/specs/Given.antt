@@ -8,7 +8,7 @@ use Rattle.pbf_frame.specs.Next.{place_of, had_header_of}
 use Rattle.pbf_frame.specs.Transfers.{Added, Supplied}
 use Rattle.pbf_frame.specs.Verdict.{Verdict, judged_known}
 
--- the verdict of frames alone on bytes that begin where a reader stands
+-- the verdict of frames on bytes that begin at a reader's place
 abbrev pub judged_from : {F : Type 0} → FrameReader F → List ℕ → Option Verdict
 judged_from reader bytes = judged_known (had_header_of reader) (place_of reader) (Some bytes)
 

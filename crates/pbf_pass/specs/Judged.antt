@@ -17,7 +17,7 @@ fault_in unknown = None
 abbrev pub payload_fault : FrameSpec → Option Fault
 payload_fault f = fault_in (payload_of f)
 
--- a frame before the others, where its payload has no fault
+-- a frame before the others, if its payload has no fault
 abbrev pub sound_first : Option Fault → FrameSpec → Verdict → Verdict
 sound_first None f verdict = with_first f verdict
 sound_first (Some e) f verdict = ([], Some e)
@@ -27,7 +27,7 @@ abbrev pub sound_front : List FrameSpec → Option Fault → Verdict
 sound_front [] ending = ([], ending)
 sound_front (f ∷ fs) ending = sound_first (payload_fault f) f (sound_front fs ending)
 
--- the verdict of all phases, where this is the one of frames alone
+-- the verdict of all phases, if this is the one of frames
 abbrev pub fully : Verdict → Verdict
 fully verdict = sound_front verdict.0 verdict.1
 

@@ -71,7 +71,7 @@ abbrev pub with_node : NodeSets → EntitySpec → NodeSets
 with_node sets (node n) = record { area = sets.area; box_ids = node_step sets.box_ids (seen_node sets.area n) }
 with_node sets _ = sets
 
--- the same of a node's id and place alone
+-- the same of only a node's id and place
 abbrev pub with_place : NodeSets → Place → NodeSets
 with_place sets p = record { area = sets.area; box_ids = node_step sets.box_ids (a_node p.id (is_inside sets.area p.lat p.lon)) }
 

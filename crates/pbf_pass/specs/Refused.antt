@@ -17,7 +17,7 @@ use Rattle.pbf_pass.specs.HeaderLimit.{header_limit, held_header}
 use Rattle.pbf_pass.specs.Hashing.{IsLength}
 use Rattle.pbf_pass.specs.Stops.{FaultOf}
 
--- what a reader's feed gave is at fault; what else may stop a pass says nothing of the bytes
+-- what a reader's feed gave is faulty; any other stop says nothing of the bytes
 abbrev pub RefusesRest : {F : Type 0} → feed.Ghosts F → (old new : F) → (Fault → List ℕ → Type 0) → Stop → Type 0
 RefusesRest f old new at_fault (stop.Refused e) = Refuses (at_fault e) (f.has_passed old) (f.has_passed new) (f.remaining old) (f.remaining new)
 RefusesRest f old new at_fault stop.Read = Unit {0}
@@ -25,7 +25,7 @@ RefusesRest f old new at_fault stop.Write = Unit {0}
 RefusesRest f old new at_fault stop.Memory = Unit {0}
 RefusesRest f old new at_fault (stop.Changed pass) = Unit {0}
 
--- bytes that are at fault were read, with their number, as far as it can be told, and their digest
+-- faulty bytes were read, with their number, as far as it can be counted, and their digest
 pub record RefusesBytes {F : Type 0} (f : feed.Ghosts F) (old new : F) (at_fault : Fault → List ℕ → Type 0) (refusal : Refusal) : Type 0 where
   pub bytes : Refuses (at_fault refusal.fault) (f.has_passed old) (f.has_passed new) (f.remaining old) (f.remaining new)
   pub counted : IsLength refusal.read bytes.read

@@ -41,7 +41,7 @@ impl Gather for FirstPhase {
     }
 }
 
-/// Takes the nodes of a dense message, each by its id and its place alone.
+/// Takes the nodes of a dense message, each by only its id and its place.
 fn take_first_places(phase: &mut FirstPhase, dense: &Dense<'_>) -> Result<(), AllocError>
     ensures { OnOk result
         (phase.new ≡ fold with_first phase.old (map node (dense_left dense.now))) }

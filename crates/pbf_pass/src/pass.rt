@@ -177,7 +177,7 @@ pub(crate) fn seen<'a>(unmade: &UnmadeWay<'a>) -> SeenWay<'a>
     }
 }
 
-/// Takes the nodes of a dense message, each by its id and its place alone.
+/// Takes the nodes of a dense message, each by only its id and its place.
 fn take_places(phase: &mut NodePhase, dense: &Dense<'_>) -> Result<(), AllocError>
     ensures { OnOk result (phase.new ≡ fold with_node phase.old (map node (dense_left dense.now))) }
 {
