@@ -60,7 +60,7 @@ raw_of known = option_map unpacked known
 abbrev pub IsRefusedBy : (Fault → Type 0) → Stop → Type 0
 IsRefusedBy at_fault stop = Caused at_fault (Unit {0}) (Unit {0}) (λ pass. Unit {0}) stop
 
--- this holds, whatever the stop is but that a later pass met other bytes
+-- this holds unless the stop is that a later pass read other bytes
 abbrev pub UnlessChanged : Type 0 → Stop → Type 0
 UnlessChanged holds Read = holds
 UnlessChanged holds Write = holds
@@ -68,7 +68,7 @@ UnlessChanged holds Memory = holds
 UnlessChanged holds (Refused e) = holds
 UnlessChanged holds (Changed pass) = Unit {0}
 
--- if memory was refused to a feed, a read that failed for it is told as that
+-- if memory was refused to a feed, a read that failed is reported as `Memory`
 abbrev pub told_by : Bool → Stop → Stop
 told_by false s = s
 told_by true Read = Memory
