@@ -139,7 +139,7 @@ impl<'a> Model for Table<'a> {
 }
 
 impl<'a> Table<'a> {
-    /// Judges the count of the texts alone: `TooManyStrings` at `place`, that of the table's field in the file, if there
+    /// Judges only the count of the texts: `TooManyStrings` at `place`, that of the table's field in the file, if there
     /// are more than [`MOST_TEXTS`]. Does not allocate.
     pub fn judge_count(message: &[u8], place: u64) -> Result<(), Fault>
         requires { length message.now ≤ 2 ^ 63 }

@@ -43,12 +43,12 @@ fn is_same(one: &[u8], other: &[u8]) -> bool
     true
 }
 
-/// The texts of a block that is being written, in order of first use. The hasher is handed in, as the input is untrusted.
+/// The texts of a block that is being written, in order of first use. The caller passes the hasher, since the input is untrusted.
 /// Contracts see it as the list of the texts. The empty text that every table begins with isn't among them.
 #[derive(Drop)]
 pub struct TableOut<S: BuildHasher> {
     texts: IndexSet<Vec<u8>, S>,
-    /// Where texts that were asked for of late stand, each in its slot; a text that isn't there is looked up by its hash.
+    /// The indexes of texts that were looked up recently, each in its slot; a text that isn't there is looked up by its hash.
     recent: [u32; SLOTS],
     alloc: Global,
 }
