@@ -13,7 +13,7 @@ use Rattle.pbf_unpack.specs.declared.fault.UnpackFault.{UnpackFault}
 use Rattle.pbf_unpack.specs.Packed.{packed_in, payload_of}
 use Rattle.pbf_unpack.specs.Unpacked.{rewritten, with_data, unpacked_frame}
 
--- the second list from where the first has ended
+-- two joined lists without more than the first: the second without the rest
 pub drop_past : (n : ℕ) (xs ys : List ℕ) → length xs ≤ n → drop n (xs ++ ys) ≡ drop (n - length xs) ys
 drop_past n xs ys past =
     let e : n ≡ length xs + (n - length xs) = omega (arith, past) in

@@ -1,4 +1,4 @@
--- What was read of a feed where a frame is to begin.
+-- What was read of a feed at the start of a frame.
 use Rattle.std.specs.Prelude.{◌≡◌, ℕ, ◌+◌, ◌<◌, ◌≤◌, ◌^◌, List, ◌++◌, length, Option, Ok}
 use Rattle.byteorder.specs.Endian.{big_number}
 use Rattle.pbf_frame.specs.declared.header.Head.{Head}

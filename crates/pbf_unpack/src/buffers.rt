@@ -10,7 +10,7 @@ use std::alloc::Global;
 pub(crate) struct Buffers {
     /// The four bytes and the header of the frame, as they were read or in written form.
     pub(crate) front: Vec<u8>,
-    /// The header alone, as it was read.
+    /// Only the header, as it was read.
     pub(crate) header: Vec<u8>,
     /// The blob as it was read.
     pub(crate) packed: Vec<u8>,

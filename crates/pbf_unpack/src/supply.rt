@@ -13,7 +13,7 @@ use crate::unpack::{Outcome, unpack};
 use crate::whole::{Found, WholeFrame, read_whole};
 use pbf_frame::{Feed, FeedFault, FrameKind, Stop};
 
-/// Copies the front of some bytes, as many as there is room for.
+/// Copies a prefix of some bytes, as many as there is room for.
 fn copy_front(from: &[u8], buf: &mut [u8]) -> usize
     ensures bound { result ≤ length buf.old }
     ensures within { result ≤ length from.now }

@@ -20,7 +20,7 @@ pub(crate) struct WholeFrame {
     pub(crate) end: u64,
 }
 
-/// What a feed has where a frame is to begin.
+/// What a feed has at the start of a frame.
 #[derive(Clone, Copy, PartialEq, Eq)]
 pub(crate) enum Found {
     /// A whole frame.
@@ -75,7 +75,7 @@ fn read_front<F: Feed>(
     }
 }
 
-/// What a feed has where a frame is to begin, all of it read: what is packed into `packed`, and what is before it into `front`.
+/// What a feed has at the start of a frame, all of it read: what is packed into `packed`, and what is before it into `front`.
 pub(crate) fn read_whole<F: Feed>(
     feed: &mut F,
     buffers: &mut Buffers,
