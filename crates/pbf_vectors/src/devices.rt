@@ -12,7 +12,7 @@ const PIECE: usize = 7;
 /// More reads than any file of the suite takes in pieces of this length.
 const MOST_READS: u64 = 100_000;
 
-/// Read `failing` of the pass of this index fails, if there are so many reads; answers whether it did.
+/// Read `failing` of the pass of this index fails, if there are so many reads; returns whether it did.
 fn read_fails(
     alloc: Global,
     row: &Row<'_>,
@@ -104,7 +104,7 @@ pub(crate) fn each_write_fails(
     expect(sink.bytes() == wanted, "other bytes by a byte a write")
 }
 
-/// The pass of this number, and it alone, is supplied with the changed bytes: the call says so, and writes nothing if that
+/// The pass of this number, and no other, is supplied with the changed bytes: the call says so, and writes nothing if that
 /// pass isn't the last.
 fn pass_changes(
     alloc: Global,

@@ -24,7 +24,7 @@ pub(crate) enum Wanted<'a> {
     Refused(Told),
     /// The fault that each call which writes refuses it with, and what `check` counts.
     Unwritten(Told, Counts),
-    /// The answers of `convert`, `extract` and `extract_parents`.
+    /// What `convert`, `extract` and `extract_parents` write.
     Written(Answer<'a>, Answer<'a>, Answer<'a>),
 }
 
