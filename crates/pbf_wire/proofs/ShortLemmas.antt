@@ -39,7 +39,7 @@ bit_is mask i h = sym (and_mask (mask / 2 ^ i) 1) ∙ (bit_set_by_shift mask i).
 is_set : (mask i : ℕ) → bit_at mask i ≡ 1 → IsBitSet mask i
 is_set mask i e = (bit_set_by_shift mask i).0 (and_mask (mask / 2 ^ i) 1 ∙ e)
 
--- an end in the whole is an end in one of the halves
+-- an end within the whole is one within one of the halves
 pub both_halves : (front back i : ℕ) → front < 2 ^ 32 → IsBitSet (back * 2 ^ 32 + front) i → (i < 32) × IsBitSet front i ⊎ (32 ≤ i) × IsBitSet back (i - 32)
 both_halves front back i small h =
     elim (cases_lt i 32) [
