@@ -102,7 +102,7 @@ pub record Selects (b : List ℕ) (choose : Choice) (area : BoundingBox) (pick :
   pub bytes : extract_bytes choose area (frames, None) ≡ written_file h (choose (stored_entities frames))
   pub picked : filter pick (stored_entities frames) ≡ choose (stored_entities frames)
 
--- the passes over nodes and ways choose the complete-ways extract
+-- the passes for nodes and for ways choose the complete-ways extract
 pub selects_ways : (area : BoundingBox) (b : List ℕ) (first second : Option Verdict) (sets : WaySets) (h : HeaderSpec) → first ≡ judged_file (Some b) → second ≡ judged_file (Some b) → Chooses area first second sets h → Selects b (complete_ways area) area (picked_by (without_parents sets)) h
 selects_ways area b first second sets h is too c =
     let judged = known_says b (c.frames, None) (subst (λ (k : Option Verdict). Says k (c.frames, None)) is c.judged) in
@@ -170,7 +170,7 @@ chosen_sound area b second sets h c = ap (λ (v : Verdict). v.1) (same_verdict b
 
 -- ---- why a call stops
 
--- the bytes of a later pass that are unlike the digest are unlike the first pass's bytes
+-- bytes of a later pass with another digest are not the first pass's bytes
 pub later_differs : (first other : Option (List ℕ)) (digest : List ℕ) (frames : List FrameSpec) → IsDigest first digest → Says (judged_file first) (frames, None) → Unlike other digest → Differ first other
 later_differs first other digest frames same says unlike b c is too e =
     let judged = known_says b (frames, None) (subst (λ (o : Option (List ℕ)). Says (judged_file o) (frames, None)) is says) in

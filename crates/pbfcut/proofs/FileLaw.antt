@@ -81,7 +81,7 @@ known_header e = cc
 
 -- ---- the frame of a block
 
--- entities that stand in one block as it is written
+-- entities that share a block as it is written
 pub record IsWritten (block : List EntitySpec) : Type 0 where
   pub together : is_block block ≡ true
   pub fit : AllByRecursion EntityFits block

@@ -40,7 +40,7 @@ same_digest first other digest one two b c is too = sym (one b is) ∙ two c too
 -- ---- where a feed may not have been read
 
 module _ {G : Type 0} (f : feed.Ghosts G) (old new : G) (digest : List ℕ) where
-  -- what holds of the file that a later feed gave, or of the one before, is told
+  -- what follows of the file that a later feed gave follows of the earlier one too, if the later feed was not read
   pub gave_or_not : (file : List ℕ) (holds : List ℕ → Type 0) (told : Type 0) → ((c : List ℕ) → holds c → told) → GaveOrNot f old new digest file holds → told
   gave_or_not file holds told step (inl given) = step given.file given.holding
   gave_or_not file holds told step (inr none) = step file none.1

@@ -45,7 +45,7 @@ pub record IsExtract (choose : Choice) (select : List Decoded → List Decoded) 
 pub record Extracted (choose : Choice) (select : List Decoded → List Decoded) (area : BoundingBox) (file : List ℕ) (counts : Counts) (written : List ℕ) : Type 0 where
   -- the file has no fault, and its header can be written
   pub sound : IsWritable file
-  -- the bytes decode to its extract. A file has at most 2^62 bytes: longer ones would be refused for that alone
+  -- the bytes decode to its extract. A file has at most 2^62 bytes: longer ones would be refused only for their length
   pub extract : length written ≤ 2 ^ 62 → IsExtract choose select area file written
   -- the counts are those of the entities that are kept
   pub counted : counts ≡ counts_of (choose (entities_in_file file))

@@ -1,4 +1,4 @@
--- The pass that writes, over payloads that it doesn't judge: what is written is told of files without a fault.
+-- The pass that writes, over payloads that it doesn't judge: what is written is stated for files without a fault.
 use Rattle.std.specs.Prelude.{◌≡◌, ℕ, List, ◌++◌, Option, Some, None}
 use Rattle.std.specs.List.{filter}
 use Rattle.osm_entity.specs.Entity.{EntitySpec}

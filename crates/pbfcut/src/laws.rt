@@ -85,8 +85,8 @@ pub fn file_extracted_with_parents_is_kept(area: BoundingBox)
         ≡ extract_of (all_parents area) area file }
 {}
 
-/// What a hashing drain took, if anything, the drain below took; and the digest that the hashing drain answers is that of it. So through
-/// such a drain the receipt of a call is joined by the digest of what was written.
+/// What a hashing drain took, if anything, the drain below took; and the digest that the hashing drain returns is that of it. So such
+/// a drain adds the digest of what was written to the receipt of a call.
 pub fn hashed_drain_took<D: Drain>()
     ensures { (old : D) (fresh new : HashedDrain D) (digest written : List ℕ) → fresh.drain ≡ old
         → ⟦<Sha256 as Digest>⟧.holds fresh.hasher []

@@ -63,7 +63,7 @@ pub(crate) fn choose_sorted<F: Feed, G: Feed>(
 /// Like [`extract`](crate::extract), in two passes if no node of the file comes behind a way: then the first gives the ways too, and
 /// nothing is read of the second feed. Of another file three passes are made, as there.
 ///
-/// All that is said there holds. Space: besides, the refs and the ids of the ways are gathered while the first pass goes on.
+/// All that is said there holds. Space: besides, the refs and the ids of the ways are gathered during the first pass.
 pub fn extract_sorted<F: Feed, G: Feed, H: Feed, D: Drain, S: BuildHasher + Drop>(
     alloc: Global,
     first: &mut F,

@@ -1,5 +1,5 @@
 //! The pass that writes. It comes after the one that judged the file, and judges no payload: that its bytes are those of the first
-//! pass is told by their digest, at the end.
+//! pass is seen by their digest, at the end.
 
 ghost use Rattle.std.specs.Prelude.{true, ◌∷◌, ◌≡◌, ◌<◌, ◌≤◌, ◌+◌, ◌^◌, IfOk, IfErr, OnOk, OnErr, length};
 ghost use Rattle.osm_pack.specs.Packing.{IsPacking, has_header};
