@@ -121,7 +121,7 @@ abbrev pub IsRead : Option (Text × List Row) → Command → Type 0
 IsRead None c = ⊥
 IsRead (Some p) c = ReadsAs p.0 p.1 c
 
--- the words ask for `extract`, with a box that has this fault
+-- the command line names `extract`, with a box that has this fault
 abbrev pub HasBoxFault : Option (Text × List Row) → BoxFault → Type 0
 HasBoxFault None fault = ⊥
 HasBoxFault (Some p) fault =

@@ -1,4 +1,4 @@
-//! The command line of pbfcut and pbfcutz: what its words ask for, what help says, and how each ending is reported.
+//! The command line of pbfcut and pbfcutz: which command it is, what help says, and how each ending is reported.
 #![tactic(auto)]
 
 mod commands;

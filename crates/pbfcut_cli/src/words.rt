@@ -25,7 +25,7 @@ use clap::{ArgMatches, Error};
 use osm_entity::{BoundingBox, BoxFault};
 use std::alloc::{AllocError, Global};
 
-/// What the words ask for. Paths are as they were given.
+/// A command with its arguments. Paths are as they were given.
 #[derive(Debug, Drop)]
 pub enum Command<'a> {
     /// `blobs IN`: list the frames of the file at `input`.
@@ -65,7 +65,7 @@ pub enum Command<'a> {
     Help(String),
 }
 
-/// Why the words ask for nothing.
+/// Why the command line is no command.
 #[derive(Debug, Drop)]
 pub enum CliFault {
     /// The command line is invalid: what `clap` says of it, with its line ends, and for an option `-o` with another tip.
@@ -191,7 +191,7 @@ fn refused<'a>(alloc: Global, error: &Error) -> Result<Command<'a>, CliFault>
     }
 }
 
-/// The command that the words after this program's name ask for. If it is another than `Help`, its name and values are those
+/// The command that the words after this program's name mean. If it isn't `Help`, its name and values are those
 /// that `clap` reads in the words by its own definition, and the box is the one that `BoundingBox::parse` reads.
 ///
 /// # Errors
