@@ -7,7 +7,7 @@ use std::fs::{self, File, OpenOptions};
 use std::io::BufWriter;
 use std::os::unix::fs::FileTypeExt;
 
-/// The length of the buffer in front of OUT and of standard output.
+/// The length of the buffers of OUT and of standard output.
 pub const OUTPUT_BUFFER: usize = 65_536;
 
 /// IN, and whether the run reports how far it has come.
@@ -63,7 +63,7 @@ pub fn refuse_existing(rt: &HostRuntime, output: &str) -> Result<(), Ending> {
     Ok(())
 }
 
-/// Makes OUT and a buffer in front of it. A file that exists is never opened, so none is ever emptied.
+/// Makes OUT, with a buffer. A file that exists is never opened, so none is ever emptied.
 pub fn create_output(rt: &HostRuntime, output: &str) -> Result<BufWriter<File>, Ending> {
     let created = OpenOptions::new()
         .write(true)

@@ -22,7 +22,7 @@ pub struct Asked<'a> {
 }
 
 impl<'a> Asked<'a> {
-    /// What a command asks for, if it asks for more than help.
+    /// The files of a command that isn't help, and the program.
     pub fn of(program: Program, command: &Command<'a>) -> Option<Asked<'a>> {
         let (input, output, cuts) = match command {
             Command::Help(_) => return None,
