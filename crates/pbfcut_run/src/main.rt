@@ -45,7 +45,7 @@ fn words(rt: &HostRuntime) -> Result<Vec<String>, Ending> {
     Ok(words)
 }
 
-/// Does what a command asks for.
+/// Runs a command.
 fn run(rt: &HostRuntime, engine: Engine, command: Command<'_>) -> Result<(), Ending> {
     match command {
         Command::Help(text) => print_help(rt, text.as_str()),
@@ -97,8 +97,8 @@ fn run(rt: &HostRuntime, engine: Engine, command: Command<'_>) -> Result<(), End
     }
 }
 
-/// Does what the words after the program's name ask for, and reports how it ended. Returns the exit status, or why the words are no
-/// command.
+/// Runs the command that the words after the program's name mean, and reports how it ended. Returns the exit status, or why the words
+/// are no command.
 fn work(rt: &HostRuntime, program: Program, words: &[String]) -> Result<u8, Ending> {
     let normalized = normalize_words(rt.alloc(), words)?;
     let mut texts = Vec::new(rt.alloc());
