@@ -164,7 +164,7 @@ fn ends_where_reads_fail(
     ))
 }
 
-/// Each read of one of the passes fails in turn; the answer is the number of the last read that there is.
+/// Each read of one of the passes fails in turn; returns the number of the last read that there is.
 fn reads_fail(
     rt: &(impl Abort + AllocGlobal),
     lengths: &[usize],

@@ -15,13 +15,13 @@ const LONDON: BoundingBox = BoundingBox {
     top: 51_700_000_000,
 };
 
-/// Whether these words ask for the frames of this file.
+/// Whether these words are a command to list the frames of this file.
 fn is_blobs(alloc: Global, words: &[&str], input: &str) -> bool {
     let read = read_words(alloc, Program::Pbfcut, words);
     matches!(&read, Ok(Command::Blobs { input: found }) if *found == input)
 }
 
-/// Whether they ask for the text of this file, with dates and with progress or without.
+/// Whether they are a command to print this file, with or without dates and progress.
 fn is_show(alloc: Global, words: &[&str], input: &str, asked: (bool, bool)) -> bool {
     let read = read_words(alloc, Program::Pbfcut, words);
     match &read {
