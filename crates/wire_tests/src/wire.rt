@@ -302,14 +302,14 @@ fn are_short(alloc: Global) -> Result<bool, AllocError> {
     Ok(is_short(&column) && column_fault(&column).is_none() && has_small_sums(alloc, &column)?)
 }
 
-/// Whether they say no where the last number is cut.
+/// Whether they refuse a column whose last number is cut.
 fn cut_is_found(alloc: Global) -> Result<bool, AllocError> {
     let mut column = short_numbers(alloc)?;
     column.push(0x80)?;
     Ok(!is_short(&column) && column_fault(&column) == Some(Reason::VarintCut))
 }
 
-/// Field 8 of 800 bytes, numbers of one, two and five bytes: the quick tests say yes. With a cut number they say no.
+/// Field 8 of 800 bytes, numbers of one, two and five bytes: it passes the quick tests. With a cut number it fails.
 #[test]
 fn long_columns_of_short_numbers(rt: HostRuntime) -> Result<(), Fail> {
     assert!(rt; are_short(rt.alloc())? && cut_is_found(rt.alloc())?);
