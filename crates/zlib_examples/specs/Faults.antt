@@ -31,6 +31,6 @@ pub record Faults : Type 0 where
   pub of_distance : inflated 9 (header ++ 0x03 ∷ 0x02 ∷ 0x00 ∷ []) ≡ Err Distance
   -- two bytes with room for one
   pub of_limit : inflated 1 stored_ab ≡ Err Long
-  -- the Adler-32 of "ab" ends in 0xc4
+  -- the last byte of the Adler-32 of "ab" is 0xc4
   pub of_check : inflated 9 (header ++ 0x01 ∷ 0x02 ∷ 0x00 ∷ 0xfd ∷ 0xff ∷ 0x61 ∷ 0x62 ∷ 0x01 ∷ 0x26 ∷ 0x00 ∷ 0xc5 ∷ []) ≡ Err Checksum
   pub of_rest : inflated 9 (stored_ab ++ 0x00 ∷ []) ≡ Err Rest
