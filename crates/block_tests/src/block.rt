@@ -40,7 +40,7 @@ fn entities_of_a_block(rt: HostRuntime) {
 const TAGGED: [u8; 46] =
     *b"\x12\x16\x0a\x06\x08\x02\x40\x00\x48\x00\x0a\x0c\x08\x04\x40\x00\x48\x00\x12\x01\x01\x1a\x01\x01\x12\x14\x12\x12\x0a\x02\x02\x02\x42\x02\x00\x00\x4a\x02\x00\x00\x52\x04\x00\x01\x01\x00";
 
-/// How far after the table the payload's fault stands, and its reason: of these groups after a table whose text 1 has this length.
+/// How far after the table the payload's fault is, and its reason: of these groups after a table whose text 1 has this length.
 fn fault_behind(
     alloc: Global,
     length: usize,

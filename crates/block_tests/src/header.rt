@@ -6,7 +6,7 @@ use pbf_wire::{Fault, ReadFault, Reason};
 use std::alloc::{AllocError, Global};
 use std::test::Fail;
 
-/// Where the payload of a file's first frame stands, if that is short.
+/// The offset of the payload of a file's first frame, if that is short.
 const AT: u64 = 19;
 
 /// A header with every field; of some that count once there are two, and one is unknown.
@@ -227,7 +227,7 @@ fn fields_of_another_type(rt: HostRuntime) {
     assert!(rt; is_refused(rt, cut, 29, Reason::VarintCut));
 }
 
-/// A fault of an earlier phase is reported first, wherever it stands.
+/// A fault of an earlier phase is reported first, wherever it is.
 #[test]
 fn phases_come_before_offsets(rt: HostRuntime) {
     let structure = b"\x22\x03Foo\x0a\x06\x08\x00\x10\x00\x18\x00";

@@ -297,7 +297,7 @@ fn have_ids(
     Ok(ids(rt.alloc(), sink.bytes())?.as_slice() == wanted)
 }
 
-/// Two nodes of one block have one table, in which a text of both stands once.
+/// Two nodes of one block have one table, which has a text of both only once.
 #[test]
 fn two_nodes_with_a_text_in_common(rt: HostRuntime) -> Result<(), Fail> {
     packs(
