@@ -180,7 +180,7 @@ fn is_second_of_ann(meta: MetaRef<'_>) -> bool {
     meta.version == Some(2) && meta.user == Some(b"ann".as_slice()) && meta.visible.is_none()
 }
 
-/// Whether the node stands if that of [`a_dense_node`] does.
+/// Whether the node is where that of [`a_dense_node`] is.
 fn is_placed(node: NodeRef<'_>) -> bool {
     node.id() == 1
         && node.lat() == 1
@@ -255,7 +255,7 @@ fn way_in<'a>(table: &'a Table<'a>, refs: u64, lats: u64, lons: u64) -> WayRef<'
     )
 }
 
-/// Whether the way's nodes stand where those of [`WAY`] do, in nanodegrees.
+/// Whether the way's nodes are where those of [`WAY`] do, in nanodegrees.
 fn is_located(way: WayRef<'_>) -> bool {
     let mut nanos = way.nano_locations();
     nanos.next() == Some((100, 100))

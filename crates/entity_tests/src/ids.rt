@@ -178,7 +178,7 @@ fn tens(alloc: Global) -> Result<Option<IdSet>, AllocError> {
     Ok(Some(set))
 }
 
-/// Whether the set takes late ids and then rising ones, each new or not as expected, and what is sealed then has them.
+/// Whether the set takes ids out of order and then rising ones, each new or not as expected, and what is sealed then has them.
 fn takes_late_ids(set: IdSet) -> Result<bool, AllocError> {
     const ADDED: [(i64, bool); 9] = [
         (1990, false),
@@ -201,7 +201,7 @@ fn takes_late_ids(set: IdSet) -> Result<bool, AllocError> {
     Ok(sizes(&ids) == (205, 2, 203) && has_all(&ids, &THERE) && has_none(&ids, &ABSENT))
 }
 
-/// Ids that come late, among them some that are in the pages or came late before, and rising ones after them.
+/// Ids out of order, among them some that are in the pages or came before, and rising ones after them.
 #[test]
 fn rising_then_late_then_rising(rt: HostRuntime) -> Result<(), AllocError> {
     match tens(rt.alloc())? {
@@ -249,7 +249,7 @@ fn lies_in_four_bytes(alloc: Global, ids: &[i64]) -> Result<bool, AllocError> {
     Ok(sizes(&set) == (4, 1, 4) && has_all(&set, ids))
 }
 
-/// The pages and the bytes of known ids, with a late one and with none: one byte for 3, one for 5, two for 300.
+/// The pages and the bytes of known ids, with one out of order and with none: one byte for 3, one for 5, two for 300.
 #[test]
 fn bytes_of_known_ids(rt: HostRuntime) -> Result<(), AllocError> {
     assert!(rt; lies_in_four_bytes(rt.alloc(), &[3, 5, 300, -2])?);
@@ -266,7 +266,7 @@ fn rising_by_one(alloc: Global) -> Result<Vec<i64>, AllocError> {
     Ok(ids)
 }
 
-/// 0, -6, 4, -2, .. 596, 590: each second one comes late.
+/// 0, -6, 4, -2, .. 596, 590: every second one is out of order.
 fn each_second_late(alloc: Global) -> Result<Vec<i64>, AllocError> {
     let mut ids = Vec::new(alloc);
     for turn in 0..150i32 {
@@ -283,7 +283,7 @@ fn lies_in_three_pages(alloc: Global, ids: &[i64]) -> Result<bool, AllocError> {
     Ok(sizes(&set) == (300, 3, 297) && has_all(&set, ids))
 }
 
-/// 300 ids lie in as many bytes whether each second one came late or none.
+/// 300 ids lie in as many bytes whether every second one came out of order or none.
 #[test]
 fn rising_and_late_ids_of_three_pages(rt: HostRuntime) -> Result<(), AllocError> {
     assert!(rt; lies_in_three_pages(rt.alloc(), &rising_by_one(rt.alloc())?)?);

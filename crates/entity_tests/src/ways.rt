@@ -1,6 +1,6 @@
 //! What no clause says: what is kept of known lists, and that the calls can succeed.
 //!
-//! A test hands rows to one of four functions and asserts its answer. It holds no sets itself, and each call of the crate stands
+//! A test passes rows to one of four functions and asserts its result. It holds no sets itself, and each call of the crate is
 //! in a function without clauses: with both in the tests their proof takes ten times as long.
 
 use osm_entity::{BoundingBox, Member, MemberKind, Meta, Node, Relation, Scale, Way};
@@ -179,7 +179,7 @@ fn keeps_relations(
     Ok(true)
 }
 
-/// The same of one chooser for all, asked of one after another.
+/// The same with one chooser for all of them.
 fn keeps_nodes_in_turn(chooser: &mut Chooser<'_>, expected: &[(i64, bool)]) -> bool {
     for (id, is_kept) in expected {
         if chooser.keeps_node(*id) != *is_kept {
@@ -278,7 +278,7 @@ fn extracts(
     keeps(alloc, &chosen, ways, relations, ids)
 }
 
-/// The same, of one chooser that is asked of all in turn.
+/// The same, with one chooser for all of them.
 fn keeps_in_turn(
     alloc: Global,
     chosen: &Chosen,
@@ -305,7 +305,7 @@ fn extracts_in_turn(
     keeps_in_turn(alloc, &chosen, ways, relations, ids)
 }
 
-/// The same, of one phase of nodes and ways, with nodes that come behind the ways, and whether they came in order.
+/// The same, of one phase of nodes and ways, with nodes that come after the ways, and whether they came in order.
 fn extracts_first(
     alloc: Global,
     nodes: &[NodeRow],
@@ -405,7 +405,7 @@ fn nodes_then_ways(rt: HostRuntime) -> Result<(), AllocError> {
     Ok(())
 }
 
-/// A ref of a way is a node of the box that comes behind it.
+/// A ref of a way is a node of the box that comes after it.
 #[test]
 fn node_behind_a_way(rt: HostRuntime) -> Result<(), AllocError> {
     let ways: [WayRow<'_>; 2] = [(7, &[5, 1, 3], true), (6, &[2, 3], true)];
