@@ -10,7 +10,7 @@ use Rattle.osm_box.specs.declared.bounding_box.BoxFault.{BoxFault}
 use Rattle.osm_box.specs.declared.bounding_box.BoxFault.TheVariants.{Shape, Digit}
 use Rattle.osm_box.specs.BoundingBox.{box_of_edges}
 
--- what stands before and after the first byte c, if it is there
+-- what comes before and after the first byte c, if it is there
 abbrev pub cut_of : ℕ → List ℕ → Option (List ℕ × List ℕ)
 cut_of c text = if nat_lt (position_or_len (λ b. b == c) text) (length text)
     then Some (before_first (λ b. b == c) text, after_first (λ b. b == c) text) else None
@@ -28,7 +28,7 @@ digits_of most text = if are_digits most text then Some (digits_value 10 text) e
 abbrev pub halves_of : List ℕ → List ℕ × List ℕ
 halves_of text = unwrap_or (cut_of 46 text) (text, codes "0")
 
--- the nanodegrees of a part without its sign: up to three digits, and up to nine behind the point
+-- the nanodegrees of a part without its sign: up to three digits, and up to nine after the point
 abbrev pub magnitude_of : List ℕ → Option ℕ
 magnitude_of text =
     let whole = (halves_of text).0 in
