@@ -95,7 +95,7 @@ pub(crate) fn id_fits(number: i64) -> bool
     number.unsigned_abs() < STORED_LIMIT.unsigned_abs()
 }
 
-/// What the refs weigh, as [`refs_weight`] tells, if each is in its range.
+/// What the refs weigh by [`refs_weight`], if each is in its range.
 pub(crate) fn stored_refs_weight(refs: Refs<'_>) -> Option<u64>
     ensures { SomeIff result (AllByRecursion IsStored (refs_left refs.entry))
         (min (32 * length (refs_left refs.entry)) (2 ^ 64 - 1)) }
@@ -126,7 +126,7 @@ pub(crate) fn locations_fit(locations: Locations<'_>) -> bool
     true
 }
 
-/// What the members weigh, as [`members_weight`] tells, if the id of each is in its range.
+/// What the members weigh by [`members_weight`], if the id of each is in its range.
 pub(crate) fn stored_members_weight(members: Members<'_>) -> Option<u64>
     ensures { SomeIff result (AllByRecursion MemberFits (members_left members.entry))
         (min (members_weight (members_left members.entry)) (2 ^ 64 - 1)) }
