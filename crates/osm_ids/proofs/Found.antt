@@ -1,4 +1,4 @@
--- The page in which an id can stand.
+-- The page that an id can be in.
 use Rattle.std.proofs.Common.{◌≡◌, ℕ, zero, suc, ◌+◌, ◌-◌, ◌<◌, ◌≤◌, ◌⊎◌, true, false, List, [], ◌∷◌, ◌++◌, length, take, drop, get_or, ℤ, ◌<ℤ◌, ◌≤ℤ◌, int_le, inl, inr, refl, sym, ap, subst, ◌∙◌, arith, length-append, append_assoc, true≢false, Bool, ◌||◌}
 use Rattle.std.specs.List.{list_any}
 use Rattle.std.specs.List.Sorted.{IsPartitionedBy}
@@ -267,7 +267,7 @@ looked_before index bytes pages begun start end sealed some le is ends =
     let next : suc (begun - 1) ≡ begun = omega arith in
     subst (λ n. Looked index bytes n start end) next (looked index bytes pages (begun - 1) start end sealed (omega arith) is (subst (λ n. EndsAt index bytes n end) (sym next) ends))
 
--- which is where a look-up stands that begins there
+-- which is the state of a look-up that begins there
 pub stands : (index : List PageStart) (bytes : List ℕ) (begun : ℕ) (start : PageStart) (end : ℕ) (page : List ℕ) → Looked index bytes begun start end → page ≡ take (end - start.place) (drop start.place bytes) → Stands index bytes begun page (cursor start.first start.first 0)
 stands index bytes begun start end page there cut =
     record { ids = start.first ∷ there.others; reached = reading.start start.first there.others page there.rises there.fits (cut ∙ there.spelled); inside = there.inside; answer = there.answer }
@@ -293,18 +293,18 @@ reads_first index bytes begun page from id start some le point is stood e =
     subst (λ c. ReadsFrom index bytes begun page c id) (sym e)
     (record { stood = stood; ahead = inr (le_true start.first id (ap (λ (s : PageStart). int_le s.first id) is ∙ point.0 (begun - 1) start (omega arith) (omega arith))) })
 
--- or from where it stands
+-- or from where it is
 pub reads_still : (index : List PageStart) (bytes : List ℕ) (begun old : ℕ) (page old_page : List ℕ) (from old_from : Cursor) (id seen : ℤ) → begun ≡ old → page ≡ old_page → from ≡ old_from → seen ≡ id → 0 < begun → (0 < old → Stands index bytes old old_page old_from) → IsAhead old_from.passed old_from.last seen → ReadsFrom index bytes begun page from id
 reads_still index bytes begun old page old_page from old_from id seen same p f e some stood ahead =
     subst (λ n. ReadsFrom index bytes n page from id) (sym same) (subst (λ b. ReadsFrom index bytes old b from id) (sym p) (subst (λ c. ReadsFrom index bytes old old_page c id) (sym f)
     (record { stood = stood (omega arith); ahead = subst (IsAhead old_from.passed old_from.last) e ahead })))
 
--- what is then answered
+-- what is then returned
 pub found_in_set : (index : List PageStart) (bytes : List ℕ) (begun : ℕ) (page : List ℕ) (from : Cursor) (id seen last : ℤ) (r : ReadsFrom index bytes begun page from id) → IsPassedAt index id begun → seen ≡ id → ((ids : List ℤ) → IsAt ids page from → IsAhead from.passed from.last seen → int_eq seen last ≡ list_any (int_eq seen) ids) → int_eq id last ≡ list_any (int_eq id) (ids_in index bytes)
 found_in_set index bytes begun page from id seen last r point e found =
     let same : (ids : List ℤ) → IsAt ids page from → IsAhead from.passed from.last id → int_eq id last ≡ list_any (int_eq id) ids = subst (λ z. (ids : List ℤ) → IsAt ids page from → IsAhead from.passed from.last z → int_eq z last ≡ list_any (int_eq z) ids) e found in
     same r.stood.ids r.stood.reached r.ahead ∙ r.stood.answer id point
 
--- and where it stands then
+-- and where it is then
 pub stands_on : (index : List PageStart) (bytes : List ℕ) (begun : ℕ) (page : List ℕ) (from to : Cursor) (s : Stands index bytes begun page from) → ((ids : List ℤ) → IsAt ids page from → IsAt ids page to) → Stands index bytes begun page to
 stands_on index bytes begun page from to s on = record { ids = s.ids; reached = on s.ids s.reached; inside = s.inside; answer = s.answer }

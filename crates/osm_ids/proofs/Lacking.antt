@@ -59,7 +59,7 @@ pub absent_seen : (index : List PageStart) (bytes : List ℕ) (above below seen_
 absent_seen index bytes above below seen_above seen_below e f h =
     subst (λ z. AreAbsent index bytes z seen_below) (sym e) (subst (λ z. AreAbsent index bytes above z) (sym f) h)
 
--- all of the page is read where its last id is below the one that was asked for
+-- all of the page is read if its last id is below the one that is looked up
 pub is_at_end : (page : List ℕ) (c : Cursor) (id seen seen_last : ℤ) → seen ≡ id → seen_last ≡ c.last → IsReadTo page c id → int_le seen seen_last ≡ false → length page ≤ c.at
 is_at_end page c id seen seen_last e f (inl up) low = let past = le_false seen seen_last low in absurd (omega (arith, ints))
 is_at_end page c id seen seen_last e f (inr end) low = end

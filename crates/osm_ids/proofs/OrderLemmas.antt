@@ -1,4 +1,4 @@
--- The greatest id of a set, and the ids that came late.
+-- The greatest id of a set, and the ids that came out of order.
 use Rattle.std.proofs.Common.{◌≡◌, ◌<◌, Bool, true, false, ◌||◌, List, [], ◌∷◌, length, ℤ, ◌<ℤ◌, ◌≤ℤ◌, refl, sym, ap, subst, ◌∙◌, arith, true≢false}
 use Rattle.std.specs.List.{list_any}
 use Rattle.std.specs.Ordering.{int_eq, int_cmp}
@@ -45,7 +45,7 @@ greatest_reaches ids last id g some low =
     let one = one_of all.0 (subst (λ n. 0 < n) (ap (λ (s : Ids). set.len s) (sym all.2) ∙ len-rising all.0 all.1) some) in
     (last, g.there one.0 (ap (λ (s : Ids). set.contains s one.0) (sym all.2) ∙ contains-ids_of all.0 one.0 ∙ one.1), low)
 
--- ---- the ids that came late
+-- ---- the ids that came out of order
 
 above_apart : (ids : Ids) (id : ℤ) → IsAbove ids id → set.contains ids id ≡ false
 above_apart ids id up = false_from_ne_true (set.contains ids id) (λ e. let below = up id e in omega (arith, ints))
@@ -57,7 +57,7 @@ or_true : (a b : Bool) → b ≡ true → (a || b) ≡ true
 or_true true b e = refl
 or_true false b e = e
 
--- a late id is no new one
+-- an id below the greatest is not above all
 late_below : (ids : Ids) (late : List ℤ) (id x : ℤ) → AreLate ids late → IsAbove ids id → list_any (int_eq x) late ≡ true → x <ℤ id
 late_below ids late id x l up e = let reached = (l x e).1 in let below = up reached.0 reached.1 in let low = reached.2 in omega (arith, ints)
 

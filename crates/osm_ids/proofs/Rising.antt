@@ -1,4 +1,4 @@
--- Rising ids, and where an id can stand among them.
+-- Rising ids, and where an id can be among them.
 use Rattle.std.proofs.Common.{◌≡◌, Bool, true, false, ◌||◌, ◌⊎◌, inl, inr, List, [], ◌∷◌, ◌++◌, length, ℤ, ◌<ℤ◌, ◌≤ℤ◌, refl, sym, ap, ◌∙◌, arith, Less, Equal, Greater, true≢false}
 use Rattle.std.specs.List.{list_any}
 use Rattle.std.specs.List.Sorted.{IsStrictlySortedBy}
@@ -43,7 +43,7 @@ pub rising_back : (xs : List ℤ) (y : ℤ) (ys : List ℤ) → IsRising (xs ++ 
 rising_back [] y ys h = h
 rising_back (x ∷ xs) y ys h = rises_back x xs y ys h
 
--- no id at or above y stands before y
+-- no id at or above y comes before y
 pub none_below : (xs : List ℤ) (y : ℤ) (ys : List ℤ) (id : ℤ) → IsRising (xs ++ y ∷ ys) → y ≤ℤ id → list_any (int_eq id) xs ≡ false
 none_below [] y ys id h le = refl
 none_below (x ∷ xs) y ys id h le =
@@ -51,7 +51,7 @@ none_below (x ∷ xs) y ys id h le =
     let apart : x <ℤ id = omega (arith, ints) in
     rw (other_below id x apart) (none_below xs y ys id (rising_tail x (xs ++ y ∷ ys) h) le)
 
--- no id at or below low stands after low
+-- no id at or below low comes after low
 pub none_above : (low : ℤ) (ids : List ℤ) (id : ℤ) → Rises low ids → id ≤ℤ low → list_any (int_eq id) ids ≡ false
 none_above low [] id h le = refl
 none_above low (x ∷ ids) id h le =

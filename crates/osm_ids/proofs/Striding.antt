@@ -58,7 +58,7 @@ pub one_long : (xs : List ℕ) → (mask_l (map (λ b. leb 128 b) xs) ≡ 0 → 
 one_long [] ne = absurd (ne refl)
 one_long (x ∷ xs) ne = grind (arith, nat_tests, one_long xs)
 
--- what sixteen bytes answer
+-- what sixteen bytes show
 pub some_parts : (xs : List ℕ) (n : ℕ) → Some n ≡ (if list_all is_short xs then Some (sum xs) else None) → (list_all is_short xs ≡ true) × (n ≡ sum xs)
 some_parts xs n e =
     elim (list_all is_short xs) as (λ b. list_all is_short xs ≡ b → Some n ≡ (if b then Some (sum xs) else None) → (list_all is_short xs ≡ true) × (n ≡ sum xs)) [

@@ -117,7 +117,7 @@ other_begins starts place start rest e apart other more f at =
 pub none_begins : (starts : List PageStart) (place : ℕ) → length starts ≡ 0 → BeginsNone starts place
 none_begins starts place none start rest e at = absurd (omega (arith, none, ap length e))
 
--- what the look at the bytes answers
+-- what the read of the bytes returns
 abbrev pub StopsAt : ℕ → List ℕ → Option (ℤ × ℕ) → Type 0
 StopsAt place bytes r = drop place bytes ≡ [] → r ≡ None
 

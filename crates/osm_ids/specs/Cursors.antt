@@ -24,11 +24,11 @@ is_short b = nat_lt b 128
 abbrev pub IsPassedAt : List PageStart → ℤ → ℕ → Type 0
 IsPassedAt index id n = IsPartitionPoint (λ (s : PageStart). int_le s.first id ≡ true) (λ (s : PageStart). int_le s.first id ≡ false) index n
 
--- all is read that can tell whether the page has the id
+-- enough is read to know whether the page has the id
 abbrev pub IsReadTo : List ℕ → Cursor → ℤ → Type 0
 IsReadTo page cursor id = (id ≤ℤ cursor.last) ⊎ (length page ≤ cursor.at)
 
--- the last of so many pages has these ids, all of which can stand there, and each id that can is looked up among them
+-- the last of so many pages has these ids, all of which belong there, and each id that does is looked up among them
 pub record Stands (index : List PageStart) (bytes : List ℕ) (begun : ℕ) (page : List ℕ) (cursor : Cursor) : Type 0 where
   pub ids : List ℤ
   pub reached : IsAt ids page cursor

@@ -1,4 +1,4 @@
--- Where an id stands to the ids of a set.
+-- How an id compares with the ids of a set.
 use Rattle.std.specs.Prelude.{◌≡◌, ℤ, ◌<ℤ◌, ◌≤ℤ◌, List, true, false}
 use Rattle.std.specs.List.{list_any}
 use Rattle.std.specs.Ordering.{int_cmp, int_eq}

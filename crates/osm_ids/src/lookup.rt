@@ -25,9 +25,9 @@ struct Absent {
 pub struct Lookup<'a> {
     index: &'a [PageStart],
     bytes: &'a [u8],
-    /// The ids round the last one that was looked up. If the set has few, most that are asked for lie there.
+    /// The gap round the id that was looked up last. If the set has few ids, most look-ups fall into it.
     absent: Absent,
-    /// How many pages begin at or below the id last asked for; the last of them is read. None yet is 0.
+    /// How many pages begin at or below the id that was looked up last; the last of them is read. None yet is 0.
     begun: usize,
     page: &'a [u8],
     cursor: Cursor,
@@ -118,7 +118,7 @@ impl<'a> Lookup<'a> {
     }
 }
 
-/// The cursor one id further on, if that is the id asked for and its difference takes one byte, as most do in a dense set. `None`
+/// The cursor one id further on, if that is the wanted id and its difference takes one byte, as most do in a dense set. `None`
 /// says nothing.
 #[inline(always)]
 fn short_step_to(page: &[u8], from: Cursor, id: i64) -> Option<Cursor>

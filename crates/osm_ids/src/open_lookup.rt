@@ -8,7 +8,7 @@ use crate::lookup::Lookup;
 use std::collections::BTreeSet;
 use std::marker::Model;
 
-/// Ids that are looked up one after another. Asking changes nothing but from where the next one is looked for.
+/// Ids that are looked up one after another. A look-up changes only where the next one begins.
 pub trait IdLookup {
     /// The ids, as a finite set.
     ghost ids: { Self → set.FinSet int_cmp };

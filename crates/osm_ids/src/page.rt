@@ -30,7 +30,7 @@ fn short_sum(block: &[u8; 16]) -> Option<u16>
     Some(lanes.cast::<u16>().strict_reduce_sum())
 }
 
-/// Reads sixteen differences at once, where each takes one byte and their last id is not above the one asked for, and answers
+/// Reads sixteen differences at once, if each takes one byte and their last id is not above the wanted one, and returns
 /// that last id. `None` says nothing: they are read one by one.
 fn sixteen_on(page: &[u8], last: i64, at: usize, id: i64) -> Option<i64>
     requires within { at ≤ length page.now }
@@ -54,7 +54,7 @@ fn sixteen_on(page: &[u8], last: i64, at: usize, id: i64) -> Option<i64>
     Some(last + i64::from(sum))
 }
 
-/// Reads on to the first id that is not below the one asked for, or else to the page's last.
+/// Reads on to the first id that is not below the wanted one, otherwise to the page's last.
 pub(crate) fn read_up_to(page: &[u8], from: Cursor, id: i64) -> Cursor
     requires { from.at ≤ length page.now }
     ensures within { result.at ≤ length page.now }
@@ -67,7 +67,7 @@ pub(crate) fn read_up_to(page: &[u8], from: Cursor, id: i64) -> Cursor
     let mut passed = from.passed;
     let mut last = from.last;
     let mut at = from.at;
-    // Where sixteen at once don't go, these are read before it is tried again.
+    // If sixteen can't be read at once, these are read one by one before the next try.
     let mut again = at;
     while last < id && at < page.len() {
         if again <= at {

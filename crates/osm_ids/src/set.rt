@@ -80,8 +80,8 @@ impl IdSet {
         Merged::new(self.laid.ids().walk(), &self.late)
     }
 
-    /// The same ids, packed, to be looked up. No memory is taken where each id was above all that came before it. A refusal hands
-    /// the set back.
+    /// The same ids, packed, to be looked up. Does not allocate if each id was above all that came before it. A refusal returns
+    /// the set.
     pub fn seal(self) -> Result<SealedIds, (IdSet, AllocError)>
         ensures ok { IfOk result (λ sealed. sealed ≡ self) }
         ensures err { IfErr result (λ refused. refused.0 ≡ self) }
@@ -95,8 +95,8 @@ impl IdSet {
         }
     }
 
-    /// Lays the ids that came late among the others, so that all are looked up alike. Memory is taken only if there are any. The
-    /// set stays the same, at an `Err` too.
+    /// Sorts the ids that came out of order among the others, so that all are looked up alike. Allocates only if there are any. The
+    /// set stays the same, after an `Err` too.
     pub fn settle(&mut self) -> Result<(), AllocError>
         ensures { self.new ≡ self.old }
     {
