@@ -55,7 +55,7 @@ written_file h es = header_frame h ++ written_entities es
 
 -- ---- entity by entity
 
--- what is pending once an entity came behind those that were
+-- what is pending once an entity came after those that were
 abbrev pub then_pending : List EntitySpec → EntitySpec → List EntitySpec
 then_pending es e = if is_block (es ++ e ∷ []) then es ++ e ∷ [] else e ∷ []
 
@@ -70,7 +70,7 @@ at_end (e ∷ es) = block_frame (e ∷ es)
 
 -- ---- a run of entities
 
--- what is pending once entities came one by one behind those that were
+-- what is pending once entities came one by one after those that were
 abbrev pub pending_after : List EntitySpec → List EntitySpec → List EntitySpec
 pending_after es [] = es
 pending_after es (e ∷ more) = pending_after (then_pending es e) more

@@ -33,7 +33,7 @@ pub record IsOpen {S H : Type 0} (b : OpenBlock S H) : Type 0 where
   pub entities : List EntitySpec
   pub held : Holds b entities
 
--- one more entity is encoded behind these, and nothing else is done
+-- one more entity is encoded after these, and nothing else is done
 pub record Encodes {S H : Type 0} (old new : OpenBlock S H) (es : List EntitySpec) (e : EntitySpec) : Type 0 where
   pub likeness : new.likeness ≡ old.likeness
   pub count : new.count ≡ old.count

@@ -5,7 +5,7 @@ use Rattle.pbf_frame.specs.declared.stop.Stop.{Stop}
 use Rattle.osm_pack.specs.Open.{Holds, block_held}
 use Rattle.osm_pack.specs.declared.open_block.OpenBlock.{OpenBlock}
 
--- the drain behind the frames that are written, the block that is open, whether a header was put, and why it stopped
+-- the drain after the frames that are written, the block that is open, whether a header was put, and why it stopped
 pub record Packing (D S H : Type 0) : Type 0 where
   pub drain : D
   pub block : OpenBlock S H

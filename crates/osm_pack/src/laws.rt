@@ -10,7 +10,7 @@ ghost use Rattle.pbf_block.specs.WrittenBlock.{is_block};
 ghost use Rattle.osm_pack.specs.Cuts.{cuts, AreLongest, MayStand, written_entities, at_end, pending_after, written_after};
 ghost use Rattle.osm_entity.specs.declared.weight.TheConstants.{HIGHEST_WEIGHT};
 
-/// The blocks of a list, joined, are the list; and if no entity is too heavy by itself, each may stand as a block.
+/// The blocks of a list, joined, are the list; and if no entity is too heavy by itself, each may be a block.
 pub fn cuts_are_blocks()
     ensures joined { (es : List EntitySpec) → flat_map (λ block. block) (cuts es) ≡ es }
     ensures blocks { (es : List EntitySpec)
