@@ -43,7 +43,7 @@ clock_text millis =
 abbrev pub utc_text : ℕ → List ℕ
 utc_text millis = day_text (day_number (millis / 86_400_000)) ++ 84 ∷ [] ++ clock_text (millis % 86_400_000) ++ 90 ∷ []
 
--- dates are asked for, and the time is one from 1970 to 2099
+-- dates are to be printed, and the time is one from 1970 to 2099
 abbrev pub is_dated : Bool → ℤ → Bool
 is_dated dates millis = dates && int_le (pos 0) millis && int_le millis (pos 4_102_444_799_999)
 

@@ -8,14 +8,14 @@ use Rattle.osm_entity.specs.Entity.{TagSpec, LocationSpec, MetaSpec, MemberSpec,
 use Rattle.osm_text.specs.Dates.{time_text}
 use Rattle.osm_text.specs.Quoted.{quoted}
 
--- a number behind a space
+-- a number after a space
 abbrev pub spaced : ℤ → List ℕ
 spaced number = 32 ∷ [] ++ signed_decimal number
 
 abbrev pub spaced_pair : ℤ → ℤ → List ℕ
 spaced_pair first second = spaced first ++ spaced second
 
--- ---- metadata: each field that is present behind a space and its mark
+-- ---- metadata: each field that is present, after a space and its mark
 
 abbrev pub number_part : ℕ → Option ℤ → List ℕ
 number_part mark None = []

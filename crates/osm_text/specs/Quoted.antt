@@ -15,7 +15,7 @@ escaped b = 92 ∷ 120 ∷ hex_digit (b / 16) ∷ hex_digit (b % 16) ∷ []
 abbrev pub has_no_form : Bool → ℕ → Bool
 has_no_form utf8 b = nat_lt b 32 || b == 127 || (nat_le 128 b && not utf8)
 
--- one byte of a text: `"` and `\` behind a backslash
+-- one byte of a text: `"` and `\` after a backslash
 abbrev pub quoted_byte : Bool → ℕ → List ℕ
 quoted_byte utf8 b =
     if b == 34 || b == 92 then 92 ∷ b ∷ []

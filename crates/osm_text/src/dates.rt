@@ -118,7 +118,7 @@ fn put_utc(out: &mut Vec<u8>, millis: u64) -> Result<(), AllocError>
     Ok(())
 }
 
-/// Appends a time, given in milliseconds since 1970: where dates are asked for and it lies in the years from 1970 to 2099 as
+/// Appends a time, given in milliseconds since 1970: if dates are wanted and it lies in the years from 1970 to 2099 as
 /// date and time of day in UTC, otherwise as the number that it is. After an `Err` the output is unspecified.
 pub(crate) fn put_time(out: &mut Vec<u8>, millis: i128, dates: bool) -> Result<(), AllocError>
     ensures { OnOk result (out.new.items ≡ out.old.items ++ time_text dates millis) }

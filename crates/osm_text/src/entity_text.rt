@@ -252,9 +252,9 @@ fn put_relation(out: &mut Vec<u8>, view: &RelationRef<'_>, dates: bool) -> Resul
 /// longitude in nanodegrees; then what there is of the metadata, each after its mark, `v` version, `t` time, `c` changeset,
 /// `u` uid, `s` user and `d` whether it is visible, 1 or 0; then each tag, as key`=`value; then of a way each ref, as `n` and
 /// id, with `@`, latitude, `,` and longitude as long as there are locations, and of a relation each member, as `n`, `w` or `r`,
-/// id, `@` and role. Texts stand between quotation marks.
+/// id, `@` and role. Texts are in quotation marks.
 ///
-/// Times are milliseconds since 1970; where `dates` are asked for, those of the years from 1970 to 2099 are dates and times of
+/// Times are milliseconds since 1970; with `dates`, those of the years from 1970 to 2099 are dates and times of
 /// day in UTC, as `2009-02-13T23:31:30.000Z`.
 ///
 /// An `Err` says that memory is refused; the output then is unspecified.

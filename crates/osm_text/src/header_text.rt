@@ -109,8 +109,8 @@ fn put_changes(out: &mut Vec<u8>, header: &Header) -> Result<(), AllocError>
 
 /// Appends a line for each field of a header that is present: `H`, the field's word and what it holds, with single spaces
 /// between. The words are `bbox` (with the edges left, bottom, right and top in nanodegrees), `required` and `optional` (a line
-/// for each feature), `program`, `source`, `timestamp` (in seconds since 1970), `sequence` and `url`, in this order. Texts stand
-/// between quotation marks.
+/// for each feature), `program`, `source`, `timestamp` (in seconds since 1970), `sequence` and `url`, in this order. Texts are
+/// in quotation marks.
 ///
 /// An `Err` says that memory is refused; the output then is unspecified.
 pub fn put_header(out: &mut Vec<u8>, header: &Header) -> Result<(), AllocError>

@@ -40,8 +40,8 @@ fn put_quoted_byte(out: &mut Vec<u8>, byte: u8, is_utf8: bool) -> Result<(), All
     Ok(())
 }
 
-/// Appends a text between quotation marks. A quotation mark and a backslash stand after a backslash; a byte below 32, the
-/// byte 127 and, where the text as a whole is not UTF-8, each byte from 128 on are written as `\x` and two hexadecimal
+/// Appends a text between quotation marks. A backslash comes before a quotation mark and a backslash; a byte below 32, the
+/// byte 127 and, if the text as a whole is not UTF-8, each byte from 128 on are written as `\x` and two hexadecimal
 /// digits.
 ///
 /// An `Err` says that memory is refused; the output then is unspecified.
