@@ -1,4 +1,4 @@
--- Nodes and ways in one pass: the sets are those of the two passes, if no node comes behind a way.
+-- Nodes and ways in one pass: the sets are those of the two passes, if no node comes after a way.
 use Rattle.std.proofs.Common.{◌≡◌, Bool, true, false, ◌&&◌, not, cond, List, [], ◌∷◌, refl, sym, ap, ap₂, ◌∙◌, true≢false}
 use Rattle.std.specs.List.{fold}
 use Rattle.std.specs.FinSet as set
@@ -27,7 +27,7 @@ nodes_in_first sets (a_relation id members ∷ seen) = nodes_in_first sets seen
 
 -- ---- the ways
 
--- a node came behind a way
+-- a node came after a way
 abbrev broken : BoundingBox → Bool → Ids → FirstSets
 broken area has_ways ids = record { area = area; has_ways = has_ways; in_order = false; ways = start_ways ids }
 
@@ -37,7 +37,7 @@ broken_stays area has_ways ids (a_node id inside ∷ seen) = broken_stays area h
 broken_stays area has_ways ids (a_way id refs ∷ seen) = broken_stays area true ids seen
 broken_stays area has_ways ids (a_relation id members ∷ seen) = broken_stays area has_ways ids seen
 
--- ways were met, and no node behind one
+-- there were ways, and no node after one
 abbrev going : BoundingBox → WaySets → FirstSets
 going area ways = record { area = area; has_ways = true; in_order = true; ways = ways }
 
@@ -47,7 +47,7 @@ going_on area ways ids (a_node id inside ∷ seen) e = absurd (true≢false (sym
 going_on area ways ids (a_way id refs ∷ seen) e = going_on area (way_step ways (a_way id refs)) ids seen e
 going_on area ways ids (a_relation id members ∷ seen) e = going_on area ways ids seen e
 
--- no way was met
+-- there was no way
 abbrev fresh : BoundingBox → Ids → FirstSets
 fresh area ids = record { area = area; has_ways = false; in_order = true; ways = start_ways ids }
 

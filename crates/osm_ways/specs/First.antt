@@ -1,4 +1,4 @@
--- Nodes and ways in one pass: if no node comes behind a way, the sets are those of the two passes.
+-- Nodes and ways in one pass: if no node comes after a way, the sets are those of the two passes.
 use Rattle.std.specs.Prelude.{◌≡◌, Bool, true, false, ◌&&◌, not, if◌then◌else◌, List, refl}
 use Rattle.std.specs.Coded.{Coded, code_by, coded×, coded_bool}
 use Rattle.std.specs.List.{fold}
@@ -17,14 +17,14 @@ pub record FirstSets : Type 0 where
 abbrev pub first_sets_code : Coded FirstSets
 first_sets_code = code_by (NodeSets × (Bool × (Bool × WaySets))) (coded× node_sets_code (coded× coded_bool (coded× coded_bool way_sets_code))) (λ s. (record { area = s.area; box_ids = s.ways.box_ids }, (s.has_ways, (s.in_order, s.ways)))) (λ p. record { area = p.0.area; has_ways = p.1.0; in_order = p.1.1.0; ways = p.1.1.1 }) (λ _. refl)
 
--- if no way was met, or they were forgotten, there are none
+-- if there was no way, or the ways were dropped, no refs and no ways are held
 abbrev pub IsWayless : (has_ways in_order : Bool) (refs ways : Ids) → Type 0
 IsWayless has_ways in_order refs ways = (has_ways && in_order) ≡ false → (refs ≡ set.empty) × (ways ≡ set.empty)
 
 abbrev pub start_first : BoundingBox → FirstSets
 start_first area = record { area = area; has_ways = false; in_order = true; ways = start_ways set.empty }
 
--- ways that were met before a node are forgotten: its id may be among their refs
+-- ways that came before a node are dropped: its id may be among their refs
 abbrev pub before_node : FirstSets → FirstSets
 before_node sets = record { area = sets.area; has_ways = sets.has_ways; in_order = sets.in_order && not sets.has_ways; ways = start_ways sets.ways.box_ids }
 

@@ -1,4 +1,4 @@
-//! Which entities are kept, asked of many one after another.
+//! Which entities are kept, for many of them one after another.
 
 ghost use Rattle.std.specs.Prelude.{◌≡◌};
 ghost use Rattle.std.specs.FinSet as set;
@@ -14,7 +14,7 @@ use osm_entity::{MemberKind, MemberRef, Refs, RelationRef, WayRef};
 use osm_ids::Lookup;
 use std::marker::Model;
 
-/// What was chosen, to be asked of many entities one after another: each look-up begins where the last one ended, so ids that
+/// What was chosen, to test many entities one after another: each look-up begins where the last one ended, so ids that
 /// lie close together are cheap. It does not allocate.
 #[derive(Drop)]
 pub struct Chooser<'a> {
@@ -111,7 +111,7 @@ impl<'a> Chooser<'a> {
 }
 
 impl Chosen {
-    /// The same sets, to be asked of many entities one after another.
+    /// The same sets, to test many entities one after another.
     pub fn chooser(&self) -> Chooser<'_>
         ensures { result ≡ self.now }
     {

@@ -1,4 +1,4 @@
-//! The phase of nodes that takes ways too, as long as no node comes behind one.
+//! The phase of nodes that takes ways too, as long as no node comes after one.
 
 ghost use Rattle.std.specs.Prelude.{◌≡◌, IfOk, OnOk};
 ghost use Rattle.osm_box.specs.BoundingBox.{is_inside};
@@ -23,9 +23,9 @@ pub struct FirstPhase {
     refs: IdSet,
     /// The ids of kept ways; none where the order was broken.
     way_ids: IdSet,
-    /// Whether a way was met.
+    /// Whether there was a way.
     has_ways: bool,
-    /// Whether no node came behind a way.
+    /// Whether no node came after a way.
     in_order: bool,
     alloc: Global,
 }
@@ -107,7 +107,7 @@ impl FirstPhase {
         self.in_order = false;
     }
 
-    /// Adds a way with a ref among the box's nodes, its id and all its refs, if no node came behind a way.
+    /// Adds a way with a ref among the box's nodes, its id and all its refs, if no node came after a way.
     ///
     /// # Errors
     ///
@@ -138,7 +138,7 @@ impl FirstPhase {
         add_way(&mut known, &mut self.refs, &mut self.way_ids, way)
     }
 
-    /// Whether no node came behind a way, so that all ways were taken too.
+    /// Whether no node came after a way, so that all ways were taken too.
     pub fn is_in_order(&self) -> bool
         ensures { result ≡ self.now.in_order }
     {

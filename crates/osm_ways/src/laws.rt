@@ -21,7 +21,7 @@ pub fn extract_twice_is_once<X>()
         → extract_with_parents look (extract_with_parents look xs) ≡ extract_with_parents look xs }
 {}
 
-/// Where two views of an entity look alike to the selection, the extract of the one is the one view of the extract.
+/// If two views of an entity look alike to the selection, the extract of the one view is that view of the extract.
 pub fn extract_follows_view<X, Y>()
     ensures ways { (view : X → Y) (look : X → Seen) (other : Y → Seen)
         → ((x : X) → other (view x) ≡ look x) → (xs : List X)
@@ -42,7 +42,7 @@ pub fn parents_are_least()
         → set.contains ids ≡ relation_ids seen }
 {}
 
-/// One pass over nodes and ways gathers what two do, if no node comes behind a way; otherwise what the one over nodes does.
+/// One pass over nodes and ways gathers what two do, if no node comes after a way; otherwise what the one over nodes does.
 pub fn one_pass_is_two()
     ensures in_order { (area : BoundingBox) (seen : List Seen)
         → (first_pass area seen).in_order ≡ true → (first_pass area seen).ways ≡ way_pass seen }

@@ -4,7 +4,7 @@ use Rattle.std.specs.FinSet as set
 use Rattle.osm_entity.specs.Sources.{refs_left}
 use Rattle.osm_ways.proofs.phases.is_kept_by.Given as goal
 
--- the refs that are left tell
+-- it depends on the refs that are left
 abbrev pub invariant-loop-id : goal.invariant-loop-id
 invariant-loop-id g l = record {
   can : (goal.iterator-loop-id g).can_next l.id-iterator;

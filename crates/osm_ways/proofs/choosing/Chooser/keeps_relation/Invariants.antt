@@ -7,7 +7,7 @@ use Rattle.osm_ways.specs.Selection.{is_selecting}
 use Rattle.osm_ways.specs.Seen.{seen_member}
 use Rattle.osm_ways.proofs.choosing.Chooser.keeps_relation.Given as goal
 
--- the members that are left tell
+-- it depends on the members that are left
 abbrev pub invariant-loop-member : goal.invariant-loop-member
 invariant-loop-member l = record {
   can : (goal.iterator-loop-member).can_next l.member-iterator;
