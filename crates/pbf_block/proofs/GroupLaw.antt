@@ -19,7 +19,7 @@ use Rattle.pbf_block.specs.declared.group.TheConstants.{GROUP_KINDS, DENSE, CHAN
 use Rattle.pbf_block.specs.Group.{member_wire, group_wire, member_structure, is_member, first_member, is_other, entities_structure, group_structure, member_values, weight_fault, member_weights, member_entities}
 use Rattle.pbf_block.specs.PrimitiveBlock.{by_index}
 
--- a message at the field k of a group has no fault and holds these entities, wherever it stands
+-- a message at the field k of a group has no fault and holds these entities, wherever it is
 pub record MemberGood (table : List (List ℕ)) (scale : Scale) (k : ℕ) (m : List ℕ) (es : List EntitySpec) : Type 0 where
   pub wire : (place begin : ℕ) → member_wire (field_at place k (Bytes m begin)) ≡ []
   pub structure : (place begin : ℕ) → entities_structure (field_at place k (Bytes m begin)) ≡ []

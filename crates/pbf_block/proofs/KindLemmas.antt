@@ -91,7 +91,7 @@ module _ (kinds : Kinds) (how : How) (table : List (List ℕ)) (scale : Scale) w
   pub all_kept : (os : List Occurrence) → entities_among kinds how table scale os ≡ filter (is_among kinds) (flat_map (in_group (member_entities how table scale)) os)
   all_kept os = kept_parts (is_among kinds) (in_group (member_entities how table scale)) (group_entities_among kinds how table scale) group_kept os
 
--- if all kinds are asked for, a field gives all its entities
+-- if all kinds are wanted, a field gives all its entities
 pub member_of_all : (kinds : Kinds) (how : How) (table : List (List ℕ)) (scale : Scale) → ((e : EntitySpec) → is_among kinds e ≡ true) → (o : Occurrence) → member_entities_among kinds how table scale o ≡ member_entities how table scale o
 member_of_all kinds how table scale all o = member_kept kinds how table scale o ∙ filter_every (is_among kinds) all (member_entities how table scale o)
 

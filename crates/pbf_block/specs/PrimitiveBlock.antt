@@ -71,7 +71,7 @@ payload_weights at m = let os = fields_in at m in flat_map (in_group (member_wei
 
 -- ---- all phases
 
--- phase by phase, where texts are those of the last table wherever it stands
+-- phase by phase; the texts are those of the last table, wherever it is
 abbrev pub block_phases : ℕ → List ℕ → List (List Fault)
 block_phases at m = wire_faults at m ∷ structure_faults at m ∷ value_faults (length (table_of (fields_in at m))) at m ∷ payload_weights at m ∷ []
 

@@ -62,7 +62,7 @@ fn read_table<'a>(alloc: Global, payload: Message<'a>) -> Result<Table<'a>, Allo
     Table::open(alloc, bytes_in(last_field(payload, STRINGTABLE)))
 }
 
-/// The first fault of the phases that look at texts: of values, or else of weights.
+/// The first fault of the phases that read texts: of values, otherwise of weights.
 fn late_fault<'a>(payload: Message<'a>, table: &'a Table<'a>, scale: Scale) -> Option<Fault>
     requires texts { table.now ≡ table_of (found_in payload) }
     requires scale { scale ≡ scale_of (found_in payload) }
@@ -135,8 +135,8 @@ impl<'a> Block<'a> {
         Entities::of(self.runs_among(Kinds::all()))
     }
 
-    /// The entities of these kinds, in order, those of a dense message together. Messages of other kinds aren't looked into. Takes no
-    /// memory.
+    /// The entities of these kinds, in order, those of a dense message together. Messages of other kinds aren't read. Doesn't
+    /// allocate.
     pub fn runs_among(&self, kinds: Kinds) -> Runs<'_>
         ensures exact { joined_runs (runs_left result)
             ≡ filter (is_among kinds) (entities self.now.at self.now.payload.now) }

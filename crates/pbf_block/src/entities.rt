@@ -5,7 +5,7 @@ use osm_entity::EntityRef;
 use pbf_dense::Dense;
 
 /// The entities of a block that are still to come, in the order of its groups: an iterator over its runs, which does not allocate. A
-/// copy of it goes on by itself.
+/// copy of it continues by itself.
 #[derive(Clone, Copy)]
 pub struct Entities<'a> {
     /// What is left of the dense message that was begun.

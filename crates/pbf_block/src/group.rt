@@ -179,7 +179,7 @@ fn are_light(parts: u64, longest: u64) -> bool
 }
 
 /// Whether no entity of a field can be too heavy, by how much there is of it, if no text is longer than `longest`. None is
-/// looked at.
+/// read.
 #[tactic(auto, using(crate::proofs::LightLemmas::dense_member, crate::proofs::LightLemmas::other_member))]
 fn is_light(field: Field<'_>, longest: u64) -> bool
     ensures { (table : List (List ℕ)) (scale : Scale) → longest_of table ≤ longest → IsTrue result

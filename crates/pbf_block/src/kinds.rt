@@ -6,7 +6,7 @@ ghost use Rattle.pbf_block.specs.Kinds.{holds_kind, is_among};
 
 use crate::group::{DENSE, NODES, RELATIONS, WAYS};
 
-/// Which kinds of entities are asked for.
+/// Which kinds of entities are wanted.
 #[derive(Clone, Copy, Debug)]
 pub struct Kinds {
     pub nodes: bool,

@@ -86,7 +86,7 @@ pub fn written_block_fits()
 {}
 
 /// Entities that may be in one block are written as a block that has no fault of any phase, and that holds those entities,
-/// wherever in a file it stands.
+/// wherever in a file it is.
 #[tactic(auto, using(crate::proofs::WrittenLaw::written_sound, crate::proofs::WrittenLaw::written_read))]
 pub fn written_block_is_read()
     ensures sound { (at : ℕ) (es : List EntitySpec) → is_block es ≡ true

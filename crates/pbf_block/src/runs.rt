@@ -20,7 +20,7 @@ use pbf_wire::{Field, Message, Payload};
 /// Entities that one field of a group holds.
 #[derive(Clone, Copy)]
 pub enum Run<'a> {
-    /// None, or none of the kinds asked for.
+    /// None, or none of the wanted kinds.
     Nothing,
     /// A node or a relation, with a message of its own.
     One(EntityRef<'a>),
