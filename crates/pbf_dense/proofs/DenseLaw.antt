@@ -228,7 +228,7 @@ module _ (texts : List (List ℕ)) (scale : Scale) (ns : List NodeSpec) (h : Nod
   dense_are : AllByRecursion (SlotIs DENSE_KINDS) (dense_slots written)
   dense_are = (refl, (refl, (refl, (refl, (refl, tt)))))
 
-  -- what is asked of DenseInfos is asked of the written one
+  -- what is required of DenseInfos is required of the written one
   only_info : (g : ℕ → ℕ → List ℕ → List Fault) → ((place at : ℕ) → g place at (info_message written.info) ≡ []) → AllByRecursion (SlotQuiet (entered DENSEINFO g)) (dense_slots written)
   only_info g e = (
     column_quiet (entered DENSEINFO g) ID (deltas written.ids) (λ place at bytes. refl),

@@ -111,7 +111,7 @@ node_pushed texts ns n old user ids lats lons versions times changesets uids use
 pub no_runs : (tagged : Bool) (runs old : List ℕ) → tagged ≡ false → old ≡ old ++ slot_bytes (Column 10 (if tagged then runs else []))
 no_runs tagged runs old e = rw e (nothing_put (Column 10 []) old (column_empty 10 [] refl))
 
--- ---- a node whose parts were asked for
+-- ---- a node whose parts were read
 
 pub node_room : (start middle : List (List ℕ)) (n : NodeSpec) (m : MetaSpec) (tags : List TagSpec) → m ≡ n.meta → tags ≡ n.tags → middle ≡ texts_after start (tag_texts tags) → length start + length (node_texts n) ≤ 1048575 → length middle + length (option_to_list m.user) ≤ 1048575
 node_room start middle n m tags em et e h = room_left start middle (tag_texts tags) (length (option_to_list m.user)) e (rw (em, et) (let l = length-append (tag_texts n.tags) (option_to_list n.meta.user) in omega (arith, l, h)))

@@ -63,7 +63,7 @@ module _ {X : Type 0} (f : MetaSpec → Option X) (m : MetaSpec) (metas : List M
   others : is_some (f m) ≡ false → filter_map f metas ≡ []
   others e = none_there f metas (subst (λ b. AllByRecursion (λ m. is_some (f m) ≡ b) metas) (sym h.1.0 ∙ e) h.1.1)
 
-  -- the first entry is the first one's field, and the others stand behind it
+  -- the first entry is the first one's field, and the others come after it
   first_of : slice_get (filter_map f (m ∷ metas)) 0 ≡ f m
   first_of = one_first (f m) (filter_map f metas) others
 
@@ -130,7 +130,7 @@ info_of_columns versions timestamps changesets uids users visible = record { ver
 pub info_same : (a a' : List ℕ) (b b' c c' d d' e e' : List ℤ) (f f' : List ℕ) → a ≡ a' → b ≡ b' → c ≡ c' → d ≡ d' → e ≡ e' → f ≡ f' → info_of_columns a b c d e f ≡ info_of_columns a' b' c' d' e' f'
 info_same a a' b b' c c' d d' e e' f f' p q r s t u = rw (p, q, r, s, t, u) refl
 
--- the columns behind it
+-- the columns after it
 pub info_later : (texts : List (List ℕ)) (m : MetaSpec) (metas : List MetaSpec) → AreAlike (m ∷ metas) → later (info_columns texts (m ∷ metas)) ≡ info_columns texts metas
 info_later texts m metas h =
     info_same _ _ _ _ _ _ _ _ _ _ _ _

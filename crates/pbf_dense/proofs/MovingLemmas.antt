@@ -30,7 +30,7 @@ run_first : (n : ℕ) (keys_vals : List ℕ) → after_runs (suc n) keys_vals �
 run_first zero keys_vals = refl
 run_first (suc n) keys_vals = ap after_run (run_first n keys_vals)
 
--- columns that are moved on by n each give what is behind the first n nodes
+-- columns that are moved on by n each give what comes after the first n nodes
 pub moving_on : (table : List (List ℕ)) (scale : Scale) (n : ℕ) (ids lats lons : List ℤ) (info : InfoSpec) (keys_vals : List ℕ)
     → moving table scale (drop n ids) (drop n lats) (drop n lons) (later_by n info) (after_runs n keys_vals) ≡ drop n (moving table scale ids lats lons info keys_vals)
 moving_on table scale zero ids lats lons info keys_vals = refl

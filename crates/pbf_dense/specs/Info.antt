@@ -60,7 +60,7 @@ info_along os = record {
   visible = column VISIBLE os;
 }
 
--- the columns behind their first n entries
+-- the columns after their first n entries
 abbrev pub later_by : ℕ → InfoSpec → InfoSpec
 later_by n info = record {
   versions = drop n info.versions;

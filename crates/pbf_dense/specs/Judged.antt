@@ -1,4 +1,4 @@
--- The faults of a DenseInfo and of a DenseNodes, phase by phase. `place` is that of its field in the file, `at` where its first byte stands.
+-- The faults of a DenseInfo and of a DenseNodes, phase by phase. `place` is that of its field in the file, `at` that of its first byte.
 use Rattle.std.specs.Prelude.{ℕ, zero, suc, ◌^◌, ◌==◌, ◌&&◌, ◌||◌, pos, Bool, true, false, not, nat_lt, if◌then◌else◌, ◌≡◌, ◌≤◌, List, [], ◌∷◌, ◌++◌, length, map, Option, Some, None}
 use Rattle.std.specs.List.{flat_map}
 use Rattle.std.specs.Option.{option_or}

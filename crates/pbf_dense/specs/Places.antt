@@ -1,4 +1,4 @@
--- Where nodes stand.
+-- Where nodes are.
 use Rattle.std.specs.Prelude.{◌≡◌, ℤ, List, [], ◌∷◌, ◌++◌, map}
 use Rattle.pbf_wire.specs.Cursors.{sums_left}
 use Rattle.osm_entity.specs.declared.scale.Scale.{Scale}

@@ -1,4 +1,4 @@
--- The tags of dense nodes: runs of keys and values, each with a 0 in key place behind it.
+-- The tags of dense nodes: runs of keys and values, each with a 0 in key place after it.
 use Rattle.std.specs.Prelude.{ℕ, zero, suc, List, [], ◌∷◌, map, slice_index_or}
 use Rattle.osm_entity.specs.Entity.{TagSpec}
 use Rattle.osm_entity.specs.Sources.{tag_of}
@@ -19,14 +19,14 @@ runs_in (suc key ∷ value ∷ rest) = with_pair (suc key, value) (runs_in rest)
 unfoldable pub tags_at : List (List ℕ) → List ℕ → ℕ → List TagSpec
 tags_at table column i = map (tag_of table) (slice_index_or (runs_in column) i [])
 
--- what stands behind the next 0 in key place
+-- what comes after the next 0 in key place
 abbrev pub after_run : List ℕ → List ℕ
 after_run [] = []
 after_run (zero ∷ rest) = rest
 after_run (suc key ∷ []) = []
 after_run (suc key ∷ value ∷ rest) = after_run rest
 
--- what stands behind the next n of them
+-- what comes after the next n of them
 abbrev pub after_runs : ℕ → List ℕ → List ℕ
 after_runs zero column = column
 after_runs (suc n) column = after_run (after_runs n column)

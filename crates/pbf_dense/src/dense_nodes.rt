@@ -1,4 +1,4 @@
-//! The rules of a DenseNodes, phase by phase. Each phase asks those of the DenseInfos in it too.
+//! The rules of a DenseNodes, phase by phase. Each phase applies those of the DenseInfos in it too.
 
 ghost use Rattle.std.specs.Prelude.{◌≡◌, ◌≤◌, ◌^◌, ℕ, false, map};
 ghost use Rattle.pbf_wire.specs.Columns.{joined};
@@ -99,7 +99,7 @@ fn are_tags(keys_vals: Column<'_>, nodes: usize) -> bool
 }
 
 impl Dense<'_> {
-    /// The least fault of structure of a dense message, whose field stands at `place`: columns of different counts, tags that are
+    /// The least fault of structure of a dense message, whose field is at `place`: columns of different counts, tags that are
     /// not of their form, a second DenseInfo. If the message has a wire fault, its fields before that count. Decodes no
     /// column but that of the tags.
     #[tactic(auto, using(crate::proofs::Parts::lesser_parts), unfolding(crate::specs::Judged::dense_structure))]

@@ -58,8 +58,8 @@ impl<'a> Dense<'a> {
     ghost use Rattle.pbf_dense.specs.Cursors.{dense_left};
     ghost use Rattle.pbf_dense.specs.Judged.{IsSound};
 
-    /// Judges a dense message by one phase. Its first byte stands at `at` in the file, and its field at `place`; the table is
-    /// that of its block. The error is the least fault of the phase. Weights are judged only where the other phases have no
+    /// Judges a dense message by one phase. Its first byte is at `at` in the file, and its field at `place`; the table is
+    /// that of its block. The error is the least fault of the phase. Weights are judged only if the other phases have no
     /// fault, so that takes a pass over all of them.
     pub fn judge(
         message: &[u8],

@@ -9,7 +9,7 @@ ghost use Rattle.pbf_dense.specs.Nodes.{nodes};
 ghost use Rattle.pbf_dense.specs.Judged.{dense_wire, dense_structure, dense_values, dense_fault};
 ghost use Rattle.pbf_dense.specs.WrittenDense.{dense_message, NodesHeld};
 
-/// Nodes that are written as one dense message are read back, wherever in the file it stands, and it has no fault: none of
+/// Nodes that are written as one dense message are read back, wherever in the file it is, and it has no fault: none of
 /// wire form, of structure, of values, and no node is too heavy.
 #[tactic(auto, using(crate::proofs::NodesLaw::clauses))]
 pub fn written_nodes_are_read()
