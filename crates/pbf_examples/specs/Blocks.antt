@@ -1,7 +1,7 @@
 -- Blocks. The payload of an OSMData frame is a PrimitiveBlock: a table of texts, groups of
 -- entities, and the scale, four numbers that say what the stored numbers mean.
 --
--- In the files of this chapter the block stands from byte 36 on.
+-- In the files of this chapter the block begins at byte 36.
 use Rattle.std.specs.Prelude.{ℕ, List, [], ◌∷◌, ◌++◌, pos}
 use Rattle.pbf_wire.specs.declared.fault.Reason.TheVariants.{VarintCut, VarintLong, LengthPast, Missing, TwiceMessage, MixedGroup, Changesets, StringIndex, Granularity, DateGranularity, TagColumns}
 use Rattle.pbf_examples.specs.Hex.{hex}
@@ -67,8 +67,8 @@ pub record GroupFaults : Type 0 where
 
 -- ---- the scale
 
--- a place is `offset + granularity * stored`; the node's stored place is 1 and 1. The numbers stand
--- from byte 59 on
+-- a place is `offset + granularity * stored`; the node's stored place is 1 and 1. The numbers
+-- begin at byte 59
 abbrev pub scaled : List ℕ → List ℕ
 scaled numbers = with_block (ab ++ dense_1 ++ numbers)
 
@@ -109,10 +109,10 @@ pub record ScaleFaults : Type 0 where
 
 -- ---- which of several faults is returned
 
--- of one frame: by phase (wire form, structure, values), then by offset; and no frame behind it is
--- looked at
+-- of one frame: by phase (wire form, structure, values), then by offset; and no frame after it is
+-- read
 pub record FirstFault : Type 0 where
-  -- two ways: a key that the table has not, and behind it a way that is cut
+  -- two ways: a key that the table lacks, and after it a way that is cut
   pub value_and_wire :
       with_block (one_text
       ++ field "12" (hex "1a 08  08 01  12 01 05  1a 01 00" ++ hex "1a 01  08"))
@@ -129,7 +129,7 @@ pub record FirstFault : Type 0 where
       with_block (one_text
       ++ field "12" (hex "1a 05  08 01  12 01 00" ++ hex "0a 06  08 02  40 02  48 02"))
       refused_at 42 for TagColumns
-  -- a granularity of 0, and a group with changesets behind it
+  -- a granularity of 0, and a group with changesets after it
   pub structure_first :
       with_block (one_text ++ hex "88 01 00" ++ hex "12 02 2a 00") refused_at 45 for Changesets
   -- a block with changesets, and a byte after it; `blobs`, which reads only frames, lists the

@@ -170,11 +170,11 @@ of_node id role = with_member id role "02" "00"
 abbrev pub of_relation : String → String → String → List ℕ
 of_relation id member role = with_member id role member "02"
 
--- behind node 1, as they are read: a role is text 0
+-- after node 1, as they are read: a role is text 0
 abbrev pub read : List ℕ → List ℕ
 read relations = header ++ node_1 ++ data_frame (one_text ++ field "12" relations)
 
--- and as they are written: a text in use has an entry behind text 0, so a role is text 1
+-- and as they are written: a text in use has an entry after text 0, so a role is text 1
 abbrev pub written : List ℕ → List ℕ
 written relations =
     written_header ++ node_1 ++ data_frame (hex "0a 04 0a 00 0a 00" ++ field "12" relations)

@@ -106,12 +106,12 @@ pub record SpelledFrames : Type 0 where
   pub longer : hex "00 00 00 0e" ++ header_type ++ hex "18 82 00  0a 00" means []
   pub longer_listed :
       hex "00 00 00 0e" ++ header_type ++ hex "18 82 00  0a 00" lists "0 OSMHeader 2 0" ∷ []
-  -- 2 `indexdata` is not looked at, and an unknown field 4 is skipped
+  -- 2 `indexdata` is not read, and an unknown field 4 is skipped
   pub more : hex "00 00 00 13" ++ header_type ++ hex "12 01 ff  22 01 ff  18 02  0a 00" means []
   -- the last `datasize` counts, and so does the last `raw`
   pub sized_twice : hex "00 00 00 0f" ++ header_type ++ hex "18 07  18 02  0a 00" means []
   pub raw_twice : header_head ++ hex "05  0a 01 ff  0a 00" means []
-  -- 2 `raw_size` is not looked at
+  -- 2 `raw_size` is not read
   pub raw_size : header_head ++ hex "04  0a 00  10 05" means []
 
 -- ---- frames of another type
@@ -139,7 +139,7 @@ pub record FrameOrder : Type 0 where
   pub second_header : header ++ header refused_at 19 for SecondHeader
   pub header_last : node_1 ++ header refused_at 0 for DataFirst
   pub no_header : drop 19 three_nodes refused_at 0 for DataFirst
-  -- `blobs` lists what stands before the frame with the fault
+  -- `blobs` lists what comes before the frame with the fault
   pub second_header_listed : header ++ header lists "0 OSMHeader 2 0" ∷ []
   pub data_first_listed : node_1 ++ header lists []
 
@@ -161,7 +161,7 @@ pub record CutFile : Type 0 where
 pub record FrameFaults : Type 0 where
   -- a BlobHeader of 65,536 bytes
   pub long : hex "00 01 00 00" refused_at 0 for HeaderLong
-  -- the BlobHeader stands at 4, and has no `type`, no `datasize`
+  -- the BlobHeader is at 4, and has no `type`, no `datasize`
   pub no_type : hex "00 00 00 02  18 02  0a 00" refused_at 4 for Missing 1
   pub no_size : hex "00 00 00 0b" ++ header_type ++ hex "0a 00" refused_at 4 for Missing 3
   -- -1, in ten bytes, and 33,555,456
@@ -176,7 +176,7 @@ pub record FrameFaults : Type 0 where
       hex "00 00 00 0e" ++ header_type ++ hex "1a 01 02  0a 00" refused_at 15 for WrongType
   pub blob_cut : header_head ++ hex "01  0a" refused_at 17 for VarintCut
 
--- a frame ends at byte 2^62 at the latest: these 19 bytes, as they would stand far behind in a file
+-- a frame ends at byte 2^62 at the latest: these 19 bytes, as if they were far on in a file
 pub record LongestFile : Type 0 where
   pub most : (judged false (2 ^ 62 - 19) header).1 ≡ None
   pub over : (judged false (2 ^ 62 - 18) header).1 ≡ Some (fault (2 ^ 62 - 18) FileLong)

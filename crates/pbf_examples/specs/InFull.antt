@@ -105,7 +105,7 @@ pub record OddBlock : Type 0 where
 -- ---- what is written in full
 
 -- a negative id and version in ten bytes each, a tag twice, an empty text, all metadata, and locations
--- behind the refs
+-- after the refs
 abbrev pub full_way : List ℕ
 full_way =
     converted_header

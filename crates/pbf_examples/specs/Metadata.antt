@@ -46,8 +46,8 @@ pub record Stop : Type 0 where
 abbrev pub ann : List ℕ
 ann = hex "0a 07  0a 00  0a 03 61 6e 6e"
 
--- node 1 with these fields as its Info, and behind the group these numbers of the scale; the Info's
--- fields stand from byte 57 on
+-- node 1 with these fields as its Info, and after the group these numbers of the scale; the Info's
+-- fields begin at byte 57
 abbrev pub info_and_scale : List ℕ → List ℕ → List ℕ
 info_and_scale info scale =
     with_block (ann ++ field "12" (field "0a" (hex "08 02  40 02  48 02" ++ field "22" info))
@@ -134,7 +134,7 @@ pub record InfoFaults : Type 0 where
 
 -- ---- DenseInfo
 
--- two nodes with these columns as their DenseInfo, which stand from byte 61 on
+-- two nodes with these columns as their DenseInfo, which begin at byte 61
 abbrev pub with_columns : List ℕ → List ℕ
 with_columns info =
     with_block (ann

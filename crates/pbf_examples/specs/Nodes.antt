@@ -11,7 +11,7 @@ use Rattle.pbf_examples.specs.Blocks.{with_block, one_text}
 
 -- ---- columns
 
--- a header and a block whose group is a DenseNodes of these columns; they stand from byte 44 on
+-- a header and a block whose group is a DenseNodes of these columns; they begin at byte 44
 abbrev pub with_dense : List ℕ → List ℕ
 with_dense columns = with_block (one_text ++ field "12" (field "12" columns))
 

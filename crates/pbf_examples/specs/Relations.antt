@@ -28,7 +28,7 @@ of_three_kinds =
     relation (pos 8) (member kind.Node (pos 1) ∷ member kind.Way (pos 2)
     ∷ member kind.Relation (minus 3) ∷ []) ∷ []
 
--- the texts "" and "to", and a relation of these fields; they stand from byte 48 on
+-- the texts "" and "to", and a relation of these fields; they begin at byte 48
 abbrev pub with_relation : List ℕ → List ℕ
 with_relation fields =
     with_block (hex "0a 06  0a 00  0a 02 74 6f" ++ field "12" (field "22" fields))

@@ -72,9 +72,9 @@ keyed key =
 
 pub record QuotedTexts : Type 0 where
   pub quote : keyed (hex "61 22 5c 0a") shows "N 1 100 100 \"a\\\"\\\\\\x0a\"=\"b\"" ∷ []
-  -- a letter of two bytes stands as it is, a control character does not
+  -- a letter of two bytes is printed as it is, a control character is not
   pub letter : keyed (hex "c3 a9 7f") shows "N 1 100 100 \"é\\x7f\"=\"b\"" ∷ []
-  -- a control character past ASCII stands as it is too
+  -- a control character past ASCII is printed as it is too
   pub control : keyed (hex "c2 80") shows "N 1 100 100 \"\u{80}\"=\"b\"" ∷ []
   -- these are not UTF-8 as a whole: a stray byte, a surrogate, a zero in two bytes
   pub stray : keyed (hex "c3 a9 ff") shows "N 1 100 100 \"\\xc3\\xa9\\xff\"=\"b\"" ∷ []

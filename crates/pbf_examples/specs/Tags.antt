@@ -44,7 +44,7 @@ pub record NoTags : Type 0 where
 
 -- ---- tags of dense nodes
 
--- three nodes at one place with these fields besides; these stand from byte 65 on
+-- three nodes at one place with these fields besides, which begin at byte 65
 abbrev pub three_with : List ℕ → List ℕ
 three_with fields =
     with_block (ab
@@ -75,7 +75,7 @@ pub record DenseTags : Type 0 where
       three_with (hex "52 05  01 00 00  00  00") means three_of (tag "a" "" ∷ []) [] []
   -- an int32 is the low 32 bits, so 2^32 is an end
   pub high_bits : one_with (hex "52 07  01 02 80 80 80 80 10") means one_of (tag "a" "b" ∷ [])
-  -- a tag that is repeated counts as often as it stands
+  -- a tag that is repeated counts as often as it occurs
   pub repeated :
       one_with (hex "52 07  01 02 01 02 01 01 00")
       means one_of (tag "a" "b" ∷ tag "a" "b" ∷ tag "a" "a" ∷ [])
@@ -93,7 +93,7 @@ pub record DenseTagFaults : Type 0 where
 
 -- ---- keys and vals
 
--- a way with these fields beside its id, which stand from byte 52 on
+-- a way with these fields beside its id, which begin at byte 52
 abbrev pub way_with : List ℕ → List ℕ
 way_with fields = with_block (ab ++ field "12" (field "1a" (hex "08 07" ++ fields)))
 
@@ -145,12 +145,12 @@ pub record Texts : Type 0 where
   pub behind :
       with_block (hex "12 0a  1a 08  08 07  12 01 01  1a 01 02" ++ ab)
       means way_7 (tag "a" "b" ∷ [])
-  -- the first text need not be empty, and a text may stand twice
+  -- the first text need not be empty, and a text may be there twice
   pub first_is_used :
       with_block (hex "0a 03 0a 01 61  12 0a  1a 08  08 07  12 01 00  1a 01 00")
       means way_7 (tag "a" "a" ∷ [])
   pub twice : by_table (hex "0a 01 61  0a 01 62  0a 01 62") means way_7 (tag "b" "b" ∷ [])
-  -- a text is bytes as they stand: c3 a9 is a letter in UTF-8, and ff is none
+  -- a text is any bytes: c3 a9 is a letter in UTF-8, and ff is none
   pub letter :
       by_table (hex "0a 00  0a 02 c3 a9  0a 01 ff") means way_7 ((hex "c3 a9", hex "ff") ∷ [])
   pub empty_table :

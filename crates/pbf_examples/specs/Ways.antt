@@ -38,7 +38,7 @@ pub record WayAndNodes : Type 0 where
 
 -- ---- refs
 
--- `with_way` is a header and one Way, whose fields stand from byte 44 on
+-- `with_way` is a header and one Way, whose fields begin at byte 44
 pub record Refs : Type 0 where
   pub none : with_way (hex "08 07") means way (pos 7) [] ∷ []
   pub in_pieces : with_way (hex "42 01 02  08 07  42 02 02 02") means way (pos 7) refs_123 ∷ []

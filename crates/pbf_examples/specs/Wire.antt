@@ -2,8 +2,8 @@
 -- 8 + wire type`, and what the type says: 0 a varint, 1 eight bytes, 2 a length and so many
 -- bytes, 5 four bytes.
 --
--- The file of this chapter is a header and one Node message, whose three fields stand from byte
--- 44 on.
+-- The file of this chapter is a header and one Node message, whose three fields begin at byte
+-- 44.
 use Prim.Native.String.{String}
 use Rattle.std.specs.Prelude.{ℕ, List, [], ◌∷◌, ◌++◌, length, map, replicate, pos}
 use Rattle.pbf_wire.specs.declared.fault.Reason.TheVariants.{VarintCut, VarintLong, NumberZero, TagLarge, Group, WireType, LengthPast, FixedCut, WrongType}
@@ -68,7 +68,7 @@ pub record FieldOrder : Type 0 where
   -- of a field that occurs again the last counts
   pub twice : with_node (hex "08 16  40 02  48 02  08 14") means ten
 
--- a field that is not known is skipped, by its wire type; what it holds is not looked at
+-- a field that is not known is skipped, by its wire type; what it holds is not read
 pub record UnknownFields : Type 0 where
   pub number : with_node (hex "08 14  78 05  40 02  48 02") means ten
   pub eight_bytes : with_node (hex "79 ff ff ff ff ff ff ff ff  08 14  40 02  48 02") means ten

@@ -151,7 +151,7 @@ pub record WrittenEntities : Type 0 where
 
 -- ---- blocks
 
--- node 1 with a version, which stands behind the place where it is read; and node 2 without
+-- node 1 with a version, which comes after the place where it is read; and node 2 without
 abbrev pub version_read : List ℕ
 version_read =
     data_frame (one_text ++ hex "12 10 12 0e  0a 01 02  42 01 02  4a 01 02  2a 03 0a 01 01")
