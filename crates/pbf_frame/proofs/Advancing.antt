@@ -26,7 +26,7 @@ reading_stopped s stop a b = cc
 ended_stopped : (s : State) (stop : Stop) → s ≡ Ended → s ≡ Stopped stop → ⊥
 ended_stopped s stop a b = cc
 
--- what a read leaves whatever it answers
+-- what a read leaves whatever it returns
 pub record Keeps {F : Type 0} (failures : F → ℕ) (lender : F → List GName) (old new : FrameReader F) : Type 0 where
   pub reading : old.state ≡ Reading
   pub same_lender : lender new.feed ≡ lender old.feed

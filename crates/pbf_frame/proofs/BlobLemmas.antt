@@ -42,7 +42,7 @@ option_last : (o : Option Fault) → option_or o None ≡ o
 option_last None = refl
 option_last (Some f) = refl
 
--- the first fault of a blob, where the first wire fault stands for the phase of its wire form
+-- the first fault of a blob, in which the first wire fault represents the phase of its wire form
 pub blob_steps : (at : ℕ) (blob : List ℕ) → blob_fault at blob ≡ option_or (wire BLOB_KINDS (items at blob)) (least (blob_faults at blob))
 unfolding blob_fault
 blob_steps at blob = ap₂ option_or (leaf_is_wire BLOB_KINDS (items at blob)) (option_last (least (blob_faults at blob)))

@@ -67,7 +67,7 @@ head_parts at header head e =
     let same : head_says at header ≡ head = cc in
     (wired, sound, sym (ap (λ (x : Head). x.kind) same), sym (ap (λ (x : Head). x.size) same))
 
--- ---- the same of a feed that may not tell its bytes
+-- ---- the same of a feed that may not report its bytes
 
 abbrev GivesPrefix : Bool → ℕ → Option (List ℕ) → Option (List ℕ) → Option (List ℕ) → Type 0
 GivesPrefix h p old new o = Gives o old new (prefix_at h p)

@@ -17,12 +17,12 @@ pub append_none : (known : Option (List ℕ)) → append known [] ≡ known
 append_none None = refl
 append_none (Some taken) = ap Some (append-nil taken)
 
--- a write goes on behind what went out before
+-- a write continues after what went out before
 pub append_more : (before now after : Option (List ℕ)) (bytes : List ℕ) (n m : ℕ) → now ≡ append before (take n bytes) → after ≡ append now (take m (take (length bytes - n) (drop n bytes))) → after ≡ append before (take (n + m) bytes)
 append_more before now after bytes n m e f =
     f ∙ ap (λ (d : List ℕ). append now (take m d)) (take_rest bytes n) ∙ ap (λ (k : Option (List ℕ)). append k (take m (drop n bytes))) e ∙ append_append before (take n bytes) (take m (drop n bytes)) ∙ ap (append before) (sym (take-add n m bytes))
 
--- a read goes on behind what came in before
+-- a read continues after what came in before
 pub prepend_more : (before now after : Option (List ℕ)) (xs ys : List ℕ) → before ≡ prepend xs now → now ≡ prepend ys after → before ≡ prepend (xs ++ ys) after
 prepend_more before now after xs ys e f = e ∙ ap (prepend xs) f ∙ prepend_prepend after xs ys
 

@@ -106,7 +106,7 @@ after_head h p header head = unless (least (order_faults h p head.kind (p + 4 + 
 abbrev after_bytes : Bool → ℕ → List ℕ × List ℕ → Headed
 after_bytes h p header = head_of (p + 4) header.0 >>= after_head h p header
 
--- what stands if a header was read
+-- what holds if a header was read
 pub record HeaderParts (h : Bool) (p : ℕ) (prefix bytes header rest : List ℕ) (head : Head) : Type 0 where
   pub split : bytes ≡ header ++ rest
   pub long : length header ≡ big_number 4 prefix
@@ -146,7 +146,7 @@ Blobbed = Result (List ℕ × List ℕ) Fault
 abbrev after_blob_bytes : ℕ → List ℕ × List ℕ → Blobbed
 after_blob_bytes at blob = unless (blob_fault at blob.0) (Ok blob)
 
--- what stands if a blob was read
+-- what holds if a blob was read
 pub record BlobParts (k : FrameKind) (size at : ℕ) (bytes blob rest : List ℕ) : Type 0 where
   pub split : bytes ≡ blob ++ rest
   pub long : length blob ≡ size
@@ -180,7 +180,7 @@ blob_whole kind.Other size at bytes blob rest parts = ap (λ l. bytes_at (fault 
 
 -- ---- the frame
 
--- what stands if a frame was read
+-- what holds if a frame was read
 pub record FrameParts (h : Bool) (p : ℕ) (bytes : List ℕ) (f : FrameSpec) (rest : List ℕ) : Type 0 where
   pub head : Head
   pub left : List ℕ

@@ -51,6 +51,6 @@ abbrev pub bytes_place : ℕ → Content → ℕ
 bytes_place at (Bytes bytes begin) = begin
 bytes_place at _ = at
 
--- where its first byte stands
+-- where its first byte is
 abbrev pub raw_at : ℕ → Option Occurrence → ℕ
 raw_at at last = option_map_or (λ o. bytes_place at o.content) last at

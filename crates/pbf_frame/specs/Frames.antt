@@ -51,7 +51,7 @@ frame_name f = name_of (header_at f) f.header
 abbrev pub frame_kind : FrameSpec → FrameKind
 frame_kind f = kind_named (name_of (header_at f) f.header)
 
--- the payload of a blob that stands at this place, and where it begins; a blob of another type isn't looked into
+-- the payload of a blob at this place, and where it begins; a blob of another type isn't read
 abbrev pub payload_in : FrameKind → ℕ → List ℕ → List ℕ
 payload_in kind.Other at blob = []
 payload_in _ at blob = raw_of at blob
@@ -91,7 +91,7 @@ order_faults had_header place kind last =
     ++ fault_where (not had_header && is_data kind) place DataFirst
     ++ fault_where (nat_lt (2 ^ 62) last) place FileLong
 
--- the blob of another type isn't looked into
+-- the blob of another type isn't read
 abbrev pub phases_of_blob : FrameKind → ℕ → List ℕ → List (List Fault)
 phases_of_blob kind.Other at blob = []
 phases_of_blob _ at blob = blob_phases at blob

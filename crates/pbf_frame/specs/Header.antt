@@ -26,7 +26,7 @@ size_within (negsuc n) = None
 abbrev pub size_of : Option Occurrence → Option ℕ
 size_of last = option_and_then (λ o. size_within (int32_held o.content)) last
 
--- the type of the frame whose header stands at this place
+-- the type of the frame whose header is at this place
 abbrev pub name_of : ℕ → List ℕ → List ℕ
 name_of at header = occurrence_text (last_of TYPE (found (items at header)))
 

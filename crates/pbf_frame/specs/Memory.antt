@@ -1,4 +1,4 @@
--- What the devices over memory, and those over std, tell of themselves.
+-- What the devices over memory, and those over std, report of themselves.
 use Rattle.std.specs.Prelude.{ℕ, List, Option}
 use Rattle.pbf_frame.specs.declared.memory.Pieces.{Pieces}
 use Rattle.pbf_frame.specs.declared.memory.Sink.{Sink}

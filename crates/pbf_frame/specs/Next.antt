@@ -28,7 +28,7 @@ had_header_of reader = reader.had_header
 abbrev pub IsReading : {F : Type 0} → FrameReader F → Type 0
 IsReading reader = reader.state ≡ Reading
 
--- it has met the end of its input
+-- it has reached the end of its input
 abbrev pub HasEnded : {F : Type 0} → FrameReader F → Type 0
 HasEnded reader = reader.state ≡ Ended
 
@@ -72,7 +72,7 @@ SeesAnswer header blob (Err stop) answer = answer ≡ Err stop
 
 -- ---- what was given
 
--- the first frame of the old verdict was given, and the new verdict is on the rest; or there was none; or its fault was met
+-- the first frame of the old verdict was given, and the new verdict is on the rest; or there was none; or its fault was found
 abbrev pub Gave : Option Verdict → Result (Option FrameSpec) Stop → Option Verdict → Type 0
 Gave old (Ok (Some f)) new = old ≡ with_first_known f new
 Gave old (Ok None) new = Says old ([], None)
@@ -100,7 +100,7 @@ IsFrameGiven had_header place (Ok (Some f)) = IsFrame had_header place f
 IsFrameGiven had_header place (Ok None) = Unit {0}
 IsFrameGiven had_header place (Err stop) = Unit {0}
 
--- where the reader stands after
+-- where the reader is after it
 abbrev pub Answers : {F : Type 0} → FrameReader F → Result (Option FrameSpec) Stop → FrameReader F → Type 0
 Answers old (Ok (Some f)) new = IsReading new × (f.offset ≡ old.place) × (new.place ≡ frame_end f) × (old.place < new.place) × (new.had_header ≡ (old.had_header || is_header (frame_kind f)))
 Answers old (Ok None) new = HasEnded new × (new.place ≡ old.place) × (old.had_header ≡ true)

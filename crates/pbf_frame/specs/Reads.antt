@@ -17,7 +17,7 @@ pub record Reads (old new : Option (List ℕ)) (n : ℕ) (read : List ℕ) : Typ
   pub front : (bytes : List ℕ) → old ≡ Some bytes → (read ≡ take n bytes) × (new ≡ Some (drop n bytes))
   pub untold : old ≡ None → new ≡ None
 
--- where the feed tells its bytes, this is what f gives of them, and the feed is left at the bytes after it
+-- if the feed reports its bytes, this is what f gives of them, and the feed is left at the bytes after it
 abbrev pub Gives : {A : Type 0} → A → Option (List ℕ) → Option (List ℕ) → (List ℕ → Result (A × List ℕ) Fault) → Type 0
 Gives a old new f = (bytes : List ℕ) → old ≡ Some bytes → (rest : List ℕ) × (f bytes ≡ Ok (a, rest)) × (new ≡ Some rest)
 
@@ -84,7 +84,7 @@ pub record GaveFrame (had_header : Bool) (place : ℕ) (header blob : List ℕ) 
   pub given : (bytes : List ℕ) → old ≡ Some bytes → (rest : List ℕ) × (next_of had_header place bytes ≡ Ok (Some frame, rest)) × (new ≡ Some rest)
   pub untold : old ≡ None → new ≡ None
 
--- the end was met
+-- the end was reached
 pub record GaveEnd (had_header : Bool) (place : ℕ) (before now : ℕ → List ℕ → Type 0) (old new : Option (List ℕ)) : Type 0 where
   pub given : (bytes : List ℕ) → old ≡ Some bytes → (rest : List ℕ) × (next_of had_header place bytes ≡ Ok (None, rest)) × (new ≡ Some rest)
   pub untold : old ≡ None → new ≡ None

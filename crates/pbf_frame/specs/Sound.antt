@@ -20,7 +20,7 @@ IsSound kind.Header at blob = blob_fault at blob ≡ None
 IsSound kind.Data at blob = blob_fault at blob ≡ None
 IsSound kind.Other at blob = Unit {0}
 
--- a frame without a fault that stands at this place, where a header frame came before or not
+-- a frame without a fault at this place, whether a header frame came before or not
 pub record IsFrame (had_header : Bool) (place : ℕ) (f : FrameSpec) : Type 0 where
   pub offset : f.offset ≡ place
   pub prefix_long : length f.prefix ≡ 4
@@ -32,7 +32,7 @@ pub record IsFrame (had_header : Bool) (place : ℕ) (f : FrameSpec) : Type 0 wh
   pub ordered : least (order_faults had_header place (frame_kind f) (frame_end f)) ≡ None
   pub sound : IsSound (frame_kind f) (blob_at f) f.blob
 
--- frames without faults that stand one after the other, the first at this place
+-- frames without faults, one after the other, the first at this place
 abbrev pub AreFrames : Bool → ℕ → List FrameSpec → Type 0
 AreFrames had_header place [] = Unit {0}
 AreFrames had_header place (f ∷ fs) = IsFrame had_header place f × AreFrames (had_header || is_header (frame_kind f)) (frame_end f) fs
@@ -47,7 +47,7 @@ abbrev pub place_after : ℕ → List FrameSpec → ℕ
 place_after place [] = place
 place_after place (f ∷ fs) = place_after (frame_end f) fs
 
--- what stands behind them: nothing, or a faulty frame, or what lacks a header
+-- what follows them: nothing, or a faulty frame, or the end of an input without a header
 abbrev pub EndsAs : Result (Option FrameSpec × List ℕ) Fault → Option Fault → Type 0
 EndsAs next None = next ≡ Ok (None, [])
 EndsAs next (Some e) = next ≡ Err e

@@ -1,4 +1,4 @@
--- A frame step by step, as a reader comes to its bytes, and what each part of reading answers. No public contract rests on it: all steps
+-- A frame step by step, as a reader comes to its bytes, and what each part of reading returns. No public contract depends on it: all steps
 -- together come to `Frames.next_of`.
 use Rattle.std.specs.Prelude.{ℕ, ◌+◌, List, [], length, take, drop, Bool, nat_lt, nat_le, ◌==◌, if◌then◌else◌, Option, Some, None, Result, Ok, Err}
 use Rattle.byteorder.specs.Endian.{big_number}
@@ -45,7 +45,7 @@ prefix_at had_header place bytes =
     else if nat_le HEADER_LIMIT (big_number 4 (take 4 bytes)) then Err (fault place HeaderLong)
     else Ok (Some (take 4 bytes), drop 4 bytes)
 
--- the header behind this prefix, what it says, and the bytes after it
+-- the header after this prefix, what it says, and the bytes after it
 unfoldable pub header_of : Bool → ℕ → List ℕ → List ℕ → Result ((List ℕ × Head) × List ℕ) Fault
 header_of had_header place prefix bytes = do
   header ← bytes_at (fault place HeaderCut) (big_number 4 prefix) bytes
@@ -58,13 +58,13 @@ known_blob_of size at bytes = do
   blob ← bytes_at (fault at BlobCut) size bytes
   unless (blob_fault at blob.0) (Ok blob)
 
--- the blob of any frame: one of another type isn't looked into
+-- the blob of any frame: one of another type isn't read
 abbrev pub blob_of : FrameKind → ℕ → ℕ → List ℕ → Result (List ℕ × List ℕ) Fault
 blob_of kind.Header size at bytes = known_blob_of size at bytes
 blob_of kind.Data size at bytes = known_blob_of size at bytes
 blob_of kind.Other size at bytes = bytes_at (fault at BlobCut) size bytes
 
--- the frame behind this prefix, and the bytes after it
+-- the frame after this prefix, and the bytes after it
 unfoldable pub frame_of : Bool → ℕ → List ℕ → List ℕ → Result (FrameSpec × List ℕ) Fault
 frame_of had_header place prefix bytes = do
   front ← header_of had_header place prefix bytes

@@ -22,7 +22,7 @@ unfoldable pub judged_within : ℕ → Bool → ℕ → List ℕ → Verdict
 judged_within zero had_header place bytes = ([], None)
 judged_within (suc fuel) had_header place bytes = judged_after (judged_within fuel) had_header (next_of had_header place bytes)
 
--- the verdict on bytes that stand at this place, where a header frame came before or not
+-- the verdict on bytes at this place, whether a header frame came before or not
 unfoldable pub judged : Bool → ℕ → List ℕ → Verdict
 judged had_header place bytes = judged_within (length bytes + 1) had_header place bytes
 

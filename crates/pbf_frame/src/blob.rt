@@ -97,7 +97,7 @@ fn judge_raw(at: u64, raw: Option<Field<'_>>, others: Option<Fault>) -> Option<F
     lesser(fault_where(long, field.offset, Reason::RawLong), others)
 }
 
-/// The first fault of a blob whose first byte stands at `at` in the file.
+/// The first fault of a blob whose first byte is at `at` in the file.
 #[tactic(auto, using(crate::proofs::BlobLemmas::blob_steps))]
 pub(crate) fn judge_blob(blob: &[u8], at: u64) -> Option<Fault>
     requires { at + length blob.now ≤ 2 ^ 63 }

@@ -116,7 +116,7 @@ fn read_bytes<F: Feed>(feed: &mut F, buf: &mut Vec<u8>, count: u32, cut: Fault) 
     Ok(())
 }
 
-// Whether a frame of this kind may stand here and end here.
+// Whether a frame of this kind may be here and end here.
 #[tactic(auto, using(crate::proofs::Parts::lesser_parts))]
 fn judge_order(had_header: bool, place: u64, kind: FrameKind, end: u64) -> Option<Fault>
     ensures { result ≡ least (order_faults had_header place kind end) }

@@ -130,7 +130,7 @@ fn judge_fields(header: Message<'_>) -> Option<Fault>
     lesser(absent, judge_size(datasize))
 }
 
-/// What a header says of its frame, or its first fault. Its first byte stands at `at` in the file.
+/// What a header says of its frame, or its first fault. Its first byte is at `at` in the file.
 #[tactic(auto, unfolding(crate::specs::Steps::head_of))]
 pub fn read_head(header: &[u8], at: u64) -> Result<Head, Fault>
     requires { at + length header.now ≤ 2 ^ 63 }

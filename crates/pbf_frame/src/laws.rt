@@ -28,7 +28,7 @@ pub fn prepend_none()
     ensures { (known : Option (List ℕ)) → prepend [] known ≡ known }
 {}
 
-/// What stands before in two parts stands before at once.
+/// Bytes prepended in two parts are prepended at once.
 pub fn prepend_prepend()
     ensures { (known : Option (List ℕ)) (xs ys : List ℕ)
         → prepend xs (prepend ys known) ≡ prepend (xs ++ ys) known }
@@ -62,8 +62,8 @@ pub fn longest_front()
         → IsLongestFront had_header place bytes (judged had_header place bytes) }
 {}
 
-/// A frame in written form has no fault where its order and its end have none; its kind and its payload are those that were
-/// written, and its bytes are the same wherever it stands.
+/// A frame in written form has no fault if its order and its end have none; its kind and its payload are those that were
+/// written, and its bytes are the same wherever it is.
 pub fn written_frame_is_read()
     ensures sound { (had_header : Bool) (place : ℕ) (kind : FrameKind) (payload : List ℕ)
         → (kind ≡ kinds.Other → ⊥) → length payload < RAW_LIMIT

@@ -54,7 +54,7 @@ fn name_of(kind: FrameKind) -> &'static [u8]
     }
 }
 
-// Puts a BlobHeader at the start of the room, and tells its length.
+// Puts a BlobHeader at the start of the room, and returns its length.
 fn put_header(room: &mut [u8], kind: FrameKind, size: u64) -> usize
     requires { length room.old ≡ 64 }
     ensures header { take result room.new ≡ written_header kind size }
@@ -68,7 +68,7 @@ fn put_header(room: &mut [u8], kind: FrameKind, size: u64) -> usize
     put_varint(room, end, size)
 }
 
-// Puts what a Blob has before its raw data of this length at the start of the room, and tells its length.
+// Puts what a Blob has before its raw data of this length at the start of the room, and returns its length.
 fn put_blob_head(room: &mut [u8], payload: usize) -> usize
     requires { length room.old ≡ 32 }
     ensures blob { (p : List ℕ) → length p ≡ payload → take result room.new ++ p ≡ written_blob p }

@@ -149,7 +149,7 @@ impl<F: Feed> FrameReader<F> {
         self.place
     }
 
-    /// The feed, at the bytes after the last frame given. After a stop nothing is said of where it stands.
+    /// The feed, at the bytes after the last frame given. After a stop it is unspecified where the feed is.
     pub fn into_feed(self) -> F
         ensures feed { result ≡ self.feed }
         ensures lender { F.lender result ≡ F.lender self.feed }

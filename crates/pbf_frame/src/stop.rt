@@ -18,7 +18,7 @@ pub struct FeedFault;
 #[error("write failed")]
 pub struct DrainFault;
 
-/// Why work stopped before its end. What answered it is spent: it returns the same again, and touches no device.
+/// Why work stopped before its end. What returned it is spent: it returns the same again, and touches no device.
 #[derive(Clone, Copy, Debug, PartialEq, Eq, Error)]
 pub enum Stop {
     /// The input is refused.
@@ -33,7 +33,7 @@ pub enum Stop {
     /// A request for memory was refused.
     #[error("out of memory")]
     Memory,
-    /// The pass of this number met other input than the first.
+    /// The pass of this number read other input than the first.
     #[error("input changed in pass {0}")]
     Changed(u8),
 }

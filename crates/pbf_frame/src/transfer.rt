@@ -7,7 +7,7 @@ ghost use Rattle.pbf_frame.specs.Transfers.{Added};
 use crate::device::{Drain, Feed};
 use crate::stop::{DrainFault, FeedFault};
 
-/// Fills the buffer, or less of it only at the end of the feed: each read is asked for all that is still wanted.
+/// Fills the buffer, or less of it only at the end of the feed: each read is for all that is still wanted.
 pub(crate) fn fill<F: Feed>(feed: &mut F, buf: &mut [u8]) -> Result<usize, FeedFault>
     ensures bound { IfOk result (λ n. n ≤ length buf.old) }
     ensures bytes { IfOk result (λ n. F.remaining feed.old
