@@ -45,7 +45,7 @@ header_of h = record {
 abbrev pub edge : ℕ → List Occurrence → ℤ
 edge k os = unzigzag (unwrap_or (last_number k os) 0)
 
--- the box of a message; where in the file that stands doesn't matter
+-- the box of a message; where in the file it is doesn't matter
 abbrev pub box_in : List ℕ → HeaderBox
 box_in m = let os = fields_in 0 m in record { left = edge LEFT os; right = edge RIGHT os; top = edge TOP os; bottom = edge BOTTOM os }
 
@@ -53,7 +53,7 @@ box_in m = let os = fields_in 0 m in record { left = edge LEFT os; right = edge 
 abbrev pub last_text : ℕ → List Occurrence → Option (List ℕ)
 last_text k os = last_or None (each k os)
 
--- the header that a payload holds whose first byte stands here in the file
+-- the header that a payload holds whose first byte is here in the file
 unfoldable pub header_in : ℕ → List ℕ → HeaderSpec
 header_in at m = let os = fields_in at m in record {
   bbox = option_map box_in (last_text BBOX os);

@@ -26,7 +26,7 @@ feature_faults place at text = fault_where (not (has_text known_features text)) 
 abbrev pub header_values : List Occurrence → List Fault
 header_values os = flat_map (entered REQUIRED_FEATURES feature_faults) os
 
--- the faults of a header whose first byte stands at `at` in the file, phase by phase: first those of the wire form of it and of its boxes
+-- the faults of a header whose first byte is at `at` in the file, phase by phase: first those of the wire form of it and of its boxes
 abbrev pub header_phases : ℕ → List ℕ → List (List Fault)
 header_phases at m = let os = fields_in at m in nested_faults HEADER_KINDS BBOX BBOX_KINDS at at m ∷ header_structure os ∷ header_values os ∷ []
 

@@ -90,12 +90,12 @@ fn header_in(alloc: Global, payload: Message<'_>) -> Result<Header, AllocError>
 }
 
 impl Header {
-    /// Reads a HeaderBlock whose first byte stands at `at` in the file.
+    /// Reads a HeaderBlock whose first byte is at `at` in the file.
     ///
     /// Of several occurrences of a field the last counts, and each of the features. Refuses the least fault of the first phase
     /// that has one: of the wire form of the header and its box; of the structure, which is a second box (`TwiceMessage`) or a
     /// box that lacks an edge (`Missing`); of the required features, which have to be known (`Feature`). A refusal comes before
-    /// memory is asked for.
+    /// memory is requested.
     pub fn read(alloc: Global, payload: &[u8], at: u64) -> Result<Header, ReadFault>
         requires { at + length payload.now ≤ 2 ^ 63 }
         ensures header { IfOk result (λ header. header_of header ≡ header_in at payload.now) }
