@@ -94,7 +94,7 @@ module _ {F : Type 0} (g : feed.Ghosts F) where
         holding = subst (λ (v : Verdict). holds (Some v)) (sym is) holding;
       }
 
-  -- the bytes of these frames, and those of what is refused behind them
+  -- the bytes of these frames, and those of what is refused after them
   pub has_passed_refused : {V : Type 0} (took : Takes V) (failed : Fails V) (before mid last : V) (first at now : FrameReader F) (frames : List FrameSpec) (stop : Stop) → HasPassed g first frames at → Visited took before frames mid
       → RefusedStep g at now (λ f s. failed mid f last s) (last ≡ mid) stop → RefusesRest g first.feed now.feed (RefusesVisit took failed (judged_from first) before last) stop
   has_passed_refused took failed before mid last first at now frames (why.Refused e) so_far visited refused = of refused where

@@ -56,7 +56,7 @@ step_less g old new took less failed same stays result h k step = record {
 
 -- ---- a step of a reader that was reading
 
--- the reader gave this frame, which has no fault, and stands behind it
+-- the reader gave this frame, which has no fault, and is after it
 pub record GaveOne {F : Type 0} (g : feed.Ghosts F) (old new : FrameReader F) (f : FrameSpec) : Type 0 where
   pub told : g.remaining old.feed ≡ prepend (frame_bytes f) (g.remaining new.feed)
   pub logged : Passes (g.has_passed old.feed) (frame_bytes f) (g.has_passed new.feed)
@@ -81,7 +81,7 @@ pub record TookOne {F : Type 0} (g : feed.Ghosts F) (old new : FrameReader F) (t
   pub gave : GaveOne g old new frame
   pub keeps : KeepsFeed g old.feed new.feed
 
--- it met the end
+-- it reached the end
 pub record MetEnd {F : Type 0} (g : feed.Ghosts F) (old new : FrameReader F) (same : Type 0) : Type 0 where
   pub none : Says (verdict g.remaining old) ([], None)
   pub gave : GaveNone g old new
@@ -113,7 +113,7 @@ no_stop b s r e f = cc
 same_stop : (s t : Stop) (r : Result Bool Stop) → r ≡ Err s → r ≡ Err t → s ≡ t
 same_stop s t r e f = cc
 
--- the fault that comes behind the frames done
+-- the fault that comes after the frames that are done
 pub gone_fault : (first : Option Verdict) (frames : List FrameSpec) (known : Option Verdict) (e : Fault) → Gone first frames (fully_known known) → Says known ([], Some e) → Says first (frames, Some e)
 gone_fault first frames None e gone says = subst (λ (k : Option Verdict). Says k (frames, Some e)) (sym gone) tt
 gone_fault first frames (Some v) e gone says =
@@ -222,7 +222,7 @@ pub taken_counts : (f : FrameSpec) (old new : Pass) (fs : List FrameSpec) → Ta
 taken_counts f old new fs h so_far =
     taken_counts_of (λ es. es) refl (payload_of f) old new (stored_entities fs) h so_far ∙ ap (λ (l : List EntitySpec). counts_of l) (sym (stored_one fs f))
 
--- what comes last of what was put behind
+-- the last of a list to which one was appended
 last_behind : {A : Type 0} (o : Option A) (xs : List A) (y : A) → last_or o (xs ++ y ∷ []) ≡ Some y
 last_behind o [] y = refl
 last_behind o (x ∷ xs) y = last_behind (Some x) xs y

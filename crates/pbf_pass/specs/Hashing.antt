@@ -5,7 +5,7 @@ abbrev pub HasPassed : {D H : Type 0} → (H → List ℕ → Type 0) → (D →
 HasPassed holds below device hasher zero bytes = holds hasher bytes
 HasPassed holds below device hasher (suc log) bytes = below device log bytes
 
--- a count is the number of these bytes, as far as a number of 64 bits can tell it
+-- a count is the number of these bytes, as far as 64 bits can hold it
 abbrev pub IsLength : ℕ → List ℕ → Type 0
 IsLength count bytes = count ≡ min (length bytes) (2 ^ 64 - 1)
 

@@ -25,7 +25,7 @@ use Rattle.pbf_pass.specs.Stops.{Caused, Only, unchanged}
 
 -- ---- one step of a loop over frames
 
--- what a step does behind the reader's answer: a frame is taken, or something failed at it; at the end of the input, and of a reader
+-- what a step does after the reader returned: a frame is taken, or something failed at it; at the end of the input, and of a reader
 -- that is spent, all stays the same
 abbrev pub Follows : (took : FrameSpec → Type 0) (failed : FrameSpec → Stop → Type 0) (same : Type 0) → Result (Option FrameSpec) Stop → Result Bool Stop → Type 0
 Follows took failed same (Ok (Some f)) (Ok true) = took f
@@ -34,7 +34,7 @@ Follows took failed same (Ok (Some f)) (Err stop) = failed f stop
 Follows took failed same (Ok None) result = (result ≡ Ok false) × same
 Follows took failed same (Err stop) result = (result ≡ Err stop) × same
 
--- the reader is asked once, and this follows its answer
+-- the reader is called once, and this follows what it returns
 pub record IsStep {F : Type 0} (g : feed.Ghosts F) (old new : FrameReader F) (took : FrameSpec → Type 0) (failed : FrameSpec → Stop → Type 0) (same : Type 0) (result : Result Bool Stop) : Type 0 where
   pub answer : Result (Option FrameSpec) Stop
   pub next : IsNext g.remaining g.failures g.lender g.has_passed old answer new
@@ -46,7 +46,7 @@ FailsToJudge f stop = Caused (Only (payload_fault f)) ⊥ ⊥ unchanged stop
 
 -- ---- what a pass takes of a frame
 
--- a pass that has met none
+-- a pass that has had none
 abbrev pub IsFresh : Pass → Type 0
 IsFresh pass = (pass.header ≡ None) × (pass.header_at ≡ 0) × (pass.counts ≡ counts_of [])
 
@@ -75,7 +75,7 @@ with_node sets _ = sets
 abbrev pub with_place : NodeSets → Place → NodeSets
 with_place sets p = record { area = sets.area; box_ids = node_step sets.box_ids (a_node p.id (is_inside sets.area p.lat p.lon)) }
 
--- and the ways that are kept besides, as long as no node comes behind a way
+-- and the ways that are kept besides, as long as no node comes after a way
 abbrev pub with_first : FirstSets → EntitySpec → FirstSets
 with_first sets (node n) = first_step sets (seen_node sets.area n)
 with_first sets (way w) = first_step sets (seen_way w)

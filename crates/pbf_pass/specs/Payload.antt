@@ -5,7 +5,7 @@ use Rattle.pbf_frame.specs.declared.frame.FrameKind.{FrameKind}
 use Rattle.pbf_frame.specs.declared.frame.FrameKind.TheVariants as kind
 use Rattle.pbf_frame.specs.Frames.{FrameSpec, frame_kind, frame_payload, frame_payload_at}
 
--- a HeaderBlock or a PrimitiveBlock, by its place and its message; or what another type holds, which isn't looked into
+-- a HeaderBlock or a PrimitiveBlock, by its place and its message; or what another type holds, which isn't read
 pub data Payload : Type 0 where
   header_block : ℕ → List ℕ → Payload
   primitive_block : ℕ → List ℕ → Payload

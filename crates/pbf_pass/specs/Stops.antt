@@ -11,7 +11,7 @@ use Rattle.pbf_frame.specs.Verdict.{Verdict, Says}
 
 -- ---- why a call stops
 
--- each stop has its cause: what is said of the fault that is refused; of a read or a write that failed; of the pass that met other
+-- each stop has its cause: what is said of the fault that is refused; of a read or a write that failed; of the pass that read other
 -- bytes. Memory needs none
 abbrev pub Caused : (refused : Fault → Type 0) (read wrote : Type 0) (changed : ℕ → Type 0) → Stop → Type 0
 Caused refused read wrote changed (Refused e) = refused e

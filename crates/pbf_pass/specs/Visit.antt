@@ -27,7 +27,7 @@ pub record VisitsAll {V : Type 0} (took : Takes V) (known : Option Verdict) (cou
   pub counted : count ≡ length frames
   pub visited : Visited took before frames now
 
--- the reader stopped behind frames that were taken, and nothing was done since: at the fault of what follows, or for a failed read
+-- the reader stopped after frames that were taken, and nothing was done since: at the fault of what follows, or for a failed read
 pub record StopsBehind {V : Type 0} (took : Takes V) (known : Option Verdict) (read : Type 0) (before now : V) (stop : Stop) : Type 0 where
   pub frames : List FrameSpec
   pub rest : Option Verdict
@@ -35,7 +35,7 @@ pub record StopsBehind {V : Type 0} (took : Takes V) (known : Option Verdict) (r
   pub visited : Visited took before frames now
   pub caused : Caused (λ e. Says rest ([], Some e)) read ⊥ unchanged stop
 
--- the visitor stopped at the frame behind them
+-- the visitor stopped at the frame after them
 pub record StopsWithin {V : Type 0} (took : Takes V) (failed : Fails V) (known : Option Verdict) (before now : V) (stop : Stop) : Type 0 where
   pub frames : List FrameSpec
   pub frame : FrameSpec
@@ -49,6 +49,6 @@ pub record StopsWithin {V : Type 0} (took : Takes V) (failed : Fails V) (known :
 abbrev pub StopsVisit : {V : Type 0} → Takes V → Fails V → Option Verdict → (read : Type 0) → (before now : V) → Stop → Type 0
 StopsVisit took failed known read before now stop = StopsBehind took known read before now stop ⊎ StopsWithin took failed known before now stop
 
--- it refused bytes that stand at this place, with this fault
+-- it refused bytes at this place, with this fault
 abbrev pub RefusesVisit : {V : Type 0} → Takes V → Fails V → (List ℕ → Option Verdict) → (before now : V) → Fault → List ℕ → Type 0
 RefusesVisit took failed judge before now e bytes = StopsVisit took failed (judge bytes) ⊥ before now (Refused e)

@@ -104,8 +104,8 @@ pub fn step_again<F: Feed, G: Gather>(
 /// Gathers the entities of a whole file in a pass of this number, after the one that judged the file, and returns the digest of its
 /// bytes.
 ///
-/// What was gathered has a meaning where the digest is that of the bytes which were judged. `Refused` and `Changed` say that the
-/// file has a fault, so that its bytes are others. Reads each byte once, to the file's end where it answers `Ok`, and holds one frame
+/// What was gathered is specified if the digest is that of the bytes which were judged. `Refused` and `Changed` say that the
+/// file has a fault, so that its bytes are others. Reads each byte once, to the file's end if it returns `Ok`, and holds one frame
 /// at a time. After a stop what was gathered may only be dropped.
 pub fn gather_again<F: Feed, G: Gather>(
     alloc: Global,

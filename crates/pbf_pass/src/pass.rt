@@ -223,16 +223,16 @@ fn gather_entities<G: Gather>(block: &Block<'_>, gathering: &mut G) -> Result<()
 /// What lasts from frame to frame of a pass.
 #[derive(Debug, Drop)]
 pub struct Pass {
-    /// The header, once its frame was met.
+    /// The header, once its frame was read.
     pub header: Option<Header>,
     /// Where in the file the HeaderBlock begins; 0 before it.
     pub header_at: u64,
-    /// The entities met so far.
+    /// The entities read so far.
     pub counts: Counts,
 }
 
 impl Pass {
-    /// A pass that has met no frame.
+    /// A pass that has read no frame.
     pub fn new() -> Pass
         ensures { IsFresh result }
     {
@@ -421,7 +421,7 @@ pub struct Judged {
 /// Judges a whole file, and gathers its entities: `check`, and the first pass of the other calls. Their later passes judge nothing.
 ///
 /// `Refused` has the first fault of the file, of any phase, with how many bytes were read and their digest. Reads each byte once, to
-/// the file's end where it answers `Ok`, and holds one frame at a time. After a halt what was gathered may only be dropped.
+/// the file's end if it returns `Ok`, and holds one frame at a time. After a halt what was gathered may only be dropped.
 pub fn judge<F: Feed, G: Gather>(
     alloc: Global,
     feed: &mut F,

@@ -1,4 +1,4 @@
-//! A pass over frames, which tells a visitor of each of them.
+//! A pass over frames, each of which goes to a visitor.
 
 ghost use Rattle.std.specs.Prelude.{◌≡◌, ◌≤◌, ◌^◌, List, [], false, Some, IfOk, IfErr, OnOk};
 ghost use Rattle.std.specs.Borrow.{GName};
@@ -101,7 +101,7 @@ pub struct FileRead {
     pub digest: [u8; 32],
 }
 
-/// Visits the frames of a whole file, and hashes and counts its bytes. Reads each byte once, to the file's end where it answers `Ok`,
+/// Visits the frames of a whole file, and hashes and counts its bytes. Reads each byte once, to the file's end if it returns `Ok`,
 /// and holds one frame at a time.
 pub fn pass_over<F: Feed, V: Visit>(
     alloc: Global,
@@ -114,7 +114,7 @@ pub fn pass_over<F: Feed, V: Visit>(
         (λ file. IsLength read.count file
         × VisitsAll V.took (judged_known false 0 (Some file)) read.frames
         visitor.old visitor.new)) }
-    // The reader stopped behind frames that were visited, or the visitor at the frame behind them.
+    // The reader stopped after frames that were visited, or the visitor at the frame after them.
     ensures stops { IfErr result (λ h. StopsVisit V.took V.failed
         (judged_known false 0 (F.remaining feed.old)) (ReadFailed F.Feed feed.old feed.new)
         visitor.old visitor.new (stop_of h)) }
