@@ -17,7 +17,7 @@ use Rattle.pbfcut.proofs.ConvertingLemmas.{nothing_out}
 use Rattle.pbf_published.specs.declared.input.PublishedHalt.{PublishedHalt}
 use Rattle.pbf_published.specs.Published.{GavePublished, GaveOrNone, Means, MeansIfSome, PassedAs, PassedIfSome, IsRefusedBy, UnlessChanged, told_by}
 
--- what an unpacking feed says of the feed below, as it is opened and as it is closed, with a digest of what was read
+-- what an unpacking feed says of the feed below, when it is opened and when it is closed, with a digest of what was read
 pub record IsOver {F U : Type 0} (f : feed.Ghosts F) (u : feed.Ghosts U) (first last : F) (old new : U) (digest : List ℕ) : Type 0 where
   pub remaining : u.remaining old ≡ option_map unpacked (f.remaining first)
   pub hashed : u.has_passed old zero []

@@ -40,7 +40,7 @@ pub fn extract_sorted_with_receipt<F: Feed, G: Feed, H: Feed, D: Drain, S: Build
     hasher: S,
 ) -> Result<PublishedInput, PublishedHalt>
     // The first and the third feed gave packed bytes of the digest `input`, which mean a raw file of the digest `raw`, and the second
-    // too or nothing. The first raw file has no fault, and its header can be written. The drain took bytes. Where the raw files are one,
+    // too or nothing. The first raw file has no fault, and its header can be written. The drain took bytes. If the raw files are the same,
     // these bytes are exactly its complete-ways extract, and the counts are those of the entities in it.
     ensures receipt { IfOk result (λ receipt. GavePublished F.Feed first.old first.new
         receipt.input receipt.raw (λ b. IsWritable b

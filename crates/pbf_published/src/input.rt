@@ -1,4 +1,4 @@
-//! A published file as it is read: hashed as it is, and unpacked.
+//! A published file that is read: hashed as it is, and unpacked.
 
 ghost use Rattle.std.specs.Prelude.{◌≡◌, ◌⊎◌, ℕ, suc, List, [], Some, IfOk, IfErr, OnOk};
 ghost use Rattle.sha2.specs.Sha256.{sha256};

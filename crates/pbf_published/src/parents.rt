@@ -41,7 +41,7 @@ pub fn extract_parents_sorted_with_receipt<
     hasher: S,
 ) -> Result<PublishedInput, PublishedHalt>
     // Each feed gave packed bytes of the digest `input`, which mean a raw file of the digest `raw`, or the second nothing. The first raw
-    // file has no fault, and its header can be written. The drain took bytes. Where the raw files are one, these bytes are exactly its
+    // file has no fault, and its header can be written. The drain took bytes. If the raw files are the same, these bytes are exactly its
     // complete-ways extract with all parents, and the counts are those of the entities in it.
     ensures receipt { IfOk result (λ receipt. GavePublished F.Feed first.old first.new
         receipt.input receipt.raw (λ b. IsWritable b

@@ -81,7 +81,7 @@ pub fn list_blobs<F: Feed, D: Drain>(
     // so many.
     ensures listed { IfOk result (Lists D.Drain drain.old drain.new
         (judged_known false 0 (raw_of (F.remaining feed.old)))) }
-    // Where it is refused, all the lines of the frames before the fault went out.
+    // If it is refused, all the lines of the frames before the fault went out.
     ensures refused { IfErr result (λ h. IsRefusedBy (ListsToFault D.Drain drain.old drain.new
         (judged_known false 0 (raw_of (F.remaining feed.old)))) h.stop) }
     // Whatever stopped it, a prefix of the lines of the frames before the first fault went out.
