@@ -21,7 +21,7 @@ pub record IsAtPlace (message : List ℕ) (o : Occurrence) : Type 0 where
 behind : (at b : ℕ) (bs whole : List ℕ) → b ∷ bs ≡ drop at whole → bs ≡ drop (at + 1) whole
 behind at b bs whole e = ap (drop 1) e ∙ drop-drop 1 at whole
 
--- behind the message there is no text
+-- after the message there is no text
 pub no_text : (message : List ℕ) (place : ℕ) → length message ≤ place → text_at message place ≡ []
 unfolding text_at items_past
 no_text message place le = ap (λ (w : List ℕ). first_text (items place w)) (drop_all place message le)

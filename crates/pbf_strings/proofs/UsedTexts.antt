@@ -163,7 +163,7 @@ used_both start middle texts used more e f = f ∙ (ap (λ (ts : List (List ℕ)
 pub used_later : (middle texts more used : List (List ℕ)) → texts ≡ texts_after middle more → texts_after middle (more ++ used) ≡ texts_after texts used
 used_later middle texts more used e = after_both more used middle ∙ ap (λ (ts : List (List ℕ)). texts_after ts used) (sym e)
 
--- ---- a text that stands somewhere, if none stands twice
+-- ---- a text that is somewhere, if none is there twice
 
 module _ {K : Type 0} (items : K → List ℕ) where
   pub stands : (keys : List K) (i : ℕ) (key : K) → slice_get keys i ≡ Some key → has_text (map items keys) (items key) ≡ true

@@ -26,7 +26,7 @@ pub fn used_texts_are_named()
         → slice_get (table_of texts) (index_in texts text) ≡ Some text }
 {}
 
-/// A table has the same texts wherever in the file it stands.
+/// A table has the same texts wherever in the file it is.
 pub fn texts_move_alike()
     ensures { (at : ℕ) (message : List ℕ) → each 1 (found (items at message)) ≡ texts message }
 {}

@@ -72,7 +72,7 @@ fn text_at(message: &[u8], place: usize) -> &[u8]
     }
 }
 
-/// How many texts a StringTable has; if it has a wire fault, how many stand before that.
+/// How many texts a StringTable has; if it has a wire fault, how many come before that.
 pub fn text_count(message: &[u8]) -> usize
     requires { length message.now ≤ 2 ^ 63 }
     ensures { result ≡ length (texts message.now) }
@@ -154,10 +154,10 @@ impl<'a> Table<'a> {
         Ok(())
     }
 
-    /// Reads a StringTable whose first byte stands at `at` in the file, and its field at `place`.
+    /// Reads a StringTable whose first byte is at `at` in the file, and its field at `place`.
     ///
-    /// Refuses the message's first wire fault, or else more than [`MOST_TEXTS`] texts. A refusal comes before memory is
-    /// asked for.
+    /// Refuses the message's first wire fault, otherwise more than [`MOST_TEXTS`] texts. A refusal comes before memory is
+    /// requested.
     pub fn read(
         alloc: Global,
         message: &'a [u8],

@@ -26,7 +26,7 @@ fn slot_of(text: &[u8]) -> usize
     (length % SLOTS + bytes) % SLOTS
 }
 
-/// Whether two texts are the same. Most are so short that a look at each byte takes less than `==`, which calls.
+/// Whether two texts are the same. Most are so short that to compare each byte takes less than `==`, which is a call.
 fn is_same(one: &[u8], other: &[u8]) -> bool
     ensures { IsTrue result ↔ (one.now ≡ other.now) }
 {
@@ -94,7 +94,7 @@ impl<S: BuildHasher> TableOut<S> {
         self.texts.truncate(0);
     }
 
-    /// The index of a text by its slot, `None` where another text stands there.
+    /// The index of a text by its slot, `None` if another text is there.
     fn recent_index(&self, slot: usize, text: &[u8]) -> Option<u32>
         requires room { length self.now < 1048575 }
         requires slot { slot < SLOTS }
