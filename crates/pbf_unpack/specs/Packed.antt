@@ -19,7 +19,7 @@ lacks number os = is_none (last_of number os)
 abbrev pub lacks_others : List Occurrence → Bool
 lacks_others os = lacks RAW os && lacks LZMA_DATA os && lacks BZIP2_DATA os && lacks LZ4_DATA os && lacks ZSTD_DATA os
 
--- the zlib data of a blob that stands at this place: the last occurrence of its field, if the wire form of the blob has no fault and the blob has
+-- the zlib data of a blob at this place: the last occurrence of its field, if the wire form of the blob has no fault and the blob has
 -- no other data
 abbrev pub packed_in : ℕ → List ℕ → Option Occurrence
 packed_in at blob =
@@ -43,6 +43,6 @@ abbrev pub sized : ℕ → Option Occurrence → Result (List ℕ) InflateFault 
 sized place raw_size (Ok payload) = if fits_size raw_size (length payload) then Ok payload else Err (fault_at place RawSize)
 sized place raw_size (Err e) = Err (fault_at place (Inflate e))
 
--- the payload of zlib data beside this raw_size, shorter than the limit of raw data, or why there is none; the fault stands where the data does
+-- the payload of zlib data beside this raw_size, shorter than the limit of raw data, or why there is none; the fault is where the data is
 abbrev pub payload_of : Occurrence → Option Occurrence → Result (List ℕ) UnpackFault
 payload_of stream raw_size = sized stream.place raw_size (inflated (RAW_LIMIT - 1) (bytes_held stream.content))

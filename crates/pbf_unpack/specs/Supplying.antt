@@ -6,7 +6,7 @@ use Rattle.pbf_unpack.specs.declared.feed.State.TheVariants.{Reading, PassingOn,
 use Rattle.pbf_unpack.specs.declared.feed.UnpackedFeed.{UnpackedFeed}
 use Rattle.pbf_unpack.specs.Unpacked.{Unpacked, joined, as_they_stand, unpacked_from}
 
--- what the bytes that follow at this place mean: frames, or bytes as they stand, or nothing more
+-- what the bytes that follow at this place mean: frames, or bytes as they are, or nothing more
 abbrev pub more : State → ℕ → List ℕ → Unpacked
 more Reading place rest = unpacked_from place rest
 more PassingOn place rest = as_they_stand rest
@@ -44,7 +44,7 @@ pub record GoesOn {F : Type 0} (remaining : F → Option (List ℕ)) (has_passed
   pub remaining_same : remaining_in remaining old ≡ remaining_in remaining new
   pub supplied_same : (log : ℕ) (bytes : List ℕ) → HasSupplied has_passed old log bytes → HasSupplied has_passed new log bytes
 
--- bytes are at hand, or the end was met
+-- bytes are at hand, or the end was reached
 abbrev pub IsReady : State → List ℕ → Type 0
 IsReady Reading left = 0 < length left
 IsReady PassingOn left = Unit {0}

@@ -21,23 +21,23 @@ Unpacked = List ℕ × Option UnpackFault
 abbrev pub joined : Unpacked → Unpacked → Unpacked
 joined first rest = (first.0 ++ rest.0, option_or first.1 rest.1)
 
--- bytes as they stand
+-- bytes as they are
 abbrev pub as_they_stand : List ℕ → Unpacked
 as_they_stand bytes = (bytes, None)
 
 -- ---- one frame
 
--- the frame with this payload in written form; without one the frame stands as it is, and it is known why
+-- the frame with this payload in written form; without one the frame stays as it is, and it is known why
 abbrev pub rewritten : FrameKind → List ℕ → Result (List ℕ) UnpackFault → Unpacked
 rewritten kind frame (Ok payload) = as_they_stand (written_frame kind payload)
 rewritten kind frame (Err e) = (frame, Some e)
 
--- a frame without zlib data stands as it is
+-- a frame without zlib data stays as it is
 abbrev pub with_data : FrameKind → List ℕ → Option Occurrence → Option Occurrence → Unpacked
 with_data kind frame None raw_size = as_they_stand frame
 with_data kind frame (Some stream) raw_size = rewritten kind frame (payload_of stream raw_size)
 
--- what a frame of this kind means whose blob stands at this place; the blob of another type isn't looked into
+-- what a frame of this kind means whose blob is at this place; the blob of another type isn't read
 abbrev pub unpacked_frame : FrameKind → ℕ → (frame blob : List ℕ) → Unpacked
 unpacked_frame kind.Other at frame blob = as_they_stand frame
 unpacked_frame kind at frame blob = with_data kind frame (packed_in at blob) (last_of RAW_SIZE (found (items at blob)))
@@ -50,7 +50,7 @@ is_whole f =
     let size = (head_says (header_at f) f.header).size in
     length (cut_faults f) == 0 && is_ok (head_of (header_at f) f.header) && nat_le (blob_at f + size) (2 ^ 62) && length f.blob == size
 
--- the frame that begins here, unpacked, and then the others; bytes that begin no whole frame stand as they are, to their end
+-- the frame that begins here, unpacked, and then the others; bytes that begin no whole frame stay as they are, to their end
 unfoldable pub unpacked_within : ℕ → ℕ → List ℕ → Unpacked
 unpacked_within zero place bytes = as_they_stand bytes
 unpacked_within (suc fuel) place bytes =
@@ -58,7 +58,7 @@ unpacked_within (suc fuel) place bytes =
     if is_whole f then joined (unpacked_frame (frame_kind f) (blob_at f) (frame_bytes f) f.blob) (unpacked_within fuel (frame_end f) (drop (length (frame_bytes f)) bytes))
     else as_they_stand bytes
 
--- what bytes that stand at this place mean; each frame has a byte at least
+-- what bytes at this place mean; each frame has a byte at least
 unfoldable pub unpacked_from : ℕ → List ℕ → Unpacked
 unpacked_from place bytes = unpacked_within (length bytes) place bytes
 

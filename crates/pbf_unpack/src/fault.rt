@@ -29,7 +29,7 @@ impl UnpackReason {
 /// The fault of a blob's zlib data.
 #[derive(Clone, Copy, Debug, PartialEq, Eq)]
 pub struct UnpackFault {
-    /// Where in the packed file the tag of the data stands.
+    /// Where in the packed file the tag of the data is.
     pub offset: u64,
     pub reason: UnpackReason,
 }

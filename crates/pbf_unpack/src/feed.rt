@@ -13,7 +13,7 @@ use zlib::Inflater;
 pub(crate) enum State {
     /// With the next frame.
     Reading,
-    /// With bytes as they stand, since they begin no whole frame.
+    /// With bytes as they are, since they begin no whole frame.
     PassingOn,
     /// With what is in the buffers, after which there is nothing.
     Ended,
@@ -35,7 +35,7 @@ pub(crate) struct Origin {
 /// Supplies the raw file that the file of the feed below means.
 ///
 /// A frame whose blob holds zlib data and no other is supplied in written form, with its payload raw; every other frame, and what is no
-/// whole frame, as it stands. Also a frame whose zlib data has a fault: its reader refuses it as `Zlib`, and [`fault`](Self::fault) says
+/// whole frame, as it is. So is a frame whose zlib data has a fault: its reader refuses it as `Zlib`, and [`fault`](Self::fault) says
 /// why. It holds one frame as it was read and one as it is supplied.
 #[derive(Drop)]
 pub struct UnpackedFeed<F> {

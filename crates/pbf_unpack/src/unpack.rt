@@ -20,11 +20,11 @@ use zlib::Inflater;
 /// What became of a frame.
 #[derive(Clone, Copy, PartialEq, Eq)]
 pub(crate) enum Outcome {
-    /// It has no zlib data, and stands as it is.
+    /// It has no zlib data, and stays as it is.
     Kept,
     /// It is in written form, with its payload.
     Unpacked,
-    /// Its zlib data has a fault, and it stands as it is.
+    /// Its zlib data has a fault, and it stays as it is.
     Faulty(UnpackFault),
 }
 
