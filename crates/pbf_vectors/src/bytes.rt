@@ -25,7 +25,7 @@ fn of_hex(alloc: Global, word: &str) -> Result<Vec<u8>, Trouble> {
     Ok(bytes)
 }
 
-/// Adds a piece that is spelled as its unit in hex, `x`, and how often it stands.
+/// Adds a piece that is spelled as its unit in hex, `x`, and how often it is repeated.
 fn add_piece(alloc: Global, bytes: &mut Vec<u8>, piece: &str) -> Result<(), Trouble> {
     let mut halves = piece.split('x');
     let (Some(unit), Some(times)) = (halves.next(), halves.next()) else {

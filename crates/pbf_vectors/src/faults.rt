@@ -1,4 +1,4 @@
-//! Files that are cut or changed at each byte: the answer and what goes out are the same however the bytes are supplied.
+//! Files that are cut or changed at each byte: what is returned and what goes out are the same however the bytes are supplied.
 
 use crate::list::Row;
 use crate::run::{Call, Pass, run};
@@ -15,7 +15,7 @@ const PIECES: [usize; 2] = [1, 7];
 /// What is changed of a byte: its lowest bit, its highest, and all.
 const CHANGES: [u8; 3] = [0x01, 0x80, 0xff];
 
-/// The call over the input, whole and in pieces, answers and writes the same.
+/// The call over the input, whole and in pieces, returns and writes the same.
 fn is_same(alloc: Global, row: &Row<'_>, call: Call, input: &[u8]) -> Result<(), Trouble> {
     let whole = Pass::whole(input);
     let mut wanted = Sink::new(alloc, ROOM, 0)?;

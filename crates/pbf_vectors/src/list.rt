@@ -1,4 +1,4 @@
-//! A line of the list: a case's name, its box, its file, and what each call answers.
+//! A line of the list: a case's name, its box, its file, and what each call returns.
 
 use crate::run::Call;
 use crate::trouble::Trouble;
@@ -17,7 +17,7 @@ pub(crate) struct Answer<'a> {
 /// The place of a fault, the number of its reason, and the field of `Missing` or 0.
 type Told = (u64, u32, u64);
 
-/// What the calls are to answer.
+/// What the calls should return.
 #[derive(Clone, Copy)]
 pub(crate) enum Wanted<'a> {
     /// The fault that each call refuses the file with.
@@ -73,7 +73,7 @@ impl<'a> Row<'a> {
         }
     }
 
-    /// Whether this is what the call is to answer.
+    /// Whether this is what the call should return.
     pub(crate) fn is_answer(&self, call: Call, outcome: Result<Counts, Stop>) -> bool {
         match outcome {
             Ok(counts) => self.counts(call) == Some(counts),

@@ -47,7 +47,7 @@ fn try_row(rt: &HostRuntime, row: &Row<'_>, number: u64) -> Result<(), Trouble> 
     Ok(())
 }
 
-/// All rows of the list; answers how many.
+/// Runs all rows of the list; returns how many.
 fn try_rows(rt: &HostRuntime, text: &str) -> Result<u64, Trouble> {
     let mut count = 0_u64;
     for line in text.lines() {

@@ -14,7 +14,7 @@ const LARGE_PIECES: [usize; 1] = [65_521];
 /// Files of at most so many bytes are small here.
 const SMALL: usize = 100_000;
 
-/// Makes the call over the input in pieces of these lengths, and compares what it answers and writes.
+/// Makes the call over the input in pieces of these lengths, and compares what it returns and writes.
 fn answers(
     alloc: Global,
     row: &Row<'_>,
