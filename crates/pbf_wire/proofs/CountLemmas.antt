@@ -11,7 +11,7 @@ use Rattle.std.proofs.lemmas.List.{take-append-drop, length-map, drop-replicate}
 abbrev pub is_end : ℕ → Bool
 is_end b = nat_lt b 128
 
--- a block and what stands after it
+-- a block and what comes after it
 pub count_split : (n : ℕ) (bytes : List ℕ) → count_by is_end bytes ≡ count_by is_end (take n bytes) + count_by is_end (drop n bytes)
 count_split n bytes = ap (count_by is_end) (sym (take-append-drop n bytes)) ∙ sum_by-append (λ b. cond (is_end b) 1 0) (take n bytes) (drop n bytes)
 

@@ -31,12 +31,12 @@ abbrev pub field_at : ℕ → ℕ → Content → Occurrence
 field_at place number content = record { place = place; number = number; content = content }
 
 module _ {X : Type 0} (f : Occurrence → List X) where
-  -- the field gives nothing, wherever it stands
+  -- the field gives nothing, wherever it is
   abbrev PartQuiet : Part → Type 0
   PartQuiet (Single number value) = (place : ℕ) → f (field_at place number (Number value)) ≡ []
   PartQuiet (Whole number bytes) = (place at : ℕ) → f (field_at place number (Bytes bytes at)) ≡ []
 
-  -- the fields of the slot give nothing, wherever they stand
+  -- the fields of the slot give nothing, wherever they are
   abbrev pub SlotQuiet : Slot → Type 0
   SlotQuiet (Scalar number None) = Unit {0}
   SlotQuiet (Scalar number (Some value)) = (place : ℕ) → f (field_at place number (Number value)) ≡ []
@@ -82,7 +82,7 @@ module _ {X : Type 0} (f : Occurrence → List X) where
   pub fields_quiet : (at : ℕ) (slots : List Slot) → AllByRecursion SlotQuiet slots → AllByRecursion SlotFits slots → length (message slots) < 2 ^ 64 → flat_map f (fields_in at (message slots)) ≡ []
   fields_quiet at slots h fits lt = ap (flat_map f) (fields_written at slots fits lt) ∙ parts_quiet at (flat_map parts_of slots) (slots_quiet slots h)
 
-  -- the fields of the slot give these, wherever they stand
+  -- the fields of the slot give these, wherever they are
   abbrev pub SlotGives : Slot → List X → Type 0
   SlotGives s xs = (at : ℕ) → flat_map f (occurrences_of at (parts_of s)) ≡ xs
 
@@ -189,7 +189,7 @@ sums_good_written limit narrow entries h = good_sums (is_within limit) OutOfRang
 pub index_sums_good : (limit : ℕ) (entries : List (ℕ × ℕ)) → AllByRecursion (λ z. is_index limit z ≡ true) (sums (map (delta_in true) (map (λ p. p.0) entries))) → index_sum_faults limit entries ≡ []
 index_sums_good limit entries h = good_sums (is_index limit) StringIndex true entries h
 
--- ---- how often a field stands
+-- ---- how often a field occurs
 
 abbrev all_of : ℕ → List Occurrence → List Occurrence
 all_of k os = filter (λ o. o.number == k) os
@@ -227,7 +227,7 @@ none_behind [] le = refl
 none_behind (o ∷ []) le = refl
 none_behind (o ∷ p ∷ os) le = absurd (omega arith)
 
--- a field that is written once doesn't stand twice
+-- a field that is written once doesn't occur twice
 pub once_written : (k at : ℕ) (slots : List Slot) → AllByRecursion SlotFits slots → length (message slots) < 2 ^ 64 → field_count k slots ≤ 1 → twice k (fields_in at (message slots)) ≡ []
 once_written k at slots fits lt few =
     ap (λ (os : List Occurrence). map (λ o. fault o.place TwiceMessage) os) (none_behind (all_of k (fields_in at (message slots))) (omega (arith, fields_counted k at slots fits lt, few)))

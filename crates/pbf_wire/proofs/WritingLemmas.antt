@@ -74,7 +74,7 @@ all_written all = sym (ap (λ (w : List ℕ). all ++ w) message_none ∙ append-
 pub last_slot : (s : Slot) (old new : List ℕ) → new ≡ old ++ slot_bytes s → new ≡ old ++ message (s ∷ [])
 last_slot s old new e = one_more s [] old new new e (all_written new)
 
--- a slot is written behind a message
+-- a slot is written after a message
 pub slot_put : (slots : List Slot) (s : Slot) (old new : List ℕ) → old ≡ message slots → new ≡ old ++ slot_bytes s → new ≡ message (slots ++ s ∷ [])
 slot_put [] s old new e h = h ∙ ap (λ (w : List ℕ). w ++ slot_bytes s) (e ∙ message_none) ∙ sym (message_one s)
 slot_put (t ∷ slots) s old new e h =

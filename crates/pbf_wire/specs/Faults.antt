@@ -53,7 +53,7 @@ abbrev pub or_more : ℕ → Option Reason → List Fault → List Fault
 or_more place (Some reason) more = fault place reason ∷ []
 or_more place None more = more
 
--- the faults of the embedded messages that stand before the message's own fault, and that one
+-- the faults of the embedded messages that come before the message's own fault, and that one
 abbrev pub message_faults : List (ℕ × Kind) → (Occurrence → List Fault) → List Item → List Fault
 message_faults kinds inner [] = []
 message_faults kinds inner (Ok o ∷ rest) = or_more o.place (reason_in (kind_of kinds o.number) o.content) (inner o ++ message_faults kinds inner rest)

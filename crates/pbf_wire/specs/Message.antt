@@ -1,4 +1,4 @@
--- A message that is written, as what stands at each of its field numbers.
+-- A message that is written, as what it has at each of its field numbers.
 use Rattle.std.specs.Prelude.{◌≡◌, ℕ, ◌^◌, ◌<◌, ◌==◌, if◌then◌else◌, List, [], ◌∷◌, length, map, Option, Some, None}
 use Rattle.std.specs.List.{flat_map, AllByRecursion}
 use Rattle.pbf_wire.specs.declared.kind.Kind.{Kind}
@@ -7,7 +7,7 @@ use Rattle.pbf_wire.specs.Columns.{entries, read_entries, packed}
 use Rattle.pbf_wire.specs.Wire.{kind_of}
 use Rattle.pbf_wire.specs.Writing.{Part, Single, Whole, written}
 
--- what stands at a field number: a number or nothing, a packed column, or messages and texts
+-- what it has at a field number: a number or nothing, a packed column, or messages and texts
 pub data Slot : Type 0 where
   Scalar : (number : ℕ) (value : Option ℕ) → Slot
   Column : (number : ℕ) (values : List ℕ) → Slot

@@ -5,7 +5,7 @@ use Rattle.pbf_wire.specs.declared.fault.Reason.TheVariants.{NumberZero, TagLarg
 use Rattle.pbf_wire.specs.declared.fault.Fault.{Fault}
 use Rattle.pbf_wire.specs.Varint.{IsVarint, varint_at}
 
--- what stands behind a tag; of bytes also where in the file the first one stands
+-- what follows a tag; of bytes also where in the file the first one is
 pub data Content : Type 0 where
   Number : (value : ℕ) → Content
   Eight : (bytes : List ℕ) → Content
@@ -19,7 +19,7 @@ pub record Occurrence : Type 0 where
 
 -- ---- the format
 
--- s is a spelling of the content, behind a tag of this wire type, which ends here
+-- s is a spelling of the content, after a tag of this wire type, which ends here
 abbrev pub IsBody : Content → ℕ → ℕ → List ℕ → Type 0
 IsBody (Number v) kind end s = (kind ≡ 0) × IsVarint v s
 IsBody (Eight bytes) kind end s = (kind ≡ 1) × (length bytes ≡ 8) × (s ≡ bytes)
@@ -37,7 +37,7 @@ pub record IsSpelled (o : Occurrence) (s : List ℕ) : Type 0 where
   pub small : o.number * 8 + kind < 2 ^ 32
   pub holds : IsBody o.content kind (o.place + length tag) body
 
--- the spellings of the occurrences, joined, are the message, whose first byte stands here in the file
+-- the spellings of the occurrences, joined, are the message, whose first byte is here in the file
 abbrev pub Joins : ℕ → List ℕ → List Occurrence → Type 0
 Joins at m [] = m ≡ []
 Joins at m (o ∷ os) = (s : List ℕ) × (rest : List ℕ) × (m ≡ s ++ rest) × (o.place ≡ at) × IsSpelled o s × Joins (at + length s) rest os
@@ -82,7 +82,7 @@ items_past skip at [] = []
 items_past (suc skip) at (b ∷ bs) = items_past skip (at + 1) bs
 items_past zero at (b ∷ bs) = items_from at (occurrence_at at (b ∷ bs)) (λ skip. items_past skip (at + 1) bs)
 
--- the items of a message whose first byte stands here in the file
+-- the items of a message whose first byte is here in the file
 abbrev pub items : ℕ → List ℕ → List Item
 items at m = items_past 0 at m
 
@@ -97,7 +97,7 @@ fault_of [] = None
 fault_of (Ok o ∷ rest) = fault_of rest
 fault_of (Err e ∷ rest) = Some e
 
--- the message goes on at this place as its fault says: with nothing, or with bytes that begin no occurrence
+-- the message continues at this place as its fault says: with nothing, or with bytes that begin no occurrence
 abbrev pub EndsWith : ℕ → List ℕ → Option Fault → Type 0
 EndsWith place left None = left ≡ []
 EndsWith place left (Some f) = (f.offset ≡ place) × (occurrence_at place left ≡ Err f.reason) × ((o : Occurrence) (s rest : List ℕ) → left ≡ s ++ rest → o.place ≡ place → IsSpelled o s → ⊥)
@@ -111,7 +111,7 @@ pub record IsCutting (at : ℕ) (m : List ℕ) (os : List Occurrence) (fault : O
   pub ends : EndsWith (at + length front) left fault
   pub longest : (f l : List ℕ) (xs : List Occurrence) → m ≡ f ++ l → Joins at f xs → length f ≤ length front
 
--- ---- what does not depend on where the message stands
+-- ---- what does not depend on where the message is
 
 abbrev pub unplaced : Content → Content
 unplaced (Number v) = Number v

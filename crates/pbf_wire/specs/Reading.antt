@@ -13,7 +13,7 @@ abbrev pub value_in : ℕ → Content → Option (ℕ × ℕ)
 value_in place (Number v) = Some (place, v)
 value_in _ _ = None
 
--- the numbers of the field k, each behind the place of its occurrence
+-- the numbers of the field k, each after the place of its occurrence
 abbrev pub values : ℕ → List Occurrence → List (ℕ × ℕ)
 values k os = filter_map (λ o. if o.number == k then value_in o.place o.content else None) os
 

@@ -21,7 +21,7 @@ pub fn first_number(packed: &[u8]) -> Option<(u64, &[u8])>
 }
 
 /// A cursor over a column: it gives the numbers of all occurrences of one field in order, and says where the occurrence
-/// of the last one stands. It does not allocate, and a copy of it goes on by itself.
+/// of the last one is. It does not allocate, and a copy of it continues by itself.
 #[derive(Clone, Copy)]
 pub struct Column<'a> {
     fields: FoundFields<'a>,
@@ -39,7 +39,7 @@ impl<'a> Column<'a> {
     ghost use Rattle.pbf_wire.specs.Columns.{joined};
     ghost use Rattle.pbf_wire.specs.Cursors.{fields_left, column_left, place_of};
 
-    /// The column that the field of this number is, in a message whose first byte stands at `at` in the file.
+    /// The column that the field of this number is, in a message whose first byte is at `at` in the file.
     #[tactic(auto, unfolding(crate::specs::Cursors::column_left))]
     pub fn new(message: &'a [u8], at: u64, number: u64) -> Self
         requires { at + length message.now ≤ 2 ^ 63 }

@@ -186,7 +186,7 @@ impl fmt::Display for Reason {
     }
 }
 
-/// A refusal: the reason, and how many bytes of the file stand before the place that it speaks of.
+/// A refusal: the reason, and how many bytes of the file come before the place that it is about.
 #[derive(Clone, Copy, Debug, PartialEq, Eq)]
 pub struct Fault {
     pub offset: u64,

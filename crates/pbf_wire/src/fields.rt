@@ -9,7 +9,7 @@ use crate::fault::{Fault, Reason};
 use crate::field::{Field, Payload};
 use crate::varint::first_varint;
 
-/// How many bytes stand after a tag of a wire type that no known field has; 0 where such a field cannot be read. It is a call, so that
+/// How many bytes follow a tag of a wire type that no known field has; 0 if such a field cannot be read. It is a call, so that
 /// a loop over fields goes by two comparisons, and not by a table of wire types.
 #[inline(never)]
 fn fixed_size(kind: u64) -> usize
@@ -22,7 +22,7 @@ fn fixed_size(kind: u64) -> usize
     }
 }
 
-/// What stands after a tag of this wire type, and its length.
+/// What follows a tag of this wire type, and its length.
 #[inline(always)]
 #[tactic(auto, unfolding(crate::specs::Occurrence::body_at))]
 fn payload_at(bytes: &[u8], kind: u64, at: u64) -> Result<(Payload<'_>, usize), Reason>
@@ -101,7 +101,7 @@ impl<'a> Fields<'a> {
     ghost use Rattle.pbf_wire.specs.Cursors.{fields_left, found_left};
     ghost use Rattle.pbf_wire.specs.Fields.{item};
 
-    /// The fields of a message whose first byte stands at `at` in the file.
+    /// The fields of a message whose first byte is at `at` in the file.
     #[tactic(auto, unfolding(crate::specs::Cursors::fields_left))]
     pub fn new(message: &'a [u8], at: u64) -> Self
         requires { at + length message.now ≤ 2 ^ 63 }
@@ -147,7 +147,7 @@ impl<'a> Iterator for Fields<'a> {
 
     ghost remaining = { item_count fields_left };
 
-    /// A field is read where it is asked for, without a call: so the cursor of a loop stays in registers.
+    /// Inlined, so that the cursor of a loop stays in registers.
     #[inline(always)]
     fn next(&mut self) -> Option<Result<Field<'a>, Fault>> {
         if self.rest.is_empty() {
@@ -171,7 +171,7 @@ impl<'a> Iterator for Fields<'a> {
     }
 }
 
-/// The fields of a message that stand before its first fault, in order. It does not allocate.
+/// The fields of a message that come before its first fault, in order. It does not allocate.
 #[derive(Clone, Copy)]
 pub struct FoundFields<'a>(pub(crate) Fields<'a>);
 

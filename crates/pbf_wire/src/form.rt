@@ -98,7 +98,7 @@ pub fn judge_form<J: Judge>(message: Message<'_>, kinds: &[(u64, Kind)], inner: 
     least
 }
 
-/// No messages: nothing is asked of what the fields hold.
+/// No messages: what the fields hold has no fault for it.
 #[derive(Clone, Copy)]
 struct NoMessages;
 
@@ -119,7 +119,7 @@ pub fn judge_leaf(message: Message<'_>, kinds: &[(u64, Kind)]) -> Option<Fault>
     judge_form(message, kinds, &NoMessages)
 }
 
-/// The first wire fault of a message whose first byte stands at `at` in the file. `kinds` lists the known fields by their
+/// The first wire fault of a message whose first byte is at `at` in the file. `kinds` lists the known fields by their
 /// numbers; others may have any wire type. Embedded messages are not entered. Reads all bytes once and does not allocate.
 #[inline(always)]
 pub fn judge_wire(message: &[u8], at: u64, kinds: &[(u64, Kind)]) -> Result<(), Fault>

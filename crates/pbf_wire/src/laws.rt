@@ -47,7 +47,7 @@ pub fn joined_spellings_are_read()
 {}
 
 /// The items of a message are the occurrences of its longest prefix that has a cutting into spellings, and then the fault
-/// of what is left. Where the whole message has a cutting, it is this one.
+/// of what is left. If the whole message has a cutting, it is this one.
 pub fn one_cutting()
     ensures longest { (at : ℕ) (m : List ℕ)
         → IsCutting at m (found (items at m)) (fault_of (items at m)) }
@@ -55,7 +55,7 @@ pub fn one_cutting()
         → (found (items at m) ≡ os) × (fault_of (items at m) ≡ None) }
 {}
 
-/// A message has the same occurrences wherever in the file it stands, but for their places.
+/// A message has the same occurrences wherever in the file it is, except for their places.
 pub fn places_move_alike()
     ensures { (at to : ℕ) (m : List ℕ)
         → map without_places (found (items at m)) ≡ map without_places (found (items to m)) }
@@ -85,8 +85,8 @@ pub fn sums_undo_differences()
         → AllByRecursion (λ n. n < 2 ^ 64) (deltas values) }
 {}
 
-/// A message in written form is read back, wherever in the file it stands: its occurrences are the written fields in order, each field number
-/// reads as what was written there, its embedded messages are shorter than it is, and where its slots have the types of the
+/// A message in written form is read back, wherever in the file it is: its occurrences are the written fields in order, each field number
+/// reads as what was written there, its embedded messages are shorter than it is, and if its slots have the types of the
 /// known fields it has no wire fault.
 pub fn written_message_is_read()
     ensures items { (at : ℕ) (slots : List Slot) → AllByRecursion SlotFits slots
@@ -125,7 +125,7 @@ pub fn faults_go_by_number()
         (other.offset ∷ reason_number other.reason ∷ missing_field other.reason ∷ []) }
 {}
 
-/// Where faults are found phase by phase, the least of the first phase that has one is the least of all: phases are one order, in
+/// If faults are found phase by phase, the least of the first phase that has one is the least of all: phases are one order, in
 /// which a fault comes before those of later phases.
 pub fn phases_are_one_order()
     ensures { (first : ℕ) (phases : List (List Fault))

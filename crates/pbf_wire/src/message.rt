@@ -1,4 +1,4 @@
-//! A message, and where it stands.
+//! A message, and where it is.
 
 ghost use Rattle.std.specs.Prelude.{◌+◌, ◌≤◌, ◌^◌, length};
 
@@ -6,7 +6,7 @@ use crate::column::Column;
 use crate::field::{Field, Payload};
 use crate::fields::{Fields, FoundFields};
 
-/// The bytes of a message, and where in the file the first of them stands. Whoever makes one owes that they end at 2^63 at the
+/// The bytes of a message, and where in the file the first of them is. Code that makes one must prove that they end at 2^63 at the
 /// latest.
 #[derive(Clone, Copy)]
 pub struct Message<'a> {

@@ -94,7 +94,7 @@ pub fn is_short(bytes: &[u8]) -> bool
     end_soon(last) && last[63] < 128
 }
 
-/// How many bytes end a varint, if the bytes are short as [`is_short`] tells.
+/// How many bytes end a varint, if [`is_short`] holds of the bytes.
 fn count_short(bytes: &[u8]) -> Option<usize>
     ensures short { MatchOption result ⊤ (λ _. IsShort bytes.now) }
     ensures counted { MatchOption result ⊤

@@ -20,7 +20,7 @@ pub(crate) fn delta_in(narrow: bool, number: u64) -> i64
 }
 
 /// A cursor over the values of a delta column: the running sums of its entries, up to the first that isn't strictly between
-/// `-limit` and `limit`. It does not allocate, and a copy of it goes on by itself.
+/// `-limit` and `limit`. It does not allocate, and a copy of it continues by itself.
 #[derive(Clone, Copy)]
 pub struct Sums<'a> {
     entries: Column<'a>,

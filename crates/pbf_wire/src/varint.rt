@@ -37,7 +37,7 @@ fn longer_varint(bytes: &[u8]) -> (u64, usize)
     if *first < 128 || *second < 128 || *third < 128 {
         return any_varint(bytes);
     }
-    // Each step takes the bit away that says of the byte before that the number goes on.
+    // Each step subtracts the top bit of the byte before, which only says that the number continues.
     let two = u64::from(*first) - 128 + u64::from(*second) * 128;
     let three = two - 128 * 128 + u64::from(*third) * (128 * 128);
     let four = three - 128 * 128 * 128 + u64::from(*fourth) * (128 * 128 * 128);
@@ -55,7 +55,7 @@ fn longer_varint(bytes: &[u8]) -> (u64, usize)
 }
 
 /// The number that the bytes begin with, and how many bytes it takes, if they are at most three: nearly all numbers of a file
-/// are so short. It is read where it is asked for, without a call.
+/// are so short. It is inlined.
 #[inline(always)]
 pub(crate) fn short_varint(bytes: &[u8]) -> Option<(u64, usize)>
     ensures { MatchOption result ⊤ (λ found. (varint_at bytes.now ≡ Ok found) × (0 < found.1)
@@ -68,7 +68,7 @@ pub(crate) fn short_varint(bytes: &[u8]) -> Option<(u64, usize)>
     if one < 128 {
         return Some((one, 1));
     }
-    // Each step takes the bit away that says of the byte before that the number goes on.
+    // Each step subtracts the top bit of the byte before, which only says that the number continues.
     let [_, second, ..] = bytes else {
         return None;
     };
@@ -175,7 +175,7 @@ fn put_longer(out: &mut Vec<u8>, value: u64) -> Result<(), AllocError>
 
 /// Appends the shortest spelling, of one to ten bytes. An `Err` leaves the output as it was.
 ///
-/// Most numbers of a file take one byte, which is written where it is asked for, without a call.
+/// Most numbers of a file take one byte, which is written inline, without a call.
 #[inline(always)]
 pub fn put_varint(out: &mut Vec<u8>, value: u64) -> Result<(), AllocError>
     ensures ok { OnOk result (out.new.items ≡ out.old.items ++ shortest value) }
