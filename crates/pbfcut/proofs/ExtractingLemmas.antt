@@ -94,7 +94,7 @@ header_from area (Some header) h e choose es = ap (λ (g : HeaderSpec). written_
   some_same : Some (header_out_for_box area header.1) ≡ Some h → header_out_for_box area header.1 ≡ h
   some_same e = cc
 
--- a selection that keeps what the choice does of the frames that the passes met
+-- a selection that keeps what the choice does of the frames that the passes read
 pub record Selects (b : List ℕ) (choose : Choice) (area : BoundingBox) (pick : Pick) (h : HeaderSpec) : Type 0 where
   pub frames : List FrameSpec
   pub judged : judged_file (Some b) ≡ Some (frames, None)

@@ -61,7 +61,7 @@ end_is place k payload =
     let four : length f.prefix ≡ 4 = refl in
     omega (arith, four, ap length (written_bytes place k payload), length-append (f.prefix ++ f.header) f.blob, length-append f.prefix f.header)
 
--- a frame of data behind a header frame is in order
+-- a frame of data after a header frame is in order
 data_ordered : (place last : ℕ) → last ≤ 2 ^ 62 → least (order_faults true place kind.Data last) ≡ None
 data_ordered place last low =
     let within : nat_lt (2 ^ 62) last ≡ false = grind (arith, nat_tests, low) in

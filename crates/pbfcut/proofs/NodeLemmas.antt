@@ -1,4 +1,4 @@
--- The nodes of a dense message, of which the ids tell which are picked.
+-- The nodes of a dense message, if their ids decide which are picked.
 use Rattle.std.proofs.Common.{◌≡◌, ℕ, zero, suc, ◌+◌, ℤ, Bool, true, false, cond, List, [], ◌∷◌, ◌++◌, map, append_assoc, append-nil, take-append-drop, take, drop, add-one, Option, Some, None, subst, refl, sym, ap, ◌∙◌}
 use Rattle.std.specs.List.{filter}
 use Rattle.std.proofs.lemmas.List.{map-append}
@@ -55,7 +55,7 @@ module _ (p : Picker) where
   pub one_more : (id : ℤ) (ids : List ℤ) (n : ℕ) (ns : List NodeSpec) → picks_id p id ≡ false → BeginWithIds (id ∷ ids) (drop n ns) → NonePicked n ns → NonePicked (n + 1) ns × BeginWithIds ids (drop (n + 1) ns)
   one_more id ids n ns is begin none = rw add-one (one_on id ids n ns is begin none)
 
-  -- if no node stands behind them, none at all is picked
+  -- if no node follows them, none at all is picked
   pub none_more : (n : ℕ) (ids : List ℤ) (ns : List NodeSpec) → ids ≡ [] → BeginWithIds ids (drop n ns) → NonePicked n ns → filter (picks_of p) (map node ns) ≡ []
   none_more n ids ns ended begin none =
       let all = sym (take-append-drop n ns) ∙ (ap (λ (l : List NodeSpec). take n ns ++ l) (no_node ids (drop n ns) ended begin) ∙ append-nil (take n ns)) in

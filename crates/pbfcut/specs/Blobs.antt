@@ -7,12 +7,12 @@ use Rattle.pbf_frame.specs.declared.frame.FrameKind.TheVariants as kind
 use Rattle.pbf_frame.specs.Frames.{FrameSpec, frame_kind, frame_name, frame_payload}
 use Rattle.osm_text.specs.Quoted.{quoted}
 
--- the type as it stands, where it is known
+-- the type as it is, if it is known
 abbrev pub shown_name : FrameKind → List ℕ → List ℕ
 shown_name kind.Other name = quoted name
 shown_name _ name = name
 
--- the payload's length, or that the blob isn't looked into
+-- the payload's length, or that the blob isn't read
 abbrev pub shown_length : FrameKind → ℕ → List ℕ
 shown_length kind.Header n = decimal n
 shown_length kind.Data n = decimal n

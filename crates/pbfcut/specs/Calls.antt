@@ -36,7 +36,7 @@ RefusedFirst known old new e = FaultOf known e × (new ≡ old)
 abbrev pub Differ : Option (List ℕ) → Option (List ℕ) → Type 0
 Differ first other = (b c : List ℕ) → first ≡ Some b → other ≡ Some c → b ≡ c → ⊥
 
--- the pass of this number met other bytes than the first
+-- the pass of this number read other bytes than the first
 abbrev pub ChangedIn : ℕ → Option (List ℕ) → Option (List ℕ) → ℕ → Type 0
 ChangedIn number first other pass = (pass ≡ number) × Differ first other
 

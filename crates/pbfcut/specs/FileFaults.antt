@@ -23,7 +23,7 @@ frame_faults had_header f = in_phases 1 (frame_phases had_header f ++ payload_ph
 abbrev pub end_faults : Bool → ℕ → List (ℕ × Fault)
 end_faults had_header place = in_phase 1 (fault_where (not had_header) place NoHeader)
 
--- those from a place on, each with the place of its frame, with fuel for each frame. What stands after a faulty frame is cut as if it had
+-- those from a place on, each with the place of its frame, with fuel for each frame. What comes after a faulty frame is cut as if it had
 -- no fault: all that is found there comes later in the order
 unfoldable pub faults_within : ℕ → Bool → ℕ → List ℕ → List (ℕ × (ℕ × Fault))
 faults_within zero had_header place bytes = []

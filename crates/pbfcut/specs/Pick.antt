@@ -67,21 +67,21 @@ pub record HasPacked {D S H : Type 0} (d : drain.Ghosts D) (start : D) (done : L
   pub added : Added d start (written_after [] done) packer.drain
   pub pending : Pending packer (pending_after [] done)
 
--- whatever comes behind these entities, what went out is a prefix of what is written for all
+-- whatever comes after these entities, what went out is a prefix of what is written for all
 abbrev pub BeginsAll : Option (List ℕ) → List EntitySpec → Option (List ℕ) → Type 0
 BeginsAll start done taken = (rest : List EntitySpec) → IsFront start taken (written_entities (done ++ rest))
 
--- these entities were packed behind those that were
+-- these entities were packed after those that were
 pub record Packs {D S H : Type 0} (d : drain.Ghosts D) (old new : Packing D S H) (es : List EntitySpec) : Type 0 where
   pub packed : (start : D) (done : List EntitySpec) → HasPacked d start done old → HasPacked d start (done ++ es) new
 
--- of these entities, behind those that were, a beginning went out
+-- of these entities, after those that were, a prefix went out
 pub record Begins {D S H : Type 0} (d : drain.Ghosts D) (old new : Packing D S H) (es : List EntitySpec) : Type 0 where
   pub begun : (start : D) (done : List EntitySpec) → HasPacked d start done old → BeginsAll (d.taken start) (done ++ es) (d.taken new.drain)
 
 -- ---- what a call does to a packer
 
--- a payload without a fault was packed, and the packer goes on
+-- a payload without a fault was packed, and the packer can go on
 pub record PacksAll {D S H : Type 0} (d : drain.Ghosts D) (fault : Option Fault) (es : List EntitySpec) (old new : Packing D S H) : Type 0 where
   pub sound : fault ≡ None
   pub packs : Packs d old new es
@@ -92,7 +92,7 @@ pub record StopsPacking {D S H : Type 0} (d : drain.Ghosts D) (fault : Option Fa
   pub cause : Caused (Only fault) ⊥ (WriteFailed d old.drain new.drain) unchanged stop
   pub front : (d.taken new.drain ≡ d.taken old.drain) ⊎ ((fault ≡ None) × Begins d old new es)
 
--- the same of entities of which some are picked: one of them that is met can't be written; or a write failed, or memory was refused
+-- the same of entities of which some are picked: one of them can't be written; or a write failed, or memory was refused
 pub record StopsAmong {D S H : Type 0} (d : drain.Ghosts D) (number : ℕ) (pick : Pick) (es : List EntitySpec) (old new : Packing D S H) (stop : Stop) : Type 0 where
   pub cause : Caused (λ e. ⊥) ⊥ (WriteFailed d old.drain new.drain) (λ pass. (pass ≡ number) × (AllByRecursion EntityFits es → ⊥)) stop
   pub begins : Begins d old new (filter pick es)
@@ -103,7 +103,7 @@ pub record PacksPicked {D S H : Type 0} (d : drain.Ghosts D) (pick : Pick) (es :
   pub going : IsPacking new
   pub counted : (done : List EntitySpec) → before ≡ counts_of done → now ≡ counts_of (done ++ filter pick es)
 
--- whatever a call answers
+-- whatever a call returns
 pub record KeepsPacker {D S H : Type 0} (d : drain.Ghosts D) (old new : Packing D S H) : Type 0 where
   pub header : has_header new ≡ true
   pub drain_kept : KeepsDrain d old.drain new.drain

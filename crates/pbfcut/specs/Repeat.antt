@@ -1,4 +1,4 @@
--- Passes behind the first one: their bytes have to have its digest.
+-- Passes after the first one: their bytes have to have its digest.
 use Rattle.std.specs.Prelude.{◌≡◌, ℕ, List, Bool, true, false, Option, Some, None}
 use Rattle.sha2.specs.Sha256.{sha256}
 use Rattle.osm_entity.specs.Entity.{EntitySpec}

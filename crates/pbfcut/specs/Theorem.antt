@@ -16,12 +16,12 @@ use Rattle.pbfcut.specs.Extracting.{Choice}
 use Rattle.pbf_pass.specs.Given.{Took}
 use Rattle.pbfcut.specs.Kept.{verdict_on, IsWritable, header_in_file, entities_in_file, meant_in_file, conversion_of, extract_of}
 
--- ---- the promise of a call: what it answers for a file that all its feeds supply
+-- ---- the promise of a call: what it returns for a file that all its feeds supply
 
 -- a file is refused for its first fault, with nothing written
 abbrev pub RefusedFor : List ℕ → Option (List ℕ) → Option (List ℕ) → Stop → Type 0
 RefusedFor file old new (Refused e) = ((verdict_on file).1 ≡ Some e) × (new ≡ old)
--- a device failed, or memory was refused: of these the clause `stops` tells
+-- a device failed, or memory was refused: the clause `stops` says more of these
 RefusedFor file old new _ = Unit {0}
 
 -- of a file without a fault, this holds of what the drain took
@@ -74,7 +74,7 @@ pub record IsCanonical (answer : List ℕ → List ℕ) (file written : List ℕ
   pub is : written ≡ answer file
   pub again : length written ≤ 2 ^ 62 → answer written ≡ written
 
--- whatever a call answers, what the drain took is a beginning of them, and all of them where it succeeds
+-- whatever a call returns, what the drain took is a prefix of them, and all of them if it succeeds
 abbrev pub Canonical : {D : Type 0} → drain.Ghosts D → D → D → (List ℕ → List ℕ) → List ℕ → Result Counts Stop → Type 0
 Canonical d old new answer file (Ok _) = Took d old new (IsCanonical answer file)
 Canonical d old new answer file (Err _) = IsFront (d.taken old) (d.taken new) (answer file)

@@ -13,7 +13,7 @@ use pbf_frame::{Drain, Feed, Frame, FrameKind, FrameReader, Stop, write_all};
 use pbf_pass::{Visit, visit_rest};
 use std::alloc::{AllocError, Global};
 
-/// Appends the type of a frame: as it stands if it is known, otherwise in quotation marks.
+/// Appends the type of a frame: as it is if it is known, otherwise in quotation marks.
 fn put_name(out: &mut Vec<u8>, kind: FrameKind, name: &[u8]) -> Result<(), AllocError>
     ensures { OnOk result (out.new.items ≡ out.old.items ++ shown_name kind name.now) }
 {
@@ -24,7 +24,7 @@ fn put_name(out: &mut Vec<u8>, kind: FrameKind, name: &[u8]) -> Result<(), Alloc
     Ok(())
 }
 
-/// Appends the length of a payload, or that its blob is not looked into.
+/// Appends the length of a payload, or that its blob is not read.
 fn put_length(out: &mut Vec<u8>, kind: FrameKind, length: u64) -> Result<(), AllocError>
     ensures { OnOk result (out.new.items ≡ out.old.items ++ shown_length kind length) }
 {

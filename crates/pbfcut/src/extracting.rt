@@ -79,7 +79,7 @@ fn choose<F: Feed, G: Feed>(
 /// URL have more than 12,000,000 bytes together; nothing is written then. `Changed(2)` or `Changed(3)` says that the second or the
 /// third feed's bytes aren't those of the first; after `Changed(2)` nothing is written, and what was written before `Changed(3)`
 /// has no meaning. `Read` and `Write` say that a device failed, and `Memory` that memory was refused: what went out is a prefix of
-/// the answer. The input is untrusted, so the hasher should be seeded.
+/// what is written. The input is untrusted, so the hasher should be seeded.
 ///
 /// Space: one frame, the block that is open, and the sets of ids of the nodes in the box, of the refs and of the ways.
 pub fn extract<F: Feed, G: Feed, H: Feed, D: Drain, S: BuildHasher + Drop>(
@@ -144,7 +144,7 @@ pub fn extract_with_receipt<F: Feed, G: Feed, H: Feed, D: Drain, S: BuildHasher 
         (ReadFailed F.Feed first.old first.new
         ⊎ (ReadFailed G.Feed second.old second.new ⊎ ReadFailed H.Feed third.old third.new))
         (WriteFailed D.Drain drain.old drain.new) (stop_of h)) }
-    // Whatever stopped it, if all feeds supply these bytes a prefix of the answer went out, and nothing if they have a fault.
+    // Whatever stopped it, if all feeds supply these bytes a prefix of the result went out, and nothing if they have a fault.
     ensures beginning { OnErr result ((b : List ℕ)
         → AllSupply b (F.remaining first.old) (G.remaining second.old) (H.remaining third.old)
         → IsFront (D.taken drain.old) (D.taken drain.new)
@@ -283,7 +283,7 @@ pub fn extract_parents_with_receipt<
         ⊎ (ReadFailed G.Feed second.old second.new ⊎ ReadFailed H.Feed third.old third.new))
         ⊎ ReadFailed I.Feed fourth.old fourth.new)
         (WriteFailed D.Drain drain.old drain.new) (stop_of h)) }
-    // Whatever stopped it, if all feeds supply these bytes a prefix of the answer went out, and nothing if they have a fault.
+    // Whatever stopped it, if all feeds supply these bytes a prefix of the result went out, and nothing if they have a fault.
     ensures beginning { OnErr result ((b : List ℕ)
         → FourSupply b (F.remaining first.old) (G.remaining second.old) (H.remaining third.old)
         (I.remaining fourth.old)

@@ -26,7 +26,7 @@ use pbf_pass::Pass;
 use std::alloc::Global;
 use std::hash::BuildHasher;
 
-/// Which entities are written, asked of many one after another: the look-ups of ids that lie close together are cheap.
+/// Which entities are written, for many of them one after another: the look-ups of ids that lie close together are cheap.
 #[derive(Drop)]
 pub(crate) struct Picker<'a> {
     /// What was chosen; all of them where nothing was.
@@ -163,8 +163,8 @@ fn pack_way<D: Drain, S: BuildHasher>(
 /// So many nodes at the most are skipped at a time.
 const MOST_PASSED: usize = 8_000;
 
-/// How many nodes, of those that are still to come, stand before the next that is picked, or some of them; `None` if none of them is
-/// picked. Their ids tell, and nothing else is read.
+/// How many nodes, of those that are still to come, come before the next that is picked, or some of them; `None` if none of them is
+/// picked. Only their ids are read.
 fn unpicked(dense: &Dense<'_>, picker: &mut Picker<'_>) -> Option<usize>
     ensures none { MatchOption result
         (filter (picks_of picker.old) (map node (dense_left dense.now)) ≡ [])
@@ -262,7 +262,7 @@ pub(crate) fn pack_runs<D: Drain, S: BuildHasher>(
     Ok(())
 }
 
-/// Judges a PrimitiveBlock whose first byte stands at `at` in the file, packs what is picked of it, and returns the numbers of
+/// Judges a PrimitiveBlock whose first byte is at `at` in the file, packs what is picked of it, and returns the numbers of
 /// these entities.
 fn pack_block<D: Drain, S: BuildHasher>(
     alloc: Global,
@@ -329,7 +329,7 @@ fn pack_payload<D: Drain, S: BuildHasher>(
 ///
 /// `Refused` names the first fault of the frame, and then nothing went out; on another stop, of a frame without a fault, a
 /// prefix of its entities may have gone out. After a stop the reader and the packer may only be dropped or taken apart, and
-/// the pass may only be dropped. A spent packer returns its stop again, before the reader is asked.
+/// the pass may only be dropped. A spent packer returns its stop again, before the reader is called.
 pub fn step_pack<F: Feed, D: Drain, S: BuildHasher>(
     alloc: Global,
     reader: &mut FrameReader<F>,

@@ -71,7 +71,7 @@ fn write_entities<D: Drain>(
     Ok(())
 }
 
-/// Judges a HeaderBlock whose first byte stands at `at` in the file, and writes its lines.
+/// Judges a HeaderBlock whose first byte is at `at` in the file, and writes its lines.
 fn write_header<D: Drain>(
     alloc: Global,
     payload: &[u8],
@@ -93,7 +93,7 @@ fn write_header<D: Drain>(
     Ok(())
 }
 
-/// Judges a PrimitiveBlock whose first byte stands at `at` in the file, and writes the lines of its entities.
+/// Judges a PrimitiveBlock whose first byte is at `at` in the file, and writes the lines of its entities.
 fn write_block<D: Drain>(
     alloc: Global,
     payload: &[u8],

@@ -29,7 +29,7 @@ use std::alloc::Global;
 use std::hash::BuildHasher;
 
 /// The passes before the one that writes: the first judges the file and takes the nodes of the box, and the ways as long as no node
-/// comes behind one. If one did, the second takes the ways; otherwise it isn't made.
+/// comes after one. If one did, the second takes the ways; otherwise it isn't made.
 pub(crate) fn choose_sorted<F: Feed, G: Feed>(
     alloc: Global,
     first: &mut F,
@@ -60,8 +60,8 @@ pub(crate) fn choose_sorted<F: Feed, G: Feed>(
     })
 }
 
-/// Like [`extract`](crate::extract), in two passes if no node of the file comes behind a way: then the first gives the ways too, and
-/// nothing is read of the second feed. Of another file three passes are made, as there.
+/// Like [`extract`](crate::extract), in two passes if no node of the file comes after a way: then the first gives the ways too, and
+/// nothing is read of the second feed. For any other file there are three passes, as there.
 ///
 /// All that is said there holds. Space: besides, the refs and the ids of the ways are gathered during the first pass.
 pub fn extract_sorted<F: Feed, G: Feed, H: Feed, D: Drain, S: BuildHasher + Drop>(
@@ -128,7 +128,7 @@ pub fn extract_sorted_with_receipt<F: Feed, G: Feed, H: Feed, D: Drain, S: Build
         (ReadFailed F.Feed first.old first.new
         ⊎ (ReadFailed G.Feed second.old second.new ⊎ ReadFailed H.Feed third.old third.new))
         (WriteFailed D.Drain drain.old drain.new) (stop_of h)) }
-    // Whatever stopped it, if all feeds supply these bytes a prefix of the answer went out, and nothing if they have a fault.
+    // Whatever stopped it, if all feeds supply these bytes a prefix of the result went out, and nothing if they have a fault.
     ensures beginning { OnErr result ((b : List ℕ)
         → AllSupply b (F.remaining first.old) (G.remaining second.old) (H.remaining third.old)
         → IsFront (D.taken drain.old) (D.taken drain.new)
@@ -180,7 +180,7 @@ fn choose_parents_sorted<F: Feed, G: Feed, H: Feed>(
     })
 }
 
-/// Like [`extract_parents_with_receipt`](crate::extract_parents_with_receipt), in three passes if no node of the file comes behind a
+/// Like [`extract_parents_with_receipt`](crate::extract_parents_with_receipt), in three passes if no node of the file comes after a
 /// way, as [`extract_sorted`] spares one.
 pub fn extract_parents_sorted_with_receipt<
     F: Feed,
@@ -217,7 +217,7 @@ pub fn extract_parents_sorted_with_receipt<
         ⊎ (ReadFailed G.Feed second.old second.new ⊎ ReadFailed H.Feed third.old third.new))
         ⊎ ReadFailed I.Feed fourth.old fourth.new)
         (WriteFailed D.Drain drain.old drain.new) (stop_of h)) }
-    // Whatever stopped it, if all feeds supply these bytes a prefix of the answer went out, and nothing if they have a fault.
+    // Whatever stopped it, if all feeds supply these bytes a prefix of the result went out, and nothing if they have a fault.
     ensures beginning { OnErr result ((b : List ℕ)
         → FourSupply b (F.remaining first.old) (G.remaining second.old) (H.remaining third.old)
         (I.remaining fourth.old)

@@ -23,7 +23,7 @@ use pbf_pass::{InputReceipt, Visit, pass_over};
 use std::alloc::Global;
 use std::hash::BuildHasher;
 
-/// Packs what is picked of a PrimitiveBlock whose first byte stands at `at` in the file, in a pass of this number, and counts it.
+/// Packs what is picked of a PrimitiveBlock whose first byte is at `at` in the file, in a pass of this number, and counts it.
 fn pack_block<D: Drain, S: BuildHasher>(
     alloc: Global,
     payload: &[u8],
