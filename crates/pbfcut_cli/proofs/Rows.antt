@@ -8,7 +8,7 @@ use Rattle.clap.specs.Simple.{argument_words, entered, label_of, names_of, rows_
 use Rattle.clap.specs.Walk.{answers_to, stop_after}
 use Rattle.pbfcut_cli.specs.Words.{IsOffered, program_app}
 
--- the text behind a reference, or the empty one
+-- the text of a reference, or the empty one
 pub text_or_empty : (o : Option (Bor Text)) (d : Bor Text) (v : Option Text)
     → option_map (λ s. s.now) o ≡ v → d.now ≡ [] → (unwrap_or o d).now ≡ unwrap_or v []
 text_or_empty None d v e empty = rw (← e) empty
