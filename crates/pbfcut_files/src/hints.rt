@@ -12,7 +12,7 @@ use std::io::{self, IsTerminal, Read, Seek, SeekFrom};
 /// How many bytes of IN are read to see what it is.
 const GLANCE: usize = 96;
 
-/// The files that a command names, whether it is `extract`, and the program that was asked.
+/// The files that a command names, whether it is `extract`, and the program that runs.
 #[derive(Clone, Copy)]
 pub struct Asked<'a> {
     program: Program,

@@ -44,7 +44,7 @@ impl Line {
         (self.read.saturating_mul(100) / self.length).min(100)
     }
 
-    /// Writes the line anew, with spaces after it over what an earlier pass left. If it can't be written, the run goes on
+    /// Writes the line again, with spaces after it over what an earlier pass left. If it can't be written, the run goes on
     /// without it.
     fn show(&mut self, number: u64) {
         let (pass, passes) = (self.pass, self.passes);
