@@ -36,7 +36,7 @@ fn is_show(alloc: Global, words: &[&str], input: &str, asked: (bool, bool)) -> b
     }
 }
 
-/// Whether they ask to check this file, with progress and with digests or without.
+/// Whether they are a command to check this file, with or without progress and digests.
 fn is_check(alloc: Global, words: &[&str], input: &str, asked: (bool, bool)) -> bool {
     let read = read_words(alloc, Program::Pbfcut, words);
     match &read {
@@ -51,7 +51,7 @@ fn is_check(alloc: Global, words: &[&str], input: &str, asked: (bool, bool)) -> 
     }
 }
 
-/// Whether they ask to convert `a` to `b`, with progress and with digests or without.
+/// Whether they are a command to convert `a` to `b`, with or without progress and digests.
 fn is_convert(alloc: Global, words: &[&str], asked: (bool, bool)) -> bool {
     let read = read_words(alloc, Program::Pbfcut, words);
     match &read {
@@ -67,7 +67,7 @@ fn is_convert(alloc: Global, words: &[&str], asked: (bool, bool)) -> bool {
     }
 }
 
-/// Whether they ask to cut London out of `a` into `b`, with all parents, with progress and with digests, or with none of these.
+/// Whether they are a command to cut London out of `a` into `b`, with all of parents, progress and digests, or with none of them.
 fn is_extract(alloc: Global, words: &[&str], asked: bool) -> bool {
     let read = read_words(alloc, Program::Pbfcut, words);
     match &read {
