@@ -31,7 +31,7 @@ struct Run {
     place: Place,
 }
 
-/// Reads up to so many pieces of at most seven bytes, until there are no more, and asks where a byte comes from.
+/// Reads up to so many pieces of at most seven bytes, until there are no more, and finds where a byte comes from.
 fn read_all<F: Feed + Drop>(
     alloc: Global,
     feed: F,
