@@ -3,7 +3,7 @@
 use osm_ids::{IdSet, SealedIds};
 use std::alloc::{AllocError, Global};
 
-/// The ids, sealed: which of them are there can be asked from now on.
+/// The ids, sealed, so that they can be looked up.
 pub fn sealed(alloc: Global, ids: &[i64]) -> Result<SealedIds, AllocError> {
     let mut set = IdSet::new(alloc);
     for id in ids {
