@@ -126,7 +126,7 @@ fn is_next<F: Feed>(
     }
 }
 
-/// Whether there is no other frame, whenever one asks.
+/// Whether there is no other frame, however often it is tried.
 fn is_at_end<F: Feed>(reader: &mut FrameReader<F>) -> Result<bool, Stop> {
     Ok(reader.next()?.is_none() && reader.next()?.is_none())
 }
@@ -282,7 +282,7 @@ fn end_of_a_frame(rt: HostRuntime) {
     assert_eq!(rt; frame_end(limit - 19, 13, 3), None);
 }
 
-/// Whether a reader whose feed fails at this call stops by it, and stays spent though the feed would go on.
+/// Whether a reader whose feed fails at this call stops by it, and stays spent though the feed could go on.
 fn stops_at(alloc: Global, lengths: &[usize], call: u64) -> Result<bool, Stop> {
     let mut feed = Pieces::new(&THREE_DENSE_NODES, lengths, Some(call));
     let mut reader = FrameReader::new(alloc, &mut feed);

@@ -117,7 +117,7 @@ fn written(
     Ok(out)
 }
 
-/// Whether the table has the four texts, once it gave them their numbers, and gives them anew once it is cleared.
+/// Whether the table has the four texts, once it has numbered them, and numbers them again after it is cleared.
 fn numbers_four_texts(alloc: Global) -> Result<bool, AllocError> {
     const GIVEN: [(&'static [u8], u32); 4] = [
         (b"highway", 1),

@@ -203,7 +203,7 @@ const TWICE_AT_10: Message = Message {
     at: 10,
 };
 
-/// Where the last field of this number stands, in a message that begins at 10.
+/// The offset of the last field of this number, in a message that begins at 10.
 fn place_of_last(number: u64) -> Option<u64> {
     match last_field(TWICE_AT_10, number) {
         Some(field) => Some(field.offset),
@@ -244,7 +244,7 @@ fn bytes_below_128(rt: HostRuntime) -> Result<(), Fail> {
     Ok(())
 }
 
-/// The first length up to 200 for which the count is wrong. Every third byte goes on, and neither the lanes nor the rest are alike.
+/// The first length up to 200 for which the count is wrong. Every third byte has the top bit set, and neither the lanes nor the rest are alike.
 fn miscounted(alloc: Global) -> Result<Option<u8>, AllocError> {
     let mut bytes = Vec::new(alloc);
     let mut ends = 0;
