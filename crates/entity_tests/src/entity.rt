@@ -180,7 +180,7 @@ fn is_second_of_ann(meta: MetaRef<'_>) -> bool {
     meta.version == Some(2) && meta.user == Some(b"ann".as_slice()) && meta.visible.is_none()
 }
 
-/// Whether the node is where that of [`a_dense_node`] is.
+/// Whether the node has the place of [`a_dense_node`].
 fn is_placed(node: NodeRef<'_>) -> bool {
     node.id() == 1
         && node.lat() == 1

@@ -40,6 +40,6 @@ some_byte (b ∷ s) h = omega arith
 pub shortest_some : (n : ℕ) → n < 2 ^ 64 → 0 < length (shortest n)
 shortest_some n lt = some_byte (shortest n) (shortest_spells n lt).ended
 
--- what is read where there is a shortest spelling
+-- what is read of a shortest spelling
 pub read_at : (bytes : List ℕ) (at n : ℕ) (rest : List ℕ) → n < 2 ^ 64 → drop at bytes ≡ shortest n ++ rest → moved_by at (varint_at (drop at bytes)) ≡ Ok (n, at + length (shortest n))
 read_at bytes at n rest lt e = ap (moved_by at) (ap varint_at e ∙ again (shortest n) rest n (shortest_spells n lt))

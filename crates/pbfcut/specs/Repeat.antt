@@ -16,11 +16,11 @@ use Rattle.pbf_pass.specs.Stops.{Caused}
 abbrev pub Unlike : Option (List ℕ) → List ℕ → Type 0
 Unlike known digest = (b : List ℕ) (frames : List FrameSpec) → known ≡ Some b → digest ≡ sha256 b → judged_file (Some b) ≡ Some (frames, None) → ⊥
 
--- nothing is refused; and where the pass is said to be changed, its feed has other bytes than those of the digest
+-- nothing is refused; and if the stop is `Changed`, the feed has other bytes than those of the digest
 abbrev pub StopsAgain : Repeat → Option (List ℕ) → (read wrote : Type 0) → Stop → Type 0
 StopsAgain again known read wrote stop = Caused (λ e. ⊥) read wrote (λ pass. (pass ≡ again.number) × Unlike known again.digest) stop
 
--- a fault that a later pass meets is a change
+-- a fault that a later pass finds is a change
 abbrev pub as_change : ℕ → Stop → Stop
 as_change number (Refused e) = Changed number
 as_change number Read = Read
