@@ -172,7 +172,7 @@ impl<'a> NodeRef<'a> {
             .saturating_add(160)
     }
 
-    /// What the node counts for in a block, if [`NodeRef::fits`] holds of it.
+    /// What the node counts for in a block, if [`NodeRef::fits`] holds of it, and otherwise `None`.
     pub fn weight_if_fits(&self) -> Option<u64>
         ensures { SomeIff result (NodeFits (node_of self.now)) (node_weight (node_of self.now)) }
     {

@@ -137,7 +137,7 @@ impl<'a> RelationRef<'a> {
         self.weight_with(members_weight(self.members))
     }
 
-    /// What the relation counts for in a block, if [`RelationRef::fits`] holds of it. The members are read once.
+    /// What the relation counts for in a block, if [`RelationRef::fits`] holds of it, and otherwise `None`. The members are read once.
     pub fn weight_if_fits(&self) -> Option<u64>
         ensures { SomeIff result (RelationFits (relation_of self.now))
             (relation_weight (relation_of self.now)) }

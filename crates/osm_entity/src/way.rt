@@ -164,7 +164,7 @@ impl<'a> WayRef<'a> {
         self.weight_with(refs_weight(self.refs))
     }
 
-    /// What the way counts for in a block, if [`WayRef::fits`] holds of it. The refs are decoded once at most.
+    /// What the way counts for in a block, if [`WayRef::fits`] holds of it, and otherwise `None`. The refs are decoded once at most.
     pub fn weight_if_fits(&self) -> Option<u64>
         ensures { SomeIff result (WayFits (way_of self.now)) (way_weight (way_of self.now)) }
     {
