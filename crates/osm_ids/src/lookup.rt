@@ -75,7 +75,8 @@ impl SealedIds {
 }
 
 impl<'a> Lookup<'a> {
-    /// Whether the set has the id. One that is known to be absent takes two comparisons, and the next one of a dense set no call.
+    /// Whether the set has the id, in whatever order ids come; the set stays the same. An id that is known to be absent takes two
+    /// comparisons, and the next one of a dense set no call.
     #[inline(always)]
     pub fn has(&mut self, id: i64) -> bool
         ensures found { result ≡ set.contains self.old id }

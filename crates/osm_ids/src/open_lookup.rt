@@ -13,7 +13,7 @@ pub trait IdLookup {
     /// The ids, as a finite set.
     ghost ids: { Self → set.FinSet int_cmp };
 
-    /// Whether the id is among them.
+    /// Whether the id is among them, in a set that may grow ([`OpenLookup`]) or a sealed one ([`Lookup`]). They stay the same.
     fn has(&mut self, id: i64) -> bool
         ensures found { result ≡ set.contains (ids self.old) id }
         ensures same { self.new ≡ self.old };
