@@ -179,6 +179,7 @@ impl<S: BuildHasher> OpenBlock<S> {
     fn table(&self, alloc: Global) -> Result<Vec<u8>, AllocError>
         requires { IsOpen self.now }
         ensures table { IfOk result (λ table. table.items ≡ table_message self.now.texts) }
+        // The texts and their table together are no more than `MOST_HELD`.
         ensures room { IfOk result (λ table. block_held self.now + length table.items ≤ MOST_HELD) }
     {
         let mut table = Vec::new(alloc);
@@ -186,7 +187,7 @@ impl<S: BuildHasher> OpenBlock<S> {
         Ok(table)
     }
 
-    /// Takes the texts out, and then adds the message of the nodes to the group. The texts go first, so that no more than two
+    /// Drops the texts, and then adds the message of the nodes to the group. The texts go first, so that no more than two
     /// copies of them are held at a time. The table, the columns and the message are held beside each other (`made`), and then
     /// the table, the message and the group (`room`). After an `Err` the block is unspecified.
     fn end_group(&mut self, alloc: Global) -> Result<(), AllocError>

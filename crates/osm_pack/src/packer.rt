@@ -56,7 +56,7 @@ impl<D: Drain, S: BuildHasher> Packer<D, S> {
     ghost use Rattle.osm_pack.specs.Stops.{IsPackStop};
     ghost use Rattle.osm_pack.specs.Packing.{Pending, IsPacking, HasStopped, has_header, packer_held};
 
-    /// A packer over a drain. The input is untrusted, so the hasher should be seeded.
+    /// A packer over a drain, with no header and no entities yet. The input is untrusted, so the hasher should be seeded.
     pub fn new(alloc: Global, drain: D, hasher: S) -> Packer<D, S>
         ensures drain { result.drain ≡ drain }
         ensures lender { D.lender result.drain ≡ D.lender drain }
@@ -96,21 +96,31 @@ impl<D: Drain, S: BuildHasher> Packer<D, S> {
         requires once { has_header self.old ≡ false }
         requires kept { text_weight (header_of header.now).source + text_weight
             (header_of header.now).url ≤ MOST_HEADER_TEXT }
+        // A header was put.
         ensures begun { has_header self.new ≡ true }
+        // The drain took the header's frame, by what it reports and by each log.
         ensures written { IsPacking self.old
             → OnOk result
             (Added D.Drain self.old.drain (header_frame (header_of header.now)) self.new.drain) }
+        // What waits stays.
         ensures pending { (es : List EntitySpec) → Pending self.old es
             → OnOk result (Pending self.new es) }
+        // The packer goes on.
         ensures packing { OnOk result (IsPacking self.new) }
+        // What went out is a prefix of what was to be written.
         ensures front { IsPacking self.old
             → IsFront (D.taken self.old.drain) (D.taken self.new.drain)
             (header_frame (header_of header.now)) }
+        // After a stop the packer is spent.
         ensures stopped { IfErr result (HasStopped self.new) }
+        // `Write` comes only if the drain's count of failures rose; any other stop is `Memory`.
         ensures stops { IsPacking self.old
             → IfErr result (IsPackStop (D.failures self.old.drain) (D.failures self.new.drain)) }
+        // The drain's count of failures doesn't fall.
         ensures counts { D.failures self.old.drain ≤ D.failures self.new.drain }
+        // The drain keeps its references.
         ensures lender { D.lender self.new.drain ≡ D.lender self.old.drain }
+        // A spent packer returns its stop again, and the drain is as it was.
         ensures spent { (stop : Stop) → HasStopped self.old stop
             → (result ≡ Err stop) × (self.new.drain ≡ self.old.drain) }
     {
@@ -134,21 +144,32 @@ impl<D: Drain, S: BuildHasher> Packer<D, S> {
     pub fn push(&mut self, entity: &EntityRef<'_>) -> Result<(), Stop>
         requires begun { has_header self.old ≡ true }
         requires fits { EntityFits (entity_of entity.now) }
+        // There is a header still.
         ensures header { has_header self.new ≡ true }
+        // It waits with the others if they may be in one block, otherwise by itself.
         ensures pending { (es : List EntitySpec) → Pending self.old es
             → OnOk result (Pending self.new (then_pending es (entity_of entity.now))) }
+        // If it does not fit the block of those that wait, these went out as a block, by what the drain reports and by each log; otherwise
+        // nothing did.
         ensures written { (es : List EntitySpec) → Pending self.old es
             → OnOk result (Added D.Drain self.old.drain
             (then_written es (entity_of entity.now)) self.new.drain) }
+        // The packer goes on.
         ensures packing { OnOk result (IsPacking self.old × IsPacking self.new) }
+        // What went out is a prefix of what was to be written.
         ensures front { IsPacking self.old → (es : List EntitySpec) → Pending self.old es
             → IsFront (D.taken self.old.drain) (D.taken self.new.drain)
             (then_written es (entity_of entity.now)) }
+        // After a stop the packer is spent.
         ensures stopped { IfErr result (HasStopped self.new) }
+        // `Write` comes only if the drain's count of failures rose; any other stop is `Memory`.
         ensures stops { IsPacking self.old
             → IfErr result (IsPackStop (D.failures self.old.drain) (D.failures self.new.drain)) }
+        // The drain's count of failures doesn't fall.
         ensures counts { D.failures self.old.drain ≤ D.failures self.new.drain }
+        // The drain keeps its references.
         ensures lender { D.lender self.new.drain ≡ D.lender self.old.drain }
+        // A spent packer returns its stop again, and the drain is as it was.
         ensures spent { (stop : Stop) → HasStopped self.old stop
             → (result ≡ Err stop) × (self.new.drain ≡ self.old.drain) }
     {
@@ -194,18 +215,28 @@ impl<D: Drain, S: BuildHasher> Packer<D, S> {
     /// After a stop a prefix of their block went out, and the packer is spent.
     pub fn finish(&mut self) -> Result<(), Stop>
         requires { has_header self.old ≡ true }
+        // There is a header still.
         ensures header { has_header self.new ≡ true }
+        // Nothing waits.
         ensures pending { OnOk result (Pending self.new []) }
+        // Those that waited went out as a block, by what the drain reports and by each log.
         ensures written { (es : List EntitySpec) → Pending self.old es
             → OnOk result (Added D.Drain self.old.drain (at_end es) self.new.drain) }
+        // The packer goes on.
         ensures packing { OnOk result (IsPacking self.old × IsPacking self.new) }
+        // What went out is a prefix of what was to be written.
         ensures front { IsPacking self.old → (es : List EntitySpec) → Pending self.old es
             → IsFront (D.taken self.old.drain) (D.taken self.new.drain) (at_end es) }
+        // After a stop the packer is spent.
         ensures stopped { IfErr result (HasStopped self.new) }
+        // `Write` comes only if the drain's count of failures rose; any other stop is `Memory`.
         ensures stops { IsPacking self.old
             → IfErr result (IsPackStop (D.failures self.old.drain) (D.failures self.new.drain)) }
+        // The drain's count of failures doesn't fall.
         ensures counts { D.failures self.old.drain ≤ D.failures self.new.drain }
+        // The drain keeps its references.
         ensures lender { D.lender self.new.drain ≡ D.lender self.old.drain }
+        // A spent packer returns its stop again, and the drain is as it was.
         ensures spent { (stop : Stop) → HasStopped self.old stop
             → (result ≡ Err stop) × (self.new.drain ≡ self.old.drain) }
     {
@@ -221,7 +252,7 @@ impl<D: Drain, S: BuildHasher> Packer<D, S> {
     }
 
     /// The bytes held for the entities that wait: the lengths of their columns, messages and texts, and four for each text. While
-    /// a block is closed what is made of them is held besides, and all of it together is no more than [`MOST_HELD`] either.
+    /// a block is closed what is made of them is held besides, and all of it together is no more than [`MOST_HELD`], 28,000,000, either.
     pub fn held(&self) -> u64
         ensures value { result ≡ packer_held self.now }
         ensures bound { result ≤ MOST_HELD }
