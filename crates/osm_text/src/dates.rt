@@ -119,7 +119,8 @@ fn put_utc(out: &mut Vec<u8>, millis: u64) -> Result<(), AllocError>
 }
 
 /// Appends a time, given in milliseconds since 1970: if dates are wanted and it lies in the years from 1970 to 2099 as
-/// date and time of day in UTC, otherwise as the number that it is. After an `Err` the output is unspecified.
+/// date and time of day in UTC, otherwise as the number that it is. The day is the one that comes so many days after 1970-01-01.
+/// After an `Err` the output is unspecified.
 pub(crate) fn put_time(out: &mut Vec<u8>, millis: i128, dates: bool) -> Result<(), AllocError>
     ensures { OnOk result (out.new.items ≡ out.old.items ++ time_text dates millis) }
 {
