@@ -16,7 +16,7 @@ use std::alloc::AllocError;
 use std::marker::Model;
 
 impl Chosen {
-    /// The phase that takes relations, with none yet. It allocates nothing yet.
+    /// The phase that takes relations, with what was chosen and no relations yet. It allocates nothing yet.
     pub fn with_parents(self) -> RelationPhase
         ensures { result ≡ start_relations self.ways }
     {
@@ -74,7 +74,7 @@ impl RelationPhase {
     }
 
     /// All relations are taken: the ids of those that are kept are the least set that has what nodes and ways select, and with
-    /// a member its relation.
+    /// a member its relation. The ways stay as they are.
     ///
     /// # Errors
     ///

@@ -82,7 +82,7 @@ impl NodePhase {
         Ok(())
     }
 
-    /// All nodes are taken: those in the box are kept.
+    /// All nodes are taken: those in the box are kept, and the ways follow.
     ///
     /// # Errors
     ///
@@ -145,7 +145,7 @@ impl WayPhase {
         add_way(&mut known, &mut self.refs, &mut self.way_ids, way)
     }
 
-    /// All ways are taken.
+    /// All ways are taken: returns what was chosen, without parents.
     ///
     /// # Errors
     ///
@@ -189,7 +189,7 @@ pub struct SeenWay<'a> {
 }
 
 impl<'a> SeenWay<'a> {
-    /// That of a way.
+    /// That of a way: only its id and its refs.
     pub fn of(way: &WayRef<'a>) -> SeenWay<'a>
         ensures { seen_refs result ≡ seen_way (way_of way.now) }
     {
