@@ -103,7 +103,7 @@ impl<'a> Block<'a> {
     ///
     /// Refuses its first fault: the least of the first phase that has one. The phases are the wire form, the structure, the
     /// values and the weights, each over the whole payload and all messages in it. Memory is requested only for the places of the
-    /// table's texts, once the first two phases are passed; if it is refused, no later fault is reported.
+    /// table's texts, once the first two phases are passed; if it is refused, `Memory` is returned, and no later fault.
     pub fn read(alloc: Global, payload: &'a [u8], at: u64) -> Result<Block<'a>, ReadFault>
         requires placed { at + length payload.now ≤ 2 ^ 63 }
         requires short { length payload.now < 33554432 }
@@ -153,7 +153,7 @@ impl<'a> Block<'a> {
         self.opened.counts()
     }
 
-    /// How many bytes the block holds beside the payload: four for each text of its table.
+    /// How many bytes the block holds beside the payload: four for each text of its table, at most 4,194,304.
     pub fn held(&self) -> u64
         ensures value { result
             ≡ 4 * length (table_of (fields_in self.now.at self.now.payload.now)) }

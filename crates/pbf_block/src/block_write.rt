@@ -31,7 +31,7 @@ fn put_unless_default(
     put_int64(out, number, (value != default).then_some(value))
 }
 
-/// Appends the message of dense nodes to a group, if there are nodes in it.
+/// Appends the message of dense nodes to a group, if there are nodes in it. After an `Err` the group is unspecified.
 pub fn put_dense(group: &mut Vec<u8>, dense: &[u8]) -> Result<(), AllocError>
     ensures { OnOk result
         (group.new.items ≡ group.old.items ++ slot_bytes (Each DENSE (unless_empty dense.now))) }

@@ -85,7 +85,7 @@ pub fn written_block_fits()
         → length (block_message es) < 33554432 }
 {}
 
-/// Entities that may be in one block are written as a block that has no fault of any phase, and that holds those entities,
+/// Entities in their ranges that may be in one block are written as a block that has no fault of any phase and holds those entities,
 /// wherever in a file it is.
 #[tactic(auto, using(crate::proofs::WrittenLaw::written_sound, crate::proofs::WrittenLaw::written_read))]
 pub fn written_block_is_read()

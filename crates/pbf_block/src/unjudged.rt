@@ -57,7 +57,7 @@ impl<'a> UnjudgedBlock<'a> {
     }
 
     /// Opens a PrimitiveBlock whose first byte is at `at` in the file. Nothing is judged but what memory depends on: `None` if
-    /// the string table has more texts than it may have.
+    /// the string table has more texts than it may have, which is a fault.
     ///
     /// Memory is requested only for the places of the table's texts.
     pub fn open(

@@ -96,7 +96,7 @@ pub struct UnmadeWay<'a> {
 }
 
 impl<'a> UnmadeWay<'a> {
-    /// Its id.
+    /// Its id. Nothing else of the message is read.
     #[tactic(auto, unfolding(crate::specs::Way::way_in))]
     pub fn id(&self) -> i64
         ensures { result ≡ (way_from self.now).id }
@@ -104,7 +104,7 @@ impl<'a> UnmadeWay<'a> {
         last_wide(self.message.fields(), ID)
     }
 
-    /// Its refs.
+    /// Its refs. Nothing else of the message is read.
     #[tactic(auto, unfolding(crate::specs::Way::way_in))]
     pub fn refs(&self) -> Refs<'a>
         ensures { refs_left result ≡ (way_from self.now).refs }
