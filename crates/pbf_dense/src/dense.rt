@@ -92,7 +92,7 @@ impl<'a> Dense<'a> {
         }
     }
 
-    /// The places of the nodes that are still to come. Tags and metadata aren't read.
+    /// The places of the nodes that are still to come, in order, each with its id. Tags and metadata aren't read.
     #[tactic(auto, using(crate::proofs::PlaceLemmas::places_are), unfolding(crate::specs::Cursors::dense_left, crate::specs::Places::places_left))]
     pub fn places(&self) -> Places<'a>
         ensures { places_left result ≡ map place_of (dense_left self.now) }

@@ -60,7 +60,7 @@ impl<'a> Dense<'a> {
 
     /// Judges a dense message by one phase. Its first byte is at `at` in the file, and its field at `place`; the table is
     /// that of its block. The error is the least fault of the phase. Weights are judged only if the other phases have no
-    /// fault, so that takes a pass over all of them.
+    /// fault, so that takes a pass over all of them. Does not allocate.
     pub fn judge(
         message: &[u8],
         at: u64,
