@@ -20,8 +20,8 @@ pub trait Feed {
     /// The bytes that have passed, by each log that it keeps of them, from the outermost on; a read adds what it gave.
     ghost has_passed: { Self → ℕ → List ℕ → Type 0 } = { λ _ _ _. Unit {0} };
 
-    /// Any number of bytes, none only at the end. After a failure nothing is said of the bytes
-    /// still to supply.
+    /// Reads some of the next bytes that the feed supplies, none only at its end. A failure raises the count, and
+    /// then the bytes still to supply are unspecified.
     fn read(&mut self, buf: &mut [u8]) -> Result<usize, FeedFault>
         ensures bound { IfOk result (λ n. n ≤ length buf.old) }
         ensures bytes { IfOk result (λ n. remaining self.old
@@ -62,7 +62,7 @@ pub trait Drain {
     /// The references that it goes through, from the outermost on.
     ghost lender: { Self → List GName } = { λ _. [] };
 
-    /// Takes a prefix of the bytes, at least one of them if there are any, or fails and takes none.
+    /// Takes a prefix of the bytes, at least one of them if there are any, or fails, takes none, and raises the count.
     fn write(&mut self, bytes: &[u8]) -> Result<usize, DrainFault>
         ensures bound { IfOk result (λ n. n ≤ length bytes.now) }
         ensures some { IfOk result (λ n. 0 < length bytes.now → 0 < n) }

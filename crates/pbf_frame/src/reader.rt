@@ -48,7 +48,7 @@ impl<F: Feed> FrameReader<F> {
     ghost use Rattle.pbf_frame.specs.Sound.{IsSound};
     ghost use Rattle.pbf_frame.specs.Next.{IsSeeingNext, IsLendingNext, IsReading, Shows, place_of, had_header_of, held_by, verdict};
 
-    /// A reader at the start of a file. It allocates nothing before the first frame.
+    /// A reader at the start of a file: the verdict on it is that on the feed's bytes. It allocates nothing before the first frame.
     pub fn new(alloc: Global, feed: F) -> Self
         ensures feed { result.feed ≡ feed }
         ensures lender { F.lender result.feed ≡ F.lender feed }
@@ -141,7 +141,7 @@ impl<F: Feed> FrameReader<F> {
         }
     }
 
-    /// The end of the last frame given, and 0 before the first.
+    /// The end of the last frame given, and 0 before the first; at most 2^62.
     pub fn place(&self) -> u64
         ensures value { result ≡ place_of self.now }
         ensures in_range { result ≤ 2 ^ 62 }
@@ -157,7 +157,7 @@ impl<F: Feed> FrameReader<F> {
         self.feed
     }
 
-    /// The bytes held: the lengths of the two buffers.
+    /// The bytes held: the lengths of the two buffers, at most 33,620,990.
     pub fn held(&self) -> u64
         ensures value { result ≡ held_by self.now }
         ensures bound { result ≤ 33620990 }
