@@ -92,10 +92,15 @@ pub fn step_again<F: Feed, G: Gather>(
     gathering: &mut G,
     number: u8,
 ) -> Result<bool, Stop>
+    // On `true` exactly the next frame's bytes are gone, and if it has no fault its entities were gathered in order. `Changed` has the number
+    // of the pass, and comes only if the frame has a fault. A reader at its end returns `false`, a spent one its stop, and nothing is
+    // gathered.
     ensures step { IsStep F.Feed reader.old reader.new
         (GathersFrame G.gathered gathering.old gathering.new)
         (StopsAtFrame number ⊥) (gathering.new ≡ gathering.old) result }
+    // The place is at most 2^62.
     ensures limited { place_of reader.new ≤ 2 ^ 62 }
+    // The reader holds at most 33,620,990 bytes, whatever is returned.
     ensures space { held_by reader.new ≤ 33620990 }
 {
     step(alloc, reader, &mut Later { gathering, number })
@@ -113,9 +118,12 @@ pub fn gather_again<F: Feed, G: Gather>(
     gathering: &mut G,
     number: u8,
 ) -> Result<[u8; 32], Stop>
+    // The feed gave a file of this digest, to its end; if it has no fault, its entities were gathered in order.
     ensures gathered { IfOk result (λ digest. GaveFile F.Feed feed.old feed.new digest
         (λ file. GathersFile G.gathered (judged_file (Some file))
         gathering.old gathering.new)) }
+    // `Refused` and `Changed`, with the number of the pass, come only for a file that has a fault, and `Read` only if the feed's count of
+    // failures rose; `Write` never comes.
     ensures stops { IfErr result (StopsUnjudged number (judged_file (F.remaining feed.old))
         (ReadFailed F.Feed feed.old feed.new) ⊥) }
 {

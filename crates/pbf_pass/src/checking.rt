@@ -18,9 +18,12 @@ use std::alloc::Global;
 /// `Refused` names the first fault of the file, of any phase. Reads once, and holds one frame at a time, with the places of
 /// its texts.
 pub fn check<F: Feed>(alloc: Global, feed: &mut F) -> Result<Counts, Stop>
+    // The file has no fault of any phase, and the counts are those of the entities that it decodes to.
     ensures counted { IfOk result (CountsFile (judged_file (F.remaining feed.old))) }
+    // `Refused` names the first fault of the file. `Read` comes only if the feed's count of failures rose; `Write` and `Changed` never come.
     ensures stops { IfErr result (Caused (FaultOf (judged_file (F.remaining feed.old)))
         (ReadFailed F.Feed feed.old feed.new) ⊥ unchanged) }
+    // The feed's count of failures doesn't fall.
     ensures counts { F.failures feed.old ≤ F.failures feed.new }
 {
     Ok(check_with_receipt(alloc, feed)?.counts)
@@ -29,16 +32,18 @@ pub fn check<F: Feed>(alloc: Global, feed: &mut F) -> Result<Counts, Stop>
 /// Like [`check`], and returns the digest of the bytes that were validated, whether the feed reports its bytes or not.
 ///
 /// A refusal has how many bytes were read, and their digest. The fault is the first one of every file that begins with these bytes;
-/// or the feed had ended, and it is the first one of the file that has these bytes and no more.
+/// or, if the feed was at its end, of the file that has exactly these bytes.
 pub fn check_with_receipt<F: Feed>(alloc: Global, feed: &mut F) -> Result<InputReceipt, Halt>
     // The feed gave a file of this digest, to its end. It has no fault, and the counts are those of its entities.
     ensures receipt { IfOk result (λ receipt. GaveFile F.Feed feed.old feed.new receipt.input
         (λ file. CountsFile (judged_file (Some file)) receipt.counts)) }
-    // The feed gave as many bytes of this digest. The fault is the first of whatever begins so; or, where the feed had ended, of them.
+    // The feed gave `read` bytes of this digest. The fault is the first of whatever begins so (or of them, if the feed was at its end).
     ensures refused { IfErr result
         (Halts (RefusesFile F.Feed feed.old feed.new (λ b. judged_file (Some b)))) }
+    // Each stop has its cause, as of `check`.
     ensures stops { IfErr result (λ h. Caused (FaultOf (judged_file (F.remaining feed.old)))
         (ReadFailed F.Feed feed.old feed.new) ⊥ unchanged (stop_of h)) }
+    // The feed's count of failures doesn't fall.
     ensures counts { F.failures feed.old ≤ F.failures feed.new }
 {
     let told = judge(alloc, feed, &mut Nothing)?;

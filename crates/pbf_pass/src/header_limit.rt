@@ -17,7 +17,7 @@ use pbf_header::{Header, MOST_HEADER_TEXT};
 use pbf_wire::{Fault, Reason};
 
 /// The header of the file that was judged, if it can be written: its source and its base URL have at most [`MOST_HEADER_TEXT`] bytes
-/// together. Otherwise it is refused as too large an entity is, at the place of its message.
+/// together. Otherwise it is refused like an entity that is too large, at the place of its message, after all bytes of the file.
 pub fn writable_header(told: &Judged) -> Result<&Header, Halt>
     ensures header { IfOk result (λ header. held_header told.now.pass
         ≡ Some (told.now.pass.header_at, header_of header.now)) }

@@ -265,7 +265,7 @@ impl Pass {
         Ok(())
     }
 
-    /// Takes the header of a HeaderBlock.
+    /// Takes the header of a HeaderBlock that has no fault. `Refused` names its first fault.
     pub fn take_header(&mut self, alloc: Global, payload: &[u8], at: u64) -> Result<(), ReadFault>
         requires { at + length payload.now ≤ 2 ^ 63 }
         ensures taken { OnOk result
@@ -335,10 +335,15 @@ pub fn step_gather<F: Feed, G: Gather>(
     pass: &mut Pass,
     gathering: &mut G,
 ) -> Result<bool, Stop>
+    // On `true` exactly the next frame's bytes are gone, its place has risen, it has no fault of any phase, and the pass took its header or
+    // counts its entities, which were gathered in order. `Refused` names its first fault. A reader at its end returns `false`, a spent one
+    // its stop, and nothing else changes.
     ensures step { IsStep F.Feed reader.old reader.new
         (TakesFrame G.gathered pass.old pass.new gathering.old gathering.new)
         FailsToJudge ((pass.new ≡ pass.old) × (gathering.new ≡ gathering.old)) result }
+    // The place is at most 2^62.
     ensures limited { place_of reader.new ≤ 2 ^ 62 }
+    // The reader holds at most 33,620,990 bytes, whatever is returned.
     ensures space { held_by reader.new ≤ 33620990 }
 {
     step(alloc, reader, &mut Judging { pass, gathering })
@@ -427,13 +432,18 @@ pub fn judge<F: Feed, G: Gather>(
     feed: &mut F,
     gathering: &mut G,
 ) -> Result<Judged, Halt>
+    // The feed gave a file of this digest, to its end. It has no fault, the pass has its header and the counts of its entities, and these were
+    // gathered in order. `count` is the number of its bytes, or 2^64 - 1 if it has more.
     ensures judged { IfOk result (λ told. GaveFile F.Feed feed.old feed.new told.digest
         (λ file. IsLength told.count file
         × TakesFile G.gathered (judged_file (Some file)) gathering.old gathering.new told.pass)) }
+    // `Refused` names the first fault of the file. `Read` comes only if the feed's count of failures rose; `Write` and `Changed` never come.
     ensures stops { IfErr result (λ h. Caused (FaultOf (judged_file (F.remaining feed.old)))
         (ReadFailed F.Feed feed.old feed.new) ⊥ unchanged (stop_of h)) }
+    // The feed gave `read` bytes of this digest. The fault is the first of whatever begins so (or of them, if the feed was at its end).
     ensures refused { IfErr result
         (Halts (RefusesFile F.Feed feed.old feed.new (λ b. judged_file (Some b)))) }
+    // The feed's count of failures doesn't fall.
     ensures counts { F.failures feed.old ≤ F.failures feed.new }
 {
     let mut pass = Pass::new();

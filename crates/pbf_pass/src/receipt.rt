@@ -42,7 +42,7 @@ pub enum Halt {
 }
 
 impl Halt {
-    /// The halt for a stop, after this many bytes of the first feed, of this digest: a refusal takes both up.
+    /// The halt for a stop, after this many bytes of the first feed, of this digest: a refusal has both, another stop stays what it is.
     pub fn new(stop: Stop, read: u64, input: [u8; 32]) -> Halt
         ensures { result ≡ halted stop read input }
     {

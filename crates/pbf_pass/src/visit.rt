@@ -32,7 +32,8 @@ pub trait Visit {
     /// The references that it goes through.
     ghost lender: { Self → List GName } = { λ _. [] };
 
-    /// Does it. After a stop it may only be dropped or taken apart.
+    /// Does with a frame what `took` says, or stops as `failed` says; each visitor states these, and when it is `ready`. After a stop it
+    /// may only be dropped or taken apart.
     fn visit(&mut self, alloc: Global, frame: &Frame<'_>) -> Result<(), Stop>
         requires { ready self.old }
         ensures took { OnOk result ((f : FrameSpec) → Shows frame.now f → took self.old f self.new) }
@@ -50,11 +51,15 @@ pub fn step<F: Feed, V: Visit>(
     visitor: &mut V,
 ) -> Result<bool, Stop>
     requires { V.ready visitor.old }
+    // On `true` exactly the next frame's bytes are gone, the frame has no fault, and it was visited. A reader at its end returns `false`, a
+    // spent one its stop, and the visitor is as it was.
     ensures step { IsStep F.Feed reader.old reader.new (λ f. V.took visitor.old f visitor.new)
         (λ f stop. V.failed visitor.old f visitor.new stop) (visitor.new ≡ visitor.old) result }
     ensures ready { OnOk result (V.ready visitor.new) }
     ensures lender { V.lender visitor.new ≡ V.lender visitor.old }
+    // The place is at most 2^62.
     ensures limited { place_of reader.new ≤ 2 ^ 62 }
+    // The reader holds at most 33,620,990 bytes, whatever is returned.
     ensures space { held_by reader.new ≤ 33620990 }
 {
     let Some(frame) = reader.next()? else {
@@ -73,12 +78,16 @@ pub fn visit_rest<F: Feed, V: Visit>(
 ) -> Result<u64, Stop>
     requires reading { IsReading reader.old }
     requires ready { V.ready visitor.old }
+    // The feed gave all that it had left, and its frames were visited.
     ensures visited { IfOk result (λ count. GaveRest F.Feed reader.old reader.new
         (λ known. VisitsAll V.took known count visitor.old visitor.new)) }
+    // The reader stopped after frames that were visited, or the visitor at the frame after them.
     ensures stops { IfErr result (StopsVisit V.took V.failed (verdict F.remaining reader.old)
         (ReadFailed F.Feed reader.old.feed reader.new.feed) visitor.old visitor.new) }
+    // A refusal holds of whatever begins with the bytes that the feed gave (or of them, if it was at its end).
     ensures refused { IfErr result (RefusesRest F.Feed reader.old.feed reader.new.feed
         (RefusesVisit V.took V.failed (judged_from reader.old) visitor.old visitor.new)) }
+    // The feed keeps its references, and its count of failures doesn't fall.
     ensures keeps { KeepsFeed F.Feed reader.old.feed reader.new.feed }
     ensures ready { OnOk result (V.ready visitor.new) }
     ensures lender { V.lender visitor.new ≡ V.lender visitor.old }
