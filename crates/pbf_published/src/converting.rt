@@ -19,7 +19,7 @@ use std::hash::BuildHasher;
 
 /// Writes all entities of the raw file that a published one means, as `convert_with_receipt` of pbfcut does those of a raw file.
 ///
-/// Both feeds have to supply the same bytes. `Changed(2)` says that they did not; what was written before has no meaning. A refusal has
+/// Both feeds have to supply the same bytes. `Changed(2)` says that they did not; what was written before is unspecified. A refusal has
 /// the place of the fault in the published file, and nothing is written then.
 ///
 /// Space: that of `convert`, and for each feed one packed frame and a raw one.
@@ -31,8 +31,8 @@ pub fn convert_with_receipt<F: Feed, G: Feed, D: Drain, S: BuildHasher + Drop>(
     hasher: S,
 ) -> Result<PublishedInput, PublishedHalt>
     // Each feed gave packed bytes of the digest `input`, which mean a raw file of the digest `raw`. That of the first has no fault, and
-    // its header can be written. The drain took bytes. If both raw files are one, these bytes are exactly its conversion, and the
-    // counts are its.
+    // its header can be written. The drain took bytes. If both raw files are the same, these bytes are exactly its conversion in
+    // canonical form, and the counts are those of its entities.
     ensures receipt { IfOk result (λ receipt. GavePublished F.Feed first.old first.new
         receipt.input receipt.raw (λ b. IsWritable b
         × GavePublished G.Feed second.old second.new receipt.input receipt.raw

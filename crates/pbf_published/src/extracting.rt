@@ -26,7 +26,7 @@ use std::hash::BuildHasher;
 /// pbfcut does out of a raw file.
 ///
 /// All feeds that are read have to supply the same bytes; of the second nothing is read if no node of the file comes after a way.
-/// `Changed` says that one did not; what was written before `Changed(3)` has no meaning. A refusal has the place of the fault in the
+/// `Changed` says that one did not; what was written before `Changed(3)` is unspecified. A refusal has the place of the fault in the
 /// published file, and nothing is written then.
 ///
 /// Space: that of `extract_sorted`, and for each feed one packed frame and a raw one.
@@ -41,7 +41,7 @@ pub fn extract_sorted_with_receipt<F: Feed, G: Feed, H: Feed, D: Drain, S: Build
 ) -> Result<PublishedInput, PublishedHalt>
     // The first and the third feed gave packed bytes of the digest `input`, which mean a raw file of the digest `raw`, and the second
     // too or nothing. The first raw file has no fault, and its header can be written. The drain took bytes. If the raw files are the same,
-    // these bytes are exactly its complete-ways extract, and the counts are those of the entities in it.
+    // these bytes are exactly its complete-ways extract, in canonical form, and the counts are those of the entities in it.
     ensures receipt { IfOk result (λ receipt. GavePublished F.Feed first.old first.new
         receipt.input receipt.raw (λ b. IsWritable b
         × GaveOrNone G.Feed second.old second.new receipt.input receipt.raw b

@@ -73,9 +73,11 @@ pub fn open<F: Feed>(alloc: Global, inflater: Inflater, feed: F) -> UnpackedFeed
 
 /// The digest of the packed bytes that were read, if all that they mean was supplied, and the feed below.
 pub fn close<F: Feed>(feed: UnpackedFeed<HashedFeed<F>>) -> (Option<[u8; 32]>, F)
+    // The digest is that of packed bytes which mean all that was supplied.
     ensures hashed { (raw : List ℕ)
         → ⟦<UnpackedFeed<HashedFeed<F>> as Feed>⟧.has_passed feed 0 raw
         → MeansIfSome result.0 raw }
+    // They passed, by each log of the feed below.
     ensures logged { (log : ℕ) (raw : List ℕ)
         → ⟦<UnpackedFeed<HashedFeed<F>> as Feed>⟧.has_passed feed (suc log) raw
         → PassedIfSome F.has_passed result.1 result.0 log raw }

@@ -20,7 +20,7 @@ use std::alloc::Global;
 
 /// Writes the text of the raw file that a published one means, as `show_with_receipt` of pbfcut does that of a raw file.
 ///
-/// Both feeds have to supply the same bytes. `Changed(2)` says that they did not; what was written before has no meaning. A refusal has
+/// Both feeds have to supply the same bytes. `Changed(2)` says that they did not; what was written before is unspecified. A refusal has
 /// the place of the fault in the published file, and nothing is written then.
 ///
 /// Space: that of `show`, and for each feed one packed frame and a raw one.
@@ -77,8 +77,8 @@ pub fn list_blobs<F: Feed, D: Drain>(
     feed: &mut F,
     drain: &mut D,
 ) -> Result<u64, PublishedHalt>
-    // The raw file that the feed's bytes mean has no frame fault, and the drain took exactly the lines of its frames, of which there are
-    // so many.
+    // The raw file that the feed's bytes mean has no frame fault, and the drain took exactly the lines of its frames; their number is
+    // returned.
     ensures listed { IfOk result (Lists D.Drain drain.old drain.new
         (judged_known false 0 (raw_of (F.remaining feed.old)))) }
     // If it is refused, all the lines of the frames before the fault went out.
