@@ -192,7 +192,7 @@ impl<'a> Table<'a> {
         })
     }
 
-    /// How many texts there are.
+    /// How many texts there are: at most 1,048,576.
     pub fn len(&self) -> usize
         ensures exact { result ≡ length self.now }
         ensures few { result ≤ MOST_TEXTS }
@@ -229,7 +229,7 @@ impl<'a> Table<'a> {
         self.longest
     }
 
-    /// How many bytes the table holds: four for each text.
+    /// How many bytes the table holds beside the message: four for each text, at most 4,194,304.
     pub fn held(&self) -> u64
         ensures value { result ≡ 4 * length self.now }
         ensures bound { result ≤ 4194304 }

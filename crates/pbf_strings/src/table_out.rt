@@ -129,8 +129,8 @@ impl<S: BuildHasher> TableOut<S> {
         Ok(index as u32 + 1)
     }
 
-    /// The index of a text in the written table, from 1; a new text is added after the others. A text that is there takes no
-    /// memory. An `Err` leaves the texts as they were.
+    /// The index of a text in the written table, from 1 in order of first use; a new text is added after the others. For a text that
+    /// is there it does not allocate. An `Err` leaves the texts as they were.
     pub fn index_of(&mut self, text: &[u8]) -> Result<u32, AllocError>
         requires { length self.old < 1048575 }
         ensures texts { OnOk result (self.new ≡ with_text self.old text.now) }
