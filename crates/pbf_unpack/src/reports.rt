@@ -24,7 +24,8 @@ pub enum Place {
 }
 
 impl<F: Feed> UnpackedFeed<F> {
-    /// A feed over one at the start of a file. It does not allocate before the first frame.
+    /// A feed over one at the start of a file. It has supplied nothing, by each log, and if the feed below reports its bytes, it
+    /// reports the raw file that they mean. It does not allocate before the first frame.
     pub fn new(alloc: Global, inflater: Inflater, feed: F) -> Self
         ensures feed { result.feed ≡ feed }
         ensures lender { F.lender result.feed ≡ F.lender feed }
@@ -70,7 +71,8 @@ impl<F: Feed> UnpackedFeed<F> {
         }
     }
 
-    /// Whether what was supplied is all that the packed bytes read so far mean.
+    /// Whether nothing is left in the buffers: then what was supplied is exactly what the packed bytes mean that passed below, and
+    /// [`fault`](Self::fault) is their first fault.
     pub fn has_given_all(&self) -> bool
         ensures { (log : ℕ) (raw : List ℕ) → result ≡ true → HasSupplied F.has_passed self.now log raw
             → GavePacked F.has_passed self.now.feed log raw self.now.fault }
@@ -78,7 +80,7 @@ impl<F: Feed> UnpackedFeed<F> {
         self.stop().is_none() && self.is_spent()
     }
 
-    /// The bytes held, beside the tables of the [`Inflater`]: one packed frame and a raw one.
+    /// The bytes held, beside the tables of the [`Inflater`], 256 KiB: one packed frame and a raw one, at most 67,241,984.
     pub fn held(&self) -> u64
         ensures value { result ≡ held_by self.now }
         ensures bound { result ≤ 2 * (LARGEST_SIZE + HEADER_LIMIT + 1) }
