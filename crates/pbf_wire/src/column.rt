@@ -109,7 +109,8 @@ impl<'a> Column<'a> {
         Some(value)
     }
 
-    /// Skips the next number, if it is a 0 of one byte in the packed occurrence that was begun. Many columns are mostly such.
+    /// Skips the next number, if it is a 0 of one byte in the packed occurrence that was begun, as most of many columns are. Otherwise
+    /// nothing changes, and `false` says nothing of the number.
     #[inline(always)]
     #[tactic(auto, unfolding(crate::specs::Cursors::column_left))]
     pub fn pass_zero(&mut self) -> bool

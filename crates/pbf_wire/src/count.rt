@@ -15,7 +15,7 @@ fn ends(lanes: u8x32) -> u64
     lanes.simd_lt(u8x32::splat(128)).to_bitmask()
 }
 
-/// Which bytes of a block are below 128: bit i of the mask is set exactly where byte i is. Takes 32 lanes at once.
+/// Which bytes of a block are below 128: bit i of the mask is set exactly if byte i is. Takes 32 lanes at once.
 pub fn end_mask(block: &[u8; 32]) -> u32
     ensures bits { (i : ℕ) → i < 32 → (IsBitSet result i ↔ (slice_index block.now i < 128)) }
     ensures ones { count_ones result ≡ count_by (λ b. nat_lt b 128) block.now }

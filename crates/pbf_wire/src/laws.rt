@@ -35,7 +35,8 @@ pub fn shortest_is_shortest()
         → varint_at (shortest v ++ rest) ≡ Ok (v, length (shortest v)) }
 {}
 
-/// Spellings that are joined, shortest or not, are read back one by one, and are no other spellings joined.
+/// Spellings that are joined, shortest or not, are read back one by one, and are no other spellings joined. So packed numbers are
+/// read back.
 pub fn joined_spellings_are_read()
     ensures numbers { (pairs : List (ℕ × List ℕ)) → AllByRecursion (λ p. IsVarint p.0 p.1) pairs
         → entries (flat_map (λ p. p.1) pairs) ≡ map (λ p. Ok p.0) pairs }
@@ -75,7 +76,8 @@ pub fn signed_numbers_are_read()
 {}
 
 /// A running sum is, at each entry, the sum of that entry and all before it; and the sums of the differences of values are
-/// the values. If no sum is out of range, the sums up to the first that is out of range are all sums.
+/// the values. If no sum is out of range, the sums up to the first that is out of range are all sums. If the values are in range, their
+/// differences fit 64 bits.
 pub fn sums_undo_differences()
     ensures running { (entries : List ℤ) → sums_from (pos 0) entries ≡ sums entries }
     ensures values { (values : List ℤ) → sums (map unzigzag (deltas values)) ≡ values }

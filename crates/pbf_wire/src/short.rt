@@ -74,7 +74,7 @@ fn count_short_few(bytes: &[u8]) -> Option<usize>
     Some(count_ends(&window) - (WINDOW - bytes.len()))
 }
 
-/// Whether each number takes at most five bytes, and the last one ends.
+/// Whether each number is seen to take at most five bytes, and the last one to end; `false` says nothing.
 pub fn is_short(bytes: &[u8]) -> bool
     ensures { IsTrue result → IsShort bytes.now }
 {

@@ -67,8 +67,8 @@ impl<'a> Sums<'a> {
         }
     }
 
-    /// How many values are still to come, if a quick test shows that each is in range; `None` says nothing. The test is for columns
-    /// of `sint64` of which no value was taken yet, and passes if the entries are few and small. No entry is decoded.
+    /// How many values are still to come, if a quick test shows that each is strictly between -2^62 and 2^62; `None` says nothing. The
+    /// test is for columns of `sint64` of which no value was taken yet, and passes if the entries are few and small. No entry is decoded.
     pub fn count_small(&self) -> Option<usize>
         ensures counted { MatchOption result ⊤ (λ count. count ≡ length (sums_left self.now)) }
         ensures within { MatchOption result ⊤
