@@ -95,13 +95,14 @@ pub fn list_blobs<F: Feed, D: Drain>(
     feed: &mut F,
     drain: &mut D,
 ) -> Result<u64, Stop>
-    // The file has no frame fault, and the drain took exactly the lines of its frames, of which there are so many.
+    // The file has no frame fault, and the drain took exactly the lines of its frames; their number is returned.
     ensures listed { IfOk result (Lists D.Drain drain.old drain.new
         (judged_known false 0 (F.remaining feed.old))) }
     // Whatever stopped it, a prefix of the lines of the frames before the first fault went out.
     ensures beginning { OnErr result (ListsFront D.Drain drain.old drain.new
         (judged_known false 0 (F.remaining feed.old))) }
-    // Each stop has its cause; if the file is refused, all the lines of the frames before the fault went out.
+    // `Refused` names the first frame fault, and all the lines of the frames before it went out. `Read` and `Write` come only if the count
+    // of failures of the feed, of the drain, rose; `Changed` never comes.
     ensures stops { IfErr result (Caused
         (ListsToFault D.Drain drain.old drain.new (judged_known false 0 (F.remaining feed.old)))
         (ReadFailed F.Feed feed.old feed.new) (WriteFailed D.Drain drain.old drain.new) unchanged) }

@@ -23,9 +23,9 @@ use std::hash::BuildHasher;
 /// Writes all entities in canonical form, after the header in written form, and returns their numbers.
 ///
 /// Both feeds have to supply the same bytes. The first is judged as a whole before anything is written: `Refused` names its
-/// first fault, of any phase, or `EntityLarge` at its HeaderBlock where the header's source and base URL have more than
+/// first fault, of any phase, or `EntityLarge` at its HeaderBlock if the header's source and base URL have more than
 /// 12,000,000 bytes together. The second is written from. `Changed(2)` says that it had a fault or another digest, so that its
-/// bytes aren't those of the first; what was written then has no meaning. The input is untrusted, so the hasher
+/// bytes aren't those of the first; what was written then is unspecified. The input is untrusted, so the hasher
 /// should be seeded.
 ///
 /// A conversion of what was written is the same bytes: see [`crate::laws`].
@@ -36,18 +36,22 @@ pub fn convert<F: Feed, G: Feed, D: Drain, S: BuildHasher + Drop>(
     drain: &mut D,
     hasher: S,
 ) -> Result<Counts, Stop>
-    // The first file has no fault, and its header can be written.
+    // The first feed's file has no fault, and its header can be written, whatever the other feeds supply.
     ensures judged { OnOk result (CanBeWritten (judged_writable (F.remaining first.old))) }
-    // If both feeds supply these bytes, the drain took bytes that decode to exactly what they do, or they are refused for their
-    // first fault, with nothing written.
+    // If both feeds supply these bytes, the drain took bytes that decode to exactly what they do: the header in written form, with its
+    // own box, and the entities, in order, with all fields; the counts are those of the entities. Or they are refused for their first
+    // fault, with nothing written.
     ensures promise { (b : List ℕ) → BothSupply b (F.remaining first.old) (G.remaining second.old)
         → Promised D.Drain drain.old drain.new b (Converted b) result }
-    // What the drain took is a prefix of the conversion in canonical form, whatever stopped it, and all of it on success.
+    // If both feeds supply these bytes: whatever stopped it, what the drain took is a prefix of their conversion in canonical form, and
+    // nothing if they have a fault; on success it is all of it, and a conversion of it is the same bytes, if it has at most 2^62.
     ensures canonical { (b : List ℕ) → BothSupply b (F.remaining first.old) (G.remaining second.old)
         → Canonical D.Drain drain.old drain.new conversion_of b result }
-    // No files that differ, unless two different lists share a digest.
+    // The bytes of both feeds have one SHA-256 digest: no files that differ, unless two different lists share a digest.
     ensures digests { OnOk result (SameDigest (F.remaining first.old) (G.remaining second.old)) }
-    // Each stop has its cause; what is refused is the first file, by its first fault, and then the drain took nothing.
+    // `Refused` names the first fault of the first feed's file, or that its header can't be written, and the drain took nothing. `Read`
+    // and `Write` come only if a count of failures rose: of a feed, of the drain. `Changed(2)`: the second feed's bytes aren't the
+    // first's. No other number comes.
     ensures stops { IfErr result (ConvertStops (F.remaining first.old) (G.remaining second.old)
         (D.taken drain.old) (D.taken drain.new)
         (ReadFailed F.Feed first.old first.new ⊎ ReadFailed G.Feed second.old second.new)
@@ -56,8 +60,8 @@ pub fn convert<F: Feed, G: Feed, D: Drain, S: BuildHasher + Drop>(
     Ok(convert_with_receipt(alloc, first, second, drain, hasher)?.counts)
 }
 
-/// Like [`convert`], and returns the digest of what was read, whether the devices report their bytes or not. That of what was written a
-/// [`pbf_pass::HashedDrain`] tells: see [`crate::laws::hashed_drain_took`].
+/// Like [`convert`], and returns the digest of what was read, whether the devices report their bytes or not. A
+/// [`pbf_pass::HashedDrain`] has the digest of what was written: see [`crate::laws::hashed_drain_took`].
 pub fn convert_with_receipt<F: Feed, G: Feed, D: Drain, S: BuildHasher + Drop>(
     alloc: Global,
     first: &mut F,
@@ -66,22 +70,25 @@ pub fn convert_with_receipt<F: Feed, G: Feed, D: Drain, S: BuildHasher + Drop>(
     hasher: S,
 ) -> Result<InputReceipt, Halt>
     // Each feed gave a file of the digest `input`, to its end; the first has no fault, and its header can be written. The drain took
-    // bytes. If both files are one, these bytes are exactly its conversion, and the counts are its.
+    // bytes. If both files are the same, these bytes are exactly its conversion, and the counts are those of its entities.
     ensures receipt { IfOk result (λ receipt. GaveFile F.Feed first.old first.new receipt.input
         (λ b. IsWritable b
         × GaveFile G.Feed second.old second.new receipt.input (λ c. Took D.Drain drain.old drain.new
         (λ written. b ≡ c → IsConverted b receipt.counts written)))) }
-    // The first feed gave as many bytes of this digest, the fault is the first of whatever begins so, and the drain took nothing.
+    // The first feed gave `read` bytes of this digest, the fault is the first of whatever begins so (or of them, if the feed was at its
+    // end), and the drain took nothing.
     ensures refused { IfErr result (HaltsFile F.Feed first.old first.new
         D.Drain drain.old drain.new (λ b. judged_writable (Some b))) }
+    // Each stop has its cause, as of `convert`.
     ensures stops { IfErr result (λ h. ConvertStops (F.remaining first.old) (G.remaining second.old)
         (D.taken drain.old) (D.taken drain.new)
         (ReadFailed F.Feed first.old first.new ⊎ ReadFailed G.Feed second.old second.new)
         (WriteFailed D.Drain drain.old drain.new) (stop_of h)) }
-    // Whatever stopped it, if both feeds supply these bytes a prefix of their conversion went out, and nothing if they have a fault.
+    // Whatever stopped it, if both feeds supply these bytes, a prefix of their conversion went out, and nothing if they have a fault.
     ensures beginning { OnErr result ((b : List ℕ)
         → BothSupply b (F.remaining first.old) (G.remaining second.old)
         → IsFront (D.taken drain.old) (D.taken drain.new) (conversion_of b)) }
+    // The drain keeps its references, and its count of failures doesn't fall.
     ensures drain { KeepsDrain D.Drain drain.old drain.new }
 {
     let told = judge(alloc, first, &mut Nothing)?;

@@ -71,15 +71,15 @@ fn choose<F: Feed, G: Feed>(
 
 /// Writes the complete-ways extract of the box, in canonical form: the nodes in the box, the ways with at least one of these nodes
 /// and all nodes of these ways, and the relations with a kept node or a kept way among their members. Entities keep their order and
-/// all their fields; of the header, what holds of the extract too. Answers the numbers of what was written.
+/// all their fields; the header keeps what holds of the extract too. Returns the numbers of what was written.
 ///
 /// All three feeds have to supply the same bytes. The first is judged as a whole and gives the nodes of the box, the second gives
 /// the ways, and nothing is written before it has ended with the digest of the first; the third is written from. `Refused` names
-/// the first fault of the first feed's file, of any phase, or `EntityLarge` at its HeaderBlock where the header's source and base
+/// the first fault of the first feed's file, of any phase, or `EntityLarge` at its HeaderBlock if the header's source and base
 /// URL have more than 12,000,000 bytes together; nothing is written then. `Changed(2)` or `Changed(3)` says that the second or the
 /// third feed's bytes aren't those of the first; after `Changed(2)` nothing is written, and what was written before `Changed(3)`
-/// has no meaning. `Read` and `Write` say that a device failed, and `Memory` that memory was refused: what went out is a prefix of
-/// what is written. The input is untrusted, so the hasher should be seeded.
+/// is unspecified. `Read` and `Write` say that a device failed, and `Memory` that memory was refused: what went out is a prefix of
+/// what was to be written. The input is untrusted, so the hasher should be seeded.
 ///
 /// Space: one frame, the block that is open, and the sets of ids of the nodes in the box, of the refs and of the ways.
 pub fn extract<F: Feed, G: Feed, H: Feed, D: Drain, S: BuildHasher + Drop>(
@@ -91,7 +91,7 @@ pub fn extract<F: Feed, G: Feed, H: Feed, D: Drain, S: BuildHasher + Drop>(
     drain: &mut D,
     hasher: S,
 ) -> Result<Counts, Stop>
-    // The first file has no fault, and its header can be written.
+    // The first feed's file has no fault, and its header can be written, whatever the other feeds supply.
     ensures judged { OnOk result (CanBeWritten (judged_writable (F.remaining first.old))) }
     // If all feeds supply these bytes, the drain took bytes that decode to exactly the complete-ways extract of what they decode
     // to, in input order, or they are refused for their first fault, with nothing written.
@@ -99,14 +99,17 @@ pub fn extract<F: Feed, G: Feed, H: Feed, D: Drain, S: BuildHasher + Drop>(
         → AllSupply b (F.remaining first.old) (G.remaining second.old) (H.remaining third.old)
         → Promised D.Drain drain.old drain.new b
         (Extracted (complete_ways area) (extract (seen_decoded area)) area b) result }
-    // What the drain took is a prefix of the extract in canonical form, whatever stopped it, and all of it on success.
+    // If all feeds supply these bytes: whatever stopped it, what the drain took is a prefix of their extract in canonical form, and nothing
+    // if they have a fault; on success it is all of the extract, and an extract of it is the same bytes, if it has at most 2^62.
     ensures canonical { (b : List ℕ)
         → AllSupply b (F.remaining first.old) (G.remaining second.old) (H.remaining third.old)
         → Canonical D.Drain drain.old drain.new (extract_of (complete_ways area) area) b result }
-    // No files that differ, unless two different lists share a digest.
+    // The bytes of all feeds have one SHA-256 digest: no files that differ, unless two different lists share a digest.
     ensures digests { OnOk result (SameDigest (F.remaining first.old) (G.remaining second.old)
         × SameDigest (F.remaining first.old) (H.remaining third.old)) }
-    // Each stop has its cause; what is refused is the first file, by its first fault, and then the drain took nothing.
+    // `Refused` names the first fault of the first feed's file, or that its header can't be written, and the drain took nothing. `Read`
+    // and `Write` come only if a count of failures rose: of a feed, of the drain. `Changed(2)`: the second feed's bytes aren't the
+    // first's, and the drain took nothing. `Changed(3)`: the third's aren't. No other number comes.
     ensures stops { IfErr result (ExtractStops (F.remaining first.old) (G.remaining second.old)
         (H.remaining third.old) (D.taken drain.old) (D.taken drain.new)
         (ReadFailed F.Feed first.old first.new
@@ -116,8 +119,8 @@ pub fn extract<F: Feed, G: Feed, H: Feed, D: Drain, S: BuildHasher + Drop>(
     Ok(extract_with_receipt(alloc, first, second, third, area, drain, hasher)?.counts)
 }
 
-/// Like [`extract`], and returns the digest of what was read, whether the devices report their bytes or not. That of what was written a
-/// [`HashedDrain`] tells: see [`crate::laws::hashed_drain_took`].
+/// Like [`extract`], and returns the digest of what was read, whether the devices report their bytes or not. A [`HashedDrain`] has the
+/// digest of what was written: see [`crate::laws::hashed_drain_took`].
 pub fn extract_with_receipt<F: Feed, G: Feed, H: Feed, D: Drain, S: BuildHasher + Drop>(
     alloc: Global,
     first: &mut F,
@@ -128,7 +131,7 @@ pub fn extract_with_receipt<F: Feed, G: Feed, H: Feed, D: Drain, S: BuildHasher 
     hasher: S,
 ) -> Result<InputReceipt, Halt>
     // Each feed gave a file of the digest `input`, to its end; the first has no fault, and its header can be written. The drain took
-    // bytes. If the files are one, these bytes are exactly its complete-ways extract, and the counts are those of the entities in it.
+    // bytes. If the files are the same, these bytes are exactly its complete-ways extract, and the counts are those of the entities in it.
     ensures receipt { IfOk result (λ receipt. GaveFile F.Feed first.old first.new receipt.input
         (λ b. IsWritable b
         × GaveFile G.Feed second.old second.new receipt.input
@@ -136,19 +139,22 @@ pub fn extract_with_receipt<F: Feed, G: Feed, H: Feed, D: Drain, S: BuildHasher 
         Took D.Drain drain.old drain.new
         (λ written. b ≡ c → b ≡ d → IsExtraction (complete_ways area) (extract (seen_decoded area))
         area b receipt.counts written))))) }
-    // The first feed gave as many bytes of this digest, the fault is the first of whatever begins so, and the drain took nothing.
+    // The first feed gave `read` bytes of this digest, the fault is the first of whatever begins so (or of them, if the feed was at its
+    // end), and the drain took nothing.
     ensures refused { IfErr result (HaltsFile F.Feed first.old first.new
         D.Drain drain.old drain.new (λ b. judged_writable (Some b))) }
+    // Each stop has its cause, as of `extract`.
     ensures stops { IfErr result (λ h. ExtractStops (F.remaining first.old) (G.remaining second.old)
         (H.remaining third.old) (D.taken drain.old) (D.taken drain.new)
         (ReadFailed F.Feed first.old first.new
         ⊎ (ReadFailed G.Feed second.old second.new ⊎ ReadFailed H.Feed third.old third.new))
         (WriteFailed D.Drain drain.old drain.new) (stop_of h)) }
-    // Whatever stopped it, if all feeds supply these bytes a prefix of the result went out, and nothing if they have a fault.
+    // Whatever stopped it, if all feeds supply these bytes, a prefix of their extract went out, and nothing if they have a fault.
     ensures beginning { OnErr result ((b : List ℕ)
         → AllSupply b (F.remaining first.old) (G.remaining second.old) (H.remaining third.old)
         → IsFront (D.taken drain.old) (D.taken drain.new)
         (extract_of (complete_ways area) area b)) }
+    // The drain keeps its references, and its count of failures doesn't fall.
     ensures drain { KeepsDrain D.Drain drain.old drain.new }
 {
     let choice = choose(alloc, first, second, area)?;
@@ -199,9 +205,9 @@ fn choose_parents<F: Feed, G: Feed, H: Feed>(
 /// Writes the complete-ways extract of the box with all parents, as [`extract`] does, with all relations besides that have a
 /// kept relation among their members, at any depth.
 ///
-/// There is one pass more, the third, which takes the relations; the fourth feed is written from. Nothing is written before the
-/// third pass has ended with the digest of the first, so nothing is written where it ends with `Changed(2)` or `Changed(3)`. All
-/// else is as there.
+/// There is one more pass, the third, which takes the relations; the fourth feed is written from. Nothing is written before the
+/// third pass has ended with the digest of the first, so nothing is written if it ends with `Changed(2)` or `Changed(3)`.
+/// Everything else is as there.
 ///
 /// Space: besides that of [`extract`], the ids of the relations, and a link for each member that is a relation.
 pub fn extract_parents<F: Feed, G: Feed, H: Feed, I: Feed, D: Drain, S: BuildHasher + Drop>(
@@ -214,7 +220,7 @@ pub fn extract_parents<F: Feed, G: Feed, H: Feed, I: Feed, D: Drain, S: BuildHas
     drain: &mut D,
     hasher: S,
 ) -> Result<Counts, Stop>
-    // The first file has no fault, and its header can be written.
+    // The first feed's file has no fault, and its header can be written, whatever the other feeds supply.
     ensures judged { OnOk result (CanBeWritten (judged_writable (F.remaining first.old))) }
     // If all feeds supply these bytes, the drain took bytes that decode to exactly the complete-ways extract with all parents of
     // what they decode to, in input order, or they are refused for their first fault, with nothing written.
@@ -223,16 +229,19 @@ pub fn extract_parents<F: Feed, G: Feed, H: Feed, I: Feed, D: Drain, S: BuildHas
         (I.remaining fourth.old)
         → Promised D.Drain drain.old drain.new b
         (Extracted (all_parents area) (extract_with_parents (seen_decoded area)) area b) result }
-    // What the drain took is a prefix of the extract in canonical form, whatever stopped it, and all of it on success.
+    // If all feeds supply these bytes: whatever stopped it, what the drain took is a prefix of their extract in canonical form, and nothing
+    // if they have a fault; on success it is all of the extract, and an extract of it is the same bytes, if it has at most 2^62.
     ensures canonical { (b : List ℕ)
         → FourSupply b (F.remaining first.old) (G.remaining second.old) (H.remaining third.old)
         (I.remaining fourth.old)
         → Canonical D.Drain drain.old drain.new (extract_of (all_parents area) area) b result }
-    // No files that differ, unless two different lists share a digest.
+    // The bytes of all feeds have one SHA-256 digest: no files that differ, unless two different lists share a digest.
     ensures digests { OnOk result (SameDigest (F.remaining first.old) (G.remaining second.old)
         × SameDigest (F.remaining first.old) (H.remaining third.old)
         × SameDigest (F.remaining first.old) (I.remaining fourth.old)) }
-    // Each stop has its cause; what is refused is the first file, by its first fault, and then the drain took nothing.
+    // `Refused` names the first fault of the first feed's file, or that its header can't be written, and the drain took nothing. `Read`
+    // and `Write` come only if a count of failures rose: of a feed, of the drain. `Changed(2)`, `Changed(3)`: the second or
+    // third feed's bytes aren't the first's, and the drain took nothing. `Changed(4)`: the fourth's aren't. No other number comes.
     ensures stops { IfErr result (ParentsStops (F.remaining first.old) (G.remaining second.old)
         (H.remaining third.old) (I.remaining fourth.old) (D.taken drain.old) (D.taken drain.new)
         ((ReadFailed F.Feed first.old first.new
@@ -266,7 +275,8 @@ pub fn extract_parents_with_receipt<
     hasher: S,
 ) -> Result<InputReceipt, Halt>
     // Each feed gave a file of the digest `input`, to its end; the first has no fault, and its header can be written. The drain took
-    // bytes. If the files are one, these bytes are exactly its complete-ways extract with all parents, and the counts are those of the entities in it.
+    // bytes. If the files are the same, these bytes are exactly its complete-ways extract with all parents, and the
+    // counts are those of the entities in it.
     ensures receipt { IfOk result (λ receipt. GaveFile F.Feed first.old first.new receipt.input
         (λ b. IsWritable b
         × GaveFile G.Feed second.old second.new receipt.input
@@ -274,20 +284,23 @@ pub fn extract_parents_with_receipt<
         GaveFile I.Feed fourth.old fourth.new receipt.input (λ e. Took D.Drain drain.old drain.new
         (λ written. b ≡ c → b ≡ d → b ≡ e → IsExtraction (all_parents area)
         (extract_with_parents (seen_decoded area)) area b receipt.counts written)))))) }
-    // The first feed gave as many bytes of this digest, the fault is the first of whatever begins so, and the drain took nothing.
+    // The first feed gave `read` bytes of this digest, the fault is the first of whatever begins so (or of them, if the feed was at its
+    // end), and the drain took nothing.
     ensures refused { IfErr result (HaltsFile F.Feed first.old first.new
         D.Drain drain.old drain.new (λ b. judged_writable (Some b))) }
+    // Each stop has its cause, as of `extract_parents`.
     ensures stops { IfErr result (λ h. ParentsStops (F.remaining first.old) (G.remaining second.old)
         (H.remaining third.old) (I.remaining fourth.old) (D.taken drain.old) (D.taken drain.new)
         ((ReadFailed F.Feed first.old first.new
         ⊎ (ReadFailed G.Feed second.old second.new ⊎ ReadFailed H.Feed third.old third.new))
         ⊎ ReadFailed I.Feed fourth.old fourth.new)
         (WriteFailed D.Drain drain.old drain.new) (stop_of h)) }
-    // Whatever stopped it, if all feeds supply these bytes a prefix of the result went out, and nothing if they have a fault.
+    // Whatever stopped it, if all feeds supply these bytes, a prefix of their extract went out, and nothing if they have a fault.
     ensures beginning { OnErr result ((b : List ℕ)
         → FourSupply b (F.remaining first.old) (G.remaining second.old) (H.remaining third.old)
         (I.remaining fourth.old)
         → IsFront (D.taken drain.old) (D.taken drain.new) (extract_of (all_parents area) area b)) }
+    // The drain keeps its references, and its count of failures doesn't fall.
     ensures drain { KeepsDrain D.Drain drain.old drain.new }
 {
     let choice = choose_parents(alloc, first, second, third, area)?;

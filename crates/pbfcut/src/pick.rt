@@ -338,14 +338,21 @@ pub fn step_pack<F: Feed, D: Drain, S: BuildHasher>(
     packer: &mut Packer<D, S>,
 ) -> Result<bool, Stop>
     requires { has_header packer.old ≡ true }
+    // On `true` exactly the next frame's bytes are gone, it has no fault of any phase, its entities that are picked were packed in order, and
+    // the pass counts these. On a refusal the drain took nothing in this step; on another stop nothing, or a prefix of what these entities
+    // make. A reader at its end returns `false`, a spent one its stop, and nothing else changes.
     ensures step { IsPacking packer.old → IsStep F.Feed reader.old reader.new
         (PacksFrame D.Drain (pick_of chosen.entry) packer.old packer.new pass.old pass.new)
         (FailsToPack D.Drain (pick_of chosen.entry) packer.old packer.new)
         ((pass.new ≡ pass.old) × (packer.new ≡ packer.old)) result }
+    // A spent packer returns its stop again, and the reader is as it was.
     ensures spent { (stop : Stop) → packing.HasStopped packer.old stop
         → (result ≡ Err stop) × (reader.new ≡ reader.old) }
+    // The packer keeps its header, the drain its references, and its count of failures doesn't fall.
     ensures keeps { KeepsPacker D.Drain packer.old packer.new }
+    // The place is at most 2^62.
     ensures limited { place_of reader.new ≤ 2 ^ 62 }
+    // After each step reader and packer together hold at most 61,620,990 bytes, whatever is returned.
     ensures space { held_by reader.new + packer_held packer.new ≤ 61620990 }
 {
     packer.held_is_bounded();

@@ -192,7 +192,7 @@ fn write_text<F: Feed, D: Drain>(
 ///
 /// Both feeds have to supply the same bytes. The first is judged as a whole before anything is written: `Refused` names its
 /// first fault, of any phase. The second is written from. `Changed(2)` says that it had a fault or another digest, so that
-/// its bytes aren't those of the first; what was written then has no meaning. Holds one frame at a time, with the places of
+/// its bytes aren't those of the first; what was written then is unspecified. Holds one frame at a time, with the places of
 /// its texts, and one line.
 pub fn show<F: Feed, G: Feed, D: Drain>(
     alloc: Global,
@@ -203,18 +203,19 @@ pub fn show<F: Feed, G: Feed, D: Drain>(
 ) -> Result<Counts, Stop>
     // The first file has no fault, and the counts are those of its entities.
     ensures counted { IfOk result (CountsFile (judged_file (F.remaining first.old))) }
-    // The drain took exactly the text of the second file, which has no fault.
+    // The drain took exactly the text of the second feed's file, which has no fault: if the feeds supply the same, that of the first.
     ensures shown { OnOk result (Took D.Drain drain.old drain.new
         (Shown dates (judged_file (G.remaining second.old)))) }
-    // No files that differ, unless two different lists share a digest.
+    // The bytes of both feeds have one SHA-256 digest: no files that differ, unless two different lists share a digest.
     ensures digests { OnOk result (SameDigest (F.remaining first.old) (G.remaining second.old)) }
-    // Each stop has its cause; what is refused is the first file, by its first fault, and then the drain took nothing.
+    // `Refused` names the first fault of the first feed's file, and the drain took nothing. `Read` and `Write` come only if a count of
+    // failures rose: of a feed, of the drain. `Changed(2)`: the second feed's bytes aren't the first's. No other number comes.
     ensures stops { IfErr result (Caused
         (RefusedFirst (judged_file (F.remaining first.old)) (D.taken drain.old) (D.taken drain.new))
         (ReadFailed F.Feed first.old first.new ⊎ ReadFailed G.Feed second.old second.new)
         (WriteFailed D.Drain drain.old drain.new)
         (ChangedIn 2 (F.remaining first.old) (G.remaining second.old))) }
-    // Whatever stopped it, if the feeds are alike a prefix of that file's text went out, and nothing if it has a fault.
+    // Whatever stopped it, if both feeds supply one file, a prefix of its text went out, and nothing if it has a fault.
     ensures beginning { OnErr result (F.remaining first.old ≡ G.remaining second.old
         → ShowsFront dates (judged_file (F.remaining first.old))
         (D.taken drain.old) (D.taken drain.new)) }
@@ -222,8 +223,8 @@ pub fn show<F: Feed, G: Feed, D: Drain>(
     Ok(show_with_receipt(alloc, first, second, drain, dates)?.counts)
 }
 
-/// Like [`show`], and returns the digest of what was read, whether the devices report their bytes or not. That of the text a
-/// [`pbf_pass::HashedDrain`] tells: see [`crate::laws::hashed_drain_took`].
+/// Like [`show`], and returns the digest of what was read, whether the devices report their bytes or not. A
+/// [`pbf_pass::HashedDrain`] has the digest of the text: see [`crate::laws::hashed_drain_took`].
 pub fn show_with_receipt<F: Feed, G: Feed, D: Drain>(
     alloc: Global,
     first: &mut F,
@@ -237,17 +238,21 @@ pub fn show_with_receipt<F: Feed, G: Feed, D: Drain>(
         (λ b. CountsFile (judged_file (Some b)) receipt.counts
         × GaveFile G.Feed second.old second.new receipt.input
         (λ c. Took D.Drain drain.old drain.new (Shown dates (judged_file (Some c)))))) }
-    // The first feed gave as many bytes of this digest, the fault is the first of whatever begins so, and the drain took nothing.
+    // The first feed gave `read` bytes of this digest, the fault is the first of whatever begins so (or of them, if the feed was at its
+    // end), and the drain took nothing.
     ensures refused { IfErr result (HaltsFile F.Feed first.old first.new
         D.Drain drain.old drain.new (λ b. judged_file (Some b))) }
+    // Each stop has its cause, as of `show`.
     ensures stops { IfErr result (λ h. Caused
         (RefusedFirst (judged_file (F.remaining first.old)) (D.taken drain.old) (D.taken drain.new))
         (ReadFailed F.Feed first.old first.new ⊎ ReadFailed G.Feed second.old second.new)
         (WriteFailed D.Drain drain.old drain.new)
         (ChangedIn 2 (F.remaining first.old) (G.remaining second.old)) (stop_of h)) }
+    // Whatever stopped it, if both feeds supply one file, a prefix of its text went out, and nothing if it has a fault.
     ensures beginning { OnErr result (F.remaining first.old ≡ G.remaining second.old
         → ShowsFront dates (judged_file (F.remaining first.old))
         (D.taken drain.old) (D.taken drain.new)) }
+    // The drain keeps its references, and its count of failures doesn't fall.
     ensures drain { KeepsDrain D.Drain drain.old drain.new }
 {
     let told = judge(alloc, first, &mut Nothing)?;

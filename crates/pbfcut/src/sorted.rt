@@ -73,7 +73,7 @@ pub fn extract_sorted<F: Feed, G: Feed, H: Feed, D: Drain, S: BuildHasher + Drop
     drain: &mut D,
     hasher: S,
 ) -> Result<Counts, Stop>
-    // The first file has no fault, and its header can be written.
+    // The first feed's file has no fault, and its header can be written, whatever the other feeds supply.
     ensures judged { OnOk result (CanBeWritten (judged_writable (F.remaining first.old))) }
     // If all feeds supply these bytes, the drain took bytes that decode to exactly the complete-ways extract of what they decode
     // to, in input order, or they are refused for their first fault, with nothing written.
@@ -81,15 +81,18 @@ pub fn extract_sorted<F: Feed, G: Feed, H: Feed, D: Drain, S: BuildHasher + Drop
         → AllSupply b (F.remaining first.old) (G.remaining second.old) (H.remaining third.old)
         → Promised D.Drain drain.old drain.new b
         (Extracted (complete_ways area) (extract (seen_decoded area)) area b) result }
-    // What the drain took is a prefix of the extract in canonical form, whatever stopped it, and all of it on success.
+    // If all feeds supply these bytes: whatever stopped it, what the drain took is a prefix of their extract in canonical form, and nothing
+    // if they have a fault; on success it is all of the extract, and an extract of it is the same bytes, if it has at most 2^62.
     ensures canonical { (b : List ℕ)
         → AllSupply b (F.remaining first.old) (G.remaining second.old) (H.remaining third.old)
         → Canonical D.Drain drain.old drain.new (extract_of (complete_ways area) area) b result }
-    // No files that differ, unless two different lists share a digest; of the second feed, if it was read.
+    // The bytes of all feeds that were read have one SHA-256 digest: no files that differ, unless two different lists share a digest.
     ensures digests { OnOk result ((SameDigest (F.remaining first.old) (G.remaining second.old)
         ⊎ (second.new ≡ second.old))
         × SameDigest (F.remaining first.old) (H.remaining third.old)) }
-    // Each stop has its cause; what is refused is the first file, by its first fault, and then the drain took nothing.
+    // `Refused` names the first fault of the first feed's file, or that its header can't be written, and the drain took nothing. `Read`
+    // and `Write` come only if a count of failures rose: of a feed, of the drain. `Changed(2)`: the second feed's bytes aren't the
+    // first's, and the drain took nothing. `Changed(3)`: the third's aren't. No other number comes.
     ensures stops { IfErr result (ExtractStops (F.remaining first.old) (G.remaining second.old)
         (H.remaining third.old) (D.taken drain.old) (D.taken drain.new)
         (ReadFailed F.Feed first.old first.new
@@ -111,7 +114,7 @@ pub fn extract_sorted_with_receipt<F: Feed, G: Feed, H: Feed, D: Drain, S: Build
     hasher: S,
 ) -> Result<InputReceipt, Halt>
     // The first and the third feed gave a file of the digest `input`, to its end, and the second too or nothing. The first file has no
-    // fault, and its header can be written. The drain took bytes. If the files are one, these bytes are exactly its complete-ways
+    // fault, and its header can be written. The drain took bytes. If the files are the same, these bytes are exactly its complete-ways
     // extract, and the counts are those of the entities in it.
     ensures receipt { IfOk result (λ receipt. GaveFile F.Feed first.old first.new receipt.input
         (λ b. IsWritable b
@@ -120,19 +123,22 @@ pub fn extract_sorted_with_receipt<F: Feed, G: Feed, H: Feed, D: Drain, S: Build
         Took D.Drain drain.old drain.new
         (λ written. b ≡ c → b ≡ d → IsExtraction (complete_ways area) (extract (seen_decoded area))
         area b receipt.counts written))))) }
-    // The first feed gave as many bytes of this digest, the fault is the first of whatever begins so, and the drain took nothing.
+    // The first feed gave `read` bytes of this digest, the fault is the first of whatever begins so (or of them, if the feed was at its
+    // end), and the drain took nothing.
     ensures refused { IfErr result (HaltsFile F.Feed first.old first.new
         D.Drain drain.old drain.new (λ b. judged_writable (Some b))) }
+    // Each stop has its cause, as of `extract`.
     ensures stops { IfErr result (λ h. ExtractStops (F.remaining first.old) (G.remaining second.old)
         (H.remaining third.old) (D.taken drain.old) (D.taken drain.new)
         (ReadFailed F.Feed first.old first.new
         ⊎ (ReadFailed G.Feed second.old second.new ⊎ ReadFailed H.Feed third.old third.new))
         (WriteFailed D.Drain drain.old drain.new) (stop_of h)) }
-    // Whatever stopped it, if all feeds supply these bytes a prefix of the result went out, and nothing if they have a fault.
+    // Whatever stopped it, if all feeds supply these bytes, a prefix of their extract went out, and nothing if they have a fault.
     ensures beginning { OnErr result ((b : List ℕ)
         → AllSupply b (F.remaining first.old) (G.remaining second.old) (H.remaining third.old)
         → IsFront (D.taken drain.old) (D.taken drain.new)
         (extract_of (complete_ways area) area b)) }
+    // The drain keeps its references, and its count of failures doesn't fall.
     ensures drain { KeepsDrain D.Drain drain.old drain.new }
 {
     let choice = choose_sorted(alloc, first, second, area)?;
@@ -199,8 +205,9 @@ pub fn extract_parents_sorted_with_receipt<
     drain: &mut D,
     hasher: S,
 ) -> Result<InputReceipt, Halt>
-    // Each feed gave a file of the digest `input`, to its end, or the second nothing; the first has no fault, and its header can be written. The drain took
-    // bytes. If the files are one, these bytes are exactly its complete-ways extract with all parents, and the counts are those of the entities in it.
+    // Each feed gave a file of the digest `input`, to its end, or the second nothing; the first has no fault, and its header can be
+    // written. The drain took bytes. If the files are the same, these bytes are exactly its complete-ways extract with all parents, and the
+    // counts are those of the entities in it.
     ensures receipt { IfOk result (λ receipt. GaveFile F.Feed first.old first.new receipt.input
         (λ b. IsWritable b
         × GaveOrNot G.Feed second.old second.new receipt.input b
@@ -208,20 +215,23 @@ pub fn extract_parents_sorted_with_receipt<
         GaveFile I.Feed fourth.old fourth.new receipt.input (λ e. Took D.Drain drain.old drain.new
         (λ written. b ≡ c → b ≡ d → b ≡ e → IsExtraction (all_parents area)
         (extract_with_parents (seen_decoded area)) area b receipt.counts written)))))) }
-    // The first feed gave as many bytes of this digest, the fault is the first of whatever begins so, and the drain took nothing.
+    // The first feed gave `read` bytes of this digest, the fault is the first of whatever begins so (or of them, if the feed was at its
+    // end), and the drain took nothing.
     ensures refused { IfErr result (HaltsFile F.Feed first.old first.new
         D.Drain drain.old drain.new (λ b. judged_writable (Some b))) }
+    // Each stop has its cause, as of `extract_parents`.
     ensures stops { IfErr result (λ h. ParentsStops (F.remaining first.old) (G.remaining second.old)
         (H.remaining third.old) (I.remaining fourth.old) (D.taken drain.old) (D.taken drain.new)
         ((ReadFailed F.Feed first.old first.new
         ⊎ (ReadFailed G.Feed second.old second.new ⊎ ReadFailed H.Feed third.old third.new))
         ⊎ ReadFailed I.Feed fourth.old fourth.new)
         (WriteFailed D.Drain drain.old drain.new) (stop_of h)) }
-    // Whatever stopped it, if all feeds supply these bytes a prefix of the result went out, and nothing if they have a fault.
+    // Whatever stopped it, if all feeds supply these bytes, a prefix of their extract went out, and nothing if they have a fault.
     ensures beginning { OnErr result ((b : List ℕ)
         → FourSupply b (F.remaining first.old) (G.remaining second.old) (H.remaining third.old)
         (I.remaining fourth.old)
         → IsFront (D.taken drain.old) (D.taken drain.new) (extract_of (all_parents area) area b)) }
+    // The drain keeps its references, and its count of failures doesn't fall.
     ensures drain { KeepsDrain D.Drain drain.old drain.new }
 {
     let choice = choose_parents_sorted(alloc, first, second, third, area)?;
