@@ -203,8 +203,11 @@ pub fn read_words<'a>(
     program: Program,
     words: &'a [&'a str],
 ) -> Result<Command<'a>, CliFault>
+    // A command is help, or what `clap` reads in the words.
     ensures read { IfOk result (λ c. IsHelp c ⊎ IsRead (words_of words.now) c) }
+    // The fault of a box comes only for a box that has it.
     ensures fault { IfErr result (FitsFault (words_of words.now)) }
+    // Words that `clap` takes give a command that is not help, or a fault other than `Line`.
     ensures taken { takes program_app (texts words.now) ≡ true → IsTaken result }
 {
     let command_line = command_line(alloc, program.help())?;
