@@ -255,7 +255,7 @@ fn way_in<'a>(table: &'a Table<'a>, refs: u64, lats: u64, lons: u64) -> WayRef<'
     )
 }
 
-/// Whether the way's nodes are where those of [`WAY`] do, in nanodegrees.
+/// Whether the way's nodes are where those of [`WAY`] are, in nanodegrees.
 fn is_located(way: WayRef<'_>) -> bool {
     let mut nanos = way.nano_locations();
     nanos.next() == Some((100, 100))

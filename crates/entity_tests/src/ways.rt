@@ -109,7 +109,7 @@ fn chosen(alloc: Global, nodes: &[NodeRow], ways: &[WayRow<'_>]) -> Result<Chose
 }
 
 /// What one phase of nodes and ways takes: these nodes, these ways, and then these nodes. Whether they came in order, and what was
-/// chosen; where they didn't, the ways are taken again.
+/// chosen; if they didn't, the ways are taken again.
 fn chosen_first(
     alloc: Global,
     nodes: &[NodeRow],
