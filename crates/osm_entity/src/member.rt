@@ -45,7 +45,7 @@ impl<'a> MemberRef<'a> {
     }
 }
 
-/// The kind that a stored number means: 0 a node, 1 a way, 2 (and, where it wasn't judged, any other) a relation.
+/// The kind that a stored number means: 0 a node, 1 a way, 2 (and, if it wasn't judged, any other) a relation.
 fn member_kind(number: u64) -> MemberKind
     ensures { result ≡ member_kind number }
 {

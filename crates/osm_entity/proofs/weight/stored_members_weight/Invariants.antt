@@ -5,7 +5,7 @@ use Rattle.osm_entity.specs.Weight.{members_weight}
 use Rattle.osm_entity.specs.Ranges.{MemberFits}
 use Rattle.osm_entity.proofs.weight.stored_members_weight.Given as goal
 
--- all are in range exactly where those that are left are, and the weight so far and that of the members that are left is the weight of all
+-- all are in range exactly if those that are left are, and the weight so far and that of the members that are left is the weight of all
 abbrev pub invariant-loop-member : goal.invariant-loop-member
 invariant-loop-member l = record {
   can : (goal.iterator-loop-member).can_next l.member-iterator;

@@ -4,7 +4,7 @@ use Rattle.osm_entity.specs.Sources.{refs_left}
 use Rattle.osm_entity.specs.Ranges.{IsStored}
 use Rattle.osm_entity.proofs.weight.stored_refs_weight.Given as goal
 
--- all are in range exactly where those that are left are
+-- all are in range exactly if those that are left are
 abbrev pub invariant-loop-reference : goal.invariant-loop-reference
 invariant-loop-reference l = record {
   can : (goal.iterator-loop-reference).can_next l.reference-iterator;
