@@ -21,7 +21,7 @@ one_page : (id : ℤ) (ids : List ℤ) → pages_of (id ∷ ids) ≡ record { fi
 unfolding pages_past
 one_page id ids = refl
 
--- the first page, where it is full
+-- the first page, if it is full
 full_page : (page : Page) (rest : List ℤ) → length page.others ≡ 127 → pages_of (page_ids page ++ rest) ≡ page ∷ pages_of rest
 full_page page rest full =
     one_page page.first (page.others ++ rest)
@@ -29,7 +29,7 @@ full_page page rest full =
     ∙ ap (λ (ids : List ℤ). record { first = page.first; others = ids } ∷ pages_past (length page.others) (page.others ++ rest)) (take-append_seam page.others rest)
     ∙ ap (λ (pages : List Page). page ∷ pages) (past_front page.others rest)
 
--- and where it is the last
+-- and if it is the last
 last_page : (page : Page) → length page.others ≤ 127 → pages_of (page_ids page) ≡ page ∷ []
 last_page page few =
     one_page page.first page.others

@@ -91,7 +91,7 @@ turn_at ids page last at d next n read =
     let same = pair_parts d next n.difference (at + length (shortest n.difference)) (read ∙ reads_next ids page last at n) in
     (subst (λ k. FitsSigned w64 (last +ℤ pos k)) (sym same.0) n.fits, subst (λ k. IsAt ids page (cursor last (last +ℤ pos k) next)) (sym same.0) (subst (λ k. IsAt ids page (cursor last (last +ℤ pos n.difference) k)) (sym same.1) n.then))
 
--- where the next number is one byte, that byte is how far the next id is above `last`
+-- if the next number is one byte, that byte is how far the next id is above `last`
 pub next_byte : (ids : List ℤ) (page : List ℕ) (passed last : ℤ) (at : ℕ) → IsAt ids page (cursor passed last at) → at < length page → get_or page at 0 < 128
     → FitsSigned w64 (last +ℤ pos (get_or page at 0)) × IsAt ids page (cursor last (last +ℤ pos (get_or page at 0)) (at + 1))
 next_byte ids page passed last at h lt short =

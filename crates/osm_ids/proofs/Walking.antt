@@ -15,7 +15,7 @@ use Rattle.osm_ids.proofs.Laid.{fits_front, fits_back, ids_in-starts}
 
 -- ---- one number
 
--- what is read where an id's gap is spelled
+-- what is read of the spelling of an id's gap
 pub read_gap : (last id : ℤ) (bytes : List ℕ) (at : ℕ) (rest : List ℕ) → FitsSigned w64 last → FitsSigned w64 id → last <ℤ id → drop at bytes ≡ shortest (gap last id) ++ rest → moved_by at (varint_at (drop at bytes)) ≡ Ok (gap last id, at + length (shortest (gap last id)))
 read_gap last id bytes at rest f g up e = read_at bytes at (gap last id) rest (gap-lt last id f g up) e
 

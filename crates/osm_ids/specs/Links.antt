@@ -21,7 +21,7 @@ link_code = code_by (ℤ × ℤ) (coded× coded_ℤ coded_ℤ) (λ l. (l.member,
 abbrev pub Has : set.FinSet int_cmp → (ℤ → Bool) → Type 0
 Has ids test = (id : ℤ) → set.contains ids id ≡ true → test id ≡ true
 
--- of each of the links: where the test holds of the member it holds of the parent
+-- of each of the links: if the test holds of the member it holds of the parent
 abbrev pub IsClosed : (Link → Bool) → (ℤ → Bool) → Type 0
 IsClosed is_link test = (l : Link) → is_link l ≡ true → test l.member ≡ true → test l.parent ≡ true
 

@@ -92,7 +92,7 @@ impl<'a> Lookup<'a> {
         self.find(id)
     }
 
-    /// Whether the set has the id. It stays at the id, and where the set lacks it at the next one, so that a greater id is read
+    /// Whether the set has the id. It stays at the id, and if the set lacks it at the next one, so that a greater id is read
     /// from there on.
     #[inline(never)]
     fn find(&mut self, id: i64) -> bool

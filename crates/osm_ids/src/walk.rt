@@ -87,7 +87,7 @@ impl<'a> Walk<'a> {
     }
 }
 
-/// The id that the bytes at a place give after another, and where the bytes of the following one begin. None where the bytes end.
+/// The id that the bytes at a place give after another, and where the bytes of the following one begin. None if the bytes end.
 fn id_after(last: i64, bytes: &[u8], place: usize) -> Option<(i64, usize)>
     requires { place ≤ length bytes.now }
     ensures none { drop place bytes.now ≡ [] → result ≡ None }
