@@ -163,7 +163,7 @@ impl<S: BuildHasher> OpenBlock<S> {
         }
     }
 
-    /// How many bytes the texts, columns and messages hold, four for each text with them, or the greatest number where they
+    /// How many bytes the texts, columns and messages hold, four for each text with them, or the greatest number if they
     /// are more.
     pub(crate) fn held(&self) -> u64
         ensures { result ≡ min (block_held self.now) (2 ^ 64 - 1) }
