@@ -72,7 +72,7 @@ unfolding how_many
 many_more some more h [] = omega arith
 many_more some more h (e ∷ seen) = omega (arith, many_more some more h seen, cond_more (has_id some e) (has_id more e) (has_id_more some more h e))
 
--- where the larger set has no more of them, each of its relations is in the smaller one
+-- if the larger set has no more of them, each of its relations is in the smaller one
 none_new : (some more : IdTest) → Implies some more → (t : Seen → Bool) → ((e : Seen) → t e ≡ true → has_id more e ≡ true) → (R : Type 0) → ((e : Seen) → t e ≡ true → has_id some e ≡ true → R) → (seen : List Seen) → how_many more seen ≤ how_many some seen → list_any t seen ≡ true → R
 unfolding how_many
 none_new some more h t of_more R give [] few found = absurd (both_ways false refl found)

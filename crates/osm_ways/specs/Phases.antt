@@ -40,7 +40,7 @@ pub record RelationSets : Type 0 where
   pub start : Ids
   pub links : LinkSet
 
--- all that selects: those of all parents besides, where they are kept
+-- all that selects: those of all parents besides, if they are kept
 pub record KeptSets : Type 0 where
   pub ways : WaySets
   pub relation_ids : Ids
@@ -107,7 +107,7 @@ relation_step sets _ = sets
 abbrev pub start_nodes : BoundingBox → NodeSets
 start_nodes area = record { area = area; box_ids = set.empty }
 
--- where the nodes end, all nodes of the box are kept, and no way yet
+-- when the nodes end, all nodes of the box are kept, and no way yet
 abbrev pub start_ways : Ids → WaySets
 start_ways ids = record { box_ids = ids; node_ids = ids; way_ids = set.empty }
 

@@ -21,7 +21,7 @@ pub struct Chooser<'a> {
     box_ids: Lookup<'a>,
     refs: Lookup<'a>,
     way_ids: Lookup<'a>,
-    /// Those of all parents, where they were chosen too.
+    /// Those of all parents, if they were chosen too.
     relation_ids: Option<Lookup<'a>>,
 }
 
@@ -43,7 +43,7 @@ impl<'a> Model for Chooser<'a> {
     } };
 }
 
-/// Whether an id is among those of all parents, where they were chosen.
+/// Whether an id is among those of all parents, if they were chosen.
 fn has(ids: &mut Option<Lookup<'_>>, id: i64) -> bool
     ensures found { result ≡ set.contains (ids_or_none ids.old) id }
     ensures same { ids.new ≡ ids.old }

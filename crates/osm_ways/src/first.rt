@@ -19,9 +19,9 @@ use std::marker::Model;
 pub struct FirstPhase {
     area: BoundingBox,
     box_ids: IdSet,
-    /// The refs of kept ways that aren't nodes of the box; none where the order was broken.
+    /// The refs of kept ways that aren't nodes of the box; none if the order was broken.
     refs: IdSet,
-    /// The ids of kept ways; none where the order was broken.
+    /// The ids of kept ways; none if the order was broken.
     way_ids: IdSet,
     /// Whether there was a way.
     has_ways: bool,
@@ -145,7 +145,7 @@ impl FirstPhase {
         self.in_order
     }
 
-    /// All nodes are taken, and all ways too where they came in order. Otherwise the phase of ways has none yet.
+    /// All nodes are taken, and all ways too if they came in order. Otherwise the phase of ways has none yet.
     ///
     /// # Errors
     ///

@@ -253,7 +253,7 @@ pub struct Chosen {
     /// The refs of kept ways that aren't nodes of the box.
     pub(crate) refs: SealedIds,
     pub(crate) way_ids: SealedIds,
-    /// Those of all parents, where they were chosen too.
+    /// Those of all parents, if they were chosen too.
     pub(crate) relation_ids: Option<SealedIds>,
     pub(crate) alloc: Global,
 }
