@@ -1,4 +1,4 @@
--- A written block has no fault and holds its entities, where its group does.
+-- A written block has no fault and holds its entities, if its group does.
 use Rattle.std.proofs.Common.{◌≡◌, ℕ, ◌^◌, ◌<◌, ◌≤◌, ◌==◌, ℤ, pos, Bool, true, false, List, [], ◌∷◌, ◌++◌, length, take, drop, Option, Some, None, refl, sym, ap, ap₂, subst, ◌∙◌, arith}
 use Rattle.std.specs.Prelude.{◌≤ℤ◌, int_lt, nat_lt, if◌then◌else◌}
 use Rattle.std.specs.List.{flat_map, AllByRecursion}
@@ -37,7 +37,7 @@ use Rattle.pbf_wire.proofs.SlotLemmas.{none_of, scalar_given, last_given}
 use Rattle.pbf_block.proofs.InfoLaw.{int32_fits}
 use Rattle.pbf_block.proofs.GroupLaw.{GroupGood}
 
--- ---- a number that is left out where it is the default
+-- ---- a number that is left out if it is the default
 
 default_fits : (number : ℕ) (default z : ℤ) → 0 < number → number < 2 ^ 29 → sign_extended z < 2 ^ 64 → SlotFits (Scalar number (unless_default default z))
 default_fits number default z positive small fits = elim (int_eq z default) as (λ b. SlotFits (Scalar number (if b then None else Some (sign_extended z)))) [ true ↦ tt | false ↦ (positive, small, fits) ]

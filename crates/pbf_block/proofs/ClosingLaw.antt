@@ -55,7 +55,7 @@ entry_tag = spelled_below 0 9 (1 * 8 + 2) (omega arith) (omega arith)
 abbrev IsShort : List ℕ → Type 0
 IsShort text = length text < 34359738368
 
--- what the entries of a table take at most, where the texts are short
+-- what the entries of a table take at most, if the texts are short
 abbrev pub entries_room : List (List ℕ) → ℕ
 entries_room [] = 0
 entries_room (text ∷ texts) = 6 + length text + entries_room texts

@@ -118,7 +118,7 @@ values_counted kinds inner k os known sound =
 values_fit : (k : ℕ) (os : List Occurrence) → range_faults k os ≡ [] → AllByRecursion IsStored (values_in by_index k os)
 values_fit k os e = sums_within_limit (pos (2 ^ 62)) OutOfRange false (joined k os) e
 
--- ---- entities, where they are light
+-- ---- entities, if they are light
 
 abbrev pub IsLight : EntitySpec → Type 0
 IsLight e = entity_weight e ≤ HIGHEST_WEIGHT

@@ -1,4 +1,4 @@
--- A written group has no fault and holds the entities that it was written of, where each message in it does.
+-- A written group has no fault and holds the entities that it was written of, if each message in it does.
 use Rattle.std.proofs.Common.{◌≡◌, ℕ, ◌+◌, ◌^◌, ◌<◌, ◌≤◌, ◌==◌, ◌&&◌, Bool, true, false, List, [], ◌∷◌, ◌++◌, length, map, Option, Some, refl, sym, ap, subst, ◌∙◌, arith}
 use Rattle.std.specs.Prelude.{not, if◌then◌else◌}
 use Rattle.std.specs.List.{flat_map, find, AllByRecursion}

@@ -40,7 +40,7 @@ pub inside_all : {X : Type 0} (Q : X → Type 0) (f : ℕ → List ℕ → List 
 inside_all Q f P (Bytes bytes at) h p = h at bytes p
 inside_all Q f P c h p = tt
 
--- two ways to go on after a test are the same where it holds, and where it doesn't
+-- two ways to go on after a test are the same if it holds, and if it doesn't
 pub cond_same : {A : Type 0} (b : Bool) (x y w z : A) → (b ≡ true → x ≡ y) → w ≡ z → cond b x w ≡ cond b y z
 cond_same true x y w z h k = h refl
 cond_same false x y w z h k = k
@@ -64,17 +64,17 @@ flat_all : {X Y : Type 0} (Q : Y → Type 0) (f : X → List Y) (P : X → Type 
 flat_all Q f P [] h all = tt
 flat_all Q f P (x ∷ xs) h all = all_append Q (f x) (flat_map f xs) (h x all.0) (flat_all Q f P xs h all.1)
 
--- what they give is the same, where each gives the same
+-- what they give is the same, if each gives the same
 pub groups_same : {X : Type 0} (f g : Occurrence → List X) (P : Occurrence → Type 0) → ((o : Occurrence) → P o → f o ≡ g o) → (os : List Occurrence) → AllByRecursion (InGroup P) os → flat_map (in_group f) os ≡ flat_map (in_group g) os
 groups_same f g P same os all = flat_same (in_group f) (in_group g) (InGroup P) os (λ o h.
     cond_same (eqb o.number PRIMITIVEGROUP) _ _ _ _ (λ t. inside_same _ _ _ o.content (λ at m p. flat_same f g P (fields_in at m) same p) (h (eqb-true o.number PRIMITIVEGROUP t))) refl) all
 
--- and holds of all that they give, where it does of what each gives
+-- and holds of all that they give, if it does of what each gives
 pub groups_all : {X : Type 0} (Q : X → Type 0) (f : Occurrence → List X) (P : Occurrence → Type 0) → ((o : Occurrence) → P o → AllByRecursion Q (f o)) → (os : List Occurrence) → AllByRecursion (InGroup P) os → AllByRecursion Q (flat_map (in_group f) os)
 groups_all Q f P each os all = flat_all Q (in_group f) (InGroup P) os (λ o h.
     cond_all Q (eqb o.number PRIMITIVEGROUP) _ _ (λ t. inside_all Q _ _ o.content (λ at m p. flat_all Q f P (fields_in at m) each p) (h (eqb-true o.number PRIMITIVEGROUP t))) tt) all
 
--- where they give nothing, each gives nothing
+-- if they give nothing, each gives nothing
 inside_nil : {X : Type 0} (f : Occurrence → List X) (c : Content) → inside (λ at m. flat_map f (fields_in at m)) c ≡ [] → Inside (λ at m. AllByRecursion (λ o. f o ≡ []) (fields_in at m)) c
 inside_nil f (Bytes bytes at) e = all_nil f (fields_in at bytes) e
 inside_nil f c e = tt

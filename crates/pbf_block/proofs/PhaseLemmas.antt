@@ -11,7 +11,7 @@ use Rattle.pbf_block.specs.PrimitiveBlock.{wire_faults, structure_faults, payloa
 use Rattle.pbf_wire.specs.Faults.{fields_in}
 use Rattle.pbf_block.specs.Scale.{table_of}
 
--- ---- where the first two phases have no fault, and if they have one
+-- ---- if the first two phases have no fault, and if they have one
 
 both_none : (f g : Option Fault) → option_or f g ≡ None → (f ≡ None) × (g ≡ None)
 both_none None g e = (refl, e)

@@ -89,6 +89,6 @@ member_weights how table scale o = flat_map (weight_fault o.place) (member_entit
 
 -- ---- groups in a block
 
--- where a field of the block is a group, what f gives for each field of that group; otherwise nothing
+-- if a field of the block is a group, what f gives for each field of that group; otherwise nothing
 abbrev pub in_group : {X : Type 0} → (Occurrence → List X) → Occurrence → List X
 in_group f o = entered PRIMITIVEGROUP (λ place at m. flat_map f (fields_in at m)) o

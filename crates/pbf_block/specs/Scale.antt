@@ -9,7 +9,7 @@ use Rattle.osm_entity.specs.declared.scale.Scale.{Scale}
 use Rattle.pbf_block.specs.declared.primitive_block.TheConstants.{STRINGTABLE, GRANULARITY, DATE_GRANULARITY, LAT_OFFSET, LON_OFFSET}
 use Rattle.pbf_block.specs.declared.scale.TheConstants.{DEFAULT_SCALE}
 
--- the last number of the field k, as it is read, and something else where it is absent
+-- the last number of the field k, as it is read, and something else if it is absent
 abbrev pub number_or : ℤ → (ℕ → ℤ) → ℕ → List Occurrence → ℤ
 number_or otherwise read k os = option_map_or read (last_number k os) otherwise
 

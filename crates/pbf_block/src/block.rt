@@ -43,7 +43,7 @@ fn early_fault(payload: Message<'_>) -> Option<Fault>
     judge_structure(payload)
 }
 
-/// The bytes of a field; none where the field is absent.
+/// The bytes of a field; none if the field is absent.
 pub(crate) fn bytes_in(field: Option<Field<'_>>) -> &[u8]
     ensures { result.now ≡ occurrence_text (option_map occurrence field.entry) }
 {

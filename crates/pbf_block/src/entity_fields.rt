@@ -126,7 +126,7 @@ pub(crate) fn values(fields: Fields<'_>, number: u64) -> Sums<'_>
     Sums::new(column(fields, number), STORED_LIMIT)
 }
 
-/// The signed number that these fields hold last under this number, and 0 where they hold none.
+/// The signed number that these fields hold last under this number, and 0 if they hold none.
 pub(crate) fn last_signed(fields: Fields<'_>, number: u64) -> i64
     ensures { (os : List Occurrence) → only_left number fields.entry ≡ only number os
         → result ≡ number_or (pos 0) unzigzag number os }

@@ -58,7 +58,7 @@ impl EntityOut {
         }
     }
 
-    /// Takes all of an entity out and keeps the room, also where writing it failed.
+    /// Takes all of an entity out and keeps the room, also if writing it failed.
     pub fn clear(&mut self)
         ensures { writer_length self.new ≡ 0 }
     {
@@ -74,7 +74,7 @@ impl EntityOut {
         self.message.clear();
     }
 
-    /// How many bytes the columns and messages hold, or the greatest number where they are more.
+    /// How many bytes the columns and messages hold, or the greatest number if they are more.
     pub fn held(&self) -> u64
         ensures { result ≡ min (writer_length self.now) (2 ^ 64 - 1) }
     {
