@@ -1,4 +1,4 @@
--- The nodes of a dense message without faults can be written again, where they are light; and their numbers have the types of the
+-- The nodes of a dense message without faults can be written again, if they are light; and their numbers have the types of the
 -- format, whatever is wrong.
 use Rattle.std.proofs.Common.{◌≡◌, ◌≤◌, ℕ, zero, suc, ℤ, List, [], ◌∷◌, length, map, refl, subst, ◌∙◌}
 use Rattle.std.specs.Prelude.{Option, Some, None, slice_get}

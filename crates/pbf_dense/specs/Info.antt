@@ -9,7 +9,7 @@ use Rattle.pbf_strings.specs.Texts.{text}
 use Rattle.osm_entity.specs.Entity.{MetaSpec}
 use Rattle.pbf_dense.specs.declared.dense_info.TheConstants.{VERSION, TIMESTAMP, CHANGESET, UID, USER_SID, VISIBLE}
 
--- the text of an index, and the empty text where it is negative
+-- the text of an index, and the empty text if it is negative
 abbrev pub user_text : List (List ℕ) → ℤ → List ℕ
 user_text table (pos n) = text table n
 user_text table (negsuc n) = []

@@ -117,7 +117,7 @@ abbrev pub if_none : Option Fault → List Fault → List Fault
 if_none None faults = faults
 if_none (Some f) faults = []
 
--- the faults of a phase; weights are judged only where the other phases have none
+-- the faults of a phase; weights are judged only if the other phases have none
 abbrev pub phase_faults : Phase → ℕ → ℕ → List (List ℕ) → List ℕ → List Fault
 phase_faults phase.Wire place at table m = dense_wire place at m
 phase_faults phase.Structure place at table m = dense_structure place at m

@@ -44,7 +44,7 @@ fn goes_with(message: Message<'_>, number: u64, nodes: usize) -> bool
     count == 0 || count == nodes
 }
 
-/// The structure of a DenseInfo of so many nodes: `ColumnLengths`, where a column doesn't go with them.
+/// The structure of a DenseInfo of so many nodes: `ColumnLengths`, if a column doesn't go with them.
 #[derive(Clone, Copy)]
 pub(crate) struct InfoStructure {
     pub(crate) nodes: usize,

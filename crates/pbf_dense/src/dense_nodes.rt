@@ -167,7 +167,7 @@ const AS_STORED: Scale = Scale {
     lon_offset: 0,
 };
 
-/// `EntityLarge` at `place`, where the node is too heavy.
+/// `EntityLarge` at `place`, if the node is too heavy.
 fn judge_node(node: NodeRef<'_>, place: u64) -> Option<Fault>
     ensures { result ≡ least (weight_fault place (node_of node.entry)) }
 {

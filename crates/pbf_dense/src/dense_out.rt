@@ -129,7 +129,7 @@ impl DenseOut {
         Ok(bytes)
     }
 
-    /// How many bytes the columns hold, or the greatest number where they are more.
+    /// How many bytes the columns hold, or the greatest number if they are more.
     pub fn held(&self) -> u64
         ensures { result ≡ min (dense_length (columns_held self.now)) (2 ^ 64 - 1) }
     {

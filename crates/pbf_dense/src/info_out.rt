@@ -98,7 +98,7 @@ impl InfoOut {
         Ok(())
     }
 
-    /// The lengths of the columns, or the greatest number where they are more.
+    /// The lengths of the columns, or the greatest number if they are more.
     pub(crate) fn held(&self) -> u64
         ensures { result ≡ min (info_length (info_held self.now)) (2 ^ 64 - 1) }
     {
