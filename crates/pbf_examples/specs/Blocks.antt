@@ -62,7 +62,7 @@ pub record GroupFaults : Type 0 where
   pub dense_and_node :
       with_block (one_text ++ hex "12 0a  12 00  0a 06 08 02 40 02 48 02")
       refused_at 44 for MixedGroup
-  -- 5 changesets, at each one, also where it is empty
+  -- 5 changesets, at each one, also if it is empty
   pub changesets : with_block (one_text ++ hex "12 02  2a 00") refused_at 42 for Changesets
 
 -- ---- the scale

@@ -1,6 +1,6 @@
--- Extracts. A node is in the box where its place is, edges included. A way is kept where a node
--- of it is in the box, and then all its nodes are. A relation is kept where a node or a way
--- among its members is; with all parents also where a relation among them is.
+-- Extracts. A node is in the box where its place is, edges included. A way is kept if a node
+-- of it is in the box, and then all its nodes are. A relation is kept if a node or a way
+-- among its members is; with all parents also if a relation among them is.
 --
 -- The box of most lines is one degree by one degree, from where the equator meets the prime
 -- meridian.
@@ -208,7 +208,7 @@ around_the_way role =
     with_member "08" role "0e" "01" ++ with_member "09" role "04" "00"
     ++ with_member "0a" role "06" "00"
 
--- 11 has node 4 and 12 way 6, which are nowhere, and 13 way 1, where only a node has this number
+-- 11 has node 4 and 12 way 6, which are nowhere, and 13 way 1, while only a node has this number
 abbrev pub beside_the_way : List ℕ
 beside_the_way =
     with_member "0b" "00" "08" "00" ++ with_member "0c" "00" "0c" "01"
