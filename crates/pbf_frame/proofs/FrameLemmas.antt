@@ -53,7 +53,7 @@ module _ (h : Bool) (p : ℕ) (bytes : List ℕ) where
 pub err_ok : {A : Type 0} (f : Fault) (x : A) → ◌≡◌ {A = Result A Fault} (Err f) (Ok x) → ⊥
 err_ok f x e = cc
 
--- where nothing is wrong, what follows is given
+-- if nothing is wrong, what follows is given
 pub unless_ok : {A : Type 0} (o : Option Fault) (later : Result A Fault) (x : A) → unless o later ≡ Ok x → (o ≡ None) × (later ≡ Ok x)
 unless_ok None later x e = (refl, e)
 unless_ok (Some f) later x e = absurd (err_ok f x e)

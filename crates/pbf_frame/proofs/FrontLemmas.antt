@@ -1,4 +1,4 @@
--- What the functions on lists give where the code's tests passed.
+-- What the functions on lists give if the code's tests passed.
 use Rattle.std.proofs.Common.{◌≡◌, ℕ, ◌+◌, ◌<◌, ◌≤◌, List, [], ◌++◌, Option, Some, None, Ok, Err, length, take, drop, refl, sym, ap, ◌∙◌, subst, length-append, arith}
 use Rattle.std.proofs.lemmas.Bool.Decides.{nat_tests}
 use Rattle.std.proofs.lemmas.List.{take_all, take_at, drop_at}
@@ -17,7 +17,7 @@ pub bytes_at_ok : (cut : Fault) (n : ℕ) (read bytes : List ℕ) → read ≡ t
 unfolding bytes_at
 bytes_at_ok cut n read bytes is long = rw (← is) (grind (arith, nat_tests))
 
--- where the bytes begin with these
+-- if the bytes begin with these
 pub bytes_at_front : (cut : Fault) (n : ℕ) (read rest : List ℕ) → length read ≡ n → bytes_at cut n (read ++ rest) ≡ Ok (read, rest)
 bytes_at_front cut n read rest long =
     bytes_at_ok cut n read (read ++ rest) (sym (take_at read rest n long)) (omega (arith, long)) ∙ ap (λ (l : List ℕ). Ok (read, l)) (drop_at read rest n long)

@@ -20,7 +20,7 @@ passes_same before now xs ys e passed = subst (λ (l : List ℕ). Passes before 
 pub passes_three : (before then next now : ℕ → List ℕ → Type 0) (xs ys zs : List ℕ) → Passes before xs then → Passes then ys next → Passes next zs now → Passes before (xs ++ ys ++ zs) now
 passes_three before then next now xs ys zs one two three = passes_more before next now (xs ++ ys) zs (passes_more before then next xs ys one two) three
 
--- what passed, where nothing did
+-- what passed, if nothing did
 pub passes_nothing : (before now : ℕ → List ℕ → Type 0) → Passes before [] now → (log : ℕ) (b : List ℕ) → before log b → now log b
 passes_nothing before now passed log b h = subst (now log) (append-nil b) (passed log b h)
 

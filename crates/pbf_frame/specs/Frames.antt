@@ -68,7 +68,7 @@ frame_payload_at f = payload_place (frame_kind f) (blob_at f) f.blob
 
 -- ---- the frame that begins at a place
 
--- four bytes, a header as long as they say, and a blob of the size that the header says; where the bytes end before, as many as there are
+-- four bytes, a header as long as they say, and a blob of the size that the header says; if the bytes end before, as many as there are
 abbrev pub frame_at : ℕ → List ℕ → FrameSpec
 frame_at place bytes =
     let after = drop 4 bytes in

@@ -32,7 +32,7 @@ abbrev pub IsWriteStop : ℕ → ℕ → Stop → Type 0
 IsWriteStop old new Write = HasRisen old new
 IsWriteStop _ _ _ = ⊥
 
--- a reader's stop names the feed only where its count of failures rose, and never a drain
+-- a reader's stop names the feed only if its count of failures rose, and never a drain
 abbrev pub IsReaderStop : ℕ → ℕ → Stop → Type 0
 IsReaderStop old new (Refused f) = Unit {0}
 IsReaderStop old new Read = HasRisen old new

@@ -16,7 +16,7 @@ use Rattle.pbf_frame.specs.Header.{header_faults, head_says}
 use Rattle.pbf_frame.specs.Blob.{blob_fault}
 use Rattle.pbf_frame.specs.Frames.{FrameSpec, order_faults}
 
--- what follows, where nothing is wrong so far
+-- what follows, if nothing is wrong so far
 abbrev pub unless : {A : Type 0} → Option Fault → Result A Fault → Result A Fault
 unless None later = later
 unless (Some f) later = Err f

@@ -11,7 +11,7 @@ Verdict = List FrameSpec × Option Fault
 abbrev pub with_first : FrameSpec → Verdict → Verdict
 with_first f verdict = (f ∷ verdict.0, verdict.1)
 
--- the verdict, where the next frame is known and these are the verdicts on what follows
+-- the verdict, if the next frame is known and these are the verdicts on what follows
 abbrev pub judged_after : (Bool → ℕ → List ℕ → Verdict) → Bool → Result (Option FrameSpec × List ℕ) Fault → Verdict
 judged_after later had_header (Err e) = ([], Some e)
 judged_after later had_header (Ok (None, rest)) = ([], None)

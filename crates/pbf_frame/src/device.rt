@@ -8,7 +8,7 @@ use crate::stop::{DrainFault, FeedFault};
 
 /// A device that supplies bytes.
 pub trait Feed {
-    /// The bytes still to supply, where the device reports them.
+    /// The bytes still to supply, if the device reports them.
     ghost remaining: { Self → Option (List ℕ) };
 
     /// How often a read has failed, which stays at the greatest `u64`.
@@ -50,7 +50,7 @@ impl<F: Feed> Feed for &mut F {
 
 /// A device that takes bytes.
 pub trait Drain {
-    /// The bytes taken, where the device reports them.
+    /// The bytes taken, if the device reports them.
     ghost taken: { Self → Option (List ℕ) };
 
     /// The bytes that it took, by each log that it keeps of them, from the outermost on; a write adds what it took.

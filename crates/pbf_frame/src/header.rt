@@ -55,7 +55,7 @@ pub(crate) fn occurrence_text(field: Option<Field<'_>>) -> &[u8]
     }
 }
 
-/// The size that `datasize` names, where a blob may have it.
+/// The size that `datasize` names, if a blob may have it.
 fn size_in(payload: Payload<'_>) -> Option<u32>
     ensures { result ≡ size_within (int32_held (content payload.entry)) }
 {
