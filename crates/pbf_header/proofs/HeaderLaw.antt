@@ -141,7 +141,7 @@ box_alone f h boxes =
     let url = each_quiet inner REPLICATION_URL (option_to_list h.url) (λ _ _ _. refl) in
     (boxes, (required, (optional, (program, (source, (timestamp, (sequence, (url, tt))))))))
 
--- where each required feature is known there is none
+-- if each required feature is known there is none
 features_alone : (h : HeaderSpec) → AllByRecursion (λ text. (place at : ℕ) → feature_faults place at text ≡ []) h.required → AllByRecursion (SlotQuiet (entered REQUIRED_FEATURES feature_faults)) (header_slots h)
 features_alone h known =
     let inner = entered REQUIRED_FEATURES feature_faults in

@@ -9,7 +9,7 @@ use Rattle.std.specs.Prelude.{filter}
 use Rattle.std.proofs.lemmas.List.Elements.{filter-append}
 use Rattle.pbf_wire.proofs.WritingLemmas.{nothing_put, each_none, each_after}
 
--- an optional feature is written where it is held
+-- an optional feature is written if it is held
 pub feature_left : (p : List ℕ → Bool) (feature old : List ℕ) → false ≡ p feature → old ≡ old ++ slot_bytes (Each 5 (filter p (feature ∷ [])))
 feature_left p feature old e = rw (sym e) (nothing_put (Each 5 []) old (each_none 5))
 

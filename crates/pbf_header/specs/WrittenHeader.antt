@@ -14,7 +14,7 @@ use Rattle.pbf_header.specs.Header.{HeaderSpec}
 abbrev pub known_features : List (List ℕ)
 known_features = codes "OsmSchema-V0.6" ∷ codes "DenseNodes" ∷ []
 
--- the optional features that hold of what is written where they hold of what was read, in the order in which they are written
+-- the optional features that hold of what is written if they hold of what was read, in the order in which they are written
 abbrev pub kept_features : List (List ℕ) → List (List ℕ)
 kept_features optional = filter (has_text optional) (codes "Has_Metadata" ∷ codes "Sort.Type_then_ID" ∷ codes "LocationsOnWays" ∷ [])
 

@@ -14,7 +14,7 @@ pub(crate) const OSM_SCHEMA: &[u8] = b"OsmSchema-V0.6";
 
 pub(crate) const DENSE_NODES: &[u8] = b"DenseNodes";
 
-// The optional features that are written where they were read.
+// The optional features that are written if they were read.
 pub(crate) const HAS_METADATA: &[u8] = b"Has_Metadata";
 
 pub(crate) const SORTED: &[u8] = b"Sort.Type_then_ID";

@@ -34,7 +34,7 @@ pub fn header_out_twice_is_once()
 {}
 
 /// A written header has no fault of any phase and is read, at every place, as the header that it was written for. It fits a frame
-/// where its source and its URL have together at most 12,000,000 bytes.
+/// if its source and its URL have together at most 12,000,000 bytes.
 pub fn written_header_is_read()
     ensures out { (bbox : Option HeaderBox) (h : HeaderSpec) → BoxTyped bbox
         → IfPresent IsInt64 h.timestamp → IfPresent IsInt64 h.sequence
