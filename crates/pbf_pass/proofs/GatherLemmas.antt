@@ -53,7 +53,7 @@ pub first_places : (sets : FirstSets) (ns : List NodeSpec) → fold with_first_p
 first_places sets [] = refl
 first_places sets (n ∷ ns) = first_places (with_first sets (node n)) ns
 
--- where nodes don't matter
+-- if nodes don't matter
 pub nodes_left_out : {S : Type 0} (s : S) (ns : List NodeSpec) → s ≡ fold as_it_was s (map node ns)
 nodes_left_out s [] = refl
 nodes_left_out s (n ∷ ns) = nodes_left_out s ns

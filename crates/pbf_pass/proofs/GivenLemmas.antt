@@ -15,7 +15,7 @@ use Rattle.pbf_pass.specs.Given.{GaveFile, judged_from}
 use Rattle.pbf_pass.specs.Judged.{judged_file}
 use Rattle.pbf_pass.specs.Pass.{TakesFile}
 
--- these are the bytes, where any are reported
+-- these are the bytes, if any are reported
 abbrev pub Tells : Option (List ℕ) → List ℕ → Type 0
 Tells known file = (b : List ℕ) → known ≡ Some b → file ≡ b
 
@@ -25,7 +25,7 @@ tells_all old (Some rest) file told end b is = same (ap (λ (l : List ℕ). file
   same : file ++ rest ≡ file → Some (file ++ rest) ≡ Some b → file ≡ b
   same e f = cc
 
--- the digest of the bytes, where they are reported
+-- the digest of the bytes, if they are reported
 abbrev pub IsDigest : Option (List ℕ) → List ℕ → Type 0
 IsDigest known digest = (b : List ℕ) → known ≡ Some b → digest ≡ sha256 b
 

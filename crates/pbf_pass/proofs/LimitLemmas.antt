@@ -40,6 +40,6 @@ limited_limit (Some v) frames e says limit = ap limited says ∙ ap (λ (o : Opt
 pub limit_refused : {S : Type 0} (gathered : S → EntitySpec → S) (before now : S) (known : Option Verdict) (pass : Pass) (e : Fault) → TakesFile gathered known before now pass → header_limit (held_header pass) ≡ Some e → FaultOf (option_map limited known) e
 limit_refused gathered before now known pass e p limit = ([], limited_limit known p.frames e p.says (ap header_limit (sym (held_is (file_header p.frames) pass p.header)) ∙ limit))
 
--- where the bytes are known, so is their verdict
+-- if the bytes are known, so is their verdict
 pub judged_sound : (b : List ℕ) (frames : List FrameSpec) → judged_file (Some b) ≡ Some (frames, None) → header_limit (file_header frames) ≡ None → judged_writable (Some b) ≡ Some (frames, None)
 judged_sound b frames judged within = ap (λ (o : Option Verdict). option_map limited o) judged ∙ ap (λ (o : Option Fault). Some (with_limit o frames)) within

@@ -105,7 +105,7 @@ pub record TakesAll {S : Type 0} (gathered : S → EntitySpec → S) (p : Payloa
 abbrev pub TakesFrame : {S : Type 0} → (S → EntitySpec → S) → Pass → Pass → S → S → FrameSpec → Type 0
 TakesFrame gathered old new before now f = TakesAll gathered (payload_of f) old new before now
 
--- the same where nothing is gathered
+-- the same if nothing is gathered
 abbrev pub CountsFrame : Pass → Pass → FrameSpec → Type 0
 CountsFrame old new f = (payload_fault f ≡ None) × TakesPayload (payload_of f) old new
 

@@ -55,7 +55,7 @@ abbrev pub Halts : (Refusal → Type 0) → Halt → Type 0
 Halts refused (halt.Refused refusal) = refused refusal
 Halts refused (halt.Stopped s) = (e : Fault) → s ≡ stop.Refused e → ⊥
 
--- a call halted: where it refuses a file, nothing went out
+-- a call halted: if it refuses a file, nothing went out
 abbrev pub HaltsFile : {F D : Type 0} → feed.Ghosts F → (old new : F) → drain.Ghosts D → (before now : D) → (List ℕ → Option Verdict) → Halt → Type 0
 HaltsFile f old new d before now judge h = Halts (λ refusal. RefusesFile f old new judge refusal × Added d before [] now) h
 
