@@ -22,7 +22,7 @@ pub record GavePublished {F : Type 0} (f : feed.Ghosts F) (old new : F) (digest 
   pub packed : List ℕ
   pub digest_is : digest ≡ sha256 packed
   pub raw_digest_is : raw_digest ≡ sha256 (unpacked packed)
-  -- what the feed had to supply means that file, where it reports its bytes
+  -- what the feed had to supply means that file, if it reports its bytes
   pub told : (all : List ℕ) → f.remaining old ≡ Some all → unpacked all ≡ unpacked packed
   -- and so do the bytes that passed by each log of a feed that was at its start
   pub logged : (log : ℕ) → f.has_passed old log [] → PassedAs f.has_passed new log (unpacked packed)
@@ -52,7 +52,7 @@ PassedIfSome has_passed feed None log raw = Unit {0}
 
 -- ---- why a call stops
 
--- the raw file that a feed is to supply, where it reports its bytes
+-- the raw file that a feed is to supply, if it reports its bytes
 abbrev pub raw_of : Option (List ℕ) → Option (List ℕ)
 raw_of known = option_map unpacked known
 

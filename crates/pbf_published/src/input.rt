@@ -33,7 +33,7 @@ pub struct PublishedHalt {
     pub place: Option<Place>,
     /// The first fault of zlib data in what was read of the first feed.
     pub fault: Option<UnpackFault>,
-    /// What was read of that raw file until a refusal, where the call hashes it.
+    /// What was read of that raw file until a refusal, if the call hashes it.
     pub refusal: Option<Refusal>,
 }
 
@@ -110,7 +110,7 @@ pub fn compare(digest: [u8; 32], later: Option<[u8; 32]>, pass: u8) -> Result<()
     }
 }
 
-/// The same, where nothing may have been read.
+/// The same, for a feed of which nothing may have been read.
 pub fn compare_or_none(digest: [u8; 32], later: Option<[u8; 32]>, pass: u8) -> Result<(), Stop>
     ensures same { OnOk result ((later ≡ Some digest) ⊎ (later ≡ Some (sha256 []))) }
     ensures stops { IfErr result (λ s. s ≡ stop.Changed pass) }
