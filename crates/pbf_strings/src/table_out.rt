@@ -165,7 +165,7 @@ impl<S: BuildHasher> TableOut<S> {
         }
     }
 
-    /// How many bytes the table holds: the lengths of the texts and four for each, or the greatest number where they are
+    /// How many bytes the table holds: the lengths of the texts and four for each, or the greatest number if they are
     /// more.
     pub fn held(&self) -> u64
         ensures { result ≡ min (2 ^ 64 - 1) (sum_by text_held self.now) }
