@@ -28,7 +28,7 @@ Carries start state place read meaning = (rest : List ℕ) → CanFollow state r
 abbrev pub left_in : {F : Type 0} → UnpackedFeed F → List ℕ
 left_in u = drop u.done (u.buffers.front.items ++ u.buffers.raw.items)
 
--- all bytes that are still to supply, where the feed below reports its own
+-- all bytes that are still to supply, if the feed below reports its own
 abbrev pub remaining_in : {F : Type 0} → (F → Option (List ℕ)) → UnpackedFeed F → Option (List ℕ)
 remaining_in remaining u = option_map (λ bytes. left_in u ++ (more u.state u.place bytes).0) (remaining u.feed)
 
@@ -51,7 +51,7 @@ IsReady PassingOn left = Unit {0}
 IsReady Ended left = Unit {0}
 IsReady (Stopped stop) left = ⊥
 
--- but for where frames come from, a feed is the same
+-- a feed is the same, except for where frames come from
 pub record IsSameBut {F : Type 0} (old new : UnpackedFeed F) : Type 0 where
   pub feed : new.feed ≡ old.feed
   pub buffers : new.buffers ≡ old.buffers

@@ -76,7 +76,7 @@ fn inflate_within(
     }
 }
 
-/// The same with the limit of raw data. `room` is tried first, so that a vector of that length does where it is enough.
+/// The same with the limit of raw data. `room` is tried first, so that a vector of that length is used if it is enough.
 fn inflate_raw(
     inflater: &mut Inflater,
     packed: &[u8],

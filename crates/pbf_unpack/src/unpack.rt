@@ -53,7 +53,7 @@ fn put_front(front: &mut Vec<u8>, kind: FrameKind, payload: &[u8]) -> Result<(),
     Ok(())
 }
 
-/// Puts what a whole frame means where it is supplied from.
+/// Puts what a whole frame means into the buffer that is supplied.
 pub(crate) fn unpack(
     buffers: &mut Buffers,
     inflater: &mut Inflater,
