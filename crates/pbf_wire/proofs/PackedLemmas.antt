@@ -44,7 +44,7 @@ is_packed_push bytes ns n h lt = record {
 is_read : (bytes ns : List ℕ) → IsPacked bytes ns → numbers_of bytes ≡ ns
 is_read bytes ns h = ap numbers_of h.bytes_are ∙ column_read ns h.fit
 
--- what `push` leaves, where the numbers are read from the bytes
+-- what `push` leaves, if the numbers are read from the bytes
 pub pushed_numbers : (bytes : List ℕ) (n : ℕ) → IsPacked bytes (numbers_of bytes) → n < 2 ^ 64 → numbers_of (bytes ++ shortest n) ≡ numbers_of bytes ++ n ∷ []
 pushed_numbers bytes n h lt = is_read _ _ (is_packed_push bytes (numbers_of bytes) n h lt)
 
@@ -82,7 +82,7 @@ values_held : (bytes : List ℕ) (last : ℤ) (values : List ℤ) → HoldsDelta
 values_held bytes last values h =
     ap values_of h.bytes_are ∙ ap (λ (ns : List ℕ). sums_from (pos 0) (map unzigzag ns)) (column_read (deltas values) (deltas_fit values h.within)) ∙ sums_undo_deltas values
 
--- what `push` leaves, where the values are read from the bytes
+-- what `push` leaves, if the values are read from the bytes
 pub pushed_values : (bytes : List ℕ) (last value : ℤ) → HoldsDeltas bytes last (values_of bytes) → IsSmall value → values_of (bytes ++ shortest (zigzag (value -ℤ last))) ≡ values_of bytes ++ value ∷ []
 pushed_values bytes last value h p = values_held _ _ _ (holds_push bytes last (values_of bytes) value h p)
 

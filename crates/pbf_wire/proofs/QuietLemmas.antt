@@ -1,4 +1,4 @@
--- A written message gives no faults where its slots give none.
+-- A written message gives no faults if its slots give none.
 use Rattle.pbf_wire.specs.Reading.{last_of, values}
 use Rattle.std.proofs.lemmas.Grind.{flat_map-append}
 use Rattle.std.proofs.Common.{◌≡◌, ℕ, ◌+◌, ◌*◌, ◌%◌, ◌^◌, ◌<◌, ℤ, pos, ◌+ℤ◌, Bool, true, List, [], ◌∷◌, ◌++◌, length, map, Option, Some, None, refl, sym, ap, ap₂, subst, ◌∙◌, ◌||◌, drop, ◌==◌, arith, ◌≤◌, false}
@@ -125,13 +125,13 @@ module _ (kinds : List (ℕ × Kind)) (inner : Occurrence → List Fault) where
       let both = both_nil (inner o) (flat_map inner (found rest)) h in
       ap₂ (λ (xs ys : List Fault). xs ++ ys) both.0 (more e both.1)
 
-  -- a message without a fault of its own has none where its fields give none
+  -- a message without a fault of its own has none if its fields give none
   faultless : (its : List Item) → wire kinds its ≡ None → flat_map inner (found its) ≡ [] → message_faults kinds inner its ≡ []
   faultless [] e h = refl
   faultless (Ok o ∷ rest) e h = field_faultless o rest (reason_in (kind_of kinds o.number) o.content) e h (faultless rest)
   faultless (Err e ∷ rest) h q = absurd (cc)
 
--- a written message has no wire fault where its slots have their types and what is in them has none
+-- a written message has no wire fault if its slots have their types and what is in them has none
 pub no_fault_within : (kinds : List (ℕ × Kind)) (inner : Occurrence → List Fault) (at : ℕ) (slots : List Slot) → AllByRecursion (SlotIs kinds) slots → AllByRecursion (SlotQuiet inner) slots → AllByRecursion SlotFits slots → length (message slots) < 2 ^ 64
     → message_faults kinds inner (items at (message slots)) ≡ []
 no_fault_within kinds inner at slots h quiet fits lt =
@@ -298,7 +298,7 @@ pub no_items : fields_in 0 [] ≡ []
 unfolding items_past
 no_items = refl
 
--- a message that is left out where it is empty reads as one that is empty
+-- a message that is left out if it is empty reads as one that is empty
 pub embedded_or_none : (k at : ℕ) (slots : List Slot) (m : List ℕ) → AllByRecursion SlotFits slots → length (message slots) < 2 ^ 64 → flat_map (messages_at k) slots ≡ unless_empty m → flat_map (scalars_at k) slots ≡ []
     → (inner : ℕ) × (embedded k (fields_in at (message slots)) ≡ fields_in inner m)
 embedded_or_none k at slots [] fits lt e h = (0, embedded_none k at slots fits lt e h ∙ sym no_items)

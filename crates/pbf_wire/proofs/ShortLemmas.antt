@@ -112,7 +112,7 @@ soon_in_rest bytes n i h =
     let at : n + (i + h.0) ≡ n + i + h.0 = omega arith in
     (h.0, h.1, omega (arith, h.2, length-drop n bytes), omega (arith, h.3, get_or-drop n bytes (i + h.0) 0, ap (λ k. get_or bytes k 0) at))
 
--- from each of the last bytes on, where the last of all ends a varint
+-- from each of the last bytes on, if the last of all ends a varint
 last_ends : (most : ℕ) (bytes : List ℕ) (i : ℕ) → i < length bytes → length bytes ≤ i + most → slice_index bytes (length bytes - 1) < 128 → EndsWithin most bytes i
 last_ends most bytes i lt near last =
     let at : i + (length bytes - 1 - i) ≡ length bytes - 1 = omega (arith, lt) in
@@ -247,7 +247,7 @@ placed_small : (place : ℕ) (ns : List ℕ) → AllByRecursion (λ v. v < 2 ^ 3
 placed_small place [] h = tt
 placed_small place (n ∷ ns) h = (h.0, placed_small place ns h.1)
 
--- one field more, whose numbers are small where they are the column's
+-- one field more, whose numbers are small if they are the column's
 pub column_more : (k : ℕ) (os rest : List Occurrence) (o : Occurrence) → os ≡ o ∷ rest → (o.number ≡ k → AllByRecursion (λ v. v < 2 ^ 35) (numbers_in o.content))
     → AllSmallPlaced (joined k rest) → AllSmallPlaced (joined k os)
 column_more k os rest o is here later = subst (λ (w : List Occurrence). AllSmallPlaced (joined k w)) (sym is) (all_append _ (column_of k o) (joined k rest) (by (o.number == k) refl) later) where

@@ -43,7 +43,7 @@ whole : (bytes : List ℕ) → 0 < length bytes → unless_empty bytes ≡ bytes
 whole [] h = absurd (omega arith)
 whole (b ∷ bs) h = refl
 
--- a column is written as a message that is left out where it is empty
+-- a column is written as a message that is left out if it is empty
 pub column_put : (number : ℕ) (values : List ℕ) → slot_bytes (Each number (unless_empty (packed values))) ≡ slot_bytes (Column number values)
 unfolding slot_bytes
 column_put number [] = refl

@@ -16,7 +16,7 @@ use Rattle.pbf_wire.specs.Wire.{kind_of, reason_in}
 abbrev pub fault : ℕ → Reason → Fault
 fault place reason = record { offset = place; reason = reason }
 
--- the fault, where the test holds
+-- the fault, if the test holds
 abbrev pub fault_where : Bool → ℕ → Reason → List Fault
 fault_where true place reason = fault place reason ∷ []
 fault_where false place reason = []

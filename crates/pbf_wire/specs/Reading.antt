@@ -29,11 +29,11 @@ abbrev pub bytes_in : Content → Option (List ℕ)
 bytes_in (Bytes bytes at) = Some bytes
 bytes_in _ = None
 
--- the bytes, and none where it is no bytes
+-- the bytes, and none if it is no bytes
 abbrev pub bytes_held : Content → List ℕ
 bytes_held c = unwrap_or (bytes_in c) []
 
--- the text of a field, and none where it is absent
+-- the text of a field, and none if it is absent
 abbrev pub occurrence_text : Option Occurrence → List ℕ
 occurrence_text last = option_map_or (λ o. bytes_held o.content) last []
 

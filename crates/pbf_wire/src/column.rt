@@ -8,7 +8,7 @@ use crate::fields::{Fields, FoundFields};
 use crate::short::{MOST_BYTES, count_small_left};
 use crate::varint::first_varint;
 
-/// The first number of a packed column, and the bytes after it; `None` where the bytes don't begin with a varint.
+/// The first number of a packed column, and the bytes after it; `None` if the bytes don't begin with a varint.
 pub fn first_number(packed: &[u8]) -> Option<(u64, &[u8])>
     ensures { MatchOption result (read_entries (entries packed.now) ≡ [])
         (λ found. read_entries (entries packed.now)

@@ -57,7 +57,7 @@ pub fn kind_of(kinds: &[(u64, Kind)], number: u64) -> Option<Kind>
     Some(*kind)
 }
 
-/// Whether a field of this kind may have this payload: any payload where the kind is not known. The errors are `WrongType`,
+/// Whether a field of this kind may have this payload: any payload if the kind is not known. The errors are `WrongType`,
 /// and for a packed column `VarintCut` or `VarintLong`, that of its first varint that fails.
 #[inline(always)]
 pub fn judge_payload(payload: Payload<'_>, kind: Option<Kind>) -> Result<(), Reason>

@@ -23,7 +23,7 @@ use crate::signed::low_u32;
 use crate::sum::Sum;
 use crate::sums::delta_in;
 
-/// The fault at `place`, where the low 32 bits of the number aren't below `limit`.
+/// The fault at `place`, if the low 32 bits of the number aren't below `limit`.
 fn judge_low(place: u64, number: u64, limit: u64, reason: Reason) -> Option<Fault>
     ensures { result ≡ least (below_fault reason limit (number, place)) }
 {
@@ -49,14 +49,14 @@ pub fn judge_low_numbers(
     least
 }
 
-/// `StringIndex` at `place`, where the low 32 bits of the number aren't below `limit`, the length of a table.
+/// `StringIndex` at `place`, if the low 32 bits of the number aren't below `limit`, the length of a table.
 pub fn judge_index(place: u64, number: u64, limit: u64) -> Option<Fault>
     ensures { result ≡ least (below_fault StringIndex limit (number, place)) }
 {
     judge_low(place, number, limit, Reason::StringIndex)
 }
 
-/// `OutOfRange` at `place`, where the number isn't strictly between `-limit` and `limit`.
+/// `OutOfRange` at `place`, if the number isn't strictly between `-limit` and `limit`.
 pub fn judge_range(place: u64, number: i64, limit: u64) -> Option<Fault>
     ensures { result ≡ least (range_fault (pos limit) place number) }
 {

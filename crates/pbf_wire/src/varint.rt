@@ -112,18 +112,18 @@ pub(crate) fn first_varint(bytes: &[u8]) -> Result<(u64, usize), Reason>
 
 /// The number that is spelled from the index `at` on, and the index after it.
 ///
-/// Spellings that are longer than needed are read. The errors are `VarintCut`, where the bytes end inside the varint, and
-/// `VarintLong`, where ten bytes have the top bit set or the tenth is above 1, so that the number would not fit 64 bits.
+/// Spellings that are longer than needed are read. The errors are `VarintCut`, if the bytes end inside the varint, and
+/// `VarintLong`, if ten bytes have the top bit set or the tenth is above 1, so that the number would not fit 64 bits.
 pub fn get_varint(bytes: &[u8], at: usize) -> Result<(u64, usize), Reason>
     requires { at ≤ length bytes.now }
 
-    // A number is returned exactly where the bytes are a spelling of it.
+    // A number is returned exactly if the bytes are a spelling of it.
     ensures found { IfOk result (λ found. (at < found.1) × (found.1 ≤ length bytes.now)
         × IsVarint found.0 (slice_range bytes.now at found.1)) }
     ensures only { (v k : ℕ) → at ≤ k → k ≤ length bytes.now
         → IsVarint v (slice_range bytes.now at k) → result ≡ Ok (v, k) }
 
-    // Each error comes exactly where its definition holds.
+    // Each error comes exactly if its definition holds.
     ensures cut { result ≡ Err Reason.VarintCut ↔ IsCut (drop at bytes.now) }
     ensures long { result ≡ Err Reason.VarintLong ↔ IsLong (drop at bytes.now) }
 
