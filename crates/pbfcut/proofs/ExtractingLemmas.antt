@@ -261,7 +261,7 @@ chooses_parents area first second third ways h begun relations given sets chosen
   least = subst (λ (s : KeptSets). IsLeast (set.contains relations.links) relations.start s.relation_ids) (sym handed) least;
 }
 
--- ---- where the second pass may be spared
+-- ---- if the second pass may be spared
 
 first_folded : (sets : FirstSets) (es : List EntitySpec) → fold with_first sets es ≡ fold first_step sets (map (seen_entity sets.area) es)
 first_folded sets [] = refl
@@ -292,7 +292,7 @@ same_frames b one two e f = let same : ◌≡◌ {A = Option Verdict} (Some (one
   parted : ◌≡◌ {A = Option Verdict} (Some (one, None)) (Some (two, None)) → one ≡ two
   parted same = let pair : ◌≡◌ {A = Verdict} (one, None) (two, None) = cc in ap (λ (v : Verdict). v.0) pair
 
--- what the first pass took, and a second one where the order was broken
+-- what the first pass took, and a second one if the order was broken
 module _ {G : Type 0} (f : feed.Ghosts G) (old new : G) (digest : List ℕ) (area : BoundingBox) (b : List ℕ) (pass : Pass) (header h : HeaderSpec) (begun phase : FirstSets) (started ways : WaySets) (sets : KeptSets) where
   pub chooses_first : (in_order : Bool) → TakesFile with_first (judged_file (Some b)) begun phase pass → begun ≡ start_first area → held_header pass ≡ Some (pass.header_at, header) → header_limit (held_header pass) ≡ None → h ≡ header_out_for_box area header → IsShort h
       → in_order ≡ phase.in_order → started ≡ phase.ways → GathersRest f with_way in_order old new digest started ways → sets ≡ without_parents ways → GaveOrNot f old new digest b (λ c. IsChoice area b c sets h)

@@ -65,7 +65,7 @@ module _ {D S H : Type 0} (d : drain.Ghosts D) where
       subst (λ (l : List ℕ). IsFront (d.taken start) (d.taken packer.drain) l) (run_keeps [] done rest kept_none h.fits)
       (front_longer (d.taken start) (d.taken packer.drain) (written_after [] done) (written_entities (pending_after [] done ++ rest)) (front_whole (d.taken start) (d.taken packer.drain) (written_after [] done) h.added.told))
 
-  -- the same where a push stopped
+  -- the same if a push stopped
   pub begins_push : (start : D) (done : List EntitySpec) (e : EntitySpec) (packer new : Packing D S H) → HasPacked d start done packer → EntityFits e
       → ((es : List EntitySpec) → Pending packer es → IsFront (d.taken packer.drain) (d.taken new.drain) (then_written es e)) → (rest : List EntitySpec) → IsFront (d.taken start) (d.taken new.drain) (written_entities (done ++ e ∷ rest))
   begins_push start done e packer new h fits f rest =

@@ -1,4 +1,4 @@
--- What the pass that writes has packed, and what went out where it stopped.
+-- What the pass that writes has packed, and what went out if it stopped.
 use Rattle.std.proofs.Common.{◌≡◌, ◌⊎◌, ℕ, ◌≤◌, List, [], ◌∷◌, ◌++◌, append-nil, Option, Some, None, subst, inl, inr, refl, sym, ap, ap₂, ◌∙◌, arith}
 use Rattle.std.specs.List.{AllByRecursion, filter}
 use Rattle.osm_entity.specs.Entity.{EntitySpec}
@@ -97,7 +97,7 @@ pub record PackedFrames {D S H : Type 0} (d : drain.Ghosts D) (pick : Pick) (sta
   pub packed : HasPacked d start es packer
   pub counted : counts ≡ counts_of es
 
--- what went out, where frames follow that aren't packed
+-- what went out, if frames follow that aren't packed
 front_before : {D : Type 0} (d : drain.Ghosts D) (pick : Pick) (start : D) (first mid : Option Verdict) (fs all : List FrameSpec) (es : List EntitySpec) (taken : Option (List ℕ)) → Gone first fs mid → (AllByRecursion IsSound fs → es ≡ filter pick (stored_entities fs)) → (AllByRecursion IsSound fs → BeginsAll (d.taken start) es taken) → fully_known first ≡ Some (all, None)
     → IsFront (d.taken start) taken (written_entities (filter pick (stored_entities all)))
 front_before d pick start first mid fs all es taken gone are begins is =

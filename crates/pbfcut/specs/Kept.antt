@@ -15,7 +15,7 @@ use Rattle.pbf_pass.specs.Pass.{file_header}
 
 -- ---- what a file says
 
--- the verdict of all phases on a file, and then of the limit of its header: that of `judged_writable`, where the bytes are known
+-- the verdict of all phases on a file, and then of the limit of its header: that of `judged_writable`, if the bytes are known
 abbrev pub verdict_on : List ℕ → Verdict
 verdict_on file = limited (fully (judged false 0 file))
 

@@ -28,7 +28,7 @@ as_change number Write = Write
 as_change number Memory = Memory
 as_change number (Changed pass) = Changed pass
 
--- where the bytes of the first feed are known, those of the other have their digest
+-- if the bytes of the first feed are known, those of the other have their digest
 abbrev pub SameDigest : Option (List ℕ) → Option (List ℕ) → Type 0
 SameDigest first other = (b c : List ℕ) → first ≡ Some b → other ≡ Some c → sha256 b ≡ sha256 c
 

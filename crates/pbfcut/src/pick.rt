@@ -29,12 +29,12 @@ use std::hash::BuildHasher;
 /// Which entities are written, for many of them one after another: the look-ups of ids that lie close together are cheap.
 #[derive(Drop)]
 pub(crate) struct Picker<'a> {
-    /// What was chosen; all of them where nothing was.
+    /// What was chosen; all of them if nothing was.
     chooser: Option<Chooser<'a>>,
 }
 
 impl<'a> Picker<'a> {
-    /// Those that were chosen, or all where nothing was.
+    /// Those that were chosen, or all if nothing was.
     #[tactic(auto, unfolding(crate::specs::Pick::pick_of, crate::specs::Pick::picks_of))]
     fn of(chosen: Option<&'a Chosen>) -> Picker<'a>
         ensures { picks_of result ≡ pick_of chosen.entry }

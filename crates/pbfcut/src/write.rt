@@ -125,7 +125,7 @@ impl<D: Drain, S: BuildHasher> Visit for Writer<'_, D, S> {
 pub(crate) struct Writing<'a> {
     /// The header.
     pub(crate) header: &'a Header,
-    /// Which of the entities; all of them where nothing was chosen.
+    /// Which of the entities; all of them if nothing was chosen.
     pub(crate) chosen: Option<&'a Chosen>,
 }
 
@@ -167,7 +167,7 @@ fn pack_file<'a, F: Feed, D: Drain, S: BuildHasher>(
 }
 
 /// Writes a header and what is picked of a whole file, in a pass of this number, after the one that judged it. What was written has a
-/// meaning where the digest is that of the bytes which were judged.
+/// meaning if the digest is that of the bytes which were judged.
 pub(crate) fn write<F: Feed, D: Drain, S: BuildHasher + Drop>(
     alloc: Global,
     feed: &mut F,
