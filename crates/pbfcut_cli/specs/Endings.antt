@@ -59,7 +59,7 @@ abbrev pub place_text : Place → List ℕ
 place_text (place.Byte offset) = codes "refused at " ++ decimal offset
 place_text (place.InPayload frame byte) = codes "refused in the blob at " ++ decimal frame ++ codes ", byte " ++ decimal byte ++ codes " of its payload"
 
--- as `: Checksum`, where the zlib data has a fault
+-- as `: Checksum`, if the zlib data has a fault
 abbrev pub detail_text : Option UnpackReason → List ℕ
 detail_text (Some reason) = codes ": " ++ reason_name reason
 detail_text None = codes ""
