@@ -44,7 +44,7 @@ pub(crate) struct Report {
     pub(crate) counts: Counts,
     /// The digest of IN.
     pub(crate) input: [u8; 32],
-    /// The digest of IN unpacked, where it is.
+    /// The digest of IN unpacked, if it is.
     pub(crate) raw: Option<[u8; 32]>,
 }
 
