@@ -1,4 +1,4 @@
-//! What no clause of `check` says: how it ends where a read fails, and the counts of a file of every kind. `pbf_vectors` makes it of
+//! What no clause of `check` says: how it ends if a read fails, and the counts of a file of every kind. `pbf_vectors` makes it of
 //! each case of the suite.
 
 use crate::blobs::{HEADER_ALONE, THREE_DENSE_NODES};
@@ -16,7 +16,7 @@ pub(crate) fn counts(nodes: u64, ways: u64, relations: u64) -> Result<Counts, St
     })
 }
 
-/// How `check` ends over the input in pieces of these lengths, where this read fails.
+/// How `check` ends over the input in pieces of these lengths, if this read fails.
 fn ends(
     alloc: Global,
     input: &[u8],

@@ -1,4 +1,4 @@
-//! What no clause of `convert` says: how it ends where the second pass finds a fault in a payload, which isn't judged again.
+//! What no clause of `convert` says: how it ends if the second pass finds a fault in a payload, which isn't judged again.
 
 use crate::blobs::HEADER_ALONE;
 use crate::check::counts;
@@ -29,7 +29,7 @@ fn file(alloc: Global, frame: &[u8], last: u8) -> Result<Vec<u8>, AllocError> {
     Ok(bytes)
 }
 
-/// Whether a conversion ends so, where the file's last byte is the first of these in pass 1 and the second in pass 2.
+/// Whether a conversion ends so, if the file's last byte is the first of these in pass 1 and the second in pass 2.
 fn ends_so(
     alloc: Global,
     frame: &[u8],

@@ -145,7 +145,7 @@ fn a_drain_that_fails_after_each_byte(rt: HostRuntime) -> Result<(), Fail> {
     Ok(())
 }
 
-/// How `show` ends where these reads of the passes fail, and whether a prefix of the three lines was written: none, if nothing may be.
+/// How `show` ends if these reads of the passes fail, and whether a prefix of the three lines was written: none, if nothing may be.
 fn ends_where_reads_fail(
     alloc: Global,
     lengths: &[usize],
