@@ -227,7 +227,7 @@ fn count_of_zeros(alloc: Global, length: usize) -> Result<usize, AllocError> {
     Ok(count_ends(&zeros))
 }
 
-/// How many bytes are below 128, where 64 are not and one more is.
+/// How many bytes are below 128, if 64 are not and one more is.
 fn count_of_last(alloc: Global) -> Result<usize, AllocError> {
     let mut last = vec![in alloc; 0x80u8; 64]?;
     last.push(0)?;
@@ -400,7 +400,7 @@ fn values_of_delta_columns(rt: HostRuntime) {
     );
 }
 
-/// Only at the start of a column of `sint64`, below the limit 2^62, and where each number takes at most five bytes.
+/// Only at the start of a column of `sint64`, below the limit 2^62, and if each number takes at most five bytes.
 #[test]
 fn values_counted_without_decoding(rt: HostRuntime) {
     let ids = Column::new(&TWO_OCCURRENCES, 44, 1);
