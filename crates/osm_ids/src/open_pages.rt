@@ -68,7 +68,7 @@ impl OpenPages {
         &self.ids
     }
 
-    /// The same ids, handed over as they lie: no memory is taken.
+    /// The same ids, as they are: it does not allocate.
     pub(crate) fn seal(self) -> SealedIds
         ensures { result ≡ self }
     {
