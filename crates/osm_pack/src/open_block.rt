@@ -187,7 +187,7 @@ impl<S: BuildHasher> OpenBlock<S> {
         Ok(table)
     }
 
-    /// Drops the texts, and then adds the message of the nodes to the group. The texts go first, so that no more than two
+    /// Removes the texts, and then adds the message of the nodes to the group. The texts go first, so that no more than two
     /// copies of them are held at a time. The table, the columns and the message are held beside each other (`made`), and then
     /// the table, the message and the group (`room`). After an `Err` the block is unspecified.
     fn end_group(&mut self, alloc: Global) -> Result<(), AllocError>

@@ -87,7 +87,7 @@ impl<D: Drain, S: BuildHasher> Packer<D, S> {
         self.stop
     }
 
-    /// Writes the header of the file, in the form that [`Header::write`] gives it. It comes first and once. The caller sees that
+    /// Writes the header of the file, in the form that [`Header::write`] gives it. It comes first and once. The caller must prove that
     /// its source and its base URL have at most 12,000,000 bytes together.
     ///
     /// After a stop a prefix of its frame went out, and the packer is spent: it returns the same stop again, and touches no
@@ -96,7 +96,7 @@ impl<D: Drain, S: BuildHasher> Packer<D, S> {
         requires once { has_header self.old ≡ false }
         requires kept { text_weight (header_of header.now).source + text_weight
             (header_of header.now).url ≤ MOST_HEADER_TEXT }
-        // A header was put.
+        // A header was put, or was to be put.
         ensures begun { has_header self.new ≡ true }
         // The drain took the header's frame, by what it reports and by each log.
         ensures written { IsPacking self.old
@@ -137,7 +137,7 @@ impl<D: Drain, S: BuildHasher> Packer<D, S> {
     }
 
     /// Adds an entity after the others: to those that wait, or, if their block has no room for it, they are written and it
-    /// waits by itself. The caller sees that the entity fits, and that a header was put.
+    /// waits by itself. The caller must prove that the entity fits, and that a header was put.
     ///
     /// After a stop nothing went out, or a prefix of the block that was to be written, and the packer is spent.
     #[tactic(auto, using(crate::proofs::OpenLemmas::exact))]
@@ -210,7 +210,7 @@ impl<D: Drain, S: BuildHasher> Packer<D, S> {
         outcome
     }
 
-    /// Writes the entities that wait, if there are any. The caller sees that a header was put.
+    /// Writes the entities that wait, if there are any. The caller must prove that a header was put.
     ///
     /// After a stop a prefix of their block went out, and the packer is spent.
     pub fn finish(&mut self) -> Result<(), Stop>
@@ -267,7 +267,7 @@ impl<D: Drain, S: BuildHasher> Packer<D, S> {
         let _block = &self.block;
     }
 
-    /// Gives the drain back. Entities that wait are not written: this is for use after [`Packer::finish`], or after a stop.
+    /// Returns the drain. Entities that wait are not written: this is for use after [`Packer::finish`], or after a stop.
     pub fn into_drain(self) -> D
     where
         S: Drop,
