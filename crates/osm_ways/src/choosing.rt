@@ -158,7 +158,7 @@ impl ChosenParents {
         &self.chosen
     }
 
-    /// The same, handed over.
+    /// The same, by value.
     pub fn into_chosen(self) -> Chosen
         ensures { result ≡ self }
     {

@@ -64,7 +64,7 @@ impl FirstPhase {
         }
     }
 
-    /// Adds the id of a node that is in the box or on one of its edges. Ways that were taken before it are forgotten.
+    /// Adds the id of a node that is in the box or on one of its edges. Ways that were taken before it are dropped.
     ///
     /// # Errors
     ///
@@ -92,7 +92,7 @@ impl FirstPhase {
         Ok(())
     }
 
-    /// A node comes: the ways that were taken before it are forgotten.
+    /// A node comes: the ways that were taken before it are dropped.
     fn begin_node(&mut self)
         ensures { self.new ≡ before_node self.old }
     {

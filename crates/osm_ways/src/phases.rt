@@ -189,7 +189,7 @@ pub struct SeenWay<'a> {
 }
 
 impl<'a> SeenWay<'a> {
-    /// That of a way: only its id and its refs.
+    /// What the selection sees of a way: its id and its refs.
     pub fn of(way: &WayRef<'a>) -> SeenWay<'a>
         ensures { seen_refs result ≡ seen_way (way_of way.now) }
     {
