@@ -145,8 +145,8 @@ impl<'a> Block<'a> {
         self.opened.runs_among(kinds)
     }
 
-    /// How many entities there are. None is made, and of dense nodes the ids are counted by the bytes that end them. Takes no
-    /// memory.
+    /// How many entities there are. None is made, and of dense nodes the ids are counted by the bytes that end them. Does not
+    /// allocate.
     pub fn counts(&self) -> Counts
         ensures { result ≡ counts_of (entities self.now.at self.now.payload.now) }
     {

@@ -134,7 +134,7 @@ impl EntityOut {
     }
 
     /// Appends a way to a group, and adds its texts to the table: the keys and values of its tags in turn, then its user. The
-    /// caller sees that the way fits, and that the table has room for its texts, repeats counted. The clause on the group
+    /// caller must prove that the way fits, and that the table has room for its texts, repeats counted. The clause on the group
     /// also says that the way is written as it would be with a table that more texts are added to later. Then nothing of the
     /// way stays in the writer. After an `Err` group, table and writer are unspecified.
     pub fn put_way<S: BuildHasher>(
