@@ -72,7 +72,7 @@ impl DenseOut {
     }
 
     /// Adds a node after the others, and its texts to the table: the keys and values of its tags in turn, then its user. The
-    /// caller sees that the node fits, that the table has room for its texts, repeats counted, and, for a message that can be
+    /// caller must prove that the node fits, that the table has room for its texts, repeats counted, and, for a message that can be
     /// read, that all nodes have the same fields of metadata. After an `Err` nodes and table are unspecified.
     pub fn push<S: BuildHasher>(
         &mut self,

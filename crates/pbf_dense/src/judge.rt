@@ -95,7 +95,7 @@ impl<'a> Dense<'a> {
         Dense::over(Message { bytes: message, at }, table, scale)
     }
 
-    /// Judges a dense message by all phases, and gives its nodes. The error is the first fault by phase, and in it the least.
+    /// Judges a dense message by all phases, and returns its nodes. The error is the first fault by phase, and in it the least.
     #[tactic(auto, using(crate::proofs::Phases::sound_at), unfolding(crate::specs::Judged::dense_fault))]
     pub fn read(
         message: &'a [u8],

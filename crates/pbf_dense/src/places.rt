@@ -11,8 +11,8 @@ pub struct Place {
     pub lon: i128,
 }
 
-/// The places of the nodes of a dense message that are still to come: an iterator over three of its columns, which takes no
-/// memory. Tags and metadata aren't read.
+/// The places of the nodes of a dense message that are still to come: an iterator over three of its columns, which does not
+/// allocate. Tags and metadata aren't read.
 #[derive(Clone, Copy)]
 pub struct Places<'a> {
     pub(crate) ids: Sums<'a>,
