@@ -107,7 +107,7 @@ frames_then_rest h p (f ∷ fs) rest are =
     ∙ judged_some h p (frame_bytes f ++ (joined_frames fs ++ rest)) f (joined_frames fs ++ rest) (frame_is_next h p f (joined_frames fs ++ rest) are.0)
     ∙ ap (with_first f) (frames_then_rest (h || is_header (frame_kind f)) (frame_end f) fs rest are.1)
 
--- all but that no list is longer
+-- everything except that no list is longer
 pub record IsFrontOf (h : Bool) (p : ℕ) (bytes : List ℕ) (verdict : Verdict) : Type 0 where
   pub rest : List ℕ
   pub split : bytes ≡ joined_frames verdict.0 ++ rest

@@ -40,7 +40,7 @@ frame_put k payload header blob e1 e2 e3 is_blob is_header p1 p2 p3 =
     let front : e2 ≡ big_bytes 4 (length (written_header k (length (written_blob payload)))) ++ written_header k (length (written_blob payload)) = p2 ∙ ap (λ l. l ++ header) p1 ∙ ap (λ (l : List ℕ). big_bytes 4 (length l) ++ l) header_is in
     ap (λ l. l ++ payload) p3 ∙ append_assoc e2 blob payload ∙ ap (λ l. e2 ++ l) is_blob ∙ ap (λ l. l ++ written_blob payload) front
 
--- ---- a beginning
+-- ---- a prefix
 
 -- what went out of the first part is a prefix of the whole
 pub front_first : (old new : Option (List ℕ)) (first second whole : List ℕ) → first ++ second ≡ whole → IsFront old new first → IsFront old new whole
@@ -49,7 +49,7 @@ front_first old new first second whole is front = record {
   taken = front.taken ∙ ap (append old) (sym (take_min front.count first) ∙ sym (take-append-le (min front.count (length first)) first second (omega arith)) ∙ ap (take (min front.count (length first))) is);
 }
 
--- the first part went out, and of the second a beginning
+-- the first part went out, and of the second a prefix
 pub front_second : (old mid new : Option (List ℕ)) (first second whole : List ℕ) → first ++ second ≡ whole → mid ≡ append old first → IsFront mid new second → IsFront old new whole
 front_second old mid new first second whole is went front = record {
   count = length first + front.count;

@@ -31,7 +31,7 @@ fn refused(offset: u64, reason: Reason) -> Stop
     Stop::Refused(Fault { offset, reason })
 }
 
-/// Makes the vector the next bytes of the feed, this many, or fewer only at the end of the feed. `Read` says that a read failed, and
+/// Fills the vector with the next bytes of the feed: this many, or fewer only at its end. `Read` says that a read failed, and
 /// `Memory` that the vector could not grow.
 pub fn fill_vec<F: Feed>(feed: &mut F, buf: &mut Vec<u8>, count: usize) -> Result<(), Stop>
     ensures reads { OnOk result

@@ -78,7 +78,7 @@ fn put_blob_head(room: &mut [u8], payload: usize) -> usize
     put_varint(room, end, payload as u64)
 }
 
-/// Puts all of a frame but its payload, of which this is the length, at the start of the room, and returns how many bytes that is.
+/// Puts all of a frame but its payload, which has this length, at the start of the room, and returns how many bytes that is.
 pub fn put_head(room: &mut [u8], kind: FrameKind, payload: usize) -> usize
     requires room { length room.old ≡ HEAD_ROOM }
     requires short { payload < RAW_LIMIT }

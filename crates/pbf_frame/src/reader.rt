@@ -104,6 +104,11 @@ impl<F: Feed> FrameReader<F> {
     /// `Refused` names the least fault of the frame. After a stop the reader is spent: it returns the same stop again and
     /// touches no device. `None` stays `None`.
     pub fn next(&mut self) -> Result<Option<Frame<'_>>, Stop>
+        // The next frame of what the feed still supplies, which has no fault, and exactly its bytes are gone, however the feed cuts them; or
+        // the least fault of its first faulty phase. `None` comes only at the end of an input that had its header, otherwise `NoHeader`. A
+        // refusal holds of whatever begins with the bytes that were read (or of them, if the feed was at its end), whether the feed reports
+        // its bytes or not. `Read` comes only if its count of failures rose. The place rises with each frame. A reader at its end, and a
+        // spent one, stay so, and return the same again without touching the feed.
         ensures* after { sem 𝓛 (follows_so (the_row F.row) (the_row F.row)
             self.entry.ghost_name none (λ _ _. ⊤)
             (λ new. IsLendingNext F.remaining F.failures F.lender F.has_passed
