@@ -94,8 +94,8 @@ fn put_text(out: &mut Vec<u8>, number: u64, text: &Option<Vec<u8>>) -> Result<()
 
 impl Header {
     /// Appends the HeaderBlock that is written for this header: with its box, source and replication fields, and with the
-    /// features and the program of what is written, whatever others the header names. After an `Err` the output has no stated
-    /// content.
+    /// features and the program of what is written, whatever others the header names. After an `Err` the output is
+    /// unspecified.
     pub fn write(&self, out: &mut Vec<u8>) -> Result<(), AllocError>
         ensures { OnOk result (out.new.items
             ≡ out.old.items ++ header_message (header_out_for_convert (header_of self.now))) }
