@@ -42,7 +42,7 @@ pub fn convert_with_receipt<F: Feed, G: Feed, D: Drain, S: BuildHasher + Drop>(
     ensures refused { IfErr result (λ h. IsRefusedBy (RefusedFirst
         (judged_writable (raw_of (F.remaining first.old))) (D.taken drain.old) (D.taken drain.new))
         h.stop) }
-    // Whatever stopped it but a change, if both feeds mean this raw file a prefix of its conversion went out.
+    // Whatever stopped it, except `Changed`, if both feeds mean this raw file, a prefix of its conversion went out.
     ensures beginning { IfErr result (λ h. UnlessChanged ((b : List ℕ)
         → BothSupply b (raw_of (F.remaining first.old)) (raw_of (G.remaining second.old))
         → IsFront (D.taken drain.old) (D.taken drain.new) (conversion_of b)) h.stop) }

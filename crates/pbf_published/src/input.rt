@@ -98,7 +98,7 @@ pub fn first_digest(first: Option<[u8; 32]>) -> Result<[u8; 32], Stop>
     first.ok_or(Stop::Changed(1))
 }
 
-/// Another digest in a later pass is a change.
+/// A later pass with another digest is `Changed`.
 pub fn compare(digest: [u8; 32], later: Option<[u8; 32]>, pass: u8) -> Result<(), Stop>
     ensures same { OnOk result (later ≡ Some digest) }
     ensures stops { IfErr result (λ s. s ≡ stop.Changed pass) }

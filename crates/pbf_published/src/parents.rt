@@ -55,7 +55,7 @@ pub fn extract_parents_sorted_with_receipt<
     ensures refused { IfErr result (λ h. IsRefusedBy (RefusedFirst
         (judged_writable (raw_of (F.remaining first.old))) (D.taken drain.old) (D.taken drain.new))
         h.stop) }
-    // Whatever stopped it but a change, if all feeds mean this raw file a prefix of its extract went out.
+    // Whatever stopped it, except `Changed`, if all feeds mean this raw file, a prefix of its extract went out.
     ensures beginning { IfErr result (λ h. UnlessChanged ((b : List ℕ)
         → FourSupply b (raw_of (F.remaining first.old)) (raw_of (G.remaining second.old))
         (raw_of (H.remaining third.old)) (raw_of (I.remaining fourth.old))

@@ -41,7 +41,7 @@ pub fn show_with_receipt<F: Feed, G: Feed, D: Drain>(
     ensures refused { IfErr result (λ h. IsRefusedBy (RefusedFirst
         (judged_file (raw_of (F.remaining first.old))) (D.taken drain.old) (D.taken drain.new))
         h.stop) }
-    // Whatever stopped it but a change, if both feeds mean one raw file a prefix of its text went out, and nothing if it has a fault.
+    // Whatever stopped it, except `Changed`, if both feeds mean one raw file, a prefix of its text went out, and nothing if it has a fault.
     ensures beginning { IfErr result (λ h. UnlessChanged
         (raw_of (F.remaining first.old) ≡ raw_of (G.remaining second.old)
         → ShowsFront dates (judged_file (raw_of (F.remaining first.old)))
