@@ -15,7 +15,7 @@ use Rattle.pbf_unpack.specs.declared.fault.UnpackReason.TheVariants.{Inflate, Ra
 abbrev pub lacks : ℕ → List Occurrence → Bool
 lacks number os = is_none (last_of number os)
 
--- there is no data but that under zlib_data
+-- there is no data except under zlib_data
 abbrev pub lacks_others : List Occurrence → Bool
 lacks_others os = lacks RAW os && lacks LZMA_DATA os && lacks BZIP2_DATA os && lacks LZ4_DATA os && lacks ZSTD_DATA os
 

@@ -44,7 +44,7 @@ pub record GoesOn {F : Type 0} (remaining : F → Option (List ℕ)) (has_passed
   pub remaining_same : remaining_in remaining old ≡ remaining_in remaining new
   pub supplied_same : (log : ℕ) (bytes : List ℕ) → HasSupplied has_passed old log bytes → HasSupplied has_passed new log bytes
 
--- bytes are at hand, or the end was reached
+-- there are bytes in the buffers, or the end was reached
 abbrev pub IsReady : State → List ℕ → Type 0
 IsReady Reading left = 0 < length left
 IsReady PassingOn left = Unit {0}

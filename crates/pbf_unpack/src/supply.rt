@@ -109,7 +109,7 @@ impl<F: Feed> UnpackedFeed<F> {
         Ok(())
     }
 
-    /// Sees that bytes are at hand if there are any.
+    /// Makes sure that there are bytes in the buffers, if there are any left.
     fn make_ready(&mut self) -> Result<(), Stop>
         ensures goes_on { OnOk result (GoesOn F.remaining F.has_passed self.old self.new) }
         ensures ready { OnOk result (IsReady self.new.state (left_in self.new)) }
