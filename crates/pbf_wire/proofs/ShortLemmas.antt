@@ -163,7 +163,7 @@ short_few bytes window few is last here i lt =
       | inr late ↦ last_ends 5 bytes i lt late last
     ]
 
--- ---- what the numbers of such columns are, where of so many bytes from each one on ends a varint
+-- ---- what the numbers of columns are in which a varint ends within so many bytes from each byte on
 
 abbrev EachEnds : ℕ → List ℕ → Type 0
 EachEnds most bytes = (i : ℕ) → i < length bytes → EndsWithin most bytes i

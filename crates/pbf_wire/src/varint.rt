@@ -127,7 +127,7 @@ pub fn get_varint(bytes: &[u8], at: usize) -> Result<(u64, usize), Reason>
     ensures cut { result ≡ Err Reason.VarintCut ↔ IsCut (drop at bytes.now) }
     ensures long { result ≡ Err Reason.VarintLong ↔ IsLong (drop at bytes.now) }
 
-    // The same by computing.
+    // The same as a computation.
     ensures exact { result ≡ moved_by at (varint_at (drop at bytes.now)) }
 {
     let (value, length) = first_varint(&bytes[at..])?;

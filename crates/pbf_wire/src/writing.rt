@@ -1,7 +1,7 @@
 //! Fields, written: each call appends one field in its shortest form.
 //!
-//! A message in written form is the list of its slots in ascending order of their numbers. After an `Err` the output has no
-//! stated content.
+//! A message in written form is the list of its slots in ascending order of their numbers. After an `Err` the output is
+//! unspecified.
 
 ghost use Rattle.std.specs.Prelude.{◌≡◌, ◌^◌, ◌<◌, ◌++◌, [], ◌∷◌, ℕ, List, Some, OnOk};
 ghost use Rattle.std.specs.Option.{option_map};
