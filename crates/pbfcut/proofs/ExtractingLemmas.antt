@@ -261,7 +261,7 @@ chooses_parents area first second third ways h begun relations given sets chosen
   least = subst (λ (s : KeptSets). IsLeast (set.contains relations.links) relations.start s.relation_ids) (sym handed) least;
 }
 
--- ---- if the second pass may be spared
+-- ---- if the second pass may be left out
 
 first_folded : (sets : FirstSets) (es : List EntitySpec) → fold with_first sets es ≡ fold first_step sets (map (seen_entity sets.area) es)
 first_folded sets [] = refl

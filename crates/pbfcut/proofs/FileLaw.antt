@@ -67,7 +67,7 @@ data_ordered place last low =
     let within : nat_lt (2 ^ 62) last ≡ false = grind (arith, nat_tests, low) in
     ap (λ (b : Bool). least (fault_where b place FileLong)) within
 
--- a header frame at the beginning is in order
+-- a header frame at the start is in order
 header_ordered : (last : ℕ) → last ≤ 2 ^ 62 → least (order_faults false 0 kind.Header last) ≡ None
 header_ordered last low =
     let within : nat_lt (2 ^ 62) last ≡ false = grind (arith, nat_tests, low) in

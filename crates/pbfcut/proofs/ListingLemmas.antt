@@ -41,7 +41,7 @@ texts_added d text before mid now xs x so_far more = added_same d before now _ _
 abbrev pub StoppedWithin : (FrameSpec → List ℕ) → Option Verdict → Option (List ℕ) → Option (List ℕ) → Type 0
 StoppedWithin text known old new = (new ≡ old) ⊎ ((f : FrameSpec) × (rest : Option Verdict) × (known ≡ with_first_known f rest) × IsFront old new (text f))
 
--- whatever a step that stopped wrote, a beginning of all texts went out
+-- whatever a step that stopped wrote, a prefix of all texts went out
 pub texts_front : (text : FrameSpec → List ℕ) (first mid : Option Verdict) (fs : List FrameSpec) (before now after : Option (List ℕ)) → Gone first fs mid → now ≡ append before (flat_map text fs) → StoppedWithin text mid now after
     → (all : Verdict) → first ≡ Some all → IsFront before after (flat_map text all.0)
 texts_front text first mid fs before now after gone went (inl same) all known =

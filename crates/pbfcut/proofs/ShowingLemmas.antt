@@ -66,7 +66,7 @@ module _ {V D : Type 0} (d : drain.Ghosts D) (to : V → D) (dates : V → Bool)
   shows_counts known count before now p = (has_shown before p.frames now p.visited).counts
 
   module _ (failed : Fails V) (known : Option Verdict) (read : Type 0) (before now : V) (stop : Stop) (fails : (mid : V) (f : FrameSpec) (s : Stop) → failed mid f now s → FailsToShowNext d (dates mid) (to mid) (to now) f s) (stopped : StopsVisit took failed known read before now stop) where
-    -- it stopped, and a beginning went out
+    -- it stopped, and a prefix went out
     pub front_shown : WritesFront (dates before) (fully_known known) (d.taken (to before)) (d.taken (to now))
     front_shown = of stopped where
       within : (f : FrameSpec) (rest : Option Verdict) (mid : V) → dates mid ≡ dates before → ((d.taken (to now) ≡ d.taken (to mid)) ⊎ ((payload_fault f ≡ None) × IsFront (d.taken (to mid)) (d.taken (to now)) (frame_text (dates mid) f)))
@@ -98,7 +98,7 @@ shown_told dates known file written tells shown = record {
   is = shown.is;
 }
 
--- the whole text is a beginning of itself
+-- the whole text is a prefix of itself
 pub shown_front : (dates : Bool) (known : Option Verdict) (old new : Option (List ℕ)) (written : List ℕ) → Shown dates known written → new ≡ append old written → ShowsFront dates known old new
 shown_front dates known old new written s taken all is =
     subst (λ (v : Verdict). IsFront old new (answer_text dates v)) (sym (subst (λ (k : Option Verdict). Says k (s.frames, None)) is s.says))
@@ -108,7 +108,7 @@ shown_front dates known old new written s taken all is =
 pub entities_more : (done left rest all : List EntitySpec) (e : EntitySpec) → left ≡ e ∷ rest → done ++ left ≡ all → (done ++ e ∷ []) ++ rest ≡ all
 entities_more done left rest all e is split = append_assoc done (e ∷ []) rest ∙ ap (λ (l : List EntitySpec). done ++ l) (sym is) ∙ split
 
--- a beginning of an entity's line went out, and so of all
+-- a prefix of an entity's line went out, and so of all
 pub entities_front : (dates : Bool) (done left rest all : List EntitySpec) (e : EntitySpec) (before now after : Option (List ℕ)) → left ≡ e ∷ rest → done ++ left ≡ all
     → now ≡ append before (flat_map (entity_line dates) done) → IsFront now after (entity_line dates e) → IsFront before after (flat_map (entity_line dates) all)
 entities_front dates done left rest all e before now after is split went front =

@@ -35,7 +35,7 @@ use Rattle.pbfcut.proofs.PickingLemmas.{picked_one, front_of, begins_packed, non
 
 -- ---- the whole file
 
--- the whole is a beginning of itself
+-- the whole is a prefix of itself
 pub packed_front : (pick : Pick) (h : HeaderSpec) (counts : Counts) (known : Option Verdict) (old new : Option (List ℕ)) (written : List ℕ) → Packed pick h counts known written → new ≡ append old written → PacksFront pick h known old new
 packed_front pick h counts known old new written p taken frames is = front_whole old new (written_file h (filter pick (stored_entities frames))) (taken ∙ ap (append old) (p frames is).is)
 

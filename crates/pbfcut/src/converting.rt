@@ -44,7 +44,7 @@ pub fn convert<F: Feed, G: Feed, D: Drain, S: BuildHasher + Drop>(
     ensures promise { (b : List ℕ) → BothSupply b (F.remaining first.old) (G.remaining second.old)
         → Promised D.Drain drain.old drain.new b (Converted b) result }
     // If both feeds supply these bytes: whatever stopped it, what the drain took is a prefix of their conversion in canonical form, and
-    // nothing if they have a fault; on success it is all of it, and a conversion of it is the same bytes, if it has at most 2^62.
+    // nothing if they have a fault; on success it is all of it, and a conversion of it is the same bytes, if they are at most 2^62.
     ensures canonical { (b : List ℕ) → BothSupply b (F.remaining first.old) (G.remaining second.old)
         → Canonical D.Drain drain.old drain.new conversion_of b result }
     // The bytes of both feeds have one SHA-256 digest: no files that differ, unless two different lists share a digest.

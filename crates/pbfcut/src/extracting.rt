@@ -100,7 +100,7 @@ pub fn extract<F: Feed, G: Feed, H: Feed, D: Drain, S: BuildHasher + Drop>(
         → Promised D.Drain drain.old drain.new b
         (Extracted (complete_ways area) (extract (seen_decoded area)) area b) result }
     // If all feeds supply these bytes: whatever stopped it, what the drain took is a prefix of their extract in canonical form, and nothing
-    // if they have a fault; on success it is all of the extract, and an extract of it is the same bytes, if it has at most 2^62.
+    // if they have a fault; on success it is all of the extract, and an extract of it is the same bytes, if they are at most 2^62.
     ensures canonical { (b : List ℕ)
         → AllSupply b (F.remaining first.old) (G.remaining second.old) (H.remaining third.old)
         → Canonical D.Drain drain.old drain.new (extract_of (complete_ways area) area) b result }
@@ -230,7 +230,7 @@ pub fn extract_parents<F: Feed, G: Feed, H: Feed, I: Feed, D: Drain, S: BuildHas
         → Promised D.Drain drain.old drain.new b
         (Extracted (all_parents area) (extract_with_parents (seen_decoded area)) area b) result }
     // If all feeds supply these bytes: whatever stopped it, what the drain took is a prefix of their extract in canonical form, and nothing
-    // if they have a fault; on success it is all of the extract, and an extract of it is the same bytes, if it has at most 2^62.
+    // if they have a fault; on success it is all of the extract, and an extract of it is the same bytes, if they are at most 2^62.
     ensures canonical { (b : List ℕ)
         → FourSupply b (F.remaining first.old) (G.remaining second.old) (H.remaining third.old)
         (I.remaining fourth.old)

@@ -325,7 +325,7 @@ fn pack_payload<D: Drain, S: BuildHasher>(
 }
 
 /// Packs the next frame's entities that are picked, in order, and counts these; false at the end of an input that had its header.
-/// It writes no header: the caller sees that one was put.
+/// It writes no header: the caller must prove that one was put.
 ///
 /// `Refused` names the first fault of the frame, and then nothing went out; on another stop, of a frame without a fault, a
 /// prefix of its entities may have gone out. After a stop the reader and the packer may only be dropped or taken apart, and

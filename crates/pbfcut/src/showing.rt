@@ -201,7 +201,7 @@ pub fn show<F: Feed, G: Feed, D: Drain>(
     drain: &mut D,
     dates: bool,
 ) -> Result<Counts, Stop>
-    // The first file has no fault, and the counts are those of its entities.
+    // The first feed's file has no fault, and the counts are those of its entities.
     ensures counted { IfOk result (CountsFile (judged_file (F.remaining first.old))) }
     // The drain took exactly the text of the second feed's file, which has no fault: if the feeds supply the same, that of the first.
     ensures shown { OnOk result (Took D.Drain drain.old drain.new

@@ -82,7 +82,7 @@ pub fn extract_sorted<F: Feed, G: Feed, H: Feed, D: Drain, S: BuildHasher + Drop
         → Promised D.Drain drain.old drain.new b
         (Extracted (complete_ways area) (extract (seen_decoded area)) area b) result }
     // If all feeds supply these bytes: whatever stopped it, what the drain took is a prefix of their extract in canonical form, and nothing
-    // if they have a fault; on success it is all of the extract, and an extract of it is the same bytes, if it has at most 2^62.
+    // if they have a fault; on success it is all of the extract, and an extract of it is the same bytes, if they are at most 2^62.
     ensures canonical { (b : List ℕ)
         → AllSupply b (F.remaining first.old) (G.remaining second.old) (H.remaining third.old)
         → Canonical D.Drain drain.old drain.new (extract_of (complete_ways area) area) b result }
@@ -187,7 +187,7 @@ fn choose_parents_sorted<F: Feed, G: Feed, H: Feed>(
 }
 
 /// Like [`extract_parents_with_receipt`](crate::extract_parents_with_receipt), in three passes if no node of the file comes after a
-/// way, as [`extract_sorted`] spares one.
+/// way, as [`extract_sorted`] saves one.
 pub fn extract_parents_sorted_with_receipt<
     F: Feed,
     G: Feed,
