@@ -15,7 +15,7 @@ pub struct PackedRefusal {
     pub reason: Reason,
     /// Where in the published file.
     pub place: Place,
-    /// What is wrong with the zlib data there, where `reason` is that a blob holds such data.
+    /// What is wrong with the zlib data there, if `reason` is that a blob holds such data.
     pub detail: Option<UnpackReason>,
 }
 
