@@ -98,7 +98,7 @@ fn of_start(rt: &HostRuntime, start: &[u8]) -> Option<String> {
     }
 }
 
-/// The feature at the beginning of these bytes, which are those of a header's field: its tag, its length and its text.
+/// The feature at the start of these bytes, which are those of a header's field: its tag, its length and its text.
 fn feature_of(bytes: &[u8]) -> Option<&str> {
     let (_tag, rest) = bytes.split_first()?;
     let (length, rest) = rest.split_first()?;
