@@ -183,7 +183,7 @@ fn a_drain_that_fails_after_each_byte(rt: HostRuntime) -> Result<(), Fail> {
     Ok(())
 }
 
-/// How the list of the three nodes ends if this read fails, and whether a beginning of it was written.
+/// How the list of the three nodes ends if this read fails, and whether a prefix of it was written.
 fn ends_where_read_fails(
     alloc: Global,
     call: u64,

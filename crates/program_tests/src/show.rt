@@ -61,7 +61,7 @@ fn shows(
     Ok(())
 }
 
-/// The same of what stands after a header.
+/// The same of what comes after a header.
 fn behind_header(
     rt: &(impl Abort + AllocGlobal),
     rest: &[u8],
