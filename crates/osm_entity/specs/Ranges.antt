@@ -65,7 +65,7 @@ EntityFits (node n) = NodeFits n
 EntityFits (way w) = WayFits w
 EntityFits (relation r) = RelationFits r
 
--- ---- the types of the format, which numbers in the code have of themselves
+-- ---- the types of the format, which numbers in the code have anyway
 
 abbrev pub IsInt32 : ℤ → Type 0
 IsInt32 number = (neg_ℤ (pos (2 ^ 31)) ≤ℤ number) × (number <ℤ pos (2 ^ 31))

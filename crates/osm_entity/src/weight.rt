@@ -18,7 +18,7 @@ pub const HIGHEST_WEIGHT: u64 = 12_000_000;
 /// The limit of stored numbers: they are strictly between it and its negative.
 pub const STORED_LIMIT: i64 = 1 << 62;
 
-/// The limit of uids, alike.
+/// The limit of uids, likewise.
 pub const UID_LIMIT: i64 = 1 << 30;
 
 /// A weight that is within its limit.
