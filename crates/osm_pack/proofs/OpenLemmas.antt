@@ -29,7 +29,7 @@ use Rattle.osm_pack.proofs.CutLemmas.{like_first, joins, both, kept_parts, kept_
 use Rattle.osm_entity.specs.declared.weight.TheConstants.{HIGHEST_WEIGHT}
 use Rattle.pbf_block.specs.declared.block_write.TheConstants.{MOST_ENTITIES}
 
--- ---- what entities have alike
+-- ---- what entities have in common
 
 pub alike_likeness : (e f : EntitySpec) → same_likeness (likeness_of e) (likeness_of f) ≡ are_alike e f
 alike_likeness (node m) (node n) = refl

@@ -1,4 +1,4 @@
--- What all entities of a block have alike.
+-- What all entities of a block have in common.
 use Rattle.std.specs.Prelude.{Bool, true, false, ◌&&◌, Option, Some, None}
 use Rattle.std.specs.Option.{is_some}
 use Rattle.osm_entity.specs.declared.member.MemberKind.{MemberKind}

@@ -1,4 +1,4 @@
-//! What all entities of a block have alike.
+//! What all entities of a block have in common.
 
 ghost use Rattle.std.specs.Prelude.{◌≡◌, ◌&&◌};
 ghost use Rattle.std.specs.Ordering.{int_eq};
