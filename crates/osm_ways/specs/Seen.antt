@@ -31,7 +31,7 @@ seen_member member = member_of_kind member.kind member.id
 abbrev pub seen_relation : RelationSpec → Seen
 seen_relation r = a_relation r.id (map seen_member r.members)
 
--- what is seen of an entity; its scale is worked in, since a box speaks of degrees
+-- what is seen of an entity; its scale is applied, since a box is in degrees
 abbrev pub seen_decoded : BoundingBox → Decoded → Seen
 seen_decoded area (node_at id lat lon meta tags) = a_node id (is_inside area lat lon)
 seen_decoded area (way_through id meta tags refs locations) = a_way id refs
