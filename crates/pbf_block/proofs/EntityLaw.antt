@@ -1,4 +1,4 @@
--- What ways and relations have alike as they are written: an id, tags and an Info, before the columns of their own.
+-- What written ways and relations have in common: an id, tags and an Info, before the columns of their own.
 use Rattle.std.proofs.Common.{None, pos, ◌≡◌, ℕ, ◌%◌, ◌^◌, ◌<◌, ◌≤◌, ◌==◌, true, false, eqb, ℤ, List, [], ◌∷◌, ◌++◌, length, map, Option, Some, None, refl, sym, ap, ap₂, subst, ◌∙◌, arith}
 use Rattle.std.specs.List.{flat_map, last_or, AllByRecursion}
 use Rattle.std.proofs.lemmas.Bool.Decides.{nat_tests}

@@ -79,7 +79,7 @@ all_roles_put start all texts roles left h is used =
 
 -- ---- entities, from their parts
 
--- the message of what ways and relations have alike
+-- the message of what ways and relations have in common
 pub begun : (middle texts user used : List (List ℕ)) (id : ℤ) (meta : MetaSpec) (tags : List TagSpec) (keys values info : List ℕ) → texts ≡ texts_after middle user
     → ((used : List (List ℕ)) → keys ≡ map (key_index (texts_after middle used)) tags) → ((used : List (List ℕ)) → values ≡ map (value_index (texts_after middle used)) tags)
     → info ≡ info_message (texts_after texts used) meta

@@ -1,4 +1,4 @@
--- What a Node, a Way and a Relation have alike: faults phase by phase, and what is read.
+-- What a Node, a Way and a Relation have in common: faults phase by phase, and what is read.
 use Rattle.std.specs.Prelude.{◌≡◌, ℕ, ℤ, ◌==◌, false, not, List, [], ◌++◌, map}
 use Rattle.std.specs.List.{flat_map, list_any}
 use Rattle.pbf_wire.specs.declared.fault.Fault.{Fault}

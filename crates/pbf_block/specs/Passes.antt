@@ -17,12 +17,12 @@ only k os = filter (λ o. o.number == k) os
 abbrev pub only_left : ℕ → Fields → List Occurrence
 only_left k fields = only k (found (fields_left fields))
 
--- those from where the first was found, or else of what follows
+-- those from where the first was found, otherwise those of what follows
 abbrev pub only_from : ℕ → Option Fields → List Occurrence → List Occurrence
 only_from k None os = only k os
 only_from k (Some fields) os = only_left k fields
 
--- each of the numbers that a kind of entity has of its own is above the one before, and all are above those that entities have alike
+-- each of the numbers that a kind of entity has of its own is above the one before, and all are above those that all entities have
 abbrev pub AreApart : ℕ × ℕ × ℕ → Type 0
 AreApart own = (INFO < own.0) × (own.0 < own.1) × (own.1 < own.2)
 

@@ -17,7 +17,7 @@ use Rattle.pbf_block.specs.declared.entity.TheConstants.{ID, KEYS, VALS, INFO}
 use Rattle.pbf_block.specs.declared.way.TheConstants.{REFS, WAY_LAT, WAY_LON}
 use Rattle.pbf_block.specs.declared.relation.TheConstants.{ROLES_SID, MEMIDS, TYPES}
 
--- ---- what ways and relations have alike
+-- ---- what ways and relations have in common
 
 abbrev pub key_index : List (List ℕ) → TagSpec → ℕ
 key_index texts tag = index_in texts tag.0

@@ -31,7 +31,7 @@ use pbf_wire::{Fault, Field, Message, ReadFault, last_field};
 use std::alloc::{AllocError, Global};
 use std::marker::Model;
 
-/// The first fault of the phases that need no table: of the wire form, or else of structure.
+/// The first fault of the phases that need no table: of the wire form, otherwise of structure.
 fn early_fault(payload: Message<'_>) -> Option<Fault>
     ensures { result
         ≡ option_or (least (wire_faults payload.entry.at payload.entry.bytes.now))

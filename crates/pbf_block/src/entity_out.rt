@@ -91,7 +91,7 @@ impl EntityOut {
             .saturating_add(self.message.len() as u64)
     }
 
-    /// Begins a message with the fields that ways and relations have alike.
+    /// Begins a message with the fields that ways and relations have in common.
     fn begin<S: BuildHasher>(
         &mut self,
         id: i64,
@@ -164,7 +164,7 @@ impl EntityOut {
     }
 
     /// Appends a relation to a group, and adds its texts to the table: the keys and values of its tags in turn, then its user,
-    /// then the roles of its members. All else is as for [`EntityOut::put_way`].
+    /// then the roles of its members. The rest is as for [`EntityOut::put_way`].
     pub fn put_relation<S: BuildHasher>(
         &mut self,
         group: &mut Vec<u8>,
