@@ -40,7 +40,7 @@ odd_way =
     hex "4a 02 0a 0b  40 c8 01  08 f7 ff ff ff ff ff ff ff ff 01  42 02 02 05  52 01 10"
     ++ hex "22 04 30 00 20 07" ++ hex "12 01 01  48 04  1a 01 02  52 02 01 01"
 
--- a Relation, alike
+-- a Relation, likewise
 abbrev pub odd_relation : List ℕ
 odd_relation =
     hex "52 06 02 81 80 80 80 10  42 01 03  08 0c  4a 02 3c 31  50 00"
