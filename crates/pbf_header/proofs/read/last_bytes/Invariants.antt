@@ -7,7 +7,7 @@ use Rattle.pbf_wire.specs.Reading.{each}
 use Rattle.pbf_header.specs.Header.{last_text}
 use Rattle.pbf_header.proofs.read.last_bytes.Given as goal
 
--- the last of the texts that are left, or else the last so far
+-- the last of the texts that are left, otherwise the last so far
 abbrev pub invariant-loop-field : goal.invariant-loop-field
 invariant-loop-field l = record {
   can : (goal.iterator-loop-field).can_next l.field-iterator;
