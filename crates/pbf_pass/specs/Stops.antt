@@ -41,7 +41,7 @@ Only first e = first ≡ Some e
 
 -- ---- what it leaves of a device
 
--- its failures are counted on, and it goes through the same references
+-- its count of failures doesn't fall, and it keeps its references
 pub record KeepsFeed {F : Type 0} (f : feed.Ghosts F) (old new : F) : Type 0 where
   pub counts : f.failures old ≤ f.failures new
   pub lender : f.lender new ≡ f.lender old
