@@ -63,7 +63,7 @@ module _ {F U : Type 0} (f : feed.Ghosts F) (u : feed.Ghosts U) (first last : F)
 pub means_some : (o : Option (List ℕ)) (digest raw : List ℕ) → o ≡ Some digest → MeansIfSome o raw → Means digest raw
 means_some o digest raw is means = subst (λ (x : Option (List ℕ)). MeansIfSome x raw) is means
 
--- and what passed below the feed that was closed, which goes through a reference to the one that is spoken of
+-- and what passed below the feed that was closed, which goes through a reference to the feed in question
 pub passed_below : {R F : Type 0} (below : R → ℕ → List ℕ → Type 0) (r : R) (has_passed : F → ℕ → List ℕ → Type 0) (last : F) (o : Option (List ℕ)) (digest : List ℕ) (log : ℕ) (raw : List ℕ) → o ≡ Some digest
     → ((packed : List ℕ) → below r log packed → has_passed last log packed) → PassedIfSome below r o log raw → PassedAs has_passed last log raw
 passed_below below r has_passed last o digest log raw is same passed =
