@@ -30,7 +30,7 @@ table_kinds = (1, kind.Bytes) ∷ []
 abbrev pub count_fault : ℕ → List ℕ → Option Fault
 count_fault place message = if nat_lt 1048576 (length (texts message)) then Some (record { offset = place; reason = TooManyStrings }) else None
 
--- the first wire fault, or else the count
+-- the first wire fault, otherwise that of the count
 abbrev pub table_fault : ℕ → ℕ → List ℕ → Option Fault
 table_fault at place message = option_or (wire table_kinds (items at message)) (count_fault place message)
 
