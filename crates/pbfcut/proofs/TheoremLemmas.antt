@@ -37,7 +37,7 @@ took_of_four f g h i d first first_new second second_new third third_new fourth 
 pub same_digest : (first other : Option (List ℕ)) (digest : List ℕ) → IsDigest first digest → IsDigest other digest → SameDigest first other
 same_digest first other digest one two b c is too = sym (one b is) ∙ two c too
 
--- ---- if a feed may not have been read
+-- ---- a feed that may not have been read
 
 module _ {G : Type 0} (f : feed.Ghosts G) (old new : G) (digest : List ℕ) where
   -- what follows of the file that a later feed gave follows of the earlier one too, if the later feed was not read

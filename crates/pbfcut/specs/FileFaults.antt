@@ -19,7 +19,7 @@ payload_phases unknown = []
 abbrev pub frame_faults : Bool → FrameSpec → List (ℕ × Fault)
 frame_faults had_header f = in_phases 1 (frame_phases had_header f ++ payload_phases (payload_of f))
 
--- a file that ends without its header lacks it if a frame would begin
+-- a file that ends without its header lacks it at the place of the next frame
 abbrev pub end_faults : Bool → ℕ → List (ℕ × Fault)
 end_faults had_header place = in_phase 1 (fault_where (not had_header) place NoHeader)
 

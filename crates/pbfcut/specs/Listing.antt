@@ -31,7 +31,7 @@ pub record ListsToFault {D : Type 0} (d : drain.Ghosts D) (old new : D) (known :
 
 -- ---- one frame of it
 
--- the line of a frame went out, and failures are counted on
+-- the line of a frame went out, and the count of failures doesn't fall
 pub record ListsNext {D : Type 0} (d : drain.Ghosts D) (old new : D) (f : FrameSpec) : Type 0 where
   pub added : Added d old (line f) new
   pub counts : d.failures old ≤ d.failures new

@@ -80,7 +80,7 @@ ShowsFrame d dates old new f = ShowsText d (payload_fault f) (frame_text dates f
 abbrev pub FailsToShow : {D : Type 0} → drain.Ghosts D → Bool → D → D → FrameSpec → Stop → Type 0
 FailsToShow d dates old new f stop = StopsShowing d (payload_fault f) (frame_text dates f) old new stop
 
--- what a visitor does that shows, and its failures are counted on
+-- what a visitor does that shows, and the count of failures doesn't fall
 pub record ShowsNext {D : Type 0} (d : drain.Ghosts D) (dates : Bool) (old new : D) (f : FrameSpec) : Type 0 where
   pub shows : ShowsFrame d dates old new f
   pub counts : d.failures old ≤ d.failures new
