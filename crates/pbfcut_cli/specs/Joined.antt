@@ -1,4 +1,4 @@
--- The words as `clap` is to see them: `--box` and a box that begins with `-` are one word, and `help` is an option.
+-- The words as `clap` gets them: `--box` and a box that begins with `-` are one word, and `help` is an option.
 use Rattle.std.specs.Prelude.{ℕ, Bool, false, List, [], ◌∷◌, ◌++◌, codes, nat_eq, nat_le, ◌&&◌, ◌||◌, if◌then◌else◌}
 use Rattle.std.specs.Str.{bytes_eq}
 use Rattle.clap.specs.Words.{Text}

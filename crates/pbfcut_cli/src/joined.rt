@@ -1,4 +1,4 @@
-//! The words as `clap` is to see them: the box as a word of its own, `--box -0.5,51.25,0.3,51.7`, and `help` as a command.
+//! The words as `clap` gets them: the box as a word of its own, `--box -0.5,51.25,0.3,51.7`, and `help` as a command.
 
 ghost use Rattle.std.specs.Prelude.{◌≡◌, ◌≤◌, ◌∷◌, IfOk, length, map, string_bytes};
 ghost use Rattle.pbfcut_cli.specs.Joined.{begins_below_zero, begins_number, begins_with_box, box_joined, names_box, normalized};
@@ -43,7 +43,7 @@ fn begins_with_box(first: &str, after: &[String]) -> bool
     names_box(first) && begins_below_zero(edges.as_str())
 }
 
-/// The first of the words as `clap` is to see it, and the words after it.
+/// The first of the words as `clap` gets it, and the words after it.
 fn join_first<'a>(
     alloc: Global,
     first: &str,
