@@ -60,7 +60,7 @@ struct Run {
     end: Option<Stop>,
 }
 
-/// Reads to the end, and once more, which has to end alike. Want of memory is an error of its own.
+/// Reads to the end, and once more, which has to end in the same way. Want of memory is an error of its own.
 fn read_all<F: Feed + Drop>(alloc: Global, feed: F) -> Result<Run, Stop> {
     let mut reader = FrameReader::new(alloc, feed);
     let mut frames = Vec::new(alloc);
