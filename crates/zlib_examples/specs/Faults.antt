@@ -27,7 +27,7 @@ pub record Faults : Type 0 where
   pub of_no_code : inflated 9 (header ++ 0x05 ∷ 0x00 ∷ 0x00 ∷ 0x00 ∷ []) ≡ Err Lengths
   -- the word of the symbol 286, which means nothing
   pub of_symbol : inflated 9 (header ++ 0x1b ∷ 0x03 ∷ []) ≡ Err Symbol
-  -- a length of 3 and a distance of 1 if nothing was written
+  -- a length of 3 and a distance of 1 when nothing was written
   pub of_distance : inflated 9 (header ++ 0x03 ∷ 0x02 ∷ 0x00 ∷ []) ≡ Err Distance
   -- two bytes with room for one
   pub of_limit : inflated 1 stored_ab ≡ Err Long
