@@ -61,6 +61,8 @@ COMMENT_PHRASES = {
     r"\bc[ao]mes? late\b": "out of order",
     r"\b(exactly|only|also|none|or the greatest number) where (?!in the file|the next)": "if",
     r"\banew\b": "again",
+    r"\bor else\b|\b[Aa]ll else\b": "otherwise, the rest",
+    r"\bhave alike\b": "have in common",
 }
 
 
