@@ -52,7 +52,7 @@ impl<'a> Refs<'a> {
     ghost use Rattle.std.specs.List.{AllByRecursion};
     ghost use Rattle.osm_entity.specs.Ranges.{IsStored};
 
-    /// How many refs are still to come, if it is soon seen that each is in its range; `None` says nothing.
+    /// How many refs are still to come, if a quick test shows that each is in its range; `None` says nothing.
     #[inline(always)]
     pub(crate) fn count_stored(&self) -> Option<usize>
         ensures counted { MatchOption result ⊤ (λ count. count ≡ length (refs_left self.now)) }
