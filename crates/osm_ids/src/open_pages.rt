@@ -50,7 +50,7 @@ impl OpenPages {
         self.ids.count() == 0 || self.last < id
     }
 
-    /// Lays an id after the others. An `Err` leaves the ids as they were.
+    /// Appends an id. An `Err` leaves the ids as they were.
     pub(crate) fn lay(&mut self, id: i64) -> Result<(), AllocError>
         requires { IsAbove self.old id }
         ensures ok { OnOk result (self.new ≡ set.insert self.old id) }
@@ -61,7 +61,7 @@ impl OpenPages {
         Ok(())
     }
 
-    /// The ids, as they lie.
+    /// The ids, as they are.
     pub(crate) fn ids(&self) -> &SealedIds
         ensures { result.now ≡ self.now }
     {

@@ -59,7 +59,7 @@ impl SealedIds {
         }
     }
 
-    /// Lays an id after the others: it begins a page if the last page is full. `last` is the greatest of the others. An
+    /// Appends an id: it begins a page if the last page is full. `last` is the greatest of the others. An
     /// `Err` leaves the ids as they were.
     pub(crate) fn lay(&mut self, last: i64, id: i64) -> Result<(), AllocError>
         requires greatest { IsGreatest self.old last }
