@@ -20,7 +20,7 @@ use pbf_header::Header;
 use std::alloc::Global;
 use std::hash::BuildHasher;
 
-/// Writes a block, which is empty then.
+/// Writes a block, and empties it.
 pub(crate) fn close_into<D: Drain, S: BuildHasher>(
     alloc: Global,
     drain: &mut D,
@@ -41,7 +41,7 @@ pub(crate) fn close_into<D: Drain, S: BuildHasher>(
     Ok(())
 }
 
-/// The work of a push of an entity of this weight.
+/// Adds an entity of this weight to the open block, which is written first if the entity may not join it.
 pub(crate) fn push_into<D: Drain, S: BuildHasher>(
     alloc: Global,
     drain: &mut D,

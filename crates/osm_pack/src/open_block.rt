@@ -74,7 +74,7 @@ impl<S: BuildHasher> OpenBlock<S> {
         }
     }
 
-    /// Takes all entities out, also of a block in which something failed.
+    /// Removes all entities, also from a block in which something failed.
     pub(crate) fn clear(&mut self, alloc: Global)
         ensures { Holds self.new [] }
     {
