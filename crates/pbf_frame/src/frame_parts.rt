@@ -177,7 +177,7 @@ fn read_header<F: Feed>(
     Ok(head)
 }
 
-// Reads past this many bytes, in pieces of the room's length.
+// Skips this many bytes, in pieces of the room's length.
 fn skip<F: Feed>(feed: &mut F, count: u32, room: &mut [u8], cut: Fault) -> Result<(), Stop>
     requires { 0 < length room.old }
     ensures skips { OnOk result

@@ -20,7 +20,7 @@ enum State {
     Stopped(Stop),
 }
 
-/// Gives the frames of the bytes that a feed supplies, one after another, however the feed cuts them.
+/// Returns the frames of the bytes that a feed supplies, one after another, however the feed cuts them.
 ///
 /// It owns two buffers, for a BlobHeader and for a Blob, and holds the bytes of one frame at a time.
 #[derive(Drop)]
