@@ -122,7 +122,7 @@ pub fn gather_again<F: Feed, G: Gather>(
     ensures gathered { IfOk result (λ digest. GaveFile F.Feed feed.old feed.new digest
         (λ file. GathersFile G.gathered (judged_file (Some file))
         gathering.old gathering.new)) }
-    // `Refused` and `Changed`, with the number of the pass, come only for a file that has a fault, and `Read` only if the feed's count of
+    // `Refused`, and `Changed` with the number of the pass, come only for a file that has a fault, and `Read` only if the feed's count of
     // failures rose; `Write` never comes.
     ensures stops { IfErr result (StopsUnjudged number (judged_file (F.remaining feed.old))
         (ReadFailed F.Feed feed.old feed.new) ⊥) }

@@ -1,4 +1,4 @@
-//! Devices that hand their bytes on to SHA-256.
+//! Devices whose bytes go to SHA-256 too.
 
 ghost use Rattle.std.specs.Prelude.{◌≡◌, ℕ, List, []};
 ghost use Rattle.sha2.specs.Sha256.{sha256};
