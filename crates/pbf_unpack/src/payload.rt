@@ -55,7 +55,7 @@ fn first_room(raw_size: Option<Field<'_>>, stream: usize) -> usize
     room.min(RAW_LIMIT - 1)
 }
 
-/// Makes the vector the output of a stream, of at most this many bytes.
+/// Fills the vector with the output of a stream, of at most this many bytes.
 fn inflate_within(
     inflater: &mut Inflater,
     packed: &[u8],
@@ -95,7 +95,7 @@ fn inflate_raw(
     inflate_within(inflater, packed, RAW_LIMIT - 1, out)
 }
 
-/// Makes the vector the payload that zlib data stands for, or says why there is none; the vector is unspecified then.
+/// Fills the vector with the payload that zlib data stands for, or returns why there is none; the vector is unspecified then.
 pub(crate) fn unpack_payload(
     inflater: &mut Inflater,
     stream: Field<'_>,

@@ -40,7 +40,7 @@ impl Outcome {
     }
 }
 
-/// Makes the vector what a written frame has before its payload.
+/// Fills the vector with what a written frame has before its payload.
 fn put_front(front: &mut Vec<u8>, kind: FrameKind, payload: &[u8]) -> Result<(), AllocError>
     requires known { kind ≡ kinds.Other → ⊥ }
     requires short { length payload.now < RAW_LIMIT }
