@@ -202,8 +202,8 @@ fn choose_parents<F: Feed, G: Feed, H: Feed>(
     })
 }
 
-/// Writes the complete-ways extract of the box with all parents, as [`extract`] does, with all relations besides that have a
-/// kept relation among their members, at any depth.
+/// Writes the complete-ways extract of the box with all parents: what [`extract`] writes, and all relations that have a kept
+/// relation among their members, at any depth.
 ///
 /// There is one more pass, the third, which takes the relations; the fourth feed is written from. Nothing is written before the
 /// third pass has ended with the digest of the first, so nothing is written if it ends with `Changed(2)` or `Changed(3)`.

@@ -63,7 +63,7 @@ impl<'a> Picker<'a> {
         }
     }
 
-    /// Whether a way is written that is not made yet.
+    /// Whether a way that is not made yet is written.
     #[tactic(auto, unfolding(crate::specs::Pick::picks_of))]
     fn picks_way(&mut self, unmade: &UnmadeWay<'_>) -> bool
         ensures picked { result ≡ picks_of self.old (way (way_from unmade.now)) }
@@ -88,7 +88,7 @@ impl<'a> Picker<'a> {
     }
 }
 
-/// Packs an entity, and counts it. One that can't be written is a change, in a pass of this number.
+/// Packs an entity, and counts it. One that can't be written is `Changed`, with the number of the pass.
 #[inline(always)]
 fn pack<D: Drain, S: BuildHasher>(
     entity: &EntityRef<'_>,
@@ -160,7 +160,7 @@ fn pack_way<D: Drain, S: BuildHasher>(
     Ok(())
 }
 
-/// So many nodes at the most are skipped at a time.
+/// At most this many nodes are skipped at a time.
 const MOST_PASSED: usize = 8_000;
 
 /// How many nodes, of those that are still to come, come before the next that is picked, or some of them; `None` if none of them is
@@ -238,8 +238,8 @@ fn pack_run<D: Drain, S: BuildHasher>(
     }
 }
 
-/// Packs what is picked of the entities of these runs, one by one, and counts it. One that can't be written is a change, in a pass of
-/// this number.
+/// Packs what is picked of the entities of these runs, one by one, and counts it. One that can't be written is `Changed`, with the
+/// number of the pass.
 pub(crate) fn pack_runs<D: Drain, S: BuildHasher>(
     runs: Runs<'_>,
     chosen: Option<&Chosen>,

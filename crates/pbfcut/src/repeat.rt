@@ -29,7 +29,7 @@ pub(crate) struct Repeat {
 }
 
 impl Repeat {
-    /// A fault of a frame that the pass which judges didn't meet is a change.
+    /// A fault of a frame that the judging pass didn't find is `Changed`.
     pub(crate) fn changed(self, stop: Stop) -> Stop
         ensures { result ≡ as_change self.number stop }
     {
@@ -39,7 +39,7 @@ impl Repeat {
         }
     }
 
-    /// Another digest is a change.
+    /// Another digest is `Changed`.
     pub(crate) fn compare(self, digest: [u8; 32]) -> Result<(), Stop>
         ensures same { OnOk result (digest ≡ self.digest) }
         ensures other { IfErr result (λ stop. (stop ≡ Changed self.number)

@@ -1,4 +1,4 @@
-//! The extracts in one pass less, of files whose ways come after their nodes.
+//! The extracts with one pass fewer, for files whose ways come after their nodes.
 
 ghost use Rattle.std.specs.Prelude.{◌≡◌, ◌⊎◌, ℕ, List, IfOk, IfErr, OnOk, OnErr};
 ghost use Rattle.osm_ways.specs.Parents.{extract_with_parents};
@@ -63,7 +63,7 @@ pub(crate) fn choose_sorted<F: Feed, G: Feed>(
 /// Like [`extract`](crate::extract), in two passes if no node of the file comes after a way: then the first gives the ways too, and
 /// nothing is read of the second feed. For any other file there are three passes, as there.
 ///
-/// All that is said there holds. Space: besides, the refs and the ids of the ways are gathered during the first pass.
+/// Everything that is said there holds. Space: also the refs and the ids of the ways, which are gathered during the first pass.
 pub fn extract_sorted<F: Feed, G: Feed, H: Feed, D: Drain, S: BuildHasher + Drop>(
     alloc: Global,
     first: &mut F,

@@ -166,8 +166,8 @@ fn pack_file<'a, F: Feed, D: Drain, S: BuildHasher>(
     Ok(InputReceipt { counts, input })
 }
 
-/// Writes a header and what is picked of a whole file, in a pass of this number, after the one that judged it. What was written has a
-/// meaning if the digest is that of the bytes which were judged.
+/// Writes a header and what is picked of a whole file, in a pass of this number, after the one that judged it. What was written is
+/// specified if the digest is that of the bytes which were judged.
 pub(crate) fn write<F: Feed, D: Drain, S: BuildHasher + Drop>(
     alloc: Global,
     feed: &mut F,
