@@ -223,7 +223,7 @@ impl<S: BuildHasher> OpenBlock<S> {
         Ok(payload)
     }
 
-    /// The PrimitiveBlock of the entities, which are taken out. After an `Err` the block is unspecified.
+    /// The PrimitiveBlock of the entities, which are removed. After an `Err` the block is unspecified.
     pub(crate) fn close(&mut self, alloc: Global) -> Result<Vec<u8>, AllocError>
         requires { IsOpen self.old }
         ensures payload { (es : List EntitySpec) → Holds self.old es
