@@ -36,7 +36,7 @@ impl Counts {
         }
     }
 
-    /// Counts one entity more.
+    /// Counts one more entity.
     pub fn take(&mut self, entity: &EntityRef<'_>)
         ensures { self.new ≡ count_one self.old (entity_of entity.now) }
     {

@@ -24,7 +24,7 @@ use std::alloc::{AllocError, Global};
 use std::hash::BuildHasher;
 
 /// What writes ways and relations, each as a field of a group. It keeps the columns and the message of an entity while that is
-/// written, and takes them out then: the next one is written into the same room.
+/// written, and removes them then: the next one is written into the same room.
 #[derive(Drop)]
 pub struct EntityOut {
     keys: ColumnOut,
@@ -58,7 +58,7 @@ impl EntityOut {
         }
     }
 
-    /// Takes all of an entity out and keeps the room, also if writing it failed.
+    /// Removes all of an entity and keeps the room, also if writing it failed.
     pub fn clear(&mut self)
         ensures { writer_length self.new ≡ 0 }
     {
@@ -121,7 +121,7 @@ impl EntityOut {
         Ok(())
     }
 
-    /// Appends the message as a field of a group, and takes all of the entity out.
+    /// Appends the message as a field of a group, and removes all of the entity.
     fn put_message(&mut self, group: &mut Vec<u8>, number: u64) -> Result<(), AllocError>
         requires { number < 2 ^ 29 }
         ensures written { OnOk result (group.new.items

@@ -1,5 +1,5 @@
 //! The laws of blocks. Each is the contract of a function that does nothing: a proof that needs the law calls it, or takes the
-//! lemma of that name from this crate's `proofs/`. Those of headers are passed on from `pbf_header`.
+//! lemma of that name from this crate's `proofs/`. Those of headers are re-exported from `pbf_header`.
 
 ghost use Rattle.std.specs.Prelude.{◌≡◌, ℕ, ◌+◌, ◌*◌, ◌<◌, ◌≤◌, true, List, [], length, None};
 ghost use Rattle.std.specs.List.{AllByRecursion, sum_by};
