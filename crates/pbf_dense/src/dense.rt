@@ -13,7 +13,7 @@ use osm_entity::{NodeRef, OwnedTags, RunTags, STORED_LIMIT, Scale, Tags};
 use pbf_strings::Table;
 use pbf_wire::{Column, Message, Sums, column_count, low_u32};
 
-/// Reads on to after the next 0 in key place.
+/// Moves past the next 0 in key place.
 #[tactic(auto, using(crate::proofs::MovingLemmas::run_steps))]
 fn skip_run(numbers: &mut Column<'_>)
     ensures { map low_32 (numbers_left numbers.new)
@@ -27,7 +27,7 @@ fn skip_run(numbers: &mut Column<'_>)
     }
 }
 
-/// Reads on to after as many zeros in key place.
+/// Moves past as many zeros in key place.
 fn skip_runs(numbers: &mut Column<'_>, count: usize)
     ensures { map low_32 (numbers_left numbers.new)
         ≡ after_runs count (map low_32 (numbers_left numbers.old)) }
@@ -123,7 +123,7 @@ impl<'a> Dense<'a> {
         }
     }
 
-    /// Like [`Dense::pass`], if there are some to pass over.
+    /// Like [`Dense::pass`], if there are some to skip.
     #[inline(never)]
     fn move_on(&mut self, count: usize)
         ensures { dense_left self.new ≡ drop count (dense_left self.old) }
