@@ -87,7 +87,7 @@ impl<S: BuildHasher> TableOut<S> {
         self.texts.is_empty()
     }
 
-    /// Takes all texts out, and keeps the hasher and the room.
+    /// Removes all texts, and keeps the hasher and the room.
     pub fn clear(&mut self)
         ensures { self.new ≡ [] }
     {
