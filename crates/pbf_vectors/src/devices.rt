@@ -74,7 +74,7 @@ pub(crate) fn each_read_fails(
     Ok(())
 }
 
-/// What is to come out, cut by a drain that fails after each byte, and through one that takes a byte a write.
+/// What should come out, cut by a drain that fails after each byte, and through one that takes a byte a write.
 pub(crate) fn each_write_fails(
     alloc: Global,
     row: &Row<'_>,

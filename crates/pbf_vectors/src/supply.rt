@@ -33,7 +33,7 @@ fn answers(
     expect(sink.bytes() == wanted, "other bytes are written")
 }
 
-/// Makes the call over the case's file, whole and in pieces, and over what the call is to write, which comes to the same bytes.
+/// Makes the call over the case's file, whole and in pieces, and over what the call should write, which gives the same bytes.
 pub(crate) fn holds(
     alloc: Global,
     row: &Row<'_>,

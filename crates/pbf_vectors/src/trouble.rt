@@ -11,7 +11,7 @@ pub(crate) enum Trouble {
     List,
     /// There is no memory for the suite's own bytes.
     Memory,
-    /// A call did otherwise than it is to do.
+    /// A call did not do what it should.
     Wrong(&'static str),
 }
 
@@ -38,7 +38,7 @@ impl<T: Drop> From<AllocFailed<T>> for Trouble {
     }
 }
 
-/// A call did otherwise than it is to do, unless this holds.
+/// A call did not do what it should, unless this holds.
 pub(crate) fn expect(holds: bool, what: &'static str) -> Result<(), Trouble> {
     if holds {
         Ok(())
