@@ -20,7 +20,7 @@ pub fn first_number(packed: &[u8]) -> Option<(u64, &[u8])>
     }
 }
 
-/// A cursor over a column: it gives the numbers of all occurrences of one field in order, and says where the occurrence
+/// A cursor over a column: it returns the numbers of all occurrences of one field in order, and says where the occurrence
 /// of the last one is. It does not allocate, and a copy of it continues by itself.
 #[derive(Clone, Copy)]
 pub struct Column<'a> {
@@ -79,7 +79,7 @@ impl<'a> Column<'a> {
         self.place
     }
 
-    /// How many numbers are still to come, if it is soon seen that they are few and small: at most 2^26, each below 2^35. None is
+    /// How many numbers are still to come, if a quick test shows that they are few and small: at most 2^26, each below 2^35. None is
     /// decoded.
     #[inline(always)]
     pub(crate) fn count_small(&self) -> Option<usize>

@@ -35,7 +35,7 @@ impl ColumnOut {
         }
     }
 
-    /// Takes all numbers out and keeps the room.
+    /// Removes all numbers and keeps the room.
     #[tactic(auto, unfolding(crate::specs::Columns::entries_past))]
     pub fn clear(&mut self)
         ensures { self.new ≡ [] }

@@ -41,7 +41,7 @@ impl DeltaOut {
         }
     }
 
-    /// Takes all values out and keeps the room.
+    /// Removes all values and keeps the room.
     #[tactic(auto, unfolding(crate::specs::Columns::entries_past))]
     pub fn clear(&mut self)
         ensures { self.new ≡ [] }

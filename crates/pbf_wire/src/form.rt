@@ -20,7 +20,7 @@ use crate::varint::first_varint;
 /// Of so few bytes none begins a varint that is too long.
 const FEW_BYTES: usize = 9;
 
-/// Whether it is soon seen that the bytes are whole varints: they are few and the last one ends a varint, as in most columns, or the
+/// Whether a quick test shows that the bytes are whole varints: they are few and the last one ends a varint, as in most columns, or the
 /// numbers are short throughout.
 #[inline(always)]
 #[tactic(auto, using(crate::proofs::ShortLemmas::few_bytes, crate::proofs::ShortLemmas::short_column))]

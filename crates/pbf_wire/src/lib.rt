@@ -1,5 +1,5 @@
 //! The protobuf wire encoding, read and written: varints, fields, columns, running sums. It knows nothing of OpenStreetMap,
-//! but for the list of reasons for which a file is refused.
+//! except for the list of reasons for which a file is refused.
 //!
 //! Two words name offsets in a file: `at` is that of the first byte of a message or of a field's bytes, and `place` that of the
 //! first byte of a field's tag. Faults are reported at places: the `offset` of a `Field` and of a `Fault` is one.

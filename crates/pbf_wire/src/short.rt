@@ -109,7 +109,7 @@ fn count_short(bytes: &[u8]) -> Option<usize>
     Some(count_ends(bytes))
 }
 
-/// How many numbers an occurrence of a column has, if it is soon seen that they are below 2^35.
+/// How many numbers an occurrence of a column has, if a quick test shows that they are below 2^35.
 #[inline(always)]
 fn count_small(payload: Payload<'_>) -> Option<usize>
     ensures counted { MatchOption result ⊤
@@ -125,7 +125,7 @@ fn count_small(payload: Payload<'_>) -> Option<usize>
     }
 }
 
-/// How many numbers a column has in the fields that are still to come, if it is soon seen that they are below 2^35. No number of a
+/// How many numbers a column has in the fields that are still to come, if a quick test shows that they are below 2^35. No number of a
 /// packed occurrence is decoded.
 pub(crate) fn count_small_left(fields: Fields<'_>, number: u64) -> Option<usize>
     ensures counted { MatchOption result ⊤
