@@ -43,7 +43,7 @@ PHRASES = {
     r"\bat fault\b": "invalid",
     r"\bhands? (on|in|over)\b|\bhanded (on|in)\b": "passes, passed in",
     r"\bpass(es)? (it|its|these|them|\S+) on\b": "re-exports",
-    r"\bread past\b|\bpass(es|ed) over\b": "skip",
+    r"\b[Rr]eads? past\b|\b[Pp]ass(es|ed) over\b": "skip",
 }
 
 # those that pages may have, with another meaning
