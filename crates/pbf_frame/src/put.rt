@@ -96,7 +96,8 @@ pub fn put_head(room: &mut [u8], kind: FrameKind, payload: usize) -> usize
 }
 
 /// Writes the frame of a payload: a BlobHeader with its type and `datasize`, and a Blob with only raw data. It does
-/// not allocate. After a stop a prefix of the frame went out; `Write` comes only if the drain's count of failures rose.
+/// not allocate. After a stop a prefix of the frame went out; `Write` comes only if the drain's count of
+/// failures rose, which never falls.
 pub fn put_frame<D: Drain>(drain: &mut D, kind: FrameKind, payload: &[u8]) -> Result<(), Stop>
     requires known { kind ≡ kinds.Other → ⊥ }
     requires short { length payload.now < RAW_LIMIT }
