@@ -53,7 +53,7 @@ pub fn written_file_is_read()
 /// A conversion of a file that can be converted, at most 2^62 bytes long, is a file without a fault that has the file's header in
 /// written form and the file's entities, in order, with all that is stored of them; and a conversion of it is the same bytes.
 pub fn converted_file_is_kept()
-    // Its bytes decode to exactly what the file's do.
+    // It can be converted again, and its bytes decode to exactly what the file's do.
     ensures kept { (file : List ℕ) → IsWritable file → length (conversion_of file) ≤ 2 ^ 62
         → IsConversion file (conversion_of file) }
     // A conversion of it is the same bytes.
@@ -66,7 +66,7 @@ pub fn converted_file_is_kept()
 /// them; it means the complete-ways extract of what the file means, with places in nanodegrees and times in milliseconds; and an
 /// extract of it by the same box is the same bytes.
 pub fn extracted_file_is_kept(area: BoundingBox)
-    // Its bytes decode to exactly the file's extract, and mean the extract of what the file means.
+    // An extract can be written of it, and its bytes decode to exactly the file's extract, and mean the extract of what the file means.
     ensures kept { (file : List ℕ) → IsWritable file
         → length (extract_of (complete_ways area) area file) ≤ 2 ^ 62
         → IsExtract (complete_ways area) (extract (seen_decoded area)) area file
@@ -80,7 +80,8 @@ pub fn extracted_file_is_kept(area: BoundingBox)
 
 /// The same of the extract with all parents.
 pub fn file_extracted_with_parents_is_kept(area: BoundingBox)
-    // Its bytes decode to exactly the file's extract with all parents, and mean that of what the file means.
+    // An extract can be written of it, and its bytes decode to exactly the file's extract with all parents, and mean that of what the
+    // file means.
     ensures kept { (file : List ℕ) → IsWritable file
         → length (extract_of (all_parents area) area file) ≤ 2 ^ 62
         → IsExtract (all_parents area) (extract_with_parents (seen_decoded area)) area file
