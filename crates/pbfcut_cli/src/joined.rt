@@ -79,7 +79,8 @@ fn join_box(alloc: Global, words: &[String]) -> Result<Vec<String>, AllocError>
 }
 
 /// The words of the command line as `read_words` takes them: `--box` or `--bbox`, and a word after it that begins with `-` and a digit
-/// or a point, are one word, as `--box=-0.5,51.25,0.3,51.7`; and `help` as the first word is `--help` as the last one.
+/// or a point, are one word, as `--box=-0.5,51.25,0.3,51.7`; and `help` as the first word is `--help` as the last one. Other words
+/// stay as they are.
 ///
 /// # Errors
 ///
