@@ -16,11 +16,11 @@ ghost use Rattle.pbf_pass.specs.Judged.{fault_in, judged_file};
 ghost use Rattle.pbf_pass.specs.Payload.{header_block, primitive_block, lent_by};
 ghost use Rattle.pbf_pass.specs.Pass.{IsFresh, TakesPayload, TakesAll, TakesFrame, CountsFrame, TakesFile, IsStep, FailsToJudge, as_it_was, with_node, with_way, with_relation};
 ghost use Rattle.pbf_pass.specs.Given.{GaveFile};
-ghost use Rattle.pbf_pass.specs.Hashing.{IsLength};
+ghost use Rattle.pbf_pass.specs.Hashing.{IsLength, digest_if};
 ghost use Rattle.pbf_pass.specs.Refused.{RefusesFile, Halts, stop_of};
 ghost use Rattle.pbf_pass.specs.Stops.{Caused, FaultOf, unchanged, ReadFailed};
 
-use crate::receipt::Halt;
+use crate::receipt::{Halt, Passes};
 use crate::visit::{FileRead, Visit, pass_over, step};
 use osm_entity::EntityRef;
 use osm_ways::{NodePhase, RelationPhase, SeenWay, WayPhase};
@@ -414,7 +414,7 @@ pub struct Judged {
     pub pass: Pass,
     /// How many bytes it has.
     pub count: u64,
-    /// The digest of its bytes.
+    /// The digest of its bytes, if they were hashed.
     pub digest: [u8; 32],
 }
 
@@ -423,17 +423,18 @@ pub struct Judged {
 /// `Refused` has the first fault of the file, of any phase, with how many bytes were read and their digest. Reads each byte once, to
 /// the file's end where it answers `Ok`, and holds one frame at a time. After a halt what was gathered may only be dropped.
 pub fn judge<F: Feed, G: Gather>(
-    alloc: Global,
+    passes: Passes,
     feed: &mut F,
     gathering: &mut G,
 ) -> Result<Judged, Halt>
-    ensures judged { IfOk result (λ told. GaveFile F.Feed feed.old feed.new told.digest
-        (λ file. IsLength told.count file
+    ensures judged { IfOk result (λ told. GaveFile F.Feed feed.old feed.new
+        (digest_if passes.hashes told.digest) (λ file. IsLength told.count file
         × TakesFile G.gathered (judged_file (Some file)) gathering.old gathering.new told.pass)) }
     ensures stops { IfErr result (λ h. Caused (FaultOf (judged_file (F.remaining feed.old)))
         (ReadFailed F.Feed feed.old feed.new) ⊥ unchanged (stop_of h)) }
     ensures refused { IfErr result
-        (Halts (RefusesFile F.Feed feed.old feed.new (λ b. judged_file (Some b)))) }
+        (Halts (RefusesFile F.Feed feed.old feed.new passes.hashes
+        (λ b. judged_file (Some b)))) }
     ensures counts { F.failures feed.old ≤ F.failures feed.new }
 {
     let mut pass = Pass::new();
@@ -441,7 +442,7 @@ pub fn judge<F: Feed, G: Gather>(
         pass: &mut pass,
         gathering,
     };
-    let FileRead { count, digest, .. } = pass_over(alloc, feed, &mut judging)?;
+    let FileRead { count, digest, .. } = pass_over(passes, feed, &mut judging)?;
     Ok(Judged {
         pass,
         count,
