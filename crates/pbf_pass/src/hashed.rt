@@ -82,12 +82,12 @@ impl<F: Feed> Feed for PassFeed<F> {
         F.has_passed h.feed h.hashes h.hasher h.count log b };
 
     fn read(&mut self, buf: &mut [u8]) -> Result<usize, FeedFault> {
-        let count = self.feed.read(buf)?;
+        let read = self.feed.read(buf)?;
         if self.hashes {
-            self.hasher.update(&buf[..count]);
+            self.hasher.update(&buf[..read]);
         }
-        self.count = self.count.saturating_add(count as u64);
-        Ok(count)
+        self.count = self.count.saturating_add(read as u64);
+        Ok(read)
     }
 }
 
