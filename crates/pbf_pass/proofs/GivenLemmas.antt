@@ -1,7 +1,6 @@
 -- What holds of the bytes that went through a device holds of those that it reports.
-use Rattle.std.proofs.Common.{◌≡◌, ℕ, Bool, false, List, ◌∷◌, ◌++◌, Option, Some, None, refl, sym, ap, ◌∙◌, subst}
+use Rattle.std.proofs.Common.{◌≡◌, ℕ, Bool, true, false, List, ◌∷◌, ◌++◌, Option, Some, None, refl, sym, ap, ◌∙◌, subst}
 use Rattle.std.proofs.lemmas.List.{append-nil}
-use Rattle.sha2.specs.Sha256.{sha256}
 use Rattle.osm_entity.specs.Entity.{EntitySpec}
 use Rattle.pbf_frame.specs.declared.device.Feed as feed
 use Rattle.pbf_frame.specs.Devices.{prepend, IsAtEnd}
@@ -12,6 +11,8 @@ use Rattle.pbf_frame.specs.Verdict.{Verdict, Says, judged_known}
 use Rattle.pbf_frame.proofs.Parting.{none_some}
 use Rattle.pbf_pass.specs.declared.pass.Pass.{Pass}
 use Rattle.pbf_pass.specs.Given.{GaveFile, judged_from}
+use Rattle.pbf_pass.specs.Hashing.{IsDigestOf, digest_if}
+use Rattle.sha2.specs.Sha256.{sha256}
 use Rattle.pbf_pass.specs.Judged.{judged_file}
 use Rattle.pbf_pass.specs.Pass.{TakesFile}
 
@@ -26,15 +27,20 @@ tells_all old (Some rest) file told end b is = same (ap (λ (l : List ℕ). file
   same e f = cc
 
 -- the digest of the bytes, if they are reported
-abbrev pub IsDigest : Option (List ℕ) → List ℕ → Type 0
-IsDigest known digest = (b : List ℕ) → known ≡ Some b → digest ≡ sha256 b
+abbrev pub IsDigest : Option (List ℕ) → Option (List ℕ) → Type 0
+IsDigest known digest = (b : List ℕ) → known ≡ Some b → IsDigestOf digest b
+
+-- a digest is that of the bytes, if they were hashed
+pub digest_if_hashed : (hashes : Bool) (digest bytes : List ℕ) → (hashes ≡ true → digest ≡ sha256 bytes) → IsDigestOf (digest_if hashes digest) bytes
+digest_if_hashed true digest bytes is = is refl
+digest_if_hashed false digest bytes is = tt
 
 -- what is said of them is said of the ones that are reported
 pub says_told : (known : Option (List ℕ)) (file : List ℕ) (v : Verdict) → Tells known file → Says (judged_file (Some file)) v → Says (judged_file known) v
 says_told None file v tells says = tt
 says_told (Some b) file v tells says = subst (λ (l : List ℕ). Says (judged_file (Some l)) v) (tells b refl) says
 
-module _ {F : Type 0} (f : feed.Ghosts F) (old new : F) (digest : List ℕ) where
+module _ {F : Type 0} (f : feed.Ghosts F) (old new : F) (digest : Option (List ℕ)) where
   pub tells_file : (holds : List ℕ → Type 0) (given : GaveFile f old new digest holds) → Tells (f.remaining old) given.file
   tells_file holds given = tells_all (f.remaining old) (f.remaining new) given.file given.supplied.told given.supplied.end
 
@@ -43,7 +49,7 @@ module _ {F : Type 0} (f : feed.Ghosts F) (old new : F) (digest : List ℕ) wher
   told_holds holds b given is = subst holds (tells_file holds given b is) given.holding
 
   pub told_digest : (holds : List ℕ → Type 0) → GaveFile f old new digest holds → IsDigest (f.remaining old) digest
-  told_digest holds given b is = given.digest_is ∙ ap sha256 (tells_file holds given b is)
+  told_digest holds given b is = subst (λ (l : List ℕ). IsDigestOf digest l) (tells_file holds given b is) given.digest_is
 
   pub told_says : (holds : List ℕ → Type 0) (v : Verdict) (given : GaveFile f old new digest holds) → Says (judged_file (Some given.file)) v → Says (judged_file (f.remaining old)) v
   told_says holds v given says = says_told (f.remaining old) given.file v (tells_file holds given) says
@@ -54,7 +60,7 @@ holds_of_file reader file holds had place holding =
     subst (λ (b : Bool). holds (judged_known b 0 (Some file))) had (subst (λ (n : ℕ). holds (judged_known (had_header_of reader) n (Some file))) place holding)
 
 -- a file was given, and so more holds of it
-pub gave_file_less : {F : Type 0} (f : feed.Ghosts F) (old new : F) (digest : List ℕ) (holds less : List ℕ → Type 0) → ((file : List ℕ) → holds file → less file) → GaveFile f old new digest holds → GaveFile f old new digest less
+pub gave_file_less : {F : Type 0} (f : feed.Ghosts F) (old new : F) (digest : Option (List ℕ)) (holds less : List ℕ → Type 0) → ((file : List ℕ) → holds file → less file) → GaveFile f old new digest holds → GaveFile f old new digest less
 gave_file_less f old new digest holds less step given = record {
   file = given.file;
   supplied = given.supplied;

@@ -1,6 +1,5 @@
 -- What a refusal says of the bytes that were read, whether the feed reports them or not.
-use Rattle.std.specs.Prelude.{◌≡◌, ℕ, List, [], Option, Some}
-use Rattle.sha2.specs.Sha256.{sha256}
+use Rattle.std.specs.Prelude.{◌≡◌, ℕ, List, [], Bool, Option, Some}
 use Rattle.pbf_wire.specs.declared.fault.Fault.{Fault}
 use Rattle.pbf_frame.specs.declared.device.Feed as feed
 use Rattle.pbf_frame.specs.declared.device.Drain as drain
@@ -14,7 +13,7 @@ use Rattle.pbf_pass.specs.declared.receipt.Halt.{Halt}
 use Rattle.pbf_pass.specs.declared.receipt.Halt.TheVariants as halt
 use Rattle.pbf_pass.specs.declared.pass.Judged.{Judged}
 use Rattle.pbf_pass.specs.HeaderLimit.{header_limit, held_header}
-use Rattle.pbf_pass.specs.Hashing.{IsLength}
+use Rattle.pbf_pass.specs.Hashing.{IsLength, IsDigestOf, digest_if}
 use Rattle.pbf_pass.specs.Stops.{FaultOf}
 
 -- what a reader's feed gave is faulty; any other stop says nothing of the bytes
@@ -25,17 +24,17 @@ RefusesRest f old new at_fault stop.Write = Unit {0}
 RefusesRest f old new at_fault stop.Memory = Unit {0}
 RefusesRest f old new at_fault (stop.Changed pass) = Unit {0}
 
--- faulty bytes were read, with their number, as far as it can be counted, and their digest
-pub record RefusesBytes {F : Type 0} (f : feed.Ghosts F) (old new : F) (at_fault : Fault → List ℕ → Type 0) (refusal : Refusal) : Type 0 where
+-- faulty bytes were read, with their number, as far as it can be counted, and their digest, if they were hashed
+pub record RefusesBytes {F : Type 0} (f : feed.Ghosts F) (old new : F) (hashes : Bool) (at_fault : Fault → List ℕ → Type 0) (refusal : Refusal) : Type 0 where
   pub bytes : Refuses (at_fault refusal.fault) (f.has_passed old) (f.has_passed new) (f.remaining old) (f.remaining new)
   pub counted : IsLength refusal.read bytes.read
-  pub digest_is : refusal.input ≡ sha256 bytes.read
+  pub digest_is : IsDigestOf (digest_if hashes refusal.input) bytes.read
 
 -- the same of a file, whose fault is that of a verdict
-pub record RefusesFile {F : Type 0} (f : feed.Ghosts F) (old new : F) (judge : List ℕ → Option Verdict) (refusal : Refusal) : Type 0 where
+pub record RefusesFile {F : Type 0} (f : feed.Ghosts F) (old new : F) (hashes : Bool) (judge : List ℕ → Option Verdict) (refusal : Refusal) : Type 0 where
   pub bytes : Refuses (λ b. FaultOf (judge b) refusal.fault) (f.has_passed old) (f.has_passed new) (f.remaining old) (f.remaining new)
   pub counted : IsLength refusal.read bytes.read
-  pub digest_is : refusal.input ≡ sha256 bytes.read
+  pub digest_is : IsDigestOf (digest_if hashes refusal.input) bytes.read
 
 -- the stop that a halt stands for
 abbrev pub stop_of : Halt → Stop
@@ -56,8 +55,8 @@ Halts refused (halt.Refused refusal) = refused refusal
 Halts refused (halt.Stopped s) = (e : Fault) → s ≡ stop.Refused e → ⊥
 
 -- a call halted: if it refuses a file, nothing went out
-abbrev pub HaltsFile : {F D : Type 0} → feed.Ghosts F → (old new : F) → drain.Ghosts D → (before now : D) → (List ℕ → Option Verdict) → Halt → Type 0
-HaltsFile f old new d before now judge h = Halts (λ refusal. RefusesFile f old new judge refusal × Added d before [] now) h
+abbrev pub HaltsFile : {F D : Type 0} → feed.Ghosts F → (old new : F) → Bool → drain.Ghosts D → (before now : D) → (List ℕ → Option Verdict) → Halt → Type 0
+HaltsFile f old new hashes d before now judge h = Halts (λ refusal. RefusesFile f old new hashes judge refusal × Added d before [] now) h
 
 -- the file that was judged has no fault, but a header that can't be written: it is refused after all of its bytes
 abbrev pub IsLimitRefused : Judged → Halt → Type 0

@@ -5,12 +5,14 @@ ghost use Rattle.std.specs.Prelude.{◌≡◌, ◌≤◌, ◌<◌, ◌+◌, ◌^
 ghost use Rattle.pbf_frame.specs.Next.{place_of, held_by};
 ghost use Rattle.pbf_pass.specs.Again.{GathersPayload, GathersFrame, GathersFile, StopsAtPayload, StopsAtFrame, StopsUnjudged};
 ghost use Rattle.pbf_pass.specs.Given.{GaveFile};
+ghost use Rattle.pbf_pass.specs.Hashing.{digest_if};
 ghost use Rattle.pbf_pass.specs.Judged.{judged_file};
 ghost use Rattle.pbf_pass.specs.Pass.{IsStep};
 ghost use Rattle.pbf_pass.specs.Payload.{primitive_block, lent_by};
 ghost use Rattle.pbf_pass.specs.Stops.{ReadFailed};
 
 use crate::pass::{Gather, gather_runs};
+use crate::receipt::Passes;
 use crate::visit::{Visit, pass_over, step};
 use pbf_block::UnjudgedBlock;
 use pbf_frame::{Feed, Frame, FrameKind, FrameReader, Stop};
@@ -113,14 +115,14 @@ pub fn step_again<F: Feed, G: Gather>(
 /// file has a fault, so that its bytes are others. Reads each byte once, to the file's end if it returns `Ok`, and holds one frame
 /// at a time. After a stop what was gathered may only be dropped.
 pub fn gather_again<F: Feed, G: Gather>(
-    alloc: Global,
+    passes: Passes,
     feed: &mut F,
     gathering: &mut G,
     number: u8,
 ) -> Result<[u8; 32], Stop>
     // The feed gave a file of this digest, to its end; if it has no fault, its entities were gathered in order.
-    ensures gathered { IfOk result (λ digest. GaveFile F.Feed feed.old feed.new digest
-        (λ file. GathersFile G.gathered (judged_file (Some file))
+    ensures gathered { IfOk result (λ digest. GaveFile F.Feed feed.old feed.new
+        (digest_if passes.hashes digest) (λ file. GathersFile G.gathered (judged_file (Some file))
         gathering.old gathering.new)) }
     // `Refused`, and `Changed` with the number of the pass, come only for a file that has a fault, and `Read` only if the feed's count of
     // failures rose; `Write` never comes.
@@ -128,5 +130,5 @@ pub fn gather_again<F: Feed, G: Gather>(
         (ReadFailed F.Feed feed.old feed.new) ⊥) }
 {
     let mut later = Later { gathering, number };
-    Ok(pass_over(alloc, feed, &mut later)?.digest)
+    Ok(pass_over(passes, feed, &mut later)?.digest)
 }

@@ -2,13 +2,14 @@
 
 ghost use Rattle.std.specs.Prelude.{◌≤◌, Some, IfOk, IfErr};
 ghost use Rattle.pbf_pass.specs.Given.{GaveFile};
+ghost use Rattle.pbf_pass.specs.Hashing.{digest_if};
 ghost use Rattle.pbf_pass.specs.Judged.{judged_file};
 ghost use Rattle.pbf_pass.specs.Pass.{CountsFile};
 ghost use Rattle.pbf_pass.specs.Refused.{RefusesFile, Halts, stop_of};
 ghost use Rattle.pbf_pass.specs.Stops.{Caused, FaultOf, unchanged, ReadFailed};
 
 use crate::pass::{Nothing, judge};
-use crate::receipt::{Halt, InputReceipt};
+use crate::receipt::{Halt, InputReceipt, Passes};
 use pbf_block::Counts;
 use pbf_frame::{Feed, Stop};
 use std::alloc::Global;
@@ -26,27 +27,32 @@ pub fn check<F: Feed>(alloc: Global, feed: &mut F) -> Result<Counts, Stop>
     // The feed's count of failures doesn't fall.
     ensures counts { F.failures feed.old ≤ F.failures feed.new }
 {
-    Ok(check_with_receipt(alloc, feed)?.counts)
+    let passes = Passes {
+        alloc,
+        hashes: false,
+    };
+    Ok(check_with_receipt(passes, feed)?.counts)
 }
 
 /// Like [`check`], and returns the digest of the bytes that were validated, whether the feed reports its bytes or not.
 ///
 /// A refusal has how many bytes were read, and their digest. The fault is the first one of every file that begins with these bytes;
 /// or, if the feed was at its end, of the file that has exactly these bytes.
-pub fn check_with_receipt<F: Feed>(alloc: Global, feed: &mut F) -> Result<InputReceipt, Halt>
+pub fn check_with_receipt<F: Feed>(passes: Passes, feed: &mut F) -> Result<InputReceipt, Halt>
     // The feed gave a file of this digest, to its end. It has no fault, and the counts are those of its entities.
-    ensures receipt { IfOk result (λ receipt. GaveFile F.Feed feed.old feed.new receipt.input
-        (λ file. CountsFile (judged_file (Some file)) receipt.counts)) }
+    ensures receipt { IfOk result (λ receipt. GaveFile F.Feed feed.old feed.new
+        (digest_if passes.hashes receipt.input) (λ file. CountsFile (judged_file (Some file)) receipt.counts)) }
     // The feed gave `read` bytes of this digest. The fault is the first of whatever begins so (or of them, if the feed was at its end).
     ensures refused { IfErr result
-        (Halts (RefusesFile F.Feed feed.old feed.new (λ b. judged_file (Some b)))) }
+        (Halts (RefusesFile F.Feed feed.old feed.new passes.hashes
+        (λ b. judged_file (Some b)))) }
     // Each stop has its cause, as of `check`.
     ensures stops { IfErr result (λ h. Caused (FaultOf (judged_file (F.remaining feed.old)))
         (ReadFailed F.Feed feed.old feed.new) ⊥ unchanged (stop_of h)) }
     // The feed's count of failures doesn't fall.
     ensures counts { F.failures feed.old ≤ F.failures feed.new }
 {
-    let told = judge(alloc, feed, &mut Nothing)?;
+    let told = judge(passes, feed, &mut Nothing)?;
     let input = told.digest;
     Ok(InputReceipt {
         counts: told.pass.counts,

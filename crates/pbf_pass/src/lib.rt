@@ -19,5 +19,5 @@ pub use pass::{
     step_relations, step_ways,
 };
 pub use pbf_block::Counts;
-pub use receipt::{Halt, InputReceipt, Refusal};
+pub use receipt::{Halt, InputReceipt, Passes, Refusal};
 pub use visit::{FileRead, Visit, pass_over, step, visit_rest};

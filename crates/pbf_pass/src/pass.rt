@@ -16,11 +16,11 @@ ghost use Rattle.pbf_pass.specs.Judged.{fault_in, judged_file};
 ghost use Rattle.pbf_pass.specs.Payload.{header_block, primitive_block, lent_by};
 ghost use Rattle.pbf_pass.specs.Pass.{IsFresh, TakesPayload, TakesAll, TakesFrame, CountsFrame, TakesFile, IsStep, FailsToJudge, as_it_was, with_node, with_way, with_relation};
 ghost use Rattle.pbf_pass.specs.Given.{GaveFile};
-ghost use Rattle.pbf_pass.specs.Hashing.{IsLength};
+ghost use Rattle.pbf_pass.specs.Hashing.{IsLength, digest_if};
 ghost use Rattle.pbf_pass.specs.Refused.{RefusesFile, Halts, stop_of};
 ghost use Rattle.pbf_pass.specs.Stops.{Caused, FaultOf, unchanged, ReadFailed};
 
-use crate::receipt::Halt;
+use crate::receipt::{Halt, Passes};
 use crate::visit::{FileRead, Visit, pass_over, step};
 use osm_entity::EntityRef;
 use osm_ways::{NodePhase, RelationPhase, SeenWay, WayPhase};
@@ -419,7 +419,7 @@ pub struct Judged {
     pub pass: Pass,
     /// How many bytes it has.
     pub count: u64,
-    /// The digest of its bytes.
+    /// The digest of its bytes, if they were hashed.
     pub digest: [u8; 32],
 }
 
@@ -428,21 +428,22 @@ pub struct Judged {
 /// `Refused` has the first fault of the file, of any phase, with how many bytes were read and their digest. Reads each byte once, to
 /// the file's end if it returns `Ok`, and holds one frame at a time. After a halt what was gathered may only be dropped.
 pub fn judge<F: Feed, G: Gather>(
-    alloc: Global,
+    passes: Passes,
     feed: &mut F,
     gathering: &mut G,
 ) -> Result<Judged, Halt>
     // The feed gave a file of this digest, to its end. It has no fault, the pass has its header and the counts of its entities, and these were
     // gathered in order. `count` is the number of its bytes, or 2^64 - 1 if it has more.
-    ensures judged { IfOk result (λ told. GaveFile F.Feed feed.old feed.new told.digest
-        (λ file. IsLength told.count file
+    ensures judged { IfOk result (λ told. GaveFile F.Feed feed.old feed.new
+        (digest_if passes.hashes told.digest) (λ file. IsLength told.count file
         × TakesFile G.gathered (judged_file (Some file)) gathering.old gathering.new told.pass)) }
     // `Refused` names the first fault of the file. `Read` comes only if the feed's count of failures rose; `Write` and `Changed` never come.
     ensures stops { IfErr result (λ h. Caused (FaultOf (judged_file (F.remaining feed.old)))
         (ReadFailed F.Feed feed.old feed.new) ⊥ unchanged (stop_of h)) }
     // The feed gave `read` bytes of this digest. The fault is the first of whatever begins so (or of them, if the feed was at its end).
     ensures refused { IfErr result
-        (Halts (RefusesFile F.Feed feed.old feed.new (λ b. judged_file (Some b)))) }
+        (Halts (RefusesFile F.Feed feed.old feed.new passes.hashes
+        (λ b. judged_file (Some b)))) }
     // The feed's count of failures doesn't fall.
     ensures counts { F.failures feed.old ≤ F.failures feed.new }
 {
@@ -451,7 +452,7 @@ pub fn judge<F: Feed, G: Gather>(
         pass: &mut pass,
         gathering,
     };
-    let FileRead { count, digest, .. } = pass_over(alloc, feed, &mut judging)?;
+    let FileRead { count, digest, .. } = pass_over(passes, feed, &mut judging)?;
     Ok(Judged {
         pass,
         count,

@@ -8,14 +8,24 @@ ghost use Rattle.pbf_pass.specs.Refused.{stop_of, halted};
 use pbf_block::Counts;
 use pbf_frame::Stop;
 use pbf_wire::Fault;
-use std::alloc::AllocError;
+use std::alloc::{AllocError, Global};
+
+/// How the passes of a call are made.
+#[derive(Clone, Copy)]
+pub struct Passes {
+    /// What memory is asked of.
+    pub alloc: Global,
+    /// Whether what is read is hashed. If it isn't, a digest says nothing, and a later pass that reads other bytes is not noticed.
+    pub hashes: bool,
+}
 
 /// What a call that reads reports: how many entities, and the SHA-256 digest of its input.
 #[derive(Clone, Copy, Debug)]
 pub struct InputReceipt {
     /// The numbers of the entities.
     pub counts: Counts,
-    /// The digest of the bytes that the feed gave; if a call has several feeds, of those that each of them gave that was read.
+    /// The digest of the bytes that the feed gave; if a call has several feeds, of those that each of them gave that was read. It says
+    /// nothing if the call hashes nothing.
     pub input: [u8; 32],
 }
 
@@ -28,7 +38,7 @@ pub struct Refusal {
     /// and it is the first of the file that has these bytes and no more.
     /// A count that would be higher stays at 2^64 - 1.
     pub read: u64,
-    /// The digest of these bytes.
+    /// The digest of these bytes, if the call hashes them.
     pub input: [u8; 32],
 }
 

@@ -7,14 +7,14 @@ ghost use Rattle.pbf_frame.specs.Frames.{FrameSpec};
 ghost use Rattle.pbf_frame.specs.Next.{IsReading, Shows, place_of, held_by, verdict};
 ghost use Rattle.pbf_frame.specs.Verdict.{judged_known};
 ghost use Rattle.pbf_pass.specs.Given.{GaveRest, GaveFile, judged_from};
-ghost use Rattle.pbf_pass.specs.Hashing.{IsLength};
+ghost use Rattle.pbf_pass.specs.Hashing.{IsLength, digest_if};
 ghost use Rattle.pbf_pass.specs.Pass.{IsStep};
 ghost use Rattle.pbf_pass.specs.Refused.{RefusesRest, RefusesBytes, Halts, stop_of};
 ghost use Rattle.pbf_pass.specs.Stops.{KeepsFeed, ReadFailed};
 ghost use Rattle.pbf_pass.specs.Visit.{VisitsAll, StopsVisit, RefusesVisit};
 
-use crate::hashed::HashedFeed;
-use crate::receipt::Halt;
+use crate::hashed::PassFeed;
+use crate::receipt::{Halt, Passes};
 use pbf_frame::{Feed, Frame, FrameReader, Stop};
 use std::alloc::Global;
 
@@ -106,21 +106,22 @@ pub struct FileRead {
     pub frames: u64,
     /// How many bytes it has, up to the greatest number.
     pub count: u64,
-    /// Their digest.
+    /// Their digest, if the pass hashes them.
     pub digest: [u8; 32],
 }
 
-/// Visits the frames of a whole file, and hashes and counts its bytes. Reads each byte once, to the file's end if it returns `Ok`,
+/// Visits the frames of a whole file, counts its bytes, and hashes them if `passes` says so. Reads each byte once, to the file's end if it
+/// returns `Ok`,
 /// and holds one frame at a time.
 pub fn pass_over<F: Feed, V: Visit>(
-    alloc: Global,
+    passes: Passes,
     feed: &mut F,
     visitor: &mut V,
 ) -> Result<FileRead, Halt>
     requires { V.ready visitor.old }
-    // The feed gave a file of this digest, to its end, and its frames were visited.
-    ensures visited { IfOk result (λ read. GaveFile F.Feed feed.old feed.new read.digest
-        (λ file. IsLength read.count file
+    // The feed gave a file, of this digest if it is hashed, to its end, and its frames were visited.
+    ensures visited { IfOk result (λ read. GaveFile F.Feed feed.old feed.new
+        (digest_if passes.hashes read.digest) (λ file. IsLength read.count file
         × VisitsAll V.took (judged_known false 0 (Some file)) read.frames
         visitor.old visitor.new)) }
     // The reader stopped after frames that were visited, or the visitor at the frame after them.
@@ -128,15 +129,15 @@ pub fn pass_over<F: Feed, V: Visit>(
         (judged_known false 0 (F.remaining feed.old)) (ReadFailed F.Feed feed.old feed.new)
         visitor.old visitor.new (stop_of h)) }
     // A refusal has the number and the digest of what the feed gave: whatever begins so is refused so.
-    ensures refused { IfErr result (Halts (RefusesBytes F.Feed feed.old feed.new
+    ensures refused { IfErr result (Halts (RefusesBytes F.Feed feed.old feed.new passes.hashes
         (RefusesVisit V.took V.failed (λ b. judged_known false 0 (Some b))
         visitor.old visitor.new))) }
     ensures counts { F.failures feed.old ≤ F.failures feed.new }
     ensures ready { OnOk result (V.ready visitor.new) }
     ensures lender { V.lender visitor.new ≡ V.lender visitor.old }
 {
-    let mut reader = FrameReader::new(alloc, HashedFeed::new(&mut *feed));
-    let outcome = visit_rest(alloc, &mut reader, visitor);
+    let mut reader = FrameReader::new(passes.alloc, PassFeed::new(&mut *feed, passes.hashes));
+    let outcome = visit_rest(passes.alloc, &mut reader, visitor);
     let count = reader.feed.count();
     let digest = reader.feed.digest();
     // What is known of the feed comes back with the reference itself.

@@ -8,6 +8,7 @@ use Rattle.pbf_frame.specs.declared.stop.Stop.{Stop}
 use Rattle.pbf_frame.specs.declared.stop.Stop.TheVariants as stop
 use Rattle.pbf_frame.specs.Devices.{IsFront}
 use Rattle.pbf_pass.specs.Given.{GaveFile}
+use Rattle.pbf_pass.specs.Hashing.{IsDigestOf}
 use Rattle.pbf_pass.specs.Stops.{Caused}
 use Rattle.pbf_pass.proofs.GivenLemmas.{tells_file}
 use Rattle.pbf_unpack.specs.Unpacked.{unpacked}
@@ -35,7 +36,7 @@ either_over f u first last old new o digest (inr is) over = inr (over (sha256 []
 pub same_by : {F : Type 0} (mid last first : F) → mid ≡ last → mid ≡ first → last ≡ first
 same_by mid last first e e2 = sym e ∙ e2
 
-module _ {F U : Type 0} (f : feed.Ghosts F) (u : feed.Ghosts U) (first last : F) (old new : U) (raw_digest : List ℕ) (holds keeps : List ℕ → Type 0) (step : (file : List ℕ) → holds file → keeps file) where
+module _ {F U : Type 0} (f : feed.Ghosts F) (u : feed.Ghosts U) (first last : F) (old new : U) (raw_digest : Option (List ℕ)) (holds keeps : List ℕ → Type 0) (step : (file : List ℕ) → holds file → keeps file) where
   -- what is said of the file that an unpacking feed gave is said of the raw file that packed bytes mean
   pub published_of : (digest : List ℕ) → IsOver f u first last old new digest → GaveFile u old new raw_digest holds → GavePublished f first last digest raw_digest keeps
   published_of digest over given =
@@ -44,7 +45,7 @@ module _ {F U : Type 0} (f : feed.Ghosts F) (u : feed.Ghosts U) (first last : F)
       record {
         packed = m.packed;
         digest_is = m.digest_is;
-        raw_digest_is = given.digest_is ∙ ap sha256 (sym m.means);
+        raw_digest_is = subst (λ (l : List ℕ). IsDigestOf raw_digest l) (sym m.means) given.digest_is;
         told = λ all is. sym (tells_file u old new raw_digest holds given (unpacked all) (over.remaining ∙ ap (λ (k : Option (List ℕ)). option_map unpacked k) is)) ∙ sym m.means;
         logged = λ log start.
             let p = over.passed log file (given.supplied.logged (suc log) [] (over.logged log start)) in

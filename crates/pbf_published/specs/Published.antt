@@ -6,6 +6,7 @@ use Rattle.pbf_wire.specs.declared.fault.Fault.{Fault}
 use Rattle.pbf_frame.specs.declared.device.Feed as feed
 use Rattle.pbf_frame.specs.declared.stop.Stop.{Stop}
 use Rattle.pbf_frame.specs.declared.stop.Stop.TheVariants.{Refused, Read, Write, Memory, Changed}
+use Rattle.pbf_pass.specs.Hashing.{IsDigestOf}
 use Rattle.pbf_pass.specs.Stops.{Caused}
 use Rattle.pbf_unpack.specs.Unpacked.{unpacked}
 
@@ -17,11 +18,11 @@ pub record PassedAs {F : Type 0} (has_passed : F → ℕ → List ℕ → Type 0
   pub passed : has_passed feed log packed
   pub means : unpacked packed ≡ raw
 
--- a feed gave packed bytes of one digest, which mean a raw file of another, and this holds of that file
-pub record GavePublished {F : Type 0} (f : feed.Ghosts F) (old new : F) (digest raw_digest : List ℕ) (holds : List ℕ → Type 0) : Type 0 where
+-- a feed gave packed bytes of one digest, which mean a raw file, of another if there is one, and this holds of that file
+pub record GavePublished {F : Type 0} (f : feed.Ghosts F) (old new : F) (digest : List ℕ) (raw_digest : Option (List ℕ)) (holds : List ℕ → Type 0) : Type 0 where
   pub packed : List ℕ
   pub digest_is : digest ≡ sha256 packed
-  pub raw_digest_is : raw_digest ≡ sha256 (unpacked packed)
+  pub raw_digest_is : IsDigestOf raw_digest (unpacked packed)
   -- what the feed had to supply means that file, if it reports its bytes
   pub told : (all : List ℕ) → f.remaining old ≡ Some all → unpacked all ≡ unpacked packed
   -- and so do the bytes that passed by each log of a feed that was at its start
@@ -29,7 +30,7 @@ pub record GavePublished {F : Type 0} (f : feed.Ghosts F) (old new : F) (digest 
   pub holding : holds (unpacked packed)
 
 -- a later feed did so; or it had no bytes; or nothing was read of it, and this holds of the file before
-abbrev pub GaveOrNone : {F : Type 0} → feed.Ghosts F → (old new : F) → (digest raw_digest raw : List ℕ) → (List ℕ → Type 0) → Type 0
+abbrev pub GaveOrNone : {F : Type 0} → feed.Ghosts F → (old new : F) → (digest : List ℕ) → Option (List ℕ) → (raw : List ℕ) → (List ℕ → Type 0) → Type 0
 GaveOrNone f old new digest raw_digest raw holds = (GavePublished f old new digest raw_digest holds ⊎ GavePublished f old new (sha256 []) raw_digest holds) ⊎ ((new ≡ old) × holds raw)
 
 -- ---- the digest of a feed that was read

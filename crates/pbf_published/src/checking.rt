@@ -4,12 +4,14 @@ ghost use Rattle.std.specs.Prelude.{Some, IfOk, IfErr};
 ghost use Rattle.pbf_pass.specs.Judged.{judged_file};
 ghost use Rattle.pbf_pass.specs.Pass.{CountsFile};
 ghost use Rattle.pbf_pass.specs.Stops.{FaultOf};
+ghost use Rattle.pbf_pass.specs.Hashing.{digest_if};
 ghost use Rattle.pbf_published.specs.Published.{GavePublished, IsRefusedBy, raw_of};
 
 use crate::input::{
     PublishedHalt, PublishedInput, close, first_digest, halted, lacks_memory, open,
 };
 use pbf_frame::Feed;
+use pbf_pass::Passes;
 use pbf_unpack::Inflater;
 use std::alloc::Global;
 
@@ -17,20 +19,22 @@ use std::alloc::Global;
 ///
 /// A refusal has the place of the fault in the published file. Reads once, and holds one packed frame and two raw ones.
 pub fn check_with_receipt<F: Feed>(
-    alloc: Global,
+    passes: Passes,
     feed: &mut F,
 ) -> Result<PublishedInput, PublishedHalt>
     // The feed gave packed bytes of the digest `input`, which mean a raw file of the digest `raw`. That file has no fault, and the
     // counts are those of its entities.
     ensures receipt { IfOk result (λ receipt. GavePublished F.Feed feed.old feed.new
-        receipt.input receipt.raw
+        receipt.input
+        (digest_if passes.hashes receipt.raw)
         (λ file. CountsFile (judged_file (Some file)) receipt.counts)) }
     // What is refused is the raw file that the feed's bytes mean, by its first fault.
     ensures refused { IfErr result (λ h. IsRefusedBy
         (FaultOf (judged_file (raw_of (F.remaining feed.old)))) h.stop) }
 {
+    let alloc = passes.alloc;
     let mut input = open(alloc, Inflater::new(alloc)?, &mut *feed);
-    let outcome = pbf_pass::check_with_receipt(alloc, &mut input);
+    let outcome = pbf_pass::check_with_receipt(passes, &mut input);
     let receipt = match outcome {
         Ok(receipt) => receipt,
         Err(halt) => return Err(halted(halt, &input, lacks_memory(&input))),

@@ -4,6 +4,7 @@ ghost use Rattle.std.specs.Prelude.{◌≡◌, ℕ, List, IfOk, IfErr};
 ghost use Rattle.pbf_frame.specs.Devices.{IsFront};
 ghost use Rattle.pbf_pass.specs.Given.{Took};
 ghost use Rattle.pbf_pass.specs.HeaderLimit.{judged_writable};
+ghost use Rattle.pbf_pass.specs.Hashing.{digest_if};
 ghost use Rattle.pbfcut.specs.Calls.{BothSupply, RefusedFirst};
 ghost use Rattle.pbfcut.specs.Kept.{IsWritable, conversion_of};
 ghost use Rattle.pbfcut.specs.Theorem.{IsConverted};
@@ -13,6 +14,7 @@ use crate::input::{
     PublishedHalt, PublishedInput, close, compare, first_digest, halted, lacks_memory, open,
 };
 use pbf_frame::{Drain, Feed};
+use pbf_pass::Passes;
 use pbf_unpack::Inflater;
 use std::alloc::Global;
 use std::hash::BuildHasher;
@@ -24,7 +26,7 @@ use std::hash::BuildHasher;
 ///
 /// Space: that of `convert`, and for each feed one packed frame and a raw one.
 pub fn convert_with_receipt<F: Feed, G: Feed, D: Drain, S: BuildHasher + Drop>(
-    alloc: Global,
+    passes: Passes,
     first: &mut F,
     second: &mut G,
     drain: &mut D,
@@ -34,8 +36,10 @@ pub fn convert_with_receipt<F: Feed, G: Feed, D: Drain, S: BuildHasher + Drop>(
     // its header can be written. The drain took bytes. If both raw files are the same, these bytes are exactly its conversion in
     // canonical form, and the counts are those of its entities.
     ensures receipt { IfOk result (λ receipt. GavePublished F.Feed first.old first.new
-        receipt.input receipt.raw (λ b. IsWritable b
-        × GavePublished G.Feed second.old second.new receipt.input receipt.raw
+        receipt.input
+        (digest_if passes.hashes receipt.raw) (λ b. IsWritable b
+        × GavePublished G.Feed second.old second.new receipt.input
+        (digest_if passes.hashes receipt.raw)
         (λ c. Took D.Drain drain.old drain.new
         (λ written. b ≡ c → IsConverted b receipt.counts written)))) }
     // What is refused is the raw file that the first feed's bytes mean, by its first fault, and then the drain took nothing.
@@ -47,9 +51,10 @@ pub fn convert_with_receipt<F: Feed, G: Feed, D: Drain, S: BuildHasher + Drop>(
         → BothSupply b (raw_of (F.remaining first.old)) (raw_of (G.remaining second.old))
         → IsFront (D.taken drain.old) (D.taken drain.new) (conversion_of b)) h.stop) }
 {
+    let alloc = passes.alloc;
     let mut one = open(alloc, Inflater::new(alloc)?, &mut *first);
     let mut two = open(alloc, Inflater::new(alloc)?, &mut *second);
-    let outcome = pbfcut::convert_with_receipt(alloc, &mut one, &mut two, drain, hasher);
+    let outcome = pbfcut::convert_with_receipt(passes, &mut one, &mut two, drain, hasher);
     let receipt = match outcome {
         Ok(receipt) => receipt,
         Err(halt) => {

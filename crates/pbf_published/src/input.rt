@@ -20,7 +20,7 @@ pub struct PublishedInput {
     pub counts: Counts,
     /// The digest of the packed bytes that each feed gave that was read.
     pub input: [u8; 32],
-    /// The digest of the raw file that they mean.
+    /// The digest of the raw file that they mean. It says nothing if the call doesn't hash that.
     pub raw: [u8; 32],
 }
 

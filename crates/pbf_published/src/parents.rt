@@ -6,6 +6,7 @@ ghost use Rattle.osm_ways.specs.Seen.{seen_decoded};
 ghost use Rattle.pbf_frame.specs.Devices.{IsFront};
 ghost use Rattle.pbf_pass.specs.Given.{Took};
 ghost use Rattle.pbf_pass.specs.HeaderLimit.{judged_writable};
+ghost use Rattle.pbf_pass.specs.Hashing.{digest_if};
 ghost use Rattle.pbfcut.specs.Calls.{FourSupply, RefusedFirst};
 ghost use Rattle.pbfcut.specs.Extracting.{all_parents};
 ghost use Rattle.pbfcut.specs.Kept.{IsWritable, extract_of};
@@ -18,6 +19,7 @@ use crate::input::{
 };
 use osm_entity::BoundingBox;
 use pbf_frame::{Drain, Feed};
+use pbf_pass::Passes;
 use pbf_unpack::Inflater;
 use std::alloc::Global;
 use std::hash::BuildHasher;
@@ -31,7 +33,7 @@ pub fn extract_parents_sorted_with_receipt<
     D: Drain,
     S: BuildHasher + Drop,
 >(
-    alloc: Global,
+    passes: Passes,
     first: &mut F,
     second: &mut G,
     third: &mut H,
@@ -44,10 +46,14 @@ pub fn extract_parents_sorted_with_receipt<
     // file has no fault, and its header can be written. The drain took bytes. If the raw files are the same, these bytes are exactly its
     // complete-ways extract with all parents, and the counts are those of the entities in it.
     ensures receipt { IfOk result (λ receipt. GavePublished F.Feed first.old first.new
-        receipt.input receipt.raw (λ b. IsWritable b
-        × GaveOrNone G.Feed second.old second.new receipt.input receipt.raw b
-        (λ c. GavePublished H.Feed third.old third.new receipt.input receipt.raw
-        (λ d. GavePublished I.Feed fourth.old fourth.new receipt.input receipt.raw
+        receipt.input
+        (digest_if passes.hashes receipt.raw) (λ b. IsWritable b
+        × GaveOrNone G.Feed second.old second.new receipt.input
+        (digest_if passes.hashes receipt.raw) b
+        (λ c. GavePublished H.Feed third.old third.new receipt.input
+        (digest_if passes.hashes receipt.raw)
+        (λ d. GavePublished I.Feed fourth.old fourth.new receipt.input
+        (digest_if passes.hashes receipt.raw)
         (λ e. Took D.Drain drain.old drain.new
         (λ written. b ≡ c → b ≡ d → b ≡ e → IsExtraction (all_parents area)
         (extract_with_parents (seen_decoded area)) area b receipt.counts written)))))) }
@@ -62,12 +68,13 @@ pub fn extract_parents_sorted_with_receipt<
         → IsFront (D.taken drain.old) (D.taken drain.new)
         (extract_of (all_parents area) area b)) h.stop) }
 {
+    let alloc = passes.alloc;
     let mut one = open(alloc, Inflater::new(alloc)?, &mut *first);
     let mut two = open(alloc, Inflater::new(alloc)?, &mut *second);
     let mut three = open(alloc, Inflater::new(alloc)?, &mut *third);
     let mut four = open(alloc, Inflater::new(alloc)?, &mut *fourth);
     let outcome = pbfcut::extract_parents_sorted_with_receipt(
-        alloc, &mut one, &mut two, &mut three, &mut four, area, drain, hasher,
+        passes, &mut one, &mut two, &mut three, &mut four, area, drain, hasher,
     );
     let receipt = match outcome {
         Ok(receipt) => receipt,

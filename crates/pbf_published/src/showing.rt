@@ -5,6 +5,7 @@ ghost use Rattle.pbf_frame.specs.Verdict.{judged_known};
 ghost use Rattle.pbf_pass.specs.Given.{Took};
 ghost use Rattle.pbf_pass.specs.Judged.{judged_file};
 ghost use Rattle.pbf_pass.specs.Pass.{CountsFile};
+ghost use Rattle.pbf_pass.specs.Hashing.{digest_if};
 ghost use Rattle.pbfcut.specs.Listing.{Lists, ListsFront, ListsToFault};
 ghost use Rattle.pbfcut.specs.Calls.{RefusedFirst};
 ghost use Rattle.pbfcut.specs.Showing.{Shown, ShowsFront};
@@ -15,6 +16,7 @@ use crate::input::{
     stopped,
 };
 use pbf_frame::{Drain, Feed};
+use pbf_pass::Passes;
 use pbf_unpack::Inflater;
 use std::alloc::Global;
 
@@ -25,7 +27,7 @@ use std::alloc::Global;
 ///
 /// Space: that of `show`, and for each feed one packed frame and a raw one.
 pub fn show_with_receipt<F: Feed, G: Feed, D: Drain>(
-    alloc: Global,
+    passes: Passes,
     first: &mut F,
     second: &mut G,
     drain: &mut D,
@@ -34,8 +36,10 @@ pub fn show_with_receipt<F: Feed, G: Feed, D: Drain>(
     // Each feed gave packed bytes of the digest `input`, which mean a raw file of the digest `raw`. That of the first has no fault, and
     // the counts are those of its entities. The drain took exactly the text of that of the second, which has no fault.
     ensures receipt { IfOk result (λ receipt. GavePublished F.Feed first.old first.new
-        receipt.input receipt.raw (λ b. CountsFile (judged_file (Some b)) receipt.counts
-        × GavePublished G.Feed second.old second.new receipt.input receipt.raw
+        receipt.input
+        (digest_if passes.hashes receipt.raw) (λ b. CountsFile (judged_file (Some b)) receipt.counts
+        × GavePublished G.Feed second.old second.new receipt.input
+        (digest_if passes.hashes receipt.raw)
         (λ c. Took D.Drain drain.old drain.new (Shown dates (judged_file (Some c)))))) }
     // What is refused is the raw file that the first feed's bytes mean, by its first fault, and then the drain took nothing.
     ensures refused { IfErr result (λ h. IsRefusedBy (RefusedFirst
@@ -47,9 +51,10 @@ pub fn show_with_receipt<F: Feed, G: Feed, D: Drain>(
         → ShowsFront dates (judged_file (raw_of (F.remaining first.old)))
         (D.taken drain.old) (D.taken drain.new)) h.stop) }
 {
+    let alloc = passes.alloc;
     let mut one = open(alloc, Inflater::new(alloc)?, &mut *first);
     let mut two = open(alloc, Inflater::new(alloc)?, &mut *second);
-    let outcome = pbfcut::show_with_receipt(alloc, &mut one, &mut two, drain, dates);
+    let outcome = pbfcut::show_with_receipt(passes, &mut one, &mut two, drain, dates);
     let receipt = match outcome {
         Ok(receipt) => receipt,
         Err(halt) => {

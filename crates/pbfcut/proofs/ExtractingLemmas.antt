@@ -3,7 +3,6 @@ use Rattle.std.proofs.Common.{◌≡◌, ◌⊎◌, inl, inr, ℕ, ℤ, ◌≤�
 use Rattle.std.specs.FinSet as set
 use Rattle.std.specs.List.{fold, filter}
 use Rattle.std.specs.Option.{option_map}
-use Rattle.sha2.specs.Sha256.{sha256}
 use Rattle.std.proofs.lemmas.List.Elements.{filter_agree}
 use Rattle.pbf_wire.specs.declared.fault.Fault.{Fault}
 use Rattle.osm_box.specs.declared.bounding_box.BoundingBox.{BoundingBox}
@@ -44,7 +43,8 @@ use Rattle.pbfcut.proofs.KeptLaw.{IsSelection, IsKeptExtract, complete_ways_sele
 use Rattle.pbfcut.proofs.TheoremLemmas.{took_weaker}
 use Rattle.pbf_pass.specs.Pass.{with_node, with_first, with_way, with_relation, TakesFile, file_header}
 use Rattle.pbfcut.specs.declared.repeat.Repeat.{Repeat}
-use Rattle.pbfcut.specs.Repeat.{Unlike, GathersRest, StopsAgain}
+use Rattle.pbfcut.specs.Repeat.{Unlike, GathersRest, StopsAgain, digest_of}
+use Rattle.pbf_pass.specs.Hashing.{IsDigestOf, digest_if}
 use Rattle.pbf_pass.specs.Stops.{Caused}
 use Rattle.pbf_pass.specs.Again.{GathersFile}
 use Rattle.pbf_pass.specs.Judged.{judged_file}
@@ -171,35 +171,35 @@ chosen_sound area b second sets h c = ap (λ (v : Verdict). v.1) (same_verdict b
 -- ---- why a call stops
 
 -- bytes of a later pass with another digest are not the first pass's bytes
-pub later_differs : (first other : Option (List ℕ)) (digest : List ℕ) (frames : List FrameSpec) → IsDigest first digest → Says (judged_file first) (frames, None) → Unlike other digest → Differ first other
+pub later_differs : (first other digest : Option (List ℕ)) (frames : List FrameSpec) → IsDigest first digest → Says (judged_file first) (frames, None) → Unlike other digest → Differ first other
 later_differs first other digest frames same says unlike b c is too e =
     let judged = known_says b (frames, None) (subst (λ (o : Option (List ℕ)). Says (judged_file o) (frames, None)) is says) in
-    unlike c frames too (same b is ∙ ap sha256 e) (ap (λ (l : List ℕ). judged_file (Some l)) (sym e) ∙ judged)
+    unlike c frames too (subst (λ (l : List ℕ). IsDigestOf digest l) e (same b is)) (ap (λ (l : List ℕ). judged_file (Some l)) (sym e) ∙ judged)
 
 -- the stops of a later pass, as those of the call
-pub stops_later : (again : Repeat) (first other : Option (List ℕ)) (digest : List ℕ) (frames : List FrameSpec) (refused : Fault → Type 0) (read later wrote : Type 0) (changed : ℕ → Type 0) (s : Stop) → IsDigest first digest → Says (judged_file first) (frames, None) → again.digest ≡ digest
+pub stops_later : (again : Repeat) (first other digest : Option (List ℕ)) (frames : List FrameSpec) (refused : Fault → Type 0) (read later wrote : Type 0) (changed : ℕ → Type 0) (s : Stop) → IsDigest first digest → Says (judged_file first) (frames, None) → digest_of again ≡ digest
     → (later → read) → ((pass : ℕ) → ChangedIn again.number first other pass → changed pass) → StopsAgain again other later wrote s → Caused refused read wrote changed s
 stops_later again first other digest frames refused read later wrote changed (stop.Refused e) same says is r d h = absurd h
 stops_later again first other digest frames refused read later wrote changed stop.Read same says is r d h = r h
 stops_later again first other digest frames refused read later wrote changed stop.Write same says is r d h = h
 stops_later again first other digest frames refused read later wrote changed stop.Memory same says is r d h = tt
-stops_later again first other digest frames refused read later wrote changed (stop.Changed n) same says is r d h = d n (h.0, later_differs first other digest frames same says (subst (λ (l : List ℕ). Unlike other l) is h.1))
+stops_later again first other digest frames refused read later wrote changed (stop.Changed n) same says is r d h = d n (h.0, later_differs first other digest frames same says (subst (λ (d : Option (List ℕ)). Unlike other d) is h.1))
 
 -- those of the pass that writes, in each call
-pub convert_stops : (digest : List ℕ) (first second old new : Option (List ℕ)) (frames : List FrameSpec) (read later wrote : Type 0) (s : Stop) → IsDigest first digest → Says (judged_file first) (frames, None)
-    → (later → read) → StopsAgain (record { number = 2; digest = digest }) second later wrote s → ConvertStops first second old new read wrote s
-convert_stops digest first second old new frames read later wrote s same says r h =
-    stops_later (record { number = 2; digest = digest }) first second digest frames (RefusedFirst (judged_writable first) old new) read later wrote (ChangedIn 2 first second) s same says refl r (λ pass is. is) h
+pub convert_stops : (hashes : Bool) (digest : List ℕ) (first second old new : Option (List ℕ)) (frames : List FrameSpec) (read later wrote : Type 0) (s : Stop) → IsDigest first (digest_if hashes digest) → Says (judged_file first) (frames, None)
+    → (later → read) → StopsAgain (record { number = 2; digest = digest; hashes = hashes }) second later wrote s → ConvertStops first second old new read wrote s
+convert_stops hashes digest first second old new frames read later wrote s same says r h =
+    stops_later (record { number = 2; digest = digest; hashes = hashes }) first second (digest_if hashes digest) frames (RefusedFirst (judged_writable first) old new) read later wrote (ChangedIn 2 first second) s same says refl r (λ pass is. is) h
 
-pub extract_stops : (digest : List ℕ) (first second third old new : Option (List ℕ)) (frames : List FrameSpec) (read later wrote : Type 0) (s : Stop) → IsDigest first digest → Says (judged_file first) (frames, None)
-    → (later → read) → StopsAgain (record { number = 3; digest = digest }) third later wrote s → ExtractStops first second third old new read wrote s
-extract_stops digest first second third old new frames read later wrote s same says r h =
-    stops_later (record { number = 3; digest = digest }) first third digest frames (RefusedFirst (judged_writable first) old new) read later wrote (λ pass. ChangedBefore 2 first second old new pass ⊎ ChangedIn 3 first third pass) s same says refl r (λ pass is. inr is) h
+pub extract_stops : (hashes : Bool) (digest : List ℕ) (first second third old new : Option (List ℕ)) (frames : List FrameSpec) (read later wrote : Type 0) (s : Stop) → IsDigest first (digest_if hashes digest) → Says (judged_file first) (frames, None)
+    → (later → read) → StopsAgain (record { number = 3; digest = digest; hashes = hashes }) third later wrote s → ExtractStops first second third old new read wrote s
+extract_stops hashes digest first second third old new frames read later wrote s same says r h =
+    stops_later (record { number = 3; digest = digest; hashes = hashes }) first third (digest_if hashes digest) frames (RefusedFirst (judged_writable first) old new) read later wrote (λ pass. ChangedBefore 2 first second old new pass ⊎ ChangedIn 3 first third pass) s same says refl r (λ pass is. inr is) h
 
-pub parents_stops : (digest : List ℕ) (first second third fourth old new : Option (List ℕ)) (frames : List FrameSpec) (read later wrote : Type 0) (s : Stop) → IsDigest first digest → Says (judged_file first) (frames, None)
-    → (later → read) → StopsAgain (record { number = 4; digest = digest }) fourth later wrote s → ParentsStops first second third fourth old new read wrote s
-parents_stops digest first second third fourth old new frames read later wrote s same says r h =
-    stops_later (record { number = 4; digest = digest }) first fourth digest frames (RefusedFirst (judged_writable first) old new) read later wrote
+pub parents_stops : (hashes : Bool) (digest : List ℕ) (first second third fourth old new : Option (List ℕ)) (frames : List FrameSpec) (read later wrote : Type 0) (s : Stop) → IsDigest first (digest_if hashes digest) → Says (judged_file first) (frames, None)
+    → (later → read) → StopsAgain (record { number = 4; digest = digest; hashes = hashes }) fourth later wrote s → ParentsStops first second third fourth old new read wrote s
+parents_stops hashes digest first second third fourth old new frames read later wrote s same says r h =
+    stops_later (record { number = 4; digest = digest; hashes = hashes }) first fourth (digest_if hashes digest) frames (RefusedFirst (judged_writable first) old new) read later wrote
     (λ pass. (ChangedBefore 2 first second old new pass ⊎ ChangedBefore 3 first third old new pass) ⊎ ChangedIn 4 first fourth pass) s same says refl r (λ pass is. inr is) h
 
 -- the stops of earlier passes, in a call with more of them
@@ -293,7 +293,7 @@ same_frames b one two e f = let same : ◌≡◌ {A = Option Verdict} (Some (one
   parted same = let pair : ◌≡◌ {A = Verdict} (one, None) (two, None) = cc in ap (λ (v : Verdict). v.0) pair
 
 -- what the first pass took, and a second one if the order was broken
-module _ {G : Type 0} (f : feed.Ghosts G) (old new : G) (digest : List ℕ) (area : BoundingBox) (b : List ℕ) (pass : Pass) (header h : HeaderSpec) (begun phase : FirstSets) (started ways : WaySets) (sets : KeptSets) where
+module _ {G : Type 0} (f : feed.Ghosts G) (old new : G) (digest : Option (List ℕ)) (area : BoundingBox) (b : List ℕ) (pass : Pass) (header h : HeaderSpec) (begun phase : FirstSets) (started ways : WaySets) (sets : KeptSets) where
   pub chooses_first : (in_order : Bool) → TakesFile with_first (judged_file (Some b)) begun phase pass → begun ≡ start_first area → held_header pass ≡ Some (pass.header_at, header) → header_limit (held_header pass) ≡ None → h ≡ header_out_for_box area header → IsShort h
       → in_order ≡ phase.in_order → started ≡ phase.ways → GathersRest f with_way in_order old new digest started ways → sets ≡ without_parents ways → GaveOrNot f old new digest b (λ c. IsChoice area b c sets h)
   chooses_first true p fresh held within is short order starts rest ends =
@@ -335,13 +335,13 @@ module _ {G : Type 0} (f : feed.Ghosts G) (old new : G) (digest : List ℕ) (are
       }) rest)
 
 -- the pass that writes, after passes that chose
-pub went_on : {H D : Type 0} (f : feed.Ghosts H) (d : drain.Ghosts D) (feed_old feed_new : H) (old new : D) (input : List ℕ) (area : BoundingBox) (edges : EdgesTyped (edges_of area)) (b c : List ℕ) (chosen : Bor Chosen) (h : HeaderSpec) (counts : Counts) → IsChoice area b c chosen.now h
+pub went_on : {H D : Type 0} (f : feed.Ghosts H) (d : drain.Ghosts D) (feed_old feed_new : H) (old new : D) (input : Option (List ℕ)) (area : BoundingBox) (edges : EdgesTyped (edges_of area)) (b c : List ℕ) (chosen : Bor Chosen) (h : HeaderSpec) (counts : Counts) → IsChoice area b c chosen.now h
     → GaveFile f feed_old feed_new input (λ file. Took d old new (Packed (pick_of (Some chosen)) h counts (judged_file (Some file))))
     → GaveFile f feed_old feed_new input (λ e. Took d old new (λ written. b ≡ c → b ≡ e → IsExtraction (complete_ways area) (λ meant. extract (seen_decoded area) meant) area b counts written))
 went_on f d feed_old feed_new old new input area edges b c chosen h counts choice wrote = gave_file_less f feed_old feed_new input _ _ (λ e took. took_weaker d old new _ _ (λ written packed second third.
     extracted (complete_ways area) (λ meant. extract (seen_decoded area) meant) (complete_ways_select area) area edges b _ h (selects_chosen chosen area b b c h refl (sym second) choice) counts _ written (ap (λ (l : List ℕ). judged_file (Some l)) (sym third)) packed) took) wrote
 
-pub went_on_with_parents : {H D : Type 0} (f : feed.Ghosts H) (d : drain.Ghosts D) (feed_old feed_new : H) (old new : D) (input : List ℕ) (area : BoundingBox) (edges : EdgesTyped (edges_of area)) (b c k : List ℕ) (chosen : Bor Chosen) (h : HeaderSpec) (counts : Counts) → IsChoiceWithParents area b c k chosen.now h
+pub went_on_with_parents : {H D : Type 0} (f : feed.Ghosts H) (d : drain.Ghosts D) (feed_old feed_new : H) (old new : D) (input : Option (List ℕ)) (area : BoundingBox) (edges : EdgesTyped (edges_of area)) (b c k : List ℕ) (chosen : Bor Chosen) (h : HeaderSpec) (counts : Counts) → IsChoiceWithParents area b c k chosen.now h
     → GaveFile f feed_old feed_new input (λ file. Took d old new (Packed (pick_of (Some chosen)) h counts (judged_file (Some file))))
     → GaveFile f feed_old feed_new input (λ e. Took d old new (λ written. b ≡ c → b ≡ k → b ≡ e → IsExtraction (all_parents area) (λ meant. extract_with_parents (seen_decoded area) meant) area b counts written))
 went_on_with_parents f d feed_old feed_new old new input area edges b c k chosen h counts choice wrote = gave_file_less f feed_old feed_new input _ _ (λ e took. took_weaker d old new _ _ (λ written packed second third fourth.

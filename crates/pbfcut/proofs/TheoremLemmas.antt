@@ -11,20 +11,20 @@ use Rattle.pbf_pass.proofs.GivenLemmas.{Tells, IsDigest, tells_file, told_digest
 pub took_weaker : {D : Type 0} (d : drain.Ghosts D) (old new : D) (P Q : List ℕ → Type 0) → ((written : List ℕ) → P written → Q written) → Took d old new P → Took d old new Q
 took_weaker d old new P Q weaker took = record { written = took.written; added = took.added; holding = weaker took.written took.holding }
 
-pub took_of_two : {F G D : Type 0} (f : feed.Ghosts F) (g : feed.Ghosts G) (d : drain.Ghosts D) (first first_new : F) (second second_new : G) (old new : D) (digest : List ℕ) (holds : List ℕ → List ℕ → Type 0) (file : List ℕ) → GaveFile f first first_new digest (λ b. IsWritable b × GaveFile g second second_new digest (λ c. Took d old new (λ written. b ≡ c → holds b written))) → BothSupply file (f.remaining first) (g.remaining second) → Took d old new (holds file)
+pub took_of_two : {F G D : Type 0} (f : feed.Ghosts F) (g : feed.Ghosts G) (d : drain.Ghosts D) (first first_new : F) (second second_new : G) (old new : D) (digest : Option (List ℕ)) (holds : List ℕ → List ℕ → Type 0) (file : List ℕ) → GaveFile f first first_new digest (λ b. IsWritable b × GaveFile g second second_new digest (λ c. Took d old new (λ written. b ≡ c → holds b written))) → BothSupply file (f.remaining first) (g.remaining second) → Took d old new (holds file)
 took_of_two f g d first first_new second second_new old new digest holds file one supply =
     let two = one.holding.1 in
     let tells = tells_file f _ _ _ _ one in
     took_weaker d old new _ _ (λ written is. subst (λ (b : List ℕ). holds b written) (tells file supply.0) (is (one_file _ _ one.file two.file file tells (tells_file g _ _ _ _ two) supply.0 supply.1))) two.holding
 
-pub took_of_three : {F G H D : Type 0} (f : feed.Ghosts F) (g : feed.Ghosts G) (h : feed.Ghosts H) (d : drain.Ghosts D) (first first_new : F) (second second_new : G) (third third_new : H) (old new : D) (digest : List ℕ) (holds : List ℕ → List ℕ → Type 0) (file : List ℕ) → GaveFile f first first_new digest (λ b. IsWritable b × GaveFile g second second_new digest (λ c. GaveFile h third third_new digest (λ e. Took d old new (λ written. b ≡ c → b ≡ e → holds b written)))) → AllSupply file (f.remaining first) (g.remaining second) (h.remaining third) → Took d old new (holds file)
+pub took_of_three : {F G H D : Type 0} (f : feed.Ghosts F) (g : feed.Ghosts G) (h : feed.Ghosts H) (d : drain.Ghosts D) (first first_new : F) (second second_new : G) (third third_new : H) (old new : D) (digest : Option (List ℕ)) (holds : List ℕ → List ℕ → Type 0) (file : List ℕ) → GaveFile f first first_new digest (λ b. IsWritable b × GaveFile g second second_new digest (λ c. GaveFile h third third_new digest (λ e. Took d old new (λ written. b ≡ c → b ≡ e → holds b written)))) → AllSupply file (f.remaining first) (g.remaining second) (h.remaining third) → Took d old new (holds file)
 took_of_three f g h d first first_new second second_new third third_new old new digest holds file one supply =
     let two = one.holding.1 in
     let three = two.holding in
     let tells = tells_file f _ _ _ _ one in
     took_weaker d old new _ _ (λ written is. subst (λ (b : List ℕ). holds b written) (tells file supply.0) (is (one_file _ _ one.file two.file file tells (tells_file g _ _ _ _ two) supply.0 supply.1) (one_file _ _ one.file three.file file tells (tells_file h _ _ _ _ three) supply.0 supply.2))) three.holding
 
-pub took_of_four : {F G H I D : Type 0} (f : feed.Ghosts F) (g : feed.Ghosts G) (h : feed.Ghosts H) (i : feed.Ghosts I) (d : drain.Ghosts D) (first first_new : F) (second second_new : G) (third third_new : H) (fourth fourth_new : I) (old new : D) (digest : List ℕ) (holds : List ℕ → List ℕ → Type 0) (file : List ℕ) → GaveFile f first first_new digest (λ b. IsWritable b × GaveFile g second second_new digest (λ c. GaveFile h third third_new digest (λ e. GaveFile i fourth fourth_new digest (λ k. Took d old new (λ written. b ≡ c → b ≡ e → b ≡ k → holds b written))))) → FourSupply file (f.remaining first) (g.remaining second) (h.remaining third) (i.remaining fourth) → Took d old new (holds file)
+pub took_of_four : {F G H I D : Type 0} (f : feed.Ghosts F) (g : feed.Ghosts G) (h : feed.Ghosts H) (i : feed.Ghosts I) (d : drain.Ghosts D) (first first_new : F) (second second_new : G) (third third_new : H) (fourth fourth_new : I) (old new : D) (digest : Option (List ℕ)) (holds : List ℕ → List ℕ → Type 0) (file : List ℕ) → GaveFile f first first_new digest (λ b. IsWritable b × GaveFile g second second_new digest (λ c. GaveFile h third third_new digest (λ e. GaveFile i fourth fourth_new digest (λ k. Took d old new (λ written. b ≡ c → b ≡ e → b ≡ k → holds b written))))) → FourSupply file (f.remaining first) (g.remaining second) (h.remaining third) (i.remaining fourth) → Took d old new (holds file)
 took_of_four f g h i d first first_new second second_new third third_new fourth fourth_new old new digest holds file one supply =
     let two = one.holding.1 in
     let three = two.holding in
@@ -34,12 +34,12 @@ took_of_four f g h i d first first_new second second_new third third_new fourth 
 
 -- ---- digests
 
-pub same_digest : (first other : Option (List ℕ)) (digest : List ℕ) → IsDigest first digest → IsDigest other digest → SameDigest first other
+pub same_digest : (first other : Option (List ℕ)) (digest : List ℕ) → IsDigest first (Some digest) → IsDigest other (Some digest) → SameDigest first other
 same_digest first other digest one two b c is too = sym (one b is) ∙ two c too
 
 -- ---- a feed that may not have been read
 
-module _ {G : Type 0} (f : feed.Ghosts G) (old new : G) (digest : List ℕ) where
+module _ {G : Type 0} (f : feed.Ghosts G) (old new : G) (digest : Option (List ℕ)) where
   -- what follows of the file that a later feed gave follows of the earlier one too, if the later feed was not read
   pub gave_or_not : (file : List ℕ) (holds : List ℕ → Type 0) (told : Type 0) → ((c : List ℕ) → holds c → told) → GaveOrNot f old new digest file holds → told
   gave_or_not file holds told step (inl given) = step given.file given.holding
@@ -54,11 +54,12 @@ module _ {G : Type 0} (f : feed.Ghosts G) (old new : G) (digest : List ℕ) wher
   told_or_not first file b holds tells is also (inl given) = subst holds (tells_file f old new digest holds given b also) given.holding
   told_or_not first file b holds tells is also (inr none) = subst holds (tells b is) none.1
 
-  pub second_digest : (first : Option (List ℕ)) (file : List ℕ) (holds : List ℕ → Type 0) → IsDigest first digest → GaveOrNot f old new digest file holds → SameDigest first (f.remaining old) ⊎ (new ≡ old)
-  second_digest first file holds same (inl given) = inl (same_digest first (f.remaining old) digest same (told_digest f old new digest holds given))
-  second_digest first file holds same (inr none) = inr none.0
+-- a feed that was read supplied bytes of the digest
+pub second_digest : {G : Type 0} (f : feed.Ghosts G) (old new : G) (digest : List ℕ) (first : Option (List ℕ)) (file : List ℕ) (holds : List ℕ → Type 0) → IsDigest first (Some digest) → GaveOrNot f old new (Some digest) file holds → SameDigest first (f.remaining old) ⊎ (new ≡ old)
+second_digest f old new digest first file holds same (inl given) = inl (same_digest first (f.remaining old) digest same (told_digest f old new (Some digest) holds given))
+second_digest f old new digest first file holds same (inr none) = inr none.0
 
-pub took_sorted : {F G H D : Type 0} (f : feed.Ghosts F) (g : feed.Ghosts G) (h : feed.Ghosts H) (d : drain.Ghosts D) (first first_new : F) (second second_new : G) (third third_new : H) (old new : D) (digest : List ℕ) (holds : List ℕ → List ℕ → Type 0) (file : List ℕ) → GaveFile f first first_new digest (λ b. IsWritable b × GaveOrNot g second second_new digest b (λ c. GaveFile h third third_new digest (λ e. Took d old new (λ written. b ≡ c → b ≡ e → holds b written)))) → AllSupply file (f.remaining first) (g.remaining second) (h.remaining third) → Took d old new (holds file)
+pub took_sorted : {F G H D : Type 0} (f : feed.Ghosts F) (g : feed.Ghosts G) (h : feed.Ghosts H) (d : drain.Ghosts D) (first first_new : F) (second second_new : G) (third third_new : H) (old new : D) (digest : Option (List ℕ)) (holds : List ℕ → List ℕ → Type 0) (file : List ℕ) → GaveFile f first first_new digest (λ b. IsWritable b × GaveOrNot g second second_new digest b (λ c. GaveFile h third third_new digest (λ e. Took d old new (λ written. b ≡ c → b ≡ e → holds b written)))) → AllSupply file (f.remaining first) (g.remaining second) (h.remaining third) → Took d old new (holds file)
 took_sorted f g h d first first_new second second_new third third_new old new digest holds file one supply =
     let tells = tells_file f _ _ _ _ one in
     let three = told_or_not g second second_new digest (f.remaining first) one.file file (λ c. GaveFile h third third_new digest (λ e. Took d old new (λ written. one.file ≡ c → one.file ≡ e → holds one.file written))) tells supply.0 supply.1 one.holding.1 in

@@ -22,8 +22,8 @@ AllSupply b first second third = (first ≡ Some b) × (second ≡ Some b) × (t
 abbrev pub FourSupply : List ℕ → Option (List ℕ) → Option (List ℕ) → Option (List ℕ) → Option (List ℕ) → Type 0
 FourSupply b first second third fourth = (first ≡ Some b) × (second ≡ Some b) × (third ≡ Some b) × (fourth ≡ Some b)
 
--- a later feed gave a file of this digest, and this holds of it; or nothing was read of it, and this holds of the file before
-abbrev pub GaveOrNot : {F : Type 0} → feed.Ghosts F → (old new : F) → (digest file : List ℕ) → (List ℕ → Type 0) → Type 0
+-- a later feed gave a file, of this digest if there is one, and this holds of it; or nothing was read of it, and this holds of the file before
+abbrev pub GaveOrNot : {F : Type 0} → feed.Ghosts F → (old new : F) → Option (List ℕ) → (file : List ℕ) → (List ℕ → Type 0) → Type 0
 GaveOrNot f old new digest file holds = GaveFile f old new digest holds ⊎ ((new ≡ old) × holds file)
 
 -- ---- why a call stops

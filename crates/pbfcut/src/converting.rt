@@ -7,6 +7,7 @@ ghost use Rattle.pbfcut.specs.Theorem.{Converted, IsConverted, Promised, Canonic
 ghost use Rattle.pbfcut.specs.Converting.{CanBeWritten};
 ghost use Rattle.pbf_pass.specs.HeaderLimit.{judged_writable};
 ghost use Rattle.pbf_pass.specs.Given.{GaveFile, Took};
+ghost use Rattle.pbf_pass.specs.Hashing.{digest_if};
 ghost use Rattle.pbfcut.specs.Kept.{IsWritable, conversion_of};
 ghost use Rattle.pbf_pass.specs.Refused.{HaltsFile, stop_of};
 ghost use Rattle.pbfcut.specs.Repeat.{SameDigest};
@@ -16,7 +17,7 @@ use crate::repeat::Repeat;
 use crate::write::Writing;
 use pbf_block::Counts;
 use pbf_frame::{Drain, Feed, Stop};
-use pbf_pass::{Halt, InputReceipt, Nothing, judge, writable_header};
+use pbf_pass::{Halt, InputReceipt, Nothing, Passes, judge, writable_header};
 use std::alloc::Global;
 use std::hash::BuildHasher;
 
@@ -57,13 +58,17 @@ pub fn convert<F: Feed, G: Feed, D: Drain, S: BuildHasher + Drop>(
         (ReadFailed F.Feed first.old first.new ⊎ ReadFailed G.Feed second.old second.new)
         (WriteFailed D.Drain drain.old drain.new)) }
 {
-    Ok(convert_with_receipt(alloc, first, second, drain, hasher)?.counts)
+    let passes = Passes {
+        alloc,
+        hashes: true,
+    };
+    Ok(convert_with_receipt(passes, first, second, drain, hasher)?.counts)
 }
 
 /// Like [`convert`], and returns the digest of what was read, whether the devices report their bytes or not. A
 /// [`pbf_pass::HashedDrain`] has the digest of what was written: see [`crate::laws::hashed_drain_took`].
 pub fn convert_with_receipt<F: Feed, G: Feed, D: Drain, S: BuildHasher + Drop>(
-    alloc: Global,
+    passes: Passes,
     first: &mut F,
     second: &mut G,
     drain: &mut D,
@@ -71,13 +76,14 @@ pub fn convert_with_receipt<F: Feed, G: Feed, D: Drain, S: BuildHasher + Drop>(
 ) -> Result<InputReceipt, Halt>
     // Each feed gave a file of the digest `input`, to its end; the first has no fault, and its header can be written. The drain took
     // bytes. If both files are the same, these bytes are exactly its conversion, and the counts are those of its entities.
-    ensures receipt { IfOk result (λ receipt. GaveFile F.Feed first.old first.new receipt.input
-        (λ b. IsWritable b
-        × GaveFile G.Feed second.old second.new receipt.input (λ c. Took D.Drain drain.old drain.new
+    ensures receipt { IfOk result (λ receipt. GaveFile F.Feed first.old first.new
+        (digest_if passes.hashes receipt.input) (λ b. IsWritable b
+        × GaveFile G.Feed second.old second.new (digest_if passes.hashes receipt.input)
+        (λ c. Took D.Drain drain.old drain.new
         (λ written. b ≡ c → IsConverted b receipt.counts written)))) }
     // The first feed gave `read` bytes of this digest, the fault is the first of whatever begins so (or of them, if the feed was at its
     // end), and the drain took nothing.
-    ensures refused { IfErr result (HaltsFile F.Feed first.old first.new
+    ensures refused { IfErr result (HaltsFile F.Feed first.old first.new passes.hashes
         D.Drain drain.old drain.new (λ b. judged_writable (Some b))) }
     // Each stop has its cause, as of `convert`.
     ensures stops { IfErr result (λ h. ConvertStops (F.remaining first.old) (G.remaining second.old)
@@ -91,13 +97,18 @@ pub fn convert_with_receipt<F: Feed, G: Feed, D: Drain, S: BuildHasher + Drop>(
     // The drain keeps its references, and its count of failures doesn't fall.
     ensures drain { KeepsDrain D.Drain drain.old drain.new }
 {
-    let told = judge(alloc, first, &mut Nothing)?;
+    let told = judge(passes, first, &mut Nothing)?;
     let writing = Writing {
         header: writable_header(&told)?,
         chosen: None,
     };
     let digest = told.digest;
-    let counts = Repeat { number: 2, digest }.write(alloc, second, drain, hasher, writing)?;
+    let last = Repeat {
+        number: 2,
+        digest,
+        hashes: passes.hashes,
+    };
+    let counts = last.write(passes.alloc, second, drain, hasher, writing)?;
     Ok(InputReceipt {
         counts,
         input: digest,

@@ -1,6 +1,6 @@
 //! `extract` and `extract_parents`: what a box cuts out of a file, in canonical form.
 
-ghost use Rattle.std.specs.Prelude.{◌≡◌, ◌⊎◌, ℕ, List, IfOk, IfErr, OnOk, OnErr};
+ghost use Rattle.std.specs.Prelude.{◌≡◌, ◌⊎◌, ℕ, List, true, Some, IfOk, IfErr, OnOk, OnErr};
 ghost use Rattle.osm_ways.specs.Parents.{extract_with_parents};
 ghost use Rattle.osm_ways.specs.Seen.{seen_decoded};
 ghost use Rattle.osm_ways.specs.Selection.{extract};
@@ -24,7 +24,7 @@ use osm_ways::{Chosen, NodePhase};
 use pbf_block::Counts;
 use pbf_frame::{Drain, Feed, Stop};
 use pbf_header::Header;
-use pbf_pass::{Halt, InputReceipt, judge, writable_header};
+use pbf_pass::{Halt, InputReceipt, Passes, judge, writable_header};
 use std::alloc::Global;
 use std::hash::BuildHasher;
 
@@ -46,21 +46,30 @@ fn choose<F: Feed, G: Feed>(
     second: &mut G,
     area: BoundingBox,
 ) -> Result<Choice, Halt>
-    ensures chosen { IfOk result (λ choice. GaveFile F.Feed first.old first.new choice.digest (λ b.
-        GaveFile G.Feed second.old second.new choice.digest
+    ensures chosen { IfOk result (λ choice. GaveFile F.Feed first.old first.new (Some choice.digest) (λ b.
+        GaveFile G.Feed second.old second.new (Some choice.digest)
         (λ c. IsChoice area b c choice.chosen (header_of choice.header)))) }
     ensures refused { IfErr result
-        (Halts (RefusesFile F.Feed first.old first.new (λ b. judged_writable (Some b)))) }
+        (Halts (RefusesFile F.Feed first.old first.new true (λ b. judged_writable (Some b)))) }
     ensures stops { IfErr result (λ h. Caused (FaultOf (judged_writable (F.remaining first.old)))
         (ReadFailed F.Feed first.old first.new ⊎ ReadFailed G.Feed second.old second.new) ⊥
         (ChangedIn 2 (F.remaining first.old) (G.remaining second.old)) (stop_of h)) }
 {
+    let passes = Passes {
+        alloc,
+        hashes: true,
+    };
     let mut nodes = NodePhase::new(alloc, area);
-    let told = judge(alloc, first, &mut nodes)?;
+    let told = judge(passes, first, &mut nodes)?;
     let header = writable_header(&told)?.for_box(alloc, area)?;
     let digest = told.digest;
     let mut ways = nodes.end_nodes()?;
-    Repeat { number: 2, digest }.gather(alloc, second, &mut ways)?;
+    let last = Repeat {
+        number: 2,
+        digest,
+        hashes: true,
+    };
+    last.gather(alloc, second, &mut ways)?;
     let chosen = ways.end_ways()?;
     Ok(Choice {
         chosen,
@@ -132,16 +141,16 @@ pub fn extract_with_receipt<F: Feed, G: Feed, H: Feed, D: Drain, S: BuildHasher 
 ) -> Result<InputReceipt, Halt>
     // Each feed gave a file of the digest `input`, to its end; the first has no fault, and its header can be written. The drain took
     // bytes. If the files are the same, these bytes are exactly its complete-ways extract, and the counts are those of the entities in it.
-    ensures receipt { IfOk result (λ receipt. GaveFile F.Feed first.old first.new receipt.input
+    ensures receipt { IfOk result (λ receipt. GaveFile F.Feed first.old first.new (Some receipt.input)
         (λ b. IsWritable b
-        × GaveFile G.Feed second.old second.new receipt.input
-        (λ c. GaveFile H.Feed third.old third.new receipt.input (λ d.
+        × GaveFile G.Feed second.old second.new (Some receipt.input)
+        (λ c. GaveFile H.Feed third.old third.new (Some receipt.input) (λ d.
         Took D.Drain drain.old drain.new
         (λ written. b ≡ c → b ≡ d → IsExtraction (complete_ways area) (extract (seen_decoded area))
         area b receipt.counts written))))) }
     // The first feed gave `read` bytes of this digest, the fault is the first of whatever begins so (or of them, if the feed was at its
     // end), and the drain took nothing.
-    ensures refused { IfErr result (HaltsFile F.Feed first.old first.new
+    ensures refused { IfErr result (HaltsFile F.Feed first.old first.new true
         D.Drain drain.old drain.new (λ b. judged_writable (Some b))) }
     // Each stop has its cause, as of `extract`.
     ensures stops { IfErr result (λ h. ExtractStops (F.remaining first.old) (G.remaining second.old)
@@ -163,7 +172,12 @@ pub fn extract_with_receipt<F: Feed, G: Feed, H: Feed, D: Drain, S: BuildHasher 
         header: &choice.header,
         chosen: Some(&choice.chosen),
     };
-    let counts = Repeat { number: 3, digest }.write(alloc, third, drain, hasher, writing)?;
+    let last = Repeat {
+        number: 3,
+        digest,
+        hashes: true,
+    };
+    let counts = last.write(alloc, third, drain, hasher, writing)?;
     Ok(InputReceipt {
         counts,
         input: digest,
@@ -178,12 +192,12 @@ fn choose_parents<F: Feed, G: Feed, H: Feed>(
     third: &mut H,
     area: BoundingBox,
 ) -> Result<Choice, Halt>
-    ensures chosen { IfOk result (λ choice. GaveFile F.Feed first.old first.new choice.digest (λ b.
-        GaveFile G.Feed second.old second.new choice.digest
-        (λ c. GaveFile H.Feed third.old third.new choice.digest
+    ensures chosen { IfOk result (λ choice. GaveFile F.Feed first.old first.new (Some choice.digest) (λ b.
+        GaveFile G.Feed second.old second.new (Some choice.digest)
+        (λ c. GaveFile H.Feed third.old third.new (Some choice.digest)
         (λ d. IsChoiceWithParents area b c d choice.chosen (header_of choice.header))))) }
     ensures refused { IfErr result
-        (Halts (RefusesFile F.Feed first.old first.new (λ b. judged_writable (Some b)))) }
+        (Halts (RefusesFile F.Feed first.old first.new true (λ b. judged_writable (Some b)))) }
     ensures stops { IfErr result (λ h. Caused (FaultOf (judged_writable (F.remaining first.old)))
         (ReadFailed F.Feed first.old first.new
         ⊎ (ReadFailed G.Feed second.old second.new ⊎ ReadFailed H.Feed third.old third.new)) ⊥
@@ -193,7 +207,12 @@ fn choose_parents<F: Feed, G: Feed, H: Feed>(
     let choice = choose(alloc, first, second, area)?;
     let digest = choice.digest;
     let mut relations = choice.chosen.with_parents();
-    Repeat { number: 3, digest }.gather(alloc, third, &mut relations)?;
+    let last = Repeat {
+        number: 3,
+        digest,
+        hashes: true,
+    };
+    last.gather(alloc, third, &mut relations)?;
     let chosen = relations.end_relations()?.into_chosen();
     Ok(Choice {
         chosen,
@@ -277,16 +296,16 @@ pub fn extract_parents_with_receipt<
     // Each feed gave a file of the digest `input`, to its end; the first has no fault, and its header can be written. The drain took
     // bytes. If the files are the same, these bytes are exactly its complete-ways extract with all parents, and the
     // counts are those of the entities in it.
-    ensures receipt { IfOk result (λ receipt. GaveFile F.Feed first.old first.new receipt.input
+    ensures receipt { IfOk result (λ receipt. GaveFile F.Feed first.old first.new (Some receipt.input)
         (λ b. IsWritable b
-        × GaveFile G.Feed second.old second.new receipt.input
-        (λ c. GaveFile H.Feed third.old third.new receipt.input (λ d.
-        GaveFile I.Feed fourth.old fourth.new receipt.input (λ e. Took D.Drain drain.old drain.new
+        × GaveFile G.Feed second.old second.new (Some receipt.input)
+        (λ c. GaveFile H.Feed third.old third.new (Some receipt.input) (λ d.
+        GaveFile I.Feed fourth.old fourth.new (Some receipt.input) (λ e. Took D.Drain drain.old drain.new
         (λ written. b ≡ c → b ≡ d → b ≡ e → IsExtraction (all_parents area)
         (extract_with_parents (seen_decoded area)) area b receipt.counts written)))))) }
     // The first feed gave `read` bytes of this digest, the fault is the first of whatever begins so (or of them, if the feed was at its
     // end), and the drain took nothing.
-    ensures refused { IfErr result (HaltsFile F.Feed first.old first.new
+    ensures refused { IfErr result (HaltsFile F.Feed first.old first.new true
         D.Drain drain.old drain.new (λ b. judged_writable (Some b))) }
     // Each stop has its cause, as of `extract_parents`.
     ensures stops { IfErr result (λ h. ParentsStops (F.remaining first.old) (G.remaining second.old)
@@ -309,7 +328,12 @@ pub fn extract_parents_with_receipt<
         header: &choice.header,
         chosen: Some(&choice.chosen),
     };
-    let counts = Repeat { number: 4, digest }.write(alloc, fourth, drain, hasher, writing)?;
+    let last = Repeat {
+        number: 4,
+        digest,
+        hashes: true,
+    };
+    let counts = last.write(alloc, fourth, drain, hasher, writing)?;
     Ok(InputReceipt {
         counts,
         input: digest,

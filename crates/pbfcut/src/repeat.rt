@@ -1,21 +1,22 @@
 //! Passes after the first one, whose bytes have to have its digest.
 
-ghost use Rattle.std.specs.Prelude.{◌≡◌, IfOk, IfErr, OnOk, OnErr, Ok, Err, Some};
+ghost use Rattle.std.specs.Prelude.{◌≡◌, true, IfOk, IfErr, OnOk, OnErr, Ok, Err, Some};
 ghost use Rattle.pbf_header.specs.Header.{header_of};
 ghost use Rattle.pbf_frame.specs.declared.stop.Stop.TheVariants.{Changed};
 ghost use Rattle.pbf_pass.specs.Again.{GathersFile};
 ghost use Rattle.pbf_pass.specs.Judged.{judged_file};
 ghost use Rattle.pbf_pass.specs.Given.{GaveFile, Took};
+ghost use Rattle.pbf_pass.specs.Hashing.{digest_if};
 ghost use Rattle.pbfcut.specs.Pick.{pick_of};
 ghost use Rattle.pbf_pass.specs.HeaderLimit.{IsShort};
 ghost use Rattle.pbf_pass.specs.Stops.{KeepsDrain, ReadFailed, WriteFailed};
-ghost use Rattle.pbfcut.specs.Repeat.{GathersRest, StopsAgain, as_change};
+ghost use Rattle.pbfcut.specs.Repeat.{GathersRest, StopsAgain, as_change, digest_of};
 ghost use Rattle.pbfcut.specs.Write.{Packed, PacksFront};
 
 use crate::write::{Writing, write};
 use pbf_block::Counts;
 use pbf_frame::{Drain, Feed, Stop};
-use pbf_pass::{Gather, gather_again};
+use pbf_pass::{Gather, Passes, gather_again};
 use std::alloc::Global;
 use std::hash::BuildHasher;
 
@@ -26,9 +27,21 @@ pub(crate) struct Repeat {
     pub(crate) number: u8,
     /// The digest of the bytes of the first.
     pub(crate) digest: [u8; 32],
+    /// Whether the passes are hashed.
+    pub(crate) hashes: bool,
 }
 
 impl Repeat {
+    /// How the pass is made.
+    fn passes(self, alloc: Global) -> Passes
+        ensures { result.hashes ≡ self.hashes }
+    {
+        Passes {
+            alloc,
+            hashes: self.hashes,
+        }
+    }
+
     /// A fault of a frame that the judging pass didn't find is `Changed`.
     pub(crate) fn changed(self, stop: Stop) -> Stop
         ensures { result ≡ as_change self.number stop }
@@ -39,13 +52,13 @@ impl Repeat {
         }
     }
 
-    /// Another digest is `Changed`.
+    /// Another digest is `Changed`, if the passes are hashed.
     pub(crate) fn compare(self, digest: [u8; 32]) -> Result<(), Stop>
-        ensures same { OnOk result (digest ≡ self.digest) }
+        ensures same { OnOk result (digest_if self.hashes digest ≡ digest_of self) }
         ensures other { IfErr result (λ stop. (stop ≡ Changed self.number)
-            × (digest ≡ self.digest → ⊥)) }
+            × (self.hashes ≡ true) × (digest ≡ self.digest → ⊥)) }
     {
-        if digest == self.digest {
+        if !self.hashes || digest == self.digest {
             Ok(())
         } else {
             Err(Stop::Changed(self.number))
@@ -59,13 +72,13 @@ impl Repeat {
         feed: &mut F,
         gathering: &mut G,
     ) -> Result<(), Stop>
-        ensures gathered { OnOk result (GaveFile F.Feed feed.old feed.new self.digest
+        ensures gathered { OnOk result (GaveFile F.Feed feed.old feed.new (digest_of self)
             (λ file. GathersFile G.gathered (judged_file (Some file))
             gathering.old gathering.new)) }
         ensures stops { IfErr result (StopsAgain self (F.remaining feed.old)
             (ReadFailed F.Feed feed.old feed.new) ⊥) }
     {
-        match gather_again(alloc, feed, gathering, self.number) {
+        match gather_again(self.passes(alloc), feed, gathering, self.number) {
             Ok(digest) => self.compare(digest),
             Err(stop) => Err(self.changed(stop)),
         }
@@ -80,7 +93,7 @@ impl Repeat {
         is_done: bool,
     ) -> Result<(), Stop>
         ensures gathered { OnOk result (GathersRest F.Feed G.gathered is_done feed.old feed.new
-            self.digest gathering.old gathering.new) }
+            (digest_of self) gathering.old gathering.new) }
         ensures stops { IfErr result (StopsAgain self (F.remaining feed.old)
             (ReadFailed F.Feed feed.old feed.new) ⊥) }
     {
@@ -100,7 +113,7 @@ impl Repeat {
         writing: Writing<'_>,
     ) -> Result<Counts, Stop>
         requires { IsShort (header_of writing.header.now) }
-        ensures packed { IfOk result (λ counts. GaveFile F.Feed feed.old feed.new self.digest
+        ensures packed { IfOk result (λ counts. GaveFile F.Feed feed.old feed.new (digest_of self)
             (λ file. Took D.Drain drain.old drain.new
             (Packed (pick_of writing.entry.chosen) (header_of writing.entry.header.now)
             counts (judged_file (Some file))))) }
@@ -111,7 +124,7 @@ impl Repeat {
             (ReadFailed F.Feed feed.old feed.new) (WriteFailed D.Drain drain.old drain.new)) }
         ensures drain { KeepsDrain D.Drain drain.old drain.new }
     {
-        match write(alloc, feed, drain, hasher, writing, self.number) {
+        match write(self.passes(alloc), feed, drain, hasher, writing, self.number) {
             Ok(wrote) => {
                 self.compare(wrote.input)?;
                 Ok(wrote.counts)

@@ -12,6 +12,7 @@ ghost use Rattle.pbf_frame.specs.Devices.{IsFront};
 ghost use Rattle.pbf_frame.specs.Transfers.{Added};
 ghost use Rattle.pbfcut.specs.Calls.{RefusedFirst, ChangedIn};
 ghost use Rattle.pbf_pass.specs.Given.{GaveFile, Took};
+ghost use Rattle.pbf_pass.specs.Hashing.{digest_if};
 ghost use Rattle.pbf_pass.specs.Judged.{judged_file};
 ghost use Rattle.pbf_pass.specs.Pass.{CountsFile};
 ghost use Rattle.pbf_pass.specs.Payload.{primitive_block, lent_by};
@@ -26,7 +27,7 @@ use osm_text::{put_entity, put_header};
 use pbf_block::{Block, Counts, Entities};
 use pbf_frame::{Drain, Feed, Frame, FrameKind, Stop, write_all};
 use pbf_header::Header;
-use pbf_pass::{Halt, InputReceipt, Nothing, Visit, judge, pass_over};
+use pbf_pass::{Halt, InputReceipt, Nothing, Passes, Visit, judge, pass_over};
 use std::alloc::Global;
 
 /// Writes the line of an entity, which is put together in `text`.
@@ -165,26 +166,26 @@ impl<D: Drain> Visit for Showing<'_, D> {
 
 /// Writes the text of a whole file, and returns the digest of its bytes.
 fn write_text<F: Feed, D: Drain>(
-    alloc: Global,
+    passes: Passes,
     feed: &mut F,
     drain: &mut D,
     dates: bool,
 ) -> Result<[u8; 32], Stop>
-    ensures shown { IfOk result (λ digest. GaveFile F.Feed feed.old feed.new digest
-        (λ file. Took D.Drain drain.old drain.new (Shown dates (judged_file (Some file))))) }
+    ensures shown { IfOk result (λ digest. GaveFile F.Feed feed.old feed.new
+        (digest_if passes.hashes digest) (λ file. Took D.Drain drain.old drain.new (Shown dates (judged_file (Some file))))) }
     ensures beginning { OnErr result (WritesFront dates (judged_file (F.remaining feed.old))
         (D.taken drain.old) (D.taken drain.new)) }
     ensures stops { IfErr result (Caused (FaultOf (judged_file (F.remaining feed.old)))
         (ReadFailed F.Feed feed.old feed.new) (WriteFailed D.Drain drain.old drain.new) unchanged) }
     ensures drain { KeepsDrain D.Drain drain.old drain.new }
 {
-    let mut text = Vec::new(alloc);
+    let mut text = Vec::new(passes.alloc);
     let mut showing = Showing {
         text: &mut text,
         drain,
         dates,
     };
-    Ok(pass_over(alloc, feed, &mut showing)?.digest)
+    Ok(pass_over(passes, feed, &mut showing)?.digest)
 }
 
 /// Writes a line for each field of the header and for each entity, and returns the numbers of entities. With `dates` times
@@ -220,13 +221,17 @@ pub fn show<F: Feed, G: Feed, D: Drain>(
         → ShowsFront dates (judged_file (F.remaining first.old))
         (D.taken drain.old) (D.taken drain.new)) }
 {
-    Ok(show_with_receipt(alloc, first, second, drain, dates)?.counts)
+    let passes = Passes {
+        alloc,
+        hashes: true,
+    };
+    Ok(show_with_receipt(passes, first, second, drain, dates)?.counts)
 }
 
 /// Like [`show`], and returns the digest of what was read, whether the devices report their bytes or not. A
 /// [`pbf_pass::HashedDrain`] has the digest of the text: see [`crate::laws::hashed_drain_took`].
 pub fn show_with_receipt<F: Feed, G: Feed, D: Drain>(
-    alloc: Global,
+    passes: Passes,
     first: &mut F,
     second: &mut G,
     drain: &mut D,
@@ -234,13 +239,14 @@ pub fn show_with_receipt<F: Feed, G: Feed, D: Drain>(
 ) -> Result<InputReceipt, Halt>
     // Each feed gave a file of the digest `input`, to its end. The first has no fault, and the counts are those of its entities. The
     // drain took exactly the text of the second, which has no fault.
-    ensures receipt { IfOk result (λ receipt. GaveFile F.Feed first.old first.new receipt.input
+    ensures receipt { IfOk result (λ receipt. GaveFile F.Feed first.old first.new
+        (digest_if passes.hashes receipt.input)
         (λ b. CountsFile (judged_file (Some b)) receipt.counts
-        × GaveFile G.Feed second.old second.new receipt.input
+        × GaveFile G.Feed second.old second.new (digest_if passes.hashes receipt.input)
         (λ c. Took D.Drain drain.old drain.new (Shown dates (judged_file (Some c)))))) }
     // The first feed gave `read` bytes of this digest, the fault is the first of whatever begins so (or of them, if the feed was at its
     // end), and the drain took nothing.
-    ensures refused { IfErr result (HaltsFile F.Feed first.old first.new
+    ensures refused { IfErr result (HaltsFile F.Feed first.old first.new passes.hashes
         D.Drain drain.old drain.new (λ b. judged_file (Some b))) }
     // Each stop has its cause, as of `show`.
     ensures stops { IfErr result (λ h. Caused
@@ -255,13 +261,14 @@ pub fn show_with_receipt<F: Feed, G: Feed, D: Drain>(
     // The drain keeps its references, and its count of failures doesn't fall.
     ensures drain { KeepsDrain D.Drain drain.old drain.new }
 {
-    let told = judge(alloc, first, &mut Nothing)?;
+    let told = judge(passes, first, &mut Nothing)?;
     let input = told.digest;
     let last = Repeat {
         number: 2,
         digest: input,
+        hashes: passes.hashes,
     };
-    match write_text(alloc, second, drain, dates) {
+    match write_text(passes, second, drain, dates) {
         Ok(digest) => {
             last.compare(digest)?;
             Ok(InputReceipt {

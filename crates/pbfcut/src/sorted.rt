@@ -12,6 +12,7 @@ ghost use Rattle.pbfcut.specs.Converting.{CanBeWritten};
 ghost use Rattle.pbf_pass.specs.HeaderLimit.{judged_writable};
 ghost use Rattle.pbfcut.specs.Extracting.{complete_ways, all_parents, IsChoice, IsChoiceWithParents};
 ghost use Rattle.pbf_pass.specs.Given.{GaveFile, Took};
+ghost use Rattle.pbf_pass.specs.Hashing.{digest_if};
 ghost use Rattle.pbfcut.specs.Kept.{IsWritable, extract_of};
 ghost use Rattle.pbf_pass.specs.Refused.{RefusesFile, Halts, HaltsFile, stop_of};
 ghost use Rattle.pbfcut.specs.Repeat.{SameDigest};
@@ -24,34 +25,41 @@ use osm_entity::BoundingBox;
 use osm_ways::FirstPhase;
 use pbf_block::Counts;
 use pbf_frame::{Drain, Feed, Stop};
-use pbf_pass::{Halt, InputReceipt, judge, writable_header};
+use pbf_pass::{Halt, InputReceipt, Passes, judge, writable_header};
 use std::alloc::Global;
 use std::hash::BuildHasher;
 
 /// The passes before the one that writes: the first judges the file and takes the nodes of the box, and the ways as long as no node
 /// comes after one. If one did, the second takes the ways; otherwise it isn't made.
 pub(crate) fn choose_sorted<F: Feed, G: Feed>(
-    alloc: Global,
+    passes: Passes,
     first: &mut F,
     second: &mut G,
     area: BoundingBox,
 ) -> Result<Choice, Halt>
-    ensures chosen { IfOk result (λ choice. GaveFile F.Feed first.old first.new choice.digest (λ b.
-        GaveOrNot G.Feed second.old second.new choice.digest b
-        (λ c. IsChoice area b c choice.chosen (header_of choice.header)))) }
+    ensures chosen { IfOk result (λ choice. GaveFile F.Feed first.old first.new
+        (digest_if passes.hashes choice.digest) (λ b. GaveOrNot G.Feed second.old second.new
+        (digest_if passes.hashes choice.digest) b (λ c. IsChoice area b c choice.chosen (header_of choice.header)))) }
     ensures refused { IfErr result
-        (Halts (RefusesFile F.Feed first.old first.new (λ b. judged_writable (Some b)))) }
+        (Halts (RefusesFile F.Feed first.old first.new passes.hashes
+        (λ b. judged_writable (Some b)))) }
     ensures stops { IfErr result (λ h. Caused (FaultOf (judged_writable (F.remaining first.old)))
         (ReadFailed F.Feed first.old first.new ⊎ ReadFailed G.Feed second.old second.new) ⊥
         (ChangedIn 2 (F.remaining first.old) (G.remaining second.old)) (stop_of h)) }
 {
+    let Passes { alloc, hashes } = passes;
     let mut phase = FirstPhase::new(alloc, area);
-    let told = judge(alloc, first, &mut phase)?;
+    let told = judge(passes, first, &mut phase)?;
     let header = writable_header(&told)?.for_box(alloc, area)?;
     let digest = told.digest;
     let in_order = phase.is_in_order();
     let mut ways = phase.end()?;
-    Repeat { number: 2, digest }.gather_rest(alloc, second, &mut ways, in_order)?;
+    let again = Repeat {
+        number: 2,
+        digest,
+        hashes,
+    };
+    again.gather_rest(alloc, second, &mut ways, in_order)?;
     let chosen = ways.end_ways()?;
     Ok(Choice {
         chosen,
@@ -99,13 +107,17 @@ pub fn extract_sorted<F: Feed, G: Feed, H: Feed, D: Drain, S: BuildHasher + Drop
         ⊎ (ReadFailed G.Feed second.old second.new ⊎ ReadFailed H.Feed third.old third.new))
         (WriteFailed D.Drain drain.old drain.new)) }
 {
-    let receipt = extract_sorted_with_receipt(alloc, first, second, third, area, drain, hasher)?;
+    let passes = Passes {
+        alloc,
+        hashes: true,
+    };
+    let receipt = extract_sorted_with_receipt(passes, first, second, third, area, drain, hasher)?;
     Ok(receipt.counts)
 }
 
 /// Like [`extract_sorted`], and returns the digest of what was read, as [`extract_with_receipt`](crate::extract_with_receipt) does.
 pub fn extract_sorted_with_receipt<F: Feed, G: Feed, H: Feed, D: Drain, S: BuildHasher + Drop>(
-    alloc: Global,
+    passes: Passes,
     first: &mut F,
     second: &mut G,
     third: &mut H,
@@ -116,16 +128,16 @@ pub fn extract_sorted_with_receipt<F: Feed, G: Feed, H: Feed, D: Drain, S: Build
     // The first and the third feed gave a file of the digest `input`, to its end, and the second too or nothing. The first file has no
     // fault, and its header can be written. The drain took bytes. If the files are the same, these bytes are exactly its complete-ways
     // extract, and the counts are those of the entities in it.
-    ensures receipt { IfOk result (λ receipt. GaveFile F.Feed first.old first.new receipt.input
-        (λ b. IsWritable b
-        × GaveOrNot G.Feed second.old second.new receipt.input b
-        (λ c. GaveFile H.Feed third.old third.new receipt.input (λ d.
+    ensures receipt { IfOk result (λ receipt. GaveFile F.Feed first.old first.new
+        (digest_if passes.hashes receipt.input) (λ b. IsWritable b
+        × GaveOrNot G.Feed second.old second.new (digest_if passes.hashes receipt.input) b
+        (λ c. GaveFile H.Feed third.old third.new (digest_if passes.hashes receipt.input) (λ d.
         Took D.Drain drain.old drain.new
         (λ written. b ≡ c → b ≡ d → IsExtraction (complete_ways area) (extract (seen_decoded area))
         area b receipt.counts written))))) }
     // The first feed gave `read` bytes of this digest, the fault is the first of whatever begins so (or of them, if the feed was at its
     // end), and the drain took nothing.
-    ensures refused { IfErr result (HaltsFile F.Feed first.old first.new
+    ensures refused { IfErr result (HaltsFile F.Feed first.old first.new passes.hashes
         D.Drain drain.old drain.new (λ b. judged_writable (Some b))) }
     // Each stop has its cause, as of `extract`.
     ensures stops { IfErr result (λ h. ExtractStops (F.remaining first.old) (G.remaining second.old)
@@ -141,13 +153,18 @@ pub fn extract_sorted_with_receipt<F: Feed, G: Feed, H: Feed, D: Drain, S: Build
     // The drain keeps its references, and its count of failures doesn't fall.
     ensures drain { KeepsDrain D.Drain drain.old drain.new }
 {
-    let choice = choose_sorted(alloc, first, second, area)?;
+    let choice = choose_sorted(passes, first, second, area)?;
     let digest = choice.digest;
     let writing = Writing {
         header: &choice.header,
         chosen: Some(&choice.chosen),
     };
-    let counts = Repeat { number: 3, digest }.write(alloc, third, drain, hasher, writing)?;
+    let last = Repeat {
+        number: 3,
+        digest,
+        hashes: passes.hashes,
+    };
+    let counts = last.write(passes.alloc, third, drain, hasher, writing)?;
     Ok(InputReceipt {
         counts,
         input: digest,
@@ -156,28 +173,35 @@ pub fn extract_sorted_with_receipt<F: Feed, G: Feed, H: Feed, D: Drain, S: Build
 
 /// The passes before the one that writes: over nodes and ways as without parents, and one that takes the relations.
 fn choose_parents_sorted<F: Feed, G: Feed, H: Feed>(
-    alloc: Global,
+    passes: Passes,
     first: &mut F,
     second: &mut G,
     third: &mut H,
     area: BoundingBox,
 ) -> Result<Choice, Halt>
-    ensures chosen { IfOk result (λ choice. GaveFile F.Feed first.old first.new choice.digest (λ b.
-        GaveOrNot G.Feed second.old second.new choice.digest b
-        (λ c. GaveFile H.Feed third.old third.new choice.digest
+    ensures chosen { IfOk result (λ choice. GaveFile F.Feed first.old first.new
+        (digest_if passes.hashes choice.digest) (λ b. GaveOrNot G.Feed second.old second.new
+        (digest_if passes.hashes choice.digest) b
+        (λ c. GaveFile H.Feed third.old third.new (digest_if passes.hashes choice.digest)
         (λ d. IsChoiceWithParents area b c d choice.chosen (header_of choice.header))))) }
     ensures refused { IfErr result
-        (Halts (RefusesFile F.Feed first.old first.new (λ b. judged_writable (Some b)))) }
+        (Halts (RefusesFile F.Feed first.old first.new passes.hashes
+        (λ b. judged_writable (Some b)))) }
     ensures stops { IfErr result (λ h. Caused (FaultOf (judged_writable (F.remaining first.old)))
         (ReadFailed F.Feed first.old first.new
         ⊎ (ReadFailed G.Feed second.old second.new ⊎ ReadFailed H.Feed third.old third.new)) ⊥
         (λ pass. ChangedIn 2 (F.remaining first.old) (G.remaining second.old) pass
         ⊎ ChangedIn 3 (F.remaining first.old) (H.remaining third.old) pass) (stop_of h)) }
 {
-    let choice = choose_sorted(alloc, first, second, area)?;
+    let choice = choose_sorted(passes, first, second, area)?;
     let digest = choice.digest;
     let mut relations = choice.chosen.with_parents();
-    Repeat { number: 3, digest }.gather(alloc, third, &mut relations)?;
+    let again = Repeat {
+        number: 3,
+        digest,
+        hashes: passes.hashes,
+    };
+    again.gather(passes.alloc, third, &mut relations)?;
     let chosen = relations.end_relations()?.into_chosen();
     Ok(Choice {
         chosen,
@@ -196,7 +220,7 @@ pub fn extract_parents_sorted_with_receipt<
     D: Drain,
     S: BuildHasher + Drop,
 >(
-    alloc: Global,
+    passes: Passes,
     first: &mut F,
     second: &mut G,
     third: &mut H,
@@ -208,16 +232,16 @@ pub fn extract_parents_sorted_with_receipt<
     // Each feed gave a file of the digest `input`, to its end, or the second nothing; the first has no fault, and its header can be
     // written. The drain took bytes. If the files are the same, these bytes are exactly its complete-ways extract with all parents, and the
     // counts are those of the entities in it.
-    ensures receipt { IfOk result (λ receipt. GaveFile F.Feed first.old first.new receipt.input
-        (λ b. IsWritable b
-        × GaveOrNot G.Feed second.old second.new receipt.input b
-        (λ c. GaveFile H.Feed third.old third.new receipt.input (λ d.
-        GaveFile I.Feed fourth.old fourth.new receipt.input (λ e. Took D.Drain drain.old drain.new
-        (λ written. b ≡ c → b ≡ d → b ≡ e → IsExtraction (all_parents area)
+    ensures receipt { IfOk result (λ receipt. GaveFile F.Feed first.old first.new
+        (digest_if passes.hashes receipt.input) (λ b. IsWritable b
+        × GaveOrNot G.Feed second.old second.new (digest_if passes.hashes receipt.input) b
+        (λ c. GaveFile H.Feed third.old third.new (digest_if passes.hashes receipt.input)
+        (λ d. GaveFile I.Feed fourth.old fourth.new (digest_if passes.hashes receipt.input)
+        (λ e. Took D.Drain drain.old drain.new (λ written. b ≡ c → b ≡ d → b ≡ e → IsExtraction (all_parents area)
         (extract_with_parents (seen_decoded area)) area b receipt.counts written)))))) }
     // The first feed gave `read` bytes of this digest, the fault is the first of whatever begins so (or of them, if the feed was at its
     // end), and the drain took nothing.
-    ensures refused { IfErr result (HaltsFile F.Feed first.old first.new
+    ensures refused { IfErr result (HaltsFile F.Feed first.old first.new passes.hashes
         D.Drain drain.old drain.new (λ b. judged_writable (Some b))) }
     // Each stop has its cause, as of `extract_parents`.
     ensures stops { IfErr result (λ h. ParentsStops (F.remaining first.old) (G.remaining second.old)
@@ -234,13 +258,18 @@ pub fn extract_parents_sorted_with_receipt<
     // The drain keeps its references, and its count of failures doesn't fall.
     ensures drain { KeepsDrain D.Drain drain.old drain.new }
 {
-    let choice = choose_parents_sorted(alloc, first, second, third, area)?;
+    let choice = choose_parents_sorted(passes, first, second, third, area)?;
     let digest = choice.digest;
     let writing = Writing {
         header: &choice.header,
         chosen: Some(&choice.chosen),
     };
-    let counts = Repeat { number: 4, digest }.write(alloc, fourth, drain, hasher, writing)?;
+    let last = Repeat {
+        number: 4,
+        digest,
+        hashes: passes.hashes,
+    };
+    let counts = last.write(passes.alloc, fourth, drain, hasher, writing)?;
     Ok(InputReceipt {
         counts,
         input: digest,

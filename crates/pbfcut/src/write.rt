@@ -6,6 +6,7 @@ ghost use Rattle.osm_pack.specs.Packing.{IsPacking, has_header};
 ghost use Rattle.pbf_header.specs.Header.{header_of};
 ghost use Rattle.pbf_pass.specs.Again.{StopsUnjudged};
 ghost use Rattle.pbf_pass.specs.Given.{GaveFile, Took};
+ghost use Rattle.pbf_pass.specs.Hashing.{digest_if};
 ghost use Rattle.pbf_pass.specs.HeaderLimit.{IsShort};
 ghost use Rattle.pbf_pass.specs.Judged.{judged_file};
 ghost use Rattle.pbf_pass.specs.Payload.{primitive_block, lent_by};
@@ -19,7 +20,7 @@ use osm_ways::Chosen;
 use pbf_block::{Counts, Kinds, UnjudgedBlock};
 use pbf_frame::{Drain, Feed, Frame, FrameKind, Stop};
 use pbf_header::Header;
-use pbf_pass::{InputReceipt, Visit, pass_over};
+use pbf_pass::{InputReceipt, Passes, Visit, pass_over};
 use std::alloc::Global;
 use std::hash::BuildHasher;
 
@@ -131,7 +132,7 @@ pub(crate) struct Writing<'a> {
 
 /// Puts a header, what is picked of a whole file, in a pass of this number, and the last block through a packer.
 fn pack_file<'a, F: Feed, D: Drain, S: BuildHasher>(
-    alloc: Global,
+    passes: Passes,
     feed: &mut F,
     packer: &'a mut Packer<D, S>,
     writing: Writing<'a>,
@@ -139,8 +140,8 @@ fn pack_file<'a, F: Feed, D: Drain, S: BuildHasher>(
 ) -> Result<InputReceipt, Stop>
     requires fresh { IsFreshPacker packer.old }
     requires short { IsShort (header_of writing.header.now) }
-    ensures packed { IfOk result (λ wrote. GaveFile F.Feed feed.old feed.new wrote.input
-        (λ file. Took D.Drain packer.old.drain packer.new.drain
+    ensures packed { IfOk result (λ wrote. GaveFile F.Feed feed.old feed.new
+        (digest_if passes.hashes wrote.input) (λ file. Took D.Drain packer.old.drain packer.new.drain
         (Packed (pick_of writing.entry.chosen) (header_of writing.entry.header.now)
         wrote.counts (judged_file (Some file))))) }
     ensures beginning { OnErr result (PacksFront (pick_of writing.entry.chosen)
@@ -158,7 +159,7 @@ fn pack_file<'a, F: Feed, D: Drain, S: BuildHasher>(
         chosen: writing.chosen,
         number,
     };
-    let outcome = pass_over(alloc, feed, &mut writer);
+    let outcome = pass_over(passes, feed, &mut writer);
     // What is known of the packer comes back with the reference itself.
     let Writer { packer, counts, .. } = writer;
     let input = outcome?.digest;
@@ -169,7 +170,7 @@ fn pack_file<'a, F: Feed, D: Drain, S: BuildHasher>(
 /// Writes a header and what is picked of a whole file, in a pass of this number, after the one that judged it. What was written is
 /// specified if the digest is that of the bytes which were judged.
 pub(crate) fn write<F: Feed, D: Drain, S: BuildHasher + Drop>(
-    alloc: Global,
+    passes: Passes,
     feed: &mut F,
     drain: &mut D,
     hasher: S,
@@ -177,8 +178,8 @@ pub(crate) fn write<F: Feed, D: Drain, S: BuildHasher + Drop>(
     number: u8,
 ) -> Result<InputReceipt, Stop>
     requires { IsShort (header_of writing.header.now) }
-    ensures packed { IfOk result (λ wrote. GaveFile F.Feed feed.old feed.new wrote.input
-        (λ file. Took D.Drain drain.old drain.new
+    ensures packed { IfOk result (λ wrote. GaveFile F.Feed feed.old feed.new
+        (digest_if passes.hashes wrote.input) (λ file. Took D.Drain drain.old drain.new
         (Packed (pick_of writing.entry.chosen) (header_of writing.entry.header.now)
         wrote.counts (judged_file (Some file))))) }
     ensures beginning { OnErr result (PacksFront (pick_of writing.entry.chosen)
@@ -188,8 +189,8 @@ pub(crate) fn write<F: Feed, D: Drain, S: BuildHasher + Drop>(
         (ReadFailed F.Feed feed.old feed.new) (WriteFailed D.Drain drain.old drain.new)) }
     ensures drain { KeepsDrain D.Drain drain.old drain.new }
 {
-    let mut packer = Packer::new(alloc, &mut *drain, hasher);
-    let outcome = pack_file(alloc, feed, &mut packer, writing, number);
+    let mut packer = Packer::new(passes.alloc, &mut *drain, hasher);
+    let outcome = pack_file(passes, feed, &mut packer, writing, number);
     // What is known of the drain comes back with the reference itself.
     let _drain = packer.into_drain();
     outcome

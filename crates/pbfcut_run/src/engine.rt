@@ -133,13 +133,36 @@ impl From<PublishedHalt> for Halted {
 pub(crate) struct Engine {
     pub(crate) program: Program,
     pub(crate) alloc: Global,
+    /// Whether the digests of what is read are printed.
+    pub(crate) digests: bool,
 }
 
 impl Engine {
+    /// How a call makes one pass: what it reads is hashed only for its digest.
+    fn one_pass(self) -> pbf_pass::Passes {
+        pbf_pass::Passes {
+            alloc: self.alloc,
+            hashes: self.digests,
+        }
+    }
+
+    /// How a call makes passes that have to read the same bytes. Of a published file it is the packed bytes that are compared, and the
+    /// raw ones are hashed only for their digest.
+    fn more_passes(self) -> pbf_pass::Passes {
+        pbf_pass::Passes {
+            alloc: self.alloc,
+            hashes: match self.program {
+                Program::Pbfcut => true,
+                Program::Pbfcutz => self.digests,
+            },
+        }
+    }
+
     pub(crate) fn check(self, pass: &mut Pass) -> Result<Report, Halted> {
+        let how = self.one_pass();
         Ok(match self.program {
-            Program::Pbfcut => pbfcut::check_with_receipt(self.alloc, pass)?.into(),
-            Program::Pbfcutz => pbf_published::check_with_receipt(self.alloc, pass)?.into(),
+            Program::Pbfcut => pbfcut::check_with_receipt(how, pass)?.into(),
+            Program::Pbfcutz => pbf_published::check_with_receipt(how, pass)?.into(),
         })
     }
 
@@ -162,12 +185,12 @@ impl Engine {
         drain: &mut D,
         dates: bool,
     ) -> Result<Report, Halted> {
-        let alloc = self.alloc;
+        let how = self.more_passes();
         let TwoPasses { one, two } = passes;
         Ok(match self.program {
-            Program::Pbfcut => pbfcut::show_with_receipt(alloc, one, two, drain, dates)?.into(),
+            Program::Pbfcut => pbfcut::show_with_receipt(how, one, two, drain, dates)?.into(),
             Program::Pbfcutz => {
-                pbf_published::show_with_receipt(alloc, one, two, drain, dates)?.into()
+                pbf_published::show_with_receipt(how, one, two, drain, dates)?.into()
             }
         })
     }
@@ -178,14 +201,14 @@ impl Engine {
         drain: &mut D,
         hasher: RandomState,
     ) -> Result<Report, Halted> {
-        let alloc = self.alloc;
+        let how = self.more_passes();
         let TwoPasses { one, two } = passes;
         Ok(match self.program {
             Program::Pbfcut => {
-                pbfcut::convert_with_receipt(alloc, one, two, drain, hasher)?.into()
+                pbfcut::convert_with_receipt(how, one, two, drain, hasher)?.into()
             }
             Program::Pbfcutz => {
-                pbf_published::convert_with_receipt(alloc, one, two, drain, hasher)?.into()
+                pbf_published::convert_with_receipt(how, one, two, drain, hasher)?.into()
             }
         })
     }
@@ -197,14 +220,14 @@ impl Engine {
         drain: &mut D,
         hasher: RandomState,
     ) -> Result<Report, Halted> {
-        let alloc = self.alloc;
+        let how = self.more_passes();
         let Passes { one, two, three } = passes;
         Ok(match self.program {
             Program::Pbfcut => pbfcut::extract_sorted_with_receipt(
-                alloc, one, two, three, area, drain, hasher,
+                how, one, two, three, area, drain, hasher,
             )?.into(),
             Program::Pbfcutz => pbf_published::extract_sorted_with_receipt(
-                alloc, one, two, three, area, drain, hasher,
+                how, one, two, three, area, drain, hasher,
             )?.into(),
         })
     }
@@ -217,15 +240,15 @@ impl Engine {
         drain: &mut D,
         hasher: RandomState,
     ) -> Result<Report, Halted> {
-        let alloc = self.alloc;
+        let how = self.more_passes();
         let FourPasses { three, four } = passes;
         let Passes { one, two, three } = three;
         Ok(match self.program {
             Program::Pbfcut => pbfcut::extract_parents_sorted_with_receipt(
-                alloc, one, two, three, four, area, drain, hasher,
+                how, one, two, three, four, area, drain, hasher,
             )?.into(),
             Program::Pbfcutz => pbf_published::extract_parents_sorted_with_receipt(
-                alloc, one, two, three, four, area, drain, hasher,
+                how, one, two, three, four, area, drain, hasher,
             )?.into(),
         })
     }

@@ -45,6 +45,16 @@ fn words(rt: &HostRuntime) -> Result<Vec<String>, Ending> {
     Ok(words)
 }
 
+/// Whether a command prints the digests of what it reads.
+fn prints_digests(command: &Command<'_>) -> bool {
+    match command {
+        Command::Check { digests, .. } => *digests,
+        Command::Convert { digests, .. } => *digests,
+        Command::Extract { digests, .. } => *digests,
+        Command::Help(_) | Command::Blobs { .. } | Command::Show { .. } => false,
+    }
+}
+
 /// Runs a command.
 fn run(rt: &HostRuntime, engine: Engine, command: Command<'_>) -> Result<(), Ending> {
     match command {
@@ -112,6 +122,7 @@ fn work(rt: &HostRuntime, program: Program, words: &[String]) -> Result<u8, Endi
     let engine = Engine {
         program,
         alloc: rt.alloc(),
+        digests: prints_digests(&command),
     };
     match run(rt, engine, command) {
         Ok(()) => Ok(0),

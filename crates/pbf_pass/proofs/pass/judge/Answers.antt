@@ -18,7 +18,7 @@ returns-in_err-count-clause-stops g c =
 pub returns-in_err-count-clause-refused : goal.returns-in_err-count-clause-refused
 returns-in_err-count-clause-refused g c =
     let p = err_from_is_err_and c.from_residual.result c.from_residual.ensures.1 in
-    rw (p.1, p.2) (halts_file g.F.Feed _ _ _ (λ b. judged_file (Some b)) _ (λ e b stops. stops_judging _ (λ old new f one. one.sound) _ (judged_known false 0 (Some b)) ⊥ ⊥ _ c.pass_over.new.visitor (Refused e) (λ fs mid f s visited failing. failing) stops) c.in_err-count.ensures.refused)
+    rw (p.1, p.2) (halts_file g.F.Feed _ _ _ _ (λ b. judged_file (Some b)) _ (λ e b stops. stops_judging _ (λ old new f one. one.sound) _ (judged_known false 0 (Some b)) ⊥ ⊥ _ c.pass_over.new.visitor (Refused e) (λ fs mid f s visited failing. failing) stops) c.in_err-count.ensures.refused)
 
 pub returns-clause-judged : goal.returns-clause-judged
 returns-clause-judged g c =

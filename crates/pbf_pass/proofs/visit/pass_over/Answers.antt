@@ -2,42 +2,44 @@ use Rattle.std.proofs.Common.{zero, suc, [], false, Some, rules, ◌∙◌}
 use Rattle.pbf_frame.proofs.Refusing.{faulty_as}
 use Rattle.pbf_frame.specs.Verdict.{judged_known}
 use Rattle.pbf_pass.specs.Visit.{VisitsAll, RefusesVisit}
-use Rattle.pbf_pass.proofs.GivenLemmas.{supplied_as, same_below, holds_of_file}
+use Rattle.pbf_pass.proofs.GivenLemmas.{digest_if_hashed, supplied_as, same_below, holds_of_file}
 use Rattle.pbf_pass.proofs.HaltingLemmas.{halts_of, refuses_bytes_as}
 use Rattle.pbf_pass.proofs.visit.pass_over.Goals as goal
 
 pub returns-in-Ok-clause-visited : goal.returns-in-Ok-clause-visited
 returns-in-Ok-clause-visited g c =
     let given = c.in-Ok.ensures.visited in
-    let read = given.supplied.logged zero [] (rw c.new-reader.ensures.feed (c.new.ensures.hasher, c.new.ensures.count)) in
+    let hashes = rw (← c.new-reader.ensures.feed) at c.new.ensures.hashes in
+    let hasher = rw (← c.new-reader.ensures.feed) at c.new.ensures.hasher in
+    let count = rw (← c.new-reader.ensures.feed) at c.new.ensures.count in
     record {
       file = given.bytes;
       supplied = supplied_as g.F.Feed c.new-reader.result.feed.feed.now c.args.feed.now c.visit_rest-outcome.new.reader.feed.feed.now _ given.bytes (search rules) (search rules) record {
         told = given.supplied.told;
         end = given.supplied.end;
-        logged = λ log. given.supplied.logged (suc log);
+        logged = λ log. given.supplied.logged (suc (suc log));
         lender = same_below _ _ _ _ given.supplied.lender;
       };
-      digest_is = c.digest-digest.ensures.digest given.bytes read.0;
+      digest_is = digest_if_hashed c.args.passes.hashes _ given.bytes (λ is. c.digest-digest.ensures.digest given.bytes (given.supplied.logged zero [] (hashes ∙ is, hasher)).1);
       holding = (
-        c.count-count.ensures ∙ read.1,
+        c.count-count.ensures ∙ given.supplied.logged (suc zero) [] count,
         holds_of_file c.new-reader.result given.bytes (λ known. VisitsAll g.V.Visit.took known c.in-Ok.frames c.args.visitor.now c.visit_rest-outcome.new.visitor) c.new-reader.ensures.had_header c.new-reader.ensures.place given.holding,
       );
     }
 
 pub returns-in-Err-clause-refused : goal.returns-in-Err-clause-refused
 returns-in-Err-clause-refused g c =
+    let hashes = rw (← c.new-reader.ensures.feed) at c.new.ensures.hashes in
     let hasher = rw (← c.new-reader.ensures.feed) at c.new.ensures.hasher in
     let count = rw (← c.new-reader.ensures.feed) at c.new.ensures.count in
     rw c.new-in-Err.ensures (halts_of c.new-reader.result.feed c.visit_rest-outcome.new.reader.feed _ _ c.count-count.result c.digest-digest.result c.in-Err.stop c.visit_rest-outcome.ensures.keeps c.in-Err.ensures.refused (λ e rest.
-    let read = rest.logged zero [] (hasher, count) in
-    refuses_bytes_as g.F.Feed c.new-reader.result.feed.feed.now c.visit_rest-outcome.new.reader.feed.feed.now _ _ (RefusesVisit g.V.Visit.took g.V.Visit.failed (λ b. judged_known false 0 (Some b)) c.args.visitor.now c.visit_rest-outcome.new.visitor) _ (search rules) (search rules) record {
+    refuses_bytes_as g.F.Feed c.new-reader.result.feed.feed.now c.visit_rest-outcome.new.reader.feed.feed.now c.args.passes.hashes _ _ (RefusesVisit g.V.Visit.took g.V.Visit.failed (λ b. judged_known false 0 (Some b)) c.args.visitor.now c.visit_rest-outcome.new.visitor) _ (search rules) (search rules) record {
       bytes = record {
         read = rest.read;
         told = rest.told;
-        logged = λ log. rest.logged (suc log);
+        logged = λ log. rest.logged (suc (suc log));
         faulty = faulty_as _ _ rest.read _ (λ b fault. holds_of_file c.new-reader.result b (λ known. RefusesVisit g.V.Visit.took g.V.Visit.failed (λ bytes. known) c.args.visitor.now c.visit_rest-outcome.new.visitor e b) c.new-reader.ensures.had_header c.new-reader.ensures.place fault) rest.faulty;
       };
-      counted = c.count-count.ensures ∙ read.1;
-      digest_is = c.digest-digest.ensures.digest rest.read read.0;
+      counted = c.count-count.ensures ∙ rest.logged (suc zero) [] count;
+      digest_is = digest_if_hashed c.args.passes.hashes _ rest.read (λ is. c.digest-digest.ensures.digest rest.read (rest.logged zero [] (hashes ∙ is, hasher)).1);
     }))

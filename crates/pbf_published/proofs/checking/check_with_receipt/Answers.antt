@@ -1,4 +1,5 @@
 use Rattle.std.proofs.Common.{rules, subst}
+use Rattle.pbf_pass.specs.Hashing.{digest_if}
 use Rattle.pbf_published.proofs.PublishedLemmas.{published_of, means_some, passed_below}
 use Rattle.pbf_published.proofs.checking.check_with_receipt.Goals as goal
 
@@ -6,7 +7,7 @@ pub returns-clause-receipt : goal.returns-clause-receipt
 returns-clause-receipt g c =
     let digest = c.in_ok-first_digest.field-0 in
     let is = c.in_ok-first_digest.ensures.there in
-    published_of g.F.Feed _ c.args.feed.now _ _ _ c.in-Ok.receipt.input _ _ (λ file holds. holds) digest record {
+    published_of g.F.Feed _ c.args.feed.now _ _ _ (digest_if c.args.passes.hashes c.in-Ok.receipt.input) _ _ (λ file holds. holds) digest record {
       remaining = c.open-input.ensures.remaining;
       hashed = c.open-input.ensures.hashed;
       logged = c.open-input.ensures.logged;

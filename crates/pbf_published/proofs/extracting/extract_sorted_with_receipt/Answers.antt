@@ -1,12 +1,13 @@
 use Rattle.std.proofs.Common.{rules, subst, ap, ◌∙◌}
 use Rattle.pbf_pass.specs.Refused.{stop_of}
+use Rattle.pbf_pass.specs.Hashing.{digest_if}
 use Rattle.pbf_published.proofs.PublishedLemmas.{published_of, published_or_none, either_over, same_by, means_some, passed_below, refused_raw, nothing_went_out}
 use Rattle.pbf_published.proofs.extracting.extract_sorted_with_receipt.Goals as goal
 
 pub returns-clause-receipt : goal.returns-clause-receipt
 returns-clause-receipt g c =
     let digest = c.in_ok-input.input in
-    let raw_digest = c.in-Ok.receipt.input in
+    let raw_digest = digest_if c.args.passes.hashes c.in-Ok.receipt.input in
     let first = c.in_ok-input.ensures.there in
     let third = c.in_ok-compare.ensures.same in
     published_of g.F.Feed _ c.args.first.now _ _ _ raw_digest _ _ (λ b holds. (

@@ -9,7 +9,7 @@ returns-clause-hashed g c raw has = elim c.if-all.branch [
       let gave = c.has_given_all-all.ensures zero raw w.if-all.true has in
       rw w.result-is record {
         packed = gave.packed;
-        digest_is = c.digest-digest.ensures.digest gave.packed (rw c.into_feed-hashed.ensures.feed gave.passed.0);
+        digest_is = c.digest-digest.ensures.digest gave.packed (rw c.into_feed-hashed.ensures.feed gave.passed);
         means = ap (λ (u : Unpacked). u.0) gave.means;
       }
   | else-all w ↦ rw w.result-is tt

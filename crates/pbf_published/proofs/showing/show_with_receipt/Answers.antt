@@ -1,13 +1,14 @@
 use Rattle.std.proofs.Common.{ℕ, List, Option, rules, subst, sym, ◌∙◌}
 use Rattle.pbf_pass.specs.Judged.{judged_file}
 use Rattle.pbfcut.specs.Showing.{ShowsFront}
+use Rattle.pbf_pass.specs.Hashing.{digest_if}
 use Rattle.pbf_published.proofs.PublishedLemmas.{published_of, means_some, passed_below, unless_changed}
 use Rattle.pbf_published.proofs.showing.show_with_receipt.Goals as goal
 
 pub returns-clause-receipt : goal.returns-clause-receipt
 returns-clause-receipt g c =
     let digest = c.in_ok-input.input in
-    let raw_digest = c.in-Ok.receipt.input in
+    let raw_digest = digest_if c.args.passes.hashes c.in-Ok.receipt.input in
     let first = c.in_ok-input.ensures.there in
     let second = c.in_ok-compare.ensures.same in
     published_of g.F.Feed _ c.args.first.now _ _ _ raw_digest _ _ (λ b holds. (

@@ -17,12 +17,12 @@ use Rattle.pbfcut.proofs.converting.convert_with_receipt.Goals as goal
 pub returns-in_err-told-clause-refused : goal.returns-in_err-told-clause-refused
 returns-in_err-told-clause-refused g c =
     let p = err_from_is_err_and c.from_residual.result c.from_residual.ensures.1 in
-    rw (p.1, p.2) (halts_first g.F.Feed _ _ g.D.Drain _ _ _ (halts_writing g.F.Feed _ _ _ c.in_err-told.ensures.refused))
+    rw (p.1, p.2) (halts_first g.F.Feed _ _ _ g.D.Drain _ _ _ (halts_writing g.F.Feed _ _ _ _ c.in_err-told.ensures.refused))
 
 pub returns-in_err-writable_header-clause-refused : goal.returns-in_err-writable_header-clause-refused
 returns-in_err-writable_header-clause-refused g c =
     let p = err_from_is_err_and c.from_residual-in_err-writable_header.result c.from_residual-in_err-writable_header.ensures.1 in
-    rw (p.1, p.2) (halts_first g.F.Feed _ _ g.D.Drain _ _ _ (limit_halts g.F.Feed _ _ as_it_was _ _ c.in_ok-told.told _ c.in_ok-told.ensures.judged c.in_err-writable_header.ensures.refused))
+    rw (p.1, p.2) (halts_first g.F.Feed _ _ _ g.D.Drain _ _ _ (limit_halts g.F.Feed _ _ _ as_it_was _ _ c.in_ok-told.told _ c.in_ok-told.ensures.judged c.in_err-writable_header.ensures.refused))
 
 pub returns-in_err-counts-clause-refused : goal.returns-in_err-counts-clause-refused
 returns-in_err-counts-clause-refused g c =
@@ -54,7 +54,7 @@ returns-in_err-counts-clause-stops g c =
     let read = ReadFailed g.F.Feed c.args.first.now c.judge.new.feed ⊎ ReadFailed g.G.Feed c.args.second.now c.write.new.feed in
     let later = ReadFailed g.G.Feed c.args.second.now c.write.new.feed in
     let wrote = WriteFailed g.D.Drain c.args.drain.now c.write.new.drain in
-    rw (p.1, p.2) (convert_stops c.in_ok-told.told.digest first second old new one.holding.1.frames read later wrote _ (told_digest g.F.Feed _ _ _ _ one) (told_says g.F.Feed _ _ _ _ _ one one.holding.1.says) (λ r. inr r) c.in_err-counts.ensures.stops)
+    rw (p.1, p.2) (convert_stops c.args.passes.hashes c.in_ok-told.told.digest first second old new one.holding.1.frames read later wrote _ (told_digest g.F.Feed _ _ _ _ one) (told_says g.F.Feed _ _ _ _ _ one one.holding.1.says) (λ r. inr r) c.in_err-counts.ensures.stops)
 
 pub returns-in_err-counts-clause-beginning : goal.returns-in_err-counts-clause-beginning
 returns-in_err-counts-clause-beginning g c =

@@ -1,4 +1,4 @@
-use Rattle.std.proofs.Common.{inr, refl, rules}
+use Rattle.std.proofs.Common.{true, inr, refl, rules}
 use Rattle.std.proofs.lemmas.Result.{err_from_is_err_and}
 use Rattle.pbfcut.specs.Calls.{ChangedIn}
 use Rattle.pbf_pass.specs.HeaderLimit.{header_limit, held_header, judged_writable}
@@ -14,12 +14,12 @@ use Rattle.pbfcut.proofs.extracting.choose.Goals as goal
 pub returns-in_err-told-clause-refused : goal.returns-in_err-told-clause-refused
 returns-in_err-told-clause-refused g c =
     let p = err_from_is_err_and c.from_residual.result c.from_residual.ensures.1 in
-    rw (p.1, p.2) (halts_writing g.F.Feed _ _ _ c.in_err-told.ensures.refused)
+    rw (p.1, p.2) (halts_writing g.F.Feed _ _ _ _ c.in_err-told.ensures.refused)
 
 pub returns-in_err-writable_header-clause-refused : goal.returns-in_err-writable_header-clause-refused
 returns-in_err-writable_header-clause-refused g c =
     let p = err_from_is_err_and c.from_residual-in_err-writable_header.result c.from_residual-in_err-writable_header.ensures.1 in
-    rw (p.1, p.2) (limit_halts g.F.Feed _ _ with_node _ _ c.in_ok-told.told _ c.in_ok-told.ensures.judged c.in_err-writable_header.ensures.refused)
+    rw (p.1, p.2) (limit_halts g.F.Feed _ _ _ with_node _ _ c.in_ok-told.told _ c.in_ok-told.ensures.judged c.in_err-writable_header.ensures.refused)
 
 pub returns-in_err-gather-clause-refused : goal.returns-in_err-gather-clause-refused
 returns-in_err-gather-clause-refused g c =
@@ -37,7 +37,7 @@ pub returns-in_err-gather-clause-stops : goal.returns-in_err-gather-clause-stops
 returns-in_err-gather-clause-stops g c =
     let p = err_from_is_err_and c.from_residual-in_err-gather.result c.from_residual-in_err-gather.ensures.1 in
     let one = c.in_ok-told.ensures.judged in
-    rw (p.1, p.2) (stops_later (record { number = 2; digest = c.in_ok-told.told.digest }) (g.F.Feed.remaining c.args.first.now) (g.G.Feed.remaining c.args.second.now) _ one.holding.1.frames (FaultOf (judged_writable (g.F.Feed.remaining c.args.first.now))) _ _ ⊥ (ChangedIn 2 (g.F.Feed.remaining c.args.first.now) (g.G.Feed.remaining c.args.second.now)) _ (told_digest g.F.Feed _ _ _ _ one) (told_says g.F.Feed _ _ _ _ _ one one.holding.1.says) refl (λ r. inr r) (λ pass is. is) c.in_err-gather.ensures.stops)
+    rw (p.1, p.2) (stops_later (record { number = 2; digest = c.in_ok-told.told.digest; hashes = true }) (g.F.Feed.remaining c.args.first.now) (g.G.Feed.remaining c.args.second.now) _ one.holding.1.frames (FaultOf (judged_writable (g.F.Feed.remaining c.args.first.now))) _ _ ⊥ (ChangedIn 2 (g.F.Feed.remaining c.args.first.now) (g.G.Feed.remaining c.args.second.now)) _ (told_digest g.F.Feed _ _ _ _ one) (told_says g.F.Feed _ _ _ _ _ one one.holding.1.says) refl (λ r. inr r) (λ pass is. is) c.in_err-gather.ensures.stops)
 
 pub returns-clause-chosen : goal.returns-clause-chosen
 returns-clause-chosen g c =

@@ -1,4 +1,4 @@
-use Rattle.std.proofs.Common.{◌⊎◌, inr, refl, ap, ◌∙◌}
+use Rattle.std.proofs.Common.{true, ◌⊎◌, inr, refl, ap, ◌∙◌}
 use Rattle.std.proofs.lemmas.Result.{err_from_is_err_and}
 use Rattle.osm_ways.specs.Phases.{KeptSets, start_relations}
 use Rattle.pbfcut.specs.Calls.{ChangedIn}
@@ -21,7 +21,7 @@ returns-in_err-gather-clause-stops g c =
     let choice = one.holding.holding.chosen in
     let first = g.F.Feed.remaining c.args.first.now in
     let third = g.H.Feed.remaining c.args.third.now in
-    rw (p.1, p.2) (stops_later (record { number = 3; digest = c.in_ok-choice.choice.digest }) first third _ choice.frames (FaultOf (judged_writable first)) _ _ ⊥ (λ pass. ChangedIn 2 first (g.G.Feed.remaining c.args.second.now) pass ⊎ ChangedIn 3 first third pass) _
+    rw (p.1, p.2) (stops_later (record { number = 3; digest = c.in_ok-choice.choice.digest; hashes = true }) first third _ choice.frames (FaultOf (judged_writable first)) _ _ ⊥ (λ pass. ChangedIn 2 first (g.G.Feed.remaining c.args.second.now) pass ⊎ ChangedIn 3 first third pass) _
     (told_digest g.F.Feed _ _ _ _ one) (told_says g.F.Feed _ _ _ _ _ one choice.judged) refl (λ r. inr (inr r)) (λ pass is. inr is) c.in_err-gather.ensures.stops)
 
 pub returns-clause-chosen : goal.returns-clause-chosen

@@ -1,4 +1,4 @@
-use Rattle.std.proofs.Common.{◌⊎◌, List, ℕ, Some, ap, sym, inr, refl}
+use Rattle.std.proofs.Common.{true, ◌⊎◌, List, ℕ, Some, ap, sym, inr, refl}
 use Rattle.std.proofs.lemmas.Result.{err_from_is_err_and}
 use Rattle.pbf_header.specs.Header.{header_of}
 use Rattle.osm_ways.specs.Seen.{seen_decoded}
@@ -16,7 +16,7 @@ use Rattle.pbfcut.proofs.extracting.extract_parents_with_receipt.Goals as goal
 pub returns-in_err-choice-clause-refused : goal.returns-in_err-choice-clause-refused
 returns-in_err-choice-clause-refused g c =
     let p = err_from_is_err_and c.from_residual.result c.from_residual.ensures.1 in
-    rw (p.1, p.2) (halts_first g.F.Feed _ _ g.D.Drain _ _ _ c.in_err-choice.ensures.refused)
+    rw (p.1, p.2) (halts_first g.F.Feed _ _ _ g.D.Drain _ _ _ c.in_err-choice.ensures.refused)
 
 pub returns-in_err-counts-clause-refused : goal.returns-in_err-counts-clause-refused
 returns-in_err-counts-clause-refused g c =
@@ -40,7 +40,7 @@ returns-in_err-counts-clause-stops g c =
     let read = earlier ⊎ ReadFailed g.I.Feed c.args.fourth.now c.write.new.feed in
     let later = ReadFailed g.I.Feed c.args.fourth.now c.write.new.feed in
     let wrote = WriteFailed g.D.Drain c.args.drain.now c.write.new.drain in
-    rw (p.1, p.2) (parents_stops c.in_ok-choice.choice.digest first second third fourth old new choice.chosen.chosen.frames read later wrote _ (told_digest g.F.Feed _ _ _ _ one) (told_says g.F.Feed _ _ _ _ _ one choice.chosen.chosen.judged) (λ r. inr r) c.in_err-counts.ensures.stops)
+    rw (p.1, p.2) (parents_stops true c.in_ok-choice.choice.digest first second third fourth old new choice.chosen.chosen.frames read later wrote _ (told_digest g.F.Feed _ _ _ _ one) (told_says g.F.Feed _ _ _ _ _ one choice.chosen.chosen.judged) (λ r. inr r) c.in_err-counts.ensures.stops)
 
 pub returns-in_err-counts-clause-beginning : goal.returns-in_err-counts-clause-beginning
 returns-in_err-counts-clause-beginning g c =

@@ -1,4 +1,4 @@
-use Rattle.std.proofs.Common.{◌⊎◌, List, ℕ, Some, ap, sym, inr, refl}
+use Rattle.std.proofs.Common.{true, ◌⊎◌, List, ℕ, Some, ap, sym, inr, refl}
 use Rattle.std.proofs.lemmas.Result.{err_from_is_err_and}
 use Rattle.pbf_header.specs.Header.{header_of}
 use Rattle.osm_ways.specs.Seen.{seen_decoded}
@@ -16,7 +16,7 @@ use Rattle.pbfcut.proofs.extracting.extract_with_receipt.Goals as goal
 pub returns-in_err-choice-clause-refused : goal.returns-in_err-choice-clause-refused
 returns-in_err-choice-clause-refused g c =
     let p = err_from_is_err_and c.from_residual.result c.from_residual.ensures.1 in
-    rw (p.1, p.2) (halts_first g.F.Feed _ _ g.D.Drain _ _ _ c.in_err-choice.ensures.refused)
+    rw (p.1, p.2) (halts_first g.F.Feed _ _ _ g.D.Drain _ _ _ c.in_err-choice.ensures.refused)
 
 pub returns-in_err-counts-clause-refused : goal.returns-in_err-counts-clause-refused
 returns-in_err-counts-clause-refused g c =
@@ -37,7 +37,7 @@ returns-in_err-counts-clause-stops g c =
     let read = ReadFailed g.F.Feed c.args.first.now c.choose.new.first ⊎ (ReadFailed g.G.Feed c.args.second.now c.choose.new.second ⊎ ReadFailed g.H.Feed c.args.third.now c.write.new.feed) in
     let later = ReadFailed g.H.Feed c.args.third.now c.write.new.feed in
     let wrote = WriteFailed g.D.Drain c.args.drain.now c.write.new.drain in
-    rw (p.1, p.2) (extract_stops c.in_ok-choice.choice.digest first second third old new choice.chosen.frames read later wrote _ (told_digest g.F.Feed _ _ _ _ one) (told_says g.F.Feed _ _ _ _ _ one choice.chosen.judged) (λ r. inr (inr r)) c.in_err-counts.ensures.stops)
+    rw (p.1, p.2) (extract_stops true c.in_ok-choice.choice.digest first second third old new choice.chosen.frames read later wrote _ (told_digest g.F.Feed _ _ _ _ one) (told_says g.F.Feed _ _ _ _ _ one choice.chosen.judged) (λ r. inr (inr r)) c.in_err-counts.ensures.stops)
 
 pub returns-in_err-counts-clause-beginning : goal.returns-in_err-counts-clause-beginning
 returns-in_err-counts-clause-beginning g c =

@@ -26,7 +26,7 @@ returns-in_err-gather-clause-stops g c =
     gave_or_not g.G.Feed _ _ _ one.file _ _ (λ file choice. (choice.chosen.frames, choice.chosen.judged)) one.holding in
     let first = g.F.Feed.remaining c.args.first.now in
     let third = g.H.Feed.remaining c.args.third.now in
-    rw (p.1, p.2) (stops_later (record { number = 3; digest = c.in_ok-choice.choice.digest }) first third _ said.0 (FaultOf (judged_writable first)) _ _ ⊥ (λ pass. ChangedIn 2 first (g.G.Feed.remaining c.args.second.now) pass ⊎ ChangedIn 3 first third pass) _
+    rw (p.1, p.2) (stops_later (record { number = 3; digest = c.in_ok-choice.choice.digest; hashes = c.args.passes.hashes }) first third _ said.0 (FaultOf (judged_writable first)) _ _ ⊥ (λ pass. ChangedIn 2 first (g.G.Feed.remaining c.args.second.now) pass ⊎ ChangedIn 3 first third pass) _
     (told_digest g.F.Feed _ _ _ _ one) (told_says g.F.Feed _ _ _ _ _ one said.1) refl (λ r. inr (inr r)) (λ pass is. inr is) c.in_err-gather.ensures.stops)
 
 pub returns-clause-chosen : goal.returns-clause-chosen

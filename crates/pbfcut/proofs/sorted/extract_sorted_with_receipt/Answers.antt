@@ -20,7 +20,7 @@ use Rattle.pbfcut.proofs.sorted.extract_sorted_with_receipt.Goals as goal
 pub returns-in_err-choice-clause-refused : goal.returns-in_err-choice-clause-refused
 returns-in_err-choice-clause-refused g c =
     let p = err_from_is_err_and c.from_residual.result c.from_residual.ensures.1 in
-    rw (p.1, p.2) (halts_first g.F.Feed _ _ g.D.Drain _ _ _ c.in_err-choice.ensures.refused)
+    rw (p.1, p.2) (halts_first g.F.Feed _ _ _ g.D.Drain _ _ _ c.in_err-choice.ensures.refused)
 
 pub returns-in_err-counts-clause-refused : goal.returns-in_err-counts-clause-refused
 returns-in_err-counts-clause-refused g c =
@@ -41,7 +41,7 @@ returns-in_err-counts-clause-stops g c =
     let read = ReadFailed g.F.Feed c.args.first.now c.choose_sorted.new.first ⊎ (ReadFailed g.G.Feed c.args.second.now c.choose_sorted.new.second ⊎ ReadFailed g.H.Feed c.args.third.now c.write.new.feed) in
     let later = ReadFailed g.H.Feed c.args.third.now c.write.new.feed in
     let wrote = WriteFailed g.D.Drain c.args.drain.now c.write.new.drain in
-    rw (p.1, p.2) (extract_stops c.in_ok-choice.choice.digest first second third old new said.0 read later wrote _ (told_digest g.F.Feed _ _ _ _ one) (told_says g.F.Feed _ _ _ _ _ one said.1) (λ r. inr (inr r)) c.in_err-counts.ensures.stops)
+    rw (p.1, p.2) (extract_stops c.args.passes.hashes c.in_ok-choice.choice.digest first second third old new said.0 read later wrote _ (told_digest g.F.Feed _ _ _ _ one) (told_says g.F.Feed _ _ _ _ _ one said.1) (λ r. inr (inr r)) c.in_err-counts.ensures.stops)
 
 pub returns-in_err-counts-clause-beginning : goal.returns-in_err-counts-clause-beginning
 returns-in_err-counts-clause-beginning g c =
