@@ -111,8 +111,7 @@ pub struct FileRead {
 }
 
 /// Visits the frames of a whole file, counts its bytes, and hashes them if `passes` says so. Reads each byte once, to the file's end if it
-/// returns `Ok`,
-/// and holds one frame at a time.
+/// returns `Ok`, and holds one frame at a time.
 pub fn pass_over<F: Feed, V: Visit>(
     passes: Passes,
     feed: &mut F,
