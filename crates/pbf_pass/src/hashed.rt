@@ -61,7 +61,7 @@ impl<F: Feed> HashedFeed<F> {
     }
 }
 
-/// The feed of a pass: its bytes are counted as they are read, and hashed if that is wanted.
+/// The feed of a pass: its bytes are counted as they are read, and hashed if they are to be.
 #[derive(Drop)]
 pub(crate) struct PassFeed<F> {
     feed: F,

@@ -432,8 +432,8 @@ pub fn judge<F: Feed, G: Gather>(
     feed: &mut F,
     gathering: &mut G,
 ) -> Result<Judged, Halt>
-    // The feed gave a file of this digest, to its end. It has no fault, the pass has its header and the counts of its entities, and these were
-    // gathered in order. `count` is the number of its bytes, or 2^64 - 1 if it has more.
+    // The feed gave a file, of this digest if it is hashed, to its end. It has no fault, the pass has its header and the counts of its
+    // entities, and these were gathered in order. `count` is the number of its bytes, or 2^64 - 1 if it has more.
     ensures judged { IfOk result (λ told. GaveFile F.Feed feed.old feed.new
         (digest_if passes.hashes told.digest) (λ file. IsLength told.count file
         × TakesFile G.gathered (judged_file (Some file)) gathering.old gathering.new told.pass)) }

@@ -13,7 +13,7 @@ use std::alloc::{AllocError, Global};
 /// How the passes of a call are made.
 #[derive(Clone, Copy)]
 pub struct Passes {
-    /// Where memory comes from.
+    /// The allocator.
     pub alloc: Global,
     /// Whether what is read is hashed. If it isn't, a digest says nothing, and a later pass that reads other bytes is not noticed.
     pub hashes: bool,

@@ -41,9 +41,10 @@ pub fn extract_sorted_with_receipt<F: Feed, G: Feed, H: Feed, D: Drain, S: Build
     drain: &mut D,
     hasher: S,
 ) -> Result<PublishedInput, PublishedHalt>
-    // The first and the third feed gave packed bytes of the digest `input`, which mean a raw file of the digest `raw`, and the second
-    // too or nothing. The first raw file has no fault, and its header can be written. The drain took bytes. If the raw files are the same,
-    // these bytes are exactly its complete-ways extract, in canonical form, and the counts are those of the entities in it.
+    // The first and the third feed gave packed bytes of the digest `input`, which mean a raw file, of the digest `raw` if it is hashed,
+    // and the second too or nothing. The first raw file has no fault, and its header can be written. The drain took bytes. If the raw
+    // files are the same, these bytes are exactly its complete-ways extract, in canonical form, and the counts are those of the entities
+    // in it.
     ensures receipt { IfOk result (λ receipt. GavePublished F.Feed first.old first.new
         receipt.input
         (digest_if passes.hashes receipt.raw) (λ b. IsWritable b

@@ -24,7 +24,8 @@ use pbf_unpack::Inflater;
 use std::alloc::Global;
 use std::hash::BuildHasher;
 
-/// Like [`extract_sorted_with_receipt`](crate::extract_sorted_with_receipt), with all parents, as `extract_parents_sorted_with_receipt` of pbfcut.
+/// Like [`extract_sorted_with_receipt`](crate::extract_sorted_with_receipt), with all parents, as `extract_parents_sorted_with_receipt`
+/// of pbfcut.
 pub fn extract_parents_sorted_with_receipt<
     F: Feed,
     G: Feed,
@@ -42,9 +43,9 @@ pub fn extract_parents_sorted_with_receipt<
     drain: &mut D,
     hasher: S,
 ) -> Result<PublishedInput, PublishedHalt>
-    // Each feed gave packed bytes of the digest `input`, which mean a raw file of the digest `raw`, or the second nothing. The first raw
-    // file has no fault, and its header can be written. The drain took bytes. If the raw files are the same, these bytes are exactly its
-    // complete-ways extract with all parents, and the counts are those of the entities in it.
+    // Each feed gave packed bytes of the digest `input`, which mean a raw file, of the digest `raw` if it is hashed, or the second
+    // nothing. The first raw file has no fault, and its header can be written. The drain took bytes. If the raw files are the same, these
+    // bytes are exactly its complete-ways extract with all parents, and the counts are those of the entities in it.
     ensures receipt { IfOk result (λ receipt. GavePublished F.Feed first.old first.new
         receipt.input
         (digest_if passes.hashes receipt.raw) (λ b. IsWritable b

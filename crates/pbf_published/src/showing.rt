@@ -33,8 +33,8 @@ pub fn show_with_receipt<F: Feed, G: Feed, D: Drain>(
     drain: &mut D,
     dates: bool,
 ) -> Result<PublishedInput, PublishedHalt>
-    // Each feed gave packed bytes of the digest `input`, which mean a raw file of the digest `raw`. That of the first has no fault, and
-    // the counts are those of its entities. The drain took exactly the text of that of the second, which has no fault.
+    // Each feed gave packed bytes of the digest `input`, which mean a raw file, of the digest `raw` if it is hashed. That of the first
+    // has no fault, and the counts are those of its entities. The drain took exactly the text of that of the second, which has no fault.
     ensures receipt { IfOk result (λ receipt. GavePublished F.Feed first.old first.new
         receipt.input
         (digest_if passes.hashes receipt.raw) (λ b. CountsFile (judged_file (Some b)) receipt.counts

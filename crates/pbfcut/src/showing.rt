@@ -237,8 +237,8 @@ pub fn show_with_receipt<F: Feed, G: Feed, D: Drain>(
     drain: &mut D,
     dates: bool,
 ) -> Result<InputReceipt, Halt>
-    // Each feed gave a file of the digest `input`, to its end. The first has no fault, and the counts are those of its entities. The
-    // drain took exactly the text of the second, which has no fault.
+    // Each feed gave a file, of the digest `input` if the passes hash, to its end. The first has no fault, and the counts are those of
+    // its entities. The drain took exactly the text of the second, which has no fault.
     ensures receipt { IfOk result (λ receipt. GaveFile F.Feed first.old first.new
         (digest_if passes.hashes receipt.input)
         (λ b. CountsFile (judged_file (Some b)) receipt.counts

@@ -125,9 +125,9 @@ pub fn extract_sorted_with_receipt<F: Feed, G: Feed, H: Feed, D: Drain, S: Build
     drain: &mut D,
     hasher: S,
 ) -> Result<InputReceipt, Halt>
-    // The first and the third feed gave a file of the digest `input`, to its end, and the second too or nothing. The first file has no
-    // fault, and its header can be written. The drain took bytes. If the files are the same, these bytes are exactly its complete-ways
-    // extract, and the counts are those of the entities in it.
+    // The first and the third feed gave a file, of the digest `input` if the passes hash, to its end, and the second too or nothing. The
+    // first file has no fault, and its header can be written. The drain took bytes. If the files are the same, these bytes are exactly
+    // its complete-ways extract, and the counts are those of the entities in it.
     ensures receipt { IfOk result (λ receipt. GaveFile F.Feed first.old first.new
         (digest_if passes.hashes receipt.input) (λ b. IsWritable b
         × GaveOrNot G.Feed second.old second.new (digest_if passes.hashes receipt.input) b
@@ -229,9 +229,9 @@ pub fn extract_parents_sorted_with_receipt<
     drain: &mut D,
     hasher: S,
 ) -> Result<InputReceipt, Halt>
-    // Each feed gave a file of the digest `input`, to its end, or the second nothing; the first has no fault, and its header can be
-    // written. The drain took bytes. If the files are the same, these bytes are exactly its complete-ways extract with all parents, and the
-    // counts are those of the entities in it.
+    // Each feed gave a file, of the digest `input` if the passes hash, to its end, or the second nothing; the first has no fault, and its
+    // header can be written. The drain took bytes. If the files are the same, these bytes are exactly its complete-ways extract with all
+    // parents, and the counts are those of the entities in it.
     ensures receipt { IfOk result (λ receipt. GaveFile F.Feed first.old first.new
         (digest_if passes.hashes receipt.input) (λ b. IsWritable b
         × GaveOrNot G.Feed second.old second.new (digest_if passes.hashes receipt.input) b
