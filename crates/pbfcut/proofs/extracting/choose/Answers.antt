@@ -24,7 +24,7 @@ returns-in_err-writable_header-clause-refused g c =
 pub returns-in_err-gather-clause-refused : goal.returns-in_err-gather-clause-refused
 returns-in_err-gather-clause-refused g c =
     let p = err_from_is_err_and c.from_residual-in_err-gather.result c.from_residual-in_err-gather.ensures.1 in
-    rw (p.1, p.2) (no_refusal _ _ _ _ _ c.in_err-gather.ensures.stops)
+    rw (p.1, p.2) (no_refusal (record { number = 2; digest = c.in_ok-told.told.digest; hashes = true }) _ _ _ _ c.in_err-gather.ensures.stops)
 
 pub returns-in_err-writable_header-clause-stops : goal.returns-in_err-writable_header-clause-stops
 returns-in_err-writable_header-clause-stops g c =

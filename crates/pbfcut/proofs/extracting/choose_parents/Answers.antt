@@ -12,7 +12,7 @@ use Rattle.pbfcut.proofs.extracting.choose_parents.Goals as goal
 pub returns-in_err-gather-clause-refused : goal.returns-in_err-gather-clause-refused
 returns-in_err-gather-clause-refused g c =
     let p = err_from_is_err_and c.from_residual-in_err-gather.result c.from_residual-in_err-gather.ensures.1 in
-    rw (p.1, p.2) (no_refusal _ _ _ _ _ c.in_err-gather.ensures.stops)
+    rw (p.1, p.2) (no_refusal (record { number = 3; digest = c.in_ok-choice.choice.digest; hashes = true }) _ _ _ _ c.in_err-gather.ensures.stops)
 
 pub returns-in_err-gather-clause-stops : goal.returns-in_err-gather-clause-stops
 returns-in_err-gather-clause-stops g c =

@@ -21,7 +21,7 @@ returns-in_err-choice-clause-refused g c =
 pub returns-in_err-counts-clause-refused : goal.returns-in_err-counts-clause-refused
 returns-in_err-counts-clause-refused g c =
     let p = err_from_is_err_and c.from_residual-in_err-counts.result c.from_residual-in_err-counts.ensures.1 in
-    rw (p.1, p.2) (no_refusal _ _ _ _ _ c.in_err-counts.ensures.stops)
+    rw (p.1, p.2) (no_refusal (record { number = 3; digest = c.in_ok-choice.choice.digest; hashes = true }) _ _ _ _ c.in_err-counts.ensures.stops)
 
 pub returns-in_err-counts-clause-stops : goal.returns-in_err-counts-clause-stops
 returns-in_err-counts-clause-stops g c =
