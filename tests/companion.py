@@ -37,8 +37,8 @@ ENDS = [signal.SIGTERM, signal.SIGINT, signal.SIGHUP, signal.SIGQUIT]
 SECONDS = 120
 PAYLOAD_LIMIT = 33_554_432
 
-# a pbfcutz that begins and goes on for ten minutes; the file that it makes says that it has begun
-SLEEPER = "#!/bin/sh\necho $$ >'{}'\nexec sleep 600\n"
+# a pbfcutz that begins and goes on for ten minutes; the file that it makes says that it has begun, except when it validates
+SLEEPER = "#!/bin/sh\n[ \"$1\" = check ] || echo $$ >'{}'\nexec sleep 600\n"
 
 # a pbfcutz that copies a file to OUT and prints a receipt, and prints another one for 'check'
 TELLER = """#!/bin/sh
@@ -541,14 +541,17 @@ def sabotage(bench: Bench):
 
     # a pbfcutz that prints other things than it does
     right, wrong = digest_of(bench.read("direct")), digest_of(b"")
-    told = f"{COUNTS[:-1]}\\n{wrong}  IN\\nunpacked {wrong}\\n{right}  OUT\\n"
-    checked = f"{COUNTS[:-1]}\\n{wrong}  packed\\nunpacked {right}\\n"
-    for name, printed, validated, status in [("as it is", told, checked, 0), ("other counts", told, checked.replace("121", "122"), 70),
-                                             ("another digest", told, checked.replace(right, wrong), 70), ("no receipt", told, "", 70),
-                                             ("no digests", COUNTS[:-1] + "\\n", checked, 70)]:
+    counts = COUNTS[:-1] + "\\n"
+    told = f"{counts}{wrong}  IN\\nunpacked {wrong}\\n{right}  OUT\\n"
+    checked = f"{counts}{wrong}  packed\\nunpacked {right}\\n"
+    for name, options, printed, validated, status in [
+            ("as it is", [], counts, checked, 0), ("other counts", [], counts, checked.replace("121", "122"), 70),
+            ("another digest", [], counts, checked.replace(right, wrong), 70), ("no receipt", [], counts, "", 70),
+            ("no counts", [], "", checked, 70), ("more than counts", [], told, checked, 70),
+            ("no digests", ["--json"], counts, checked, 70), ("another digest of OUT", ["--json"], told.replace(right, wrong), checked, 70)]:
         bench.write_script("fake", TELLER.format(checked=validated, made=bench.path("direct"), told=printed))
         out = "out" if status else "right"
-        bench.case(f"a pbfcutz that prints {name}", [BOX, "zlib.osm.pbf", out], status=status, program=bench.path("fake"),
+        bench.case(f"a pbfcutz that prints {name}", [*options, BOX, "zlib.osm.pbf", out], status=status, program=bench.path("fake"),
                    stdout="" if status else COUNTS, parts=("pbfcut-any: ",) if status else (), left=() if status else ("right",))
     expect("OUT of the right one", bench.read("cut-zlib"), bench.read("right"))
     bench.remove("fake", "right")
@@ -563,7 +566,7 @@ def rooms(bench: Bench):
         made = bench.made(f"--tmp {tmp}", ["--tmp", tmp, BOX, "zlib.osm.pbf", "out"], stdout=COUNTS, program=bench.path("fake"), left=("places",))
         expect("OUT", bench.read("cut-zlib"), made)
         places = [os.path.dirname(place) for place in bench.read("places").decode().splitlines()]
-        expect(f"the places of --tmp {tmp}", [os.path.join(bench.folder, tmp), bench.folder], places)
+        expect(f"the places of --tmp {tmp}", sorted([os.path.join(bench.folder, tmp), bench.folder]), sorted(places))
         expect("what is left there", [], os.listdir(os.path.join(bench.folder, tmp)))
         bench.remove("places")
     shutil.rmtree(elsewhere)
