@@ -12,7 +12,7 @@ mod visit;
 
 pub use again::{Later, gather_again, step_again};
 pub use checking::{check, check_with_receipt};
-pub use hashed::{HashedDrain, HashedFeed};
+pub use hashed::{HashedDrain, PassFeed};
 pub use header_limit::writable_header;
 pub use pass::{
     Gather, Judged, Judging, Nothing, Pass, judge, step_count, step_gather, step_nodes,

@@ -8,7 +8,7 @@ use Rattle.pbf_frame.specs.declared.stop.Stop.{Stop}
 use Rattle.pbf_frame.specs.declared.stop.Stop.TheVariants as stop
 use Rattle.pbf_frame.specs.Devices.{IsFront}
 use Rattle.pbf_pass.specs.Given.{GaveFile}
-use Rattle.pbf_pass.specs.Hashing.{IsDigestOf}
+use Rattle.pbf_pass.specs.Hashing.{HasCounted, IsDigestOf, digest_if}
 use Rattle.pbf_pass.specs.Stops.{Caused}
 use Rattle.pbf_pass.proofs.GivenLemmas.{tells_file}
 use Rattle.pbf_unpack.specs.Unpacked.{unpacked}
@@ -16,19 +16,30 @@ use Rattle.pbf_pass.specs.HeaderLimit.{judged_writable}
 use Rattle.pbfcut.specs.Calls.{GaveOrNot, RefusedFirst}
 use Rattle.pbfcut.proofs.ConvertingLemmas.{nothing_out}
 use Rattle.pbf_published.specs.declared.input.PublishedHalt.{PublishedHalt}
-use Rattle.pbf_published.specs.Published.{GavePublished, GaveOrNone, Means, MeansIfSome, PassedAs, PassedIfSome, IsRefusedBy, UnlessChanged, told_by}
+use Rattle.pbf_published.specs.Published.{GavePublished, GaveOrNone, Means, MeansIfSome, PassedAs, PassedIfSome, IsRefusedBy, UnlessChanged, log_of, told_by}
 
 -- what an unpacking feed says of the feed below, when it is opened and when it is closed, with a digest of what was read
-pub record IsOver {F U : Type 0} (f : feed.Ghosts F) (u : feed.Ghosts U) (first last : F) (old new : U) (digest : List ℕ) : Type 0 where
+pub record IsOver {F U : Type 0} (f : feed.Ghosts F) (u : feed.Ghosts U) (first last : F) (old new : U) (hashes : Bool) (digest : Option (List ℕ)) : Type 0 where
   pub remaining : u.remaining old ≡ option_map unpacked (f.remaining first)
-  pub hashed : u.has_passed old zero []
-  pub logged : (log : ℕ) → f.has_passed first log [] → u.has_passed old (suc log) []
-  pub means : (raw : List ℕ) → u.has_passed new zero raw → Means digest raw
-  pub passed : (log : ℕ) (raw : List ℕ) → u.has_passed new (suc log) raw → PassedAs f.has_passed last log raw
+  pub opened : u.has_passed old (log_of hashes) []
+  pub logged : (log : ℕ) → f.has_passed first log [] → u.has_passed old (suc (suc log)) []
+  pub means : (raw : List ℕ) → u.has_passed new (log_of hashes) raw → Means digest raw
+  pub passed : (log : ℕ) (raw : List ℕ) → u.has_passed new (suc (suc log)) raw → PassedAs f.has_passed last log raw
+
+-- a feed of a pass that was opened, in the log that says most
+pub opened_by : {D H : Type 0} (holds : H → List ℕ → Type 0) (below : D → ℕ → List ℕ → Type 0) (device : D) (flag hashes : Bool) (hasher : H) (count : ℕ) → flag ≡ hashes → holds hasher [] → count ≡ 0 → HasCounted holds below device flag hasher count (log_of hashes) []
+opened_by holds below device flag true hasher count is none counted = (is, none)
+opened_by holds below device flag false hasher count is none counted = counted
+
+-- and the digest of what it has read then
+pub digest_by : {D H : Type 0} (holds : H → List ℕ → Type 0) (below : D → ℕ → List ℕ → Type 0) (device : D) (flag hashes : Bool) (hasher : H) (count : ℕ) (digest packed : List ℕ) → HasCounted holds below device flag hasher count (log_of hashes) packed
+    → ((b : List ℕ) → holds hasher b → digest ≡ sha256 b) → IsDigestOf (digest_if hashes digest) packed
+digest_by holds below device flag true hasher count digest packed passed is = is packed passed.1
+digest_by holds below device flag false hasher count digest packed passed is = tt
 
 -- its digest is this, or that of nothing
 pub either_over : {F U : Type 0} (f : feed.Ghosts F) (u : feed.Ghosts U) (first last : F) (old new : U) (o : Option (List ℕ)) (digest : List ℕ) → (o ≡ Some digest) ⊎ (o ≡ Some (sha256 []))
-    → ((d : List ℕ) → o ≡ Some d → IsOver f u first last old new d) → IsOver f u first last old new digest ⊎ IsOver f u first last old new (sha256 [])
+    → ((d : List ℕ) → o ≡ Some d → IsOver f u first last old new true (Some d)) → IsOver f u first last old new true (Some digest) ⊎ IsOver f u first last old new true (Some (sha256 []))
 either_over f u first last old new o digest (inl is) over = inl (over digest is)
 either_over f u first last old new o digest (inr is) over = inr (over (sha256 []) is)
 
@@ -38,31 +49,31 @@ same_by mid last first e e2 = sym e ∙ e2
 
 module _ {F U : Type 0} (f : feed.Ghosts F) (u : feed.Ghosts U) (first last : F) (old new : U) (raw_digest : Option (List ℕ)) (holds keeps : List ℕ → Type 0) (step : (file : List ℕ) → holds file → keeps file) where
   -- what is said of the file that an unpacking feed gave is said of the raw file that packed bytes mean
-  pub published_of : (digest : List ℕ) → IsOver f u first last old new digest → GaveFile u old new raw_digest holds → GavePublished f first last digest raw_digest keeps
-  published_of digest over given =
+  pub published_of : (hashes : Bool) (digest : Option (List ℕ)) → IsOver f u first last old new hashes digest → GaveFile u old new raw_digest holds → GavePublished f first last digest raw_digest keeps
+  published_of hashes digest over given =
       let file = given.file in
-      let m = over.means file (given.supplied.logged zero [] over.hashed) in
+      let m = over.means file (given.supplied.logged (log_of hashes) [] over.opened) in
       record {
         packed = m.packed;
         digest_is = m.digest_is;
         raw_digest_is = subst (λ (l : List ℕ). IsDigestOf raw_digest l) (sym m.means) given.digest_is;
         told = λ all is. sym (tells_file u old new raw_digest holds given (unpacked all) (over.remaining ∙ ap (λ (k : Option (List ℕ)). option_map unpacked k) is)) ∙ sym m.means;
         logged = λ log start.
-            let p = over.passed log file (given.supplied.logged (suc log) [] (over.logged log start)) in
+            let p = over.passed log file (given.supplied.logged (suc (suc log)) [] (over.logged log start)) in
             record { packed = p.packed; passed = p.passed; means = p.means ∙ sym m.means };
         holding = subst keeps (sym m.means) (step file given.holding);
       }
 
   -- the same of a feed of which perhaps nothing was read
-  pub published_or_none : (digest file : List ℕ) → IsOver f u first last old new digest ⊎ IsOver f u first last old new (sha256 []) → (new ≡ old → last ≡ first) → GaveOrNot u old new raw_digest file holds
+  pub published_or_none : (digest file : List ℕ) → IsOver f u first last old new true (Some digest) ⊎ IsOver f u first last old new true (Some (sha256 [])) → (new ≡ old → last ≡ first) → GaveOrNot u old new raw_digest file holds
       → GaveOrNone f first last digest raw_digest file keeps
-  published_or_none digest file (inl over) same (inl given) = inl (inl (published_of digest over given))
-  published_or_none digest file (inr over) same (inl given) = inl (inr (published_of (sha256 []) over given))
+  published_or_none digest file (inl over) same (inl given) = inl (inl (published_of true (Some digest) over given))
+  published_or_none digest file (inr over) same (inl given) = inl (inr (published_of true (Some (sha256 [])) over given))
   published_or_none digest file over same (inr (is, holding)) = inr (same is, step file holding)
 
 -- a digest that is there
-pub means_some : (o : Option (List ℕ)) (digest raw : List ℕ) → o ≡ Some digest → MeansIfSome o raw → Means digest raw
-means_some o digest raw is means = subst (λ (x : Option (List ℕ)). MeansIfSome x raw) is means
+pub means_some : (hashes : Bool) (o : Option (List ℕ)) (digest raw : List ℕ) → o ≡ Some digest → MeansIfSome hashes o raw → Means (digest_if hashes digest) raw
+means_some hashes o digest raw is means = subst (λ (x : Option (List ℕ)). MeansIfSome hashes x raw) is means
 
 -- and what passed below the feed that was closed, which goes through a reference to the feed in question
 pub passed_below : {R F : Type 0} (below : R → ℕ → List ℕ → Type 0) (r : R) (has_passed : F → ℕ → List ℕ → Type 0) (last : F) (o : Option (List ℕ)) (digest : List ℕ) (log : ℕ) (raw : List ℕ) → o ≡ Some digest

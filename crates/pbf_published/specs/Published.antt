@@ -1,12 +1,12 @@
 -- What a call over published files was given: packed bytes, and the raw files that they mean.
-use Rattle.std.specs.Prelude.{◌≡◌, ◌⊎◌, ℕ, List, [], Bool, true, false, Option, Some, None}
+use Rattle.std.specs.Prelude.{◌≡◌, ◌⊎◌, ℕ, zero, suc, List, [], Bool, true, false, Option, Some, None}
 use Rattle.std.specs.Option.{option_map}
 use Rattle.sha2.specs.Sha256.{sha256}
 use Rattle.pbf_wire.specs.declared.fault.Fault.{Fault}
 use Rattle.pbf_frame.specs.declared.device.Feed as feed
 use Rattle.pbf_frame.specs.declared.stop.Stop.{Stop}
 use Rattle.pbf_frame.specs.declared.stop.Stop.TheVariants.{Refused, Read, Write, Memory, Changed}
-use Rattle.pbf_pass.specs.Hashing.{IsDigestOf}
+use Rattle.pbf_pass.specs.Hashing.{IsDigestOf, digest_if}
 use Rattle.pbf_pass.specs.Stops.{Caused}
 use Rattle.pbf_unpack.specs.Unpacked.{unpacked}
 
@@ -19,9 +19,9 @@ pub record PassedAs {F : Type 0} (has_passed : F → ℕ → List ℕ → Type 0
   pub means : unpacked packed ≡ raw
 
 -- a feed gave packed bytes of one digest, which mean a raw file, of another if there is one, and this holds of that file
-pub record GavePublished {F : Type 0} (f : feed.Ghosts F) (old new : F) (digest : List ℕ) (raw_digest : Option (List ℕ)) (holds : List ℕ → Type 0) : Type 0 where
+pub record GavePublished {F : Type 0} (f : feed.Ghosts F) (old new : F) (digest raw_digest : Option (List ℕ)) (holds : List ℕ → Type 0) : Type 0 where
   pub packed : List ℕ
-  pub digest_is : digest ≡ sha256 packed
+  pub digest_is : IsDigestOf digest packed
   pub raw_digest_is : IsDigestOf raw_digest (unpacked packed)
   -- what the feed had to supply means that file, if it reports its bytes
   pub told : (all : List ℕ) → f.remaining old ≡ Some all → unpacked all ≡ unpacked packed
@@ -31,20 +31,25 @@ pub record GavePublished {F : Type 0} (f : feed.Ghosts F) (old new : F) (digest 
 
 -- a later feed did so; or it had no bytes; or nothing was read of it, and this holds of the file before
 abbrev pub GaveOrNone : {F : Type 0} → feed.Ghosts F → (old new : F) → (digest : List ℕ) → Option (List ℕ) → (raw : List ℕ) → (List ℕ → Type 0) → Type 0
-GaveOrNone f old new digest raw_digest raw holds = (GavePublished f old new digest raw_digest holds ⊎ GavePublished f old new (sha256 []) raw_digest holds) ⊎ ((new ≡ old) × holds raw)
+GaveOrNone f old new digest raw_digest raw holds = (GavePublished f old new (Some digest) raw_digest holds ⊎ GavePublished f old new (Some (sha256 [])) raw_digest holds) ⊎ ((new ≡ old) × holds raw)
 
 -- ---- the digest of a feed that was read
 
+-- the log that says most of the packed bytes: what the hasher holds if they are hashed, otherwise how many they are
+abbrev pub log_of : Bool → ℕ
+log_of true = zero
+log_of false = suc zero
+
 -- packed bytes of this digest mean this raw file
-pub record Means (digest raw : List ℕ) : Type 0 where
+pub record Means (digest : Option (List ℕ)) (raw : List ℕ) : Type 0 where
   pub packed : List ℕ
-  pub digest_is : digest ≡ sha256 packed
+  pub digest_is : IsDigestOf digest packed
   pub means : unpacked packed ≡ raw
 
 -- so they do, if there is a digest
-abbrev pub MeansIfSome : Option (List ℕ) → List ℕ → Type 0
-MeansIfSome (Some digest) raw = Means digest raw
-MeansIfSome None raw = Unit {0}
+abbrev pub MeansIfSome : Bool → Option (List ℕ) → List ℕ → Type 0
+MeansIfSome hashes (Some digest) raw = Means (digest_if hashes digest) raw
+MeansIfSome hashes None raw = Unit {0}
 
 -- and they passed by this log
 abbrev pub PassedIfSome : {F : Type 0} → (F → ℕ → List ℕ → Type 0) → F → Option (List ℕ) → ℕ → List ℕ → Type 0

@@ -25,7 +25,7 @@ pub fn check_with_receipt<F: Feed>(
     // The feed gave packed bytes of the digest `input`, which mean a raw file, of the digest `raw` if it is hashed. That file has no
     // fault, and the counts are those of its entities.
     ensures receipt { IfOk result (λ receipt. GavePublished F.Feed feed.old feed.new
-        receipt.input
+        (digest_if passes.hashes receipt.input)
         (digest_if passes.hashes receipt.raw)
         (λ file. CountsFile (judged_file (Some file)) receipt.counts)) }
     // What is refused is the raw file that the feed's bytes mean, by its first fault.
@@ -33,7 +33,7 @@ pub fn check_with_receipt<F: Feed>(
         (FaultOf (judged_file (raw_of (F.remaining feed.old)))) h.stop) }
 {
     let alloc = passes.alloc;
-    let mut input = open(alloc, Inflater::new(alloc)?, &mut *feed);
+    let mut input = open(alloc, Inflater::new(alloc)?, &mut *feed, passes.hashes);
     let outcome = pbf_pass::check_with_receipt(passes, &mut input);
     let receipt = match outcome {
         Ok(receipt) => receipt,

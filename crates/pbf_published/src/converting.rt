@@ -1,6 +1,6 @@
 //! `convert` of published files.
 
-ghost use Rattle.std.specs.Prelude.{◌≡◌, ℕ, List, IfOk, IfErr};
+ghost use Rattle.std.specs.Prelude.{Some, ◌≡◌, ℕ, List, IfOk, IfErr};
 ghost use Rattle.pbf_frame.specs.Devices.{IsFront};
 ghost use Rattle.pbf_pass.specs.Given.{Took};
 ghost use Rattle.pbf_pass.specs.HeaderLimit.{judged_writable};
@@ -36,9 +36,9 @@ pub fn convert_with_receipt<F: Feed, G: Feed, D: Drain, S: BuildHasher + Drop>(
     // has no fault, and its header can be written. The drain took bytes. If both raw files are the same, these bytes are exactly its
     // conversion in canonical form, and the counts are those of its entities.
     ensures receipt { IfOk result (λ receipt. GavePublished F.Feed first.old first.new
-        receipt.input
+        (Some receipt.input)
         (digest_if passes.hashes receipt.raw) (λ b. IsWritable b
-        × GavePublished G.Feed second.old second.new receipt.input
+        × GavePublished G.Feed second.old second.new (Some receipt.input)
         (digest_if passes.hashes receipt.raw)
         (λ c. Took D.Drain drain.old drain.new
         (λ written. b ≡ c → IsConverted b receipt.counts written)))) }
@@ -52,8 +52,8 @@ pub fn convert_with_receipt<F: Feed, G: Feed, D: Drain, S: BuildHasher + Drop>(
         → IsFront (D.taken drain.old) (D.taken drain.new) (conversion_of b)) h.stop) }
 {
     let alloc = passes.alloc;
-    let mut one = open(alloc, Inflater::new(alloc)?, &mut *first);
-    let mut two = open(alloc, Inflater::new(alloc)?, &mut *second);
+    let mut one = open(alloc, Inflater::new(alloc)?, &mut *first, true);
+    let mut two = open(alloc, Inflater::new(alloc)?, &mut *second, true);
     let outcome = pbfcut::convert_with_receipt(passes, &mut one, &mut two, drain, hasher);
     let receipt = match outcome {
         Ok(receipt) => receipt,

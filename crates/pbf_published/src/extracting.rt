@@ -1,6 +1,6 @@
 //! `extract` of published files.
 
-ghost use Rattle.std.specs.Prelude.{◌≡◌, ℕ, List, IfOk, IfErr};
+ghost use Rattle.std.specs.Prelude.{Some, ◌≡◌, ℕ, List, IfOk, IfErr};
 ghost use Rattle.osm_ways.specs.Seen.{seen_decoded};
 ghost use Rattle.osm_ways.specs.Selection.{extract};
 ghost use Rattle.pbf_frame.specs.Devices.{IsFront};
@@ -46,11 +46,11 @@ pub fn extract_sorted_with_receipt<F: Feed, G: Feed, H: Feed, D: Drain, S: Build
     // files are the same, these bytes are exactly its complete-ways extract, in canonical form, and the counts are those of the entities
     // in it.
     ensures receipt { IfOk result (λ receipt. GavePublished F.Feed first.old first.new
-        receipt.input
+        (Some receipt.input)
         (digest_if passes.hashes receipt.raw) (λ b. IsWritable b
         × GaveOrNone G.Feed second.old second.new receipt.input
         (digest_if passes.hashes receipt.raw) b
-        (λ c. GavePublished H.Feed third.old third.new receipt.input
+        (λ c. GavePublished H.Feed third.old third.new (Some receipt.input)
         (digest_if passes.hashes receipt.raw)
         (λ d. Took D.Drain drain.old drain.new
         (λ written. b ≡ c → b ≡ d → IsExtraction (complete_ways area) (extract (seen_decoded area))
@@ -67,9 +67,9 @@ pub fn extract_sorted_with_receipt<F: Feed, G: Feed, H: Feed, D: Drain, S: Build
         (extract_of (complete_ways area) area b)) h.stop) }
 {
     let alloc = passes.alloc;
-    let mut one = open(alloc, Inflater::new(alloc)?, &mut *first);
-    let mut two = open(alloc, Inflater::new(alloc)?, &mut *second);
-    let mut three = open(alloc, Inflater::new(alloc)?, &mut *third);
+    let mut one = open(alloc, Inflater::new(alloc)?, &mut *first, true);
+    let mut two = open(alloc, Inflater::new(alloc)?, &mut *second, true);
+    let mut three = open(alloc, Inflater::new(alloc)?, &mut *third, true);
     let outcome = pbfcut::extract_sorted_with_receipt(
         passes, &mut one, &mut two, &mut three, area, drain, hasher,
     );

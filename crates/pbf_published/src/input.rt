@@ -1,14 +1,14 @@
 //! A published file that is read: hashed as it is, and unpacked.
 
-ghost use Rattle.std.specs.Prelude.{◌≡◌, ◌⊎◌, ℕ, suc, List, [], Some, IfOk, IfErr, OnOk};
+ghost use Rattle.std.specs.Prelude.{◌≡◌, ◌⊎◌, ℕ, suc, Bool, List, [], Some, IfOk, IfErr, OnOk};
 ghost use Rattle.sha2.specs.Sha256.{sha256};
 ghost use Rattle.pbf_frame.specs.declared.stop.Stop.TheVariants as stop;
 ghost use Rattle.pbf_pass.specs.Refused.{stop_of};
-ghost use Rattle.pbf_published.specs.Published.{MeansIfSome, PassedIfSome, raw_of, told_by};
+ghost use Rattle.pbf_published.specs.Published.{MeansIfSome, PassedIfSome, log_of, raw_of, told_by};
 
 use pbf_block::Counts;
 use pbf_frame::{Feed, Stop};
-use pbf_pass::{Halt, HashedFeed, Refusal};
+use pbf_pass::{Halt, PassFeed, Refusal};
 use pbf_unpack::{Inflater, Place, UnpackFault, UnpackedFeed};
 use sha2::{Digest, Sha256};
 use std::alloc::{AllocError, Global};
@@ -59,30 +59,35 @@ impl From<AllocError> for PublishedHalt {
 }
 
 /// A published file from its start.
-pub fn open<F: Feed>(alloc: Global, inflater: Inflater, feed: F) -> UnpackedFeed<HashedFeed<F>>
+pub fn open<F: Feed>(
+    alloc: Global,
+    inflater: Inflater,
+    feed: F,
+    hashes: bool,
+) -> UnpackedFeed<PassFeed<F>>
     ensures feed { result.feed.feed ≡ feed }
-    ensures remaining { ⟦<UnpackedFeed<HashedFeed<F>> as Feed>⟧.remaining result
+    ensures remaining { ⟦<UnpackedFeed<PassFeed<F>> as Feed>⟧.remaining result
         ≡ raw_of (F.remaining feed) }
-    ensures hashed { ⟦<UnpackedFeed<HashedFeed<F>> as Feed>⟧.has_passed result 0 [] }
+    ensures opened { ⟦<UnpackedFeed<PassFeed<F>> as Feed>⟧.has_passed result (log_of hashes) [] }
     ensures logged { (log : ℕ) → F.has_passed feed log []
-        → ⟦<UnpackedFeed<HashedFeed<F>> as Feed>⟧.has_passed result (suc log) [] }
-    ensures lender { ⟦<UnpackedFeed<HashedFeed<F>> as Feed>⟧.lender result ≡ F.lender feed }
+        → ⟦<UnpackedFeed<PassFeed<F>> as Feed>⟧.has_passed result (suc (suc log)) [] }
+    ensures lender { ⟦<UnpackedFeed<PassFeed<F>> as Feed>⟧.lender result ≡ F.lender feed }
 {
-    UnpackedFeed::new(alloc, inflater, HashedFeed::new(feed))
+    UnpackedFeed::new(alloc, inflater, PassFeed::new(feed, hashes))
 }
 
 /// The digest of the packed bytes that were read, if all that they mean was supplied, and the feed below.
-pub fn close<F: Feed>(feed: UnpackedFeed<HashedFeed<F>>) -> (Option<[u8; 32]>, F)
+pub fn close<F: Feed>(feed: UnpackedFeed<PassFeed<F>>) -> (Option<[u8; 32]>, F)
     // The digest is that of packed bytes which mean all that was supplied.
-    ensures hashed { (raw : List ℕ)
-        → ⟦<UnpackedFeed<HashedFeed<F>> as Feed>⟧.has_passed feed 0 raw
-        → MeansIfSome result.0 raw }
+    ensures means { (hashes : Bool) (raw : List ℕ)
+        → ⟦<UnpackedFeed<PassFeed<F>> as Feed>⟧.has_passed feed (log_of hashes) raw
+        → MeansIfSome hashes result.0 raw }
     // They passed, by each log of the feed below.
     ensures logged { (log : ℕ) (raw : List ℕ)
-        → ⟦<UnpackedFeed<HashedFeed<F>> as Feed>⟧.has_passed feed (suc log) raw
+        → ⟦<UnpackedFeed<PassFeed<F>> as Feed>⟧.has_passed feed (suc (suc log)) raw
         → PassedIfSome F.has_passed result.1 result.0 log raw }
     ensures feed { result.1 ≡ feed.feed.feed }
-    ensures lender { F.lender result.1 ≡ ⟦<UnpackedFeed<HashedFeed<F>> as Feed>⟧.lender feed }
+    ensures lender { F.lender result.1 ≡ ⟦<UnpackedFeed<PassFeed<F>> as Feed>⟧.lender feed }
 {
     let all = feed.has_given_all();
     let mut hashed = feed.into_feed();
@@ -125,7 +130,7 @@ pub fn compare_or_none(digest: [u8; 32], later: Option<[u8; 32]>, pass: u8) -> R
 /// What a stop of a call over raw files says of published ones: of the first of them, and of a feed that was refused memory.
 pub fn stopped<F: Feed>(
     stop: Stop,
-    first: &UnpackedFeed<HashedFeed<F>>,
+    first: &UnpackedFeed<PassFeed<F>>,
     lacks_memory: bool,
 ) -> PublishedHalt
     ensures { result.stop ≡ told_by lacks_memory stop }
@@ -148,7 +153,7 @@ pub fn stopped<F: Feed>(
 /// The same of a halt.
 pub fn halted<F: Feed>(
     halt: Halt,
-    first: &UnpackedFeed<HashedFeed<F>>,
+    first: &UnpackedFeed<PassFeed<F>>,
     lacks_memory: bool,
 ) -> PublishedHalt
     ensures { result.stop ≡ told_by lacks_memory (stop_of halt) }

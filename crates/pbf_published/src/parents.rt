@@ -1,6 +1,6 @@
 //! `extract --parents` of published files.
 
-ghost use Rattle.std.specs.Prelude.{◌≡◌, ℕ, List, IfOk, IfErr};
+ghost use Rattle.std.specs.Prelude.{Some, ◌≡◌, ℕ, List, IfOk, IfErr};
 ghost use Rattle.osm_ways.specs.Parents.{extract_with_parents};
 ghost use Rattle.osm_ways.specs.Seen.{seen_decoded};
 ghost use Rattle.pbf_frame.specs.Devices.{IsFront};
@@ -47,13 +47,13 @@ pub fn extract_parents_sorted_with_receipt<
     // nothing. The first raw file has no fault, and its header can be written. The drain took bytes. If the raw files are the same, these
     // bytes are exactly its complete-ways extract with all parents, and the counts are those of the entities in it.
     ensures receipt { IfOk result (λ receipt. GavePublished F.Feed first.old first.new
-        receipt.input
+        (Some receipt.input)
         (digest_if passes.hashes receipt.raw) (λ b. IsWritable b
         × GaveOrNone G.Feed second.old second.new receipt.input
         (digest_if passes.hashes receipt.raw) b
-        (λ c. GavePublished H.Feed third.old third.new receipt.input
+        (λ c. GavePublished H.Feed third.old third.new (Some receipt.input)
         (digest_if passes.hashes receipt.raw)
-        (λ d. GavePublished I.Feed fourth.old fourth.new receipt.input
+        (λ d. GavePublished I.Feed fourth.old fourth.new (Some receipt.input)
         (digest_if passes.hashes receipt.raw)
         (λ e. Took D.Drain drain.old drain.new
         (λ written. b ≡ c → b ≡ d → b ≡ e → IsExtraction (all_parents area)
@@ -70,10 +70,10 @@ pub fn extract_parents_sorted_with_receipt<
         (extract_of (all_parents area) area b)) h.stop) }
 {
     let alloc = passes.alloc;
-    let mut one = open(alloc, Inflater::new(alloc)?, &mut *first);
-    let mut two = open(alloc, Inflater::new(alloc)?, &mut *second);
-    let mut three = open(alloc, Inflater::new(alloc)?, &mut *third);
-    let mut four = open(alloc, Inflater::new(alloc)?, &mut *fourth);
+    let mut one = open(alloc, Inflater::new(alloc)?, &mut *first, true);
+    let mut two = open(alloc, Inflater::new(alloc)?, &mut *second, true);
+    let mut three = open(alloc, Inflater::new(alloc)?, &mut *third, true);
+    let mut four = open(alloc, Inflater::new(alloc)?, &mut *fourth, true);
     let outcome = pbfcut::extract_parents_sorted_with_receipt(
         passes, &mut one, &mut two, &mut three, &mut four, area, drain, hasher,
     );

@@ -36,9 +36,9 @@ pub fn show_with_receipt<F: Feed, G: Feed, D: Drain>(
     // Each feed gave packed bytes of the digest `input`, which mean a raw file, of the digest `raw` if it is hashed. That of the first
     // has no fault, and the counts are those of its entities. The drain took exactly the text of that of the second, which has no fault.
     ensures receipt { IfOk result (λ receipt. GavePublished F.Feed first.old first.new
-        receipt.input
+        (Some receipt.input)
         (digest_if passes.hashes receipt.raw) (λ b. CountsFile (judged_file (Some b)) receipt.counts
-        × GavePublished G.Feed second.old second.new receipt.input
+        × GavePublished G.Feed second.old second.new (Some receipt.input)
         (digest_if passes.hashes receipt.raw)
         (λ c. Took D.Drain drain.old drain.new (Shown dates (judged_file (Some c)))))) }
     // What is refused is the raw file that the first feed's bytes mean, by its first fault, and then the drain took nothing.
@@ -52,8 +52,8 @@ pub fn show_with_receipt<F: Feed, G: Feed, D: Drain>(
         (D.taken drain.old) (D.taken drain.new)) h.stop) }
 {
     let alloc = passes.alloc;
-    let mut one = open(alloc, Inflater::new(alloc)?, &mut *first);
-    let mut two = open(alloc, Inflater::new(alloc)?, &mut *second);
+    let mut one = open(alloc, Inflater::new(alloc)?, &mut *first, true);
+    let mut two = open(alloc, Inflater::new(alloc)?, &mut *second, true);
     let outcome = pbfcut::show_with_receipt(passes, &mut one, &mut two, drain, dates);
     let receipt = match outcome {
         Ok(receipt) => receipt,
@@ -93,7 +93,7 @@ pub fn list_blobs<F: Feed, D: Drain>(
     ensures beginning { OnErr result (ListsFront D.Drain drain.old drain.new
         (judged_known false 0 (raw_of (F.remaining feed.old)))) }
 {
-    let mut input = open(alloc, Inflater::new(alloc)?, &mut *feed);
+    let mut input = open(alloc, Inflater::new(alloc)?, &mut *feed, false);
     match pbfcut::list_blobs(alloc, &mut input, drain) {
         Ok(frames) => Ok(frames),
         Err(stop) => Err(stopped(stop, &input, lacks_memory(&input))),

@@ -1,15 +1,17 @@
-use Rattle.std.proofs.Common.{zero, suc, ap, ◌∙◌}
+use Rattle.std.proofs.Common.{suc, ap, ◌∙◌}
 use Rattle.pbf_unpack.specs.Unpacked.{Unpacked}
+use Rattle.pbf_published.specs.Published.{log_of}
+use Rattle.pbf_published.proofs.PublishedLemmas.{digest_by}
 use Rattle.pbf_published.proofs.input.close.Goals.{then-all, else-all}
 use Rattle.pbf_published.proofs.input.close.Goals as goal
 
-pub returns-clause-hashed : goal.returns-clause-hashed
-returns-clause-hashed g c raw has = elim c.if-all.branch [
+pub returns-clause-means : goal.returns-clause-means
+returns-clause-means g c hashes raw has = elim c.if-all.branch [
   | then-all w ↦
-      let gave = c.has_given_all-all.ensures zero raw w.if-all.true has in
+      let gave = c.has_given_all-all.ensures (log_of hashes) raw w.if-all.true has in
       rw w.result-is record {
         packed = gave.packed;
-        digest_is = c.digest-digest.ensures.digest gave.packed (rw c.into_feed-hashed.ensures.feed gave.passed);
+        digest_is = digest_by _ _ _ _ hashes _ _ _ gave.packed (rw c.into_feed-hashed.ensures.feed gave.passed) c.digest-digest.ensures.digest;
         means = ap (λ (u : Unpacked). u.0) gave.means;
       }
   | else-all w ↦ rw w.result-is tt
@@ -18,7 +20,7 @@ returns-clause-hashed g c raw has = elim c.if-all.branch [
 pub returns-clause-logged : goal.returns-clause-logged
 returns-clause-logged g c log raw has = elim c.if-all.branch [
   | then-all w ↦
-      let gave = c.has_given_all-all.ensures (suc log) raw w.if-all.true has in
+      let gave = c.has_given_all-all.ensures (suc (suc log)) raw w.if-all.true has in
       rw w.result-is record {
         packed = gave.packed;
         passed = rw (c.into_inner.ensures.feed ∙ c.digest-digest.ensures.feed ∙ ap (λ h. h.feed) c.into_feed-hashed.ensures.feed) gave.passed;

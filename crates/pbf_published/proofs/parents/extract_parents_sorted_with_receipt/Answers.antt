@@ -1,4 +1,4 @@
-use Rattle.std.proofs.Common.{rules, subst, ap, ◌∙◌}
+use Rattle.std.proofs.Common.{true, Some, rules, subst, ap, ◌∙◌}
 use Rattle.pbf_pass.specs.Refused.{stop_of}
 use Rattle.pbf_pass.specs.Hashing.{digest_if}
 use Rattle.pbf_published.proofs.PublishedLemmas.{published_of, published_or_none, either_over, same_by, means_some, passed_below, refused_raw, nothing_went_out, unless_changed}
@@ -15,34 +15,34 @@ returns-clause-receipt g c =
       holds.0,
       published_or_none g.G.Feed _ c.args.second.now _ _ _ raw_digest _ _ (λ e rest.
           published_of g.H.Feed _ c.args.third.now _ _ _ raw_digest _ _ (λ d rest.
-          published_of g.I.Feed _ c.args.fourth.now _ _ _ raw_digest _ _ (λ e took. took) digest record {
+          published_of g.I.Feed _ c.args.fourth.now _ _ _ raw_digest _ _ (λ e took. took) true (Some digest) record {
             remaining = c.open-four.ensures.remaining;
-            hashed = c.open-four.ensures.hashed;
+            opened = c.open-four.ensures.opened;
             logged = c.open-four.ensures.logged;
-            means = λ raw has. means_some _ digest raw fourth (c.close-four.ensures.hashed raw has);
+            means = λ raw has. means_some true _ digest raw fourth (c.close-four.ensures.means true raw has);
             passed = λ log raw has. passed_below _ _ g.I.Feed.has_passed _ _ digest log raw fourth (λ packed p. subst (λ (x : g.row.I.Denot). g.I.Feed.has_passed x log packed) (search rules) p) (c.close-four.ensures.logged log raw has);
-          } rest) digest record {
+          } rest) true (Some digest) record {
             remaining = c.open-three.ensures.remaining;
-            hashed = c.open-three.ensures.hashed;
+            opened = c.open-three.ensures.opened;
             logged = c.open-three.ensures.logged;
-            means = λ raw has. means_some _ digest raw third (c.close-three.ensures.hashed raw has);
+            means = λ raw has. means_some true _ digest raw third (c.close-three.ensures.means true raw has);
             passed = λ log raw has. passed_below _ _ g.H.Feed.has_passed _ _ digest log raw third (λ packed p. subst (λ (x : g.row.H.Denot). g.H.Feed.has_passed x log packed) (search rules) p) (c.close-three.ensures.logged log raw has);
           } rest)
           digest b
           (either_over g.G.Feed _ c.args.second.now _ _ _ _ digest c.in_ok-compare_or_none.ensures.same (λ d is. record {
             remaining = c.open-two.ensures.remaining;
-            hashed = c.open-two.ensures.hashed;
+            opened = c.open-two.ensures.opened;
             logged = c.open-two.ensures.logged;
-            means = λ raw has. means_some _ d raw is (c.close-two.ensures.hashed raw has);
+            means = λ raw has. means_some true _ d raw is (c.close-two.ensures.means true raw has);
             passed = λ log raw has. passed_below _ _ g.G.Feed.has_passed _ _ d log raw is (λ packed p. subst (λ (x : g.row.G.Denot). g.G.Feed.has_passed x log packed) (search rules) p) (c.close-two.ensures.logged log raw has);
           }))
           (λ e. same_by c.close-two.result.1.now _ _ (search rules) (ap (λ r. r.now) c.close-two.ensures.feed ∙ ap (λ u. u.feed.feed.now) e ∙ ap (λ r. r.now) c.open-two.ensures.feed))
           holds.1,
-    )) digest record {
+    )) true (Some digest) record {
       remaining = c.open-one.ensures.remaining;
-      hashed = c.open-one.ensures.hashed;
+      opened = c.open-one.ensures.opened;
       logged = c.open-one.ensures.logged;
-      means = λ raw has. means_some _ digest raw first (c.close-one.ensures.hashed raw has);
+      means = λ raw has. means_some true _ digest raw first (c.close-one.ensures.means true raw has);
       passed = λ log raw has. passed_below _ _ g.F.Feed.has_passed _ _ digest log raw first (λ packed p. subst (λ (x : g.row.F.Denot). g.F.Feed.has_passed x log packed) (search rules) p) (c.close-one.ensures.logged log raw has);
     } c.in-Ok.ensures.receipt
 

@@ -1,4 +1,4 @@
-use Rattle.std.proofs.Common.{ℕ, List, Option, rules, subst, sym, ◌∙◌}
+use Rattle.std.proofs.Common.{true, Some, ℕ, List, Option, rules, subst, sym, ◌∙◌}
 use Rattle.pbf_pass.specs.Judged.{judged_file}
 use Rattle.pbfcut.specs.Showing.{ShowsFront}
 use Rattle.pbf_pass.specs.Hashing.{digest_if}
@@ -13,18 +13,18 @@ returns-clause-receipt g c =
     let second = c.in_ok-compare.ensures.same in
     published_of g.F.Feed _ c.args.first.now _ _ _ raw_digest _ _ (λ b holds. (
       holds.0,
-      published_of g.G.Feed _ c.args.second.now _ _ _ raw_digest _ _ (λ d took. took) digest record {
+      published_of g.G.Feed _ c.args.second.now _ _ _ raw_digest _ _ (λ d took. took) true (Some digest) record {
         remaining = c.open-two.ensures.remaining;
-        hashed = c.open-two.ensures.hashed;
+        opened = c.open-two.ensures.opened;
         logged = c.open-two.ensures.logged;
-        means = λ raw has. means_some _ digest raw second (c.close-two.ensures.hashed raw has);
+        means = λ raw has. means_some true _ digest raw second (c.close-two.ensures.means true raw has);
         passed = λ log raw has. passed_below _ _ g.G.Feed.has_passed _ _ digest log raw second (λ packed p. subst (λ (x : g.row.G.Denot). g.G.Feed.has_passed x log packed) (search rules) p) (c.close-two.ensures.logged log raw has);
       } holds.1,
-    )) digest record {
+    )) true (Some digest) record {
       remaining = c.open-one.ensures.remaining;
-      hashed = c.open-one.ensures.hashed;
+      opened = c.open-one.ensures.opened;
       logged = c.open-one.ensures.logged;
-      means = λ raw has. means_some _ digest raw first (c.close-one.ensures.hashed raw has);
+      means = λ raw has. means_some true _ digest raw first (c.close-one.ensures.means true raw has);
       passed = λ log raw has. passed_below _ _ g.F.Feed.has_passed _ _ digest log raw first (λ packed p. subst (λ (x : g.row.F.Denot). g.F.Feed.has_passed x log packed) (search rules) p) (c.close-one.ensures.logged log raw has);
     } c.in-Ok.ensures.receipt
 
