@@ -1,6 +1,6 @@
 //! How far one page is read.
 
-ghost use Rattle.std.specs.Prelude.{◌≡◌, ◌≤◌, ◌+◌, ◌⊎◌, List, ℤ, ◌<ℤ◌, ◌≤ℤ◌, IfSome, Some, None, if◌then◌else◌, length};
+ghost use Rattle.std.specs.Prelude.{◌≡◌, ◌<◌, ◌≤◌, ◌+◌, ◌⊎◌, List, ℤ, ◌<ℤ◌, ◌≤ℤ◌, IfSome, Some, None, if◌then◌else◌, length};
 ghost use Rattle.std.specs.List.{list_any, list_all, sum};
 ghost use Rattle.std.specs.Ordering.{int_eq};
 ghost use Rattle.osm_ids.specs.Cursors.{IsAt, IsReadTo, is_short};
@@ -17,6 +17,28 @@ pub(crate) struct Cursor {
     pub(crate) last: i64,
     /// Where in the page's bytes the next one begins.
     pub(crate) at: usize,
+}
+
+/// The cursor one id further on, if its difference takes one byte, as most do in a dense set. `None` says nothing.
+#[inline(always)]
+pub(crate) fn short_step(page: &[u8], from: Cursor) -> Option<Cursor>
+    ensures within { IfSome result (λ to. (from.at < length page.now)
+        × (to.at ≤ length page.now)) }
+    ensures passed { IfSome result (λ to. to.passed ≡ from.last) }
+    ensures on { (ids : List ℤ) → IsAt ids page.now from
+        → IfSome result (λ to. IsAt ids page.now to) }
+{
+    let byte = *page.get(from.at)?;
+    if byte >= 128 {
+        return None;
+    }
+    // A page's ids fit, so this wraps in no page.
+    let last = from.last.wrapping_add_unsigned(u64::from(byte));
+    Some(Cursor {
+        passed: from.last,
+        last,
+        at: from.at + 1,
+    })
 }
 
 /// The sum of sixteen differences that take one byte each, if all do. Most do in a dense set.
