@@ -22,8 +22,7 @@ pub(crate) struct Cursor {
 /// The cursor one id further on, if its difference takes one byte, as most do in a dense set. `None` says nothing.
 #[inline(always)]
 pub(crate) fn short_step(page: &[u8], from: Cursor) -> Option<Cursor>
-    ensures within { IfSome result (λ to. (from.at < length page.now)
-        × (to.at ≤ length page.now)) }
+    ensures within { IfSome result (λ to. (from.at < to.at) × (to.at ≤ length page.now)) }
     ensures passed { IfSome result (λ to. to.passed ≡ from.last) }
     ensures on { (ids : List ℤ) → IsAt ids page.now from
         → IfSome result (λ to. IsAt ids page.now to) }
@@ -100,6 +99,12 @@ pub(crate) fn read_up_to(page: &[u8], from: Cursor, id: i64) -> Cursor
                 continue;
             }
             again = at + 16;
+        }
+        if let Some(next) = short_step(page, Cursor { passed, last, at }) {
+            passed = next.passed;
+            last = next.last;
+            at = next.at;
+            continue;
         }
         let Ok((difference, next)) = get_varint(page, at) else {
             return Cursor { passed, last, at };
