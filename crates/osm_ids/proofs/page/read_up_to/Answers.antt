@@ -58,7 +58,7 @@ pub loop-last-preserved-in-Some : goal.loop-last-preserved-in-Some
 loop-last-preserved-in-Some c =
     let fits : SFits w64 c.in-Some.far = search rules in
     record {
-      within = c.in-Some.ensures.within;
+      within = c.in-Some.ensures.within.1;
       reading = reads_far _ _ _ _ c.args.page.now _ _ _ _ c.in-Some.far _ c.loop-last.invariant.reading c.in-Some.ensures.on c.in-Some.ensures.low (to_z-of_z w64 c.in-Some.far fits);
     }
 
