@@ -1,5 +1,5 @@
 -- Many short differences, read at once.
-use Rattle.std.proofs.Common.{◌≡◌, ℕ, Bool, suc, inl, take, ltb, ◌+◌, ◌^◌, ◌<◌, ◌≤◌, true, false, cond, leb, List, [], ◌∷◌, ◌++◌, length, map, drop, ℤ, pos, negsuc, nat_abs, ◌≤ℤ◌, ◌+ℤ◌, ◌-ℤ◌, ◌<ℤ◌, inr, refl, sym, ap, subst, ◌∙◌, arith, not, w8, w64, to_z, of_z, replicate, ◌-◌, ◌%◌, Some, None, if◌then◌else◌}
+use Rattle.std.proofs.Common.{◌≡◌, ℕ, Bool, suc, inl, take, ltb, ◌+◌, ◌^◌, ◌<◌, ◌≤◌, true, false, cond, leb, List, [], ◌∷◌, ◌++◌, length, map, drop, ℤ, pos, negsuc, nat_abs, ◌≤ℤ◌, ◌+ℤ◌, ◌-ℤ◌, ◌<ℤ◌, inr, refl, sym, ap, subst, ◌∙◌, arith, not, w8, w64, to_z, of_z, replicate, ◌-◌, ◌%◌}
 use Rattle.std.specs.List.{fold, list_all, prefix_len, range_with_len, sum}
 use Rattle.std.specs.Simd.Lanes.{mask_l, sum_l, fold_l, zip2, top, sel_l}
 use Rattle.std.proofs.lemmas.Simd.{fold-sum, mask_l-mod, tops_compared, zip2_splat, zip2_splat_left, leading_from_mask_l, trailing_mask_l}

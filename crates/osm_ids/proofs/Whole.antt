@@ -1,14 +1,13 @@
 -- Pages of which the set has each id from the first to the next page's first.
-use Rattle.std.proofs.Common.{◌≡◌, ℕ, suc, ◌+◌, ◌-◌, nat_abs, ◌-ℤ◌, ◌<◌, ◌≤◌, true, false, List, [], ◌∷◌, ◌++◌, ◌||◌, length, get_or, ℤ, pos, ◌+ℤ◌, ◌<ℤ◌, ◌≤ℤ◌, int_le, inl, inr, refl, sym, ap, subst, ◌∙◌, arith, Bool}
+use Rattle.std.proofs.Common.{◌≡◌, ℕ, suc, ◌-◌, nat_abs, ◌-ℤ◌, ◌<◌, true, false, List, [], ◌∷◌, ◌++◌, ◌||◌, length, get_or, ℤ, pos, ◌+ℤ◌, ◌<ℤ◌, ◌≤ℤ◌, inl, inr, refl, sym, ap, subst, ◌∙◌, arith, Bool}
 use Rattle.std.specs.List.{list_any}
 use Rattle.std.specs.Ordering.{int_eq}
 use Rattle.std.proofs.lemmas.Int.{ints}
 use Rattle.std.proofs.lemmas.Grind.{flat_map-append}
 use Rattle.std.proofs.lemmas.List.Folds.{list_any-append}
 use Rattle.osm_ids.specs.declared.pages.PageStart.{PageStart}
-use Rattle.osm_ids.specs.Cursors.{IsPassedAt}
-use Rattle.osm_ids.specs.Pages.{Page, page_ids, ids_of_pages, starts_from, Rises, IsRising, IsFilled, IsSealed, ids_in}
-use Rattle.osm_ids.proofs.Found.{PageAt, page_at, le_true, le_false}
+use Rattle.osm_ids.specs.Pages.{Page, page_ids, ids_of_pages, Rises, IsRising, IsFilled, IsSealed, ids_in}
+use Rattle.osm_ids.proofs.Found.{page_at}
 use Rattle.osm_ids.proofs.Laid.{ids_in_sealed}
 use Rattle.osm_ids.proofs.Rising.{cases_order, first_among, rising_back}
 

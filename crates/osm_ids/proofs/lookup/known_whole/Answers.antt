@@ -1,4 +1,4 @@
-use Rattle.std.proofs.Common.{◌≡◌, ◌-◌, ◌<◌, ◌<ℤ◌, ◌≤ℤ◌, int_le, false, pos, get_or, rules, arith, refl, sym, subst, to_z, of_z, w64, length}
+use Rattle.std.proofs.Common.{◌≡◌, ◌-◌, int_le, false, pos, get_or, rules, arith, sym, subst, w64}
 use mir.Val.{SFits}
 use Rattle.std.proofs.lemmas.Int.{ints, to_z-of_z}
 use Rattle.std.proofs.lemmas.List.{get_or_default}

@@ -1,4 +1,4 @@
-use Rattle.std.proofs.Common.{◌≡◌, ℕ, List, true, ◌≤◌, ◌<◌, ◌+◌, ◌∙◌, ◌++◌, append_assoc, subst, take, drop, length, ap, sym, arith, rules, to_z, of_z, w64, pos, nat_abs, ◌-ℤ◌, take-append-drop, length-take-le}
+use Rattle.std.proofs.Common.{◌≡◌, ℕ, List, true, ◌≤◌, ◌+◌, ◌∙◌, ◌++◌, append_assoc, subst, take, drop, length, ap, sym, arith, rules, to_z, of_z, w64, pos, nat_abs, ◌-ℤ◌, take-append-drop, length-take-le}
 use mir.Val.{SFits}
 use Rattle.std.specs.List.{sum, prefix_len, list_all}
 use Rattle.std.proofs.lemmas.Int.{to_z-of_z}

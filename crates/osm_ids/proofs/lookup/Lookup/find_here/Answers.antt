@@ -1,4 +1,4 @@
-use Rattle.std.proofs.Common.{sym, ap, subst, ◌∙◌, ◌≡◌, ◌<◌, ◌<ℤ◌, arith, rules, refl, of_z, w64}
+use Rattle.std.proofs.Common.{sym, ap, subst, ◌∙◌, ◌<◌, ◌<ℤ◌, arith, rules, refl, of_z, w64}
 use mir.Val.{SFits}
 use Rattle.std.specs.FinSet as set
 use Rattle.std.specs.Ordering.{int_eq}
