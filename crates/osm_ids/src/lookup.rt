@@ -27,11 +27,10 @@ const NOTHING: Known = Known {
     there: false,
 };
 
-/// How far a page was read, and what is known of the ids round the last one that was looked up there.
+/// How far a page is read, and what is known of the ids round the last one that was looked up there.
 #[derive(Clone, Copy)]
 pub(crate) struct Place<'a> {
-    /// If the set has few ids, most that are asked for lie between two of them. If it has many, all lie in it from a page's first to
-    /// the next page's.
+    /// If the set has few ids, most that are asked for lie here.
     pub(crate) known: Known,
     /// How many pages begin at or below the id; the last of them is read. None yet is 0.
     pub(crate) begun: usize,
@@ -39,15 +38,16 @@ pub(crate) struct Place<'a> {
     pub(crate) cursor: Cursor,
 }
 
-/// Look-ups in a sealed set that remember where the last ones ended: an id a little above is found by reading on from there, and only
-/// one of another page by a search of the index. Contracts see it as the set.
+/// Look-ups in a sealed set that remember where the last one ended, and the last one in another page: an id a little above either is
+/// found by reading on from there, one in the next page from its first id on, and only another one by a search of the index.
+/// Contracts see it as the set.
 #[derive(Drop)]
 pub struct Lookup<'a> {
     index: &'a [PageStart],
     bytes: &'a [u8],
     /// Where the last id was looked up.
     here: Place<'a>,
-    /// The same of the last id before it that lay in another page: ids that come in turn from two pages are read on in both.
+    /// The same of the last id in another page: where ids come from two pages in turn, both are read on.
     other: Place<'a>,
 }
 
@@ -71,7 +71,7 @@ impl<'a> Model for Lookup<'a> {
 }
 
 impl SealedIds {
-    /// Look-ups that remember where the last ones ended.
+    /// Look-ups that remember where the last one ended.
     pub fn lookup(&self) -> Lookup<'_>
         ensures { result ≡ self.now }
     {
@@ -95,7 +95,7 @@ impl SealedIds {
 }
 
 impl<'a> Lookup<'a> {
-    /// Whether the set has the id. One of which that is known takes two comparisons, and the next one of a dense set no call.
+    /// Whether the set has the id. One that is known to be absent takes two comparisons, and the next one of a dense set no call.
     #[inline(always)]
     pub fn has(&mut self, id: i64) -> bool
         ensures found { result ≡ set.contains self.old id }
@@ -111,7 +111,7 @@ impl<'a> Lookup<'a> {
         self.find(id)
     }
 
-    /// Whether the set has the id, looked up where the last one lay or the one of another page before.
+    /// Whether the set has the id, looked up from the place whose page it is in, if it is one of the two.
     #[inline(never)]
     fn find(&mut self, id: i64) -> bool
         ensures found { result ≡ set.contains self.old id }
@@ -121,7 +121,7 @@ impl<'a> Lookup<'a> {
         self.find_here(id)
     }
 
-    /// Goes on where the id before lay, if this one isn't in the page of the last.
+    /// Goes on at the other place, if the id isn't in the page that was read last.
     fn turn_to(&mut self, id: i64)
         ensures { self.new ≡ self.old }
     {
@@ -223,7 +223,7 @@ fn known_first(index: &[PageStart]) -> Known
     }
 }
 
-/// The ids of a page, if the next page begins so little above it that its 128 ids are all of those between: none is read then.
+/// The ids of a page, if the next page begins 128 above its first: it has 128, so the set has all between. None is read then.
 fn known_whole(index: &[PageStart], begun: usize) -> Option<Known>
     requires some { 0 < begun }
     requires within { begun ≤ length index.now }
