@@ -54,44 +54,44 @@ not_long b = grind (arith, nat_tests)
 short_tests : ◌≡◌ {A = ℕ → Bool} (λ b. not (leb 128 b)) is_short
 short_tests = λ i b. not_long b i
 
--- how many of them at the front have no top bit
-pub all_front : (xs : List ℕ) → length xs ≡ 16 → mask_l (map (λ b. leb 128 b) xs) ≡ 0 → 16 ≡ prefix_len is_short xs
-all_front xs long none = sym long ∙ sym (leading_from_mask_l (λ b. leb 128 b) xs none) ∙ ap (λ f. prefix_len f xs) short_tests
+-- how many of them have no top bit, up to the first that has
+pub all_short : (xs : List ℕ) → length xs ≡ 16 → mask_l (map (λ b. leb 128 b) xs) ≡ 0 → 16 ≡ prefix_len is_short xs
+all_short xs long none = sym long ∙ sym (leading_from_mask_l (λ b. leb 128 b) xs none) ∙ ap (λ f. prefix_len f xs) short_tests
 
-pub some_front : (xs : List ℕ) → length xs ≡ 16 → (mask_l (map (λ b. leb 128 b) xs) ≡ 0 → ⊥) → count_trailing_zeros 64 (mask_l (map (λ b. leb 128 b) xs)) ≡ prefix_len is_short xs
-some_front xs long some = trailing_mask_l (λ b. leb 128 b) 64 xs (omega (arith, long)) (omega (arith, some)) ∙ ap (λ f. prefix_len f xs) short_tests
+pub some_short : (xs : List ℕ) → length xs ≡ 16 → (mask_l (map (λ b. leb 128 b) xs) ≡ 0 → ⊥) → count_trailing_zeros 64 (mask_l (map (λ b. leb 128 b) xs)) ≡ prefix_len is_short xs
+some_short xs long some = trailing_mask_l (λ b. leb 128 b) 64 xs (omega (arith, long)) (omega (arith, some)) ∙ ap (λ f. prefix_len f xs) short_tests
 
-front_more : (x n : ℕ) (xs : List ℕ) → is_short x ≡ true → list_all is_short (take n xs) ≡ true → list_all is_short (take (suc n) (x ∷ xs)) ≡ true
-front_more x n xs short all = rw short all
+prefix_more : (x n : ℕ) (xs : List ℕ) → is_short x ≡ true → list_all is_short (take n xs) ≡ true → list_all is_short (take (suc n) (x ∷ xs)) ≡ true
+prefix_more x n xs short all = rw short all
 
-pub front_short : (xs : List ℕ) → list_all is_short (take (prefix_len is_short xs) xs) ≡ true
-front_short [] = refl
-front_short (x ∷ xs) =
+pub prefix_short : (xs : List ℕ) → list_all is_short (take (prefix_len is_short xs) xs) ≡ true
+prefix_short [] = refl
+prefix_short (x ∷ xs) =
     elim (is_short x) as (λ b. is_short x ≡ b → list_all is_short (take (cond b (1 + prefix_len is_short xs) 0) (x ∷ xs)) ≡ true) [
-      | true ↦ λ short. let more : suc (prefix_len is_short xs) ≡ 1 + prefix_len is_short xs = omega arith in subst (λ n. list_all is_short (take n (x ∷ xs)) ≡ true) more (front_more x (prefix_len is_short xs) xs short (front_short xs))
+      | true ↦ λ short. let more : suc (prefix_len is_short xs) ≡ 1 + prefix_len is_short xs = omega arith in subst (λ n. list_all is_short (take n (x ∷ xs)) ≡ true) more (prefix_more x (prefix_len is_short xs) xs short (prefix_short xs))
       | false ↦ λ long. refl
     ] refl
 
 -- the lanes at the places below k
-front_from : (a k : ℕ) (xs : List ℕ) → sum_l (sel_l (map (λ i. ltb i k) (range_with_len a (length xs))) xs (replicate (length xs) 0)) ≡ sum_l (take (k - a) xs)
-front_from a k [] = ap sum_l (sym (take-nil (k - a)))
-front_from a k (x ∷ xs) =
+prefix_from : (a k : ℕ) (xs : List ℕ) → sum_l (sel_l (map (λ i. ltb i k) (range_with_len a (length xs))) xs (replicate (length xs) 0)) ≡ sum_l (take (k - a) xs)
+prefix_from a k [] = ap sum_l (sym (take-nil (k - a)))
+prefix_from a k (x ∷ xs) =
     elim (cases_lt a k) [
       | inl below ↦
           let room : k - a ≡ suc (k - (a + 1)) = omega (arith, below) in
-          rw (room, lt-ltb a k below) (ap (λ n. x + n) (front_from (a + 1) k xs))
+          rw (room, lt-ltb a k below) (ap (λ n. x + n) (prefix_from (a + 1) k xs))
       | inr past ↦
           let none : k - a ≡ 0 = omega (arith, past) in
           let less : k - (a + 1) ≡ 0 = omega (arith, past) in
-          rw (none, le-ltb a k past) (ap (λ n. 0 + n) (front_from (a + 1) k xs ∙ ap (λ n. sum_l (take n xs)) less))
+          rw (none, le-ltb a k past) (ap (λ n. 0 + n) (prefix_from (a + 1) k xs ∙ ap (λ n. sum_l (take n xs)) less))
     ]
 
-pub front_told : (k : ℕ) (xs : List ℕ) → length xs ≡ 16 → fold_l (λ s x. s + x) 0 (map (λ x. x) (sel_l (map (top (hbits w8)) (zip2 (λ a b. cond (ltb a b) (2 ^ bits w8 - 1) 0) (range_with_len 0 16) (replicate 16 k))) xs (replicate 16 0))) ≡ sum (take k xs)
-front_told k xs long =
+pub prefix_told : (k : ℕ) (xs : List ℕ) → length xs ≡ 16 → fold_l (λ s x. s + x) 0 (map (λ x. x) (sel_l (map (top (hbits w8)) (zip2 (λ a b. cond (ltb a b) (2 ^ bits w8 - 1) 0) (range_with_len 0 16) (replicate 16 k))) xs (replicate 16 0))) ≡ sum (take k xs)
+prefix_told k xs long =
     let tests = tops_compared w8 ltb (range_with_len 0 16) (replicate 16 k) ∙ zip2_splat ltb (range_with_len 0 16) 16 k refl in
     let lanes = sel_l (map (top (hbits w8)) (zip2 (λ a b. cond (ltb a b) (2 ^ bits w8 - 1) 0) (range_with_len 0 16) (replicate 16 k))) xs (replicate 16 0) in
     let all : k - 0 ≡ k = omega arith in
-    let front = subst (λ n. sum_l (sel_l (map (λ i. ltb i k) (range_with_len 0 n)) xs (replicate n 0)) ≡ sum_l (take (k - 0) xs)) long (front_from 0 k xs) in
+    let front = subst (λ n. sum_l (sel_l (map (λ i. ltb i k) (range_with_len 0 n)) xs (replicate n 0)) ≡ sum_l (take (k - 0) xs)) long (prefix_from 0 k xs) in
     wide_sum lanes
     ∙ sym (sum_is lanes)
     ∙ ap (λ ms. sum_l (sel_l ms xs (replicate 16 0))) tests

@@ -43,8 +43,8 @@ pub(crate) fn short_step(page: &[u8], from: Cursor) -> Option<Cursor>
 /// The places of sixteen lanes.
 const PLACES: [u8; 16] = [0, 1, 2, 3, 4, 5, 6, 7, 8, 9, 10, 11, 12, 13, 14, 15];
 
-/// How many differences at the front take one byte each.
-fn short_front(block: &[u8; 16]) -> usize
+/// How many differences take one byte each, up to the first that takes more.
+fn short_prefix(block: &[u8; 16]) -> usize
     ensures { result ≡ prefix_len is_short block.now }
 {
     let lanes = u8x16::from_array(*block);
@@ -55,18 +55,18 @@ fn short_front(block: &[u8; 16]) -> usize
     long.trailing_zeros() as usize
 }
 
-/// The sum of so many bytes at the front.
-fn front_sum(block: &[u8; 16], count: usize) -> u16
+/// The sum of so many bytes, from the first on.
+fn prefix_sum(block: &[u8; 16], count: usize) -> u16
     requires { count ≤ 16 }
     ensures { result ≡ sum (take count block.now) }
 {
-    let is_front = u8x16::from_array(PLACES).simd_lt(u8x16::splat(count as u8));
-    let front = is_front.select(u8x16::from_array(*block), u8x16::splat(0));
-    front.cast::<u16>().strict_reduce_sum()
+    let is_first = u8x16::from_array(PLACES).simd_lt(u8x16::splat(count as u8));
+    let first = is_first.select(u8x16::from_array(*block), u8x16::splat(0));
+    first.cast::<u16>().strict_reduce_sum()
 }
 
-/// Reads the differences of one byte that come next at once, where there are four to sixteen of them and their last id is not above
-/// the one asked for. It returns that last id, and where the next difference begins. `None` says nothing: they are read one by one.
+/// Reads the differences of one byte that come next at once, if they are four to sixteen and their last id is not above the one asked
+/// for. It returns that last id, and where the next difference begins. `None` says nothing: they are read one by one.
 fn short_on(page: &[u8], last: i64, at: usize, id: i64) -> Option<(i64, usize)>
     requires within { at ≤ length page.now }
     requires below { last <ℤ id }
@@ -83,11 +83,11 @@ fn short_on(page: &[u8], last: i64, at: usize, id: i64) -> Option<(i64, usize)>
         return None;
     }
     let block = page[at..].first_chunk::<16>()?;
-    let count = short_front(block);
+    let count = short_prefix(block);
     if count < 4 {
         return None;
     }
-    let sum = front_sum(block, count);
+    let sum = prefix_sum(block, count);
     if room < u64::from(sum) {
         return None;
     }
@@ -107,7 +107,7 @@ pub(crate) fn read_up_to(page: &[u8], from: Cursor, id: i64) -> Cursor
     let mut passed = from.passed;
     let mut last = from.last;
     let mut at = from.at;
-    // Where many at once don't go, these are read before it is tried again.
+    // After a try to read many at once that failed, the next one is made from this place on.
     let mut again = at;
     while last < id && at < page.len() {
         if again <= at {

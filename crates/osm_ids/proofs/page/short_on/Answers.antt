@@ -5,7 +5,7 @@ use Rattle.std.proofs.lemmas.Int.{to_z-of_z}
 use Rattle.std.proofs.lemmas.List.{take_rest, length-drop}
 use Rattle.std.proofs.lemmas.List.Sums.{prefix_len-le-length}
 use Rattle.osm_ids.specs.Cursors.{is_short}
-use Rattle.osm_ids.proofs.Striding.{settled, strode, front_short, moved, fits_below}
+use Rattle.osm_ids.proofs.Striding.{settled, strode, prefix_short, moved, fits_below}
 use Rattle.osm_ids.proofs.page.short_on.Goals as goal
 
 -- where the block lies, and how much of it is read
@@ -25,7 +25,7 @@ overflow_add-result-2 c =
     let found = c.in_ok-block.ensures.cases in
     let same : c.in_ok-block.block.now ≡ take 16 (drop c.args.at page) = rw take_rest at found.same in
     let room : 16 ≤ length (drop c.args.at page) = rw take_rest at found.enough in
-    let there = cut page c.in_ok-block.block.now c.args.at c.short_front-count.result c.requires.within same room c.short_front-count.ensures in
+    let there = cut page c.in_ok-block.block.now c.args.at c.short_prefix-count.result c.requires.within same room c.short_prefix-count.ensures in
     search (rules, there.within)
 
 pub returns-clause-within : goal.returns-clause-within
@@ -34,20 +34,20 @@ returns-clause-within c =
     let found = c.in_ok-block.ensures.cases in
     let same : c.in_ok-block.block.now ≡ take 16 (drop c.args.at page) = rw take_rest at found.same in
     let room : 16 ≤ length (drop c.args.at page) = rw take_rest at found.enough in
-    let there = cut page c.in_ok-block.block.now c.args.at c.short_front-count.result c.requires.within same room c.short_front-count.ensures in
+    let there = cut page c.in_ok-block.block.now c.args.at c.short_prefix-count.result c.requires.within same room c.short_prefix-count.ensures in
     (omega (arith, c.if-count-lt4.false), there.within)
 
 pub returns-clause-on : goal.returns-clause-on
 returns-clause-on c = λ ids passed is_at.
     let page = c.args.page.now in
     let block = c.in_ok-block.block.now in
-    let count = c.short_front-count.result in
+    let count = c.short_prefix-count.result in
     let front = take count block in
     let found = c.in_ok-block.ensures.cases in
     let same : block ≡ take 16 (drop c.args.at page) = rw take_rest at found.same in
     let room : 16 ≤ length (drop c.args.at page) = rw take_rest at found.enough in
-    let there = cut page block c.args.at count c.requires.within same room c.short_front-count.ensures in
-    let sum_is = c.front_sum-sum.ensures in
+    let there = cut page block c.args.at count c.requires.within same room c.short_prefix-count.ensures in
+    let sum_is = c.prefix_sum-sum.ensures in
     let near : SFits w64 c.from-2.result = search rules in
     let last = c.args.last in
     let id = c.args.id in
@@ -56,7 +56,7 @@ returns-clause-on c = λ ids passed is_at.
     let gap = ap (λ z. nat_abs (z -ℤ to_z w64 (of_z w64 last))) same_id ∙ ap (λ z. nat_abs (id -ℤ z)) same_last in
     let fits = fits_below last id (sum front) c.ranges.last c.ranges.id c.requires.below (omega (arith, sum_is, gap, c.from.ensures, c.abs_diff-room.ensures, c.if-room-from.false)) in
     let whole = moved last c.from-2.result (sum front) c.ranges.last near (c.from-2.ensures ∙ ap pos sum_is) fits in
-    let all = subst (λ n. list_all is_short (take n block) ≡ true) (sym c.short_front-count.ensures) (front_short block) in
+    let all = subst (λ n. list_all is_short (take n block) ≡ true) (sym c.short_prefix-count.ensures) (prefix_short block) in
     let parts : drop c.args.at page ≡ front ++ (drop count block ++ drop 16 (drop c.args.at page)) =
     sym (take-append-drop 16 (drop c.args.at page)) ∙ ap (λ s. s ++ drop 16 (drop c.args.at page)) (sym same ∙ sym (take-append-drop count block)) ∙ append_assoc front (drop count block) (drop 16 (drop c.args.at page)) in
     strode front ids page last c.args.at (drop count block ++ drop 16 (drop c.args.at page)) _ _ (settled ids page passed last c.args.at is_at) parts all whole (omega (arith, length-take-le count block there.few))
