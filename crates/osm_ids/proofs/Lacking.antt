@@ -7,11 +7,15 @@ use Rattle.std.proofs.lemmas.Bool.{false_from_ne_true}
 use Rattle.std.proofs.lemmas.List.{get_or_default, length-drop}
 use Rattle.osm_ids.specs.declared.pages.PageStart.{PageStart}
 use Rattle.osm_ids.specs.declared.page.Cursor.{Cursor}
-use Rattle.osm_ids.specs.Cursors.{IsPassedAt, IsReadTo, Stands, AreAbsent, BeginFrom}
-use Rattle.osm_ids.specs.Pages.{Page, IsSealed}
+use Rattle.osm_ids.specs.Cursors.{IsPassedAt, IsReadTo, Stands, BeginFrom}
+use Rattle.osm_ids.specs.Pages.{Page, IsSealed, ids_in}
 use Rattle.osm_ids.proofs.Found.{le_true, le_false, true_le, lt_false, partitioned, none_at_all}
 use Rattle.osm_ids.proofs.Reading.{spelled_none}
 use Rattle.osm_ids.proofs.Rising.{other_above, other_below, none_above, first_among}
+
+-- the set has none of the ids between the two
+abbrev pub AreAbsent : List PageStart → List ℕ → ℤ → ℤ → Type 0
+AreAbsent index bytes above below = (id : ℤ) → above <ℤ id → id <ℤ below → list_any (int_eq id) (ids_in index bytes) ≡ false
 
 -- between two ids of a page
 passed_between : (index : List PageStart) (n : ℕ) (low x high : ℤ) → IsPassedAt index low n → IsPassedAt index high n → low ≤ℤ x → x ≤ℤ high → IsPassedAt index x n

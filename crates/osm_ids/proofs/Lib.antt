@@ -13,3 +13,5 @@ pub mod LinkOrder
 pub mod Closing
 pub mod Striding
 pub mod Lacking
+pub mod Whole
+pub mod Places

@@ -151,6 +151,14 @@ reads_turn p l a id page passed last at d next sum h low lt read is =
       ahead = λ ahead. inl low;
     }
 
+-- the same of a turn that reads one byte
+pub reads_short : (p l : ℤ) (a : ℕ) (id : ℤ) (page : List ℕ) (passed last : ℤ) (at : ℕ) (to : Cursor) (seen_passed seen_last : ℤ) → ReadsOn p l a id page passed last at → last <ℤ id → to.passed ≡ last → ((ids : List ℤ) → IsAt ids page (cursor passed last at) → IsAt ids page to) → seen_passed ≡ to.passed → seen_last ≡ to.last → ReadsOn p l a id page seen_passed seen_last to.at
+reads_short p l a id page passed last at to seen_passed seen_last h low is on e f =
+    subst (λ z. ReadsOn p l a id page z seen_last to.at) (sym e) (subst (λ z. ReadsOn p l a id page to.passed z to.at) (sym f) (record {
+      on = λ ids from. on ids (h.on ids from);
+      ahead = λ ahead. inl (subst (λ z. z <ℤ id) (sym is) low);
+    }))
+
 -- and many at once, of which the last one's id isn't above
 pub reads_far : (p l : ℤ) (a : ℕ) (id : ℤ) (page : List ℕ) (passed last : ℤ) (at end : ℕ) (far seen : ℤ) → ReadsOn p l a id page passed last at → ((ids : List ℤ) (before : ℤ) → IsAt ids page (cursor before last at) → IsAt ids page (cursor far far end)) → far ≤ℤ id → seen ≡ far → ReadsOn p l a id page seen seen end
 reads_far p l a id page passed last at end far seen h on low is =

@@ -1,14 +1,16 @@
 -- Many short differences, read at once.
-use Rattle.std.proofs.Common.{◌≡◌, ℕ, ◌+◌, ◌^◌, ◌<◌, ◌≤◌, true, false, cond, leb, List, [], ◌∷◌, ◌++◌, length, map, drop, ℤ, pos, negsuc, nat_abs, ◌≤ℤ◌, ◌+ℤ◌, ◌-ℤ◌, ◌<ℤ◌, inr, refl, sym, ap, subst, ◌∙◌, arith, not, w8, w64, to_z, of_z, replicate, ◌-◌, ◌%◌, Some, None, if◌then◌else◌}
-use Rattle.std.specs.List.{fold, list_all, sum}
-use Rattle.std.specs.Simd.Lanes.{mask_l, sum_l, fold_l, zip2, top}
-use Rattle.std.proofs.lemmas.Simd.{fold-sum, mask_l-mod, tops_compared, zip2_splat_left}
+use Rattle.std.proofs.Common.{◌≡◌, ℕ, Bool, suc, inl, take, ltb, ◌+◌, ◌^◌, ◌<◌, ◌≤◌, true, false, cond, leb, List, [], ◌∷◌, ◌++◌, length, map, drop, ℤ, pos, negsuc, nat_abs, ◌≤ℤ◌, ◌+ℤ◌, ◌-ℤ◌, ◌<ℤ◌, inr, refl, sym, ap, subst, ◌∙◌, arith, not, w8, w64, to_z, of_z, replicate, ◌-◌, ◌%◌}
+use Rattle.std.specs.List.{fold, list_all, prefix_len, range_with_len, sum}
+use Rattle.std.specs.Simd.Lanes.{mask_l, sum_l, fold_l, zip2, top, sel_l}
+use Rattle.std.proofs.lemmas.Simd.{fold-sum, mask_l-mod, tops_compared, zip2_splat, zip2_splat_left, leading_from_mask_l, trailing_mask_l}
+use lib.Count.{count_trailing_zeros}
 use mir.Val.{bits, hbits, SFits}
 use Rattle.std.proofs.lemmas.Int.{ints, to_z-of_z}
 use Rattle.std.proofs.lemmas.List.{drop-drop, length-drop, length-map, map-id}
+use Rattle.std.proofs.Math.Seq.{take-nil}
 use Rattle.pbf_wire.specs.Varint.{shortest}
 use Rattle.pbf_wire.proofs.Shortest.{one_byte}
-use Rattle.std.proofs.lemmas.Bool.{ltb-true, and_parts}
+use Rattle.std.proofs.lemmas.Bool.{ltb-true, and_parts, cases_lt, lt-ltb, le-ltb}
 use Rattle.std.proofs.lemmas.Bool.Decides.{nat_tests}
 use Rattle.osm_ids.specs.Cursors.{IsAt, is_short}
 use Rattle.osm_ids.proofs.Gaps.{read_at}
@@ -46,25 +48,56 @@ wide_sum xs = omega (arith, fold-sum 0 (map (λ x. x) xs), ap sum_l (map-id xs),
 pub mask_told : (xs : List ℕ) → length xs ≡ 16 → mask_l (map (top (hbits w8)) (zip2 (λ a b. cond (leb a b) (2 ^ bits w8 - 1) 0) (replicate 16 128) xs)) % 2 ^ 64 ≡ mask_l (map (λ b. leb 128 b) xs)
 mask_told xs long = ap (λ ms. mask_l ms % 2 ^ 64) (tops_compared w8 leb (replicate 16 128) xs ∙ zip2_splat_left leb 128 16 xs long) ∙ mask_l-mod (map (λ b. leb 128 b) xs) 64 (omega (arith, long, length-map xs (λ b. leb 128 b)))
 
-test_is : (b : ℕ) → leb 128 b ≡ not (is_short b)
-test_is b = grind (arith, nat_tests)
+not_long : (b : ℕ) → not (leb 128 b) ≡ is_short b
+not_long b = grind (arith, nat_tests)
 
--- no byte has its top bit set if all are short
-pub all_short : (xs : List ℕ) → mask_l (map (λ b. leb 128 b) xs) ≡ 0 → list_all is_short xs ≡ true
-all_short [] e = refl
-all_short (x ∷ xs) e = grind (arith, nat_tests, all_short xs)
+short_tests : ◌≡◌ {A = ℕ → Bool} (λ b. not (leb 128 b)) is_short
+short_tests = λ i b. not_long b i
 
-pub one_long : (xs : List ℕ) → (mask_l (map (λ b. leb 128 b) xs) ≡ 0 → ⊥) → list_all is_short xs ≡ false
-one_long [] ne = absurd (ne refl)
-one_long (x ∷ xs) ne = grind (arith, nat_tests, one_long xs)
+-- how many of them have no top bit, up to the first that has
+pub all_short : (xs : List ℕ) → length xs ≡ 16 → mask_l (map (λ b. leb 128 b) xs) ≡ 0 → 16 ≡ prefix_len is_short xs
+all_short xs long none = sym long ∙ sym (leading_from_mask_l (λ b. leb 128 b) xs none) ∙ ap (λ f. prefix_len f xs) short_tests
 
--- what sixteen bytes show
-pub some_parts : (xs : List ℕ) (n : ℕ) → Some n ≡ (if list_all is_short xs then Some (sum xs) else None) → (list_all is_short xs ≡ true) × (n ≡ sum xs)
-some_parts xs n e =
-    elim (list_all is_short xs) as (λ b. list_all is_short xs ≡ b → Some n ≡ (if b then Some (sum xs) else None) → (list_all is_short xs ≡ true) × (n ≡ sum xs)) [
-      | true ↦ λ all same. (all, cc)
-      | false ↦ λ all same. absurd (cc)
-    ] refl e
+pub some_short : (xs : List ℕ) → length xs ≡ 16 → (mask_l (map (λ b. leb 128 b) xs) ≡ 0 → ⊥) → count_trailing_zeros 64 (mask_l (map (λ b. leb 128 b) xs)) ≡ prefix_len is_short xs
+some_short xs long some = trailing_mask_l (λ b. leb 128 b) 64 xs (omega (arith, long)) (omega (arith, some)) ∙ ap (λ f. prefix_len f xs) short_tests
+
+prefix_more : (x n : ℕ) (xs : List ℕ) → is_short x ≡ true → list_all is_short (take n xs) ≡ true → list_all is_short (take (suc n) (x ∷ xs)) ≡ true
+prefix_more x n xs short all = rw short all
+
+pub prefix_short : (xs : List ℕ) → list_all is_short (take (prefix_len is_short xs) xs) ≡ true
+prefix_short [] = refl
+prefix_short (x ∷ xs) =
+    elim (is_short x) as (λ b. is_short x ≡ b → list_all is_short (take (cond b (1 + prefix_len is_short xs) 0) (x ∷ xs)) ≡ true) [
+      | true ↦ λ short. let more : suc (prefix_len is_short xs) ≡ 1 + prefix_len is_short xs = omega arith in subst (λ n. list_all is_short (take n (x ∷ xs)) ≡ true) more (prefix_more x (prefix_len is_short xs) xs short (prefix_short xs))
+      | false ↦ λ long. refl
+    ] refl
+
+-- the lanes at the places below k
+prefix_from : (a k : ℕ) (xs : List ℕ) → sum_l (sel_l (map (λ i. ltb i k) (range_with_len a (length xs))) xs (replicate (length xs) 0)) ≡ sum_l (take (k - a) xs)
+prefix_from a k [] = ap sum_l (sym (take-nil (k - a)))
+prefix_from a k (x ∷ xs) =
+    elim (cases_lt a k) [
+      | inl below ↦
+          let room : k - a ≡ suc (k - (a + 1)) = omega (arith, below) in
+          rw (room, lt-ltb a k below) (ap (λ n. x + n) (prefix_from (a + 1) k xs))
+      | inr past ↦
+          let none : k - a ≡ 0 = omega (arith, past) in
+          let less : k - (a + 1) ≡ 0 = omega (arith, past) in
+          rw (none, le-ltb a k past) (ap (λ n. 0 + n) (prefix_from (a + 1) k xs ∙ ap (λ n. sum_l (take n xs)) less))
+    ]
+
+pub prefix_told : (k : ℕ) (xs : List ℕ) → length xs ≡ 16 → fold_l (λ s x. s + x) 0 (map (λ x. x) (sel_l (map (top (hbits w8)) (zip2 (λ a b. cond (ltb a b) (2 ^ bits w8 - 1) 0) (range_with_len 0 16) (replicate 16 k))) xs (replicate 16 0))) ≡ sum (take k xs)
+prefix_told k xs long =
+    let tests = tops_compared w8 ltb (range_with_len 0 16) (replicate 16 k) ∙ zip2_splat ltb (range_with_len 0 16) 16 k refl in
+    let lanes = sel_l (map (top (hbits w8)) (zip2 (λ a b. cond (ltb a b) (2 ^ bits w8 - 1) 0) (range_with_len 0 16) (replicate 16 k))) xs (replicate 16 0) in
+    let all : k - 0 ≡ k = omega arith in
+    let front = subst (λ n. sum_l (sel_l (map (λ i. ltb i k) (range_with_len 0 n)) xs (replicate n 0)) ≡ sum_l (take (k - 0) xs)) long (prefix_from 0 k xs) in
+    wide_sum lanes
+    ∙ sym (sum_is lanes)
+    ∙ ap (λ ms. sum_l (sel_l ms xs (replicate 16 0))) tests
+    ∙ front
+    ∙ ap (λ n. sum_l (take n xs)) all
+    ∙ sum_is (take k xs)
 
 -- ---- and as differences
 

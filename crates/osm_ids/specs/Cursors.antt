@@ -3,6 +3,8 @@ use Rattle.std.specs.Prelude.{◌≡◌, ℕ, ◌⊎◌, ◌<◌, ◌≤◌, Lis
 use Rattle.std.specs.List.{list_any}
 use Rattle.std.specs.List.Sorted.{IsPartitionPoint}
 use Rattle.std.specs.Ordering.{int_eq}
+use Rattle.osm_ids.specs.declared.lookup.Known.{Known}
+use Rattle.osm_ids.specs.declared.lookup.Place.{Place}
 use Rattle.osm_ids.specs.declared.page.Cursor.{Cursor}
 use Rattle.osm_ids.specs.declared.pages.PageStart.{PageStart}
 use Rattle.osm_ids.specs.Pages.{page_bytes, Rises, AllFit, ids_in}
@@ -35,9 +37,16 @@ pub record Stands (index : List PageStart) (bytes : List ℕ) (begun : ℕ) (pag
   pub inside : (id : ℤ) → list_any (int_eq id) ids ≡ true → IsPassedAt index id begun
   pub answer : (id : ℤ) → IsPassedAt index id begun → list_any (int_eq id) ids ≡ list_any (int_eq id) (ids_in index bytes)
 
--- none of the ids between the two is among those that an index and bytes stand for
-abbrev pub AreAbsent : List PageStart → List ℕ → ℤ → ℤ → Type 0
-AreAbsent index bytes above below = (id : ℤ) → above <ℤ id → id <ℤ below → list_any (int_eq id) (ids_in index bytes) ≡ false
+-- of the ids between the two, the set that an index and bytes stand for has all, or none
+abbrev pub AreKnown : List PageStart → List ℕ → Known → Type 0
+AreKnown index bytes known = (id : ℤ) → known.above <ℤ id → id <ℤ known.below → list_any (int_eq id) (ids_in index bytes) ≡ known.there
+
+-- a page can be read on from here, if any is begun, and the ids round the last one are known
+pub record IsPlace (index : List PageStart) (bytes : List ℕ) (place : Place) : Type 0 where
+  pub within : place.cursor.at ≤ length place.page.now
+  pub stands : 0 < place.begun → Stands index bytes place.begun place.page.now place.cursor
+  pub known : AreKnown index bytes place.known
+  pub some : place.cursor.at < length place.page.now → 0 < place.begun
 
 -- no page from this one on begins below a number
 abbrev pub BeginFrom : List PageStart → ℕ → ℤ → Type 0

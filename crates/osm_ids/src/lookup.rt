@@ -5,41 +5,59 @@ ghost use Rattle.std.specs.List.{list_any};
 ghost use Rattle.std.specs.List.Sorted.{IsPartitionedBy};
 ghost use Rattle.std.specs.Ordering.{int_eq};
 ghost use Rattle.std.specs.FinSet as set;
-ghost use Rattle.osm_ids.specs.Pages.{Page, IsSealed};
-ghost use Rattle.osm_ids.specs.Cursors.{IsAt, IsPassedAt, IsReadTo, Stands, AreAbsent, BeginFrom};
+ghost use Rattle.osm_ids.specs.Pages.{Page, IsSealed, ids_in};
+ghost use Rattle.osm_ids.specs.Cursors.{IsAt, IsPassedAt, IsReadTo, IsPlace, Stands, AreKnown, BeginFrom};
 
-use crate::page::{Cursor, read_up_to};
-use crate::pages::{PageStart, SealedIds};
+use crate::page::{Cursor, read_up_to, short_step};
+use crate::pages::{PAGE, PageStart, SealedIds};
 use std::marker::Model;
 
-/// Ids that the set lacks: all those above one number and below another.
+/// What is known of the ids above one number and below another: the set has all of them, or none.
 #[derive(Clone, Copy)]
-struct Absent {
-    above: i64,
-    below: i64,
+pub(crate) struct Known {
+    pub(crate) above: i64,
+    pub(crate) below: i64,
+    pub(crate) there: bool,
 }
 
-/// Look-ups in a sealed set that remember where the last one ended: an id a little above is found by reading on from there, one
-/// in the next page from its first id on, and only another one by a search of the index. Contracts see it as the set.
+/// No id is between these.
+const NOTHING: Known = Known {
+    above: 0,
+    below: 0,
+    there: false,
+};
+
+/// How far a page is read, and what is known of the ids round the last one that was looked up there.
+#[derive(Clone, Copy)]
+pub(crate) struct Place<'a> {
+    /// If the set has few ids, most that are asked for lie here.
+    pub(crate) known: Known,
+    /// How many pages begin at or below the id; the last of them is read. None yet is 0.
+    pub(crate) begun: usize,
+    pub(crate) page: &'a [u8],
+    pub(crate) cursor: Cursor,
+}
+
+/// Look-ups in a sealed set that remember where the last one ended, and the last one in another page: an id a little above either is
+/// found by reading on from there, one in the next page from its first id on, and only another one by a search of the index.
+/// Contracts see it as the set.
 #[derive(Drop)]
 pub struct Lookup<'a> {
     index: &'a [PageStart],
     bytes: &'a [u8],
-    /// The gap round the id that was looked up last. If the set has few ids, most look-ups fall into it.
-    absent: Absent,
-    /// How many pages begin at or below the id that was looked up last; the last of them is read. None yet is 0.
-    begun: usize,
-    page: &'a [u8],
-    cursor: Cursor,
+    /// Where the last id was looked up.
+    here: Place<'a>,
+    /// The same of the last id in another page: where ids come from two pages in turn, both are read on.
+    other: Place<'a>,
 }
 
 impl<'a> Model for Lookup<'a> {
-    ghost use Rattle.std.specs.Prelude.{◌≤◌, ◌<◌, List, length};
+    ghost use Rattle.std.specs.Prelude.{List};
     ghost use Rattle.std.specs.Ordering.{int_cmp};
     ghost use Rattle.std.specs.Coded.{coded_ℤ};
     ghost use Rattle.std.specs.FinSet as set;
     ghost use Rattle.osm_ids.specs.Pages.{Page, IsSealed, ids_in};
-    ghost use Rattle.osm_ids.specs.Cursors.{Stands, AreAbsent};
+    ghost use Rattle.osm_ids.specs.Cursors.{IsPlace};
 
     ghost Value = { set.FinSet int_cmp };
 
@@ -48,10 +66,8 @@ impl<'a> Model for Lookup<'a> {
     ghost view = { λ a. set.from_list (ids_in a.index.now a.bytes.now) };
 
     ghost invariant = { λ a. ((pages : List Page) × IsSealed a.index.now a.bytes.now pages)
-        × (a.cursor.at ≤ length a.page.now)
-        × (0 < a.begun → Stands a.index.now a.bytes.now a.begun a.page.now a.cursor)
-        × AreAbsent a.index.now a.bytes.now a.absent.above a.absent.below
-        × (a.cursor.at < length a.page.now → 0 < a.begun) };
+        × IsPlace a.index.now a.bytes.now a.here
+        × IsPlace a.index.now a.bytes.now a.other };
 }
 
 impl SealedIds {
@@ -59,10 +75,8 @@ impl SealedIds {
     pub fn lookup(&self) -> Lookup<'_>
         ensures { result ≡ self.now }
     {
-        Lookup {
-            index: &self.index,
-            bytes: &self.bytes,
-            absent: Absent { above: 0, below: 0 },
+        let nowhere = Place {
+            known: NOTHING,
             begun: 0,
             page: &[],
             cursor: Cursor {
@@ -70,6 +84,12 @@ impl SealedIds {
                 last: 0,
                 at: 0,
             },
+        };
+        Lookup {
+            index: &self.index,
+            bytes: &self.bytes,
+            here: nowhere,
+            other: nowhere,
         }
     }
 }
@@ -82,39 +102,67 @@ impl<'a> Lookup<'a> {
         ensures found { result ≡ set.contains self.old id }
         ensures same { self.new ≡ self.old }
     {
-        if is_within(self.absent, id) {
-            return false;
+        if is_within(self.here.known, id) {
+            return self.here.known.there;
         }
-        if let Some(cursor) = short_step_to(self.page, self.cursor, id) {
-            self.cursor = cursor;
+        if let Some(cursor) = short_step_to(self.here.page, self.here.cursor, id) {
+            self.here.cursor = cursor;
             return true;
         }
         self.find(id)
     }
 
-    /// Whether the set has the id. It stays at the id, and if the set lacks it at the next one, so that a greater id is read
-    /// from there on.
+    /// Whether the set has the id, looked up from the place whose page it is in, if it is one of the two.
     #[inline(never)]
     fn find(&mut self, id: i64) -> bool
         ensures found { result ≡ set.contains self.old id }
         ensures same { self.new ≡ self.old }
     {
-        let begun = starts_near(self.index, self.begun, id);
+        self.turn_to(id);
+        self.find_here(id)
+    }
+
+    /// Goes on at the other place, if the id isn't in the page that was read last.
+    fn turn_to(&mut self, id: i64)
+        ensures { self.new ≡ self.old }
+    {
+        if !are_begun(self.index, self.here.begun, id) {
+            let here = self.here;
+            self.here = self.other;
+            self.other = here;
+        }
+    }
+
+    /// Whether the set has the id. It stays at the id, and where the set lacks it at the next one, so that a greater id is read
+    /// from there on.
+    fn find_here(&mut self, id: i64) -> bool
+        ensures found { result ≡ set.contains self.old id }
+        ensures same { self.new ≡ self.old }
+    {
+        if is_within(self.here.known, id) {
+            return self.here.known.there;
+        }
+        let begun = starts_near(self.index, self.here.begun, id);
         if begun == 0 {
-            self.absent = absent_first(self.index);
+            self.here.known = known_first(self.index);
             return false;
         }
-        let mut page = self.page;
-        let mut cursor = self.cursor;
-        if begun != self.begun || !is_ahead(cursor, id) {
-            page = page_before(self.index, self.bytes, begun);
-            cursor = first_of(self.index[begun - 1]);
+        let place = if begun == self.here.begun && is_ahead(self.here.cursor, id) {
+            self.here
+        } else {
+            first_place(self.index, self.bytes, begun)
+        };
+        if let Some(known) = known_whole(self.index, begun) {
+            self.here = Place { known, ..place };
+            return true;
         }
-        cursor = read_up_to(page, cursor, id);
-        self.begun = begun;
-        self.page = page;
-        self.cursor = cursor;
-        self.absent = absent_near(self.index, begun, cursor, id);
+        let cursor = read_up_to(place.page, place.cursor, id);
+        let known = known_near(self.index, begun, cursor, id);
+        self.here = Place {
+            known,
+            cursor,
+            ..place
+        };
         cursor.last == id
     }
 }
@@ -130,56 +178,72 @@ fn short_step_to(page: &[u8], from: Cursor, id: i64) -> Option<Cursor>
     ensures found { (ids : List ℤ) → IsAt ids page.now from
         → IfSome result (λ _. list_any (int_eq id) ids ≡ true) }
 {
-    let byte = *page.get(from.at)?;
-    if byte >= 128 {
+    let to = short_step(page, from)?;
+    if to.last != id {
         return None;
     }
-    // A page's ids fit, so this wraps in no page.
-    let last = from.last.wrapping_add_unsigned(u64::from(byte));
-    if last != id {
-        return None;
-    }
-    Some(Cursor {
-        passed: from.last,
-        last,
-        at: from.at + 1,
-    })
+    Some(to)
 }
 
 /// Whether the id is one of these.
-fn is_within(absent: Absent, id: i64) -> bool
-    ensures { IsTrue result → (absent.above <ℤ id) × (id <ℤ absent.below) }
+fn is_within(known: Known, id: i64) -> bool
+    ensures { IsTrue result → (known.above <ℤ id) × (id <ℤ known.below) }
 {
-    absent.above < id && id < absent.below
+    known.above < id && id < known.below
 }
 
 /// The ids round one that was read up to: those between two of the set of which one follows the other.
-fn absent_near(index: &[PageStart], begun: usize, cursor: Cursor, id: i64) -> Absent
+fn known_near(index: &[PageStart], begun: usize, cursor: Cursor, id: i64) -> Known
     ensures { (bytes page : List ℕ) (pages : List Page) → IsSealed index.now bytes pages
         → Stands index.now bytes begun page cursor → IsReadTo page cursor id
-        → AreAbsent index.now bytes result.above result.below }
+        → AreKnown index.now bytes result }
 {
     if id <= cursor.last {
-        return Absent {
+        return Known {
             above: cursor.passed,
             below: cursor.last,
+            there: false,
         };
     }
-    Absent {
+    Known {
         above: cursor.last,
         below: first_from(index, begun),
+        there: false,
     }
 }
 
 /// The ids below the first page's.
-fn absent_first(index: &[PageStart]) -> Absent
+fn known_first(index: &[PageStart]) -> Known
     ensures { (bytes : List ℕ) (pages : List Page) → IsSealed index.now bytes pages
-        → AreAbsent index.now bytes result.above result.below }
+        → AreKnown index.now bytes result }
 {
-    Absent {
+    Known {
         above: i64::MIN,
         below: first_from(index, 0),
+        there: false,
     }
+}
+
+/// The ids of a page, if the next page begins 128 above its first: it has 128, so the set has all between. None is read then.
+fn known_whole(index: &[PageStart], begun: usize) -> Option<Known>
+    requires some { 0 < begun }
+    requires within { begun ≤ length index.now }
+    ensures known { (bytes : List ℕ) (pages : List Page) → IsSealed index.now bytes pages
+        → IfSome result (λ known. AreKnown index.now bytes known) }
+    ensures there { (bytes : List ℕ) (pages : List Page) (id : ℤ)
+        → IsSealed index.now bytes pages → IsPassedAt index.now id begun
+        → IfSome result (λ _. list_any (int_eq id) (ids_in index.now bytes) ≡ true) }
+{
+    let next = index.get(begun)?;
+    let first = index[begun - 1].first;
+    if next.first.abs_diff(first) != PAGE {
+        return None;
+    }
+    Some(Known {
+        above: first,
+        below: next.first,
+        there: true,
+    })
 }
 
 /// The first id of the page at a place of the index, and after the last page the greatest number.
@@ -208,6 +272,24 @@ fn first_of(start: PageStart) -> Cursor
         passed: start.first,
         last: start.first,
         at: 0,
+    }
+}
+
+/// Where the page before a place of the index begins to be read.
+fn first_place<'a>(index: &[PageStart], bytes: &'a [u8], begun: usize) -> Place<'a>
+    requires sealed { (pages : List Page) × IsSealed index.now bytes.now pages }
+    requires some { 0 < begun }
+    requires within { begun ≤ length index.now }
+    ensures begun { result.begun ≡ begun }
+    ensures place { IsPlace index.now bytes.now result }
+    ensures first { (start : PageStart) → start ≡ get_or index.now (begun - 1) start
+        → result.cursor ≡ record { passed = start.first; last = start.first; at = 0 } }
+{
+    Place {
+        known: NOTHING,
+        begun,
+        page: page_before(index, bytes, begun),
+        cursor: first_of(index[begun - 1]),
     }
 }
 

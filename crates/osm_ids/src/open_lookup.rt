@@ -50,6 +50,7 @@ impl<'a> Model for OpenLookup<'a> {
 impl IdLookup for OpenLookup<'_> {
     ghost ids = { λ a. a };
 
+    #[inline(always)]
     fn has(&mut self, id: i64) -> bool {
         self.laid.has(id) || self.late.contains(&id)
     }

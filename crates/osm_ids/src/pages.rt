@@ -45,7 +45,7 @@ impl Model for SealedIds {
 }
 
 /// How many ids a page has, all but the last.
-const PAGE: u64 = 128;
+pub(crate) const PAGE: u64 = 128;
 
 impl SealedIds {
     /// No ids, which allocate nothing yet.

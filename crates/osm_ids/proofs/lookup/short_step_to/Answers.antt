@@ -1,23 +1,15 @@
-use Rattle.std.proofs.Common.{rules, ap, subst, ◌∙◌, ◌≡◌, true, to_z, w64}
+use Rattle.std.proofs.Common.{rules, ap, sym, subst, ◌∙◌, ◌≡◌, true, to_z, w64}
 use mir.Val.{SFits}
 use Rattle.std.specs.List.{list_any}
 use Rattle.std.specs.Ordering.{int_eq}
 use Rattle.std.proofs.lemmas.Int.{to_z-of_z}
-use Rattle.osm_ids.proofs.Reading.{last_among, steps_to}
+use Rattle.osm_ids.proofs.Reading.{last_among}
 use Rattle.osm_ids.proofs.lookup.short_step_to.Goals as goal
-
-pub returns-clause-on : goal.returns-clause-on
-returns-clause-on c = λ ids is_at.
-    let last = c.args.from.last in
-    let fits : SFits w64 last = search rules in
-    let byte = c.in_ok-byte.ensures.lookup.3 in
-    steps_to ids c.args.page.now c.args.from.passed last _ _ _ _ _ fits (to_z-of_z w64 last fits) (byte.1 0) c.if-byte-ge128.false byte.0 c.from.ensures c.wrapping_add_unsigned-last.ensures is_at
 
 pub returns-clause-found : goal.returns-clause-found
 returns-clause-found c = λ ids is_at.
-    let last = c.args.from.last in
+    let there = c.in_ok-to.ensures.on ids is_at in
+    let last = c.in_ok-to.to.last in
     let fits : SFits w64 last = search rules in
-    let byte = c.in_ok-byte.ensures.lookup.3 in
-    let there = steps_to ids c.args.page.now c.args.from.passed last _ _ _ _ _ fits (to_z-of_z w64 last fits) (byte.1 0) c.if-byte-ge128.false byte.0 c.from.ensures c.wrapping_add_unsigned-last.ensures is_at in
-    let is = ap (to_z w64) c.if-last-id.false ∙ to_z-of_z w64 c.args.id c.ranges.id in
+    let is = sym (to_z-of_z w64 last fits) ∙ ap (to_z w64) c.if-to-id.false ∙ to_z-of_z w64 c.args.id c.ranges.id in
     subst (λ z. list_any (int_eq z) ids ≡ true) is (last_among ids c.args.page.now _ _ _ there)

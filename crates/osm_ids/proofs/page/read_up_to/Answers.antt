@@ -2,7 +2,7 @@ use Rattle.std.proofs.Common.{◌+◌, length, ◌<ℤ◌, ◌≤ℤ◌, ◌⊎�
 use Rattle.std.proofs.lemmas.Int.{ints, to_z-of_z}
 use mir.Val.{SFits}
 use Rattle.pbf_wire.specs.Varint.{shortest}
-use Rattle.osm_ids.proofs.Reading.{IsAhead, reads_start, reads_turn, wrapped_sum, reads_next, reads_far, following, answer_past, answer_end}
+use Rattle.osm_ids.proofs.Reading.{IsAhead, reads_start, reads_turn, wrapped_sum, reads_next, reads_short, reads_far, following, answer_past, answer_end}
 use Rattle.osm_ids.proofs.page.read_up_to.Goals as goal
 
 pub loop-last-init : goal.loop-last-init
@@ -58,7 +58,7 @@ pub loop-last-preserved-in-Some : goal.loop-last-preserved-in-Some
 loop-last-preserved-in-Some c =
     let fits : SFits w64 c.in-Some.far = search rules in
     record {
-      within = c.in-Some.ensures.within;
+      within = c.in-Some.ensures.within.1;
       reading = reads_far _ _ _ _ c.args.page.now _ _ _ _ c.in-Some.far _ c.loop-last.invariant.reading c.in-Some.ensures.on c.in-Some.ensures.low (to_z-of_z w64 c.in-Some.far fits);
     }
 
@@ -68,3 +68,14 @@ returns-in_default-get_varint-clause-all c = λ ids is_at.
     let here = c.loop-last.invariant.reading.on ids is_at in
     let n = following ids c.args.page.now _ last c.loop-last.at here c.if-at-page.true in
     absurd (c.in_default-get_varint.not-Ok (n.difference, c.loop-last.at + length (shortest n.difference)) (c.get_varint.ensures.exact ∙ reads_next ids c.args.page.now last c.loop-last.at n))
+
+pub loop-last-preserved-in-Some-short_step : goal.loop-last-preserved-in-Some-short_step
+loop-last-preserved-in-Some-short_step c =
+    let next = c.in-Some-short_step.next in
+    let before : SFits w64 next.passed = search rules in
+    let after : SFits w64 next.last = search rules in
+    let low : to_z w64 c.loop-last.last-bits <ℤ to_z w64 (of_z w64 c.args.id) = omega (arith, ints) in
+    record {
+      within = c.in-Some-short_step.ensures.within.1;
+      reading = reads_short _ _ _ _ c.args.page.now _ _ _ next _ _ c.loop-last.invariant.reading low c.in-Some-short_step.ensures.passed c.in-Some-short_step.ensures.on (to_z-of_z w64 next.passed before) (to_z-of_z w64 next.last after);
+    }

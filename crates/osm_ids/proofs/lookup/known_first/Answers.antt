@@ -2,7 +2,7 @@ use Rattle.std.proofs.Common.{rules, refl, w64}
 use mir.Val.{SFits}
 use Rattle.std.proofs.lemmas.Int.{to_z-of_z}
 use Rattle.osm_ids.proofs.Lacking.{absent_first, absent_seen}
-use Rattle.osm_ids.proofs.lookup.absent_first.Goals as goal
+use Rattle.osm_ids.proofs.lookup.known_first.Goals as goal
 
 pub returns : goal.returns
 returns c = λ bytes pages sealed.

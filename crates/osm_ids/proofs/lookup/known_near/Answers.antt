@@ -2,7 +2,7 @@ use Rattle.std.proofs.Common.{rules, w64}
 use mir.Val.{SFits}
 use Rattle.std.proofs.lemmas.Int.{to_z-of_z}
 use Rattle.osm_ids.proofs.Lacking.{absent_before, absent_after, absent_seen, is_at_end}
-use Rattle.osm_ids.proofs.lookup.absent_near.Goals as goal
+use Rattle.osm_ids.proofs.lookup.known_near.Goals as goal
 
 pub returns-then-id-cursor : goal.returns-then-id-cursor
 returns-then-id-cursor c = λ bytes page pages sealed stood read.
