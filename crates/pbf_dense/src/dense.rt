@@ -6,7 +6,7 @@ ghost use Rattle.osm_entity.specs.Sources.{low_32, run_tags, tags_left};
 ghost use Rattle.pbf_dense.specs.Runs.{after_run, after_runs};
 
 use crate::dense_nodes::{ID, KEYS_VALS, LAT, LON};
-use crate::entries::{next_number, pass_sums};
+use crate::entries::next_number;
 use crate::info::InfoColumns;
 use crate::places::Places;
 use osm_entity::{NodeRef, OwnedTags, RunTags, STORED_LIMIT, Scale, Tags};
@@ -27,14 +27,32 @@ fn skip_run(numbers: &mut Column<'_>)
     }
 }
 
+/// Like [`skip_run`], if the next number is that 0, as it mostly is. If not, a copy is read on, so that the cursor of a loop stays
+/// in registers.
+#[inline(always)]
+#[tactic(auto, using(crate::proofs::MovingLemmas::run_steps))]
+fn pass_run(numbers: &mut Column<'_>)
+    ensures { map low_32 (numbers_left numbers.new)
+        ≡ after_run (map low_32 (numbers_left numbers.old)) }
+{
+    if numbers.pass_zero() {
+        return;
+    }
+    let mut rest = *numbers;
+    skip_run(&mut rest);
+    *numbers = rest;
+}
+
 /// Moves past as many zeros in key place.
 fn skip_runs(numbers: &mut Column<'_>, count: usize)
     ensures { map low_32 (numbers_left numbers.new)
         ≡ after_runs count (map low_32 (numbers_left numbers.old)) }
 {
+    let mut rest = *numbers;
     for _passed in 0..count {
-        skip_run(numbers);
+        pass_run(&mut rest);
     }
+    *numbers = rest;
 }
 
 /// The tags of the next node, whose run is skipped. Most nodes have none, and cost no copy of the column.
@@ -128,9 +146,9 @@ impl<'a> Dense<'a> {
     fn move_on(&mut self, count: usize)
         ensures { dense_left self.new ≡ drop count (dense_left self.old) }
     {
-        pass_sums(&mut self.ids, count);
-        pass_sums(&mut self.lats, count);
-        pass_sums(&mut self.lons, count);
+        self.ids.pass(count);
+        self.lats.pass(count);
+        self.lons.pass(count);
         self.info.pass(count);
         skip_runs(&mut self.keys_vals, count);
     }

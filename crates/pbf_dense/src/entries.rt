@@ -16,13 +16,13 @@ pub(crate) fn next_number(numbers: &mut Column<'_>) -> Option<u64>
     numbers.next()
 }
 
-/// The next value of a column of differences.
+/// The next value of a column of differences, of which many are the same as the one before.
 #[inline(always)]
 pub(crate) fn next_sum(sums: &mut Sums<'_>) -> Option<i64>
     ensures first { result ≡ slice_get (sums_left sums.old) 0 }
     ensures rest { sums_left sums.new ≡ drop 1 (sums_left sums.old) }
 {
-    sums.next()
+    sums.next_steady()
 }
 
 /// Skips as many numbers of a column. They are read from a copy, which stays in registers.
@@ -37,20 +37,6 @@ pub(crate) fn pass_numbers(numbers: &mut Column<'_>, count: usize)
         };
     }
     *numbers = rest;
-}
-
-/// Skips as many values of a column of differences.
-#[tactic(auto, using(crate::proofs::EntryLemmas::passed_one))]
-pub(crate) fn pass_sums(sums: &mut Sums<'_>, count: usize)
-    ensures { sums_left sums.new ≡ drop count (sums_left sums.old) }
-{
-    let mut rest = *sums;
-    for _passed in 0..count {
-        let Some(_) = next_sum(&mut rest) else {
-            break;
-        };
-    }
-    *sums = rest;
 }
 
 /// The next number of a column, and the place of the occurrence that holds it.

@@ -9,7 +9,7 @@ ghost use Rattle.pbf_dense.specs.Info.{user_text};
 
 use crate::dense_info::{CHANGESET, TIMESTAMP, UID, USER_SID, VERSION, VISIBLE};
 use crate::dense_nodes::DENSEINFO;
-use crate::entries::{next_number, next_sum, pass_numbers, pass_sums};
+use crate::entries::{next_number, next_sum, pass_numbers};
 use osm_entity::{MetaRef, STORED_LIMIT, UID_LIMIT};
 use pbf_strings::Table;
 use pbf_wire::{Column, Field, Message, Payload, Sums, last_field, low_i32};
@@ -33,7 +33,7 @@ fn next_uid(uids: &mut Sums<'_>) -> Option<i32>
     ensures rest { sums_left uids.new ≡ drop 1 (sums_left uids.old) }
     ensures narrow { list_all (is_within (pos (2 ^ 30))) (sums_left uids.new) ≡ true }
 {
-    let uid = uids.next()?;
+    let uid = uids.next_steady()?;
     Some(uid as i32)
 }
 
@@ -113,10 +113,10 @@ impl<'a> InfoColumns<'a> {
         ensures { info_left self.new ≡ later_by count (info_left self.old) }
     {
         pass_numbers(&mut self.versions, count);
-        pass_sums(&mut self.timestamps, count);
-        pass_sums(&mut self.changesets, count);
-        pass_sums(&mut self.uids, count);
-        pass_sums(&mut self.users, count);
+        self.timestamps.pass(count);
+        self.changesets.pass(count);
+        self.uids.pass(count);
+        self.users.pass(count);
         pass_numbers(&mut self.visible, count);
     }
 }

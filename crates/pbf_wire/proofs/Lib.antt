@@ -6,6 +6,7 @@ pub mod Cutting
 pub mod Columns
 pub mod Written
 pub mod SumLemmas
+pub mod RoomyLemmas
 pub mod PackedLemmas
 pub mod WritingLemmas
 pub mod CountLemmas

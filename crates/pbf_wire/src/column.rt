@@ -1,12 +1,12 @@
 //! A column: the numbers of all occurrences of one field, packed or single, joined.
 
-ghost use Rattle.std.specs.Prelude.{◌≡◌, ◌∷◌, [], MatchOption, ⊤, IsTrue, false};
+ghost use Rattle.std.specs.Prelude.{◌≡◌, ◌<◌, ◌^◌, ◌∷◌, [], MatchOption, ⊤, IsTrue, false};
 ghost use Rattle.pbf_wire.specs.Columns.{entries, read_entries};
 
 use crate::field::Payload;
 use crate::fields::{Fields, FoundFields};
 use crate::short::{MOST_BYTES, count_small_left};
-use crate::varint::first_varint;
+use crate::varint::{first_varint, short_varint};
 
 /// The first number of a packed column, and the bytes after it; `None` if the bytes don't begin with a varint.
 pub fn first_number(packed: &[u8]) -> Option<(u64, &[u8])>
@@ -18,6 +18,16 @@ pub fn first_number(packed: &[u8]) -> Option<(u64, &[u8])>
         Ok((value, length)) => Some((value, &packed[length..])),
         Err(_) => None,
     }
+}
+
+/// Like [`first_number`], if it takes at most three bytes.
+#[inline(always)]
+fn first_short(packed: &[u8]) -> Option<(u64, &[u8])>
+    ensures { MatchOption result ⊤ (λ found. (read_entries (entries packed.now)
+        ≡ found.0 ∷ read_entries (entries found.1.now)) × (found.0 < 2 ^ 21)) }
+{
+    let (value, length) = short_varint(packed)?;
+    Some((value, &packed[length..]))
 }
 
 /// A cursor over a column: it returns the numbers of all occurrences of one field in order, and says where the occurrence
@@ -33,11 +43,11 @@ pub struct Column<'a> {
 }
 
 impl<'a> Column<'a> {
-    ghost use Rattle.std.specs.Prelude.{◌+◌, ◌<◌, ◌≤◌, ◌^◌, length};
+    ghost use Rattle.std.specs.Prelude.{◌+◌, ◌≤◌, length};
     ghost use Rattle.std.specs.List.{AllByRecursion};
     ghost use Rattle.pbf_wire.specs.Occurrence.{items, found};
     ghost use Rattle.pbf_wire.specs.Columns.{joined};
-    ghost use Rattle.pbf_wire.specs.Cursors.{fields_left, column_left, place_of};
+    ghost use Rattle.pbf_wire.specs.Cursors.{fields_left, column_left, numbers_left, place_of};
 
     /// The column that the field of this number is, in a message whose first byte is at `at` in the file.
     #[tactic(auto, unfolding(crate::specs::Cursors::column_left))]
@@ -106,6 +116,18 @@ impl<'a> Column<'a> {
         let (value, rest) = first_number(self.packed)?;
         self.packed = rest;
         self.place = self.packed_place;
+        Some(value)
+    }
+
+    /// The next number, if it takes at most three bytes of the packed occurrence that was begun. The place is left as it is.
+    #[inline(always)]
+    #[tactic(auto, unfolding(crate::specs::Cursors::column_left))]
+    pub(crate) fn next_short(&mut self) -> Option<u64>
+        ensures { MatchOption result (self.new ≡ self.old)
+            (λ value. (numbers_left self.old ≡ value ∷ numbers_left self.new) × (value < 2 ^ 21)) }
+    {
+        let (value, rest) = first_short(self.packed)?;
+        self.packed = rest;
         Some(value)
     }
 

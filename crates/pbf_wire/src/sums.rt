@@ -1,7 +1,8 @@
 //! The values of a delta column.
 
-ghost use Rattle.std.specs.Prelude.{◌≡◌, ◌≤ℤ◌, pos};
-ghost use Rattle.pbf_wire.specs.Signed.{delta_in};
+ghost use Rattle.std.specs.Prelude.{◌≡◌, ◌<◌, ◌≤ℤ◌, ◌+ℤ◌, ◌^◌, pos};
+ghost use Rattle.pbf_wire.specs.Signed.{IsWithin, delta_in};
+ghost use Rattle.pbf_wire.specs.Sums.{HasRoom};
 
 use crate::column::Column;
 use crate::fields::Fields;
@@ -19,6 +20,14 @@ pub(crate) fn delta_in(narrow: bool, number: u64) -> i64
     }
 }
 
+/// How many entries of at most three bytes can be added to a sum before one may be out of range. Each is at most 2^20 from 0.
+fn room_of(total: i64, limit: i64) -> u64
+    requires { IsWithin limit total }
+    ensures { HasRoom limit total result }
+{
+    (limit.unsigned_abs() - 1 - total.unsigned_abs()) >> 20
+}
+
 /// A cursor over the values of a delta column: the running sums of its entries, up to the first that isn't strictly between
 /// `-limit` and `limit`. It does not allocate, and a copy of it continues by itself.
 #[derive(Clone, Copy)]
@@ -29,13 +38,17 @@ pub struct Sums<'a> {
     limit: i64,
     /// Whether the entries are `sint32`, of which the low 32 bits count.
     narrow: bool,
+    /// How many entries of at most three bytes can still be added without a look at the limit.
+    room: u64,
     ghost positive: { pos 1 ≤ℤ limit },
+    ghost roomy: { HasRoom limit total room },
 }
 
 impl<'a> Sums<'a> {
-    ghost use Rattle.std.specs.Prelude.{◌^◌, ⊤, MatchOption, length, map};
+    ghost use Rattle.std.specs.Prelude.{◌+◌, ◌≤◌, ◌∷◌, ℕ, ⊤, false, IsTrue, MatchOption, drop, length, map};
+    ghost use Rattle.std.specs.Iterator.{YieldsFirst};
     ghost use Rattle.std.specs.List.{AllByRecursion};
-    ghost use Rattle.pbf_wire.specs.Signed.{IsWithin, unzigzag, low_sint32};
+    ghost use Rattle.pbf_wire.specs.Signed.{unzigzag, low_sint32};
     ghost use Rattle.pbf_wire.specs.Sums.{sums_within};
     ghost use Rattle.pbf_wire.specs.Cursors.{numbers_left, sums_left};
 
@@ -50,6 +63,7 @@ impl<'a> Sums<'a> {
             total: 0,
             limit,
             narrow: false,
+            room: 0,
         }
     }
 
@@ -64,7 +78,120 @@ impl<'a> Sums<'a> {
             total: 0,
             limit,
             narrow: true,
+            room: 0,
         }
+    }
+
+    /// Adds the entry of a short number to the sum.
+    #[inline(always)]
+    fn add_short(&mut self, number: u64)
+        requires { (0 < self.old.room) × (number < 2 ^ 21) }
+        ensures total { self.new.total ≡ self.old.total +ℤ unzigzag number }
+        ensures entries { self.new.entries ≡ self.old.entries }
+        ensures same { (self.new.limit ≡ self.old.limit) × (self.new.narrow ≡ self.old.narrow) }
+    {
+        self.room -= 1;
+        self.total += unzigzag(number);
+    }
+
+    /// The next value, if its entry takes at most three bytes and there is room for it. Nearly all values of a file are read so.
+    #[inline(always)]
+    fn next_short(&mut self) -> Option<i64>
+        ensures { MatchOption result (sums_left self.new ≡ sums_left self.old)
+            (λ value. sums_left self.old ≡ value ∷ sums_left self.new) }
+    {
+        if self.room == 0 {
+            return None;
+        }
+        let Some(number) = self.entries.next_short() else {
+            return None;
+        };
+        self.add_short(number);
+        Some(self.total)
+    }
+
+    /// The next value, whatever its entry takes.
+    #[inline(never)]
+    #[tactic(auto, unfolding(crate::specs::Occurrence::items_past))]
+    fn next_any(&mut self) -> Option<i64>
+        ensures { YieldsFirst sums_left self.old result self.new }
+    {
+        let number = self.entries.next()?;
+        let Some(total) = added(self.total, delta_in(self.narrow, number), self.limit) else {
+            self.entries = Column::over(Fields::new(&[], 0), 0);
+            return None;
+        };
+        self.room = 0;
+        self.total = total;
+        self.room = room_of(total, self.limit);
+        Some(total)
+    }
+
+    /// Skips the next value, if it is the last one again, by a 0 of one byte in the packed occurrence that was begun.
+    #[inline(always)]
+    fn pass_same(&mut self) -> bool
+        ensures passed { IsTrue result → sums_left self.old ≡ self.new.total ∷ sums_left self.new }
+        ensures kept { result ≡ false → sums_left self.new ≡ sums_left self.old }
+    {
+        self.entries.pass_zero()
+    }
+
+    /// Skips the next value, if it is the last one again or its entry is short.
+    #[inline(always)]
+    fn pass_one(&mut self) -> bool
+        ensures passed { IsTrue result
+            → (n : ℕ) → drop (n + 1) (sums_left self.old) ≡ drop n (sums_left self.new) }
+        ensures kept { result ≡ false → sums_left self.new ≡ sums_left self.old }
+    {
+        if self.pass_same() {
+            return true;
+        }
+        self.next_short().is_some()
+    }
+
+    /// Skips values as long as that is quick, and returns how many of `count` are still to be skipped. They are read from a copy,
+    /// which stays in registers.
+    fn pass_quick(&mut self, count: usize) -> usize
+        ensures passed { drop result (sums_left self.new) ≡ drop count (sums_left self.old) }
+        ensures fewer { result ≤ count }
+    {
+        let mut rest = *self;
+        let mut left = count;
+        'entries: while left > 0 {
+            if !rest.pass_one() {
+                break;
+            }
+            left -= 1;
+        }
+        *self = rest;
+        left
+    }
+
+    /// Skips as many values, or all if there are fewer.
+    pub fn pass(&mut self, count: usize)
+        ensures { sums_left self.new ≡ drop count (sums_left self.old) }
+    {
+        let mut left = count;
+        'values: while left > 0 {
+            left = self.pass_quick(left);
+            if left > 0 {
+                if self.next_any().is_none() {
+                    break;
+                }
+                left -= 1;
+            }
+        }
+    }
+
+    /// The next value, as [`Sums::next`] gives it: quicker in a column of which many values are the same as the one before.
+    #[inline(always)]
+    pub fn next_steady(&mut self) -> Option<i64>
+        ensures { YieldsFirst sums_left self.old result self.new }
+    {
+        if self.pass_same() {
+            return Some(self.total);
+        }
+        self.next()
     }
 
     /// How many values are still to come, if a quick test shows that each is strictly between -2^62 and 2^62; `None` says nothing. The
@@ -92,14 +219,10 @@ impl<'a> Iterator for Sums<'a> {
     ghost remaining = { item_count sums_left };
 
     #[inline(always)]
-    #[tactic(auto, unfolding(crate::specs::Occurrence::items_past))]
     fn next(&mut self) -> Option<i64> {
-        let number = self.entries.next()?;
-        let Some(total) = added(self.total, delta_in(self.narrow, number), self.limit) else {
-            self.entries = Column::over(Fields::new(&[], 0), 0);
-            return None;
-        };
-        self.total = total;
-        Some(total)
+        match self.next_short() {
+            Some(value) => Some(value),
+            None => self.next_any(),
+        }
     }
 }

@@ -1,6 +1,6 @@
 //! Varints: numbers of 64 bits, seven bits a byte, the lowest first. The top bit is set on every byte but the last.
 
-ghost use Rattle.std.specs.Prelude.{◌≡◌, ◌≤◌, ◌<◌, ℕ, IfOk, MatchOption, OnOk, OnErr, ⊤, Result, Ok, Err, ◌↔◌, ◌++◌, length, take, drop, slice_range};
+ghost use Rattle.std.specs.Prelude.{◌≡◌, ◌≤◌, ◌<◌, ◌^◌, ℕ, IfOk, MatchOption, OnOk, OnErr, ⊤, Result, Ok, Err, ◌↔◌, ◌++◌, length, take, drop, slice_range};
 ghost use Rattle.pbf_wire.specs.Varint.{IsVarint, IsCut, IsLong, told, varint_at, moved_by, shortest};
 
 use crate::fault::Reason;
@@ -59,7 +59,7 @@ fn longer_varint(bytes: &[u8]) -> (u64, usize)
 #[inline(always)]
 pub(crate) fn short_varint(bytes: &[u8]) -> Option<(u64, usize)>
     ensures { MatchOption result ⊤ (λ found. (varint_at bytes.now ≡ Ok found) × (0 < found.1)
-        × (found.1 ≤ length bytes.now)) }
+        × (found.1 ≤ length bytes.now) × (found.0 < 2 ^ 21)) }
 {
     let [first, ..] = bytes else {
         return None;

@@ -400,6 +400,23 @@ fn values_of_delta_columns(rt: HostRuntime) {
     );
 }
 
+/// The values 10, 10, 10, 11 and 10, of which three are skipped, or the first two are read as those of a steady column.
+#[test]
+fn values_skipped_or_steady(rt: HostRuntime) {
+    let column = Column::new(&[0x0a, 0x05, 0x14, 0x00, 0x00, 0x02, 0x01], 0, 1);
+    let mut skipped = Sums::new(column, 1 << 62);
+    let mut steady = skipped;
+    skipped.pass(3);
+    let first = steady.next_steady();
+    let second = steady.next_steady();
+    assert!(rt;
+        are_sums(skipped, &[11, 10])
+            && first == Some(10)
+            && second == Some(10)
+            && are_sums(steady, &[10, 11, 10])
+    );
+}
+
 /// Only at the start of a column of `sint64`, below the limit 2^62, and if each number takes at most five bytes.
 #[test]
 fn values_counted_without_decoding(rt: HostRuntime) {

@@ -5,4 +5,4 @@ use Rattle.pbf_dense.specs.Runs.{after_runs}
 use Rattle.pbf_dense.proofs.dense.skip_runs.Given as goal
 
 abbrev pub invariant-loop-passed : goal.invariant-loop-passed
-invariant-loop-passed l = map low_32 (numbers_left l.numbers) ≡ after_runs l._passed (map low_32 (numbers_left l.fn.numbers))
+invariant-loop-passed l = map low_32 (numbers_left l.rest) ≡ after_runs l._passed (map low_32 (numbers_left l.fn.numbers))

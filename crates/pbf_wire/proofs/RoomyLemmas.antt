@@ -1,0 +1,75 @@
+-- Sums that have room for entries of at most three bytes.
+use Rattle.std.proofs.Common.{◌≡◌, Bool, true, false, cond, ℕ, ◌-◌, ◌/◌, ◌%◌, ◌^◌, ◌<◌, eqb, ℤ, pos, negsuc, ◌+ℤ◌, List, ◌∷◌, map, refl, ap, ◌∙◌, arith, to_z, of_z, w64}
+use Rattle.std.specs.Prelude.{◌≤ℤ◌, neg_ℤ}
+use Rattle.std.proofs.lemmas.Int.{ints, to_z-of_z}
+use mir.Val.{SFits}
+use Rattle.pbf_wire.specs.declared.column.Column.{Column}
+use Rattle.pbf_wire.specs.declared.sums.Sums.{Sums}
+use Rattle.pbf_wire.specs.Cursors.{numbers_left, sums_left}
+use Rattle.pbf_wire.specs.Signed.{delta_in, unzigzag, IsWithin}
+use Rattle.pbf_wire.specs.Sums.{HasRoom, sums_within}
+use Rattle.pbf_wire.proofs.SumLemmas.{added_within, then_more}
+
+-- an entry of at most three bytes is at most 2^20 from 0
+record IsNear (d : ℤ) : Type 0 where
+  above : neg_ℤ (pos (2 ^ 20)) ≤ℤ d
+  below : d ≤ℤ pos (2 ^ 20)
+
+entry_near : (number : ℕ) → number < 2 ^ 21 → IsNear (unzigzag number)
+entry_near number small = by (eqb (number % 2) 0)
+  where
+    by : (b : Bool) → IsNear (cond b (pos (number / 2)) (negsuc (number / 2)))
+    by true = record { above = omega (arith, ints, small); below = omega (arith, ints, small) }
+    by false = record { above = omega (arith, ints, small); below = omega (arith, ints, small) }
+
+pub room_within : (limit total : ℤ) (room : ℕ) → HasRoom limit total room → IsWithin limit total
+room_within limit total room h = record { above = omega (arith, ints, h.above, h.below); below = omega (arith, ints, h.above, h.below) }
+
+pub room_after : (limit total : ℤ) (room number : ℕ) → HasRoom limit total room → 0 < room → number < 2 ^ 21 → HasRoom limit (total +ℤ unzigzag number) (room - 1)
+room_after limit total room number h some small =
+    let near = entry_near number small in
+    record { above = omega (arith, ints, h.above, h.below, near.above, near.below); below = omega (arith, ints, h.above, h.below, near.above, near.below) }
+
+-- of a short entry all bits count, narrow or not
+pub delta_short : (narrow : Bool) (number : ℕ) → number < 2 ^ 21 → delta_in narrow number ≡ unzigzag number
+delta_short false number small = refl
+delta_short true number small = ap unzigzag (omega arith)
+
+pub value_after : (limit total : ℤ) (room number : ℕ) (narrow : Bool) (more : List ℕ) → HasRoom limit total room → 0 < room → number < 2 ^ 21
+    → sums_within limit total (map (delta_in narrow) (number ∷ more)) ≡ (total +ℤ unzigzag number) ∷ sums_within limit (total +ℤ unzigzag number) (map (delta_in narrow) more)
+value_after limit total room number narrow more h some small =
+    let within = room_within limit (total +ℤ unzigzag number) (room - 1) (room_after limit total room number h some small) in
+    let ds = map (delta_in narrow) more in
+    ap (λ (d : ℤ). sums_within limit total (d ∷ ds)) (delta_short narrow number small) ∙ ap (then_more limit ds) (added_within limit total (unzigzag number) within)
+
+-- ---- as they are stored
+
+pub total_after : (limit total entry : ℤ) (room number : ℕ) → SFits w64 limit → SFits w64 total → HasRoom limit total room → 0 < room → number < 2 ^ 21 → entry ≡ unzigzag number
+    → to_z w64 (of_z w64 (to_z w64 (of_z w64 total) +ℤ to_z w64 (of_z w64 entry))) ≡ total +ℤ entry
+total_after limit total entry room number limit_fits total_fits h some small e =
+    let near = entry_near number small in
+    let entry_fits : SFits w64 entry = omega (arith, ints, near.above, near.below, e) in
+    let fits : SFits w64 (total +ℤ entry) = omega (arith, ints, h.above, h.below, near.above, near.below, limit_fits, total_fits, e) in
+    rw (to_z-of_z w64 total total_fits, to_z-of_z w64 entry entry_fits) (to_z-of_z w64 (total +ℤ entry) fits)
+
+pub room_stored : (limit total entry : ℤ) (room number : ℕ) → SFits w64 limit → SFits w64 total → HasRoom limit total room → 0 < room → number < 2 ^ 21 → entry ≡ unzigzag number
+    → HasRoom limit (to_z w64 (of_z w64 (to_z w64 (of_z w64 total) +ℤ to_z w64 (of_z w64 entry)))) (room - 1)
+room_stored limit total entry room number limit_fits total_fits h some small e =
+    rw (total_after limit total entry room number limit_fits total_fits h some small e, e) (room_after limit total room number h some small)
+
+-- ---- of cursors
+
+pub next_is : (old new : Sums) (entries : Column) (number : ℕ) → 0 < old.room → number < 2 ^ 21 → numbers_left old.entries ≡ number ∷ numbers_left entries
+    → new.total ≡ old.total +ℤ unzigzag number → new.entries ≡ entries → new.limit ≡ old.limit → new.narrow ≡ old.narrow → sums_left old ≡ new.total ∷ sums_left new
+next_is old new entries number some small numbers total_is entries_are limit_is narrow_is =
+    rw (numbers, total_is, entries_are, limit_is, narrow_is) (value_after old.limit old.total old.room number old.narrow (numbers_left entries) old.roomy some small)
+
+-- an entry 0 gives the last value again
+pub same_again : (sums : Sums) (entries : Column) → numbers_left sums.entries ≡ 0 ∷ numbers_left entries
+    → sums_left sums ≡ sums.total ∷ sums_within sums.limit sums.total (map (delta_in sums.narrow) (numbers_left entries))
+same_again sums entries numbers =
+    let none : (narrow : Bool) → delta_in narrow 0 ≡ pos 0 = λ narrow. delta_short narrow 0 (omega arith) in
+    let still : sums.total +ℤ pos 0 ≡ sums.total = omega (arith, ints) in
+    let within : IsWithin sums.limit (sums.total +ℤ pos 0) = rw still (room_within sums.limit sums.total sums.room sums.roomy) in
+    let ds = map (delta_in sums.narrow) (numbers_left entries) in
+    rw numbers (ap (λ (d : ℤ). sums_within sums.limit sums.total (d ∷ ds)) (none sums.narrow) ∙ ap (then_more sums.limit ds) (added_within sums.limit sums.total (pos 0) within) ∙ ap (λ (t : ℤ). t ∷ sums_within sums.limit t ds) still)
