@@ -26,7 +26,7 @@ chosen_first index bytes begun place id some le point same held first =
       reads = reads_first index bytes begun place.page.now place.cursor id start some le point is (subst (λ c. Stands index bytes begun place.page.now c) begins stood) begins;
     }
 
--- or where the look-up stands
+-- or where the look-up is
 pub chosen_still : (index : List PageStart) (bytes : List ℕ) (begun : ℕ) (place : Place) (id seen : ℤ) → begun ≡ place.begun → seen ≡ id → 0 < begun → IsPlace index bytes place → IsAhead place.cursor.passed place.cursor.last seen → IsChosen index bytes begun place id
 chosen_still index bytes begun place id seen same e some held ahead = record {
   held = held;

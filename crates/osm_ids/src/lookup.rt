@@ -30,7 +30,7 @@ const NOTHING: Known = Known {
 /// How far a page is read, and what is known of the ids round the last one that was looked up there.
 #[derive(Clone, Copy)]
 pub(crate) struct Place<'a> {
-    /// If the set has few ids, most that are asked for lie here.
+    /// If the set has few ids, most that are looked up lie here.
     pub(crate) known: Known,
     /// How many pages begin at or below the id; the last of them is read. None yet is 0.
     pub(crate) begun: usize,

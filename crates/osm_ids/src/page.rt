@@ -65,8 +65,8 @@ fn prefix_sum(block: &[u8; 16], count: usize) -> u16
     first.cast::<u16>().strict_reduce_sum()
 }
 
-/// Reads the differences of one byte that come next at once, if they are four to sixteen and their last id is not above the one asked
-/// for. It returns that last id, and where the next difference begins. `None` says nothing: they are read one by one.
+/// Reads the differences of one byte that come next at once, if they are four to sixteen and their last id is not above the wanted
+/// one. It returns that last id, and where the next difference begins. `None` says nothing: they are read one by one.
 fn short_on(page: &[u8], last: i64, at: usize, id: i64) -> Option<(i64, usize)>
     requires within { at ≤ length page.now }
     requires below { last <ℤ id }

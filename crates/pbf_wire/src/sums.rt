@@ -38,7 +38,7 @@ pub struct Sums<'a> {
     limit: i64,
     /// Whether the entries are `sint32`, of which the low 32 bits count.
     narrow: bool,
-    /// How many entries of at most three bytes can still be added without a look at the limit.
+    /// How many entries of at most three bytes can still be added without a test of the limit.
     room: u64,
     ghost positive: { pos 1 ≤ℤ limit },
     ghost roomy: { HasRoom limit total room },

@@ -124,7 +124,14 @@ impl Repeat {
             (ReadFailed F.Feed feed.old feed.new) (WriteFailed D.Drain drain.old drain.new)) }
         ensures drain { KeepsDrain D.Drain drain.old drain.new }
     {
-        match write(self.passes(alloc), feed, drain, hasher, writing, self.number) {
+        match write(
+            self.passes(alloc),
+            feed,
+            drain,
+            hasher,
+            writing,
+            self.number,
+        ) {
             Ok(wrote) => {
                 self.compare(wrote.input)?;
                 Ok(wrote.counts)
