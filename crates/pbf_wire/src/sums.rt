@@ -20,12 +20,18 @@ pub(crate) fn delta_in(narrow: bool, number: u64) -> i64
     }
 }
 
-/// How many entries of at most three bytes can be added to a sum before one may be out of range. Each is at most 2^20 from 0.
-fn room_of(total: i64, limit: i64) -> u64
+/// How many entries of at most three bytes can be added to a sum before one may be out of range, or 2^32 - 1 if there are more. Each
+/// is at most 2^20 from 0.
+fn room_of(total: i64, limit: i64) -> u32
     requires { IsWithin limit total }
     ensures { HasRoom limit total result }
 {
-    (limit.unsigned_abs() - 1 - total.unsigned_abs()) >> 20
+    let room = (limit.unsigned_abs() - 1 - total.unsigned_abs()) >> 20;
+    if room < 1 << 32 {
+        room as u32
+    } else {
+        u32::MAX
+    }
 }
 
 /// A cursor over the values of a delta column: the running sums of its entries, up to the first that isn't strictly between
@@ -38,8 +44,9 @@ pub struct Sums<'a> {
     limit: i64,
     /// Whether the entries are `sint32`, of which the low 32 bits count.
     narrow: bool,
-    /// How many entries of at most three bytes can still be added without a test of the limit.
-    room: u64,
+    /// How many entries of at most three bytes can still be added without a test of the limit. In 32 bits, which lie free beside
+    /// `narrow`: a larger cursor would be copied by a call.
+    room: u32,
     ghost positive: { pos 1 ≤ℤ limit },
     ghost roomy: { HasRoom limit total room },
 }
