@@ -1,0 +1,27 @@
+use Rattle.std.proofs.Common.{◌≡◌, ℕ, ℤ, List, SFits, w64, to_z-of_z, rules, ◌∙◌}
+use Rattle.pbf_wire.specs.Faults.{found_in}
+use Rattle.osm_entity.specs.declared.scale.Scale.{Scale}
+use Rattle.osm_entity.specs.Entity.{TagSpec, MetaSpec, MemberSpec, RelationSpec}
+use Rattle.osm_entity.specs.Sources.{column_members}
+use Rattle.pbf_block.specs.Relation.{relation_in}
+use Rattle.pbf_block.proofs.relation.relation_in.Goals as goal
+
+abbrev made : ℤ → MetaSpec → List TagSpec → List MemberSpec → Scale → RelationSpec
+made id meta tags members scale = record { id = id; meta = meta; tags = tags; members = members; scale = scale }
+
+-- relations of the same parts
+same_relation : (scale : Scale) (table : List (List ℕ)) (id i : ℤ) (meta m : MetaSpec) (tags t : List TagSpec) (kinds k roles r : List ℕ) (ids d : List ℤ) (members : List MemberSpec)
+    → id ≡ i → meta ≡ m → tags ≡ t → kinds ≡ k → ids ≡ d → roles ≡ r → members ≡ column_members table kinds ids roles
+    → made id meta tags members scale ≡ made i m t (column_members table k d r) scale
+same_relation scale table id i meta m tags t kinds k roles r ids d members same_id same_meta same_tags same_kinds same_ids same_roles are = cc
+
+pub returns : goal.returns
+unfolding relation_in
+returns c =
+    let os = found_in c.args.message in
+    let alike = c.entity_fields.ensures.alike in
+    let own = c.entity_fields.ensures.own in
+    let fits : SFits w64 c.wide_id.result = search rules in
+    c.new.ensures
+    ∙ same_relation c.args.scale _ _ _ _ _ _ _ _ _ _ _ _ _ _ (to_z-of_z fits ∙ c.wide_id.ensures os alike) (c.meta.ensures os alike) (c.tags.ensures os alike)
+    (c.column.ensures os own.third) (c.values.ensures os own.second) (c.column-2.ensures os own.first) c.new-members.ensures
