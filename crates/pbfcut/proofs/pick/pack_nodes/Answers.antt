@@ -10,7 +10,7 @@ use Rattle.pbf_dense.specs.Cursors.{dense_left}
 use Rattle.pbfcut.specs.declared.pick.Picker.{Picker}
 use Rattle.pbfcut.specs.Pick.{picks_of, picks_id}
 use Rattle.pbfcut.proofs.PackingLemmas.{keeps_same, keeps_more}
-use Rattle.pbfcut.proofs.NodeLemmas.{OnNodes, NonePicked, at_first, some_passed, rest_passed, one_packed, one_stops}
+use Rattle.pbfcut.proofs.NodeLemmas.{OnNodes, NonePicked, at_first, all_gone, some_passed, rest_passed, one_packed, one_stops}
 use Rattle.pbfcut.proofs.pick.pack_nodes.Goals as goal
 
 pub nodes-init : goal.nodes-init
@@ -62,3 +62,7 @@ nodes-preserved g c =
           (some_passed g.D.Drain c.args.picker.now (dense_left c.args.dense.now) c.args.packer.now c.args.counts.now (dense_left c.nodes.nodes) ns (node_of c.in-Some.node) c.in-Some-unpicked.count c.nodes.packer c.nodes.counts c.in-Some.ensures.steps here later so_far.on);
       keeps = so_far.keeps;
     }
+
+pub returns-clause-packed : goal.returns-clause-packed
+returns-clause-packed g c =
+    all_gone g.D.Drain c.args.picker.now (dense_left c.args.dense.now) c.args.packer.now c.args.counts.now (dense_left c.nodes.nodes) c.nodes.packer c.nodes.counts (search rules) c.nodes.invariant.on
