@@ -78,6 +78,9 @@ def main():
     crates = {line.split(":")[0].split(" ")[0] for line in lines if line.strip() and not line.startswith("#")}
     code = {crate for crate in crates if not is_of_tests(crate)}
     faults = unknown_promises(words_of_sources(crates))
+    link = os.path.join(TOP, "pbfcutz")
+    if not os.path.islink(link) or os.readlink(link) != "pbfcut":
+        faults.append("pbfcutz is not a link to pbfcut, by which ./pbfcutz runs the same program")
 
     def differ(what: str, listed: set, there: set):
         faults.extend(f"{what}: '{name}' is on the page, and not there" for name in sorted(listed - there))
