@@ -8,7 +8,8 @@ extract by each box, of each program; the toolchain's SHA-256 over FILE (crates/
 complete-ways extract by the same boxes, where Osmium is installed.
 
 It prints the least and the median of the seconds of a processor, and the greatest memory. `Digests` is the least beside as many passes of
-SHA-256 as the command takes over a sorted file (check one, convert and extract two), `Osmium` the least beside Osmium's. What two builds write has to be
+SHA-256 as the command takes over a sorted file (convert and extract two; check takes none, and is shown beside one), `Osmium` the least
+beside Osmium's. What two builds write has to be
 the same bytes, and the same as in the last run over FILE, of which FILE.written keeps the digests.
 """
 import hashlib
