@@ -72,12 +72,19 @@ def unknown_promises(words: set) -> list:
     return found
 
 
+def unknown_names(text: str, words: set) -> list:
+    """The names that are said to stay, and that no source has."""
+    named = {name for row in rows(section(text, "Names that stay")) for cell in row for name in names(cell)}
+    return [f"docs/ARCHITECTURE.md: no source has '{name}', which is to stay" for name in sorted(named - words) if not name.startswith("_")]
+
+
 def main():
     text = read(PAGE)
     lines = read(os.path.join(TOP, "crates.txt")).splitlines()
     crates = {line.split(":")[0].split(" ")[0] for line in lines if line.strip() and not line.startswith("#")}
     code = {crate for crate in crates if not is_of_tests(crate)}
     faults = unknown_promises(words_of_sources(crates))
+    faults += unknown_names(text, words_of_sources(crates))
     link = os.path.join(TOP, "pbfcutz")
     if not os.path.islink(link) or os.readlink(link) != "pbfcut":
         faults.append("pbfcutz is not a link to pbfcut, by which ./pbfcutz runs the same program")
