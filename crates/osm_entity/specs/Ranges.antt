@@ -7,10 +7,11 @@ use Rattle.osm_entity.specs.Scale.{ScaleFits}
 use Rattle.osm_entity.specs.Entity.{MetaSpec, MemberSpec, LocationSpec, NodeSpec, WaySpec, RelationSpec, EntitySpec, node, way, relation, entity_meta, entity_scale}
 use Rattle.osm_entity.specs.Weight.{node_weight, way_weight, relation_weight}
 use Rattle.osm_entity.specs.declared.weight.TheConstants.{HIGHEST_WEIGHT}
+use Rattle.pbf_wire.specs.declared.limits.TheConstants.{SUM_LIMIT}
 
 -- an id, a coordinate, a time or a changeset is strictly between -2^62 and 2^62
 abbrev pub IsStored : ℤ → Type 0
-IsStored number = IsWithin (pos (2 ^ 62)) number
+IsStored number = IsWithin (pos SUM_LIMIT) number
 
 -- a uid is strictly between -2^30 and 2^30
 abbrev pub IsUid : ℤ → Type 0

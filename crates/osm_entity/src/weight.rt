@@ -11,12 +11,10 @@ use crate::locations::Locations;
 use crate::member::Members;
 use crate::refs::Refs;
 use crate::tags::Tags;
+use pbf_wire::STORED_LIMIT;
 
 /// The greatest weight that an entity may have.
 pub const HIGHEST_WEIGHT: u64 = 12_000_000;
-
-/// The limit of stored numbers: they are strictly between it and its negative.
-pub const STORED_LIMIT: i64 = 1 << 62;
 
 /// The limit of uids, likewise.
 pub const UID_LIMIT: i64 = 1 << 30;

@@ -16,6 +16,8 @@ use Rattle.pbf_block.specs.declared.primitive_block.TheConstants.{STRINGTABLE, P
 use Rattle.pbf_block.specs.Entity.{How}
 use Rattle.pbf_block.specs.Group.{group_wire, group_structure, in_group, member_values, member_entities, member_weights}
 use Rattle.pbf_block.specs.Scale.{scale_of, table_of}
+use Rattle.pbf_strings.specs.declared.table.TheConstants.{MOST_TEXTS}
+use Rattle.pbf_wire.specs.declared.limits.TheConstants.{SUM_LIMIT}
 
 -- ---- entities
 
@@ -25,7 +27,7 @@ by_index = record { values = sums; dense = nodes }
 
 -- running sums, up to the first that is out of range
 abbrev pub along : How
-along = record { values = sums_within (pos (2 ^ 62)) (pos 0); dense = nodes_along }
+along = record { values = sums_within (pos SUM_LIMIT) (pos 0); dense = nodes_along }
 
 -- the entities of a payload that begins at this place: group by group, in a group field by field, of a dense message node by
 -- node
@@ -45,7 +47,7 @@ wire_faults at m = message_faults BLOCK_KINDS part_wire (items at m)
 
 -- a table has too many texts
 abbrev pub table_structure : ℕ → ℕ → List ℕ → List Fault
-table_structure place at m = fault_where (nat_lt 1048576 (length (texts m))) place TooManyStrings
+table_structure place at m = fault_where (nat_lt MOST_TEXTS (length (texts m))) place TooManyStrings
 
 abbrev pub part_structure : Occurrence → List Fault
 part_structure o = entered STRINGTABLE table_structure o ++ entered PRIMITIVEGROUP group_structure o

@@ -15,6 +15,7 @@ ghost use Rattle.pbf_block.specs.Numbers.{counts_of};
 ghost use Rattle.pbf_block.specs.Runs.{entities_left, joined_runs, runs_left};
 ghost use Rattle.pbf_wire.specs.Fields.{occurrence};
 ghost use Rattle.pbf_block.specs.Scale.{scale_of, table_of};
+ghost use Rattle.pbf_wire.specs.declared.limits.TheConstants.{OFFSET_LIMIT, RAW_LIMIT};
 
 use crate::counts::Counts;
 use crate::entities::Entities;
@@ -55,7 +56,7 @@ pub(crate) fn bytes_in(field: Option<Field<'_>>) -> &[u8]
 
 /// The texts of a payload that has no fault of structure: its table is judged already.
 fn read_table<'a>(alloc: Global, payload: Message<'a>) -> Result<Table<'a>, AllocError>
-    requires short { length payload.bytes.now < 33554432 }
+    requires short { length payload.bytes.now < RAW_LIMIT }
     requires structure { structure_faults payload.at payload.bytes.now ≡ [] }
     ensures { IfOk result (λ table. table ≡ table_of (found_in payload.entry)) }
 {
@@ -105,8 +106,8 @@ impl<'a> Block<'a> {
     /// values and the weights, each over the whole payload and all messages in it. Memory is requested only for the places of the
     /// table's texts, once the first two phases are passed; if it is refused, `Memory` is returned, and no later fault.
     pub fn read(alloc: Global, payload: &'a [u8], at: u64) -> Result<Block<'a>, ReadFault>
-        requires placed { at + length payload.now ≤ 2 ^ 63 }
-        requires short { length payload.now < 33554432 }
+        requires placed { at + length payload.now ≤ OFFSET_LIMIT }
+        requires short { length payload.now < RAW_LIMIT }
         ensures payload { IfOk result
             (λ block. (block.payload.now ≡ payload.now) × (block.at ≡ at)) }
         ensures sound { OnOk result (block_fault at payload.now ≡ None) }

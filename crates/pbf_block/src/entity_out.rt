@@ -9,6 +9,7 @@ ghost use Rattle.osm_entity.specs.Ranges.{WayFits, RelationFits};
 ghost use Rattle.osm_entity.specs.Sources.{tags_left};
 ghost use Rattle.osm_entity.specs.Views.{meta_of, way_of, relation_of};
 ghost use Rattle.pbf_block.specs.WrittenEntity.{entity_slots, way_message, relation_message, writer_length};
+ghost use Rattle.pbf_strings.specs.declared.table.TheConstants.{MOST_USED_TEXTS};
 
 use crate::entity::{ID, INFO, KEYS, VALS};
 use crate::entity_write::{put_info, put_locations, put_members, put_refs, put_tags};
@@ -100,7 +101,7 @@ impl EntityOut {
         table: &mut TableOut<S>,
     ) -> Result<(), AllocError>
         requires { length table.old + (length (tag_texts (tags_left tags)) + length
-            (option_to_list (meta_of meta.now).user)) ≤ 1048575 }
+            (option_to_list (meta_of meta.now).user)) ≤ MOST_USED_TEXTS }
         ensures texts { OnOk result (table.new
             ≡ texts_after table.old
             (tag_texts (tags_left tags.entry) ++ option_to_list (meta_of meta.now).user)) }
@@ -144,7 +145,7 @@ impl EntityOut {
         table: &mut TableOut<S>,
     ) -> Result<(), AllocError>
         requires fits { WayFits (way_of way.now) }
-        requires room { length table.old + length (way_texts (way_of way.now)) ≤ 1048575 }
+        requires room { length table.old + length (way_texts (way_of way.now)) ≤ MOST_USED_TEXTS }
         ensures texts { OnOk result
             (table.new ≡ texts_after table.old (way_texts (way_of way.now))) }
         ensures written { (used : List (List ℕ))
@@ -173,7 +174,7 @@ impl EntityOut {
     ) -> Result<(), AllocError>
         requires fits { RelationFits (relation_of relation.now) }
         requires room { length table.old + length (relation_texts (relation_of relation.now))
-            ≤ 1048575 }
+            ≤ MOST_USED_TEXTS }
         ensures texts { OnOk result
             (table.new ≡ texts_after table.old (relation_texts (relation_of relation.now))) }
         ensures written { (used : List (List ℕ))

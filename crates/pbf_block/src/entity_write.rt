@@ -9,6 +9,7 @@ ghost use Rattle.osm_entity.specs.Ranges.{IsStored, LocationFits, MemberFits};
 ghost use Rattle.osm_entity.specs.Sources.{tags_left, refs_left, locations_left, members_left};
 ghost use Rattle.osm_entity.specs.Views.{meta_of};
 ghost use Rattle.pbf_block.specs.WrittenEntity.{key_index, value_index, role_index, kind_number, info_message};
+ghost use Rattle.pbf_strings.specs.declared.table.TheConstants.{MOST_USED_TEXTS};
 
 use osm_entity::{Locations, Members, MetaRef, Refs, Tags};
 use pbf_dense::dense_info::{CHANGESET, TIMESTAMP, UID, USER_SID, VERSION, VISIBLE};
@@ -24,7 +25,7 @@ pub(crate) fn put_tags<S: BuildHasher>(
     tags: Tags<'_>,
     table: &mut TableOut<S>,
 ) -> Result<(), AllocError>
-    requires { length table.old + length (tag_texts (tags_left tags)) ≤ 1048575 }
+    requires { length table.old + length (tag_texts (tags_left tags)) ≤ MOST_USED_TEXTS }
     ensures texts { OnOk result
         (table.new ≡ texts_after table.old (tag_texts (tags_left tags.entry))) }
     ensures keys { (used : List (List ℕ))
@@ -83,7 +84,7 @@ pub(crate) fn put_members<S: BuildHasher>(
     table: &mut TableOut<S>,
 ) -> Result<(), AllocError>
     requires fits { AllByRecursion MemberFits (members_left members) }
-    requires room { length table.old + length (members_left members) ≤ 1048575 }
+    requires room { length table.old + length (members_left members) ≤ MOST_USED_TEXTS }
     ensures texts { OnOk result
         (table.new ≡ texts_after table.old (map (λ m. m.role) (members_left members.entry))) }
     ensures roles { (used : List (List ℕ))

@@ -8,6 +8,7 @@ ghost use Rattle.pbf_strings.specs.Texts.{longest as longest_of};
 ghost use Rattle.osm_entity.specs.Views.{entity_of};
 ghost use Rattle.pbf_block.specs.Group.{member_wire, is_member, first_member, is_other, entities_structure, member_structure, group_structure, member_values, weight_fault, member_weights};
 ghost use Rattle.pbf_block.specs.PrimitiveBlock.{along};
+ghost use Rattle.pbf_wire.specs.declared.limits.TheConstants.{SUM_LIMIT};
 
 use crate::entity::INFO;
 use crate::info::INFO_KINDS;
@@ -141,7 +142,7 @@ pub(crate) fn judge_structure(message: Message<'_>) -> Option<Fault>
 #[derive(Clone, Copy)]
 pub(crate) struct MemberValues {
     pub(crate) limit: u64,
-    ghost limited: { limit ≤ 2 ^ 62 },
+    ghost limited: { limit ≤ SUM_LIMIT },
 }
 
 impl Judge for MemberValues {

@@ -21,6 +21,8 @@ ghost use Rattle.pbf_block.specs.Way.{way_in, way_structure, way_values};
 ghost use Rattle.pbf_block.specs.Relation.{relation_in, relation_structure, relation_values};
 ghost use Rattle.pbf_block.specs.WrittenBlock.{is_block, block_message};
 ghost use Rattle.pbf_block.specs.WrittenEntity.{way_message, relation_message};
+ghost use Rattle.pbf_strings.specs.declared.table.TheConstants.{MOST_TEXTS};
+ghost use Rattle.pbf_wire.specs.declared.limits.TheConstants.{RAW_LIMIT};
 
 pub use pbf_header::laws::{
     header_out_twice_is_once, header_phases_are_one_order, read_header_fits, written_header_is_read,
@@ -39,19 +41,19 @@ pub fn phases_are_one_order()
 pub fn written_way_is_read()
     ensures read { (texts : List (List ℕ)) (w : WaySpec) → WayFits w → EntityTyped (way w)
         → AllByRecursion (λ text. has_text texts text ≡ true) (way_texts w)
-        → length (table_of texts) ≤ 1048576 → (at : ℕ)
+        → length (table_of texts) ≤ MOST_TEXTS → (at : ℕ)
         → way_in by_index (table_of texts) w.scale (fields_in at (way_message texts w)) ≡ w }
     ensures wire { (texts : List (List ℕ)) (w : WaySpec) → WayFits w → EntityTyped (way w)
         → AllByRecursion (λ text. has_text texts text ≡ true) (way_texts w)
-        → length (table_of texts) ≤ 1048576 → (place at : ℕ)
+        → length (table_of texts) ≤ MOST_TEXTS → (place at : ℕ)
         → nested_faults WAY_KINDS INFO INFO_KINDS place at (way_message texts w) ≡ [] }
     ensures structure { (texts : List (List ℕ)) (w : WaySpec) → WayFits w → EntityTyped (way w)
         → AllByRecursion (λ text. has_text texts text ≡ true) (way_texts w)
-        → length (table_of texts) ≤ 1048576 → (place at : ℕ)
+        → length (table_of texts) ≤ MOST_TEXTS → (place at : ℕ)
         → way_structure place at (way_message texts w) ≡ [] }
     ensures values { (texts : List (List ℕ)) (w : WaySpec) → WayFits w → EntityTyped (way w)
         → AllByRecursion (λ text. has_text texts text ≡ true) (way_texts w)
-        → length (table_of texts) ≤ 1048576 → (place at : ℕ)
+        → length (table_of texts) ≤ MOST_TEXTS → (place at : ℕ)
         → way_values (length (table_of texts)) place at (way_message texts w) ≡ [] }
 {}
 
@@ -59,20 +61,20 @@ pub fn written_way_is_read()
 pub fn written_relation_is_read()
     ensures read { (texts : List (List ℕ)) (r : RelationSpec) → RelationFits r
         → EntityTyped (relation r) → AllByRecursion (λ text. has_text texts text ≡ true)
-        (relation_texts r) → length (table_of texts) ≤ 1048576 → (at : ℕ)
+        (relation_texts r) → length (table_of texts) ≤ MOST_TEXTS → (at : ℕ)
         → relation_in by_index (table_of texts) r.scale (fields_in at (relation_message texts r))
         ≡ r }
     ensures wire { (texts : List (List ℕ)) (r : RelationSpec) → RelationFits r
         → EntityTyped (relation r) → AllByRecursion (λ text. has_text texts text ≡ true)
-        (relation_texts r) → length (table_of texts) ≤ 1048576 → (place at : ℕ)
+        (relation_texts r) → length (table_of texts) ≤ MOST_TEXTS → (place at : ℕ)
         → nested_faults RELATION_KINDS INFO INFO_KINDS place at (relation_message texts r) ≡ [] }
     ensures structure { (texts : List (List ℕ)) (r : RelationSpec) → RelationFits r
         → EntityTyped (relation r) → AllByRecursion (λ text. has_text texts text ≡ true)
-        (relation_texts r) → length (table_of texts) ≤ 1048576 → (place at : ℕ)
+        (relation_texts r) → length (table_of texts) ≤ MOST_TEXTS → (place at : ℕ)
         → relation_structure place at (relation_message texts r) ≡ [] }
     ensures values { (texts : List (List ℕ)) (r : RelationSpec) → RelationFits r
         → EntityTyped (relation r) → AllByRecursion (λ text. has_text texts text ≡ true)
-        (relation_texts r) → length (table_of texts) ≤ 1048576 → (place at : ℕ)
+        (relation_texts r) → length (table_of texts) ≤ MOST_TEXTS → (place at : ℕ)
         → relation_values (length (table_of texts)) place at (relation_message texts r) ≡ [] }
 {}
 
@@ -82,7 +84,7 @@ pub fn written_block_fits()
     ensures short { (es : List EntitySpec)
         → length (block_message es) ≤ 380 + 2 * sum_by entity_weight es }
     ensures fits { (es : List EntitySpec) → is_block es ≡ true
-        → length (block_message es) < 33554432 }
+        → length (block_message es) < RAW_LIMIT }
 {}
 
 /// Entities in their ranges that may be in one block are written as a block that has no fault of any phase and holds those entities,

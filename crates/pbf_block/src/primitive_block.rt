@@ -6,6 +6,7 @@ ghost use Rattle.pbf_wire.specs.Faults.{found_in};
 ghost use Rattle.pbf_wire.specs.Least.{least};
 ghost use Rattle.pbf_block.specs.Group.{member_weights, in_group};
 ghost use Rattle.pbf_block.specs.PrimitiveBlock.{along, part_wire, wire_faults, part_structure, structure_faults, value_faults};
+ghost use Rattle.pbf_wire.specs.declared.limits.TheConstants.{SUM_LIMIT};
 
 use crate::group::{self, GROUP_KINDS, MemberForm, MemberValues, MemberWeights};
 use crate::ranges::judge_positive;
@@ -95,7 +96,7 @@ pub(crate) fn judge_structure(payload: Message<'_>) -> Option<Fault>
 /// The least fault of values of a block, and of the messages in it; its table has `limit` texts.
 #[tactic(auto, using(crate::proofs::Parts::lesser_parts), unfolding(crate::specs::PrimitiveBlock::value_faults))]
 pub(crate) fn judge_values(payload: Message<'_>, limit: u64) -> Option<Fault>
-    requires { limit ≤ 2 ^ 62 }
+    requires { limit ≤ SUM_LIMIT }
     ensures { result ≡ least (value_faults limit payload.entry.at payload.entry.bytes.now) }
 {
     let fields = payload.fields();

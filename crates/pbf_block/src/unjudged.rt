@@ -9,6 +9,7 @@ ghost use Rattle.pbf_block.specs.Kinds.{is_among};
 ghost use Rattle.pbf_block.specs.Numbers.{counts_of};
 ghost use Rattle.pbf_block.specs.Runs.{joined_runs, runs_left};
 ghost use Rattle.pbf_block.specs.Scale.{scale_of, table_of};
+ghost use Rattle.pbf_wire.specs.declared.limits.TheConstants.{OFFSET_LIMIT, RAW_LIMIT};
 
 use crate::block::bytes_in;
 use crate::counts::{Counts, count_entities};
@@ -29,7 +30,7 @@ pub struct UnjudgedBlock<'a> {
     at: u64,
     table: Table<'a>,
     scale: Scale,
-    ghost room: { at + length payload.now ≤ 2 ^ 63 },
+    ghost room: { at + length payload.now ≤ OFFSET_LIMIT },
     ghost texts: { table ≡ table_of (fields_in at payload.now) },
     ghost scaled: { scale ≡ scale_of (fields_in at payload.now) },
 }
@@ -42,7 +43,7 @@ impl<'a> UnjudgedBlock<'a> {
         table: Table<'a>,
         scale: Scale,
     ) -> UnjudgedBlock<'a>
-        requires room { at + length payload.now ≤ 2 ^ 63 }
+        requires room { at + length payload.now ≤ OFFSET_LIMIT }
         requires texts { table ≡ table_of (fields_in at payload.now) }
         requires scaled { scale ≡ scale_of (fields_in at payload.now) }
         ensures payload { result.payload.now ≡ payload.now }
@@ -65,8 +66,8 @@ impl<'a> UnjudgedBlock<'a> {
         payload: &'a [u8],
         at: u64,
     ) -> Result<Option<UnjudgedBlock<'a>>, AllocError>
-        requires placed { at + length payload.now ≤ 2 ^ 63 }
-        requires short { length payload.now < 33554432 }
+        requires placed { at + length payload.now ≤ OFFSET_LIMIT }
+        requires short { length payload.now < RAW_LIMIT }
         ensures payload { IfOk result (λ opened. IfSome opened
             (λ block. (block.payload.now ≡ payload.now) × (block.at ≡ at))) }
         ensures faulty { result ≡ Ok None → block_fault at payload.now ≡ None → ⊥ }

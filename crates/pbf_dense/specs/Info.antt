@@ -8,6 +8,7 @@ use Rattle.pbf_wire.specs.Sums.{sums, sums_within}
 use Rattle.pbf_strings.specs.Texts.{text}
 use Rattle.osm_entity.specs.Entity.{MetaSpec}
 use Rattle.pbf_dense.specs.declared.dense_info.TheConstants.{VERSION, TIMESTAMP, CHANGESET, UID, USER_SID, VISIBLE}
+use Rattle.pbf_wire.specs.declared.limits.TheConstants.{SUM_LIMIT}
 
 -- the text of an index, and the empty text if it is negative
 abbrev pub user_text : List (List ℕ) → ℤ → List ℕ
@@ -53,10 +54,10 @@ meta_at table info i = record {
 unfoldable pub info_along : List Occurrence → InfoSpec
 info_along os = record {
   versions = column VERSION os;
-  timestamps = sums_within (pos (2 ^ 62)) (pos 0) (map unzigzag (column TIMESTAMP os));
-  changesets = sums_within (pos (2 ^ 62)) (pos 0) (map unzigzag (column CHANGESET os));
+  timestamps = sums_within (pos SUM_LIMIT) (pos 0) (map unzigzag (column TIMESTAMP os));
+  changesets = sums_within (pos SUM_LIMIT) (pos 0) (map unzigzag (column CHANGESET os));
   uids = sums_within (pos (2 ^ 30)) (pos 0) (map low_sint32 (column UID os));
-  users = sums_within (pos (2 ^ 62)) (pos 0) (map low_sint32 (column USER_SID os));
+  users = sums_within (pos SUM_LIMIT) (pos 0) (map low_sint32 (column USER_SID os));
   visible = column VISIBLE os;
 }
 

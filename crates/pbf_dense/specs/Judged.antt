@@ -18,6 +18,7 @@ use Rattle.pbf_dense.specs.declared.phase.Phase.{Phase}
 use Rattle.pbf_dense.specs.declared.phase.Phase.TheVariants as phase
 use Rattle.pbf_dense.specs.Nodes.{nodes}
 use Rattle.osm_entity.specs.declared.weight.TheConstants.{HIGHEST_WEIGHT}
+use Rattle.pbf_wire.specs.declared.limits.TheConstants.{SUM_LIMIT}
 
 -- ---- a DenseInfo: structure
 
@@ -35,7 +36,7 @@ info_counts n place at m =
 
 -- the values of the column k of differences that are out of range
 abbrev pub range_faults : ℕ → List Occurrence → List Fault
-range_faults k os = sum_faults (pos (2 ^ 62)) false (joined k os)
+range_faults k os = sum_faults (pos SUM_LIMIT) false (joined k os)
 
 -- the values of a DenseInfo that are out of range, and users that the table has no text for
 abbrev pub info_values : ℕ → ℕ → ℕ → List ℕ → List Fault
@@ -131,7 +132,7 @@ dense_fault place at table m = option_or (early_fault (length table) place at m)
 -- the phases before the weights have no fault
 pub record IsSound (table : List (List ℕ)) (at : ℕ) (m : List ℕ) : Type 0 where
   pub place : ℕ
-  pub few : length table ≤ 2 ^ 62
+  pub few : length table ≤ SUM_LIMIT
   pub wire : dense_wire place at m ≡ []
   pub structure : dense_structure place at m ≡ []
   pub values : dense_values (length table) place at m ≡ []

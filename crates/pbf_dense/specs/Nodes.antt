@@ -12,6 +12,7 @@ use Rattle.osm_entity.specs.Sources.{low_32, tag_of, run}
 use Rattle.pbf_dense.specs.declared.dense_nodes.TheConstants.{ID, DENSEINFO, LAT, LON, KEYS_VALS}
 use Rattle.pbf_dense.specs.Info.{dense_meta, InfoSpec, meta_at, info_along, later}
 use Rattle.pbf_dense.specs.Runs.{tags_at, after_run}
+use Rattle.pbf_wire.specs.declared.limits.TheConstants.{SUM_LIMIT}
 
 -- ---- by indices into whole columns
 
@@ -45,7 +46,7 @@ moving _ _ _ _ _ _ _ = []
 
 -- the values of the column k of differences, up to the first that is out of range
 abbrev pub values_along : ℕ → List Occurrence → List ℤ
-values_along k os = sums_within (pos (2 ^ 62)) (pos 0) (map unzigzag (column k os))
+values_along k os = sums_within (pos SUM_LIMIT) (pos 0) (map unzigzag (column k os))
 
 -- the nodes of the message that has these occurrences
 unfoldable pub nodes_along : List (List ℕ) → Scale → List Occurrence → List NodeSpec

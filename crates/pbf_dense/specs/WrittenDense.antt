@@ -16,6 +16,7 @@ use Rattle.pbf_dense.specs.declared.dense_info.TheConstants.{VERSION, TIMESTAMP,
 use Rattle.pbf_dense.specs.declared.info_out.InfoOut.{InfoOut}
 use Rattle.pbf_dense.specs.declared.dense_out.DenseOut.{DenseOut}
 use Rattle.pbf_dense.specs.Info.{InfoSpec}
+use Rattle.pbf_strings.specs.declared.table.TheConstants.{MOST_TEXTS}
 
 -- ---- metadata
 
@@ -118,7 +119,7 @@ pub record NodesHeld (texts : List (List ℕ)) (scale : Scale) (ns : List NodeSp
   pub scaled : AllByRecursion (λ n. n.scale ≡ scale) ns
   pub alike : AreAlike (map (λ n. n.meta) ns)
   pub named : AllByRecursion (λ text. has_text texts text ≡ true) (flat_map node_texts ns)
-  pub few : length (table_of texts) ≤ 1048576
+  pub few : length (table_of texts) ≤ MOST_TEXTS
   pub short : length (dense_message texts ns) < 2 ^ 64
 
 -- ---- as the code has them

@@ -4,6 +4,7 @@ ghost use Rattle.std.specs.Prelude.{◌≡◌, ◌≤◌, ◌^◌};
 ghost use Rattle.pbf_wire.specs.Least.{least};
 ghost use Rattle.pbf_wire.specs.Faults.{found_in};
 ghost use Rattle.pbf_dense.specs.Judged.{goes_with, info_counts, range_faults, info_values};
+ghost use Rattle.pbf_wire.specs.declared.limits.TheConstants.{SUM_LIMIT};
 
 use osm_entity::{STORED_LIMIT, UID_LIMIT};
 use pbf_wire::{
@@ -77,7 +78,7 @@ pub(crate) fn judge_range(message: Message<'_>, number: u64) -> Option<Fault>
 #[derive(Clone, Copy)]
 pub(crate) struct InfoValues {
     pub(crate) limit: u64,
-    ghost limited: { limit ≤ 2 ^ 62 },
+    ghost limited: { limit ≤ SUM_LIMIT },
 }
 
 impl JudgeMessage for InfoValues {

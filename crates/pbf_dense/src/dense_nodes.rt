@@ -10,6 +10,7 @@ ghost use Rattle.osm_entity.specs.Views.{node_of};
 ghost use Rattle.pbf_dense.specs.Cursors.{dense_left};
 ghost use Rattle.pbf_dense.specs.Nodes.{nodes_along};
 ghost use Rattle.pbf_dense.specs.Judged.{coordinate_counts, are_runs, are_tags, texts_named, weight_fault, dense_wire, dense_structure, dense_values, dense_weights, as_stored};
+ghost use Rattle.pbf_wire.specs.declared.limits.TheConstants.{SUM_LIMIT};
 
 use crate::dense::Dense;
 use crate::dense_info::{DENSEINFO_KINDS, InfoStructure, InfoValues, judge_range};
@@ -144,7 +145,7 @@ impl Dense<'_> {
     /// the table has no text for.
     #[tactic(auto, using(crate::proofs::Parts::lesser_parts), unfolding(crate::specs::Judged::dense_values))]
     pub fn judge_values(message: Message<'_>, limit: u64) -> Option<Fault>
-        requires { limit ≤ 2 ^ 62 }
+        requires { limit ≤ SUM_LIMIT }
         ensures { (place : ℕ) → result
             ≡ least (dense_values limit place message.entry.at message.entry.bytes.now) }
     {

@@ -9,6 +9,7 @@ ghost use Rattle.osm_entity.specs.EntityTexts.{tag_texts, node_texts};
 ghost use Rattle.osm_entity.specs.Ranges.{NodeFits};
 ghost use Rattle.osm_entity.specs.Views.{node_of};
 ghost use Rattle.pbf_dense.specs.WrittenDense.{HoldsNodes, run_of, columns_held, dense_message, dense_length};
+ghost use Rattle.pbf_strings.specs.declared.table.TheConstants.{MOST_USED_TEXTS};
 
 use crate::dense_nodes::{DENSEINFO, ID, KEYS_VALS, LAT, LON};
 use crate::info_out::InfoOut;
@@ -36,7 +37,7 @@ fn push_tags<S: BuildHasher>(
     node: &NodeRef<'_>,
     table: &mut TableOut<S>,
 ) -> Result<(), AllocError>
-    requires { length table.old + length (tag_texts (node_of node.now).tags) ≤ 1048575 }
+    requires { length table.old + length (tag_texts (node_of node.now).tags) ≤ MOST_USED_TEXTS }
     ensures texts { OnOk result
         (table.new ≡ texts_after table.old (tag_texts (node_of node.now).tags)) }
     ensures runs { (used : List (List ℕ))
@@ -80,7 +81,7 @@ impl DenseOut {
         table: &mut TableOut<S>,
     ) -> Result<(), AllocError>
         requires fits { NodeFits (node_of node.now) }
-        requires room { length table.old + length (node_texts (node_of node.now)) ≤ 1048575 }
+        requires room { length table.old + length (node_texts (node_of node.now)) ≤ MOST_USED_TEXTS }
         ensures texts { OnOk result
             (table.new ≡ texts_after table.old (node_texts (node_of node.now))) }
         ensures pushed { (ns : List NodeSpec) → HoldsNodes self.old table.old ns

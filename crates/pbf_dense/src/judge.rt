@@ -5,6 +5,7 @@ ghost use Rattle.pbf_wire.specs.Least.{least};
 ghost use Rattle.pbf_wire.specs.Wire.{judged};
 ghost use Rattle.pbf_dense.specs.declared.phase.Phase.TheVariants as phase;
 ghost use Rattle.pbf_dense.specs.Judged.{early_fault, phase_faults, dense_fault};
+ghost use Rattle.pbf_wire.specs.declared.limits.TheConstants.{OFFSET_LIMIT, SUM_LIMIT};
 
 use crate::dense::Dense;
 use crate::phase::Phase;
@@ -17,7 +18,7 @@ use pbf_wire::{Fault, Message, refuse};
 fn early_fault(message: Message<'_>, place: u64, table: &Table<'_>) -> Option<Fault>
     ensures exact { result ≡ early_fault (length table.now) place
         message.entry.at message.entry.bytes.now }
-    ensures few { length table.now ≤ 2 ^ 62 }
+    ensures few { length table.now ≤ SUM_LIMIT }
 {
     let limit = table.len() as u64;
     let wire = Dense::judge_wire(message);
@@ -40,7 +41,7 @@ fn late_fault(
     table: &Table<'_>,
 ) -> Option<Fault>
     requires early { early ≡ early_fault (length table.now) place message.at message.bytes.now }
-    requires few { length table.now ≤ 2 ^ 62 }
+    requires few { length table.now ≤ SUM_LIMIT }
     ensures { result ≡ least (phase_faults phase.Weights place
         message.entry.at table.now message.entry.bytes.now) }
 {
@@ -68,7 +69,7 @@ impl<'a> Dense<'a> {
         phase: Phase,
         table: &Table<'_>,
     ) -> Result<(), Fault>
-        requires placed { at + length message.now ≤ 2 ^ 63 }
+        requires placed { at + length message.now ≤ OFFSET_LIMIT }
         requires tagged { place ≤ at }
         ensures { result ≡ judged (least (phase_faults phase place at table.now message.now)) }
     {
@@ -88,7 +89,7 @@ impl<'a> Dense<'a> {
     /// [`Dense::over`].
     #[tactic(auto, using(crate::proofs::SoundDense::nodes_same))]
     pub fn open(message: &'a [u8], at: u64, table: &'a Table<'a>, scale: Scale) -> Dense<'a>
-        requires placed { at + length message.now ≤ 2 ^ 63 }
+        requires placed { at + length message.now ≤ OFFSET_LIMIT }
         requires sound { IsSound table.now at message.now }
         ensures { dense_left result ≡ nodes table.now scale (fields_in at message.now) }
     {
@@ -104,7 +105,7 @@ impl<'a> Dense<'a> {
         table: &'a Table<'a>,
         scale: Scale,
     ) -> Result<Dense<'a>, Fault>
-        requires placed { at + length message.now ≤ 2 ^ 63 }
+        requires placed { at + length message.now ≤ OFFSET_LIMIT }
         requires tagged { place ≤ at }
         ensures nodes { IfOk result
             (λ dense. dense_left dense ≡ nodes table.now scale (fields_in at message.now)) }

@@ -12,6 +12,7 @@ ghost use Rattle.pbf_header.specs.Header.{HeaderSpec, header_in};
 ghost use Rattle.pbf_header.specs.HeaderFaults.{header_fault, all_header_faults};
 ghost use Rattle.pbf_header.specs.WrittenHeader.{BoxTyped, HeaderFits, header_message, header_out, header_out_for_box, header_out_for_convert};
 ghost use Rattle.pbf_header.specs.declared.write.TheConstants.{MOST_HEADER_TEXT};
+ghost use Rattle.pbf_wire.specs.declared.limits.TheConstants.{RAW_LIMIT};
 
 use osm_entity::BoundingBox;
 
@@ -45,7 +46,7 @@ pub fn written_header_is_read()
         → header_fault at (header_message h) ≡ None }
     ensures short { (h : HeaderSpec) → HeaderFits h
         → text_weight h.source + text_weight h.url ≤ MOST_HEADER_TEXT
-        → length (header_message h) < 33554432 }
+        → length (header_message h) < RAW_LIMIT }
     ensures light_read { (at : ℕ) (h : HeaderSpec) → HeaderFits h
         → text_weight h.source + text_weight h.url ≤ MOST_HEADER_TEXT
         → header_in at (header_message h) ≡ h }

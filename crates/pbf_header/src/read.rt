@@ -8,6 +8,7 @@ ghost use Rattle.pbf_wire.specs.Faults.{fields_in, found_in};
 ghost use Rattle.pbf_wire.specs.Reading.{each};
 ghost use Rattle.pbf_header.specs.Header.{header_of, header_in, text_of, edge, box_in, last_text};
 ghost use Rattle.pbf_header.specs.HeaderFaults.{header_fault};
+ghost use Rattle.pbf_wire.specs.declared.limits.TheConstants.{OFFSET_LIMIT};
 
 use crate::header::{Header, HeaderBox, copied};
 use crate::header_block::{
@@ -97,7 +98,7 @@ impl Header {
     /// box that lacks an edge (`Missing`); of the required features, which have to be known (`Feature`). A refusal comes before
     /// memory is requested.
     pub fn read(alloc: Global, payload: &[u8], at: u64) -> Result<Header, ReadFault>
-        requires { at + length payload.now ≤ 2 ^ 63 }
+        requires { at + length payload.now ≤ OFFSET_LIMIT }
         ensures header { IfOk result (λ header. header_of header ≡ header_in at payload.now) }
         ensures sound { OnOk result (header_fault at payload.now ≡ None) }
         ensures refused { (fault : Fault)

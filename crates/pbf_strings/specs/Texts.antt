@@ -9,6 +9,8 @@ use Rattle.pbf_wire.specs.declared.kind.Kind.TheVariants as kind
 use Rattle.pbf_wire.specs.Occurrence.{Item, items, found}
 use Rattle.pbf_wire.specs.Reading.{bytes_held, each}
 use Rattle.pbf_wire.specs.Wire.{wire}
+use Rattle.pbf_strings.specs.declared.table.TheConstants.{MOST_TEXTS}
+use Rattle.pbf_wire.specs.declared.limits.TheConstants.{RAW_LIMIT}
 
 -- the texts: text i is the i-th occurrence of field 1, from 0
 abbrev pub texts : List ℕ → List (List ℕ)
@@ -28,7 +30,7 @@ table_kinds = (1, kind.Bytes) ∷ []
 
 -- there are too many texts
 abbrev pub count_fault : ℕ → List ℕ → Option Fault
-count_fault place message = if nat_lt 1048576 (length (texts message)) then Some (record { offset = place; reason = TooManyStrings }) else None
+count_fault place message = if nat_lt MOST_TEXTS (length (texts message)) then Some (record { offset = place; reason = TooManyStrings }) else None
 
 -- the first wire fault, otherwise that of the count
 abbrev pub table_fault : ℕ → ℕ → List ℕ → Option Fault
@@ -47,5 +49,5 @@ text_at message place = first_text (items place (drop place message))
 
 -- the message and its texts are no more than a block may have
 pub record IsSmall (message : List ℕ) (places : Vec ℕ) : Type 0 where
-  pub short : length message < 33554432
-  pub few : vec_len places ≤ 1048576
+  pub short : length message < RAW_LIMIT
+  pub few : vec_len places ≤ MOST_TEXTS

@@ -6,13 +6,14 @@ ghost use Rattle.pbf_wire.specs.Occurrence.{items, found};
 ghost use Rattle.pbf_wire.specs.Reading.{each};
 ghost use Rattle.pbf_strings.specs.Texts.{texts, table_fault};
 ghost use Rattle.pbf_strings.specs.TableOut.{has_text, texts_after, index_in, table_of, table_message};
+ghost use Rattle.pbf_strings.specs.declared.table.TheConstants.{MOST_USED_TEXTS};
 
 /// A table that is written is read back: it has the empty text and then the texts that were written, and no fault.
 pub fn written_table_is_read()
     ensures texts { (written : List (List ℕ)) → length (table_message written) < 2 ^ 64
         → texts (table_message written) ≡ table_of written }
     ensures sound { (at place : ℕ) (written : List (List ℕ)) → length (table_message written) < 2 ^ 64
-        → length written ≤ 1048575 → table_fault at place (table_message written) ≡ None }
+        → length written ≤ MOST_USED_TEXTS → table_fault at place (table_message written) ≡ None }
 {}
 
 /// The texts that are written have all texts that are used. A text that is among them has an index in the table, and the

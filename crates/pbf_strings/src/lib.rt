@@ -5,5 +5,5 @@ pub mod laws;
 mod table;
 mod table_out;
 
-pub use table::{MOST_TEXTS, TABLE_KINDS, TEXT, Table, text_count};
+pub use table::{MOST_TEXTS, MOST_USED_TEXTS, TABLE_KINDS, TEXT, Table, text_count};
 pub use table_out::TableOut;

@@ -7,6 +7,7 @@ ghost use Rattle.pbf_wire.specs.declared.fault.ReadFault.TheVariants.{Refused};
 ghost use Rattle.pbf_wire.specs.Occurrence.{items};
 ghost use Rattle.pbf_strings.specs.Texts.{text, texts, longest, first_text, text_at, count_fault, table_fault};
 ghost use Rattle.pbf_wire.specs.Wire.{judged};
+ghost use Rattle.pbf_wire.specs.declared.limits.TheConstants.{OFFSET_LIMIT, RAW_LIMIT};
 
 use pbf_wire::{Fault, Fields, Kind, Payload, ReadFault, Reason, judge_wire};
 use std::alloc::{AllocError, Global};
@@ -21,9 +22,12 @@ pub const TABLE_KINDS: [(u64, Kind); 1] = [(TEXT, Kind::Bytes)];
 /// The most texts of a table.
 pub const MOST_TEXTS: usize = 1_048_576;
 
+/// The most texts that a table is written of: the empty one comes before them.
+pub const MOST_USED_TEXTS: usize = 1_048_575;
+
 /// The text that the first field holds.
 fn first_text(fields: &[u8], at: u64) -> &[u8]
-    requires { at + length fields.now ≤ 2 ^ 63 }
+    requires { at + length fields.now ≤ OFFSET_LIMIT }
     ensures { result.now ≡ first_text (items at fields.now) }
 {
     match Fields::new(fields, at).next() {
@@ -51,7 +55,7 @@ fn short_text(fields: &[u8]) -> Option<&[u8]>
 
 /// The text that the first field holds, whatever it is.
 fn text_of(fields: &[u8], at: u64) -> &[u8]
-    requires { at + length fields.now ≤ 2 ^ 63 }
+    requires { at + length fields.now ≤ OFFSET_LIMIT }
     ensures { result.now ≡ first_text (items at fields.now) }
 {
     match short_text(fields) {
@@ -63,7 +67,7 @@ fn text_of(fields: &[u8], at: u64) -> &[u8]
 /// The text of the field that begins at `place`.
 #[tactic(auto, using(crate::proofs::TextsLemmas::no_text), unfolding(crate::specs::Texts::text_at))]
 fn text_at(message: &[u8], place: usize) -> &[u8]
-    requires { place + length message.now ≤ 2 ^ 63 }
+    requires { place + length message.now ≤ OFFSET_LIMIT }
     ensures { result.now ≡ text_at message.now place }
 {
     match message.get(place..) {
@@ -74,7 +78,7 @@ fn text_at(message: &[u8], place: usize) -> &[u8]
 
 /// How many texts a StringTable has; if it has a wire fault, how many come before that.
 pub fn text_count(message: &[u8]) -> usize
-    requires { length message.now ≤ 2 ^ 63 }
+    requires { length message.now ≤ OFFSET_LIMIT }
     ensures { result ≡ length (texts message.now) }
 {
     let mut count = 0;
@@ -91,7 +95,7 @@ pub fn text_count(message: &[u8]) -> usize
 /// Whether there are more than [`MOST_TEXTS`]. A message of no more bytes is not gone through: each text takes some.
 #[tactic(auto, using(crate::proofs::TextsLemmas::texts_few))]
 fn are_too_many(message: &[u8]) -> bool
-    requires { length message.now ≤ 2 ^ 63 }
+    requires { length message.now ≤ OFFSET_LIMIT }
     ensures { result ≡ nat_lt MOST_TEXTS (length (texts message.now)) }
 {
     message.len() > MOST_TEXTS && text_count(message) > MOST_TEXTS
@@ -99,7 +103,7 @@ fn are_too_many(message: &[u8]) -> bool
 
 /// Where each text of a StringTable is in the message, and the length of the longest.
 fn places(alloc: Global, message: &[u8]) -> Result<(Vec<u32>, usize), AllocError>
-    requires { length message.now < 33554432 }
+    requires { length message.now < RAW_LIMIT }
     ensures exact { IfOk result (λ found. map (text_at message.now) found.0.items
         ≡ texts message.now) }
     ensures longest { IfOk result (λ found. found.1 ≡ longest (texts message.now)) }
@@ -142,7 +146,7 @@ impl<'a> Table<'a> {
     /// Judges only the count of the texts: `TooManyStrings` at `place`, that of the table's field in the file, if there
     /// are more than [`MOST_TEXTS`]. Does not allocate.
     pub fn judge_count(message: &[u8], place: u64) -> Result<(), Fault>
-        requires { length message.now ≤ 2 ^ 63 }
+        requires { length message.now ≤ OFFSET_LIMIT }
         ensures { result ≡ judged (count_fault place message.now) }
     {
         if are_too_many(message) {
@@ -164,9 +168,9 @@ impl<'a> Table<'a> {
         at: u64,
         place: u64,
     ) -> Result<Table<'a>, ReadFault>
-        requires placed { at + length message.now ≤ 2 ^ 63 }
+        requires placed { at + length message.now ≤ OFFSET_LIMIT }
         requires tagged { place ≤ at }
-        requires short { length message.now < 33554432 }
+        requires short { length message.now < RAW_LIMIT }
         ensures texts { IfOk result (λ table. table ≡ texts message.now) }
         ensures sound { OnOk result (table_fault at place message.now ≡ None) }
         ensures refused { (fault : Fault)
@@ -180,7 +184,7 @@ impl<'a> Table<'a> {
     /// The texts of a StringTable that was judged to have no more than [`MOST_TEXTS`]. Judges nothing: if the message has a
     /// wire fault, its texts before that count.
     pub fn open(alloc: Global, message: &'a [u8]) -> Result<Table<'a>, AllocError>
-        requires short { length message.now < 33554432 }
+        requires short { length message.now < RAW_LIMIT }
         requires few { length (texts message.now) ≤ MOST_TEXTS }
         ensures { IfOk result (λ table. table ≡ texts message.now) }
     {

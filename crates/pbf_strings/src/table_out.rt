@@ -5,6 +5,7 @@ ghost use Rattle.std.specs.List.{sum_by};
 ghost use Rattle.std.specs.Option.{option_map, option_to_list};
 ghost use Rattle.pbf_wire.specs.Message.{Each, slot_bytes};
 ghost use Rattle.pbf_strings.specs.TableOut.{has_text, with_text, texts_after, index_in, text_held, table_of, table_message};
+ghost use Rattle.pbf_strings.specs.declared.table.TheConstants.{MOST_USED_TEXTS};
 
 use crate::table::TEXT;
 use indexmap::IndexSet;
@@ -96,7 +97,7 @@ impl<S: BuildHasher> TableOut<S> {
 
     /// The index of a text by its slot, `None` if another text is there.
     fn recent_index(&self, slot: usize, text: &[u8]) -> Option<u32>
-        requires room { length self.now < 1048575 }
+        requires room { length self.now < MOST_USED_TEXTS }
         requires slot { slot < SLOTS }
         ensures { IfSome result
             (λ index. (has_text self.now text.now ≡ true) × (index ≡ index_in self.now text.now)) }
@@ -112,7 +113,7 @@ impl<S: BuildHasher> TableOut<S> {
 
     /// Like [`TableOut::index_of`], by the hash of the text.
     fn index_by_hash(&mut self, text: &[u8]) -> Result<u32, AllocError>
-        requires { length self.old < 1048575 }
+        requires { length self.old < MOST_USED_TEXTS }
         ensures texts { OnOk result (self.new ≡ with_text self.old text.now) }
         ensures index { IfOk result (λ index. index ≡ index_in self.new text.now) }
         ensures named { IfOk result (λ index. slice_get (table_of self.new) index ≡ Some text.now) }
@@ -132,7 +133,7 @@ impl<S: BuildHasher> TableOut<S> {
     /// The index of a text in the written table, from 1 in order of first use; a new text is added after the others. For a text that
     /// is there it does not allocate. An `Err` leaves the texts as they were.
     pub fn index_of(&mut self, text: &[u8]) -> Result<u32, AllocError>
-        requires { length self.old < 1048575 }
+        requires { length self.old < MOST_USED_TEXTS }
         ensures texts { OnOk result (self.new ≡ with_text self.old text.now) }
         ensures index { IfOk result (λ index. index ≡ index_in self.new text.now) }
         ensures named { IfOk result (λ index. slice_get (table_of self.new) index ≡ Some text.now) }
@@ -151,7 +152,7 @@ impl<S: BuildHasher> TableOut<S> {
     /// The index of a text, if there is one, as [`TableOut::index_of`] gives it. It stays, whatever texts are used later.
     pub fn index_if_some(&mut self, text: Option<&[u8]>) -> Result<Option<u32>, AllocError>
         requires { length self.old + length (option_to_list (option_map (λ text. text.now) text))
-            ≤ 1048575 }
+            ≤ MOST_USED_TEXTS }
         ensures texts { OnOk result (self.new
             ≡ texts_after self.old (option_to_list (option_map (λ text. text.now) text.entry))) }
         ensures index { (used : List (List ℕ))

@@ -4,6 +4,7 @@ use Rattle.std.specs.List.{AllByRecursion}
 use Rattle.pbf_wire.specs.Signed.{unzigzag, IsWithin}
 use Rattle.pbf_wire.specs.Sums.{sums_from, deltas}
 use Rattle.pbf_wire.specs.Columns.{entries, read_entries, packed}
+use Rattle.pbf_wire.specs.declared.limits.TheConstants.{SUM_LIMIT}
 
 -- the bytes are the packed column of these numbers
 pub record IsPacked (bytes : List ℕ) (numbers : List ℕ) : Type 0 where
@@ -23,7 +24,7 @@ last_from start (v ∷ vs) = last_from v vs
 pub record HoldsDeltas (bytes : List ℕ) (last : ℤ) (values : List ℤ) : Type 0 where
   pub bytes_are : bytes ≡ packed (deltas values)
   pub last_is : last ≡ last_from (pos 0) values
-  pub within : AllByRecursion (IsWithin (pos (2 ^ 62))) values
+  pub within : AllByRecursion (IsWithin (pos SUM_LIMIT)) values
 
 -- the values that the bytes hold
 abbrev pub values_of : List ℕ → List ℤ

@@ -2,6 +2,7 @@
 
 ghost use Rattle.std.specs.Prelude.{◌≡◌, ◌<◌, ◌^◌, ◌∷◌, [], MatchOption, ⊤, IsTrue, false};
 ghost use Rattle.pbf_wire.specs.Columns.{entries, read_entries};
+ghost use Rattle.pbf_wire.specs.declared.limits.TheConstants.{OFFSET_LIMIT};
 
 use crate::field::Payload;
 use crate::fields::{Fields, FoundFields};
@@ -52,7 +53,7 @@ impl<'a> Column<'a> {
     /// The column that the field of this number is, in a message whose first byte is at `at` in the file.
     #[tactic(auto, unfolding(crate::specs::Cursors::column_left))]
     pub fn new(message: &'a [u8], at: u64, number: u64) -> Self
-        requires { at + length message.now ≤ 2 ^ 63 }
+        requires { at + length message.now ≤ OFFSET_LIMIT }
         ensures left { column_left result ≡ joined number (found (items at message.now)) }
         ensures place { place_of result ≡ at }
     {

@@ -4,6 +4,7 @@ ghost use Rattle.std.specs.Prelude.{◌≡◌, ◌∷◌, ◌++◌, ◌^◌, [],
 ghost use Rattle.pbf_wire.specs.Columns.{packed};
 ghost use Rattle.pbf_wire.specs.Signed.{IsWithin};
 ghost use Rattle.pbf_wire.specs.Sums.{deltas};
+ghost use Rattle.pbf_wire.specs.declared.limits.TheConstants.{SUM_LIMIT};
 
 use crate::signed::zigzag;
 use crate::varint::put_varint;
@@ -52,7 +53,7 @@ impl DeltaOut {
 
     /// Adds a value at the end: its difference to the value before, of the first to 0. An `Err` leaves the column as it was.
     pub fn push(&mut self, value: i64) -> Result<(), AllocError>
-        requires { IsWithin (pos (2 ^ 62)) value }
+        requires { IsWithin (pos SUM_LIMIT) value }
         ensures ok { OnOk result (self.new ≡ self.old ++ value ∷ []) }
         ensures err { OnErr result (self.new ≡ self.old) }
     {

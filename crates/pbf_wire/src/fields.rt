@@ -4,6 +4,7 @@ ghost use Rattle.std.specs.Prelude.{◌≡◌, ◌==◌, ◌+◌, ◌≤◌, ◌
 ghost use Rattle.pbf_wire.specs.Occurrence.{body_at, occurrence_at};
 ghost use Rattle.pbf_wire.specs.Payload.{content, end_of};
 ghost use Rattle.pbf_wire.specs.Fields.{occurrence, seen};
+ghost use Rattle.pbf_wire.specs.declared.limits.TheConstants.{OFFSET_LIMIT};
 
 use crate::fault::{Fault, Reason};
 use crate::field::{Field, Payload};
@@ -26,10 +27,10 @@ fn fixed_size(kind: u64) -> usize
 #[inline(always)]
 #[tactic(auto, unfolding(crate::specs::Occurrence::body_at))]
 fn payload_at(bytes: &[u8], kind: u64, at: u64) -> Result<(Payload<'_>, usize), Reason>
-    requires { at + length bytes.now ≤ 2 ^ 63 }
+    requires { at + length bytes.now ≤ OFFSET_LIMIT }
     ensures exact { seen content result ≡ body_at kind at bytes.now }
     ensures taken { IfOk result (λ found. (found.1 ≤ length bytes.now)
-        × (end_of found.0 ≤ 2 ^ 63)) }
+        × (end_of found.0 ≤ OFFSET_LIMIT)) }
 {
     match kind {
         0 => {
@@ -62,7 +63,7 @@ fn payload_at(bytes: &[u8], kind: u64, at: u64) -> Result<(Payload<'_>, usize), 
 #[inline(always)]
 #[tactic(auto, unfolding(crate::specs::Occurrence::occurrence_at))]
 fn field_at(bytes: &[u8], place: u64) -> Result<(Field<'_>, usize), Reason>
-    requires { place + length bytes.now ≤ 2 ^ 63 }
+    requires { place + length bytes.now ≤ OFFSET_LIMIT }
     ensures exact { seen occurrence result ≡ occurrence_at place bytes.now }
     ensures taken { IfOk result (λ found. (0 < found.1) × (found.1 ≤ length bytes.now)) }
 {
@@ -91,7 +92,7 @@ fn field_at(bytes: &[u8], place: u64) -> Result<(Field<'_>, usize), Reason>
 pub struct Fields<'a> {
     rest: &'a [u8],
     at: u64,
-    ghost fits: { at + length rest.now ≤ 2 ^ 63 },
+    ghost fits: { at + length rest.now ≤ OFFSET_LIMIT },
 }
 
 impl<'a> Fields<'a> {
@@ -104,7 +105,7 @@ impl<'a> Fields<'a> {
     /// The fields of a message whose first byte is at `at` in the file.
     #[tactic(auto, unfolding(crate::specs::Cursors::fields_left))]
     pub fn new(message: &'a [u8], at: u64) -> Self
-        requires { at + length message.now ≤ 2 ^ 63 }
+        requires { at + length message.now ≤ OFFSET_LIMIT }
         ensures { fields_left result ≡ items at message.now }
     {
         Fields { rest: message, at }

@@ -7,6 +7,7 @@ ghost use Rattle.pbf_wire.specs.Columns.{entries, entry_fault};
 ghost use Rattle.pbf_wire.specs.Least.{least};
 ghost use Rattle.pbf_wire.specs.Wire.{kind_of, reason_in, wire, judged};
 ghost use Rattle.pbf_wire.specs.Faults.{message_faults, leaf_faults, nested_faults};
+ghost use Rattle.pbf_wire.specs.declared.limits.TheConstants.{OFFSET_LIMIT};
 
 use crate::fault::{Fault, Reason};
 use crate::field::{Field, Payload};
@@ -123,7 +124,7 @@ pub fn judge_leaf(message: Message<'_>, kinds: &[(u64, Kind)]) -> Option<Fault>
 /// numbers; others may have any wire type. Embedded messages are not entered. Reads all bytes once and does not allocate.
 #[inline(always)]
 pub fn judge_wire(message: &[u8], at: u64, kinds: &[(u64, Kind)]) -> Result<(), Fault>
-    requires { at + length message.now ≤ 2 ^ 63 }
+    requires { at + length message.now ≤ OFFSET_LIMIT }
     ensures { result ≡ judged (wire kinds.now (items at message.now)) }
 {
     let message = Message { bytes: message, at };

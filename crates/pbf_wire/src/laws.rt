@@ -20,6 +20,7 @@ ghost use Rattle.pbf_wire.specs.Signed.{zigzag, unzigzag, low_i32, low_i64, sign
 ghost use Rattle.pbf_wire.specs.Sums.{sums, sums_from, sums_within, deltas};
 ghost use Rattle.pbf_wire.specs.Writing.{occurrences_of};
 ghost use Rattle.pbf_wire.specs.Message.{Slot, parts_of, message, SlotFits, SlotIs, SlotBelow, numbers_at, scalars_at, messages_at};
+ghost use Rattle.pbf_wire.specs.declared.limits.TheConstants.{SUM_LIMIT};
 
 /// No spelling of a varint begins another.
 pub fn varints_are_prefix_free()
@@ -83,7 +84,7 @@ pub fn sums_undo_differences()
     ensures values { (values : List ℤ) → sums (map unzigzag (deltas values)) ≡ values }
     ensures within { (limit : ℤ) (entries : List ℤ) → AllByRecursion (IsWithin limit) (sums entries)
         → sums_within limit (pos 0) entries ≡ sums entries }
-    ensures fit { (values : List ℤ) → AllByRecursion (IsWithin (pos (2 ^ 62))) values
+    ensures fit { (values : List ℤ) → AllByRecursion (IsWithin (pos SUM_LIMIT)) values
         → AllByRecursion (λ n. n < 2 ^ 64) (deltas values) }
 {}
 

@@ -17,6 +17,7 @@ mod judge;
 mod kind;
 pub mod laws;
 mod least;
+mod limits;
 mod message;
 mod reading;
 mod short;
@@ -39,6 +40,7 @@ pub use form::{judge_form, judge_leaf, judge_nested, judge_payload, judge_wire, 
 pub use judge::{EachField, InField, Judge, JudgeMessage, fault_where, judge_fields, refuse};
 pub use kind::Kind;
 pub use least::{comes_before, lesser};
+pub use limits::{OFFSET_LIMIT, RAW_LIMIT, STORED_LIMIT, SUM_LIMIT};
 pub use message::Message;
 pub use reading::{last_field, last_number, last_value_left};
 pub use short::is_short;

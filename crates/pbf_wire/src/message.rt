@@ -1,6 +1,7 @@
 //! A message, and where it is.
 
 ghost use Rattle.std.specs.Prelude.{◌+◌, ◌≤◌, ◌^◌, length};
+ghost use Rattle.pbf_wire.specs.declared.limits.TheConstants.{OFFSET_LIMIT};
 
 use crate::column::Column;
 use crate::field::{Field, Payload};
@@ -12,7 +13,7 @@ use crate::fields::{Fields, FoundFields};
 pub struct Message<'a> {
     pub bytes: &'a [u8],
     pub at: u64,
-    ghost fits: { at + length bytes.now ≤ 2 ^ 63 },
+    ghost fits: { at + length bytes.now ≤ OFFSET_LIMIT },
 }
 
 impl<'a> Message<'a> {

@@ -3,9 +3,11 @@
 ghost use Rattle.std.specs.Prelude.{◌≡◌, ◌<◌, ◌≤ℤ◌, ◌+ℤ◌, ◌^◌, pos};
 ghost use Rattle.pbf_wire.specs.Signed.{IsWithin, delta_in};
 ghost use Rattle.pbf_wire.specs.Sums.{HasRoom};
+ghost use Rattle.pbf_wire.specs.declared.limits.TheConstants.{SUM_LIMIT};
 
 use crate::column::Column;
 use crate::fields::Fields;
+use crate::limits::STORED_LIMIT;
 use crate::signed::{low_sint32, unzigzag};
 use crate::sum::added;
 
@@ -206,9 +208,9 @@ impl<'a> Sums<'a> {
     pub fn count_small(&self) -> Option<usize>
         ensures counted { MatchOption result ⊤ (λ count. count ≡ length (sums_left self.now)) }
         ensures within { MatchOption result ⊤
-            (λ _. AllByRecursion (IsWithin (pos (2 ^ 62))) (sums_left self.now)) }
+            (λ _. AllByRecursion (IsWithin (pos SUM_LIMIT)) (sums_left self.now)) }
     {
-        if self.narrow || self.total != 0 || self.limit != 1 << 62 {
+        if self.narrow || self.total != 0 || self.limit != STORED_LIMIT {
             return None;
         }
         self.entries.count_small()

@@ -11,12 +11,14 @@ ghost use Rattle.pbf_wire.specs.Columns.{joined};
 ghost use Rattle.pbf_wire.specs.Least.{least};
 ghost use Rattle.pbf_wire.specs.Signed.{delta_in};
 ghost use Rattle.pbf_wire.specs.Faults.{found_in, below_fault, range_fault, is_allowed, faults_of_sums, sum_faults, index_sum_faults};
+ghost use Rattle.pbf_wire.specs.declared.limits.TheConstants.{SUM_LIMIT};
 
 use crate::column::Column;
 use crate::fault::{Fault, Reason};
 use crate::fields::Fields;
 use crate::judge::fault_where;
 use crate::least::lesser;
+use crate::limits::{STORED_LIMIT, SUM_LIMIT};
 use crate::message::Message;
 use crate::short::{MOST_BYTES, count_small_left};
 use crate::signed::low_u32;
@@ -67,7 +69,7 @@ pub fn judge_range(place: u64, number: i64, limit: u64) -> Option<Fault>
 /// between -2^62 and 2^62. No sum is made.
 #[tactic(auto, using(crate::proofs::ShortLemmas::small_sums))]
 fn has_small_sums(fields: Fields<'_>, number: u64) -> bool
-    ensures { IsTrue result → sum_faults (pos (2 ^ 62)) false
+    ensures { IsTrue result → sum_faults (pos SUM_LIMIT) false
         (joined number (found (fields_left fields.entry))) ≡ [] }
 {
     fields.len() <= MOST_BYTES && count_small_left(fields, number).is_some()
@@ -76,7 +78,7 @@ fn has_small_sums(fields: Fields<'_>, number: u64) -> bool
 /// Adds the entry that a number of a column means to the sum of those before it, and returns whether that is a good value: strictly
 /// between `-limit` and `limit` and, if it is not `signed`, not below 0.
 fn add_entry(sum: &mut Sum, narrow: bool, number: u64, limit: u64, signed: bool) -> bool
-    requires { (limit ≤ 2 ^ 62) × (sum.old.limit ≡ pos (2 ^ 62)) }
+    requires { (limit ≤ SUM_LIMIT) × (sum.old.limit ≡ pos SUM_LIMIT) }
     ensures good { result ≡ is_allowed signed limit (sum.old.total +ℤ delta_in narrow number) }
     ensures total { IsTrue result → sum.new.total ≡ sum.old.total +ℤ delta_in narrow number }
     ensures limit { sum.new.limit ≡ sum.old.limit }
@@ -98,12 +100,12 @@ fn judge_values(
     signed: bool,
     reason: Reason,
 ) -> Option<Fault>
-    requires { limit ≤ 2 ^ 62 }
+    requires { limit ≤ SUM_LIMIT }
     ensures { result ≡ least (faults_of_sums (is_allowed signed limit) reason narrow
         (joined number (found (fields_left fields.entry)))) }
 {
     let mut column = Column::over(fields, number);
-    let mut sum = Sum::new(1 << 62);
+    let mut sum = Sum::new(STORED_LIMIT);
     while let Some(entry) = column.next() {
         if !add_entry(&mut sum, narrow, entry, limit, signed) {
             return Some(Fault {
@@ -118,11 +120,11 @@ fn judge_values(
 
 /// Like [`judge_sums_left`], if there are fields.
 fn judge_sums_of(fields: Fields<'_>, number: u64, limit: u64, narrow: bool) -> Option<Fault>
-    requires { (1 ≤ limit) × (limit ≤ 2 ^ 62) }
+    requires { (1 ≤ limit) × (limit ≤ SUM_LIMIT) }
     ensures { result
         ≡ least (sum_faults (pos limit) narrow (joined number (found (fields_left fields.entry)))) }
 {
-    if limit == 1 << 62 && !narrow && has_small_sums(fields, number) {
+    if limit == SUM_LIMIT && !narrow && has_small_sums(fields, number) {
         return None;
     }
     judge_values(fields, number, limit, narrow, true, Reason::OutOfRange)
@@ -133,7 +135,7 @@ fn judge_sums_of(fields: Fields<'_>, number: u64, limit: u64, narrow: bool) -> O
 /// value.
 #[inline(always)]
 pub fn judge_sums_left(fields: Fields<'_>, number: u64, limit: u64, narrow: bool) -> Option<Fault>
-    requires { (1 ≤ limit) × (limit ≤ 2 ^ 62) }
+    requires { (1 ≤ limit) × (limit ≤ SUM_LIMIT) }
     ensures { result
         ≡ least (sum_faults (pos limit) narrow (joined number (found (fields_left fields.entry)))) }
 {
@@ -146,7 +148,7 @@ pub fn judge_sums_left(fields: Fields<'_>, number: u64, limit: u64, narrow: bool
 
 /// Like [`judge_sums_left`], of all of a message.
 pub fn judge_sums(message: Message<'_>, number: u64, limit: u64, narrow: bool) -> Option<Fault>
-    requires { (1 ≤ limit) × (limit ≤ 2 ^ 62) }
+    requires { (1 ≤ limit) × (limit ≤ SUM_LIMIT) }
     ensures { result
         ≡ least (sum_faults (pos limit) narrow (joined number (found_in message.entry))) }
 {
@@ -156,7 +158,7 @@ pub fn judge_sums(message: Message<'_>, number: u64, limit: u64, narrow: bool) -
 /// The least fault of the values of a narrow column of differences that are indexes: `StringIndex` if one is below 0 or
 /// not below `limit`, the length of a table. Reads up to the first such value.
 pub fn judge_index_sums(message: Message<'_>, number: u64, limit: u64) -> Option<Fault>
-    requires { limit ≤ 2 ^ 62 }
+    requires { limit ≤ SUM_LIMIT }
     ensures { result ≡ least (index_sum_faults limit (joined number (found_in message.entry))) }
 {
     let fields = message.fields();

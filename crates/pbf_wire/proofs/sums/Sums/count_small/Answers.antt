@@ -10,7 +10,7 @@ returns c =
     let total_fits : SFits w64 values.total = search rules in
     let limit_fits : SFits w64 values.limit = search rules in
     let none : values.total ≡ pos 0 = sym (to_z-of_z w64 values.total total_fits) ∙ ap (to_z w64) c.if-self-ne0.false in
-    let whole : values.limit ≡ pos (2 ^ 62) = sym (to_z-of_z w64 values.limit limit_fits) ∙ ap (to_z w64) c.if-self-2.false in
+    let whole : values.limit ≡ pos (2 ^ 62) = sym (to_z-of_z w64 values.limit limit_fits) ∙ ap (to_z w64) c.if-self-ne-STORED_LIMIT.false in
     record {
       counted = values_counted values c.if-self.false none whole c.count_small.result c.count_small.ensures.counted c.count_small.ensures.small;
       within = values_within values c.if-self.false none whole c.count_small.result c.count_small.ensures.counted c.count_small.ensures.small;
