@@ -5,7 +5,7 @@ ghost use Rattle.byteorder.specs.Endian.{big_number};
 ghost use Rattle.pbf_wire.specs.Least.{least};
 ghost use Rattle.pbf_frame.specs.Devices.{IsAtEnd, Passes, given_prefix, prepend};
 ghost use Rattle.pbf_wire.specs.Faults.{fault};
-ghost use Rattle.pbf_frame.specs.Frames.{order_faults, next_of};
+ghost use Rattle.pbf_frame.specs.Frames.{FILE_LIMIT, order_faults, next_of};
 ghost use Rattle.pbf_frame.specs.declared.header.TheConstants.{LARGEST_SIZE};
 ghost use Rattle.pbf_frame.specs.Reads.{Gives, IsReaderStop, IsFillStop, Reads, Skips, GaveBlob, GaveFrame, GaveEnd, IsPlaced};
 ghost use Rattle.pbf_frame.specs.Refusals.{RefusedBy};
@@ -119,7 +119,7 @@ fn read_bytes<F: Feed>(feed: &mut F, buf: &mut Vec<u8>, count: u32, cut: Fault) 
 // Whether a frame of this kind may be here and end here.
 #[tactic(auto, using(crate::proofs::Parts::lesser_parts))]
 fn judge_order(had_header: bool, place: u64, kind: FrameKind, end: u64) -> Option<Fault>
-    ensures { result ≡ least (order_faults had_header place kind end) }
+    ensures { result ≡ least (order_faults (Some FILE_LIMIT) had_header place kind end) }
 {
     let second = had_header && kind == FrameKind::Header;
     let first = !had_header && kind == FrameKind::Data;
@@ -159,7 +159,7 @@ fn read_header<F: Feed>(
         (Passes (F.has_passed feed.old) header.new.items (F.has_passed feed.new)) }
     ensures spelled { OnOk result (length header.new.items ≡ big_number 4 prefix.now) }
     ensures ordered { IfOk result (λ head.
-        least (order_faults had_header place head.kind (place + 4 + length header.new.items
+        least (order_faults (Some FILE_LIMIT) had_header place head.kind (place + 4 + length header.new.items
         + head.size)) ≡ None) }
     ensures counts { F.failures feed.old ≤ F.failures feed.new }
     ensures stops { IfErr result (IsReaderStop (F.failures feed.old) (F.failures feed.new)) }
