@@ -30,9 +30,9 @@ judged_within limit had_header place bytes = judged_fueled limit (length bytes +
 abbrev pub judged : Bool → ℕ → List ℕ → Verdict
 judged = judged_within (Some FILE_LIMIT)
 
--- the same of bytes that may not be known
+-- the same of a file's bytes that may not be known
 abbrev pub judged_known : Bool → ℕ → Option (List ℕ) → Option Verdict
-judged_known had_header place known = option_map (judged had_header place) known
+judged_known had_header place known = option_map (judged_within (Some FILE_LIMIT) had_header place) known
 
 abbrev pub with_first_known : FrameSpec → Option Verdict → Option Verdict
 with_first_known f known = option_map (with_first f) known

@@ -35,7 +35,7 @@ use Rattle.osm_pack.proofs.CutLemmas.{kept_bounds}
 use Rattle.osm_pack.proofs.OpenLemmas.{alone}
 use Rattle.pbf_pass.specs.HeaderLimit.{header_limit, with_limit, limited}
 use Rattle.pbf_pass.specs.Counting.{entities_in, frame_entities, stored_entities}
-use Rattle.pbfcut.specs.Kept.{verdict_within, header_read, entities_read}
+use Rattle.pbfcut.specs.Kept.{verdict_within, header_read}
 use Rattle.pbf_pass.specs.Judged.{fault_in, payload_fault, sound_first, sound_front, fully}
 use Rattle.pbf_pass.specs.Pass.{headers_in, frame_headers, file_header}
 use Rattle.pbf_pass.specs.Payload.{header_block, payload_as}
@@ -241,9 +241,9 @@ module _ (h : HeaderSpec) (es : List EntitySpec) (fits : HeaderFits (header_out_
   pub written_is_file : IsFileOf (verdict_within None (written_file h es)) (header_out_for_convert h) es
   written_is_file = record { frames = file_frames; verdict = file_limited; place = frame_payload_at first; placed = file_placed; entities = file_stored }
 
-  pub file_read : ((verdict_within None (written_file h es)).1 ≡ None) × (header_read (verdict_within None (written_file h es)) ≡ Some (header_out_for_convert h)) × (entities_read (verdict_within None (written_file h es)) ≡ es)
+  pub file_read : ((verdict_within None (written_file h es)).1 ≡ None) × (header_read (verdict_within None (written_file h es)) ≡ Some (header_out_for_convert h)) × (stored_entities (verdict_within None (written_file h es)).0 ≡ es)
   file_read = (
     ap (λ (v : Verdict). v.1) file_limited,
     ap header_read file_limited ∙ ap (λ (o : Option (ℕ × HeaderSpec)). option_map (λ p. p.1) o) file_placed,
-    ap entities_read file_limited ∙ file_stored,
+    ap (λ (v : Verdict). stored_entities v.0) file_limited ∙ file_stored,
   )

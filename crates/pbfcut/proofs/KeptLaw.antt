@@ -36,7 +36,7 @@ use Rattle.pbf_pass.specs.HeaderLimit.{header_limit, is_short, with_limit, limit
 use Rattle.pbf_pass.specs.Counting.{entities_in, frame_entities, stored_entities}
 use Rattle.pbfcut.specs.Extracting.{Choice, complete_ways, all_parents, extraction, extract_bytes}
 use Rattle.pbf_pass.specs.Judged.{fault_in, payload_fault, sound_first, sound_front, fully}
-use Rattle.pbfcut.specs.Kept.{verdict_within, verdict_on, IsWritable, header_read, entities_read, conversion_of, extract_of}
+use Rattle.pbfcut.specs.Kept.{verdict_within, verdict_on, IsWritable, header_read, conversion_of, extract_of}
 use Rattle.pbfcut.specs.Theorem.{IsConversion, IsExtract}
 use Rattle.pbf_pass.specs.Pass.{headers_in, frame_headers, file_header}
 use Rattle.pbf_pass.specs.Payload.{Payload, header_block, primitive_block, unknown, payload_of}
@@ -166,8 +166,8 @@ module _ (read : Verdict) (h : HeaderSpec) (es : List EntitySpec) (is : IsFileOf
   header_is : header_read read ≡ Some h
   header_is = ap header_read is.verdict ∙ ap (λ (o : Option Placed). option_map (λ p. p.1) o) is.placed
 
-  entities_are : entities_read read ≡ es
-  entities_are = ap entities_read is.verdict ∙ is.entities
+  entities_are : stored_entities read.0 ≡ es
+  entities_are = ap (λ (v : Verdict). stored_entities v.0) is.verdict ∙ is.entities
 
   converted_is : answer_bytes read ≡ written_file h es
   converted_is =
@@ -264,7 +264,7 @@ module _ (choose : Choice) (select : List Decoded → List Decoded) (selection :
         extract = record {
           sound = is_sound written out kept again;
           header = header_is written out kept again ∙ sym (ap (λ (o : Option HeaderSpec). option_map (header_out_for_box area) o) (header_is read h es is));
-          meaning = ap (λ (l : List EntitySpec). map entity.decoded l) entities ∙ selection.meaning (entities_read read);
+          meaning = ap (λ (l : List EntitySpec). map entity.decoded l) entities ∙ selection.meaning (stored_entities read.0);
           entities = entities;
         };
         again = extracted_is written out kept again choose area ∙ (ap (λ (g : HeaderSpec). written_file g (choose kept)) once ∙ ap (λ (l : List EntitySpec). written_file out l) (selection.twice es));

@@ -3,7 +3,7 @@ use Rattle.std.specs.Prelude.{◌≡◌, ℕ, false, List, map, Option, Some, No
 use Rattle.std.specs.Option.{option_map}
 use Rattle.osm_box.specs.declared.bounding_box.BoundingBox.{BoundingBox}
 use Rattle.osm_entity.specs.Entity as entity
-use Rattle.osm_entity.specs.Entity.{EntitySpec, Decoded}
+use Rattle.osm_entity.specs.Entity.{Decoded}
 use Rattle.pbf_header.specs.Header.{HeaderSpec}
 use Rattle.pbf_frame.specs.Frames.{FILE_LIMIT}
 use Rattle.pbf_frame.specs.Verdict.{Verdict, judged_within}
@@ -31,13 +31,9 @@ IsWritable file = (verdict_on file).1 ≡ None
 abbrev pub header_read : Verdict → Option HeaderSpec
 header_read verdict = option_map (λ p. p.1) (file_header verdict.0)
 
--- the entities as they are stored: their numbers, and the scale that says what these mean
-abbrev pub entities_read : Verdict → List EntitySpec
-entities_read verdict = stored_entities verdict.0
-
 -- what the entities mean: places in nanodegrees and times in milliseconds
 abbrev pub meaning_read : Verdict → List Decoded
-meaning_read verdict = map entity.decoded (entities_read verdict)
+meaning_read verdict = map entity.decoded (stored_entities verdict.0)
 
 -- ---- what is written for a file
 

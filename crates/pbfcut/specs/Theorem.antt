@@ -12,11 +12,11 @@ use Rattle.pbf_frame.specs.declared.stop.Stop.TheVariants.{Refused}
 use Rattle.pbf_frame.specs.Devices.{IsFront}
 use Rattle.pbf_frame.specs.Verdict.{Verdict}
 use Rattle.pbf_header.specs.WrittenHeader.{header_out_for_box, header_out_for_convert}
-use Rattle.pbf_pass.specs.Counting.{counts_of}
+use Rattle.pbf_pass.specs.Counting.{counts_of, stored_entities}
 use Rattle.pbfcut.specs.Converting.{answer_bytes}
 use Rattle.pbfcut.specs.Extracting.{Choice, extract_bytes}
 use Rattle.pbf_pass.specs.Given.{Took}
-use Rattle.pbfcut.specs.Kept.{verdict_within, verdict_on, IsWritable, header_read, entities_read, meaning_read}
+use Rattle.pbfcut.specs.Kept.{verdict_within, verdict_on, header_read, meaning_read}
 
 -- ---- the promise of a call: what it returns for a file that all its feeds supply
 
@@ -42,16 +42,16 @@ pub record IsExtract (choose : Choice) (select : List Decoded → List Decoded) 
   pub header : header_read written ≡ option_map (header_out_for_box area) (header_read file)
   -- they mean what is selected of what the file means
   pub meaning : meaning_read written ≡ select (meaning_read file)
-  -- they have the entities that are chosen of the file's, in input order, with all their fields
-  pub entities : entities_read written ≡ choose (entities_read file)
+  -- they have the entities that are chosen of the file's, in input order, with all that is stored of them
+  pub entities : stored_entities written.0 ≡ choose (stored_entities file.0)
 
 pub record Extracted (choose : Choice) (select : List Decoded → List Decoded) (area : BoundingBox) (file : List ℕ) (counts : Counts) (written : List ℕ) : Type 0 where
   -- the file has no fault, and its header can be written
-  pub sound : IsWritable file
+  pub sound : (verdict_on file).1 ≡ None
   -- the bytes decode to its extract, however long they are
   pub extract : IsExtract choose select area (verdict_on file) (verdict_within None written)
   -- the counts are those of the entities that are kept
-  pub counted : counts ≡ counts_of (choose (entities_read (verdict_on file)))
+  pub counted : counts ≡ counts_of (choose (stored_entities (verdict_on file).0))
 
 -- of `convert`: what is read of them is exactly what is read of the file
 pub record IsConversion (file written : Verdict) : Type 0 where
@@ -59,16 +59,16 @@ pub record IsConversion (file written : Verdict) : Type 0 where
   pub sound : written.1 ≡ None
   -- their header is the file's in written form
   pub header : header_read written ≡ option_map header_out_for_convert (header_read file)
-  -- they have the file's entities, in order, with all their fields
-  pub entities : entities_read written ≡ entities_read file
+  -- they have the file's entities, in order, with all that is stored of them
+  pub entities : stored_entities written.0 ≡ stored_entities file.0
 
 pub record Converted (file : List ℕ) (counts : Counts) (written : List ℕ) : Type 0 where
   -- the file has no fault, and its header can be written
-  pub sound : IsWritable file
+  pub sound : (verdict_on file).1 ≡ None
   -- the bytes decode to its conversion, however long they are
   pub conversion : IsConversion (verdict_on file) (verdict_within None written)
   -- the counts are those of its entities
-  pub counted : counts ≡ counts_of (entities_read (verdict_on file))
+  pub counted : counts ≡ counts_of (stored_entities (verdict_on file).0)
 
 -- ---- the form in which they are written
 

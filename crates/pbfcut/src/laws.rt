@@ -17,11 +17,12 @@ ghost use Rattle.pbf_header.specs.declared.write.TheConstants.{MOST_HEADER_TEXT}
 ghost use Rattle.pbf_header.specs.WrittenHeader.{HeaderFits, header_out_for_convert};
 ghost use Rattle.pbf_frame.specs.Frames.{FILE_LIMIT};
 ghost use Rattle.pbf_frame.specs.Transfers.{Added};
+ghost use Rattle.pbf_pass.specs.Counting.{stored_entities};
 ghost use Rattle.pbfcut.specs.Converting.{answer_bytes};
 ghost use Rattle.pbfcut.specs.Extracting.{complete_ways, all_parents, extract_bytes};
 ghost use Rattle.pbfcut.specs.FileFaults.{file_faults, file_rank};
 ghost use Rattle.pbf_pass.specs.Judged.{judged_file};
-ghost use Rattle.pbfcut.specs.Kept.{verdict_within, verdict_on, IsWritable, header_read, entities_read, conversion_of, extract_of};
+ghost use Rattle.pbfcut.specs.Kept.{verdict_within, verdict_on, IsWritable, header_read, conversion_of, extract_of};
 ghost use Rattle.pbfcut.specs.Theorem.{IsConversion, IsExtract};
 ghost use Rattle.pbf_pass.specs.declared.hashed.HashedDrain.{HashedDrain};
 ghost use Rattle.sha2.specs.Sha256.{sha256};
@@ -53,7 +54,7 @@ pub fn written_file_is_read()
         → AllByRecursion EntityTyped es
         → ((verdict_within None (written_file h es)).1 ≡ None)
         × (header_read (verdict_within None (written_file h es)) ≡ Some (header_out_for_convert h))
-        × (entities_read (verdict_within None (written_file h es)) ≡ es) }
+        × (stored_entities (verdict_within None (written_file h es)).0 ≡ es) }
 {}
 
 /// A conversion of a file that can be converted is bytes without a fault that have the file's header in written form and the file's
