@@ -90,8 +90,8 @@ module _ (limit : Option ℕ) (h : Bool) (f : FrameSpec) (rest : List ℕ) (is :
       let some : (length all == 0) ≡ false = grind (arith, nat_tests, ap length regrouped, length-append f.prefix (f.header ++ (f.blob ++ rest)), is.prefix_long) in
       let at : frame_at f.offset all ≡ f = ap (frame_at f.offset) regrouped ∙ at_frame in
       rw some (
-        ap (λ (g : FrameSpec). given_or (first_fault (frame_phases limit h g)) g all) at
-        ∙ ap (λ (o : Option Fault). given_or o f all) no_fault ∙ ap (λ (l : List ℕ). Ok (Some f, l)) (drop_at (frame_bytes f) rest (length (frame_bytes f)) refl)
+      ap (λ (g : FrameSpec). given_or (first_fault (frame_phases limit h g)) g all) at
+      ∙ ap (λ (o : Option Fault). given_or o f all) no_fault ∙ ap (λ (l : List ℕ). Ok (Some f, l)) (drop_at (frame_bytes f) rest (length (frame_bytes f)) refl)
       )
 
 pub frame_is_next_within : (limit : Option ℕ) (h : Bool) (p : ℕ) (f : FrameSpec) (rest : List ℕ) → IsFrameWithin limit h p f → next_within limit h p (frame_bytes f ++ rest) ≡ Ok (Some f, rest)

@@ -2,7 +2,8 @@
 use Rattle.std.proofs.Common.{◌≡◌, ℕ, zero, suc, ◌+◌, ◌<◌, ◌||◌, Bool, List, [], length, Option, Some, None, Result, Ok, Err, refl, sym, ap, ◌∙◌, subst, length-append, arith}
 use Rattle.pbf_wire.specs.declared.fault.Fault.{Fault}
 use Rattle.pbf_frame.specs.Devices.{prepend}
-use Rattle.pbf_frame.specs.Frames.{FrameSpec, is_header, frame_kind, frame_bytes, frame_end, FILE_LIMIT, next_of}
+use Rattle.pbf_frame.specs.declared.frame.TheConstants.{FILE_LIMIT}
+use Rattle.pbf_frame.specs.Frames.{FrameSpec, is_header, frame_kind, frame_bytes, frame_end, next_of}
 use Rattle.pbf_frame.specs.Verdict.{Verdict, with_first, judged_after, judged_fueled, judged_within, judged, judged_known, with_first_known, Says}
 use Rattle.pbf_frame.proofs.Parting.{next_split, next_none}
 

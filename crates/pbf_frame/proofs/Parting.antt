@@ -12,7 +12,8 @@ use Rattle.pbf_frame.specs.declared.header.Head.{Head}
 use Rattle.pbf_frame.specs.declared.header.TheConstants.{HEADER_LIMIT}
 use Rattle.pbf_wire.specs.Faults.{fault}
 use Rattle.pbf_frame.specs.Blob.{blob_fault}
-use Rattle.pbf_frame.specs.Frames.{FrameSpec, frame_bytes, FILE_LIMIT, order_faults, next_of}
+use Rattle.pbf_frame.specs.declared.frame.TheConstants.{FILE_LIMIT}
+use Rattle.pbf_frame.specs.Frames.{FrameSpec, frame_bytes, order_faults, next_of}
 use Rattle.pbf_frame.specs.Sound.{IsSound}
 use Rattle.pbf_frame.specs.Steps.{unless, ◌>>=◌, head_of, bytes_at, prefix_at, header_of, known_blob_of, blob_of, after_prefix}
 use Rattle.pbf_frame.proofs.FrontLemmas.{bytes_at_front}

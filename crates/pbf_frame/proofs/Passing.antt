@@ -6,7 +6,8 @@ use Rattle.pbf_frame.specs.declared.frame.FrameKind.{FrameKind}
 use Rattle.pbf_frame.specs.declared.frame.FrameKind.TheVariants as kind
 use Rattle.pbf_frame.specs.declared.header.Head.{Head}
 use Rattle.pbf_frame.specs.declared.header.TheConstants.{HEADER_LIMIT}
-use Rattle.pbf_frame.specs.Frames.{FrameSpec, FILE_LIMIT, order_faults}
+use Rattle.pbf_frame.specs.declared.frame.TheConstants.{FILE_LIMIT}
+use Rattle.pbf_frame.specs.Frames.{FrameSpec, order_faults}
 use Rattle.pbf_frame.specs.Reads.{Holds, Skips}
 use Rattle.pbf_frame.specs.Sound.{IsFrame, IsSound}
 use Rattle.pbf_frame.specs.Steps.{head_of}

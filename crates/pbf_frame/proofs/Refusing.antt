@@ -16,7 +16,8 @@ use Rattle.pbf_frame.specs.declared.stop.Stop.{Stop}
 use Rattle.pbf_frame.specs.declared.stop.Stop.TheVariants.{Refused, Read, Write, Memory, Changed}
 use Rattle.pbf_frame.specs.Blob.{blob_fault}
 use Rattle.pbf_frame.specs.Devices.{prepend, Passes, IsAtEnd, given_prefix}
-use Rattle.pbf_frame.specs.Frames.{FILE_LIMIT, order_faults, next_of}
+use Rattle.pbf_frame.specs.declared.frame.TheConstants.{FILE_LIMIT}
+use Rattle.pbf_frame.specs.Frames.{order_faults, next_of}
 use Rattle.pbf_frame.specs.Refusals.{Refuses, RefusedBy}
 use Rattle.pbf_frame.specs.Steps.{bytes_at, prefix_at, header_of, known_blob_of, blob_of, head_of}
 use Rattle.pbf_frame.proofs.FrontLemmas.{bytes_at_front}

@@ -17,7 +17,8 @@ use Rattle.pbf_frame.specs.declared.header.Head.{Head}
 use Rattle.pbf_frame.specs.declared.header.TheConstants.{HEADER_KINDS, HEADER_LIMIT}
 use Rattle.pbf_frame.specs.Header.{header_faults, head_says}
 use Rattle.pbf_frame.specs.Blob.{blob_fault}
-use Rattle.pbf_frame.specs.Frames.{FrameSpec, header_at, blob_at, frame_bytes, frame_kind, frame_at, cut_faults, FILE_LIMIT, order_faults, phases_of_blob, next_within, next_of}
+use Rattle.pbf_frame.specs.declared.frame.TheConstants.{FILE_LIMIT}
+use Rattle.pbf_frame.specs.Frames.{FrameSpec, header_at, blob_at, frame_bytes, frame_kind, frame_at, cut_faults, order_faults, phases_of_blob, next_within, next_of}
 use Rattle.pbf_frame.specs.Steps.{unless, ◌>>=◌, head_of, bytes_at, prefix_at, header_of, known_blob_of, blob_of, frame_of, after_prefix, steps_of}
 
 -- ---- what follows each part

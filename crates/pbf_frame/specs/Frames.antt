@@ -8,6 +8,7 @@ use Rattle.pbf_wire.specs.Phases.{first_fault}
 use Rattle.pbf_wire.specs.Occurrence.{items, found}
 use Rattle.pbf_wire.specs.Reading.{last_of}
 use Rattle.pbf_frame.specs.declared.blob.TheConstants.{RAW}
+use Rattle.pbf_frame.specs.declared.frame.TheConstants.{FILE_LIMIT}
 use Rattle.pbf_frame.specs.declared.frame.FrameKind.{FrameKind}
 use Rattle.pbf_frame.specs.declared.frame.FrameKind.TheVariants as kind
 use Rattle.pbf_frame.specs.declared.header.TheConstants.{HEADER_KINDS, HEADER_LIMIT}
@@ -76,10 +77,6 @@ frame_at place bytes =
     record { offset = place; prefix = take 4 bytes; header = header; blob = take (head_says (place + 4) header).size (drop (length header) after) }
 
 -- ---- its faults, phase by phase
-
--- a file has at most this many bytes
-abbrev pub FILE_LIMIT : ℕ
-FILE_LIMIT = 2 ^ 62
 
 -- the four bytes or the header are cut, or the header is too long
 abbrev pub cut_faults : FrameSpec → List Fault

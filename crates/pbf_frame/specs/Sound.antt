@@ -11,7 +11,8 @@ use Rattle.pbf_frame.specs.declared.frame.FrameKind.TheVariants as kind
 use Rattle.pbf_frame.specs.declared.header.TheConstants.{DATASIZE, HEADER_KINDS, HEADER_LIMIT}
 use Rattle.pbf_frame.specs.Header.{header_faults, size_of}
 use Rattle.pbf_frame.specs.Blob.{blob_fault}
-use Rattle.pbf_frame.specs.Frames.{FrameSpec, is_header, header_at, blob_at, frame_kind, frame_end, FILE_LIMIT, order_faults, next_of}
+use Rattle.pbf_frame.specs.declared.frame.TheConstants.{FILE_LIMIT}
+use Rattle.pbf_frame.specs.Frames.{FrameSpec, is_header, header_at, blob_at, frame_kind, frame_end, order_faults, next_of}
 use Rattle.pbf_frame.specs.Verdict.{Verdict, joined_frames}
 
 -- a blob that is read has no fault

@@ -2,7 +2,8 @@
 use Rattle.std.specs.Prelude.{◌≡◌, ℕ, zero, suc, ◌+◌, List, [], ◌∷◌, ◌++◌, length, Bool, ◌||◌, Option, Some, None, Result, Ok, Err, IfSome}
 use Rattle.std.specs.Option.{option_map}
 use Rattle.pbf_wire.specs.declared.fault.Fault.{Fault}
-use Rattle.pbf_frame.specs.Frames.{FrameSpec, FILE_LIMIT, next_within, is_header, frame_kind, frame_end, frame_bytes}
+use Rattle.pbf_frame.specs.declared.frame.TheConstants.{FILE_LIMIT}
+use Rattle.pbf_frame.specs.Frames.{FrameSpec, next_within, is_header, frame_kind, frame_end, frame_bytes}
 
 abbrev pub Verdict : Type 0
 Verdict = List FrameSpec × Option Fault

@@ -5,7 +5,8 @@ ghost use Rattle.byteorder.specs.Endian.{big_number};
 ghost use Rattle.pbf_wire.specs.Least.{least};
 ghost use Rattle.pbf_frame.specs.Devices.{IsAtEnd, Passes, given_prefix, prepend};
 ghost use Rattle.pbf_wire.specs.Faults.{fault};
-ghost use Rattle.pbf_frame.specs.Frames.{FILE_LIMIT, order_faults, next_of};
+ghost use Rattle.pbf_frame.specs.declared.frame.TheConstants.{FILE_LIMIT};
+ghost use Rattle.pbf_frame.specs.Frames.{order_faults, next_of};
 ghost use Rattle.pbf_frame.specs.declared.header.TheConstants.{LARGEST_SIZE};
 ghost use Rattle.pbf_frame.specs.Reads.{Gives, IsReaderStop, IsFillStop, Reads, Skips, GaveBlob, GaveFrame, GaveEnd, IsPlaced};
 ghost use Rattle.pbf_frame.specs.Refusals.{RefusedBy};
@@ -15,7 +16,7 @@ ghost use Rattle.pbf_frame.specs.Steps.{prefix_at, bytes_at, header_of, known_bl
 
 use crate::blob::judge_blob;
 use crate::device::Feed;
-use crate::frame::FrameKind;
+use crate::frame::{FILE_LIMIT, FrameKind};
 use crate::header::{HEADER_LIMIT, Head, read_head};
 use crate::stop::Stop;
 use crate::transfer::fill;
@@ -127,7 +128,10 @@ fn judge_order(had_header: bool, place: u64, kind: FrameKind, end: u64) -> Optio
         fault_where(second, place, Reason::SecondHeader),
         fault_where(first, place, Reason::DataFirst),
     );
-    lesser(order, fault_where(end > 1 << 62, place, Reason::FileLong))
+    lesser(
+        order,
+        fault_where(end > FILE_LIMIT, place, Reason::FileLong),
+    )
 }
 
 // The header after a prefix, and what it says.

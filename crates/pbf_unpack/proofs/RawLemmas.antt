@@ -16,7 +16,8 @@ use Rattle.pbf_frame.specs.declared.frame.FrameKind.{FrameKind}
 use Rattle.pbf_frame.specs.declared.frame.FrameKind.TheVariants as kind
 use Rattle.pbf_frame.specs.declared.header.Head.{Head}
 use Rattle.pbf_frame.specs.Blob.{blob_fault, blob_faults, raw_faults}
-use Rattle.pbf_frame.specs.Frames.{FrameSpec, is_header, header_at, blob_at, frame_end, frame_kind, frame_bytes, frame_at, FILE_LIMIT, order_faults, next_of}
+use Rattle.pbf_frame.specs.declared.frame.TheConstants.{FILE_LIMIT}
+use Rattle.pbf_frame.specs.Frames.{FrameSpec, is_header, header_at, blob_at, frame_end, frame_kind, frame_bytes, frame_at, order_faults, next_of}
 use Rattle.pbf_frame.specs.Header.{head_says}
 use Rattle.pbf_frame.specs.Sound.{IsSound, IsFrame, AreFrames, EndsAs, had_after, place_after}
 use Rattle.pbf_frame.specs.Steps.{head_of}

@@ -7,7 +7,8 @@ use Rattle.pbf_wire.specs.declared.fault.Reason.TheVariants.{NoHeader}
 use Rattle.pbf_wire.specs.Least.{least_by}
 use Rattle.pbf_wire.specs.Phases.{first_fault, phase_rank}
 use Rattle.pbf_wire.proofs.PhaseLemmas.{IsFrom, later_from, parted_from, parted_found, phases_joined, or_first, first_of_joined}
-use Rattle.pbf_frame.specs.Frames.{FrameSpec, is_header, frame_at, frame_kind, frame_end, frame_bytes, FILE_LIMIT, frame_phases, next_within}
+use Rattle.pbf_frame.specs.declared.frame.TheConstants.{FILE_LIMIT}
+use Rattle.pbf_frame.specs.Frames.{FrameSpec, is_header, frame_at, frame_kind, frame_end, frame_bytes, frame_phases, next_within}
 use Rattle.pbf_frame.proofs.Stepping.{given_or}
 use Rattle.pbf_frame.specs.Verdict.{Verdict, judged_after, judged_fueled, judged_within}
 use Rattle.pbf_header.specs.HeaderFaults.{header_fault}

@@ -20,7 +20,8 @@ use Rattle.osm_ways.proofs.Decoding.{seen_alike}
 use Rattle.osm_ways.proofs.Extracts.{chosen_twice, chosen_viewed, keeps_settled}
 use Rattle.osm_ways.proofs.ParentLaws.{keeps_with_parents_settled}
 use Rattle.pbf_frame.specs.declared.frame.FrameKind.TheVariants as kind
-use Rattle.pbf_frame.specs.Frames.{FrameSpec, FILE_LIMIT}
+use Rattle.pbf_frame.specs.declared.frame.TheConstants.{FILE_LIMIT}
+use Rattle.pbf_frame.specs.Frames.{FrameSpec}
 use Rattle.pbf_frame.specs.Verdict.{Verdict, judged, judged_within}
 use Rattle.pbf_frame.specs.Writing.{written_frame}
 use Rattle.pbf_frame.proofs.AnyLength.{same_within}

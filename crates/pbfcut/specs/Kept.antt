@@ -5,7 +5,7 @@ use Rattle.osm_box.specs.declared.bounding_box.BoundingBox.{BoundingBox}
 use Rattle.osm_entity.specs.Entity as entity
 use Rattle.osm_entity.specs.Entity.{Decoded}
 use Rattle.pbf_header.specs.Header.{HeaderSpec}
-use Rattle.pbf_frame.specs.Frames.{FILE_LIMIT}
+use Rattle.pbf_frame.specs.declared.frame.TheConstants.{FILE_LIMIT}
 use Rattle.pbf_frame.specs.Verdict.{Verdict, judged_within}
 use Rattle.pbfcut.specs.Converting.{answer_bytes}
 use Rattle.pbf_pass.specs.HeaderLimit.{limited}

@@ -15,7 +15,7 @@ ghost use Rattle.osm_pack.specs.Cuts.{written_file};
 ghost use Rattle.pbf_header.specs.Header.{HeaderSpec};
 ghost use Rattle.pbf_header.specs.declared.write.TheConstants.{MOST_HEADER_TEXT};
 ghost use Rattle.pbf_header.specs.WrittenHeader.{HeaderFits, header_out_for_convert};
-ghost use Rattle.pbf_frame.specs.Frames.{FILE_LIMIT};
+ghost use Rattle.pbf_frame.specs.declared.frame.TheConstants.{FILE_LIMIT};
 ghost use Rattle.pbf_frame.specs.Transfers.{Added};
 ghost use Rattle.pbf_pass.specs.Counting.{stored_entities};
 ghost use Rattle.pbfcut.specs.Converting.{answer_bytes};

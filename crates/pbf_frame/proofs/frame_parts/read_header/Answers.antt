@@ -2,7 +2,8 @@ use Rattle.std.proofs.Common.{◌≡◌, ℕ, List, ◌+◌, Some, length, sym, 
 use Rattle.std.proofs.lemmas.Result.{err_from_is_err_and}
 use Rattle.byteorder.specs.Endian.{big_number}
 use Rattle.pbf_wire.specs.Least.{least}
-use Rattle.pbf_frame.specs.Frames.{FILE_LIMIT, order_faults}
+use Rattle.pbf_frame.specs.declared.frame.TheConstants.{FILE_LIMIT}
+use Rattle.pbf_frame.specs.Frames.{order_faults}
 use Rattle.pbf_frame.specs.Steps.{head_of}
 use Rattle.pbf_frame.proofs.Refusing.{whatever_follows, header_unfit, header_misplaced}
 use Rattle.pbf_frame.proofs.frame_parts.read_header.Goals as goal
