@@ -4,7 +4,8 @@ use Rattle.std.specs.Prelude.{◌≡◌, ℕ, ℤ, List, [], ◌∷◌, ◌++◌
 use Rattle.osm_entity.specs.declared.member.MemberKind.TheVariants as kind
 use Rattle.osm_entity.specs.Entity.{MetaSpec, MemberSpec, node_at, way_through, relation_among}
 use Rattle.osm_entity.specs.Weight.{entity_weight}
-use Rattle.pbfcut.specs.Kept.{entities_in_file}
+use Rattle.pbf_pass.specs.Counting.{stored_entities}
+use Rattle.pbfcut.specs.Kept.{verdict_on}
 use Rattle.pbf_examples.specs.Hex.{hex}
 use Rattle.pbf_examples.specs.Reading.{◌means◌, ◌converts_to◌, minus, tag, bare, node, way}
 use Rattle.pbf_examples.specs.Frames.{header, data_frame, field}
@@ -95,7 +96,7 @@ pub record OddBlock : Type 0 where
   -- an entity weighs 160, 32 for each tag, ref, location and member, and as much as its texts have
   -- bytes
   pub weights :
-      map entity_weight (entities_in_file odd_block)
+      map entity_weight (stored_entities (verdict_on odd_block).0)
       ≡ 242 ∷ 160 ∷ 395 ∷ 160 ∷ 203 ∷ 160 ∷ 260 ∷ []
   -- without an Info, and of no scale: a place counts hundreds of nanodegrees from 0 on
   pub plain :

@@ -2,8 +2,9 @@
 use Rattle.std.proofs.Common.{◌≡◌, ℕ, zero, suc, ◌+◌, ◌<◌, ◌||◌, Bool, List, [], length, Option, Some, None, Result, Ok, Err, refl, sym, ap, ◌∙◌, subst, length-append, arith}
 use Rattle.pbf_wire.specs.declared.fault.Fault.{Fault}
 use Rattle.pbf_frame.specs.Devices.{prepend}
+use Rattle.pbf_frame.specs.declared.frame.TheConstants.{FILE_LIMIT}
 use Rattle.pbf_frame.specs.Frames.{FrameSpec, is_header, frame_kind, frame_bytes, frame_end, next_of}
-use Rattle.pbf_frame.specs.Verdict.{Verdict, with_first, judged_after, judged_within, judged, judged_known, with_first_known, Says}
+use Rattle.pbf_frame.specs.Verdict.{Verdict, with_first, judged_after, judged_fueled, judged_within, judged, judged_known, with_first_known, Says}
 use Rattle.pbf_frame.proofs.Parting.{next_split, next_none}
 
 -- enough fuel is enough
@@ -18,20 +19,20 @@ same_after f g h p bytes same = cases (next_of h p bytes) refl where
       let shorter : length rest < length bytes = omega (arith, split.1, ap length split.0 ∙ length-append (frame_bytes spec) rest) in
       ap (with_first spec) (same (h || is_header (frame_kind spec)) (frame_end spec) rest shorter)
 
-more_fuel : (m n : ℕ) (h : Bool) (p : ℕ) (bytes : List ℕ) → length bytes < m → length bytes < n → judged_within m h p bytes ≡ judged_within n h p bytes
-unfolding judged_within
+more_fuel : (m n : ℕ) (h : Bool) (p : ℕ) (bytes : List ℕ) → length bytes < m → length bytes < n → judged_fueled (Some FILE_LIMIT) m h p bytes ≡ judged_fueled (Some FILE_LIMIT) n h p bytes
+unfolding judged_fueled
 more_fuel zero n h p bytes low high = absurd (omega (arith, low))
 more_fuel (suc m) zero h p bytes low high = absurd (omega (arith, high))
 more_fuel (suc m) (suc n) h p bytes low high =
-    same_after (judged_within m) (judged_within n) h p bytes (λ h' p' rest shorter. more_fuel m n h' p' rest (omega (arith, low, shorter)) (omega (arith, high, shorter)))
+    same_after (judged_fueled (Some FILE_LIMIT) m) (judged_fueled (Some FILE_LIMIT) n) h p bytes (λ h' p' rest shorter. more_fuel m n h' p' rest (omega (arith, low, shorter)) (omega (arith, high, shorter)))
 
 -- the verdict, frame by frame
 pub judged_step : (h : Bool) (p : ℕ) (bytes : List ℕ) → judged h p bytes ≡ judged_after judged h (next_of h p bytes)
-unfolding judged judged_within
+unfolding judged_within judged_fueled
 judged_step h p bytes =
     let fuel : length bytes + 1 ≡ suc (length bytes) = omega arith in
-    ap (λ n. judged_within n h p bytes) fuel
-    ∙ same_after (judged_within (length bytes)) judged h p bytes (λ h' p' rest shorter. more_fuel (length bytes) (length rest + 1) h' p' rest shorter (omega arith))
+    ap (λ n. judged_fueled (Some FILE_LIMIT) n h p bytes) fuel
+    ∙ same_after (judged_fueled (Some FILE_LIMIT) (length bytes)) judged h p bytes (λ h' p' rest shorter. more_fuel (length bytes) (length rest + 1) h' p' rest shorter (omega arith))
 
 pub judged_some : (h : Bool) (p : ℕ) (bytes : List ℕ) (f : FrameSpec) (rest : List ℕ) → next_of h p bytes ≡ Ok (Some f, rest) → judged h p bytes ≡ with_first f (judged (h || is_header (frame_kind f)) (frame_end f) rest)
 judged_some h p bytes f rest e = judged_step h p bytes ∙ ap (judged_after judged h) e

@@ -10,6 +10,7 @@ pub mod Judging
 pub mod Advancing
 pub mod VerdictLemmas
 pub mod Beginnings
+pub mod AnyLength
 pub mod Longest
 pub mod Passing
 pub mod Refusing

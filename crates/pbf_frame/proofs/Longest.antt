@@ -14,13 +14,15 @@ use Rattle.pbf_wire.specs.Wire.{wire}
 use Rattle.pbf_frame.specs.declared.frame.FrameKind.{FrameKind}
 use Rattle.pbf_frame.specs.declared.header.TheConstants.{TYPE, DATASIZE, HEADER_LIMIT, HEADER_KINDS}
 use Rattle.pbf_frame.specs.Header.{head_says, header_faults, int32_held, size_within, size_of, size_faults}
+use Rattle.pbf_frame.specs.declared.frame.TheConstants.{FILE_LIMIT}
 use Rattle.pbf_frame.specs.Frames.{FrameSpec, is_header, header_at, blob_at, frame_kind, frame_bytes, frame_end, order_faults, next_of}
 use Rattle.pbf_frame.specs.Verdict.{Verdict, with_first, with_all, judged_after, judged, joined_frames}
 use Rattle.pbf_frame.specs.Sound.{IsSound, IsFrame, AreFrames, had_after, place_after, EndsAs, IsLongestFront}
 use Rattle.pbf_frame.specs.Steps.{head_of, prefix_at}
+use Rattle.pbf_frame.proofs.AnyLength.{frame_is_next_within}
 use Rattle.pbf_frame.proofs.BlobLemmas.{least_none}
 use Rattle.pbf_frame.proofs.FrameLemmas.{head_parts, blob_some}
-use Rattle.pbf_frame.proofs.Parting.{FrameParts, HeaderParts, BlobParts, header_whole, blob_whole, next_parts, next_split, next_none}
+use Rattle.pbf_frame.proofs.Parting.{FrameParts, next_parts, next_split, next_none}
 use Rattle.pbf_frame.proofs.Judging.{judged_step, judged_some}
 
 -- ---- one frame
@@ -53,7 +55,7 @@ frame_at h bytes f rest parts =
       wired = says.0;
       whole = says.1;
       sized = sized (header_at f) (fault_where (is_none (last_of TYPE (found (items (header_at f) f.header)))) (header_at f) (Missing TYPE)) last (least_none (header_faults (header_at f) f.header) says.1) ∙ ap Some (sym size);
-      ordered = ap (λ (k : FrameKind). least (order_faults h f.offset k (frame_end f))) (sym says.2) ∙ ap (λ (n : ℕ). least (order_faults h f.offset parts.head.kind (blob_at f + n))) parts.blob_is.long ∙ parts.header_is.ordered;
+      ordered = ap (λ (k : FrameKind). least (order_faults (Some FILE_LIMIT) h f.offset k (frame_end f))) (sym says.2) ∙ ap (λ (n : ℕ). least (order_faults (Some FILE_LIMIT) h f.offset parts.head.kind (blob_at f + n))) parts.blob_is.long ∙ parts.header_is.ordered;
       sound = subst (λ (k : FrameKind). IsSound k (blob_at f) f.blob) says.2 parts.blob_is.sound;
     }
 
@@ -71,32 +73,8 @@ prefix_whole h p prefix left long small =
     let below : nat_le HEADER_LIMIT (big_number 4 prefix) ≡ false = grind (arith, nat_tests, small) in
     rw (some, front, enough, below, drop_at prefix left 4 long) refl
 
-head_whole : (at : ℕ) (header : List ℕ) (f : FrameSpec) → wire HEADER_KINDS (items at header) ≡ None → least (header_faults at header) ≡ None → head_of at header ≡ Ok (head_says at header)
-unfolding head_of
-head_whole at header f wired whole = rw (wired, whole) refl
-
-next_at : (h : Bool) (f : FrameSpec) (rest : List ℕ) → IsFrame h f.offset f → next_of h f.offset (frame_bytes f ++ rest) ≡ Ok (Some f, rest)
-next_at h f rest is =
-    let head = head_says (header_at f) f.header in
-    let size : length f.blob ≡ head.size = ap (λ (m : Option ℕ). unwrap_or m 0) (sym is.sized) in
-    let left = f.header ++ (f.blob ++ rest) in
-    let header : HeaderParts h f.offset f.prefix left f.header (f.blob ++ rest) head = record {
-      split = refl;
-      long = sym is.spelled;
-      says = head_whole (header_at f) f.header f is.wired is.whole;
-      ordered = ap (λ (n : ℕ). least (order_faults h f.offset head.kind (blob_at f + n))) (sym size) ∙ is.ordered;
-    } in
-    let blob : BlobParts head.kind head.size (blob_at f) (f.blob ++ rest) f.blob rest = record { split = refl; long = size; sound = is.sound } in
-    ap (λ l. next_of h f.offset l) (regroup f.prefix f.header f.blob rest)
-    ∙ blob_some h f.offset (f.prefix ++ left) f.prefix left f.header (f.blob ++ rest) f.blob rest head
-    (prefix_whole h f.offset f.prefix left is.prefix_long (subst (λ (n : ℕ). n < HEADER_LIMIT) (sym is.spelled) is.short))
-    (header_whole h f.offset f.prefix left f.header (f.blob ++ rest) head header)
-    (blob_whole head.kind head.size (blob_at f) (f.blob ++ rest) f.blob rest blob) where
-      regroup : (a b c d : List ℕ) → ((a ++ b) ++ c) ++ d ≡ a ++ (b ++ (c ++ d))
-      regroup a b c d = append_assoc (a ++ b) c d ∙ append_assoc a b (c ++ d)
-
 pub frame_is_next : (h : Bool) (p : ℕ) (f : FrameSpec) (rest : List ℕ) → IsFrame h p f → next_of h p (frame_bytes f ++ rest) ≡ Ok (Some f, rest)
-frame_is_next h p f rest is = subst (λ (n : ℕ). next_of h n (frame_bytes f ++ rest) ≡ Ok (Some f, rest)) is.offset (next_at h f rest (subst (λ (n : ℕ). IsFrame h n f) (sym is.offset) is))
+frame_is_next h p f rest is = frame_is_next_within (Some FILE_LIMIT) h p f rest is
 
 -- ---- all frames
 

@@ -12,6 +12,7 @@ use Rattle.pbf_frame.specs.declared.header.Head.{Head}
 use Rattle.pbf_frame.specs.declared.header.TheConstants.{HEADER_LIMIT}
 use Rattle.pbf_wire.specs.Faults.{fault}
 use Rattle.pbf_frame.specs.Blob.{blob_fault}
+use Rattle.pbf_frame.specs.declared.frame.TheConstants.{FILE_LIMIT}
 use Rattle.pbf_frame.specs.Frames.{FrameSpec, frame_bytes, order_faults, next_of}
 use Rattle.pbf_frame.specs.Sound.{IsSound}
 use Rattle.pbf_frame.specs.Steps.{unless, ◌>>=◌, head_of, bytes_at, prefix_at, header_of, known_blob_of, blob_of, after_prefix}
@@ -101,7 +102,7 @@ abbrev Headed : Type 0
 Headed = Result ((List ℕ × Head) × List ℕ) Fault
 
 abbrev after_head : Bool → ℕ → List ℕ × List ℕ → Head → Headed
-after_head h p header head = unless (least (order_faults h p head.kind (p + 4 + length header.0 + head.size))) (Ok ((header.0, head), header.1))
+after_head h p header head = unless (least (order_faults (Some FILE_LIMIT) h p head.kind (p + 4 + length header.0 + head.size))) (Ok ((header.0, head), header.1))
 
 abbrev after_bytes : Bool → ℕ → List ℕ × List ℕ → Headed
 after_bytes h p header = head_of (p + 4) header.0 >>= after_head h p header
@@ -111,14 +112,14 @@ pub record HeaderParts (h : Bool) (p : ℕ) (prefix bytes header rest : List ℕ
   pub split : bytes ≡ header ++ rest
   pub long : length header ≡ big_number 4 prefix
   pub says : head_of (p + 4) header ≡ Ok head
-  pub ordered : least (order_faults h p head.kind (p + 4 + length header + head.size)) ≡ None
+  pub ordered : least (order_faults (Some FILE_LIMIT) h p head.kind (p + 4 + length header + head.size)) ≡ None
 
 pub header_parts : (h : Bool) (p : ℕ) (prefix bytes header rest : List ℕ) (head : Head) → header_of h p prefix bytes ≡ Ok ((header, head), rest) → HeaderParts h p prefix bytes header rest head
 unfolding header_of
 header_parts h p prefix bytes header rest head e =
     let (front, is_front, e1) = bind_inverse (bytes_at (fault p HeaderCut) (big_number 4 prefix) bytes) (after_bytes h p) _ e in
     let (said, is_said, e2) = bind_inverse (head_of (p + 4) front.0) (after_head h p front) _ e1 in
-    let (ordered, e3) = unless_ok (least (order_faults h p said.kind (p + 4 + length front.0 + said.size))) (Ok ((front.0, said), front.1)) _ e2 in
+    let (ordered, e3) = unless_ok (least (order_faults (Some FILE_LIMIT) h p said.kind (p + 4 + length front.0 + said.size))) (Ok ((front.0, said), front.1)) _ e2 in
     let parts = ok_parts (front.0, said) (header, head) front.1 rest e3 in
     let same : front.0 ≡ header = ap (λ (x : List ℕ × Head). x.0) parts.0 in
     let same_head : said ≡ head = ap (λ (x : List ℕ × Head). x.1) parts.0 in
@@ -127,7 +128,7 @@ header_parts h p prefix bytes header rest head e =
       split = split.0 ∙ ap (λ l. l ++ front.1) same ∙ ap (λ l. header ++ l) parts.1;
       long = ap length (sym same) ∙ split.1;
       says = ap (λ l. head_of (p + 4) l) (sym same) ∙ is_said ∙ ap Ok same_head;
-      ordered = subst (λ (x : List ℕ × Head). least (order_faults h p x.1.kind (p + 4 + length x.0 + x.1.size)) ≡ None) parts.0 ordered;
+      ordered = subst (λ (x : List ℕ × Head). least (order_faults (Some FILE_LIMIT) h p x.1.kind (p + 4 + length x.0 + x.1.size)) ≡ None) parts.0 ordered;
     }
 
 pub header_whole : (h : Bool) (p : ℕ) (prefix bytes header rest : List ℕ) (head : Head) → HeaderParts h p prefix bytes header rest head → header_of h p prefix bytes ≡ Ok ((header, head), rest)
@@ -165,18 +166,6 @@ pub blob_parts : (k : FrameKind) (size at : ℕ) (bytes blob rest : List ℕ) �
 blob_parts kind.Header size at bytes blob rest e = (let parts = known_parts size at bytes blob rest e in record { split = parts.0; long = parts.1; sound = parts.2 })
 blob_parts kind.Data size at bytes blob rest e = (let parts = known_parts size at bytes blob rest e in record { split = parts.0; long = parts.1; sound = parts.2 })
 blob_parts kind.Other size at bytes blob rest e = (let parts = bytes_split (fault at BlobCut) size bytes blob rest e in record { split = parts.0; long = parts.1; sound = tt })
-
-known_whole : (size at : ℕ) (bytes blob rest : List ℕ) → bytes ≡ blob ++ rest → length blob ≡ size → blob_fault at blob ≡ None → known_blob_of size at bytes ≡ Ok (blob, rest)
-unfolding known_blob_of
-known_whole size at bytes blob rest split long sound =
-    ap (λ l. bytes_at (fault at BlobCut) size l >>= after_blob_bytes at) split
-    ∙ ap (λ r. r >>= after_blob_bytes at) (bytes_at_front (fault at BlobCut) size blob rest long)
-    ∙ ap (λ o. unless {A = List ℕ × List ℕ} o (Ok (blob, rest))) sound
-
-pub blob_whole : (k : FrameKind) (size at : ℕ) (bytes blob rest : List ℕ) → BlobParts k size at bytes blob rest → blob_of k size at bytes ≡ Ok (blob, rest)
-blob_whole kind.Header size at bytes blob rest parts = known_whole size at bytes blob rest parts.split parts.long parts.sound
-blob_whole kind.Data size at bytes blob rest parts = known_whole size at bytes blob rest parts.split parts.long parts.sound
-blob_whole kind.Other size at bytes blob rest parts = ap (λ l. bytes_at (fault at BlobCut) size l) parts.split ∙ bytes_at_front (fault at BlobCut) size blob rest parts.long
 
 -- ---- the frame
 

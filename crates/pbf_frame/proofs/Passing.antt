@@ -6,6 +6,7 @@ use Rattle.pbf_frame.specs.declared.frame.FrameKind.{FrameKind}
 use Rattle.pbf_frame.specs.declared.frame.FrameKind.TheVariants as kind
 use Rattle.pbf_frame.specs.declared.header.Head.{Head}
 use Rattle.pbf_frame.specs.declared.header.TheConstants.{HEADER_LIMIT}
+use Rattle.pbf_frame.specs.declared.frame.TheConstants.{FILE_LIMIT}
 use Rattle.pbf_frame.specs.Frames.{FrameSpec, order_faults}
 use Rattle.pbf_frame.specs.Reads.{Holds, Skips}
 use Rattle.pbf_frame.specs.Sound.{IsFrame, IsSound}
@@ -26,7 +27,7 @@ sound_held kind.Other at blob held holds = tt
 
 -- what was read part by part is a frame without a fault
 pub frame_read : (h : Bool) (p : ℕ) (prefix header blob held : List ℕ) (head : Head) → length prefix ≡ 4 → big_number 4 prefix < HEADER_LIMIT → length header ≡ big_number 4 prefix → head_of (p + 4) header ≡ Ok head
-    → least (order_faults h p head.kind (p + 4 + length header + head.size)) ≡ None → length blob ≡ head.size → Holds head.kind (p + 4 + length header) blob held
+    → least (order_faults (Some FILE_LIMIT) h p head.kind (p + 4 + length header + head.size)) ≡ None → length blob ≡ head.size → Holds head.kind (p + 4 + length header) blob held
     → IsFrame h p (record { offset = p; prefix = prefix; header = header; blob = blob })
 frame_read h p prefix header blob held head prefix_long small long says ordered sized holds =
     let f : FrameSpec = record { offset = p; prefix = prefix; header = header; blob = blob } in

@@ -27,7 +27,7 @@ use Rattle.pbf_wire.specs.Faults.{fault_where}
 use Rattle.pbf_frame.specs.Header.{name_of, kind_named, size_within, size_of, size_faults, header_faults}
 use Rattle.pbf_frame.specs.Blob.{compressed, raw_faults, blob_faults, blob_fault, raw_of}
 use Rattle.pbf_frame.specs.Frames.{order_faults, frame_kind, frame_end, frame_bytes, frame_payload, payload_in, blob_at}
-use Rattle.pbf_frame.specs.Sound.{IsSound, IsFrame}
+use Rattle.pbf_frame.specs.Sound.{IsSound, IsFrameWithin}
 use Rattle.pbf_frame.proofs.BlobLemmas.{blob_steps}
 use Rattle.pbf_frame.specs.Writing.{written_name, written_header, written_blob, written_at, written_frame}
 
@@ -175,8 +175,8 @@ module _ (place : ℕ) (k : FrameKind) (payload : List ℕ) (known : k ≡ kind.
       let f = written_at place k payload in
       ap (λ (x : FrameKind). payload_in x (blob_at f) f.blob) written_kind ∙ payload_any k (blob_at f) f.blob known ∙ blob_payload (blob_at f) payload small
 
-  pub written_is_frame : (h : Bool) → least (order_faults h place k (frame_end (written_at place k payload))) ≡ None → IsFrame h place (written_at place k payload)
-  written_is_frame h ordered =
+  pub written_is_frame : (limit : Option ℕ) (h : Bool) → least (order_faults limit h place k (frame_end (written_at place k payload))) ≡ None → IsFrameWithin limit h place (written_at place k payload)
+  written_is_frame limit h ordered =
       let f = written_at place k payload in
       let n = length f.header in
       let short : n ≤ 49 = header_short k (length (written_blob payload)) (omega (arith, size_small)) in
@@ -188,7 +188,7 @@ module _ (place : ℕ) (k : FrameKind) (payload : List ℕ) (known : k ≡ kind.
         wired = header_wired (place + 4) k (length (written_blob payload)) (omega (arith, size_small));
         whole = header_whole (place + 4) k (length (written_blob payload)) size_small;
         sized = header_sized (place + 4) k (length (written_blob payload)) size_small;
-        ordered = ap (λ (x : FrameKind). least (order_faults h place x (frame_end f))) written_kind ∙ ordered;
+        ordered = ap (λ (x : FrameKind). least (order_faults limit h place x (frame_end f))) written_kind ∙ ordered;
         sound = sound_any (frame_kind f) (blob_at f) f.blob (blob_sound (blob_at f) payload small);
       }
 

@@ -16,6 +16,7 @@ use Rattle.pbf_frame.specs.declared.stop.Stop.{Stop}
 use Rattle.pbf_frame.specs.declared.stop.Stop.TheVariants.{Refused, Read, Write, Memory, Changed}
 use Rattle.pbf_frame.specs.Blob.{blob_fault}
 use Rattle.pbf_frame.specs.Devices.{prepend, Passes, IsAtEnd, given_prefix}
+use Rattle.pbf_frame.specs.declared.frame.TheConstants.{FILE_LIMIT}
 use Rattle.pbf_frame.specs.Frames.{order_faults, next_of}
 use Rattle.pbf_frame.specs.Refusals.{Refuses, RefusedBy}
 use Rattle.pbf_frame.specs.Steps.{bytes_at, prefix_at, header_of, known_blob_of, blob_of, head_of}
@@ -92,7 +93,7 @@ module _ (h : Bool) (p : ℕ) (prefix : List ℕ) where
   unfolding header_of
   header_unfit header rest e long is = rw (bytes_at_front (fault p HeaderCut) (big_number 4 prefix) header rest long, is) refl
 
-  pub header_misplaced : (header rest : List ℕ) (head : Head) (e : Fault) → length header ≡ big_number 4 prefix → head_of (p + 4) header ≡ Ok head → least (order_faults h p head.kind (p + 4 + length header + head.size)) ≡ Some e → header_of h p prefix (header ++ rest) ≡ Err e
+  pub header_misplaced : (header rest : List ℕ) (head : Head) (e : Fault) → length header ≡ big_number 4 prefix → head_of (p + 4) header ≡ Ok head → least (order_faults (Some FILE_LIMIT) h p head.kind (p + 4 + length header + head.size)) ≡ Some e → header_of h p prefix (header ++ rest) ≡ Err e
   unfolding header_of
   header_misplaced header rest head e long says is = rw (bytes_at_front (fault p HeaderCut) (big_number 4 prefix) header rest long, says, is) refl
 
@@ -166,7 +167,7 @@ module _ (h : Bool) (p : ℕ) (before : ℕ → List ℕ → Type 0) (old : Opti
         (λ b e is. header_refused h p (prefix ++ b) prefix b e (prefix_whole h p prefix b first.long first.small) is) refused
 
     pub refused_blob : (next now : ℕ → List ℕ → Type 0) (left new : Option (List ℕ)) (header : List ℕ) (head : Head) → between ≡ prepend header left → Passes mid header next → length header ≡ big_number 4 prefix → head_of (p + 4) header ≡ Ok head
-        → least (order_faults h p head.kind (p + 4 + length header + head.size)) ≡ None → RefusedBy (blob_of head.kind head.size (p + 4 + length header)) next now left new stop → RefusedBy (next_of h p) before now old new stop
+        → least (order_faults (Some FILE_LIMIT) h p head.kind (p + 4 + length header + head.size)) ≡ None → RefusedBy (blob_of head.kind head.size (p + 4 + length header)) next now left new stop → RefusedBy (next_of h p) before now old new stop
     refused_blob next now left new header head told passed spelled says ordered refused =
         refused_more (next_of h p) (blob_of head.kind head.size (p + 4 + length header)) before next now old left new (prefix ++ header) stop (prepend_more old between left prefix header first.told told) (passes_more before mid next prefix header first.logged passed) step refused where
           parts : (b : List ℕ) → HeaderParts h p prefix (header ++ b) header b head

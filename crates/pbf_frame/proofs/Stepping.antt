@@ -17,7 +17,8 @@ use Rattle.pbf_frame.specs.declared.header.Head.{Head}
 use Rattle.pbf_frame.specs.declared.header.TheConstants.{HEADER_KINDS, HEADER_LIMIT}
 use Rattle.pbf_frame.specs.Header.{header_faults, head_says}
 use Rattle.pbf_frame.specs.Blob.{blob_fault}
-use Rattle.pbf_frame.specs.Frames.{FrameSpec, header_at, blob_at, frame_bytes, frame_kind, frame_at, cut_faults, order_faults, phases_of_blob, next_of}
+use Rattle.pbf_frame.specs.declared.frame.TheConstants.{FILE_LIMIT}
+use Rattle.pbf_frame.specs.Frames.{FrameSpec, header_at, blob_at, frame_bytes, frame_kind, frame_at, cut_faults, order_faults, phases_of_blob, next_within, next_of}
 use Rattle.pbf_frame.specs.Steps.{unless, ◌>>=◌, head_of, bytes_at, prefix_at, header_of, known_blob_of, blob_of, frame_of, after_prefix, steps_of}
 
 -- ---- what follows each part
@@ -74,7 +75,7 @@ blob_is kind.Other size at bytes = cases (nat_lt (length (take size bytes)) size
 -- ---- the next frame
 
 ended : (h : Bool) (p : ℕ) (bytes : List ℕ) → length bytes == 0 ≡ true → next_of h p bytes ≡ steps_of h p bytes
-unfolding next_of steps_of prefix_at after_prefix
+unfolding next_within steps_of prefix_at after_prefix
 ended true p bytes is = rw is refl
 ended false p bytes is = rw is refl
 
@@ -108,14 +109,14 @@ module _ (h : Bool) (p : ℕ) (bytes : List ℕ) (some : length bytes == 0 ≡ f
   head = head_says (p + 4) f.header
 
   abbrev after_cut : List (List Fault)
-  after_cut = leaf_faults HEADER_KINDS f.offset (header_at f) f.header ∷ header_faults (header_at f) f.header ∷ order_faults h f.offset (frame_kind f) (blob_at f + head.size) ∷ late (frame_kind f) head.size (blob_at f) f.blob
+  after_cut = leaf_faults HEADER_KINDS f.offset (header_at f) f.header ∷ header_faults (header_at f) f.header ∷ order_faults (Some FILE_LIMIT) h f.offset (frame_kind f) (blob_at f + head.size) ∷ late (frame_kind f) head.size (blob_at f) f.blob
 
   cut_first : (x : Fault) → cut_faults f ≡ x ∷ [] → next_of h p bytes ≡ Err x
-  unfolding next_of
+  unfolding next_within
   cut_first x is = rw some (ap (λ c. given_or (first_fault (c ∷ after_cut)) f bytes) is)
 
   after_it : cut_faults f ≡ [] → next_of h p bytes ≡ given_or (first_fault after_cut) f bytes
-  unfolding next_of
+  unfolding next_within
   after_it is = rw some (ap (λ c. given_or (first_fault (c ∷ after_cut)) f bytes) is)
 
   -- what follows the frame
@@ -134,7 +135,7 @@ module _ (h : Bool) (p : ℕ) (bytes : List ℕ) (some : length bytes == 0 ≡ f
     abbrev read_blob : List ℕ × List ℕ → Result (FrameSpec × List ℕ) Fault
     read_blob = after_blob p f.prefix ((f.header, head), drop n (drop 4 bytes))
 
-    by_options : (w a o : Option Fault) → wire HEADER_KINDS (items (p + 4) f.header) ≡ w → least (header_faults (p + 4) f.header) ≡ a → least (order_faults h p head.kind (p + 4 + length f.header + head.size)) ≡ o
+    by_options : (w a o : Option Fault) → wire HEADER_KINDS (items (p + 4) f.header) ≡ w → least (header_faults (p + 4) f.header) ≡ a → least (order_faults (Some FILE_LIMIT) h p head.kind (p + 4 + length f.header + head.size)) ≡ o
         → steps_of h p bytes ≡ unless (option_or w (option_or a (option_or o (first_fault (late head.kind head.size (blob_at f) f.blob))))) (Ok (Some f, drop (length (frame_bytes f)) bytes))
     unfolding steps_of prefix_at after_prefix frame_of header_of bytes_at head_of
     by_options (Some e) a o ew ea eo = rw (some, long, small, whole, ew) refl
@@ -150,8 +151,8 @@ module _ (h : Bool) (p : ℕ) (bytes : List ℕ) (some : length bytes == 0 ≡ f
 
     sound_cut : steps_of h p bytes ≡ given_or (first_fault after_cut) f bytes
     sound_cut =
-        by_options (wire HEADER_KINDS (items (p + 4) f.header)) (least (header_faults (p + 4) f.header)) (least (order_faults h p head.kind (p + 4 + length f.header + head.size))) refl refl refl
-        ∙ ap (λ (w : Option Fault). unless (option_or w (first_fault (header_faults (p + 4) f.header ∷ order_faults h p head.kind (p + 4 + length f.header + head.size) ∷ late head.kind head.size (blob_at f) f.blob))) (Ok (Some f, drop (length (frame_bytes f)) bytes))) (sym (leaf_is_wire HEADER_KINDS (items (p + 4) f.header)))
+        by_options (wire HEADER_KINDS (items (p + 4) f.header)) (least (header_faults (p + 4) f.header)) (least (order_faults (Some FILE_LIMIT) h p head.kind (p + 4 + length f.header + head.size))) refl refl refl
+        ∙ ap (λ (w : Option Fault). unless (option_or w (first_fault (header_faults (p + 4) f.header ∷ order_faults (Some FILE_LIMIT) h p head.kind (p + 4 + length f.header + head.size) ∷ late head.kind head.size (blob_at f) f.blob))) (Ok (Some f, drop (length (frame_bytes f)) bytes))) (sym (leaf_is_wire HEADER_KINDS (items (p + 4) f.header)))
         ∙ sym (given_is (first_fault after_cut) f bytes)
 
   steps_short : nat_lt (length (take 4 bytes)) 4 ≡ true → steps_of h p bytes ≡ Err (fault p PrefixCut)

@@ -8,6 +8,7 @@ use Rattle.pbf_wire.specs.Phases.{first_fault}
 use Rattle.pbf_wire.specs.Occurrence.{items, found}
 use Rattle.pbf_wire.specs.Reading.{last_of}
 use Rattle.pbf_frame.specs.declared.blob.TheConstants.{RAW}
+use Rattle.pbf_frame.specs.declared.frame.TheConstants.{FILE_LIMIT}
 use Rattle.pbf_frame.specs.declared.frame.FrameKind.{FrameKind}
 use Rattle.pbf_frame.specs.declared.frame.FrameKind.TheVariants as kind
 use Rattle.pbf_frame.specs.declared.header.TheConstants.{HEADER_KINDS, HEADER_LIMIT}
@@ -84,12 +85,12 @@ cut_faults f =
     else (if nat_le HEADER_LIMIT (big_number 4 f.prefix) then fault f.offset HeaderLong ∷ []
     else fault_where (nat_lt (length f.header) (big_number 4 f.prefix)) f.offset HeaderCut)
 
--- a frame of this kind that ends here is out of order, or ends too late
-abbrev pub order_faults : Bool → ℕ → FrameKind → ℕ → List Fault
-order_faults had_header place kind last =
+-- a frame of this kind that ends here is out of order, or ends too late: after the limit, if there is one
+abbrev pub order_faults : Option ℕ → Bool → ℕ → FrameKind → ℕ → List Fault
+order_faults limit had_header place kind last =
     fault_where (had_header && is_header kind) place SecondHeader
     ++ fault_where (not had_header && is_data kind) place DataFirst
-    ++ fault_where (nat_lt (2 ^ 62) last) place FileLong
+    ++ fault_where (option_map_or (λ most. nat_lt most last) limit false) place FileLong
 
 -- the blob of another type isn't read
 abbrev pub phases_of_blob : FrameKind → ℕ → List ℕ → List (List Fault)
@@ -97,22 +98,26 @@ phases_of_blob kind.Other at blob = []
 phases_of_blob _ at blob = blob_phases at blob
 
 -- all of them; whether a header frame came before says what order is right
-abbrev pub frame_phases : Bool → FrameSpec → List (List Fault)
-frame_phases had_header f =
+abbrev pub frame_phases : Option ℕ → Bool → FrameSpec → List (List Fault)
+frame_phases limit had_header f =
     let size = (head_says (header_at f) f.header).size in
     cut_faults f
     ∷ leaf_faults HEADER_KINDS f.offset (header_at f) f.header
     ∷ header_faults (header_at f) f.header
-    ∷ order_faults had_header f.offset (frame_kind f) (blob_at f + size)
+    ∷ order_faults limit had_header f.offset (frame_kind f) (blob_at f + size)
     ∷ fault_where (nat_lt (length f.blob) size) (blob_at f) BlobCut
     ∷ phases_of_blob (frame_kind f) (blob_at f) f.blob
 
 -- ---- the next frame
 
--- the next frame and the bytes after it, nothing at the end of a file that had its header, or the least fault of the frame's first phase
--- that has one
-unfoldable pub next_of : Bool → ℕ → List ℕ → Result (Option FrameSpec × List ℕ) Fault
-next_of had_header place bytes =
+-- the next frame and the bytes after it, nothing at the end of bytes that had their header, or the least fault of the frame's first phase
+-- that has one. The limit is that of the length of all bytes; without one they may have any
+unfoldable pub next_within : Option ℕ → Bool → ℕ → List ℕ → Result (Option FrameSpec × List ℕ) Fault
+next_within limit had_header place bytes =
     if length bytes == 0 then (if had_header then Ok (None, []) else Err (fault place NoHeader))
     else (let f = frame_at place bytes in
-    option_map_or Err (first_fault (frame_phases had_header f)) (Ok (Some f, drop (length (frame_bytes f)) bytes)))
+    option_map_or Err (first_fault (frame_phases limit had_header f)) (Ok (Some f, drop (length (frame_bytes f)) bytes)))
+
+-- the next frame of a file
+abbrev pub next_of : Bool → ℕ → List ℕ → Result (Option FrameSpec × List ℕ) Fault
+next_of = next_within (Some FILE_LIMIT)

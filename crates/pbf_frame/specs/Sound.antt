@@ -11,6 +11,7 @@ use Rattle.pbf_frame.specs.declared.frame.FrameKind.TheVariants as kind
 use Rattle.pbf_frame.specs.declared.header.TheConstants.{DATASIZE, HEADER_KINDS, HEADER_LIMIT}
 use Rattle.pbf_frame.specs.Header.{header_faults, size_of}
 use Rattle.pbf_frame.specs.Blob.{blob_fault}
+use Rattle.pbf_frame.specs.declared.frame.TheConstants.{FILE_LIMIT}
 use Rattle.pbf_frame.specs.Frames.{FrameSpec, is_header, header_at, blob_at, frame_kind, frame_end, order_faults, next_of}
 use Rattle.pbf_frame.specs.Verdict.{Verdict, joined_frames}
 
@@ -20,8 +21,8 @@ IsSound kind.Header at blob = blob_fault at blob ≡ None
 IsSound kind.Data at blob = blob_fault at blob ≡ None
 IsSound kind.Other at blob = Unit {0}
 
--- a frame without a fault at this place, whether a header frame came before or not
-pub record IsFrame (had_header : Bool) (place : ℕ) (f : FrameSpec) : Type 0 where
+-- a frame without a fault at this place, whether a header frame came before or not, with a limit of the length of all bytes or without one
+pub record IsFrameWithin (limit : Option ℕ) (had_header : Bool) (place : ℕ) (f : FrameSpec) : Type 0 where
   pub offset : f.offset ≡ place
   pub prefix_long : length f.prefix ≡ 4
   pub spelled : big_number 4 f.prefix ≡ length f.header
@@ -29,13 +30,20 @@ pub record IsFrame (had_header : Bool) (place : ℕ) (f : FrameSpec) : Type 0 wh
   pub wired : wire HEADER_KINDS (items (header_at f) f.header) ≡ None
   pub whole : least (header_faults (header_at f) f.header) ≡ None
   pub sized : size_of (last_of DATASIZE (found (items (header_at f) f.header))) ≡ Some (length f.blob)
-  pub ordered : least (order_faults had_header place (frame_kind f) (frame_end f)) ≡ None
+  pub ordered : least (order_faults limit had_header place (frame_kind f) (frame_end f)) ≡ None
   pub sound : IsSound (frame_kind f) (blob_at f) f.blob
 
+-- the same of a file's frame
+abbrev pub IsFrame : Bool → ℕ → FrameSpec → Type 0
+IsFrame = IsFrameWithin (Some FILE_LIMIT)
+
 -- frames without faults, one after the other, the first at this place
+abbrev pub AreFramesWithin : Option ℕ → Bool → ℕ → List FrameSpec → Type 0
+AreFramesWithin limit had_header place [] = Unit {0}
+AreFramesWithin limit had_header place (f ∷ fs) = IsFrameWithin limit had_header place f × AreFramesWithin limit (had_header || is_header (frame_kind f)) (frame_end f) fs
+
 abbrev pub AreFrames : Bool → ℕ → List FrameSpec → Type 0
-AreFrames had_header place [] = Unit {0}
-AreFrames had_header place (f ∷ fs) = IsFrame had_header place f × AreFrames (had_header || is_header (frame_kind f)) (frame_end f) fs
+AreFrames = AreFramesWithin (Some FILE_LIMIT)
 
 -- whether a header frame came before what follows them
 abbrev pub had_after : Bool → List FrameSpec → Bool

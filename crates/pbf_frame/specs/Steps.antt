@@ -14,6 +14,7 @@ use Rattle.pbf_frame.specs.declared.header.Head.{Head}
 use Rattle.pbf_frame.specs.declared.header.TheConstants.{HEADER_KINDS, HEADER_LIMIT}
 use Rattle.pbf_frame.specs.Header.{header_faults, head_says}
 use Rattle.pbf_frame.specs.Blob.{blob_fault}
+use Rattle.pbf_frame.specs.declared.frame.TheConstants.{FILE_LIMIT}
 use Rattle.pbf_frame.specs.Frames.{FrameSpec, order_faults}
 
 -- what follows, if nothing is wrong so far
@@ -50,7 +51,7 @@ unfoldable pub header_of : Bool → ℕ → List ℕ → List ℕ → Result ((L
 header_of had_header place prefix bytes = do
   header ← bytes_at (fault place HeaderCut) (big_number 4 prefix) bytes
   head ← head_of (place + 4) header.0
-  unless (least (order_faults had_header place head.kind (place + 4 + length header.0 + head.size))) (Ok ((header.0, head), header.1))
+  unless (least (order_faults (Some FILE_LIMIT) had_header place head.kind (place + 4 + length header.0 + head.size))) (Ok ((header.0, head), header.1))
 
 -- the blob of a header or of data, and the bytes after it
 unfoldable pub known_blob_of : ℕ → ℕ → List ℕ → Result (List ℕ × List ℕ) Fault

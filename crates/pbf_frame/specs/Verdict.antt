@@ -2,7 +2,8 @@
 use Rattle.std.specs.Prelude.{◌≡◌, ℕ, zero, suc, ◌+◌, List, [], ◌∷◌, ◌++◌, length, Bool, ◌||◌, Option, Some, None, Result, Ok, Err, IfSome}
 use Rattle.std.specs.Option.{option_map}
 use Rattle.pbf_wire.specs.declared.fault.Fault.{Fault}
-use Rattle.pbf_frame.specs.Frames.{FrameSpec, next_of, is_header, frame_kind, frame_end, frame_bytes}
+use Rattle.pbf_frame.specs.declared.frame.TheConstants.{FILE_LIMIT}
+use Rattle.pbf_frame.specs.Frames.{FrameSpec, next_within, is_header, frame_kind, frame_end, frame_bytes}
 
 abbrev pub Verdict : Type 0
 Verdict = List FrameSpec × Option Fault
@@ -18,17 +19,21 @@ judged_after later had_header (Ok (None, rest)) = ([], None)
 judged_after later had_header (Ok (Some f, rest)) = with_first f (later (had_header || is_header (frame_kind f)) (frame_end f) rest)
 
 -- the frames from a place on, with fuel for each of them
-unfoldable pub judged_within : ℕ → Bool → ℕ → List ℕ → Verdict
-judged_within zero had_header place bytes = ([], None)
-judged_within (suc fuel) had_header place bytes = judged_after (judged_within fuel) had_header (next_of had_header place bytes)
+unfoldable pub judged_fueled : Option ℕ → ℕ → Bool → ℕ → List ℕ → Verdict
+judged_fueled limit zero had_header place bytes = ([], None)
+judged_fueled limit (suc fuel) had_header place bytes = judged_after (judged_fueled limit fuel) had_header (next_within limit had_header place bytes)
 
--- the verdict on bytes at this place, whether a header frame came before or not
-unfoldable pub judged : Bool → ℕ → List ℕ → Verdict
-judged had_header place bytes = judged_within (length bytes + 1) had_header place bytes
+-- the verdict on bytes at this place, whether a header frame came before or not, with a limit of the length of all bytes or without one
+unfoldable pub judged_within : Option ℕ → Bool → ℕ → List ℕ → Verdict
+judged_within limit had_header place bytes = judged_fueled limit (length bytes + 1) had_header place bytes
 
--- the same of bytes that may not be known
+-- the same of a file's bytes
+abbrev pub judged : Bool → ℕ → List ℕ → Verdict
+judged = judged_within (Some FILE_LIMIT)
+
+-- the same of a file's bytes that may not be known
 abbrev pub judged_known : Bool → ℕ → Option (List ℕ) → Option Verdict
-judged_known had_header place known = option_map (judged had_header place) known
+judged_known had_header place known = option_map (judged_within (Some FILE_LIMIT) had_header place) known
 
 abbrev pub with_first_known : FrameSpec → Option Verdict → Option Verdict
 with_first_known f known = option_map (with_first f) known

@@ -3,6 +3,9 @@
 ghost use Rattle.std.specs.Prelude.{◌≡◌, ◌+◌, ◌<◌, ◌≤◌, ◌^◌, length, nat_le, if◌then◌else◌, Some, None};
 ghost use Rattle.pbf_frame.specs.declared.blob.TheConstants.{RAW_LIMIT};
 
+/// A file has at most this many bytes.
+pub const FILE_LIMIT: u64 = 1 << 62;
+
 /// What a frame is, by the type in its BlobHeader.
 #[derive(Clone, Copy, Debug, PartialEq, Eq)]
 pub enum FrameKind {
@@ -39,5 +42,5 @@ pub fn frame_end(offset: u64, header: u32, size: u32) -> Option<u64>
         then Some (offset + 4 + header + size) else None) }
 {
     let end = offset + 4 + u64::from(header) + u64::from(size);
-    if end <= 1 << 62 { Some(end) } else { None }
+    if end <= FILE_LIMIT { Some(end) } else { None }
 }

@@ -5,6 +5,7 @@ ghost use Rattle.byteorder.specs.Endian.{big_number};
 ghost use Rattle.pbf_wire.specs.Least.{least};
 ghost use Rattle.pbf_frame.specs.Devices.{IsAtEnd, Passes, given_prefix, prepend};
 ghost use Rattle.pbf_wire.specs.Faults.{fault};
+ghost use Rattle.pbf_frame.specs.declared.frame.TheConstants.{FILE_LIMIT};
 ghost use Rattle.pbf_frame.specs.Frames.{order_faults, next_of};
 ghost use Rattle.pbf_frame.specs.declared.header.TheConstants.{LARGEST_SIZE};
 ghost use Rattle.pbf_frame.specs.Reads.{Gives, IsReaderStop, IsFillStop, Reads, Skips, GaveBlob, GaveFrame, GaveEnd, IsPlaced};
@@ -15,7 +16,7 @@ ghost use Rattle.pbf_frame.specs.Steps.{prefix_at, bytes_at, header_of, known_bl
 
 use crate::blob::judge_blob;
 use crate::device::Feed;
-use crate::frame::FrameKind;
+use crate::frame::{FILE_LIMIT, FrameKind};
 use crate::header::{HEADER_LIMIT, Head, read_head};
 use crate::stop::Stop;
 use crate::transfer::fill;
@@ -119,7 +120,7 @@ fn read_bytes<F: Feed>(feed: &mut F, buf: &mut Vec<u8>, count: u32, cut: Fault) 
 // Whether a frame of this kind may be here and end here.
 #[tactic(auto, using(crate::proofs::Parts::lesser_parts))]
 fn judge_order(had_header: bool, place: u64, kind: FrameKind, end: u64) -> Option<Fault>
-    ensures { result ≡ least (order_faults had_header place kind end) }
+    ensures { result ≡ least (order_faults (Some FILE_LIMIT) had_header place kind end) }
 {
     let second = had_header && kind == FrameKind::Header;
     let first = !had_header && kind == FrameKind::Data;
@@ -127,7 +128,10 @@ fn judge_order(had_header: bool, place: u64, kind: FrameKind, end: u64) -> Optio
         fault_where(second, place, Reason::SecondHeader),
         fault_where(first, place, Reason::DataFirst),
     );
-    lesser(order, fault_where(end > 1 << 62, place, Reason::FileLong))
+    lesser(
+        order,
+        fault_where(end > FILE_LIMIT, place, Reason::FileLong),
+    )
 }
 
 // The header after a prefix, and what it says.
@@ -159,7 +163,7 @@ fn read_header<F: Feed>(
         (Passes (F.has_passed feed.old) header.new.items (F.has_passed feed.new)) }
     ensures spelled { OnOk result (length header.new.items ≡ big_number 4 prefix.now) }
     ensures ordered { IfOk result (λ head.
-        least (order_faults had_header place head.kind (place + 4 + length header.new.items
+        least (order_faults (Some FILE_LIMIT) had_header place head.kind (place + 4 + length header.new.items
         + head.size)) ≡ None) }
     ensures counts { F.failures feed.old ≤ F.failures feed.new }
     ensures stops { IfErr result (IsReaderStop (F.failures feed.old) (F.failures feed.new)) }

@@ -8,7 +8,7 @@ ghost use Rattle.pbf_frame.specs.declared.blob.TheConstants.{RAW_LIMIT};
 ghost use Rattle.pbf_frame.specs.declared.frame.FrameKind.{FrameKind};
 ghost use Rattle.pbf_frame.specs.declared.frame.FrameKind.TheVariants as kinds;
 ghost use Rattle.pbf_frame.specs.Frames.{FrameSpec, frame_bytes, frame_end, frame_kind, frame_payload, order_faults, next_of};
-ghost use Rattle.pbf_frame.specs.Sound.{IsFrame, AreFrames, had_after, place_after, IsLongestFront};
+ghost use Rattle.pbf_frame.specs.Sound.{IsFrame, IsFrameWithin, AreFrames, had_after, place_after, IsLongestFront};
 ghost use Rattle.pbf_frame.specs.Writing.{written_at, written_frame};
 ghost use Rattle.pbf_frame.specs.Verdict.{joined_frames, judged, with_all};
 
@@ -65,10 +65,11 @@ pub fn longest_front()
 /// A frame in written form has no fault if its order and its end have none; its kind and its payload are those that were
 /// written, and its bytes are the same wherever it is.
 pub fn written_frame_is_read()
-    ensures sound { (had_header : Bool) (place : ℕ) (kind : FrameKind) (payload : List ℕ)
-        → (kind ≡ kinds.Other → ⊥) → length payload < RAW_LIMIT
-        → least (order_faults had_header place kind (frame_end (written_at place kind payload)))
-        ≡ None → IsFrame had_header place (written_at place kind payload) }
+    ensures sound { (limit : Option ℕ) (had_header : Bool) (place : ℕ) (kind : FrameKind)
+        (payload : List ℕ) → (kind ≡ kinds.Other → ⊥) → length payload < RAW_LIMIT
+        → least (order_faults limit had_header place kind
+        (frame_end (written_at place kind payload))) ≡ None
+        → IsFrameWithin limit had_header place (written_at place kind payload) }
     ensures kind { (place : ℕ) (kind : FrameKind) (payload : List ℕ) → (kind ≡ kinds.Other → ⊥)
         → length payload < RAW_LIMIT → frame_kind (written_at place kind payload) ≡ kind }
     ensures payload { (place : ℕ) (kind : FrameKind) (payload : List ℕ) → (kind ≡ kinds.Other → ⊥)

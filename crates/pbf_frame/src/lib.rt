@@ -18,7 +18,7 @@ pub use blob::{
     BLOB_KINDS, BZIP2_DATA, LZ4_DATA, LZMA_DATA, RAW, RAW_LIMIT, RAW_SIZE, ZLIB_DATA, ZSTD_DATA,
 };
 pub use device::{Drain, Feed};
-pub use frame::{Frame, FrameKind, frame_end};
+pub use frame::{FILE_LIMIT, Frame, FrameKind, frame_end};
 pub use frame_parts::fill_vec;
 pub use header::{HEADER_LIMIT, Head, LARGEST_SIZE, read_head};
 pub use memory::{Pieces, Sink};

@@ -7,7 +7,7 @@ use Rattle.pbf_frame.specs.declared.reader.FrameReader.{FrameReader}
 use Rattle.pbf_frame.specs.declared.stop.Stop.{Stop}
 use Rattle.pbf_frame.specs.declared.stop.Stop.TheVariants as why
 use Rattle.pbf_frame.specs.Devices.{prepend, Passes}
-use Rattle.pbf_frame.specs.Frames.{FrameSpec, is_header, frame_kind, frame_end, frame_bytes, next_of}
+use Rattle.pbf_frame.specs.Frames.{FrameSpec, is_header, frame_kind, frame_end, frame_bytes, next_within, next_of}
 use Rattle.pbf_frame.specs.Next.{place_of, had_header_of}
 use Rattle.pbf_frame.specs.Sound.{IsFrame}
 use Rattle.pbf_frame.specs.Verdict.{Verdict, judged, judged_after, judged_known, with_first_known, with_all, joined_frames, Gone}
@@ -28,7 +28,7 @@ joined_one [] f = append-nil (frame_bytes f)
 joined_one (g ∷ frames) f = ap (λ (l : List ℕ). frame_bytes g ++ l) (joined_one frames f) ∙ sym (append_assoc (frame_bytes g) (joined_frames frames) (frame_bytes f))
 
 next_nothing : (p : ℕ) → next_of true p [] ≡ Ok (None, [])
-unfolding next_of
+unfolding next_within
 next_nothing p = refl
 
 judged_nothing : (p : ℕ) → judged true p [] ≡ ([], None)

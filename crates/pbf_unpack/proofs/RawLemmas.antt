@@ -16,6 +16,7 @@ use Rattle.pbf_frame.specs.declared.frame.FrameKind.{FrameKind}
 use Rattle.pbf_frame.specs.declared.frame.FrameKind.TheVariants as kind
 use Rattle.pbf_frame.specs.declared.header.Head.{Head}
 use Rattle.pbf_frame.specs.Blob.{blob_fault, blob_faults, raw_faults}
+use Rattle.pbf_frame.specs.declared.frame.TheConstants.{FILE_LIMIT}
 use Rattle.pbf_frame.specs.Frames.{FrameSpec, is_header, header_at, blob_at, frame_end, frame_kind, frame_bytes, frame_at, order_faults, next_of}
 use Rattle.pbf_frame.specs.Header.{head_says}
 use Rattle.pbf_frame.specs.Sound.{IsSound, IsFrame, AreFrames, EndsAs, had_after, place_after}
@@ -77,7 +78,7 @@ module _ (had : Bool) (place : ℕ) (f : FrameSpec) (is : IsFrame had place f) w
 
   ends : frame_end f ≤ 2 ^ 62
   ends =
-      let none = least_none (order_faults had place (frame_kind f) (frame_end f)) is.ordered in
+      let none = least_none (order_faults (Some FILE_LIMIT) had place (frame_kind f) (frame_end f)) is.ordered in
       let far = where_false (nat_lt (2 ^ 62) (frame_end f)) place FileLong (last_nil (fault_where (had && is_header (frame_kind f)) place SecondHeader ++ _) _ none) in
       grind (arith, nat_tests, far)
 

@@ -77,13 +77,13 @@ converted b pass h counts known written is p went =
     let verdict = same_verdict b p.frames p.writable in
     let sound = ap (λ (v : Verdict). v.1) verdict in
     let whole = packed.is ∙ (answer_is p.frames pass.header_at h p.header ∙ ap answer_bytes (sym verdict)) in
-    let kept = subst (λ (l : List ℕ). length l ≤ 2 ^ 62 → IsKept b l) (sym whole) (λ small. conversion_kept b sound small) in (
+    let kept = subst (λ (l : List ℕ). IsKept (verdict_on b) l) (sym whole) (conversion_kept b sound) in (
       record {
         sound = sound;
-        conversion = λ small. (kept small).conversion;
+        conversion = kept.conversion;
         counted = packed.counted ∙ ap (λ (l : List EntitySpec). counts_of l) (everything_picked (stored_entities p.frames) ∙ ap (λ (v : Verdict). stored_entities v.0) (sym verdict));
       },
-      record { is = whole; again = λ small. (kept small).again },
+      record { is = whole; again = kept.again },
     )
 
 -- what the first pass says of its file

@@ -138,13 +138,13 @@ module _ (choose : Choice) (select : List Decoded → List Decoded) (selection :
       let packed = went s.frames (is ∙ s.judged) in
       let sound = ap (λ (v : Verdict). v.1) verdict in
       let whole = packed.is ∙ answer in
-      let kept = subst (λ (l : List ℕ). length l ≤ 2 ^ 62 → IsKeptExtract choose select selection area edges b l) (sym whole) (λ small. extract_kept choose select selection area edges b sound small) in (
+      let kept = subst (λ (l : List ℕ). IsKeptExtract choose select selection area edges (verdict_on b) l) (sym whole) (extract_kept choose select selection area edges b sound) in (
         record {
           sound = sound;
-          extract = λ small. (kept small).extract;
+          extract = kept.extract;
           counted = packed.counted ∙ ap (λ (l : List EntitySpec). counts_of l) (s.picked ∙ ap (λ (v : Verdict). choose (stored_entities v.0)) (sym verdict));
         },
-        record { is = whole; again = λ small. (kept small).again },
+        record { is = whole; again = kept.again },
       )
 
   pub extracts_front : (known : Option Verdict) (old new : Option (List ℕ)) → known ≡ judged_file (Some b) → PacksFront pick h known old new → IsFront old new (extract_of choose area b)

@@ -7,9 +7,10 @@ use Rattle.pbf_wire.specs.declared.fault.Reason.TheVariants.{NoHeader}
 use Rattle.pbf_wire.specs.Least.{least_by}
 use Rattle.pbf_wire.specs.Phases.{first_fault, phase_rank}
 use Rattle.pbf_wire.proofs.PhaseLemmas.{IsFrom, later_from, parted_from, parted_found, phases_joined, or_first, first_of_joined}
-use Rattle.pbf_frame.specs.Frames.{FrameSpec, is_header, frame_at, frame_kind, frame_end, frame_bytes, frame_phases, next_of}
+use Rattle.pbf_frame.specs.declared.frame.TheConstants.{FILE_LIMIT}
+use Rattle.pbf_frame.specs.Frames.{FrameSpec, is_header, frame_at, frame_kind, frame_end, frame_bytes, frame_phases, next_within}
 use Rattle.pbf_frame.proofs.Stepping.{given_or}
-use Rattle.pbf_frame.specs.Verdict.{Verdict, judged_after, judged_within, judged}
+use Rattle.pbf_frame.specs.Verdict.{Verdict, judged_after, judged_fueled, judged_within}
 use Rattle.pbf_header.specs.HeaderFaults.{header_fault}
 use Rattle.pbf_block.specs.PrimitiveBlock.{block_fault}
 use Rattle.pbfcut.specs.FileFaults.{payload_phases, frame_faults, end_faults, faults_within, file_faults, file_rank}
@@ -24,11 +25,11 @@ payload_first (header_block at message) = refl
 payload_first (primitive_block at message) = refl
 payload_first unknown = refl
 
-frame_first : (had_header : Bool) (f : FrameSpec) → option_map (λ p. p.1) (least_by phase_rank (frame_faults had_header f)) ≡ option_or (first_fault (frame_phases had_header f)) (payload_fault f)
+frame_first : (had_header : Bool) (f : FrameSpec) → option_map (λ p. p.1) (least_by phase_rank (frame_faults had_header f)) ≡ option_or (first_fault (frame_phases (Some FILE_LIMIT) had_header f)) (payload_fault f)
 frame_first had_header f =
-    phases_joined 1 (frame_phases had_header f ++ payload_phases (payload_of f))
-    ∙ first_of_joined (frame_phases had_header f) (payload_phases (payload_of f))
-    ∙ ap (option_or (first_fault (frame_phases had_header f))) (payload_first (payload_of f))
+    phases_joined 1 (frame_phases (Some FILE_LIMIT) had_header f ++ payload_phases (payload_of f))
+    ∙ first_of_joined (frame_phases (Some FILE_LIMIT) had_header f) (payload_phases (payload_of f))
+    ∙ ap (option_or (first_fault (frame_phases (Some FILE_LIMIT) had_header f))) (payload_first (payload_of f))
 
 -- ---- the verdict, frame by frame
 
@@ -76,10 +77,10 @@ module _ (fuel : ℕ) (had_header : Bool) (place : ℕ) (bytes : List ℕ) where
   later = faults_within fuel (had_header || is_header (frame_kind f)) (frame_end f) (drop (length (frame_bytes f)) bytes)
 
   abbrev after : Option Fault
-  after = (fully (judged_within fuel (had_header || is_header (frame_kind f)) (frame_end f) (drop (length (frame_bytes f)) bytes))).1
+  after = (fully (judged_fueled (Some FILE_LIMIT) fuel (had_header || is_header (frame_kind f)) (frame_end f) (drop (length (frame_bytes f)) bytes))).1
 
   abbrev own : Option Fault
-  own = first_fault (frame_phases had_header f)
+  own = first_fault (frame_phases (Some FILE_LIMIT) had_header f)
 
   abbrev all_of : Bool → List (ℕ × (ℕ × Fault))
   all_of b = if b then map (λ p. (place, p)) (end_faults had_header place) else (map (λ p. (place, p)) (frame_faults had_header f) ++ later)
@@ -101,9 +102,9 @@ module _ (fuel : ℕ) (had_header : Bool) (place : ℕ) (bytes : List ℕ) where
         ∙ sym (or_first own (payload_fault f) after)
 
     same_here : option_map (λ p. p.1.1) (least_by file_rank later) ≡ after → (b : Bool)
-        → option_map (λ p. p.1.1) (least_by file_rank (all_of b)) ≡ (fully (judged_after (judged_within fuel) had_header (if b then end_of had_header place else given_or own f bytes))).1
-    same_here is true = ends_same (judged_within fuel) had_header place
-    same_here is false = frame_then is ∙ sym (after_frame (judged_within fuel) had_header own f bytes)
+        → option_map (λ p. p.1.1) (least_by file_rank (all_of b)) ≡ (fully (judged_after (judged_fueled (Some FILE_LIMIT) fuel) had_header (if b then end_of had_header place else given_or own f bytes))).1
+    same_here is true = ends_same (judged_fueled (Some FILE_LIMIT) fuel) had_header place
+    same_here is false = frame_then is ∙ sym (after_frame (judged_fueled (Some FILE_LIMIT) fuel) had_header own f bytes)
 
 from_place : (fuel : ℕ) (had_header : Bool) (place : ℕ) (bytes : List ℕ) → IsFrom place (least_by file_rank (faults_within fuel had_header place bytes))
 unfolding faults_within
@@ -112,8 +113,8 @@ from_place (suc fuel) had_header place bytes =
     let f = frame_at place bytes in
     from_here fuel had_header place bytes (from_place fuel (had_header || is_header (frame_kind f)) (frame_end f) (drop (length (frame_bytes f)) bytes)) (length bytes == 0)
 
-faults_same : (fuel : ℕ) (had_header : Bool) (place : ℕ) (bytes : List ℕ) → option_map (λ p. p.1.1) (least_by file_rank (faults_within fuel had_header place bytes)) ≡ (fully (judged_within fuel had_header place bytes)).1
-unfolding faults_within judged_within next_of
+faults_same : (fuel : ℕ) (had_header : Bool) (place : ℕ) (bytes : List ℕ) → option_map (λ p. p.1.1) (least_by file_rank (faults_within fuel had_header place bytes)) ≡ (fully (judged_fueled (Some FILE_LIMIT) fuel had_header place bytes)).1
+unfolding faults_within judged_fueled next_within
 faults_same zero had_header place bytes = refl
 faults_same (suc fuel) had_header place bytes =
     let f = frame_at place bytes in
@@ -124,5 +125,5 @@ faults_same (suc fuel) had_header place bytes =
 -- ---- a file
 
 pub file_first : (file : List ℕ) → option_map (λ verdict. verdict.1) (judged_file (Some file)) ≡ Some (option_map (λ p. p.1.1) (least_by file_rank (file_faults file)))
-unfolding judged
+unfolding judged_within
 file_first file = ap Some (sym (faults_same (length file + 1) false 0 file))

@@ -15,11 +15,11 @@ use Rattle.osm_entity.specs.Ranges.{EntityFits, EntityTyped}
 use Rattle.osm_entity.specs.Weight.{text_weight, entity_weight}
 use Rattle.pbf_frame.specs.declared.frame.FrameKind.{FrameKind}
 use Rattle.pbf_frame.specs.declared.frame.FrameKind.TheVariants as kind
-use Rattle.pbf_frame.specs.Frames.{FrameSpec, frame_end, frame_kind, frame_payload, frame_payload_at, order_faults, is_header, next_of}
-use Rattle.pbf_frame.specs.Sound.{IsFrame, AreFrames, had_after, place_after}
-use Rattle.pbf_frame.specs.Verdict.{Verdict, judged_within, judged, with_first, with_all, joined_frames}
+use Rattle.pbf_frame.specs.Frames.{FrameSpec, frame_end, frame_kind, frame_payload, frame_payload_at, is_header}
+use Rattle.pbf_frame.specs.Sound.{IsFrameWithin, AreFramesWithin, had_after}
+use Rattle.pbf_frame.specs.Verdict.{Verdict, judged_within, with_first, joined_frames}
 use Rattle.pbf_frame.specs.Writing.{written_at, written_frame}
-use Rattle.pbf_frame.proofs.Longest.{frames_then_rest}
+use Rattle.pbf_frame.proofs.AnyLength.{whole_file}
 use Rattle.pbf_frame.proofs.ReadBack.{written_is_frame, written_kind, written_payload, written_bytes}
 use Rattle.pbf_header.specs.Header.{HeaderSpec}
 use Rattle.pbf_header.specs.HeaderFaults.{header_fault}
@@ -35,8 +35,8 @@ use Rattle.osm_pack.proofs.CutLemmas.{kept_bounds}
 use Rattle.osm_pack.proofs.OpenLemmas.{alone}
 use Rattle.pbf_pass.specs.HeaderLimit.{header_limit, with_limit, limited}
 use Rattle.pbf_pass.specs.Counting.{entities_in, frame_entities, stored_entities}
-use Rattle.pbfcut.specs.Kept.{verdict_on}
-use Rattle.pbf_pass.specs.Judged.{fault_in, payload_fault, sound_first, sound_front, fully, judged_file}
+use Rattle.pbfcut.specs.Kept.{verdict_within, header_read}
+use Rattle.pbf_pass.specs.Judged.{fault_in, payload_fault, sound_first, sound_front, fully}
 use Rattle.pbf_pass.specs.Pass.{headers_in, frame_headers, file_header}
 use Rattle.pbf_pass.specs.Payload.{header_block, payload_as}
 use Rattle.pbf_header.specs.declared.write.TheConstants.{MOST_HEADER_TEXT}
@@ -44,34 +44,15 @@ use Rattle.osm_entity.specs.declared.weight.TheConstants.{HIGHEST_WEIGHT}
 
 -- ---- what a file says
 
--- these bytes are a file of this header and of these entities, which can be written again
-pub record IsFileOf (file : List ℕ) (h : HeaderSpec) (es : List EntitySpec) : Type 0 where
+-- what is read is this header and these entities, which can be written again
+pub record IsFileOf (read : Verdict) (h : HeaderSpec) (es : List EntitySpec) : Type 0 where
   pub frames : List FrameSpec
-  pub verdict : verdict_on file ≡ (frames, None)
+  pub verdict : read ≡ (frames, None)
   pub place : ℕ
   pub placed : file_header frames ≡ Some (place, h)
   pub entities : stored_entities frames ≡ es
 
 -- ---- one frame
-
--- where a written frame ends
-end_is : (place : ℕ) (k : FrameKind) (payload : List ℕ) → frame_end (written_at place k payload) ≡ place + length (written_frame k payload)
-end_is place k payload =
-    let f = written_at place k payload in
-    let four : length f.prefix ≡ 4 = refl in
-    omega (arith, four, ap length (written_bytes place k payload), length-append (f.prefix ++ f.header) f.blob, length-append f.prefix f.header)
-
--- a frame of data after a header frame is in order
-data_ordered : (place last : ℕ) → last ≤ 2 ^ 62 → least (order_faults true place kind.Data last) ≡ None
-data_ordered place last low =
-    let within : nat_lt (2 ^ 62) last ≡ false = grind (arith, nat_tests, low) in
-    ap (λ (b : Bool). least (fault_where b place FileLong)) within
-
--- a header frame at the start is in order
-header_ordered : (last : ℕ) → last ≤ 2 ^ 62 → least (order_faults false 0 kind.Header last) ≡ None
-header_ordered last low =
-    let within : nat_lt (2 ^ 62) last ≡ false = grind (arith, nat_tests, low) in
-    ap (λ (b : Bool). least (fault_where b 0 FileLong)) within
 
 known_data : kind.Data ≡ kind.Other → ⊥
 known_data e = cc
@@ -97,9 +78,8 @@ module _ (place : ℕ) (block : List EntitySpec) (is : IsWritten block) where
   block_payload : frame_payload (block_at place block) ≡ block_message block
   block_payload = written_payload place kind.Data (block_message block) known_data (block_fits block is.together)
 
-  block_is_frame : frame_end (block_at place block) ≤ 2 ^ 62 → IsFrame true place (block_at place block)
-  block_is_frame low =
-      written_is_frame place kind.Data (block_message block) known_data (block_fits block is.together) true (data_ordered place (frame_end (block_at place block)) low)
+  block_is_frame : IsFrameWithin None true place (block_at place block)
+  block_is_frame = written_is_frame place kind.Data (block_message block) known_data (block_fits block is.together) None true refl
 
   block_sound : payload_fault (block_at place block) ≡ None
   block_sound =
@@ -129,12 +109,9 @@ blocks_joined place (block ∷ blocks) =
     ap (λ (l : List ℕ). l ++ joined_frames (blocks_at (frame_end (block_at place block)) blocks)) (written_bytes place kind.Data (block_message block))
     ∙ ap (λ (l : List ℕ). block_frame block ++ l) (blocks_joined (frame_end (block_at place block)) blocks)
 
-blocks_are_frames : (place : ℕ) (blocks : List (List EntitySpec)) → AllByRecursion IsWritten blocks → place + length (flat_map block_frame blocks) ≤ 2 ^ 62 → AreFrames true place (blocks_at place blocks)
-blocks_are_frames place [] are low = tt
-blocks_are_frames place (block ∷ blocks) are low =
-    let end = end_is place kind.Data (block_message block) in
-    let both = length-append (block_frame block) (flat_map block_frame blocks) in
-    (block_is_frame place block are.0 (omega (arith, low, end, both)), blocks_are_frames (frame_end (block_at place block)) blocks are.1 (omega (arith, low, end, both)))
+blocks_are_frames : (place : ℕ) (blocks : List (List EntitySpec)) → AllByRecursion IsWritten blocks → AreFramesWithin None true place (blocks_at place blocks)
+blocks_are_frames place [] are = tt
+blocks_are_frames place (block ∷ blocks) are = (block_is_frame place block are.0, blocks_are_frames (frame_end (block_at place block)) blocks are.1)
 
 blocks_sound : (place : ℕ) (blocks : List (List EntitySpec)) → AllByRecursion IsWritten blocks → sound_front (blocks_at place blocks) None ≡ (blocks_at place blocks, None)
 blocks_sound place [] are = refl
@@ -182,11 +159,7 @@ header_stays : (frames : List FrameSpec) → had_after true frames ≡ true
 header_stays [] = refl
 header_stays (f ∷ frames) = header_stays frames
 
-nothing_left : (place : ℕ) → judged true place [] ≡ ([], None)
-unfolding judged judged_within next_of
-nothing_left place = refl
-
-module _ (h : HeaderSpec) (es : List EntitySpec) (fits : HeaderFits (header_out_for_convert h)) (short : text_weight h.source + text_weight h.url ≤ MOST_HEADER_TEXT) (fit : AllByRecursion EntityFits es) (typed : AllByRecursion EntityTyped es) (small : length (written_file h es) ≤ 2 ^ 62) where
+module _ (h : HeaderSpec) (es : List EntitySpec) (fits : HeaderFits (header_out_for_convert h)) (short : text_weight h.source + text_weight h.url ≤ MOST_HEADER_TEXT) (fit : AllByRecursion EntityFits es) (typed : AllByRecursion EntityTyped es) where
   abbrev message : List ℕ
   message = header_message (header_out_for_convert h)
 
@@ -231,30 +204,20 @@ module _ (h : HeaderSpec) (es : List EntitySpec) (fits : HeaderFits (header_out_
   joined_all : joined_frames file_frames ≡ written_file h es
   joined_all = ap (λ (l : List ℕ). l ++ joined_frames later) (written_bytes 0 kind.Header message) ∙ ap (λ (l : List ℕ). header_frame h ++ l) (blocks_joined (frame_end first) (cuts es))
 
-  are_frames : AreFrames false 0 file_frames
-  are_frames =
-      let end = end_is 0 kind.Header message in
-      let both = length-append (header_frame h) (written_entities es) in (
-        written_is_frame 0 kind.Header message known_header message_short false (header_ordered (frame_end first) (omega (arith, small, end, both))),
-        subst (λ (k : FrameKind). AreFrames (is_header k) (frame_end first) later) (sym first_kind) (blocks_are_frames (frame_end first) (cuts es) written (omega (arith, small, end, both))),
-      )
+  are_frames : AreFramesWithin None false 0 file_frames
+  are_frames = (
+    written_is_frame 0 kind.Header message known_header message_short None false refl,
+    subst (λ (k : FrameKind). AreFramesWithin None (is_header k) (frame_end first) later) (sym first_kind) (blocks_are_frames (frame_end first) (cuts es) written),
+  )
 
   had_header : had_after false file_frames ≡ true
   had_header = ap (λ (k : FrameKind). had_after (is_header k) later) first_kind ∙ header_stays later
 
-  file_judged : judged false 0 (written_file h es) ≡ (file_frames, None)
-  file_judged =
-      let last = place_after 0 file_frames in
-      ap (λ (l : List ℕ). judged false 0 l) (sym (append-nil (joined_frames file_frames) ∙ joined_all))
-      ∙ (frames_then_rest false 0 file_frames [] are_frames
-      ∙ (ap (λ (b : Bool). with_all file_frames (judged b last [])) had_header
-      ∙ (ap (λ (v : Verdict). with_all file_frames v) (nothing_left last) ∙ ap (λ (l : List FrameSpec). let v : Verdict = (l, None) in v) (append-nil file_frames))))
+  file_judged : judged_within None false 0 (written_file h es) ≡ (file_frames, None)
+  file_judged = ap (judged_within None false 0) (sym joined_all) ∙ whole_file None false 0 file_frames are_frames had_header
 
   file_sound : fully (file_frames, None) ≡ (file_frames, None)
   file_sound = ap (λ (o : Option Fault). sound_first o first (sound_front later None)) first_sound ∙ ap (λ (v : Verdict). with_first first v) (blocks_sound (frame_end first) (cuts es) written)
-
-  pub file_verdict : judged_file (Some (written_file h es)) ≡ Some (file_frames, None)
-  file_verdict = ap (λ (v : Verdict). Some (fully v)) file_judged ∙ ap (λ (v : Verdict). Some v) file_sound
 
   pub file_stored : stored_entities file_frames ≡ es
   file_stored = ap (λ (l : List EntitySpec). l ++ stored_entities later) first_entities ∙ (blocks_stored (frame_end first) (cuts es) written ∙ cuts_joined es)
@@ -263,9 +226,6 @@ module _ (h : HeaderSpec) (es : List EntitySpec) (fits : HeaderFits (header_out_
   file_placed =
       ap (λ (l : List (ℕ × HeaderSpec)). last_or None (l ++ flat_map frame_headers later)) first_headers ∙ ap (λ (l : List (ℕ × HeaderSpec)). last_or None (placed ∷ l)) (blocks_headers (frame_end first) (cuts es) written)
 
-  pub file_read : (frames : List FrameSpec) × (judged_file (Some (written_file h es)) ≡ Some (frames, None)) × (stored_entities frames ≡ es) × (option_map (λ p. p.1) (file_header frames) ≡ Some (header_out_for_convert h))
-  file_read = (file_frames, file_verdict, file_stored, ap (λ (o : Option (ℕ × HeaderSpec)). option_map (λ p. p.1) o) file_placed)
-
   -- ---- with the limit of its header
 
   header_within : header_limit (file_header file_frames) ≡ None
@@ -273,10 +233,17 @@ module _ (h : HeaderSpec) (es : List EntitySpec) (fits : HeaderFits (header_out_
       let light : nat_le (text_weight h.source + text_weight h.url) MOST_HEADER_TEXT ≡ true = grind (arith, nat_tests, short) in
       ap header_limit file_placed ∙ ap (λ (b : Bool). if b then None else Some (fault placed.0 EntityLarge)) light
 
-  file_limited : verdict_on (written_file h es) ≡ (file_frames, None)
+  file_limited : verdict_within None (written_file h es) ≡ (file_frames, None)
   file_limited =
       ap (λ (v : Verdict). limited (fully v)) file_judged ∙ (ap limited file_sound ∙ ap (λ (o : Option Fault). with_limit o file_frames) header_within)
 
   -- it is a file of what was written
-  pub written_is_file : IsFileOf (written_file h es) (header_out_for_convert h) es
+  pub written_is_file : IsFileOf (verdict_within None (written_file h es)) (header_out_for_convert h) es
   written_is_file = record { frames = file_frames; verdict = file_limited; place = frame_payload_at first; placed = file_placed; entities = file_stored }
+
+  pub file_read : ((verdict_within None (written_file h es)).1 ≡ None) × (header_read (verdict_within None (written_file h es)) ≡ Some (header_out_for_convert h)) × (stored_entities (verdict_within None (written_file h es)).0 ≡ es)
+  file_read = (
+    ap (λ (v : Verdict). v.1) file_limited,
+    ap header_read file_limited ∙ ap (λ (o : Option (ℕ × HeaderSpec)). option_map (λ p. p.1) o) file_placed,
+    ap (λ (v : Verdict). stored_entities v.0) file_limited ∙ file_stored,
+  )

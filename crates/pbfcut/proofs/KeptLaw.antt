@@ -20,9 +20,11 @@ use Rattle.osm_ways.proofs.Decoding.{seen_alike}
 use Rattle.osm_ways.proofs.Extracts.{chosen_twice, chosen_viewed, keeps_settled}
 use Rattle.osm_ways.proofs.ParentLaws.{keeps_with_parents_settled}
 use Rattle.pbf_frame.specs.declared.frame.FrameKind.TheVariants as kind
+use Rattle.pbf_frame.specs.declared.frame.TheConstants.{FILE_LIMIT}
 use Rattle.pbf_frame.specs.Frames.{FrameSpec}
-use Rattle.pbf_frame.specs.Verdict.{Verdict, judged}
+use Rattle.pbf_frame.specs.Verdict.{Verdict, judged, judged_within}
 use Rattle.pbf_frame.specs.Writing.{written_frame}
+use Rattle.pbf_frame.proofs.AnyLength.{same_within}
 use Rattle.pbf_header.specs.Header.{HeaderSpec}
 use Rattle.pbf_header.specs.WrittenHeader.{edges_of, header_message, header_out_for_box, header_out_for_convert, EdgesTyped, HeaderFits}
 use Rattle.pbf_block.proofs.FitsLaw.{entities_fit, entities_typed}
@@ -35,7 +37,7 @@ use Rattle.pbf_pass.specs.HeaderLimit.{header_limit, is_short, with_limit, limit
 use Rattle.pbf_pass.specs.Counting.{entities_in, frame_entities, stored_entities}
 use Rattle.pbfcut.specs.Extracting.{Choice, complete_ways, all_parents, extraction, extract_bytes}
 use Rattle.pbf_pass.specs.Judged.{fault_in, payload_fault, sound_first, sound_front, fully}
-use Rattle.pbfcut.specs.Kept.{verdict_on, IsWritable, header_in_file, entities_in_file, conversion_of, extract_of}
+use Rattle.pbfcut.specs.Kept.{verdict_within, verdict_on, IsWritable, header_read, conversion_of, extract_of}
 use Rattle.pbfcut.specs.Theorem.{IsConversion, IsExtract}
 use Rattle.pbf_pass.specs.Pass.{headers_in, frame_headers, file_header}
 use Rattle.pbf_pass.specs.Payload.{Payload, header_block, primitive_block, unknown, payload_of}
@@ -139,7 +141,7 @@ record CanWrite (h : HeaderSpec) (es : List EntitySpec) : Type 0 where
 record IsReadable (file : List ℕ) : Type 0 where
   header : HeaderSpec
   entities : List EntitySpec
-  is : IsFileOf file header entities
+  is : IsFileOf (verdict_on file) header entities
   can : CanWrite header entities
 
 readable : (file : List ℕ) → IsWritable file → IsReadable file
@@ -155,26 +157,26 @@ readable file sound =
       can = record { fits = found.fits; short = found.short; fit = all_fit v.0 (front_sound front.0 front.1 p.sound); typed = all_typed v.0 };
     }
 
-is_again : (h : HeaderSpec) (es : List EntitySpec) → CanWrite h es → length (written_file h es) ≤ 2 ^ 62 → IsFileOf (written_file h es) (header_out_for_convert h) es
-is_again h es can small = written_is_file h es can.fits can.short can.fit can.typed small
+is_again : (h : HeaderSpec) (es : List EntitySpec) → CanWrite h es → IsFileOf (verdict_within None (written_file h es)) (header_out_for_convert h) es
+is_again h es can = written_is_file h es can.fits can.short can.fit can.typed
 
-module _ (file : List ℕ) (h : HeaderSpec) (es : List EntitySpec) (is : IsFileOf file h es) where
-  is_sound : IsWritable file
+module _ (read : Verdict) (h : HeaderSpec) (es : List EntitySpec) (is : IsFileOf read h es) where
+  is_sound : read.1 ≡ None
   is_sound = ap (λ (v : Verdict). v.1) is.verdict
 
-  header_is : header_in_file file ≡ Some h
-  header_is = ap (λ (v : Verdict). option_map (λ p. p.1) (file_header v.0)) is.verdict ∙ ap (λ (o : Option Placed). option_map (λ p. p.1) o) is.placed
+  header_is : header_read read ≡ Some h
+  header_is = ap header_read is.verdict ∙ ap (λ (o : Option Placed). option_map (λ p. p.1) o) is.placed
 
-  entities_are : entities_in_file file ≡ es
+  entities_are : stored_entities read.0 ≡ es
   entities_are = ap (λ (v : Verdict). stored_entities v.0) is.verdict ∙ is.entities
 
-  converted_is : conversion_of file ≡ written_file h es
+  converted_is : answer_bytes read ≡ written_file h es
   converted_is =
       ap answer_bytes is.verdict
       ∙ (ap (λ (o : Option Placed). conversion o (stored_entities is.frames)) is.placed
       ∙ ap (λ (l : List EntitySpec). written_file h l) is.entities)
 
-  extracted_is : (choose : Choice) (area : BoundingBox) → extract_of choose area file ≡ written_file (header_out_for_box area h) (choose es)
+  extracted_is : (choose : Choice) (area : BoundingBox) → extract_bytes choose area read ≡ written_file (header_out_for_box area h) (choose es)
   extracted_is choose area =
       ap (λ (v : Verdict). extract_bytes choose area v) is.verdict
       ∙ (ap (λ (o : Option Placed). extraction choose area o (stored_entities is.frames)) is.placed
@@ -183,35 +185,50 @@ module _ (file : List ℕ) (h : HeaderSpec) (es : List EntitySpec) (is : IsFileO
 pub same_verdict : (file : List ℕ) (frames : List FrameSpec) → judged_writable (Some file) ≡ Some (frames, None) → verdict_on file ≡ (frames, None)
 same_verdict file frames is = ap (λ (o : Option Verdict). unwrap_or o (frames, None)) is
 
+-- ---- a file of any length that keeps to the limit
+
+first_ends : (o : Option Fault) (f : FrameSpec) (v : Verdict) → (sound_first o f v).1 ≡ None → v.1 ≡ None
+first_ends None f v e = e
+first_ends (Some x) f v e = absurd (cc)
+
+front_ends : (frames : List FrameSpec) (ending : Option Fault) → (sound_front frames ending).1 ≡ None → ending ≡ None
+front_ends [] ending e = e
+front_ends (f ∷ frames) ending e = front_ends frames ending (first_ends (payload_fault f) f (sound_front frames ending) e)
+
+pub same_as_a_file : (bytes : List ℕ) → length bytes ≤ FILE_LIMIT → (verdict_within None bytes).1 ≡ None → verdict_on bytes ≡ verdict_within None bytes
+same_as_a_file bytes low none =
+    let v = judged_within None false 0 bytes in
+    ap (λ (v : Verdict). limited (fully v)) (same_within FILE_LIMIT false 0 bytes low (front_ends v.0 v.1 (passes (fully v) none).sound))
+
 -- ---- a conversion
 
 written_for_out : (h : HeaderSpec) (es : List EntitySpec) → written_file (header_out_for_convert h) es ≡ written_file h es
 written_for_out h es = ap (λ (g : HeaderSpec). written_frame kind.Header (header_message g) ++ written_entities es) (header_again h.bbox h.bbox h)
 
 -- it means the same, and its conversion is the same bytes
-pub record IsKept (file written : List ℕ) : Type 0 where
-  pub conversion : IsConversion file written
-  pub again : conversion_of written ≡ written
+pub record IsKept (read : Verdict) (written : List ℕ) : Type 0 where
+  pub conversion : IsConversion read (verdict_within None written)
+  pub again : answer_bytes (verdict_within None written) ≡ written
 
-conversion_written : (file : List ℕ) (h : HeaderSpec) (es : List EntitySpec) → IsFileOf file h es → CanWrite h es → length (written_file h es) ≤ 2 ^ 62 → IsKept file (written_file h es)
-conversion_written file h es is can small =
-    let again = is_again h es can small in
+conversion_written : (read : Verdict) (h : HeaderSpec) (es : List EntitySpec) → IsFileOf read h es → CanWrite h es → IsKept read (written_file h es)
+conversion_written read h es is can =
+    let again = is_again h es can in
     let out = header_out_for_convert h in
-    let written = written_file h es in
+    let written = verdict_within None (written_file h es) in
     record {
       conversion = record {
         sound = is_sound written out es again;
-        header = header_is written out es again ∙ sym (ap (λ (o : Option HeaderSpec). option_map header_out_for_convert o) (header_is file h es is));
-        entities = entities_are written out es again ∙ sym (entities_are file h es is);
+        header = header_is written out es again ∙ sym (ap (λ (o : Option HeaderSpec). option_map header_out_for_convert o) (header_is read h es is));
+        entities = entities_are written out es again ∙ sym (entities_are read h es is);
       };
       again = converted_is written out es again ∙ written_for_out h es;
     }
 
-pub conversion_kept : (file : List ℕ) → IsWritable file → length (conversion_of file) ≤ 2 ^ 62 → IsKept file (conversion_of file)
-conversion_kept file sound small =
+pub conversion_kept : (file : List ℕ) → IsWritable file → IsKept (verdict_on file) (conversion_of file)
+conversion_kept file sound =
     let r = readable file sound in
-    let e = converted_is file r.header r.entities r.is in
-    subst (λ (w : List ℕ). IsKept file w) (sym e) (conversion_written file r.header r.entities r.is r.can (subst (λ (w : List ℕ). length w ≤ 2 ^ 62) e small))
+    let e = converted_is (verdict_on file) r.header r.entities r.is in
+    subst (λ (w : List ℕ). IsKept (verdict_on file) w) (sym e) (conversion_written (verdict_on file) r.header r.entities r.is r.can)
 
 -- ---- an extract
 
@@ -224,9 +241,9 @@ pub record IsSelection (choose : Choice) (select : List Decoded → List Decoded
 
 module _ (choose : Choice) (select : List Decoded → List Decoded) (selection : IsSelection choose select) (area : BoundingBox) (edges : EdgesTyped (edges_of area)) where
   -- it means what is selected, and its extract is the same bytes
-  pub record IsKeptExtract (file written : List ℕ) : Type 0 where
-    pub extract : IsExtract choose select area file written
-    pub again : extract_of choose area written ≡ written
+  pub record IsKeptExtract (read : Verdict) (written : List ℕ) : Type 0 where
+    pub extract : IsExtract choose select area read (verdict_within None written)
+    pub again : extract_bytes choose area (verdict_within None written) ≡ written
 
   can_extract : (h : HeaderSpec) (es : List EntitySpec) → CanWrite h es → CanWrite (header_out_for_box area h) (choose es)
   can_extract h es can = record {
@@ -236,30 +253,29 @@ module _ (choose : Choice) (select : List Decoded → List Decoded) (selection :
     typed = selection.typed es can.typed;
   }
 
-  extract_written : (file : List ℕ) (h : HeaderSpec) (es : List EntitySpec) → IsFileOf file h es → CanWrite h es → length (written_file (header_out_for_box area h) (choose es)) ≤ 2 ^ 62
-      → IsKeptExtract file (written_file (header_out_for_box area h) (choose es))
-  extract_written file h es is can small =
+  extract_written : (read : Verdict) (h : HeaderSpec) (es : List EntitySpec) → IsFileOf read h es → CanWrite h es → IsKeptExtract read (written_file (header_out_for_box area h) (choose es))
+  extract_written read h es is can =
       let out = header_out_for_box area h in
       let kept = choose es in
-      let written = written_file out kept in
+      let written = verdict_within None (written_file out kept) in
       let once : header_out_for_convert out ≡ out = header_again (Some (edges_of area)) (Some (edges_of area)) h in
-      let again = subst (λ (g : HeaderSpec). IsFileOf written g kept) once (is_again out kept (can_extract h es can) small) in
-      let entities = entities_are written out kept again ∙ ap choose (sym (entities_are file h es is)) in
+      let again = subst (λ (g : HeaderSpec). IsFileOf written g kept) once (is_again out kept (can_extract h es can)) in
+      let entities = entities_are written out kept again ∙ ap choose (sym (entities_are read h es is)) in
       record {
         extract = record {
           sound = is_sound written out kept again;
-          header = header_is written out kept again ∙ sym (ap (λ (o : Option HeaderSpec). option_map (header_out_for_box area) o) (header_is file h es is));
-          meaning = ap (λ (l : List EntitySpec). map entity.decoded l) entities ∙ selection.meaning (entities_in_file file);
+          header = header_is written out kept again ∙ sym (ap (λ (o : Option HeaderSpec). option_map (header_out_for_box area) o) (header_is read h es is));
+          meaning = ap (λ (l : List EntitySpec). map entity.decoded l) entities ∙ selection.meaning (stored_entities read.0);
           entities = entities;
         };
         again = extracted_is written out kept again choose area ∙ (ap (λ (g : HeaderSpec). written_file g (choose kept)) once ∙ ap (λ (l : List EntitySpec). written_file out l) (selection.twice es));
       }
 
-  pub extract_kept : (file : List ℕ) → IsWritable file → length (extract_of choose area file) ≤ 2 ^ 62 → IsKeptExtract file (extract_of choose area file)
-  extract_kept file sound small =
+  pub extract_kept : (file : List ℕ) → IsWritable file → IsKeptExtract (verdict_on file) (extract_of choose area file)
+  extract_kept file sound =
       let r = readable file sound in
-      let e = extracted_is file r.header r.entities r.is choose area in
-      subst (λ (w : List ℕ). IsKeptExtract file w) (sym e) (extract_written file r.header r.entities r.is r.can (subst (λ (w : List ℕ). length w ≤ 2 ^ 62) e small))
+      let e = extracted_is (verdict_on file) r.header r.entities r.is choose area in
+      subst (λ (w : List ℕ). IsKeptExtract (verdict_on file) w) (sym e) (extract_written (verdict_on file) r.header r.entities r.is r.can)
 
 -- ---- the complete ways, without and with all parents
 

@@ -1,9 +1,10 @@
 -- All faults of a file as one set: of its frames, one after another, and in each of the eleven phases.
-use Rattle.std.specs.Prelude.{ℕ, zero, suc, ◌+◌, List, [], ◌∷◌, ◌++◌, length, drop, map, Bool, false, ◌||◌, not, ◌==◌, if◌then◌else◌}
+use Rattle.std.specs.Prelude.{ℕ, zero, suc, ◌+◌, List, [], ◌∷◌, ◌++◌, length, drop, map, Bool, false, Some, ◌||◌, not, ◌==◌, if◌then◌else◌}
 use Rattle.pbf_wire.specs.declared.fault.Fault.{Fault}
 use Rattle.pbf_wire.specs.declared.fault.Reason.TheVariants.{NoHeader}
 use Rattle.pbf_wire.specs.Faults.{fault_where}
 use Rattle.pbf_wire.specs.Phases.{in_phase, in_phases, phase_rank}
+use Rattle.pbf_frame.specs.declared.frame.TheConstants.{FILE_LIMIT}
 use Rattle.pbf_frame.specs.Frames.{FrameSpec, is_header, frame_at, frame_kind, frame_end, frame_bytes, frame_phases}
 use Rattle.pbf_header.specs.HeaderFaults.{header_phases}
 use Rattle.pbf_block.specs.PrimitiveBlock.{block_phases}
@@ -17,7 +18,7 @@ payload_phases unknown = []
 
 -- those of a frame and of its payload, each with its phase: seven for a frame whose payload is read, and then those of the payload
 abbrev pub frame_faults : Bool → FrameSpec → List (ℕ × Fault)
-frame_faults had_header f = in_phases 1 (frame_phases had_header f ++ payload_phases (payload_of f))
+frame_faults had_header f = in_phases 1 (frame_phases (Some FILE_LIMIT) had_header f ++ payload_phases (payload_of f))
 
 -- a file that ends without its header lacks it at the place of the next frame
 abbrev pub end_faults : Bool → ℕ → List (ℕ × Fault)

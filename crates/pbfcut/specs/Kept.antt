@@ -1,11 +1,12 @@
--- What a file says, and what is written for it.
-use Rattle.std.specs.Prelude.{◌≡◌, ℕ, false, List, map, Option, None}
+-- What is read of a file, and what is written for it.
+use Rattle.std.specs.Prelude.{◌≡◌, ℕ, false, List, map, Option, Some, None}
 use Rattle.std.specs.Option.{option_map}
 use Rattle.osm_box.specs.declared.bounding_box.BoundingBox.{BoundingBox}
 use Rattle.osm_entity.specs.Entity as entity
-use Rattle.osm_entity.specs.Entity.{EntitySpec, Decoded}
+use Rattle.osm_entity.specs.Entity.{Decoded}
 use Rattle.pbf_header.specs.Header.{HeaderSpec}
-use Rattle.pbf_frame.specs.Verdict.{Verdict, judged}
+use Rattle.pbf_frame.specs.declared.frame.TheConstants.{FILE_LIMIT}
+use Rattle.pbf_frame.specs.Verdict.{Verdict, judged_within}
 use Rattle.pbfcut.specs.Converting.{answer_bytes}
 use Rattle.pbf_pass.specs.HeaderLimit.{limited}
 use Rattle.pbf_pass.specs.Counting.{stored_entities}
@@ -13,28 +14,28 @@ use Rattle.pbfcut.specs.Extracting.{Choice, extract_bytes}
 use Rattle.pbf_pass.specs.Judged.{fully}
 use Rattle.pbf_pass.specs.Pass.{file_header}
 
--- ---- what a file says
+-- ---- what is read of bytes
 
--- the verdict of all phases on a file, and then of the limit of its header: that of `judged_writable`, if the bytes are known
+-- the verdict of all phases on bytes, and then of the limit of their header; with a limit of their length or without one
+abbrev pub verdict_within : Option ℕ → List ℕ → Verdict
+verdict_within limit bytes = limited (fully (judged_within limit false 0 bytes))
+
+-- that on a file: the one of `judged_writable`, if the bytes are known
 abbrev pub verdict_on : List ℕ → Verdict
-verdict_on file = limited (fully (judged false 0 file))
+verdict_on = verdict_within (Some FILE_LIMIT)
 
--- it has no fault, and its header isn't too long to be written
+-- a file has no fault, and its header isn't too long to be written
 abbrev pub IsWritable : List ℕ → Type 0
 IsWritable file = (verdict_on file).1 ≡ None
 
-abbrev pub header_in_file : List ℕ → Option HeaderSpec
-header_in_file file = option_map (λ p. p.1) (file_header (verdict_on file).0)
+abbrev pub header_read : Verdict → Option HeaderSpec
+header_read verdict = option_map (λ p. p.1) (file_header verdict.0)
 
--- its entities as they are stored: their numbers, and the scale that says what these mean
-abbrev pub entities_in_file : List ℕ → List EntitySpec
-entities_in_file file = stored_entities (verdict_on file).0
+-- what the entities mean: places in nanodegrees and times in milliseconds
+abbrev pub meaning_read : Verdict → List Decoded
+meaning_read verdict = map entity.decoded (stored_entities verdict.0)
 
--- what its entities mean: places in nanodegrees and times in milliseconds
-abbrev pub meant_in_file : List ℕ → List Decoded
-meant_in_file file = map entity.decoded (entities_in_file file)
-
--- ---- what is written for it
+-- ---- what is written for a file
 
 abbrev pub conversion_of : List ℕ → List ℕ
 conversion_of file = answer_bytes (verdict_on file)

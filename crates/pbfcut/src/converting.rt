@@ -4,7 +4,7 @@ ghost use Rattle.std.specs.Prelude.{◌≡◌, ◌⊎◌, ℕ, List, IfOk, IfErr
 ghost use Rattle.pbf_frame.specs.Devices.{IsFront};
 ghost use Rattle.pbfcut.specs.Calls.{BothSupply, ConvertStops};
 ghost use Rattle.pbfcut.specs.Theorem.{Converted, IsConverted, Promised, Canonical};
-ghost use Rattle.pbfcut.specs.Converting.{CanBeWritten};
+ghost use Rattle.pbfcut.specs.Converting.{answer_bytes, CanBeWritten};
 ghost use Rattle.pbf_pass.specs.HeaderLimit.{judged_writable};
 ghost use Rattle.pbf_pass.specs.Given.{GaveFile, Took};
 ghost use Rattle.pbf_pass.specs.Hashing.{digest_if};
@@ -45,9 +45,9 @@ pub fn convert<F: Feed, G: Feed, D: Drain, S: BuildHasher + Drop>(
     ensures promise { (b : List ℕ) → BothSupply b (F.remaining first.old) (G.remaining second.old)
         → Promised D.Drain drain.old drain.new b (Converted b) result }
     // If both feeds supply these bytes: whatever stopped it, what the drain took is a prefix of their conversion in canonical form, and
-    // nothing if they have a fault; on success it is all of it, and a conversion of it is the same bytes, if they are at most 2^62.
+    // nothing if they have a fault; on success it is all of it, and a conversion of it is the same bytes.
     ensures canonical { (b : List ℕ) → BothSupply b (F.remaining first.old) (G.remaining second.old)
-        → Canonical D.Drain drain.old drain.new conversion_of b result }
+        → Canonical D.Drain drain.old drain.new answer_bytes b result }
     // The bytes of both feeds have one SHA-256 digest: no files that differ, unless two different lists share a digest.
     ensures digests { OnOk result (SameDigest (F.remaining first.old) (G.remaining second.old)) }
     // `Refused` names the first fault of the first feed's file, or that its header can't be written, and the drain took nothing. `Read`

@@ -1,7 +1,7 @@
 //! The laws of whole files that are written. Each is the contract of a function that does nothing: a proof that needs the law calls
 //! it, or takes the lemma of that name from this crate's `proofs/`.
 
-ghost use Rattle.std.specs.Prelude.{◌≡◌, ℕ, [], ◌+◌, ◌^◌, ◌≤◌, List, length, Some, None};
+ghost use Rattle.std.specs.Prelude.{◌≡◌, ℕ, [], ◌+◌, ◌≤◌, List, length, Some, None};
 ghost use Rattle.std.specs.List.{AllByRecursion};
 ghost use Rattle.std.specs.Option.{option_map};
 ghost use Rattle.pbf_wire.specs.Least.{least_by};
@@ -15,16 +15,16 @@ ghost use Rattle.osm_pack.specs.Cuts.{written_file};
 ghost use Rattle.pbf_header.specs.Header.{HeaderSpec};
 ghost use Rattle.pbf_header.specs.declared.write.TheConstants.{MOST_HEADER_TEXT};
 ghost use Rattle.pbf_header.specs.WrittenHeader.{HeaderFits, header_out_for_convert};
-ghost use Rattle.pbf_frame.specs.Frames.{FrameSpec};
+ghost use Rattle.pbf_frame.specs.declared.frame.TheConstants.{FILE_LIMIT};
 ghost use Rattle.pbf_frame.specs.Transfers.{Added};
 ghost use Rattle.pbf_pass.specs.Counting.{stored_entities};
-ghost use Rattle.pbfcut.specs.Extracting.{complete_ways, all_parents};
+ghost use Rattle.pbfcut.specs.Converting.{answer_bytes};
+ghost use Rattle.pbfcut.specs.Extracting.{complete_ways, all_parents, extract_bytes};
 ghost use Rattle.pbfcut.specs.FileFaults.{file_faults, file_rank};
 ghost use Rattle.pbf_pass.specs.Judged.{judged_file};
-ghost use Rattle.pbfcut.specs.Kept.{IsWritable, conversion_of, extract_of};
+ghost use Rattle.pbfcut.specs.Kept.{verdict_within, verdict_on, IsWritable, header_read, conversion_of, extract_of};
 ghost use Rattle.pbfcut.specs.Theorem.{IsConversion, IsExtract};
 ghost use Rattle.pbf_pass.specs.declared.hashed.HashedDrain.{HashedDrain};
-ghost use Rattle.pbf_pass.specs.Pass.{file_header};
 ghost use Rattle.sha2.specs.Sha256.{sha256};
 
 use osm_entity::BoundingBox;
@@ -39,42 +39,48 @@ pub fn file_faults_are_one_order()
         ≡ Some (option_map (λ p. p.1.1) (least_by file_rank (file_faults file))) }
 {}
 
-/// A file that is written is read back: if it is at most 2^62 bytes long, it has no fault of any phase, its header is the
-/// header that was written, and its entities are those that were written.
+/// Bytes that have no fault as a file of any length, and that are no longer than a file may be, are the same file with that limit. So
+/// what is stated of the bytes that went out holds of them as a file.
+pub fn short_bytes_are_a_file()
+    ensures { (bytes : List ℕ) → length bytes ≤ FILE_LIMIT → (verdict_within None bytes).1 ≡ None
+        → verdict_on bytes ≡ verdict_within None bytes }
+{}
+
+/// A file that is written is read back, however long it is: it has no fault of any phase, its header is the header that was
+/// written and can be written again, and its entities are those that were written.
 pub fn written_file_is_read()
     ensures { (h : HeaderSpec) (es : List EntitySpec) → HeaderFits (header_out_for_convert h)
         → text_weight h.source + text_weight h.url ≤ MOST_HEADER_TEXT → AllByRecursion EntityFits es
-        → AllByRecursion EntityTyped es → length (written_file h es) ≤ 2 ^ 62
-        → (frames : List FrameSpec) × (judged_file (Some (written_file h es)) ≡ Some (frames, None))
-        × (stored_entities frames ≡ es)
-        × (option_map (λ p. p.1) (file_header frames) ≡ Some (header_out_for_convert h)) }
+        → AllByRecursion EntityTyped es
+        → ((verdict_within None (written_file h es)).1 ≡ None)
+        × (header_read (verdict_within None (written_file h es)) ≡ Some (header_out_for_convert h))
+        × (stored_entities (verdict_within None (written_file h es)).0 ≡ es) }
 {}
 
-/// A conversion of a file that can be converted, at most 2^62 bytes long, is a file without a fault that has the file's header in
-/// written form and the file's entities, in order, with all that is stored of them; and a conversion of it is the same bytes.
+/// A conversion of a file that can be converted is bytes without a fault that have the file's header in written form and the file's
+/// entities, in order, with all that is stored of them; and a conversion of it is the same bytes.
 pub fn converted_file_is_kept()
     // It can be converted again, and its bytes decode to exactly what the file's do.
-    ensures kept { (file : List ℕ) → IsWritable file → length (conversion_of file) ≤ 2 ^ 62
-        → IsConversion file (conversion_of file) }
+    ensures kept { (file : List ℕ) → IsWritable file
+        → IsConversion (verdict_on file) (verdict_within None (conversion_of file)) }
     // A conversion of it is the same bytes.
-    ensures again { (file : List ℕ) → IsWritable file → length (conversion_of file) ≤ 2 ^ 62
-        → conversion_of (conversion_of file) ≡ conversion_of file }
+    ensures again { (file : List ℕ) → IsWritable file
+        → answer_bytes (verdict_within None (conversion_of file)) ≡ conversion_of file }
 {}
 
-/// The complete-ways extract of such a file, at most 2^62 bytes long, is a file without a fault that has the file's header in
-/// written form with the box, and of the file's entities those that the selection keeps, in order, with all that is stored of
-/// them; it means the complete-ways extract of what the file means, with places in nanodegrees and times in milliseconds; and an
-/// extract of it by the same box is the same bytes.
+/// The complete-ways extract of such a file is bytes without a fault that have the file's header in written form with the box, and of
+/// the file's entities those that the selection keeps, in order, with all that is stored of them; it means the complete-ways extract
+/// of what the file means, with places in nanodegrees and times in milliseconds; and an extract of it by the same box is the same
+/// bytes.
 pub fn extracted_file_is_kept(area: BoundingBox)
     // An extract can be written of it, and its bytes decode to exactly the file's extract, and mean the extract of what the file means.
     ensures kept { (file : List ℕ) → IsWritable file
-        → length (extract_of (complete_ways area) area file) ≤ 2 ^ 62
-        → IsExtract (complete_ways area) (extract (seen_decoded area)) area file
-        (extract_of (complete_ways area) area file) }
+        → IsExtract (complete_ways area) (extract (seen_decoded area)) area (verdict_on file)
+        (verdict_within None (extract_of (complete_ways area) area file)) }
     // An extract of it, by the same box, is the same bytes.
     ensures again { (file : List ℕ) → IsWritable file
-        → length (extract_of (complete_ways area) area file) ≤ 2 ^ 62
-        → extract_of (complete_ways area) area (extract_of (complete_ways area) area file)
+        → extract_bytes (complete_ways area) area
+        (verdict_within None (extract_of (complete_ways area) area file))
         ≡ extract_of (complete_ways area) area file }
 {}
 
@@ -83,13 +89,12 @@ pub fn file_extracted_with_parents_is_kept(area: BoundingBox)
     // An extract can be written of it, and its bytes decode to exactly the file's extract with all parents, and mean that of what the
     // file means.
     ensures kept { (file : List ℕ) → IsWritable file
-        → length (extract_of (all_parents area) area file) ≤ 2 ^ 62
-        → IsExtract (all_parents area) (extract_with_parents (seen_decoded area)) area file
-        (extract_of (all_parents area) area file) }
+        → IsExtract (all_parents area) (extract_with_parents (seen_decoded area)) area
+        (verdict_on file) (verdict_within None (extract_of (all_parents area) area file)) }
     // An extract of it with all parents, by the same box, is the same bytes.
     ensures again { (file : List ℕ) → IsWritable file
-        → length (extract_of (all_parents area) area file) ≤ 2 ^ 62
-        → extract_of (all_parents area) area (extract_of (all_parents area) area file)
+        → extract_bytes (all_parents area) area
+        (verdict_within None (extract_of (all_parents area) area file))
         ≡ extract_of (all_parents area) area file }
 {}
 

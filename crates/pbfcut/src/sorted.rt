@@ -10,7 +10,7 @@ ghost use Rattle.pbfcut.specs.Calls.{AllSupply, FourSupply, GaveOrNot, ExtractSt
 ghost use Rattle.pbfcut.specs.Theorem.{Extracted, IsExtraction, Promised, Canonical};
 ghost use Rattle.pbfcut.specs.Converting.{CanBeWritten};
 ghost use Rattle.pbf_pass.specs.HeaderLimit.{judged_writable};
-ghost use Rattle.pbfcut.specs.Extracting.{complete_ways, all_parents, IsChoice, IsChoiceWithParents};
+ghost use Rattle.pbfcut.specs.Extracting.{complete_ways, all_parents, extract_bytes, IsChoice, IsChoiceWithParents};
 ghost use Rattle.pbf_pass.specs.Given.{GaveFile, Took};
 ghost use Rattle.pbf_pass.specs.Hashing.{digest_if};
 ghost use Rattle.pbfcut.specs.Kept.{IsWritable, extract_of};
@@ -90,10 +90,10 @@ pub fn extract_sorted<F: Feed, G: Feed, H: Feed, D: Drain, S: BuildHasher + Drop
         → Promised D.Drain drain.old drain.new b
         (Extracted (complete_ways area) (extract (seen_decoded area)) area b) result }
     // If all feeds supply these bytes: whatever stopped it, what the drain took is a prefix of their extract in canonical form, and nothing
-    // if they have a fault; on success it is all of the extract, and an extract of it is the same bytes, if they are at most 2^62.
+    // if they have a fault; on success it is all of the extract, and an extract of it is the same bytes.
     ensures canonical { (b : List ℕ)
         → AllSupply b (F.remaining first.old) (G.remaining second.old) (H.remaining third.old)
-        → Canonical D.Drain drain.old drain.new (extract_of (complete_ways area) area) b result }
+        → Canonical D.Drain drain.old drain.new (extract_bytes (complete_ways area) area) b result }
     // The bytes of all feeds that were read have one SHA-256 digest: no files that differ, unless two different lists share a digest.
     ensures digests { OnOk result ((SameDigest (F.remaining first.old) (G.remaining second.old)
         ⊎ (second.new ≡ second.old))

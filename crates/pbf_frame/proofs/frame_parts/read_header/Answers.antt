@@ -1,7 +1,8 @@
-use Rattle.std.proofs.Common.{◌≡◌, ℕ, List, ◌+◌, length, sym, arith, ◌∙◌, ap}
+use Rattle.std.proofs.Common.{◌≡◌, ℕ, List, ◌+◌, Some, length, sym, arith, ◌∙◌, ap}
 use Rattle.std.proofs.lemmas.Result.{err_from_is_err_and}
 use Rattle.byteorder.specs.Endian.{big_number}
 use Rattle.pbf_wire.specs.Least.{least}
+use Rattle.pbf_frame.specs.declared.frame.TheConstants.{FILE_LIMIT}
 use Rattle.pbf_frame.specs.Frames.{order_faults}
 use Rattle.pbf_frame.specs.Steps.{head_of}
 use Rattle.pbf_frame.proofs.Refusing.{whatever_follows, header_unfit, header_misplaced}
@@ -21,5 +22,5 @@ returns-in-Some-clause-refused g c =
     let head = c.in_ok-head.head in
     let says = ap (λ (l : List ℕ). head_of (c.args.place + 4) l) (sym c.deref.ensures.value) ∙ sym c.in_ok-head.ensures.exact in
     let ends : c.args.place + 4 + c.len.result + c.from.result ≡ c.args.place + 4 + length header + head.size = omega (arith, c.len.ensures, c.from.ensures, c.read_bytes.new.buf.ok.0) in
-    let misplaced = ap (λ (n : ℕ). least (order_faults c.args.had_header c.args.place head.kind n)) (sym ends) ∙ sym c.judge_order.ensures ∙ c.in-Some.is in
+    let misplaced = ap (λ (n : ℕ). least (order_faults (Some FILE_LIMIT) c.args.had_header c.args.place head.kind n)) (sym ends) ∙ sym c.judge_order.ensures ∙ c.in-Some.is in
     whatever_follows _ _ _ _ header _ c.in_ok-read_bytes.ensures.bytes c.in_ok-read_bytes.ensures.passed (λ rest. header_misplaced c.args.had_header c.args.place c.args.prefix.now header rest head c.in-Some.fault long says misplaced)
