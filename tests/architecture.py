@@ -1,6 +1,7 @@
 #!/usr/bin/env python3
 """The map in docs/ARCHITECTURE.md is the tree's: each crate, and each file of its src/, is named there, and nothing else. The calls, clauses and
-definitions that the tables of docs/PROMISES.md name are in the sources.
+definitions that the tables of docs/PROMISES.md name are in the sources. No contract and no definition has a limit of the format as a numeral: each
+is a constant.
 
 usage: tests/architecture.py [PROGRAM]
 
@@ -78,12 +79,34 @@ def unknown_names(text: str, words: set) -> list:
     return [f"docs/ARCHITECTURE.md: no source has '{name}', which is to stay" for name in sorted(named - words) if not name.startswith("_")]
 
 
+# The limits of the format as they are written in contracts and definitions.
+NUMERALS = re.compile(r"2 \^ 62|2 \^ 63|\b(?:33554432|33555455|33620990|61620990|1048575|1048576|28000000|12000000|65536)\b")
+# The range of a signed number of 64 bits is no limit of the format.
+OF_64_BITS = {"pbf_wire/specs/Signed.antt", "pbf_wire/src/laws.rt", "osm_entity/specs/Ranges.antt"}
+
+
+def numerals(crates: set) -> list:
+    """The lines of contracts and definitions that have a limit as a numeral. The examples spell out what they compute with, and zlib is
+    another format."""
+    found = []
+    for crate in sorted(crates - {"pbf_examples", "zlib"}):
+        for part in ("src", "specs"):
+            folder = os.path.join(TOP, "crates", crate, part)
+            for name in sorted(os.listdir(folder)) if os.path.isdir(folder) else []:
+                place = f"{crate}/{part}/{name}"
+                lines = enumerate(read(os.path.join(folder, name)).splitlines(), 1) if place not in OF_64_BITS else []
+                found += [f"crates/{place}, line {number}: a limit of the format as a numeral" for number, line in lines
+                          if NUMERALS.search(line) and not line.lstrip().startswith(("//", "--"))]
+    return found
+
+
 def main():
     text = read(PAGE)
     lines = read(os.path.join(TOP, "crates.txt")).splitlines()
     crates = {line.split(":")[0].split(" ")[0] for line in lines if line.strip() and not line.startswith("#")}
     code = {crate for crate in crates if not is_of_tests(crate)}
     faults = unknown_promises(words_of_sources(crates))
+    faults += numerals(code)
     faults += unknown_names(text, words_of_sources(crates))
     link = os.path.join(TOP, "pbfcutz")
     if not os.path.islink(link) or os.readlink(link) != "pbfcut":

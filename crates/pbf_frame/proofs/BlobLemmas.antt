@@ -9,7 +9,8 @@ use Rattle.pbf_wire.specs.Occurrence.{Occurrence, items, found}
 use Rattle.pbf_wire.specs.Reading.{bytes_held, occurrence_text, last_of}
 use Rattle.pbf_wire.specs.Wire.{wire}
 use Rattle.pbf_wire.proofs.FaultLemmas.{leaf_is_wire}
-use Rattle.pbf_frame.specs.declared.blob.TheConstants.{RAW, BLOB_KINDS, RAW_LIMIT}
+use Rattle.pbf_frame.specs.declared.blob.TheConstants.{RAW, BLOB_KINDS}
+use Rattle.pbf_wire.specs.declared.limits.TheConstants.{RAW_LIMIT}
 use Rattle.pbf_wire.specs.Faults.{fault_where}
 use Rattle.pbf_frame.specs.Blob.{compressed, raw_faults, blob_faults, blob_fault, raw_of}
 

@@ -19,7 +19,8 @@ use Rattle.pbf_wire.specs.Writing.{occurrences_of}
 use Rattle.pbf_wire.proofs.MessageLemmas.{fields_written, no_wire_fault}
 use Rattle.pbf_wire.proofs.Shortest.{shortest_spells}
 use Rattle.pbf_wire.proofs.WritingLemmas.{message_first, message_none, each_bytes, scalar_bytes}
-use Rattle.pbf_frame.specs.declared.blob.TheConstants.{RAW, BLOB_KINDS, RAW_LIMIT}
+use Rattle.pbf_frame.specs.declared.blob.TheConstants.{RAW, BLOB_KINDS}
+use Rattle.pbf_wire.specs.declared.limits.TheConstants.{RAW_LIMIT}
 use Rattle.pbf_frame.specs.declared.frame.FrameKind.{FrameKind}
 use Rattle.pbf_frame.specs.declared.frame.FrameKind.TheVariants as kind
 use Rattle.pbf_frame.specs.declared.header.TheConstants.{TYPE, DATASIZE, HEADER_KINDS, LARGEST_SIZE}

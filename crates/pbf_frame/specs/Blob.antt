@@ -8,7 +8,8 @@ use Rattle.pbf_wire.specs.declared.fault.Reason.TheVariants.{NoRaw, RawLong, Zli
 use Rattle.pbf_wire.specs.Phases.{first_fault}
 use Rattle.pbf_wire.specs.Occurrence.{Content, Bytes, Occurrence, items, found}
 use Rattle.pbf_wire.specs.Reading.{bytes_held, occurrence_text, last_of}
-use Rattle.pbf_frame.specs.declared.blob.TheConstants.{RAW, ZLIB_DATA, LZMA_DATA, BZIP2_DATA, LZ4_DATA, ZSTD_DATA, BLOB_KINDS, RAW_LIMIT}
+use Rattle.pbf_frame.specs.declared.blob.TheConstants.{RAW, ZLIB_DATA, LZMA_DATA, BZIP2_DATA, LZ4_DATA, ZSTD_DATA, BLOB_KINDS}
+use Rattle.pbf_wire.specs.declared.limits.TheConstants.{RAW_LIMIT}
 use Rattle.pbf_wire.specs.Faults.{fault, fault_where, or_more, leaf_faults}
 
 -- why data under this field number isn't read

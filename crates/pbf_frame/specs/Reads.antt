@@ -11,6 +11,7 @@ use Rattle.pbf_frame.specs.Blob.{blob_fault}
 use Rattle.pbf_frame.specs.Frames.{FrameSpec, blob_at, frame_kind, frame_bytes, next_of}
 use Rattle.pbf_frame.specs.Sound.{IsFrame}
 use Rattle.pbf_frame.specs.Steps.{blob_of}
+use Rattle.pbf_frame.specs.declared.frame.TheConstants.{FILE_LIMIT}
 
 -- what was read is the first n bytes, or all if there are fewer, and the others are left
 pub record Reads (old new : Option (List ℕ)) (n : ℕ) (read : List ℕ) : Type 0 where
@@ -72,7 +73,7 @@ pub record IsSeen (header blob : List ℕ) (seen : Seen) (f : FrameSpec) : Type 
 
 -- it lies within the limit of a file
 abbrev pub IsPlaced : Seen → Type 0
-IsPlaced seen = (seen.offset ≤ 2 ^ 62) × (seen.blob_at + seen.size ≤ 2 ^ 62)
+IsPlaced seen = (seen.offset ≤ FILE_LIMIT) × (seen.blob_at + seen.size ≤ FILE_LIMIT)
 
 -- a frame was read, whose bytes are gone
 pub record GaveFrame (had_header : Bool) (place : ℕ) (header blob : List ℕ) (seen : Seen) (before now : ℕ → List ℕ → Type 0) (old new : Option (List ℕ)) : Type 0 where

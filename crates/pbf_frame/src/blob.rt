@@ -9,10 +9,12 @@ ghost use Rattle.pbf_wire.specs.Least.{least};
 ghost use Rattle.pbf_wire.specs.Occurrence.{items, found};
 ghost use Rattle.pbf_wire.specs.Reading.{occurrence_text, last_of};
 ghost use Rattle.pbf_frame.specs.Blob.{compression_of, compressed, raw_faults, blob_fault, raw_of, raw_at};
+ghost use Rattle.pbf_wire.specs.declared.limits.TheConstants.{OFFSET_LIMIT, RAW_LIMIT};
 
 use crate::header::occurrence_text;
 use pbf_wire::{
-    Fault, Field, Kind, Message, Payload, Reason, fault_where, judge_wire, last_field, lesser,
+    Fault, Field, Kind, Message, Payload, RAW_LIMIT, Reason, fault_where, judge_wire, last_field,
+    lesser,
 };
 
 // The fields of a Blob.
@@ -40,9 +42,6 @@ pub const BLOB_KINDS: [(u64, Kind); 7] = [
     (LZ4_DATA, Kind::Bytes),
     (ZSTD_DATA, Kind::Bytes),
 ];
-
-/// The length from which on raw data is refused: 32 MiB.
-pub const RAW_LIMIT: usize = 33_554_432;
 
 /// Why data under this field number is not read.
 fn compression_of(number: u64) -> Option<Reason>
@@ -100,7 +99,7 @@ fn judge_raw(at: u64, raw: Option<Field<'_>>, others: Option<Fault>) -> Option<F
 /// The first fault of a blob whose first byte is at `at` in the file.
 #[tactic(auto, using(crate::proofs::BlobLemmas::blob_steps))]
 pub(crate) fn judge_blob(blob: &[u8], at: u64) -> Option<Fault>
-    requires { at + length blob.now ≤ 2 ^ 63 }
+    requires { at + length blob.now ≤ OFFSET_LIMIT }
     ensures { result ≡ blob_fault at blob.now }
 {
     if let Err(fault) = judge_wire(blob, at, &BLOB_KINDS) {
@@ -112,9 +111,9 @@ pub(crate) fn judge_blob(blob: &[u8], at: u64) -> Option<Fault>
 
 /// Where the text of a field begins, and `at` if it is absent.
 fn text_place(field: Option<Field<'_>>, at: u64) -> u64
-    requires { at ≤ 2 ^ 63 }
+    requires { at ≤ OFFSET_LIMIT }
     ensures place { result ≡ raw_at at (option_map occurrence field.entry) }
-    ensures fits { result + length (occurrence_text (option_map occurrence field.entry)) ≤ 2 ^ 63 }
+    ensures fits { result + length (occurrence_text (option_map occurrence field.entry)) ≤ OFFSET_LIMIT }
 {
     match field {
         Some(
@@ -130,10 +129,10 @@ fn text_place(field: Option<Field<'_>>, at: u64) -> u64
 /// The payload, and where its first byte is in the file.
 #[tactic(auto, using(crate::proofs::BlobLemmas::payload_short))]
 pub(crate) fn payload_in(blob: &[u8], at: u64) -> (&[u8], u64)
-    requires { at + length blob.now ≤ 2 ^ 63 }
+    requires { at + length blob.now ≤ OFFSET_LIMIT }
     ensures bytes { result.0.now ≡ raw_of at blob.now }
     ensures place { result.1 ≡ raw_at at (last_of RAW (found (items at blob.now))) }
-    ensures fits { result.1 + length result.0.now ≤ 2 ^ 63 }
+    ensures fits { result.1 + length result.0.now ≤ OFFSET_LIMIT }
     ensures short { blob_fault at blob.now ≡ None → length result.0.now < RAW_LIMIT }
 {
     let raw = last_field(Message { bytes: blob, at }, RAW);

@@ -1,7 +1,8 @@
 //! Frames: what they are, and what a reader lends of one.
 
 ghost use Rattle.std.specs.Prelude.{◌≡◌, ◌+◌, ◌<◌, ◌≤◌, ◌^◌, length, nat_le, if◌then◌else◌, Some, None};
-ghost use Rattle.pbf_frame.specs.declared.blob.TheConstants.{RAW_LIMIT};
+ghost use Rattle.pbf_wire.specs.declared.limits.TheConstants.{OFFSET_LIMIT, RAW_LIMIT};
+ghost use Rattle.pbf_frame.specs.declared.frame.TheConstants.{FILE_LIMIT};
 
 /// A file has at most this many bytes.
 pub const FILE_LIMIT: u64 = 1 << 62;
@@ -32,13 +33,13 @@ pub struct Frame<'a> {
     /// The raw data of the blob; empty for `Other`.
     pub payload: &'a [u8],
     ghost short: { length payload.now < RAW_LIMIT },
-    ghost fits: { payload_at + length payload.now ≤ 2 ^ 63 },
+    ghost fits: { payload_at + length payload.now ≤ OFFSET_LIMIT },
 }
 
 /// Where a frame ends that begins at `offset` and whose BlobHeader and Blob have these lengths; `None` after byte 2^62.
 pub fn frame_end(offset: u64, header: u32, size: u32) -> Option<u64>
-    requires { offset ≤ 2 ^ 62 }
-    ensures { result ≡ (if nat_le (offset + 4 + header + size) (2 ^ 62)
+    requires { offset ≤ FILE_LIMIT }
+    ensures { result ≡ (if nat_le (offset + 4 + header + size) FILE_LIMIT
         then Some (offset + 4 + header + size) else None) }
 {
     let end = offset + 4 + u64::from(header) + u64::from(size);

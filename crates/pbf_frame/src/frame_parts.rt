@@ -13,6 +13,7 @@ ghost use Rattle.pbf_frame.specs.Refusals.{RefusedBy};
 ghost use Rattle.pbf_frame.specs.Sound.{IsSound};
 ghost use Rattle.pbf_frame.specs.Blob.{blob_fault};
 ghost use Rattle.pbf_frame.specs.Steps.{prefix_at, bytes_at, header_of, known_blob_of, blob_of, head_of};
+ghost use Rattle.pbf_wire.specs.declared.limits.TheConstants.{OFFSET_LIMIT};
 
 use crate::blob::judge_blob;
 use crate::device::Feed;
@@ -143,7 +144,7 @@ fn read_header<F: Feed>(
     place: u64,
     prefix: &[u8],
 ) -> Result<Head, Stop>
-    requires in_range { place ≤ 2 ^ 62 }
+    requires in_range { place ≤ FILE_LIMIT }
     requires whole { 4 ≤ length prefix.now }
     requires small { big_number 4 prefix.now < HEADER_LIMIT }
     ensures given { IfOk result (λ head.
@@ -154,7 +155,7 @@ fn read_header<F: Feed>(
         (F.has_passed feed.new) (F.remaining feed.old) (F.remaining feed.new)) }
     ensures head { IfOk result (λ head. head_of (place + 4) header.new.items ≡ Ok head) }
     ensures small { IfOk result (λ head. head.size ≤ LARGEST_SIZE) }
-    ensures end { IfOk result (λ head. place + 4 + vec_len header.new + head.size ≤ 2 ^ 62) }
+    ensures end { IfOk result (λ head. place + 4 + vec_len header.new + head.size ≤ FILE_LIMIT) }
     ensures held { vec_len header.new ≤ max 65535 (vec_len header.old) }
     ensures bytes { OnOk result (F.remaining feed.old
         ≡ prepend header.new.items (F.remaining feed.new)) }
@@ -214,7 +215,7 @@ fn read_known_blob<F: Feed>(
     size: u32,
     at: u64,
 ) -> Result<(), Stop>
-    requires in_range { at + size ≤ 2 ^ 63 }
+    requires in_range { at + size ≤ OFFSET_LIMIT }
     ensures given { OnOk result
         (Gives blob.new.items (F.remaining feed.old) (F.remaining feed.new)
         (known_blob_of size at)) }
@@ -245,7 +246,7 @@ fn read_known_blob<F: Feed>(
 
 // The blob after a header; one of another type is skipped.
 fn read_blob<F: Feed>(feed: &mut F, blob: &mut Vec<u8>, head: Head, at: u64) -> Result<(), Stop>
-    requires in_range { at + head.size ≤ 2 ^ 63 }
+    requires in_range { at + head.size ≤ OFFSET_LIMIT }
     ensures gave { OnOk result
         (GaveBlob head.kind head.size at blob.new.items (F.has_passed feed.old)
         (F.has_passed feed.new) (F.remaining feed.old) (F.remaining feed.new)) }
@@ -289,7 +290,7 @@ pub(crate) fn read_frame<F: Feed>(
     had_header: bool,
     place: u64,
 ) -> Result<Option<Seen>, Stop>
-    requires in_range { place ≤ 2 ^ 62 }
+    requires in_range { place ≤ FILE_LIMIT }
     ensures gave { IfOk result (λ o.
         IfSome o (λ seen. GaveFrame had_header place header.new.items blob.new.items seen
         (F.has_passed feed.old) (F.has_passed feed.new) (F.remaining feed.old)

@@ -10,6 +10,7 @@ ghost use Rattle.pbf_wire.specs.Payload.{content};
 ghost use Rattle.pbf_wire.specs.Reading.{occurrence_text, last_of};
 ghost use Rattle.pbf_frame.specs.Header.{int32_held, size_within, size_of, kind_named, size_faults, header_faults};
 ghost use Rattle.pbf_frame.specs.Steps.{head_of};
+ghost use Rattle.pbf_wire.specs.declared.limits.TheConstants.{OFFSET_LIMIT};
 
 use crate::frame::FrameKind;
 use pbf_wire::{
@@ -133,7 +134,7 @@ fn judge_fields(header: Message<'_>) -> Option<Fault>
 /// What a header says of its frame, or its first fault. Its first byte is at `at` in the file.
 #[tactic(auto, unfolding(crate::specs::Steps::head_of))]
 pub fn read_head(header: &[u8], at: u64) -> Result<Head, Fault>
-    requires { at + length header.now ≤ 2 ^ 63 }
+    requires { at + length header.now ≤ OFFSET_LIMIT }
     ensures exact { result ≡ head_of at header.now }
     ensures small { IfOk result (λ head. head.size ≤ LARGEST_SIZE) }
 {

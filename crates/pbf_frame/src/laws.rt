@@ -4,7 +4,7 @@
 ghost use Rattle.std.specs.Prelude.{◌≡◌, ℕ, ◌<◌, Bool, List, [], ◌++◌, Option, None, Ok, Some, length};
 ghost use Rattle.pbf_frame.specs.Devices.{prepend, append};
 ghost use Rattle.pbf_wire.specs.Least.{least};
-ghost use Rattle.pbf_frame.specs.declared.blob.TheConstants.{RAW_LIMIT};
+ghost use Rattle.pbf_wire.specs.declared.limits.TheConstants.{RAW_LIMIT};
 ghost use Rattle.pbf_frame.specs.declared.frame.FrameKind.{FrameKind};
 ghost use Rattle.pbf_frame.specs.declared.frame.FrameKind.TheVariants as kinds;
 ghost use Rattle.pbf_frame.specs.Frames.{FrameSpec, frame_bytes, frame_end, frame_kind, frame_payload, order_faults, next_of};

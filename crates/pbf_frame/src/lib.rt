@@ -15,15 +15,16 @@ mod stop;
 mod transfer;
 
 pub use blob::{
-    BLOB_KINDS, BZIP2_DATA, LZ4_DATA, LZMA_DATA, RAW, RAW_LIMIT, RAW_SIZE, ZLIB_DATA, ZSTD_DATA,
+    BLOB_KINDS, BZIP2_DATA, LZ4_DATA, LZMA_DATA, RAW, RAW_SIZE, ZLIB_DATA, ZSTD_DATA,
 };
 pub use device::{Drain, Feed};
 pub use frame::{FILE_LIMIT, Frame, FrameKind, frame_end};
 pub use frame_parts::fill_vec;
 pub use header::{HEADER_LIMIT, Head, LARGEST_SIZE, read_head};
 pub use memory::{Pieces, Sink};
+pub use pbf_wire::RAW_LIMIT;
 pub use put::{HEAD_ROOM, put_frame, put_head};
-pub use reader::FrameReader;
+pub use reader::{FrameReader, MOST_BUFFERED};
 pub use std_device::{FromRead, ToWrite};
 pub use stop::{DrainFault, FeedFault, Stop};
 pub use transfer::write_all;

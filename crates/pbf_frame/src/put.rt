@@ -6,11 +6,11 @@ ghost use Rattle.pbf_frame.specs.Devices.{IsFront};
 ghost use Rattle.pbf_frame.specs.Transfers.{Added};
 ghost use Rattle.pbf_frame.specs.Reads.{IsWriteStop};
 ghost use Rattle.pbf_frame.specs.Writing.{written_name, written_header, written_blob, written_frame};
-ghost use Rattle.pbf_frame.specs.declared.blob.TheConstants.{RAW_LIMIT};
+ghost use Rattle.pbf_wire.specs.declared.limits.TheConstants.{RAW_LIMIT};
 ghost use Rattle.pbf_frame.specs.declared.put.TheConstants.{HEAD_ROOM};
 ghost use Rattle.pbf_frame.specs.declared.frame.FrameKind.TheVariants as kinds;
 
-use crate::blob::{RAW, RAW_LIMIT};
+use crate::blob::RAW;
 use crate::device::Drain;
 use crate::frame::FrameKind;
 use crate::header::{DATASIZE, TYPE};

@@ -2,6 +2,8 @@
 
 ghost use Rattle.std.specs.Prelude.{◌≡◌, ◌+◌, ◌<◌, ◌≤◌, ◌^◌, IfOk, IfSome, false, vec_len};
 ghost use Rattle.pbf_frame.specs.declared.header.TheConstants.{HEADER_LIMIT, LARGEST_SIZE};
+ghost use Rattle.pbf_frame.specs.declared.frame.TheConstants.{FILE_LIMIT};
+ghost use Rattle.pbf_frame.specs.declared.reader.TheConstants.{MOST_BUFFERED};
 
 use crate::blob::payload_in;
 use crate::device::Feed;
@@ -11,6 +13,9 @@ use crate::header::{TYPE, occurrence_text};
 use crate::stop::Stop;
 use pbf_wire::{Message, last_field};
 use std::alloc::Global;
+
+/// The most bytes that a reader holds: a BlobHeader and a Blob, each of the greatest length.
+pub const MOST_BUFFERED: u64 = 33_620_990;
 
 /// Whether a reader goes on.
 #[derive(Clone, Copy, PartialEq, Eq)]
@@ -32,7 +37,7 @@ pub struct FrameReader<F> {
     place: u64,
     had_header: bool,
     state: State,
-    ghost in_range: { place ≤ 2 ^ 62 },
+    ghost in_range: { place ≤ FILE_LIMIT },
     ghost header_held: { vec_len header < HEADER_LIMIT },
     ghost blob_held: { vec_len blob ≤ LARGEST_SIZE },
 }
@@ -149,7 +154,7 @@ impl<F: Feed> FrameReader<F> {
     /// The end of the last frame given, and 0 before the first; at most 2^62.
     pub fn place(&self) -> u64
         ensures value { result ≡ place_of self.now }
-        ensures in_range { result ≤ 2 ^ 62 }
+        ensures in_range { result ≤ FILE_LIMIT }
     {
         self.place
     }
@@ -162,10 +167,10 @@ impl<F: Feed> FrameReader<F> {
         self.feed
     }
 
-    /// The bytes held: the lengths of the two buffers, at most 33,620,990.
+    /// The bytes held: the lengths of the two buffers.
     pub fn held(&self) -> u64
         ensures value { result ≡ held_by self.now }
-        ensures bound { result ≤ 33620990 }
+        ensures bound { result ≤ MOST_BUFFERED }
     {
         self.header.len() as u64 + self.blob.len() as u64
     }

@@ -10,6 +10,9 @@ ghost use Rattle.pbf_pass.specs.Judged.{judged_file};
 ghost use Rattle.pbf_pass.specs.Pass.{IsStep};
 ghost use Rattle.pbf_pass.specs.Payload.{primitive_block, lent_by};
 ghost use Rattle.pbf_pass.specs.Stops.{ReadFailed};
+ghost use Rattle.pbf_frame.specs.declared.frame.TheConstants.{FILE_LIMIT};
+ghost use Rattle.pbf_frame.specs.declared.reader.TheConstants.{MOST_BUFFERED};
+ghost use Rattle.pbf_wire.specs.declared.limits.TheConstants.{OFFSET_LIMIT, RAW_LIMIT};
 
 use crate::pass::{Gather, gather_runs};
 use crate::receipt::Passes;
@@ -26,8 +29,8 @@ fn gather_block<G: Gather>(
     gathering: &mut G,
     number: u8,
 ) -> Result<(), Stop>
-    requires placed { at + length payload.now ≤ 2 ^ 63 }
-    requires short { length payload.now < 33554432 }
+    requires placed { at + length payload.now ≤ OFFSET_LIMIT }
+    requires short { length payload.now < RAW_LIMIT }
     ensures gathered { OnOk result (GathersPayload G.gathered gathering.old gathering.new
         (primitive_block at payload.now)) }
     ensures stopped { IfErr result (StopsAtPayload number ⊥ (primitive_block at payload.now)) }
@@ -101,9 +104,9 @@ pub fn step_again<F: Feed, G: Gather>(
         (GathersFrame G.gathered gathering.old gathering.new)
         (StopsAtFrame number ⊥) (gathering.new ≡ gathering.old) result }
     // The place is at most 2^62.
-    ensures limited { place_of reader.new ≤ 2 ^ 62 }
+    ensures limited { place_of reader.new ≤ FILE_LIMIT }
     // The reader holds at most 33,620,990 bytes, whatever is returned.
-    ensures space { held_by reader.new ≤ 33620990 }
+    ensures space { held_by reader.new ≤ MOST_BUFFERED }
 {
     step(alloc, reader, &mut Later { gathering, number })
 }

@@ -19,6 +19,9 @@ ghost use Rattle.pbf_pass.specs.Given.{GaveFile};
 ghost use Rattle.pbf_pass.specs.Hashing.{IsLength, digest_if};
 ghost use Rattle.pbf_pass.specs.Refused.{RefusesFile, Halts, stop_of};
 ghost use Rattle.pbf_pass.specs.Stops.{Caused, FaultOf, unchanged, ReadFailed};
+ghost use Rattle.pbf_frame.specs.declared.frame.TheConstants.{FILE_LIMIT};
+ghost use Rattle.pbf_frame.specs.declared.reader.TheConstants.{MOST_BUFFERED};
+ghost use Rattle.pbf_wire.specs.declared.limits.TheConstants.{OFFSET_LIMIT, RAW_LIMIT};
 
 use crate::receipt::{Halt, Passes};
 use crate::visit::{FileRead, Visit, pass_over, step};
@@ -267,7 +270,7 @@ impl Pass {
 
     /// Takes the header of a HeaderBlock that has no fault. `Refused` names its first fault.
     pub fn take_header(&mut self, alloc: Global, payload: &[u8], at: u64) -> Result<(), ReadFault>
-        requires { at + length payload.now ≤ 2 ^ 63 }
+        requires { at + length payload.now ≤ OFFSET_LIMIT }
         ensures taken { OnOk result
             (TakesPayload (header_block at payload.now) self.old self.new) }
         ensures sound { OnOk result (fault_in (header_block at payload.now) ≡ None) }
@@ -287,8 +290,8 @@ impl Pass {
         at: u64,
         gathering: &mut G,
     ) -> Result<(), ReadFault>
-        requires placed { at + length payload.now ≤ 2 ^ 63 }
-        requires short { length payload.now < 33554432 }
+        requires placed { at + length payload.now ≤ OFFSET_LIMIT }
+        requires short { length payload.now < RAW_LIMIT }
         ensures taken { OnOk result (TakesAll G.gathered (primitive_block at payload.now)
             self.old self.new gathering.old gathering.new) }
         ensures refused { (fault : Fault) → result ≡ Err (Refused fault)
@@ -342,9 +345,9 @@ pub fn step_gather<F: Feed, G: Gather>(
         (TakesFrame G.gathered pass.old pass.new gathering.old gathering.new)
         FailsToJudge ((pass.new ≡ pass.old) × (gathering.new ≡ gathering.old)) result }
     // The place is at most 2^62.
-    ensures limited { place_of reader.new ≤ 2 ^ 62 }
+    ensures limited { place_of reader.new ≤ FILE_LIMIT }
     // The reader holds at most 33,620,990 bytes, whatever is returned.
-    ensures space { held_by reader.new ≤ 33620990 }
+    ensures space { held_by reader.new ≤ MOST_BUFFERED }
 {
     step(alloc, reader, &mut Judging { pass, gathering })
 }
@@ -358,8 +361,8 @@ pub fn step_count<F: Feed>(
 ) -> Result<bool, Stop>
     ensures step { IsStep F.Feed reader.old reader.new (CountsFrame pass.old pass.new)
         FailsToJudge (pass.new ≡ pass.old) result }
-    ensures limited { place_of reader.new ≤ 2 ^ 62 }
-    ensures space { held_by reader.new ≤ 33620990 }
+    ensures limited { place_of reader.new ≤ FILE_LIMIT }
+    ensures space { held_by reader.new ≤ MOST_BUFFERED }
 {
     step_gather(alloc, reader, pass, &mut Nothing)
 }
@@ -374,8 +377,8 @@ pub fn step_nodes<F: Feed>(
     ensures step { IsStep F.Feed reader.old reader.new
         (TakesFrame with_node pass.old pass.new phase.old phase.new)
         FailsToJudge ((pass.new ≡ pass.old) × (phase.new ≡ phase.old)) result }
-    ensures limited { place_of reader.new ≤ 2 ^ 62 }
-    ensures space { held_by reader.new ≤ 33620990 }
+    ensures limited { place_of reader.new ≤ FILE_LIMIT }
+    ensures space { held_by reader.new ≤ MOST_BUFFERED }
 {
     step_gather(alloc, reader, pass, phase)
 }
@@ -390,8 +393,8 @@ pub fn step_ways<F: Feed>(
     ensures step { IsStep F.Feed reader.old reader.new
         (TakesFrame with_way pass.old pass.new phase.old phase.new)
         FailsToJudge ((pass.new ≡ pass.old) × (phase.new ≡ phase.old)) result }
-    ensures limited { place_of reader.new ≤ 2 ^ 62 }
-    ensures space { held_by reader.new ≤ 33620990 }
+    ensures limited { place_of reader.new ≤ FILE_LIMIT }
+    ensures space { held_by reader.new ≤ MOST_BUFFERED }
 {
     step_gather(alloc, reader, pass, phase)
 }
@@ -406,8 +409,8 @@ pub fn step_relations<F: Feed>(
     ensures step { IsStep F.Feed reader.old reader.new
         (TakesFrame with_relation pass.old pass.new phase.old phase.new)
         FailsToJudge ((pass.new ≡ pass.old) × (phase.new ≡ phase.old)) result }
-    ensures limited { place_of reader.new ≤ 2 ^ 62 }
-    ensures space { held_by reader.new ≤ 33620990 }
+    ensures limited { place_of reader.new ≤ FILE_LIMIT }
+    ensures space { held_by reader.new ≤ MOST_BUFFERED }
 {
     step_gather(alloc, reader, pass, phase)
 }

@@ -12,6 +12,8 @@ ghost use Rattle.pbf_pass.specs.Pass.{IsStep};
 ghost use Rattle.pbf_pass.specs.Refused.{RefusesRest, RefusesBytes, Halts, stop_of};
 ghost use Rattle.pbf_pass.specs.Stops.{KeepsFeed, ReadFailed};
 ghost use Rattle.pbf_pass.specs.Visit.{VisitsAll, StopsVisit, RefusesVisit};
+ghost use Rattle.pbf_frame.specs.declared.frame.TheConstants.{FILE_LIMIT};
+ghost use Rattle.pbf_frame.specs.declared.reader.TheConstants.{MOST_BUFFERED};
 
 use crate::hashed::PassFeed;
 use crate::receipt::{Halt, Passes};
@@ -58,9 +60,9 @@ pub fn step<F: Feed, V: Visit>(
     ensures ready { OnOk result (V.ready visitor.new) }
     ensures lender { V.lender visitor.new ≡ V.lender visitor.old }
     // The place is at most 2^62.
-    ensures limited { place_of reader.new ≤ 2 ^ 62 }
+    ensures limited { place_of reader.new ≤ FILE_LIMIT }
     // The reader holds at most 33,620,990 bytes, whatever is returned.
-    ensures space { held_by reader.new ≤ 33620990 }
+    ensures space { held_by reader.new ≤ MOST_BUFFERED }
 {
     let Some(frame) = reader.next()? else {
         return Ok(false);

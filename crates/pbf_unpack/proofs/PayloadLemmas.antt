@@ -1,7 +1,7 @@
 -- The room that is tried first.
 use Rattle.std.proofs.Common.{◌≡◌, ℕ, ◌-◌, ◌<◌, ◌≤◌, true, List, length, Option, Some, None, Ok, arith}
 use Rattle.std.specs.Prelude.{is_none, IfNone}
-use Rattle.pbf_frame.specs.declared.blob.TheConstants.{RAW_LIMIT}
+use Rattle.pbf_wire.specs.declared.limits.TheConstants.{RAW_LIMIT}
 use Rattle.zlib.specs.declared.fault.InflateFault.{InflateFault}
 use Rattle.zlib.specs.Stream.{inflated}
 use Rattle.zlib.proofs.LimitLemmas.{meaning_is_unique}

@@ -12,6 +12,7 @@ use Rattle.pbf_frame.specs.Steps.{head_of}
 use Rattle.pbf_frame.specs.Writing.{written_frame}
 use Rattle.pbf_unpack.specs.declared.fault.UnpackFault.{UnpackFault}
 use Rattle.pbf_unpack.specs.Packed.{packed_in, payload_of}
+use Rattle.pbf_frame.specs.declared.frame.TheConstants.{FILE_LIMIT}
 
 -- raw bytes, and the first fault of the zlib data that they stand for, if it has one
 abbrev pub Unpacked : Type 0
@@ -48,7 +49,7 @@ unpacked_frame kind at frame blob = with_data kind frame (packed_in at blob) (la
 abbrev pub is_whole : FrameSpec → Bool
 is_whole f =
     let size = (head_says (header_at f) f.header).size in
-    length (cut_faults f) == 0 && is_ok (head_of (header_at f) f.header) && nat_le (blob_at f + size) (2 ^ 62) && length f.blob == size
+    length (cut_faults f) == 0 && is_ok (head_of (header_at f) f.header) && nat_le (blob_at f + size) FILE_LIMIT && length f.blob == size
 
 -- the frame that begins here, unpacked, and then the others; bytes that begin no whole frame stay as they are, to their end
 unfoldable pub unpacked_within : ℕ → ℕ → List ℕ → Unpacked

@@ -10,6 +10,7 @@ use Rattle.pbf_unpack.specs.declared.whole.Found.TheVariants as found
 use Rattle.pbf_unpack.specs.declared.whole.Front.{Front}
 use Rattle.pbf_unpack.specs.declared.whole.Front.TheVariants as front
 use Rattle.pbf_unpack.specs.Unpacked.{joined, as_they_stand, unpacked_frame, unpacked_from}
+use Rattle.pbf_frame.specs.declared.frame.TheConstants.{FILE_LIMIT}
 
 -- these bytes were read
 pub record Took (read : List ℕ) (before now : ℕ → List ℕ → Type 0) (old new : Option (List ℕ)) : Type 0 where
@@ -47,6 +48,6 @@ Means place read blob left found.Cut = IsCut place read left
 
 -- the blob and the frame end within the limit of a file
 abbrev pub IsPlaced : List ℕ → Found → Type 0
-IsPlaced blob (found.Whole w) = (w.end ≤ 2 ^ 62) × (w.blob_at + length blob ≤ 2 ^ 62)
+IsPlaced blob (found.Whole w) = (w.end ≤ FILE_LIMIT) × (w.blob_at + length blob ≤ FILE_LIMIT)
 IsPlaced blob found.Unfit = Unit {0}
 IsPlaced blob found.Cut = Unit {0}

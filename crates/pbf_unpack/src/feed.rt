@@ -1,6 +1,7 @@
 //! The raw file that a packed one means, as a feed.
 
 ghost use Rattle.std.specs.Prelude.{◌≡◌, ◌+◌, ◌≤◌, ◌^◌, vec_len};
+ghost use Rattle.pbf_frame.specs.declared.frame.TheConstants.{FILE_LIMIT};
 
 use crate::buffers::Buffers;
 use crate::fault::UnpackFault;
@@ -54,6 +55,6 @@ pub struct UnpackedFeed<F> {
     // Of the frame in the buffers, and of the first one that is a header.
     pub(crate) origin: Origin,
     pub(crate) header: Option<Origin>,
-    ghost in_range: { place ≤ 2 ^ 62 },
+    ghost in_range: { place ≤ FILE_LIMIT },
     ghost within: { done ≤ vec_len buffers.front + vec_len buffers.raw },
 }

@@ -4,7 +4,7 @@ ghost use Rattle.std.specs.Prelude.{◌≡◌, ◌-◌, ◌<◌, ◌≤◌, IfOk
 ghost use Rattle.std.specs.Option.{option_map};
 ghost use Rattle.pbf_wire.specs.Fields.{occurrence};
 ghost use Rattle.pbf_wire.specs.Payload.{content};
-ghost use Rattle.pbf_frame.specs.declared.blob.TheConstants.{RAW_LIMIT};
+ghost use Rattle.pbf_wire.specs.declared.limits.TheConstants.{RAW_LIMIT};
 ghost use Rattle.pbf_frame.specs.Header.{int32_held};
 ghost use Rattle.zlib.specs.Stream.{inflated};
 ghost use Rattle.pbf_unpack.specs.Packed.{is_length, fits_size, payload_of};

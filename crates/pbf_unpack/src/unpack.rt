@@ -1,7 +1,7 @@
 //! One frame, unpacked.
 
 ghost use Rattle.std.specs.Prelude.{◌≡◌, ◌+◌, ◌<◌, ◌≤◌, ◌^◌, ◌++◌, length, IfOk, OnOk, vec_len};
-ghost use Rattle.pbf_frame.specs.declared.blob.TheConstants.{RAW_LIMIT};
+ghost use Rattle.pbf_wire.specs.declared.limits.TheConstants.{OFFSET_LIMIT, RAW_LIMIT};
 ghost use Rattle.pbf_frame.specs.declared.frame.FrameKind.TheVariants as kinds;
 ghost use Rattle.pbf_frame.specs.Writing.{written_frame};
 ghost use Rattle.pbf_unpack.specs.Payloads.{fault_in};
@@ -59,7 +59,7 @@ pub(crate) fn unpack(
     inflater: &mut Inflater,
     frame: WholeFrame,
 ) -> Result<Outcome, AllocError>
-    requires { frame.blob_at + vec_len buffers.old.packed ≤ 2 ^ 63 }
+    requires { frame.blob_at + vec_len buffers.old.packed ≤ OFFSET_LIMIT }
     ensures { IfOk result (λ outcome. unpacked_frame frame.kind frame.blob_at
         (buffers.old.front.items ++ buffers.old.packed.items) buffers.old.packed.items
         ≡ (buffers.new.front.items ++ buffers.new.raw.items, fault_in outcome)) }

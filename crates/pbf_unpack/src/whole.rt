@@ -6,6 +6,7 @@ ghost use Rattle.pbf_frame.specs.declared.header.TheConstants.{HEADER_LIMIT, LAR
 ghost use Rattle.pbf_frame.specs.Reads.{IsFillStop};
 ghost use Rattle.pbf_frame.specs.Steps.{head_of};
 ghost use Rattle.pbf_unpack.specs.Whole.{Took, BeginsWith, Means, IsPlaced};
+ghost use Rattle.pbf_frame.specs.declared.frame.TheConstants.{FILE_LIMIT};
 
 use crate::buffers::Buffers;
 use byteorder::{BigEndian, ByteOrder};
@@ -48,7 +49,7 @@ fn read_front<F: Feed>(
     header: &mut Vec<u8>,
     place: u64,
 ) -> Result<Front, Stop>
-    requires { place ≤ 2 ^ 62 }
+    requires { place ≤ FILE_LIMIT }
     ensures took { OnOk result (Took front.new.items (F.has_passed feed.old)
         (F.has_passed feed.new) (F.remaining feed.old) (F.remaining feed.new)) }
     ensures means { IfOk result
@@ -84,7 +85,7 @@ pub(crate) fn read_whole<F: Feed>(
     buffers: &mut Buffers,
     place: u64,
 ) -> Result<Found, Stop>
-    requires { place ≤ 2 ^ 62 }
+    requires { place ≤ FILE_LIMIT }
     ensures took { OnOk result (Took (buffers.new.front.items ++ buffers.new.packed.items)
         (F.has_passed feed.old) (F.has_passed feed.new) (F.remaining feed.old) (F.remaining feed.new)) }
     ensures means { IfOk result (Means place (buffers.new.front.items ++ buffers.new.packed.items)

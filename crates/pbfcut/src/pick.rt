@@ -9,12 +9,16 @@ ghost use Rattle.osm_pack.specs.Packing as packing;
 ghost use Rattle.pbf_dense.specs.Cursors.{dense_left};
 ghost use Rattle.pbf_block.specs.Runs.{way_from, joined_runs, run_entities, runs_left};
 ghost use Rattle.pbf_frame.specs.declared.stop.Stop.{Stop};
+ghost use Rattle.pbf_frame.specs.declared.reader.TheConstants.{MOST_BUFFERED};
+ghost use Rattle.osm_pack.specs.declared.open_block.TheConstants.{MOST_HELD};
 ghost use Rattle.pbf_frame.specs.Next.{place_of, held_by};
 ghost use Rattle.pbf_pass.specs.Counting.{counts_of};
 ghost use Rattle.pbf_pass.specs.Judged.{fault_in};
 ghost use Rattle.pbf_pass.specs.Pass.{IsStep};
 ghost use Rattle.pbf_pass.specs.Payload.{primitive_block, lent_by};
 ghost use Rattle.pbfcut.specs.Pick.{everything, pick_of, picks_of, picked_in, picks_id, picked_by, picked_by_some, PacksAll, PacksPicked, StopsAmong, KeepsPacker, PacksPayload, FailsToPackPayload, PacksFrame, FailsToPack};
+ghost use Rattle.pbf_frame.specs.declared.frame.TheConstants.{FILE_LIMIT};
+ghost use Rattle.pbf_wire.specs.declared.limits.TheConstants.{OFFSET_LIMIT, RAW_LIMIT};
 
 use osm_entity::EntityRef;
 use osm_pack::Packer;
@@ -271,8 +275,8 @@ fn pack_block<D: Drain, S: BuildHasher>(
     chosen: Option<&Chosen>,
     packer: &mut Packer<D, S>,
 ) -> Result<Counts, Stop>
-    requires placed { at + length payload.now ≤ 2 ^ 63 }
-    requires short { length payload.now < 33554432 }
+    requires placed { at + length payload.now ≤ OFFSET_LIMIT }
+    requires short { length payload.now < RAW_LIMIT }
     requires begun { has_header packer.old ≡ true }
     requires packing { IsPacking packer.old }
     ensures packed { OnOk result (PacksAll D.Drain (fault_in (primitive_block at payload.now))
@@ -350,10 +354,10 @@ pub fn step_pack<F: Feed, D: Drain, S: BuildHasher>(
         → (result ≡ Err stop) × (reader.new ≡ reader.old) }
     // The packer keeps its header, the drain its references, and its count of failures doesn't fall.
     ensures keeps { KeepsPacker D.Drain packer.old packer.new }
-    // The place is at most 2^62.
-    ensures limited { place_of reader.new ≤ 2 ^ 62 }
-    // After each step reader and packer together hold at most 61,620,990 bytes, whatever is returned.
-    ensures space { held_by reader.new + packer_held packer.new ≤ 61620990 }
+    // The place is within the limit of a file.
+    ensures limited { place_of reader.new ≤ FILE_LIMIT }
+    // After each step reader and packer together hold at most so many bytes, whatever is returned.
+    ensures space { held_by reader.new + packer_held packer.new ≤ MOST_BUFFERED + MOST_HELD }
 {
     packer.held_is_bounded();
     if let Some(stop) = packer.stop() {
@@ -386,8 +390,8 @@ pub fn step_write<F: Feed, D: Drain, S: BuildHasher>(
     ensures spent { (stop : Stop) → packing.HasStopped packer.old stop
         → (result ≡ Err stop) × (reader.new ≡ reader.old) }
     ensures keeps { KeepsPacker D.Drain packer.old packer.new }
-    ensures limited { place_of reader.new ≤ 2 ^ 62 }
-    ensures space { held_by reader.new + packer_held packer.new ≤ 61620990 }
+    ensures limited { place_of reader.new ≤ FILE_LIMIT }
+    ensures space { held_by reader.new + packer_held packer.new ≤ MOST_BUFFERED + MOST_HELD }
 {
     step_pack(alloc, reader, pass, chosen, packer)
 }
@@ -409,8 +413,8 @@ pub fn step_write_parents<F: Feed, D: Drain, S: BuildHasher>(
     ensures spent { (stop : Stop) → packing.HasStopped packer.old stop
         → (result ≡ Err stop) × (reader.new ≡ reader.old) }
     ensures keeps { KeepsPacker D.Drain packer.old packer.new }
-    ensures limited { place_of reader.new ≤ 2 ^ 62 }
-    ensures space { held_by reader.new + packer_held packer.new ≤ 61620990 }
+    ensures limited { place_of reader.new ≤ FILE_LIMIT }
+    ensures space { held_by reader.new + packer_held packer.new ≤ MOST_BUFFERED + MOST_HELD }
 {
     step_pack(alloc, reader, pass, Some(chosen.chosen()), packer)
 }

@@ -20,6 +20,7 @@ ghost use Rattle.pbf_pass.specs.Refused.{HaltsFile, stop_of};
 ghost use Rattle.pbfcut.specs.Repeat.{SameDigest};
 ghost use Rattle.pbfcut.specs.Showing.{Shown, ShowsFront, WritesFront, ShowsText, StopsShowing, ShowsPayload, FailsToShowPayload, ShowsNext, FailsToShowNext};
 ghost use Rattle.pbf_pass.specs.Stops.{Caused, FaultOf, Only, unchanged, KeepsDrain, ReadFailed, WriteFailed};
+ghost use Rattle.pbf_wire.specs.declared.limits.TheConstants.{OFFSET_LIMIT, RAW_LIMIT};
 
 use crate::repeat::Repeat;
 use osm_entity::EntityRef;
@@ -80,7 +81,7 @@ fn write_header<D: Drain>(
     text: &mut Vec<u8>,
     drain: &mut D,
 ) -> Result<(), Stop>
-    requires { at + length payload.now ≤ 2 ^ 63 }
+    requires { at + length payload.now ≤ OFFSET_LIMIT }
     ensures shown { OnOk result (ShowsText D.Drain (header_fault at payload.now)
         (header_text (header_in at payload.now)) drain.old drain.new) }
     ensures stopped { IfErr result (StopsShowing D.Drain (header_fault at payload.now)
@@ -103,8 +104,8 @@ fn write_block<D: Drain>(
     drain: &mut D,
     dates: bool,
 ) -> Result<(), Stop>
-    requires placed { at + length payload.now ≤ 2 ^ 63 }
-    requires short { length payload.now < 33554432 }
+    requires placed { at + length payload.now ≤ OFFSET_LIMIT }
+    requires short { length payload.now < RAW_LIMIT }
     ensures shown { OnOk result (ShowsPayload D.Drain dates (primitive_block at payload.now)
         drain.old drain.new) }
     ensures stopped { IfErr result (FailsToShowPayload D.Drain dates

@@ -13,6 +13,7 @@ ghost use Rattle.pbf_pass.specs.Payload.{primitive_block, lent_by};
 ghost use Rattle.pbf_pass.specs.Stops.{KeepsDrain, ReadFailed, WriteFailed};
 ghost use Rattle.pbfcut.specs.Pick.{pick_of, KeepsPacker, IsFreshPacker};
 ghost use Rattle.pbfcut.specs.Write.{PacksAgain, FailsAgain, PacksNext, FailsAtNext, Packed, PacksFront};
+ghost use Rattle.pbf_wire.specs.declared.limits.TheConstants.{OFFSET_LIMIT, RAW_LIMIT};
 
 use crate::pick::pack_runs;
 use osm_pack::Packer;
@@ -34,8 +35,8 @@ fn pack_block<D: Drain, S: BuildHasher>(
     number: u8,
     packer: &mut Packer<D, S>,
 ) -> Result<(), Stop>
-    requires placed { at + length payload.now ≤ 2 ^ 63 }
-    requires short { length payload.now < 33554432 }
+    requires placed { at + length payload.now ≤ OFFSET_LIMIT }
+    requires short { length payload.now < RAW_LIMIT }
     requires begun { has_header packer.old ≡ true }
     requires packing { IsPacking packer.old }
     ensures packed { OnOk result (PacksAgain D.Drain (pick_of chosen.entry)

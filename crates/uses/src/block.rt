@@ -2,7 +2,7 @@
 
 ghost use Rattle.std.specs.Prelude.{◌≡◌, ◌+◌, ◌<◌, ◌≤◌, ◌^◌, None, OnOk, length};
 ghost use Rattle.pbf_block.specs.PrimitiveBlock.{block_fault};
-ghost use Rattle.pbf_frame.specs.declared.blob.TheConstants.{RAW_LIMIT};
+ghost use Rattle.pbf_wire.specs.declared.limits.TheConstants.{OFFSET_LIMIT, RAW_LIMIT};
 
 use pbf_block::Block;
 use pbf_wire::ReadFault;
@@ -10,7 +10,7 @@ use std::alloc::Global;
 
 /// The id of the first entity.
 pub fn first_id(alloc: Global, payload: &[u8], at: u64) -> Result<Option<i64>, ReadFault>
-    requires placed { at + length payload.now ≤ 2 ^ 63 }
+    requires placed { at + length payload.now ≤ OFFSET_LIMIT }
     requires short { length payload.now < RAW_LIMIT }
     ensures sound { OnOk result (block_fault at payload.now ≡ None) }
 {

@@ -4,6 +4,7 @@ ghost use Rattle.std.specs.Prelude.{◌≡◌, ◌+◌, ◌≤◌, ◌^◌, IfOk
 ghost use Rattle.std.specs.Option.{option_map};
 ghost use Rattle.pbf_dense.specs.Nodes.{nodes};
 ghost use Rattle.pbf_wire.specs.Faults.{fields_in};
+ghost use Rattle.pbf_wire.specs.declared.limits.TheConstants.{OFFSET_LIMIT};
 
 use osm_entity::Scale;
 use pbf_dense::Dense;
@@ -18,7 +19,7 @@ pub fn first_id(
     table: &Table<'_>,
     scale: Scale,
 ) -> Result<Option<i64>, Fault>
-    requires placed { at + length message.now ≤ 2 ^ 63 }
+    requires placed { at + length message.now ≤ OFFSET_LIMIT }
     requires tagged { place ≤ at }
     ensures { IfOk result (λ id. id ≡ option_map (λ n. n.id)
         (slice_get (nodes table.now scale (fields_in at message.now)) 0)) }
