@@ -2,13 +2,12 @@
 -- same frames with it.
 use Rattle.std.proofs.Common.{◌≡◌, ℕ, zero, suc, ◌+◌, ◌<◌, ◌≤◌, ◌||◌, ◌==◌, nat_lt, nat_le, Bool, true, false, cond, List, [], ◌∷◌, ◌++◌, length, take, drop, Option, Some, None, Result, Ok, Err, refl, sym, ap, ◌∙◌, subst, append_assoc, length-append, arith}
 use Rattle.std.specs.Prelude.{unwrap_or}
-use Rattle.std.specs.Option.{option_or}
 use Rattle.std.proofs.lemmas.Bool.Decides.{nat_tests}
 use Rattle.std.proofs.lemmas.List.{take_at, drop_at, length-take, length-drop}
 use Rattle.byteorder.specs.Endian.{big_number}
 use Rattle.pbf_wire.specs.declared.fault.Fault.{Fault}
 use Rattle.pbf_wire.specs.declared.fault.Reason.{Reason}
-use Rattle.pbf_wire.specs.declared.fault.Reason.TheVariants.{NoHeader, BlobCut, SecondHeader, DataFirst, FileLong}
+use Rattle.pbf_wire.specs.declared.fault.Reason.TheVariants.{NoHeader, BlobCut}
 use Rattle.pbf_wire.specs.Faults.{fault, fault_where, leaf_faults}
 use Rattle.pbf_wire.specs.Least.{least}
 use Rattle.pbf_wire.specs.Occurrence.{items}
@@ -19,9 +18,9 @@ use Rattle.pbf_frame.specs.declared.frame.FrameKind.TheVariants as kind
 use Rattle.pbf_frame.specs.declared.header.TheConstants.{HEADER_KINDS, HEADER_LIMIT}
 use Rattle.pbf_frame.specs.Blob.{blob_fault}
 use Rattle.pbf_frame.specs.Header.{head_says, header_faults}
-use Rattle.pbf_frame.specs.Frames.{FrameSpec, is_header, is_data, header_at, blob_at, frame_at, frame_kind, frame_bytes, frame_end, cut_faults, order_faults, phases_of_blob, frame_phases, next_within}
+use Rattle.pbf_frame.specs.Frames.{FrameSpec, is_header, header_at, blob_at, frame_at, frame_kind, frame_bytes, frame_end, cut_faults, order_faults, phases_of_blob, frame_phases, next_within}
 use Rattle.pbf_frame.specs.Sound.{IsSound, IsFrameWithin, AreFramesWithin, had_after}
-use Rattle.pbf_frame.specs.Verdict.{Verdict, with_first, judged_after, judged_fueled, judged_within, joined_frames}
+use Rattle.pbf_frame.specs.Verdict.{with_first, judged_after, judged_fueled, judged_within, joined_frames}
 use Rattle.pbf_frame.proofs.BlobLemmas.{earlier_none}
 use Rattle.pbf_frame.proofs.Stepping.{given_or}
 
@@ -47,20 +46,20 @@ abbrev from_header : ℕ → List ℕ → List ℕ → List ℕ → FrameSpec
 from_header place prefix header left = record { offset = place; prefix = prefix; header = header; blob = take (head_says (place + 4) header).size left }
 
 module _ (limit : Option ℕ) (h : Bool) (f : FrameSpec) (rest : List ℕ) (is : IsFrameWithin limit h f.offset f) where
-  abbrev bytes : List ℕ
-  bytes = f.prefix ++ (f.header ++ (f.blob ++ rest))
+  abbrev spelling : List ℕ
+  spelling = f.prefix ++ (f.header ++ (f.blob ++ rest))
 
   size_is : length f.blob ≡ (head_says (header_at f) f.header).size
   size_is = ap (λ (m : Option ℕ). unwrap_or m 0) (sym is.sized)
 
-  regrouped : frame_bytes f ++ rest ≡ bytes
+  regrouped : frame_bytes f ++ rest ≡ spelling
   regrouped = append_assoc (f.prefix ++ f.header) f.blob rest ∙ append_assoc f.prefix f.header (f.blob ++ rest)
 
-  at_frame : frame_at f.offset bytes ≡ f
+  at_frame : frame_at f.offset spelling ≡ f
   at_frame =
       let after = f.header ++ (f.blob ++ rest) in
       let counted : length f.header ≡ big_number 4 f.prefix = sym is.spelled in
-      ap (λ (p : List ℕ). from_prefix f.offset p (drop 4 bytes)) (take_at f.prefix after 4 is.prefix_long)
+      ap (λ (p : List ℕ). from_prefix f.offset p (drop 4 spelling)) (take_at f.prefix after 4 is.prefix_long)
       ∙ ap (from_prefix f.offset f.prefix) (drop_at f.prefix after 4 is.prefix_long)
       ∙ ap (λ (l : List ℕ). from_header f.offset f.prefix l (drop (length l) after)) (take_at f.header (f.blob ++ rest) (big_number 4 f.prefix) counted)
       ∙ ap (from_header f.offset f.prefix f.header) (drop_at f.header (f.blob ++ rest) (length f.header) refl)
@@ -165,7 +164,6 @@ module _ (limit : ℕ) (h : Bool) (p : ℕ) (bytes : List ℕ) (low : p + length
 
   -- without a fault it is all there
   record IsThere : Type 0 where
-    four : length f.prefix ≡ 4
     room : frame_end f + length (drop (length (frame_bytes f)) bytes) ≡ p + length bytes
     whole : size ≤ length f.blob
 
@@ -183,7 +181,7 @@ module _ (limit : ℕ) (h : Bool) (p : ℕ) (bytes : List ℕ) (low : p + length
       let blob = length-take size (drop (length f.header) (drop 4 bytes)) in
       let room : frame_end f + length (drop (length (frame_bytes f)) bytes) ≡ p + length bytes =
       omega (arith, four, prefix, header, blob, length-drop 4 bytes, length-drop (length f.header) (drop 4 bytes), length-drop (length (frame_bytes f)) bytes, length-append (f.prefix ++ f.header) f.blob, length-append f.prefix f.header) in
-      record { four = four; room = room; whole = whole }
+      record { room = room; whole = whole }
 
   phases_same : first_fault (frame_phases None h f) ≡ None → frame_phases (Some limit) h f ≡ frame_phases None h f
   phases_same none =

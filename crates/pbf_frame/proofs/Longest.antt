@@ -10,18 +10,17 @@ use Rattle.pbf_wire.specs.Faults.{fault_where}
 use Rattle.pbf_wire.specs.Least.{least}
 use Rattle.pbf_wire.specs.Occurrence.{Occurrence, items, found}
 use Rattle.pbf_wire.specs.Reading.{last_of}
-use Rattle.pbf_wire.specs.Wire.{wire}
 use Rattle.pbf_frame.specs.declared.frame.FrameKind.{FrameKind}
-use Rattle.pbf_frame.specs.declared.header.TheConstants.{TYPE, DATASIZE, HEADER_LIMIT, HEADER_KINDS}
-use Rattle.pbf_frame.specs.Header.{head_says, header_faults, int32_held, size_within, size_of, size_faults}
+use Rattle.pbf_frame.specs.declared.header.TheConstants.{TYPE, DATASIZE, HEADER_LIMIT}
+use Rattle.pbf_frame.specs.Header.{header_faults, int32_held, size_within, size_of, size_faults}
 use Rattle.pbf_frame.specs.declared.frame.TheConstants.{FILE_LIMIT}
 use Rattle.pbf_frame.specs.Frames.{FrameSpec, is_header, header_at, blob_at, frame_kind, frame_bytes, frame_end, order_faults, next_of}
 use Rattle.pbf_frame.specs.Verdict.{Verdict, with_first, with_all, judged_after, judged, joined_frames}
 use Rattle.pbf_frame.specs.Sound.{IsSound, IsFrame, AreFrames, had_after, place_after, EndsAs, IsLongestFront}
-use Rattle.pbf_frame.specs.Steps.{head_of, prefix_at}
+use Rattle.pbf_frame.specs.Steps.{prefix_at}
 use Rattle.pbf_frame.proofs.AnyLength.{frame_is_next_within}
 use Rattle.pbf_frame.proofs.BlobLemmas.{least_none}
-use Rattle.pbf_frame.proofs.FrameLemmas.{head_parts, blob_some}
+use Rattle.pbf_frame.proofs.FrameLemmas.{head_parts}
 use Rattle.pbf_frame.proofs.Parting.{FrameParts, next_parts, next_split, next_none}
 use Rattle.pbf_frame.proofs.Judging.{judged_step, judged_some}
 

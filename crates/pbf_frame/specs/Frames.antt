@@ -1,5 +1,5 @@
 -- The frames of a file: four bytes for the length of the header, the header, and the blob.
-use Rattle.std.specs.Prelude.{ℕ, ◌+◌, ◌^◌, List, [], ◌∷◌, ◌++◌, length, take, drop, Bool, true, false, ◌&&◌, not, nat_lt, nat_le, ◌==◌, if◌then◌else◌, Option, Some, None, Result, Ok, Err}
+use Rattle.std.specs.Prelude.{ℕ, ◌+◌, List, [], ◌∷◌, ◌++◌, length, take, drop, Bool, true, false, ◌&&◌, not, nat_lt, nat_le, ◌==◌, if◌then◌else◌, Option, Some, None, Result, Ok, Err}
 use Rattle.std.specs.Option.{option_map_or}
 use Rattle.byteorder.specs.Endian.{big_number}
 use Rattle.pbf_wire.specs.declared.fault.Fault.{Fault}

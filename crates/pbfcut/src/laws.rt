@@ -41,7 +41,7 @@ pub fn file_faults_are_one_order()
 
 /// Bytes that have no fault as a file of any length, and that are no longer than a file may be, are the same file with that limit. So
 /// what is stated of the bytes that went out holds of them as a file.
-pub fn short_bytes_are_a_file()
+pub fn bytes_within_the_limit_are_a_file()
     ensures { (bytes : List ℕ) → length bytes ≤ FILE_LIMIT → (verdict_within None bytes).1 ≡ None
         → verdict_on bytes ≡ verdict_within None bytes }
 {}

@@ -1,5 +1,5 @@
 use Rattle.pbfcut.proofs.KeptLaw.{same_as_a_file}
-use Rattle.pbfcut.proofs.laws.short_bytes_are_a_file.Goals as goal
+use Rattle.pbfcut.proofs.laws.bytes_within_the_limit_are_a_file.Goals as goal
 
 pub returns : goal.returns
 returns c = same_as_a_file
