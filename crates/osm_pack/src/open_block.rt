@@ -27,7 +27,7 @@ use std::hash::BuildHasher;
 use std::mem;
 
 /// The most bytes that a block holds: its columns, messages and texts, and four for each text. While it is put together the
-/// bytes that are made of them count too.
+/// bytes that are made of them count too, and while an entity is encoded those that it takes until it is in the group.
 pub const MOST_HELD: u64 = 28_000_000;
 
 /// The entities of a block, encoded as they come: nodes as columns, ways and relations as messages.
@@ -130,7 +130,8 @@ impl<S: BuildHasher> OpenBlock<S> {
         ensures room { OnOk result (block_held self.new
             + length (slot_bytes (Each 3 (self.new.writer.message.items ∷ []))) ≤ MOST_HELD) }
     {
-        self.writer.make_way(view, &mut self.texts)
+        self.writer.make_way(view, &mut self.texts)?;
+        Ok(())
     }
 
     /// The same of a relation.
@@ -146,7 +147,8 @@ impl<S: BuildHasher> OpenBlock<S> {
         ensures room { OnOk result (block_held self.new
             + length (slot_bytes (Each 4 (self.new.writer.message.items ∷ []))) ≤ MOST_HELD) }
     {
-        self.writer.make_relation(view, &mut self.texts)
+        self.writer.make_relation(view, &mut self.texts)?;
+        Ok(())
     }
 
     /// Encodes an entity after the others.
