@@ -7,6 +7,7 @@ use Rattle.std.proofs.lemmas.List.{length_push, map_push}
 use Rattle.std.proofs.lemmas.List.Sums.{sum_by_push, sum_by-cons}
 use Rattle.std.proofs.Math.Bool.{and-true}
 use Rattle.pbf_wire.specs.Message.{Each, slot_bytes, message, unless_empty}
+use Rattle.pbf_wire.proofs.RoomLemmas.{each_short}
 use Rattle.pbf_wire.proofs.WritingLemmas.{each_none, each_joined, message_first, message_one}
 use Rattle.pbf_strings.specs.TableOut.{texts_after, table_message, text_held}
 use Rattle.pbf_strings.proofs.UsedTexts.{after_both, used_later, length_after}
@@ -18,8 +19,10 @@ use Rattle.osm_entity.proofs.TextCounts.{node_count, way_count, relation_count}
 use Rattle.pbf_dense.specs.declared.dense_out.DenseOut.{DenseOut}
 use Rattle.pbf_dense.specs.WrittenDense.{HoldsNodes, columns_of, columns_held, dense_message, info_message, dense_length}
 use Rattle.pbf_block.specs.WrittenBlock.{are_alike, is_block, nodes_among, ways_among, relations_among, texts_of_all, messages_among, group_message, scale_among, block_slots, block_message}
-use Rattle.pbf_block.specs.WrittenEntity.{way_message, relation_message, writer_length}
+use Rattle.pbf_block.specs.declared.entity_out.EntityOut.{EntityOut}
+use Rattle.pbf_block.specs.WrittenEntity.{way_message, relation_message, writer_length, most_way_held, most_relation_held}
 use Rattle.pbf_block.proofs.LengthLaw.{open_short}
+use Rattle.pbf_block.proofs.HeldLaw.{after_held, way_beside, relation_beside}
 use Rattle.pbf_block.proofs.ClosingLaw.{table_fits, nodes_fit, group_fits, closing_fits}
 use Rattle.osm_pack.specs.declared.open_block.OpenBlock.{OpenBlock}
 use Rattle.osm_pack.specs.declared.open_block.TheConstants.{MOST_HELD}
@@ -229,6 +232,16 @@ alone e h = kept_one e (light e h)
 pub exact : (e : EntitySpec) (n : ℕ) → EntityFits e → n ≡ min (entity_weight e) (2 ^ 64 - 1) → n ≡ entity_weight e
 exact e n h m = let l = light e h in omega (arith, m, l)
 
+-- ---- a message that is appended
+
+-- its field
+field_short : (number : ℕ) (message : List ℕ) → length (slot_bytes (Each number (message ∷ []))) ≤ 20 + length message
+unfolding slot_bytes
+field_short number message = let h = each_short number (message ∷ []) in omega (arith, h)
+
+pub appended : (number : ℕ) (old was new message made : List ℕ) → was ≡ old → message ≡ made → new ≡ was ++ slot_bytes (Each number (message ∷ [])) → new ≡ old ++ slot_bytes (Each number (made ∷ []))
+appended number old was new message made e f h = h ∙ rw (e, f) refl
+
 module _ {S H : Type 0} where
   pub none_held : (b : OpenBlock S H) → b.likeness ≡ None → b.count ≡ 0 → b.weight ≡ 0 → b.texts ≡ [] → ((texts : List (List ℕ)) → HoldsNodes b.nodes texts []) → b.group.items ≡ [] → writer_length b.writer ≡ 0 → Holds b []
   none_held b s n w t d g e = record { block = kept_none; likeness = s; count = n; weight = w; texts = t; nodes = d []; messages = λ used. g ∙ sym (no_messages (texts_after [] used)); writer = e }
@@ -298,6 +311,30 @@ module _ {S H : Type 0} where
             ∙ messages_relation _ es r));
         writer = e;
       }
+
+  -- what is held while the message of a way is appended: all that waits, the way's texts, columns and message, and its field
+  pub way_held : (b : OpenBlock S H) (es : List EntitySpec) (w : WaySpec) (texts used : List (List ℕ)) (out : EntityOut) → Holds b es → is_block (es ++ way w ∷ []) ≡ true
+      → texts ≡ texts_after b.texts (way_texts w) → out.message.items ≡ way_message used w → writer_length out ≤ most_way_held w
+      → sum_by text_held texts + dense_length (columns_held b.nodes) + length b.group.items + writer_length out + length (slot_bytes (Each 3 (out.message.items ∷ []))) ≤ MOST_HELD
+  way_held b es w texts used out h join t m held =
+      let ts = ap (λ (ts : List (List ℕ)). sum_by text_held ts) (t ∙ ap (λ (ts : List (List ℕ)). texts_after ts (way_texts w)) h.texts) in
+      let columns = ap dense_length (h.nodes.columns []) in
+      let messages = ap (λ (bs : List ℕ). length bs) (h.messages []) in
+      let made = ap (λ (bs : List ℕ). length bs) m in
+      let light = (kept_bounds (es ++ way w ∷ []) join).1 in
+      omega (arith, ts, after_held (texts_of_all es) (way_texts w), columns, messages, made, held, light, sum_by_push entity_weight es (way w), open_short (texts_of_all es) es, way_beside used w, field_short 3 out.message.items)
+
+  -- the same of a relation
+  pub relation_held : (b : OpenBlock S H) (es : List EntitySpec) (r : RelationSpec) (texts used : List (List ℕ)) (out : EntityOut) → Holds b es → is_block (es ++ relation r ∷ []) ≡ true
+      → texts ≡ texts_after b.texts (relation_texts r) → out.message.items ≡ relation_message used r → writer_length out ≤ most_relation_held r
+      → sum_by text_held texts + dense_length (columns_held b.nodes) + length b.group.items + writer_length out + length (slot_bytes (Each 4 (out.message.items ∷ []))) ≤ MOST_HELD
+  relation_held b es r texts used out h join t m held =
+      let ts = ap (λ (ts : List (List ℕ)). sum_by text_held ts) (t ∙ ap (λ (ts : List (List ℕ)). texts_after ts (relation_texts r)) h.texts) in
+      let columns = ap dense_length (h.nodes.columns []) in
+      let messages = ap (λ (bs : List ℕ). length bs) (h.messages []) in
+      let made = ap (λ (bs : List ℕ). length bs) m in
+      let light = (kept_bounds (es ++ relation r ∷ []) join).1 in
+      omega (arith, ts, after_held (texts_of_all es) (relation_texts r), columns, messages, made, held, light, sum_by_push entity_weight es (relation r), open_short (texts_of_all es) es, relation_beside used r, field_short 4 out.message.items)
 
   -- an entity that is encoded and counted
   pub added : (old new block : OpenBlock S H) (es : List EntitySpec) (e : EntitySpec) → Holds old es → is_block (es ++ e ∷ []) ≡ true → Encodes old new es e

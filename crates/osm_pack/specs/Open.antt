@@ -33,6 +33,15 @@ pub record IsOpen {S H : Type 0} (b : OpenBlock S H) : Type 0 where
   pub entities : List EntitySpec
   pub held : Holds b entities
 
+-- the message of an entity with these texts is made in the writer, and nothing else is done
+pub record Makes {S H : Type 0} (old new : OpenBlock S H) (used : List (List ℕ)) : Type 0 where
+  pub likeness : new.likeness ≡ old.likeness
+  pub count : new.count ≡ old.count
+  pub weight : new.weight ≡ old.weight
+  pub texts : new.texts ≡ texts_after old.texts used
+  pub nodes : new.nodes ≡ old.nodes
+  pub group : new.group ≡ old.group
+
 -- one more entity is encoded after these, and nothing else is done
 pub record Encodes {S H : Type 0} (old new : OpenBlock S H) (es : List EntitySpec) (e : EntitySpec) : Type 0 where
   pub likeness : new.likeness ≡ old.likeness

@@ -1,21 +1,24 @@
 //! The block that is open.
 
-ghost use Rattle.std.specs.Prelude.{◌≡◌, ◌↔◌, ◌+◌, ◌-◌, ◌≤◌, ◌<◌, ◌^◌, min, ◌&&◌, ◌++◌, ◌∷◌, [], List, true, nat_le, length, IsTrue, IfOk, OnOk, Option, Some, None, unwrap_or};
+ghost use Rattle.std.specs.Prelude.{ℕ, ◌≡◌, ◌↔◌, ◌+◌, ◌-◌, ◌≤◌, ◌<◌, ◌^◌, min, ◌&&◌, ◌++◌, ◌∷◌, [], List, true, nat_le, length, IsTrue, IfOk, OnOk, Option, Some, None, unwrap_or};
 ghost use Rattle.osm_entity.specs.Entity.{EntitySpec, node, way, relation};
-ghost use Rattle.osm_entity.specs.Ranges.{EntityFits};
-ghost use Rattle.osm_entity.specs.Views.{entity_of};
+ghost use Rattle.osm_entity.specs.EntityTexts.{way_texts, relation_texts};
+ghost use Rattle.osm_entity.specs.Ranges.{EntityFits, WayFits, RelationFits};
+ghost use Rattle.osm_entity.specs.Views.{entity_of, way_of, relation_of};
 ghost use Rattle.osm_entity.specs.Weight.{entity_weight};
-ghost use Rattle.pbf_strings.specs.TableOut.{table_message};
+ghost use Rattle.pbf_wire.specs.Message.{Each, slot_bytes};
+ghost use Rattle.pbf_strings.specs.TableOut.{texts_after, table_message};
+ghost use Rattle.pbf_block.specs.WrittenEntity.{way_message, relation_message};
 ghost use Rattle.pbf_block.specs.WrittenBlock.{is_block, block_message, scale_among, texts_of_all, nodes_among};
 ghost use Rattle.pbf_dense.specs.WrittenDense.{columns_held, dense_length, dense_message};
-ghost use Rattle.osm_pack.specs.Open.{Holds, IsOpen, Encodes, IsClosing, block_held};
+ghost use Rattle.osm_pack.specs.Open.{Holds, IsOpen, Makes, Encodes, IsClosing, block_held};
 ghost use Rattle.osm_pack.specs.Likenesses.{likeness_of, is_like};
 ghost use Rattle.osm_entity.specs.declared.weight.TheConstants.{HIGHEST_WEIGHT};
 ghost use Rattle.osm_pack.specs.declared.open_block.TheConstants.{MOST_HELD};
 ghost use Rattle.pbf_block.specs.declared.block_write.TheConstants.{MOST_ENTITIES};
 
 use crate::likeness::Likeness;
-use osm_entity::{EntityRef, HIGHEST_WEIGHT, Scale};
+use osm_entity::{EntityRef, HIGHEST_WEIGHT, RelationRef, Scale, WayRef};
 use pbf_block::{DEFAULT_SCALE, EntityOut, MOST_ENTITIES, put_block, put_dense};
 use pbf_dense::DenseOut;
 use pbf_strings::TableOut;
@@ -24,7 +27,7 @@ use std::hash::BuildHasher;
 use std::mem;
 
 /// The most bytes that a block holds: its columns, messages and texts, and four for each text. While it is put together the
-/// bytes that are made of them count too.
+/// bytes that are made of them count too, and while an entity is encoded those that it takes until it is in the group.
 pub const MOST_HELD: u64 = 28_000_000;
 
 /// The entities of a block, encoded as they come: nodes as columns, ways and relations as messages.
@@ -114,6 +117,40 @@ impl<S: BuildHasher> OpenBlock<S> {
         may_join(self.is_alike(entity), self.count, self.weight, weight)
     }
 
+    /// Makes the message of a way in the writer. Its columns and the message are held there beside what the block holds, until the
+    /// message is in the group too: all of it together is no more than `MOST_HELD` (`room`).
+    fn make_way(&mut self, view: &WayRef<'_>) -> Result<(), AllocError>
+        requires open { IsOpen self.old }
+        requires fits { WayFits (way_of view.now) }
+        requires joins { (es : List EntitySpec) → Holds self.old es
+            → is_block (es ++ way (way_of view.now) ∷ []) ≡ true }
+        ensures made { OnOk result (Makes self.old self.new (way_texts (way_of view.now))) }
+        ensures message { (used : List (List ℕ)) → OnOk result (self.new.writer.message.items
+            ≡ way_message (texts_after self.new.texts used) (way_of view.now)) }
+        ensures room { OnOk result (block_held self.new
+            + length (slot_bytes (Each 3 (self.new.writer.message.items ∷ []))) ≤ MOST_HELD) }
+    {
+        self.writer.make_way(view, &mut self.texts)?;
+        Ok(())
+    }
+
+    /// The same of a relation.
+    fn make_relation(&mut self, view: &RelationRef<'_>) -> Result<(), AllocError>
+        requires open { IsOpen self.old }
+        requires fits { RelationFits (relation_of view.now) }
+        requires joins { (es : List EntitySpec) → Holds self.old es
+            → is_block (es ++ relation (relation_of view.now) ∷ []) ≡ true }
+        ensures made { OnOk result
+            (Makes self.old self.new (relation_texts (relation_of view.now))) }
+        ensures message { (used : List (List ℕ)) → OnOk result (self.new.writer.message.items
+            ≡ relation_message (texts_after self.new.texts used) (relation_of view.now)) }
+        ensures room { OnOk result (block_held self.new
+            + length (slot_bytes (Each 4 (self.new.writer.message.items ∷ []))) ≤ MOST_HELD) }
+    {
+        self.writer.make_relation(view, &mut self.texts)?;
+        Ok(())
+    }
+
     /// Encodes an entity after the others.
     fn put(&mut self, entity: &EntityRef<'_>) -> Result<(), AllocError>
         requires open { IsOpen self.old }
@@ -125,12 +162,13 @@ impl<S: BuildHasher> OpenBlock<S> {
     {
         match entity {
             EntityRef::Node(node) => self.nodes.push(node, &mut self.texts)?,
-            EntityRef::Way(way) => {
-                self.writer.put_way(&mut self.group, way, &mut self.texts)?;
+            EntityRef::Way(view) => {
+                self.make_way(view)?;
+                self.writer.append_way(&mut self.group)?;
             }
-            EntityRef::Relation(relation) => {
-                self.writer
-                    .put_relation(&mut self.group, relation, &mut self.texts)?;
+            EntityRef::Relation(view) => {
+                self.make_relation(view)?;
+                self.writer.append_relation(&mut self.group)?;
             }
         }
         Ok(())

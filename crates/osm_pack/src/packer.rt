@@ -252,7 +252,8 @@ impl<D: Drain, S: BuildHasher> Packer<D, S> {
     }
 
     /// The bytes held for the entities that wait: the lengths of their columns, messages and texts, and four for each text. While
-    /// a block is closed what is made of them is held besides, and all of it together is no more than [`MOST_HELD`], 28,000,000, either.
+    /// a block is closed what is made of them is held besides, and while a way or a relation is encoded its columns and its message.
+    /// All of it together is no more than [`MOST_HELD`], 28,000,000, either.
     pub fn held(&self) -> u64
         ensures value { result ≡ packer_held self.now }
         ensures bound { result ≤ MOST_HELD }

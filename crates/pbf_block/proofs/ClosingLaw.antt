@@ -29,11 +29,11 @@ use Rattle.pbf_block.proofs.LengthLaw.{beside, info_room, way_room, columns_room
 
 -- ---- small numbers have few bytes
 
-abbrev below : ℕ → ℕ
+abbrev pub below : ℕ → ℕ
 below zero = 128
 below (suc k) = 128 * below k
 
-spelled_below : (k n v : ℕ) → k ≤ n → v < below k → length (spelled_within n v) ≤ k + 1
+pub spelled_below : (k n v : ℕ) → k ≤ n → v < below k → length (spelled_within n v) ≤ k + 1
 unfolding spelled_within
 spelled_below zero zero v le h = omega arith
 spelled_below zero (suc n) v le h = rw (lt-ltb v 128 h) (omega arith)

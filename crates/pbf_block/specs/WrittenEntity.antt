@@ -1,6 +1,6 @@
 -- Ways and relations as they are written, each a message of its own. Indexes are those in a table that has all texts of the
 -- entity: the one before it was written, with its texts used in order, or any later one.
-use Rattle.std.specs.Prelude.{ℕ, ◌+◌, ℤ, List, [], ◌∷◌, Some, length, map}
+use Rattle.std.specs.Prelude.{◌≡◌, ℕ, ◌+◌, ◌*◌, ℤ, List, [], ◌∷◌, Some, length, map}
 use Rattle.std.specs.Option.{option_map}
 use Rattle.pbf_wire.specs.Columns.{packed}
 use Rattle.pbf_wire.specs.Message.{Slot, Scalar, Column, Each, message, unless_empty}
@@ -90,3 +90,23 @@ writer_length out =
     length (packed out.keys) + length (packed out.values) + length out.info.items
     + length (packed (deltas out.refs)) + length (packed (deltas out.lats)) + length (packed (deltas out.lons))
     + length (packed out.roles) + length (packed (deltas out.members)) + length (packed out.kinds) + length out.message.items
+
+-- those that each entity begins with
+abbrev pub begun_length : EntityOut → ℕ
+begun_length out = length (packed out.keys) + length (packed out.values) + length out.info.items
+
+-- the columns of a way's and of a relation's own are as they were
+pub record KeepsColumns (old new : EntityOut) : Type 0 where
+  pub refs : new.refs ≡ old.refs
+  pub lats : new.lats ≡ old.lats
+  pub lons : new.lons ≡ old.lons
+  pub roles : new.roles ≡ old.roles
+  pub members : new.members ≡ old.members
+  pub kinds : new.kinds ≡ old.kinds
+
+-- the most that a writer holds of a way, and of a relation
+abbrev pub most_way_held : WaySpec → ℕ
+most_way_held w = 380 + 40 * length w.tags + 20 * length w.refs + 40 * length w.locations
+
+abbrev pub most_relation_held : RelationSpec → ℕ
+most_relation_held r = 380 + 40 * length r.tags + 42 * length r.members

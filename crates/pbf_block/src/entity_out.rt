@@ -1,6 +1,6 @@
 //! Ways and relations, written.
 
-ghost use Rattle.std.specs.Prelude.{◌≡◌, ◌++◌, ◌∷◌, [], ◌+◌, ◌-◌, ◌≤◌, ◌<◌, ◌^◌, min, ℕ, List, OnOk, length};
+ghost use Rattle.std.specs.Prelude.{◌≡◌, ◌++◌, ◌∷◌, [], ◌+◌, ◌*◌, ◌-◌, ◌≤◌, ◌<◌, ◌^◌, min, ℕ, List, OnOk, length};
 ghost use Rattle.std.specs.Option.{option_to_list};
 ghost use Rattle.pbf_wire.specs.Message.{Each, slot_bytes, message};
 ghost use Rattle.pbf_strings.specs.TableOut.{texts_after};
@@ -8,7 +8,7 @@ ghost use Rattle.osm_entity.specs.EntityTexts.{tag_texts, way_texts, relation_te
 ghost use Rattle.osm_entity.specs.Ranges.{WayFits, RelationFits};
 ghost use Rattle.osm_entity.specs.Sources.{tags_left};
 ghost use Rattle.osm_entity.specs.Views.{meta_of, way_of, relation_of};
-ghost use Rattle.pbf_block.specs.WrittenEntity.{entity_slots, way_message, relation_message, writer_length};
+ghost use Rattle.pbf_block.specs.WrittenEntity.{entity_slots, way_message, relation_message, writer_length, begun_length, KeepsColumns, most_way_held, most_relation_held};
 ghost use Rattle.pbf_strings.specs.declared.table.TheConstants.{MOST_USED_TEXTS};
 
 use crate::entity::{ID, INFO, KEYS, VALS};
@@ -24,8 +24,8 @@ use pbf_wire::{
 use std::alloc::{AllocError, Global};
 use std::hash::BuildHasher;
 
-/// What writes ways and relations, each as a field of a group. It keeps the columns and the message of an entity while that is
-/// written, and removes them then: the next one is written into the same room.
+/// What writes ways and relations, each as a field of a group. The columns and the message of an entity are made first; when the
+/// message is appended to a group they are removed, and the next entity's are made in the same room.
 #[derive(Drop)]
 pub struct EntityOut {
     keys: ColumnOut,
@@ -109,6 +109,8 @@ impl EntityOut {
             → OnOk result (self.new.message.items
             ≡ message (entity_slots (texts_after table.new used) id (meta_of meta.now)
             (tags_left tags.entry) [])) }
+        ensures held { OnOk result (begun_length self.new ≤ 120 + 20 * length (tags_left tags.entry)) }
+        ensures columns { KeepsColumns self.old self.new }
     {
         put_tags(&mut self.keys, &mut self.values, tags, table)?;
         let user = table.index_if_some(meta.user)?;
@@ -134,25 +136,27 @@ impl EntityOut {
         Ok(())
     }
 
-    /// Appends a way to a group, and adds its texts to the table: the keys and values of its tags in turn, then its user. The
-    /// caller must prove that the way fits, and that the table has room for its texts, repeats counted. The clause on the group
-    /// also says that the way is written as it would be with a table that more texts are added to later. Then nothing of the
-    /// way stays in the writer. After an `Err` group, table and writer are unspecified.
-    pub fn put_way<S: BuildHasher>(
+    /// Makes the message of a way, and adds its texts to the table: the keys and values of its tags in turn, then its user. The
+    /// caller must prove that the way fits, and that the table has room for its texts, repeats counted. After an `Err` writer and
+    /// table are unspecified.
+    pub fn make_way<S: BuildHasher>(
         &mut self,
-        group: &mut Vec<u8>,
         way: &WayRef<'_>,
         table: &mut TableOut<S>,
     ) -> Result<(), AllocError>
         requires fits { WayFits (way_of way.now) }
         requires room { length table.old + length (way_texts (way_of way.now)) ≤ MOST_USED_TEXTS }
+        // The texts are in the table.
         ensures texts { OnOk result
             (table.new ≡ texts_after table.old (way_texts (way_of way.now))) }
-        ensures written { (used : List (List ℕ))
-            → OnOk result (group.new.items ≡ group.old.items
-            ++ slot_bytes (Each WAYS
-            (way_message (texts_after table.new used) (way_of way.now) ∷ []))) }
-        ensures empty { OnOk result (writer_length self.new ≡ 0) }
+        // The message is that of the way, also as it would be with a table that more texts are added to later.
+        ensures made { (used : List (List ℕ))
+            → OnOk result (self.new.message.items
+            ≡ way_message (texts_after table.new used) (way_of way.now)) }
+        // If nothing of another entity was there, columns and message together are at most 380 bytes, and 40 for each tag and each
+        // location and 20 for each ref.
+        ensures held { writer_length self.old ≡ 0
+            → OnOk result (writer_length self.new ≤ most_way_held (way_of way.now)) }
     {
         self.begin(way.id(), &way.meta(), way.tags(), table)?;
         put_refs(&mut self.refs, way.refs())?;
@@ -160,28 +164,30 @@ impl EntityOut {
         put_column(&mut self.message, REFS, self.refs.bytes())?;
         put_column(&mut self.message, WAY_LAT, self.lats.bytes())?;
         put_column(&mut self.message, WAY_LON, self.lons.bytes())?;
-        self.put_message(group, WAYS)?;
         Ok(())
     }
 
-    /// Appends a relation to a group, and adds its texts to the table: the keys and values of its tags in turn, then its user,
-    /// then the roles of its members. The rest is as for [`EntityOut::put_way`].
-    pub fn put_relation<S: BuildHasher>(
+    /// Makes the message of a relation, and adds its texts to the table: the keys and values of its tags in turn, then its user,
+    /// then the roles of its members. The rest is as for [`EntityOut::make_way`].
+    pub fn make_relation<S: BuildHasher>(
         &mut self,
-        group: &mut Vec<u8>,
         relation: &RelationRef<'_>,
         table: &mut TableOut<S>,
     ) -> Result<(), AllocError>
         requires fits { RelationFits (relation_of relation.now) }
         requires room { length table.old + length (relation_texts (relation_of relation.now))
             ≤ MOST_USED_TEXTS }
+        // The texts are in the table.
         ensures texts { OnOk result
             (table.new ≡ texts_after table.old (relation_texts (relation_of relation.now))) }
-        ensures written { (used : List (List ℕ))
-            → OnOk result (group.new.items ≡ group.old.items
-            ++ slot_bytes (Each RELATIONS
-            (relation_message (texts_after table.new used) (relation_of relation.now) ∷ []))) }
-        ensures empty { OnOk result (writer_length self.new ≡ 0) }
+        // The message is that of the relation, also as it would be with a table that more texts are added to later.
+        ensures made { (used : List (List ℕ))
+            → OnOk result (self.new.message.items
+            ≡ relation_message (texts_after table.new used) (relation_of relation.now)) }
+        // If nothing of another entity was there, columns and message together are at most 380 bytes, and 40 for each tag and 42 for
+        // each member.
+        ensures held { writer_length self.old ≡ 0 → OnOk result
+            (writer_length self.new ≤ most_relation_held (relation_of relation.now)) }
     {
         self.begin(relation.id(), &relation.meta(), relation.tags(), table)?;
         put_members(
@@ -194,7 +200,25 @@ impl EntityOut {
         put_column(&mut self.message, ROLES_SID, self.roles.bytes())?;
         put_column(&mut self.message, MEMIDS, self.members.bytes())?;
         put_column(&mut self.message, TYPES, self.kinds.bytes())?;
-        self.put_message(group, RELATIONS)?;
         Ok(())
+    }
+
+    /// Appends the message that was made to a group, as a way. Then nothing of it stays in the writer. After an `Err` group and
+    /// writer are unspecified.
+    pub fn append_way(&mut self, group: &mut Vec<u8>) -> Result<(), AllocError>
+        ensures written { OnOk result (group.new.items
+            ≡ group.old.items ++ slot_bytes (Each WAYS (self.old.message.items ∷ []))) }
+        ensures empty { OnOk result (writer_length self.new ≡ 0) }
+    {
+        self.put_message(group, WAYS)
+    }
+
+    /// Appends the message that was made to a group, as a relation. The rest is as for [`EntityOut::append_way`].
+    pub fn append_relation(&mut self, group: &mut Vec<u8>) -> Result<(), AllocError>
+        ensures written { OnOk result (group.new.items
+            ≡ group.old.items ++ slot_bytes (Each RELATIONS (self.old.message.items ∷ []))) }
+        ensures empty { OnOk result (writer_length self.new ≡ 0) }
+    {
+        self.put_message(group, RELATIONS)
     }
 }

@@ -1,8 +1,9 @@
-use Rattle.std.proofs.Common.{◌≡◌, ◌+◌, ◌≤◌, ◌++◌, ◌∷◌, [], true, length, refl, subst}
+use Rattle.std.proofs.Common.{◌≡◌, ℕ, ◌+◌, ◌≤◌, ◌++◌, ◌∷◌, [], true, length, refl, subst, ap}
+use Rattle.std.specs.Global.{Vec}
 use Rattle.osm_entity.specs.EntityTexts.{entity_texts}
 use Rattle.osm_entity.specs.Views.{entity_of}
 use Rattle.pbf_block.specs.WrittenBlock.{is_block}
-use Rattle.osm_pack.proofs.OpenLemmas.{room_held, node_encoded, way_encoded, relation_encoded}
+use Rattle.osm_pack.proofs.OpenLemmas.{room_held, node_encoded, way_encoded, relation_encoded, appended}
 use Rattle.osm_pack.proofs.open_block.OpenBlock.put.Goals as goal
 
 pub push-requires-clause-room : goal.push-requires-clause-room
@@ -10,23 +11,28 @@ push-requires-clause-room g c =
     let was = c.requires.«open» in
     subst (λ v. length c.args.self.now.texts + length (entity_texts (entity_of v)) ≤ 1048575) c.in-Node.is (room_held c.args.self.now was.entities (entity_of c.args.entity.now) was.held (c.requires.joins was.entities was.held))
 
-pub put_way-requires-clause-room : goal.put_way-requires-clause-room
-put_way-requires-clause-room g c =
-    let was = c.requires.«open» in
-    subst (λ v. length c.args.self.now.texts + length (entity_texts (entity_of v)) ≤ 1048575) c.in-Way.is (room_held c.args.self.now was.entities (entity_of c.args.entity.now) was.held (c.requires.joins was.entities was.held))
+pub make_way-requires-clause-joins : goal.make_way-requires-clause-joins
+make_way-requires-clause-joins g c = λ es h. subst (λ v. is_block (es ++ entity_of v ∷ []) ≡ true) c.in-Way.is (c.requires.joins es h)
 
-pub put_relation-requires-clause-room : goal.put_relation-requires-clause-room
-put_relation-requires-clause-room g c =
-    let was = c.requires.«open» in
-    subst (λ v. length c.args.self.now.texts + length (entity_texts (entity_of v)) ≤ 1048575) c.in-Relation.is (room_held c.args.self.now was.entities (entity_of c.args.entity.now) was.held (c.requires.joins was.entities was.held))
+pub make_relation-requires-clause-joins : goal.make_relation-requires-clause-joins
+make_relation-requires-clause-joins g c = λ es h. subst (λ v. is_block (es ++ entity_of v ∷ []) ≡ true) c.in-Relation.is (c.requires.joins es h)
 
 pub returns-in_ok-push-in-Node : goal.returns-in_ok-push-in-Node
 returns-in_ok-push-in-Node g c = λ es h. rw c.in-Node.is (node_encoded _ _ es _ h (record { likeness = refl; count = refl; weight = refl }) c.in_ok-push-in-Node.ensures.texts c.in_ok-push-in-Node.ensures.pushed refl refl)
 
-pub returns-in_ok-put_way-in-Way : goal.returns-in_ok-put_way-in-Way
-returns-in_ok-put_way-in-Way g c = λ es h.
+pub returns-in_ok-append_way-in-Way : goal.returns-in_ok-append_way-in-Way
+returns-in_ok-append_way-in-Way g c = λ es h.
+    let made = c.in_ok-make_way-in-Way.ensures.made in
     let join = subst (λ v. is_block (es ++ entity_of v ∷ []) ≡ true) c.in-Way.is (c.requires.joins es h) in
-    rw c.in-Way.is (way_encoded _ _ es _ h (record { likeness = refl; count = refl; weight = refl }) join c.in_ok-put_way-in-Way.ensures.texts refl c.in_ok-put_way-in-Way.ensures.written c.in_ok-put_way-in-Way.ensures.empty)
+    rw c.in-Way.is (
+    way_encoded _ _ es _ h (record { likeness = made.likeness; count = made.count; weight = made.weight }) join made.texts made.nodes
+    (λ used. appended 3 _ _ _ _ _ (ap (λ (group : Vec ℕ). group.items) made.group) (c.in_ok-make_way-in-Way.ensures.message used) c.in_ok-append_way-in-Way.ensures.written) c.in_ok-append_way-in-Way.ensures.empty
+    )
 
-pub returns-in_ok-put_relation-in-Relation : goal.returns-in_ok-put_relation-in-Relation
-returns-in_ok-put_relation-in-Relation g c = λ es h. rw c.in-Relation.is (relation_encoded _ _ es _ h (record { likeness = refl; count = refl; weight = refl }) c.in_ok-put_relation-in-Relation.ensures.texts refl c.in_ok-put_relation-in-Relation.ensures.written c.in_ok-put_relation-in-Relation.ensures.empty)
+pub returns-in_ok-append_relation-in-Relation : goal.returns-in_ok-append_relation-in-Relation
+returns-in_ok-append_relation-in-Relation g c = λ es h.
+    let made = c.in_ok-make_relation-in-Relation.ensures.made in
+    rw c.in-Relation.is (
+    relation_encoded _ _ es _ h (record { likeness = made.likeness; count = made.count; weight = made.weight }) made.texts made.nodes
+    (λ used. appended 4 _ _ _ _ _ (ap (λ (group : Vec ℕ). group.items) made.group) (c.in_ok-make_relation-in-Relation.ensures.message used) c.in_ok-append_relation-in-Relation.ensures.written) c.in_ok-append_relation-in-Relation.ensures.empty
+    )
