@@ -9,3 +9,5 @@ mod dense;
 mod header;
 #[cfg(test)]
 mod pack;
+#[cfg(test)]
+mod writer;

@@ -221,4 +221,48 @@ impl EntityOut {
     {
         self.put_message(group, RELATIONS)
     }
+
+    /// Appends a way to a group: [`EntityOut::make_way`] and [`EntityOut::append_way`]. After an `Err` group, writer and table are
+    /// unspecified.
+    pub fn put_way<S: BuildHasher>(
+        &mut self,
+        group: &mut Vec<u8>,
+        way: &WayRef<'_>,
+        table: &mut TableOut<S>,
+    ) -> Result<(), AllocError>
+        requires fits { WayFits (way_of way.now) }
+        requires room { length table.old + length (way_texts (way_of way.now)) ≤ MOST_USED_TEXTS }
+        ensures texts { OnOk result
+            (table.new ≡ texts_after table.old (way_texts (way_of way.now))) }
+        ensures written { (used : List (List ℕ))
+            → OnOk result (group.new.items ≡ group.old.items
+            ++ slot_bytes (Each WAYS
+            (way_message (texts_after table.new used) (way_of way.now) ∷ []))) }
+        ensures empty { OnOk result (writer_length self.new ≡ 0) }
+    {
+        self.make_way(way, table)?;
+        self.append_way(group)
+    }
+
+    /// Appends a relation to a group. The rest is as for [`EntityOut::put_way`].
+    pub fn put_relation<S: BuildHasher>(
+        &mut self,
+        group: &mut Vec<u8>,
+        relation: &RelationRef<'_>,
+        table: &mut TableOut<S>,
+    ) -> Result<(), AllocError>
+        requires fits { RelationFits (relation_of relation.now) }
+        requires room { length table.old + length (relation_texts (relation_of relation.now))
+            ≤ MOST_USED_TEXTS }
+        ensures texts { OnOk result
+            (table.new ≡ texts_after table.old (relation_texts (relation_of relation.now))) }
+        ensures written { (used : List (List ℕ))
+            → OnOk result (group.new.items ≡ group.old.items
+            ++ slot_bytes (Each RELATIONS
+            (relation_message (texts_after table.new used) (relation_of relation.now) ∷ []))) }
+        ensures empty { OnOk result (writer_length self.new ≡ 0) }
+    {
+        self.make_relation(relation, table)?;
+        self.append_relation(group)
+    }
 }
