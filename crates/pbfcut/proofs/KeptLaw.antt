@@ -1,5 +1,5 @@
 -- What is written for a file without a fault is read as what was to be written, and for it the same bytes are written again.
-use Rattle.std.proofs.Common.{◌≡◌, ℕ, ◌+◌, ◌^◌, ◌≤◌, Bool, true, false, cond, List, [], ◌∷◌, ◌++◌, length, map, Option, Some, None, refl, sym, ap, ◌∙◌, subst}
+use Rattle.std.proofs.Common.{◌≡◌, ℕ, ◌+◌, ◌^◌, ◌≤◌, Bool, true, false, cond, List, [], ◌∷◌, ◌++◌, length, map, Option, Some, None, refl, sym, ap, ◌∙◌, subst, arith}
 use Rattle.std.specs.Prelude.{if◌then◌else◌, unwrap_or}
 use Rattle.std.specs.List.{flat_map, last_or, filter, AllByRecursion}
 use Rattle.std.specs.Option.{option_map, IfSome}
@@ -198,7 +198,7 @@ front_ends (f ∷ frames) ending e = front_ends frames ending (first_ends (paylo
 pub same_as_a_file : (bytes : List ℕ) → length bytes ≤ FILE_LIMIT → (verdict_within None bytes).1 ≡ None → verdict_on bytes ≡ verdict_within None bytes
 same_as_a_file bytes low none =
     let v = judged_within None false 0 bytes in
-    ap (λ (v : Verdict). limited (fully v)) (same_within FILE_LIMIT false 0 bytes low (front_ends v.0 v.1 (passes (fully v) none).sound))
+    ap (λ (v : Verdict). limited (fully v)) (same_within FILE_LIMIT false 0 bytes (omega (arith, low)) (front_ends v.0 v.1 (passes (fully v) none).sound))
 
 -- ---- a conversion
 
