@@ -13,5 +13,6 @@ pub mod Beginnings
 pub mod Longest
 pub mod Passing
 pub mod Refusing
+pub mod Staying
 pub mod Putting
 pub mod ReadBack
