@@ -14,5 +14,6 @@ pub mod AnyLength
 pub mod Longest
 pub mod Passing
 pub mod Refusing
+pub mod Staying
 pub mod Putting
 pub mod ReadBack

@@ -1,8 +1,10 @@
 //! The laws of known bytes and of the frames of a file. Each is the contract of a function that does nothing: a proof that
 //! needs the law calls it, or takes the lemma of that name from this crate's `proofs/`.
 
-ghost use Rattle.std.specs.Prelude.{◌≡◌, ℕ, ◌<◌, Bool, List, [], ◌++◌, Option, None, Ok, Some, length};
+ghost use Rattle.std.specs.Prelude.{◌≡◌, ℕ, ◌<◌, Bool, List, [], ◌++◌, Option, None, Ok, Err, Some, false, length};
+ghost use Rattle.pbf_wire.specs.declared.fault.Fault.{Fault};
 ghost use Rattle.pbf_frame.specs.Devices.{prepend, append};
+ghost use Rattle.pbf_frame.specs.Ends.{comes_of_end};
 ghost use Rattle.pbf_wire.specs.Least.{least};
 ghost use Rattle.pbf_wire.specs.declared.limits.TheConstants.{RAW_LIMIT};
 ghost use Rattle.pbf_frame.specs.declared.frame.FrameKind.{FrameKind};
@@ -45,6 +47,14 @@ pub fn one_frame()
     ensures spells { (had_header : Bool) (place : ℕ) (bytes : List ℕ) (f : FrameSpec)
         (rest : List ℕ) → next_of had_header place bytes ≡ Ok (Some f, rest)
         → bytes ≡ frame_bytes f ++ rest }
+{}
+
+/// The fault of the next frame stays, whatever follows the bytes, unless it comes of their end: the file is cut there, or it has no
+/// header.
+pub fn fault_stays()
+    ensures { (had_header : Bool) (place : ℕ) (bytes rest : List ℕ) (fault : Fault)
+        → next_of had_header place bytes ≡ Err fault → comes_of_end fault.reason ≡ false
+        → next_of had_header place (bytes ++ rest) ≡ Err fault }
 {}
 
 /// The verdict on bytes that begin with frames is these frames, and then those of the verdict on what follows.

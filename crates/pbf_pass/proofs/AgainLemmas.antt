@@ -1,16 +1,20 @@
 -- What a pass after the one that judged the file has gathered, and why it stops.
-use Rattle.std.proofs.Common.{◌≡◌, ℕ, inl, inr, List, [], ◌∷◌, ◌++◌, Option, Some, None, refl, sym, ap, ◌∙◌, subst}
+use Rattle.std.proofs.Common.{◌≡◌, ℕ, inl, inr, false, List, [], ◌∷◌, ◌++◌, Option, Some, None, refl, sym, ap, ◌∙◌, subst}
 use Rattle.std.specs.List.{AllByRecursion, fold}
 use Rattle.osm_entity.specs.Entity.{EntitySpec}
+use Rattle.pbf_frame.specs.declared.device.Feed as feed
 use Rattle.pbf_frame.specs.declared.stop.Stop.{Stop}
 use Rattle.pbf_frame.specs.declared.stop.Stop.TheVariants as why
 use Rattle.pbf_frame.specs.Frames.{FrameSpec}
-use Rattle.pbf_frame.specs.Verdict.{Verdict, with_first_known, Says}
-use Rattle.pbf_pass.specs.Again.{IsSound, GathersFrame, GathersFile, StopsAtFrame, StopsUnjudged}
+use Rattle.pbf_frame.specs.Refusals.{Refuses}
+use Rattle.pbf_frame.specs.Verdict.{Verdict, with_first_known, Says, judged_known}
+use Rattle.pbf_frame.proofs.Refusing.{faulty_as}
+use Rattle.pbf_pass.specs.Again.{IsSound, GathersFrame, GathersFile, StopsAtFrame, StopsUnjudged, ReadsFaulty}
 use Rattle.pbf_pass.specs.Counting.{stored_entities}
 use Rattle.pbf_pass.specs.Judged.{fully, fully_known}
+use Rattle.pbf_pass.specs.Refused.{RefusesRest}
 use Rattle.pbf_pass.specs.Stops.{Caused, unchanged}
-use Rattle.pbf_pass.specs.Visit.{Takes, Fails, Visited, VisitsAll, StopsVisit}
+use Rattle.pbf_pass.specs.Visit.{Takes, Fails, Visited, VisitsAll, StopsVisit, RefusesVisit}
 use Rattle.pbf_pass.proofs.GatherLemmas.{gathered_one}
 use Rattle.pbf_pass.proofs.SoundLemmas.{sound_first_ones, sound_last, all_sound, faulty_rest, faulty_frame}
 use Rattle.pbf_pass.proofs.VisitLemmas.{visited_to}
@@ -27,6 +31,15 @@ pub gathers_all : {S : Type 0} (gathered : S → EntitySpec → S) (fs : List Fr
 gathers_all gathered fs first before now so_far stays frames is =
     let whole = all_sound fs frames is in
     stays ∙ so_far whole.1 ∙ ap (λ (l : List FrameSpec). fold gathered first (stored_entities l)) whole.0
+
+-- bytes that are faulty by one judgment are so by another that it implies
+pub refuses_less : {F : Type 0} (f : feed.Ghosts F) (old new : F) (first then : List ℕ → Type 0) → ((b : List ℕ) → first b → then b) → Refuses first (f.has_passed old) (f.has_passed new) (f.remaining old) (f.remaining new) → Refuses then (f.has_passed old) (f.has_passed new) (f.remaining old) (f.remaining new)
+refuses_less f old new first then step refuses = record {
+  read = refuses.read;
+  told = refuses.told;
+  logged = refuses.logged;
+  faulty = faulty_as then first refuses.read (f.remaining new) step refuses.faulty;
+}
 
 -- ---- of a visitor in a pass of this number
 
@@ -50,6 +63,15 @@ module _ {V : Type 0} (number : V → ℕ) (took : Takes V) (same : (old new : V
     of why.Write failing = failing
     of why.Memory failing = tt
     of (why.Changed n) failing = (failing.0 ∙ same_number before s.frames s.mid s.visited, faulty_frame known (with_first_known s.frame s.rest) s.rest s.frames s.frame s.gone refl failing.1)
+
+  -- so what the feed gave has a fault
+  pub faulty_visited : {F : Type 0} (f : feed.Ghosts F) (old new : F) (failed : Fails V) (wrote : Type 0) (before now : V) (stop : Stop) → ((fs : List FrameSpec) (mid : V) (f : FrameSpec) (s : Stop) → Visited took before fs mid → failed mid f now s → StopsAtFrame (number mid) wrote f s)
+      → RefusesRest f old new (RefusesVisit took failed (λ b. judged_known false 0 (Some b)) before now) stop → ReadsFaulty f old new stop
+  faulty_visited f old new failed wrote before now (why.Refused e) cause rest = refuses_less f old new _ _ (λ b stops. stops_visited failed (judged_known false 0 (Some b)) ⊥ wrote before now (why.Refused e) cause stops) rest
+  faulty_visited f old new failed wrote before now why.Read cause rest = tt
+  faulty_visited f old new failed wrote before now why.Write cause rest = tt
+  faulty_visited f old new failed wrote before now why.Memory cause rest = tt
+  faulty_visited f old new failed wrote before now (why.Changed n) cause rest = refuses_less f old new _ _ (λ b stops. (stops_visited failed (judged_known false 0 (Some b)) ⊥ wrote before now (why.Changed n) cause stops).1) rest
 
 -- ---- of a visitor that gathers in it
 

@@ -1,11 +1,12 @@
 -- What a halt says of the bytes that were read.
-use Rattle.std.proofs.Common.{◌≡◌, inr, ℕ, Bool, List, [], Option, Some, sym, subst}
+use Rattle.std.proofs.Common.{◌≡◌, inr, ℕ, Bool, List, [], Option, Some, refl, sym, subst}
 use Rattle.osm_entity.specs.Entity.{EntitySpec}
 use Rattle.pbf_wire.specs.declared.fault.Fault.{Fault}
 use Rattle.pbf_frame.specs.declared.device.Feed as feed
 use Rattle.pbf_frame.specs.declared.device.Drain as drain
 use Rattle.pbf_frame.specs.declared.stop.Stop.{Stop}
 use Rattle.pbf_frame.specs.declared.stop.Stop.TheVariants as stop
+use Rattle.pbf_frame.specs.Refusals.{Refuses}
 use Rattle.pbf_frame.specs.Transfers.{Added}
 use Rattle.pbf_frame.specs.Verdict.{Verdict}
 use Rattle.pbf_frame.proofs.Passed.{added_none}
@@ -31,13 +32,33 @@ limit_caused told (halt.Stopped s) limit = absurd limit
 
 -- ---- of a reader that halts, which keeps its feed
 
-pub halts_of : {F : Type 0} {f : feed.Ghosts F} (old new : F) (at_fault : Fault → List ℕ → Type 0) (refused : Refusal → Type 0) (count : ℕ) (digest : List ℕ) (s : Stop) → KeepsFeed f old new → RefusesRest f old new at_fault s
+pub halts_of : {F : Type 0} {f : feed.Ghosts F} (old new : F) (at_fault : Stop → List ℕ → Type 0) (refused : Refusal → Type 0) (count : ℕ) (digest : List ℕ) (s : Stop) → KeepsFeed f old new → RefusesRest f old new at_fault s
     → ((e : Fault) → RefusesRest f old new at_fault (stop.Refused e) → refused (record { fault = e; read = count; input = digest })) → Halts refused (halted s count digest)
 halts_of old new at_fault refused count digest (stop.Refused e) keeps rest step = step e rest
 halts_of old new at_fault refused count digest stop.Read keeps rest step = λ e is. (let bad : ⊥ = cc in bad)
 halts_of old new at_fault refused count digest stop.Write keeps rest step = λ e is. (let bad : ⊥ = cc in bad)
 halts_of old new at_fault refused count digest stop.Memory keeps rest step = λ e is. (let bad : ⊥ = cc in bad)
 halts_of old new at_fault refused count digest (stop.Changed pass) keeps rest step = λ e is. (let bad : ⊥ = cc in bad)
+
+-- what was read of one feed was read of another
+pub rest_of : {F G : Type 0} {f : feed.Ghosts F} (g : feed.Ghosts G) (old new : F) (before now : G) (first then : Stop → List ℕ → Type 0) (s : Stop) → KeepsFeed f old new → RefusesRest f old new first s
+    → ((t : Stop) → Refuses (first t) (f.has_passed old) (f.has_passed new) (f.remaining old) (f.remaining new) → Refuses (then t) (g.has_passed before) (g.has_passed now) (g.remaining before) (g.remaining now)) → RefusesRest g before now then s
+rest_of g old new before now first then (stop.Refused e) keeps rest step = step (stop.Refused e) rest
+rest_of g old new before now first then stop.Read keeps rest step = tt
+rest_of g old new before now first then stop.Write keeps rest step = tt
+rest_of g old new before now first then stop.Memory keeps rest step = tt
+rest_of g old new before now first then (stop.Changed pass) keeps rest step = step (stop.Changed pass) rest
+
+-- the same of devices that are equal
+pub rest_as : {F : Type 0} (f : feed.Ghosts F) (old new first last : F) (at_fault : Stop → List ℕ → Type 0) (s : Stop) → old ≡ first → new ≡ last → RefusesRest f old new at_fault s → RefusesRest f first last at_fault s
+rest_as f old new first last at_fault s e e2 rest = subst (λ x. RefusesRest f first x at_fault s) e2 (subst (λ x. RefusesRest f x new at_fault s) e rest)
+
+pub stop_halted : (s : Stop) (count : ℕ) (digest : List ℕ) → stop_of (halted s count digest) ≡ s
+stop_halted (stop.Refused e) count digest = refl
+stop_halted stop.Read count digest = refl
+stop_halted stop.Write count digest = refl
+stop_halted stop.Memory count digest = refl
+stop_halted (stop.Changed pass) count digest = refl
 
 -- ---- of a feed that was refused
 

@@ -4,11 +4,13 @@ use Rattle.std.specs.Option.{option_map}
 use Rattle.std.proofs.lemmas.List.{append-nil}
 use Rattle.pbf_frame.specs.declared.device.Feed as feed
 use Rattle.pbf_frame.specs.declared.reader.FrameReader.{FrameReader}
+use Rattle.pbf_wire.specs.declared.fault.Fault.{Fault}
 use Rattle.pbf_frame.specs.declared.stop.Stop.{Stop}
 use Rattle.pbf_frame.specs.declared.stop.Stop.TheVariants as why
 use Rattle.pbf_frame.specs.Devices.{prepend, Passes}
 use Rattle.pbf_frame.specs.Frames.{FrameSpec, is_header, frame_kind, frame_end, frame_bytes, next_within, next_of}
 use Rattle.pbf_frame.specs.Next.{place_of, had_header_of}
+use Rattle.pbf_frame.specs.Refusals.{Refuses}
 use Rattle.pbf_frame.specs.Sound.{IsFrame}
 use Rattle.pbf_frame.specs.Verdict.{Verdict, judged, judged_after, judged_known, with_first_known, with_all, joined_frames, Gone}
 use Rattle.pbf_frame.proofs.Judging.{judged_some, judged_step, gave_fault}
@@ -94,15 +96,13 @@ module _ {F : Type 0} (g : feed.Ghosts F) where
         holding = subst (λ (v : Verdict). holds (Some v)) (sym is) holding;
       }
 
-  -- the bytes of these frames, and those of what is refused after them
-  pub has_passed_refused : {V : Type 0} (took : Takes V) (failed : Fails V) (before mid last : V) (first at now : FrameReader F) (frames : List FrameSpec) (stop : Stop) → HasPassed g first frames at → Visited took before frames mid
-      → RefusedStep g at now (λ f s. failed mid f last s) (last ≡ mid) stop → RefusesRest g first.feed now.feed (RefusesVisit took failed (judged_from first) before last) stop
-  has_passed_refused took failed before mid last first at now frames (why.Refused e) so_far visited refused = of refused where
-    judge : List ℕ → Type 0
-    judge b = RefusesVisit took failed (judged_from first) before last e b
+  -- the bytes of these frames, and those of what is refused after them, or of the frame at which a visitor stopped
+  module _ {V : Type 0} (took : Takes V) (failed : Fails V) (before mid last : V) (first at now : FrameReader F) (frames : List FrameSpec) (so_far : HasPassed g first frames at) (visited : Visited took before frames mid) where
+    abbrev stops_for : Stop → List ℕ → Type 0
+    stops_for s b = RefusesVisit took failed (judged_from first) before last s b
 
-    by_reader : last ≡ mid → (b : List ℕ) → next_of (had_header_of at) (place_of at) b ≡ Err e → judge (joined_frames frames ++ b)
-    by_reader same b is = inl record {
+    by_reader : (e : Fault) → last ≡ mid → (b : List ℕ) → next_of (had_header_of at) (place_of at) b ≡ Err e → stops_for (why.Refused e) (joined_frames frames ++ b)
+    by_reader e same b is = inl record {
       frames = frames;
       rest = judged_known (had_header_of at) (place_of at) (Some b);
       gone = so_far.gone b;
@@ -110,8 +110,8 @@ module _ {F : Type 0} (g : feed.Ghosts F) where
       caused = gave_fault (had_header_of at) (place_of at) (Some b) e (λ bytes same. subst (λ (l : List ℕ). next_of (had_header_of at) (place_of at) l ≡ Err e) (some_same _ _ same) is);
     }
 
-    by_visitor : (f : FrameSpec) → GaveOne g at now f → failed mid f last (why.Refused e) → (rest : List ℕ) → judge ((joined_frames frames ++ frame_bytes f) ++ rest)
-    by_visitor f gave fault rest = subst judge (sym (append_assoc (joined_frames frames) (frame_bytes f) rest)) (inr record {
+    by_visitor : (s : Stop) (f : FrameSpec) → GaveOne g at now f → failed mid f last s → (rest : List ℕ) → stops_for s ((joined_frames frames ++ frame_bytes f) ++ rest)
+    by_visitor s f gave failing rest = subst (stops_for s) (sym (append_assoc (joined_frames frames) (frame_bytes f) rest)) (inr record {
       frames = frames;
       frame = f;
       rest = judged_known (had_header_of at || is_header (frame_kind f)) (frame_end f) (Some rest);
@@ -119,18 +119,22 @@ module _ {F : Type 0} (g : feed.Ghosts F) where
           (ap Some (judged_some (had_header_of at) (place_of at) (frame_bytes f ++ rest) f rest (frame_is_next (had_header_of at) (place_of at) f rest gave.is_frame))) (so_far.gone (frame_bytes f ++ rest));
       mid = mid;
       visited = visited;
-      failing = fault;
+      failing = failing;
     })
 
-    of : RefusedStep g at now (λ f s. failed mid f last s) (last ≡ mid) (why.Refused e) → RefusesRest g first.feed now.feed (RefusesVisit took failed (judged_from first) before last) (why.Refused e)
-    of (inl (refuses, same)) = refuses_more judge (λ b. next_of (had_header_of at) (place_of at) b ≡ Err e) (g.has_passed first.feed) (g.has_passed at.feed) (g.has_passed now.feed) (g.remaining first.feed) (g.remaining at.feed) (g.remaining now.feed) (joined_frames frames) so_far.told so_far.logged (by_reader same) refuses
-    of (inr (f, gave, fault)) = record {
+    at_frame : (s : Stop) → (f : FrameSpec) × GaveOne g at now f × failed mid f last s → Refuses (stops_for s) (g.has_passed first.feed) (g.has_passed now.feed) (g.remaining first.feed) (g.remaining now.feed)
+    at_frame s (f, gave, failing) = record {
       read = joined_frames frames ++ frame_bytes f;
       told = prepend_more _ _ _ (joined_frames frames) (frame_bytes f) so_far.told gave.told;
       logged = passes_more (g.has_passed first.feed) (g.has_passed at.feed) (g.has_passed now.feed) (joined_frames frames) (frame_bytes f) so_far.logged gave.logged;
-      faulty = inl (by_visitor f gave fault);
+      faulty = inl (by_visitor s f gave failing);
     }
-  has_passed_refused took failed before mid last first at now frames why.Read so_far visited refused = tt
-  has_passed_refused took failed before mid last first at now frames why.Write so_far visited refused = tt
-  has_passed_refused took failed before mid last first at now frames why.Memory so_far visited refused = tt
-  has_passed_refused took failed before mid last first at now frames (why.Changed n) so_far visited refused = tt
+
+    pub has_passed_refused : (stop : Stop) → RefusedStep g at now (λ f s. failed mid f last s) (last ≡ mid) stop → RefusesRest g first.feed now.feed (RefusesVisit took failed (judged_from first) before last) stop
+    has_passed_refused (why.Refused e) (inl (refuses, same)) =
+        refuses_more (stops_for (why.Refused e)) (λ b. next_of (had_header_of at) (place_of at) b ≡ Err e) (g.has_passed first.feed) (g.has_passed at.feed) (g.has_passed now.feed) (g.remaining first.feed) (g.remaining at.feed) (g.remaining now.feed) (joined_frames frames) so_far.told so_far.logged (by_reader e same) refuses
+    has_passed_refused (why.Refused e) (inr one) = at_frame (why.Refused e) one
+    has_passed_refused why.Read refused = tt
+    has_passed_refused why.Write refused = tt
+    has_passed_refused why.Memory refused = tt
+    has_passed_refused (why.Changed n) one = at_frame (why.Changed n) one

@@ -94,7 +94,7 @@ pub record StoppedStep {F : Type 0} (g : feed.Ghosts F) (old new : FrameReader F
   pub where_it_stopped : (Gave (verdict g.remaining old) (Err stop) (verdict g.remaining new) × IsReaderStop (g.failures old.feed) (g.failures new.feed) stop × same)
       ⊎ ((f : FrameSpec) × (verdict g.remaining old ≡ with_first_known f (verdict g.remaining new)) × failed f stop)
 
--- a refusal came from the reader, or at the frame that it gave
+-- a refusal came from the reader, or at the frame that it gave; `Changed` came at that frame
 abbrev pub RefusedStep : {F : Type 0} → feed.Ghosts F → (old new : FrameReader F) → (FrameSpec → Stop → Type 0) → (same : Type 0) → Stop → Type 0
 RefusedStep g old new failed same (why.Refused e) =
     (Refuses (λ b. next_of (had_header_of old) (place_of old) b ≡ Err e) (g.has_passed old.feed) (g.has_passed new.feed) (g.remaining old.feed) (g.remaining new.feed) × same)
@@ -102,7 +102,7 @@ RefusedStep g old new failed same (why.Refused e) =
 RefusedStep g old new failed same why.Read = Unit {0}
 RefusedStep g old new failed same why.Write = Unit {0}
 RefusedStep g old new failed same why.Memory = Unit {0}
-RefusedStep g old new failed same (why.Changed n) = Unit {0}
+RefusedStep g old new failed same (why.Changed n) = (f : FrameSpec) × GaveOne g old new f × failed f (why.Changed n)
 
 other : (r : Result Bool Stop) → r ≡ Ok true → r ≡ Ok false → ⊥
 other r e f = cc
@@ -191,15 +191,15 @@ module _ {F : Type 0} (g : feed.Ghosts F) (old new : FrameReader F) (took : Fram
     at_frame why.Read h = tt
     at_frame why.Write h = tt
     at_frame why.Memory h = tt
-    at_frame (why.Changed n) h = tt
+    at_frame (why.Changed n) h = (f, gave_one f a, h)
   refused_at stop (Ok None) a t = absurd (no_stop false stop _ t.0 refl)
-  refused_at stop (Err s) a t = subst (λ (x : Stop). RefusedStep g old new failed same x) (same_stop s stop _ t.0 refl) (by_reader s a.refused t.1) where
-    by_reader : (s : Stop) → RefusedBy (next_of (had_header_of old) (place_of old)) (g.has_passed old.feed) (g.has_passed new.feed) (g.remaining old.feed) (g.remaining new.feed) s → same → RefusedStep g old new failed same s
-    by_reader (why.Refused e) r kept = inl (r, kept)
-    by_reader why.Read r kept = tt
-    by_reader why.Write r kept = tt
-    by_reader why.Memory r kept = tt
-    by_reader (why.Changed n) r kept = tt
+  refused_at stop (Err s) a t = subst (λ (x : Stop). RefusedStep g old new failed same x) (same_stop s stop _ t.0 refl) (by_reader s a.refused a.stops t.1) where
+    by_reader : (s : Stop) → RefusedBy (next_of (had_header_of old) (place_of old)) (g.has_passed old.feed) (g.has_passed new.feed) (g.remaining old.feed) (g.remaining new.feed) s → IsReaderStop (g.failures old.feed) (g.failures new.feed) s → same → RefusedStep g old new failed same s
+    by_reader (why.Refused e) r is kept = inl (r, kept)
+    by_reader why.Read r is kept = tt
+    by_reader why.Write r is kept = tt
+    by_reader why.Memory r is kept = tt
+    by_reader (why.Changed n) r is kept = absurd is
 
   pub refused_step : (stop : Stop) → IsReading old → IsStep g old new took failed same (Err stop) → RefusedStep g old new failed same stop
   refused_step stop reading s = refused_at stop s.answer (s.next.0 reading) s.follows

@@ -3,12 +3,14 @@
 use Rattle.std.specs.Prelude.{◌≡◌, ℕ, List, Option, Some, None}
 use Rattle.std.specs.List.{fold}
 use Rattle.osm_entity.specs.Entity.{EntitySpec}
+use Rattle.pbf_frame.specs.declared.device.Feed as feed
 use Rattle.pbf_frame.specs.declared.stop.Stop.{Stop}
 use Rattle.pbf_frame.specs.Frames.{FrameSpec}
 use Rattle.pbf_frame.specs.Verdict.{Verdict}
 use Rattle.pbf_pass.specs.Counting.{entities_in, stored_entities}
-use Rattle.pbf_pass.specs.Judged.{fault_in, payload_fault}
+use Rattle.pbf_pass.specs.Judged.{fault_in, judged_file, payload_fault}
 use Rattle.pbf_pass.specs.Payload.{Payload, payload_of}
+use Rattle.pbf_pass.specs.Refused.{RefusesRest}
 use Rattle.pbf_pass.specs.Stops.{Caused}
 
 -- ---- one payload, and one frame
@@ -40,6 +42,10 @@ IsFaulty known = (frames : List FrameSpec) → known ≡ Some (frames, None) →
 -- its entities were gathered, if it has no fault
 abbrev pub GathersFile : {S : Type 0} → (S → EntitySpec → S) → Option Verdict → (before now : S) → Type 0
 GathersFile gathered known before now = (frames : List FrameSpec) → known ≡ Some (frames, None) → now ≡ fold gathered before (stored_entities frames)
+
+-- what the feed gave is how a file with a fault begins, or is one: so it is at a refusal, and at `Changed`
+abbrev pub ReadsFaulty : {F : Type 0} → feed.Ghosts F → (old new : F) → Stop → Type 0
+ReadsFaulty f old new stop = RefusesRest f old new (λ s bytes. IsFaulty (judged_file (Some bytes))) stop
 
 -- it has a fault, in a frame that the reader refuses or in the payload of one; or a device failed, or memory was refused
 abbrev pub StopsUnjudged : ℕ → Option Verdict → (read wrote : Type 0) → Stop → Type 0

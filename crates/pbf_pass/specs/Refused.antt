@@ -16,13 +16,13 @@ use Rattle.pbf_pass.specs.HeaderLimit.{header_limit, held_header}
 use Rattle.pbf_pass.specs.Hashing.{IsLength, IsDigestOf, digest_if}
 use Rattle.pbf_pass.specs.Stops.{FaultOf}
 
--- what a reader's feed gave is faulty; any other stop says nothing of the bytes
-abbrev pub RefusesRest : {F : Type 0} → feed.Ghosts F → (old new : F) → (Fault → List ℕ → Type 0) → Stop → Type 0
-RefusesRest f old new at_fault (stop.Refused e) = Refuses (at_fault e) (f.has_passed old) (f.has_passed new) (f.remaining old) (f.remaining new)
+-- what a reader's feed gave is why it stopped: it is refused, or it changed; any other stop says nothing of the bytes
+abbrev pub RefusesRest : {F : Type 0} → feed.Ghosts F → (old new : F) → (Stop → List ℕ → Type 0) → Stop → Type 0
+RefusesRest f old new at_fault (stop.Refused e) = Refuses (at_fault (stop.Refused e)) (f.has_passed old) (f.has_passed new) (f.remaining old) (f.remaining new)
 RefusesRest f old new at_fault stop.Read = Unit {0}
 RefusesRest f old new at_fault stop.Write = Unit {0}
 RefusesRest f old new at_fault stop.Memory = Unit {0}
-RefusesRest f old new at_fault (stop.Changed pass) = Unit {0}
+RefusesRest f old new at_fault (stop.Changed pass) = Refuses (at_fault (stop.Changed pass)) (f.has_passed old) (f.has_passed new) (f.remaining old) (f.remaining new)
 
 -- faulty bytes were read, with their number, as far as it can be counted, and their digest, if they were hashed
 pub record RefusesBytes {F : Type 0} (f : feed.Ghosts F) (old new : F) (hashes : Bool) (at_fault : Fault → List ℕ → Type 0) (refusal : Refusal) : Type 0 where

@@ -1,8 +1,6 @@
 -- What a pass does that visits the frames of a file one after another, and why it stops.
 use Rattle.std.specs.Prelude.{◌≡◌, ◌⊎◌, ℕ, List, [], ◌∷◌, Option, None, Some, length}
-use Rattle.pbf_wire.specs.declared.fault.Fault.{Fault}
 use Rattle.pbf_frame.specs.declared.stop.Stop.{Stop}
-use Rattle.pbf_frame.specs.declared.stop.Stop.TheVariants.{Refused}
 use Rattle.pbf_frame.specs.Frames.{FrameSpec}
 use Rattle.pbf_frame.specs.Verdict.{Verdict, with_first_known, Gone, Says}
 use Rattle.pbf_pass.specs.Stops.{Caused, unchanged}
@@ -49,6 +47,6 @@ pub record StopsWithin {V : Type 0} (took : Takes V) (failed : Fails V) (known :
 abbrev pub StopsVisit : {V : Type 0} → Takes V → Fails V → Option Verdict → (read : Type 0) → (before now : V) → Stop → Type 0
 StopsVisit took failed known read before now stop = StopsBehind took known read before now stop ⊎ StopsWithin took failed known before now stop
 
--- it refused bytes at this place, with this fault
-abbrev pub RefusesVisit : {V : Type 0} → Takes V → Fails V → (List ℕ → Option Verdict) → (before now : V) → Fault → List ℕ → Type 0
-RefusesVisit took failed judge before now e bytes = StopsVisit took failed (judge bytes) ⊥ before now (Refused e)
+-- it stopped for these bytes, and no read failed
+abbrev pub RefusesVisit : {V : Type 0} → Takes V → Fails V → (List ℕ → Option Verdict) → (before now : V) → Stop → List ℕ → Type 0
+RefusesVisit took failed judge before now stop bytes = StopsVisit took failed (judge bytes) ⊥ before now stop

@@ -3,7 +3,7 @@
 
 ghost use Rattle.std.specs.Prelude.{◌≡◌, ◌≤◌, ◌<◌, ◌+◌, ◌^◌, [], ◌∷◌, Some, IfOk, IfErr, OnOk, length};
 ghost use Rattle.pbf_frame.specs.Next.{place_of, held_by};
-ghost use Rattle.pbf_pass.specs.Again.{GathersPayload, GathersFrame, GathersFile, StopsAtPayload, StopsAtFrame, StopsUnjudged};
+ghost use Rattle.pbf_pass.specs.Again.{GathersPayload, GathersFrame, GathersFile, StopsAtPayload, StopsAtFrame, StopsUnjudged, ReadsFaulty};
 ghost use Rattle.pbf_pass.specs.Given.{GaveFile};
 ghost use Rattle.pbf_pass.specs.Hashing.{digest_if};
 ghost use Rattle.pbf_pass.specs.Judged.{judged_file};
@@ -127,6 +127,8 @@ pub fn gather_again<F: Feed, G: Gather>(
     ensures gathered { IfOk result (λ digest. GaveFile F.Feed feed.old feed.new
         (digest_if passes.hashes digest) (λ file. GathersFile G.gathered (judged_file (Some file))
         gathering.old gathering.new)) }
+    // `Refused` and `Changed` come only if what the feed gave has a fault, whatever follows it (or by itself, if the feed was at its end).
+    ensures faulty { IfErr result (ReadsFaulty F.Feed feed.old feed.new) }
     // `Refused`, and `Changed` with the number of the pass, come only for a file that has a fault, and `Read` only if the feed's count of
     // failures rose; `Write` never comes.
     ensures stops { IfErr result (StopsUnjudged number (judged_file (F.remaining feed.old))

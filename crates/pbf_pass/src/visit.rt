@@ -3,6 +3,7 @@
 ghost use Rattle.std.specs.Prelude.{◌≡◌, ◌≤◌, ◌^◌, List, [], false, Some, IfOk, IfErr, OnOk};
 ghost use Rattle.std.specs.Borrow.{GName};
 ghost use Rattle.pbf_frame.specs.declared.stop.Stop.{Stop};
+ghost use Rattle.pbf_frame.specs.declared.stop.Stop.TheVariants as stop;
 ghost use Rattle.pbf_frame.specs.Frames.{FrameSpec};
 ghost use Rattle.pbf_frame.specs.Next.{IsReading, Shows, place_of, held_by, verdict};
 ghost use Rattle.pbf_frame.specs.Verdict.{judged_known};
@@ -86,7 +87,7 @@ pub fn visit_rest<F: Feed, V: Visit>(
     // The reader stopped after frames that were visited, or the visitor at the frame after them.
     ensures stops { IfErr result (StopsVisit V.took V.failed (verdict F.remaining reader.old)
         (ReadFailed F.Feed reader.old.feed reader.new.feed) visitor.old visitor.new) }
-    // A refusal holds of whatever begins with the bytes that the feed gave (or of them, if it was at its end).
+    // A refusal, and a visitor's `Changed`, holds of whatever begins with the bytes that the feed gave (or of them, if it was at its end).
     ensures refused { IfErr result (RefusesRest F.Feed reader.old.feed reader.new.feed
         (RefusesVisit V.took V.failed (judged_from reader.old) visitor.old visitor.new)) }
     // The feed keeps its references, and its count of failures doesn't fall.
@@ -131,8 +132,12 @@ pub fn pass_over<F: Feed, V: Visit>(
         visitor.old visitor.new (stop_of h)) }
     // A refusal has the number and the digest of what the feed gave: whatever begins so is refused so.
     ensures refused { IfErr result (Halts (RefusesBytes F.Feed feed.old feed.new passes.hashes
+        (λ e. RefusesVisit V.took V.failed (λ b. judged_known false 0 (Some b))
+        visitor.old visitor.new (stop.Refused e)))) }
+    // So is a visitor's `Changed` returned for whatever begins with what the feed gave.
+    ensures given { IfErr result (λ h. RefusesRest F.Feed feed.old feed.new
         (RefusesVisit V.took V.failed (λ b. judged_known false 0 (Some b))
-        visitor.old visitor.new))) }
+        visitor.old visitor.new) (stop_of h)) }
     ensures counts { F.failures feed.old ≤ F.failures feed.new }
     ensures ready { OnOk result (V.ready visitor.new) }
     ensures lender { V.lender visitor.new ≡ V.lender visitor.old }

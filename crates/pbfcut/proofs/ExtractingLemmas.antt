@@ -28,7 +28,9 @@ use Rattle.pbf_frame.specs.declared.stop.Stop.TheVariants as stop
 use Rattle.pbf_frame.specs.Devices.{IsFront}
 use Rattle.pbf_frame.specs.Frames.{FrameSpec}
 use Rattle.pbf_frame.specs.Verdict.{Verdict, Says}
+use Rattle.pbf_frame.specs.Refusals.{Refuses}
 use Rattle.pbf_frame.proofs.Parting.{none_some}
+use Rattle.pbf_frame.proofs.Refusing.{refused_told}
 use Rattle.pbf_block.specs.declared.counts.Counts.{Counts}
 use Rattle.pbf_pass.specs.declared.pass.Pass.{Pass}
 use Rattle.pbf_pass.specs.HeaderLimit.{IsShort, header_limit, judged_writable, held_header}
@@ -43,9 +45,9 @@ use Rattle.pbfcut.proofs.KeptLaw.{IsSelection, IsKeptExtract, complete_ways_sele
 use Rattle.pbfcut.proofs.TheoremLemmas.{took_weaker}
 use Rattle.pbf_pass.specs.Pass.{with_node, with_first, with_way, with_relation, TakesFile, file_header}
 use Rattle.pbfcut.specs.declared.repeat.Repeat.{Repeat}
-use Rattle.pbfcut.specs.Repeat.{Unlike, GathersRest, StopsAgain, digest_of}
+use Rattle.pbfcut.specs.Repeat.{IsUnlike, GathersRest, StopsAgain, digest_of}
 use Rattle.pbf_pass.specs.Hashing.{IsDigestOf, digest_if}
-use Rattle.pbf_pass.specs.Stops.{Caused}
+use Rattle.pbf_pass.specs.Stops.{Caused, ReadFailed}
 use Rattle.pbf_pass.specs.Again.{GathersFile}
 use Rattle.pbf_pass.specs.Judged.{judged_file}
 use Rattle.pbfcut.specs.Pick.{Pick, picked_by, pick_of}
@@ -170,37 +172,34 @@ chosen_sound area b second sets h c = ap (λ (v : Verdict). v.1) (same_verdict b
 
 -- ---- why a call stops
 
--- bytes of a later pass with another digest are not the first pass's bytes
-pub later_differs : (first other digest : Option (List ℕ)) (frames : List FrameSpec) → IsDigest first digest → Says (judged_file first) (frames, None) → Unlike other digest → Differ first other
-later_differs first other digest frames same says unlike b c is too e =
+-- bytes that aren't those of the first pass's digest are not the first pass's bytes
+later_differs : {F : Type 0} (f : feed.Ghosts F) (old new : F) (first digest : Option (List ℕ)) (frames : List FrameSpec) → IsDigest first digest → Says (judged_file first) (frames, None) → Refuses (IsUnlike digest) (f.has_passed old) (f.has_passed new) (f.remaining old) (f.remaining new) → Differ first (f.remaining old)
+later_differs f old new first digest frames same says unlike b c is too e =
     let judged = known_says b (frames, None) (subst (λ (o : Option (List ℕ)). Says (judged_file o) (frames, None)) is says) in
-    unlike c frames too (subst (λ (l : List ℕ). IsDigestOf digest l) e (same b is)) (ap (λ (l : List ℕ). judged_file (Some l)) (sym e) ∙ judged)
+    refused_told (IsUnlike digest) _ _ _ (f.remaining new) c unlike too (subst (λ (l : List ℕ). IsDigestOf digest l) e (same b is)) frames (ap (λ (l : List ℕ). judged_file (Some l)) (sym e) ∙ judged)
 
 -- the stops of a later pass, as those of the call
-pub stops_later : (again : Repeat) (first other digest : Option (List ℕ)) (frames : List FrameSpec) (refused : Fault → Type 0) (read later wrote : Type 0) (changed : ℕ → Type 0) (s : Stop) → IsDigest first digest → Says (judged_file first) (frames, None) → digest_of again ≡ digest
-    → (later → read) → ((pass : ℕ) → ChangedIn again.number first other pass → changed pass) → StopsAgain again other later wrote s → Caused refused read wrote changed s
-stops_later again first other digest frames refused read later wrote changed (stop.Refused e) same says is r d h = absurd h
-stops_later again first other digest frames refused read later wrote changed stop.Read same says is r d h = r h
-stops_later again first other digest frames refused read later wrote changed stop.Write same says is r d h = h
-stops_later again first other digest frames refused read later wrote changed stop.Memory same says is r d h = tt
-stops_later again first other digest frames refused read later wrote changed (stop.Changed n) same says is r d h = d n (h.0, later_differs first other digest frames same says (subst (λ (d : Option (List ℕ)). Unlike other d) is h.1))
+module _ {F : Type 0} (f : feed.Ghosts F) (old new : F) (first : Option (List ℕ)) (frames : List FrameSpec) (says : Says (judged_file first) (frames, None)) where
+  pub stops_later : (again : Repeat) (digest : Option (List ℕ)) (refused : Fault → Type 0) (read wrote : Type 0) (changed : ℕ → Type 0) (s : Stop) → IsDigest first digest → digest_of again ≡ digest
+      → (ReadFailed f old new → read) → ((pass : ℕ) → ChangedIn again.number first (f.remaining old) pass → changed pass) → StopsAgain f again old new wrote s → Caused refused read wrote changed s
+  stops_later again digest refused read wrote changed (stop.Refused e) same is r d h = absurd h
+  stops_later again digest refused read wrote changed stop.Read same is r d h = r h
+  stops_later again digest refused read wrote changed stop.Write same is r d h = h
+  stops_later again digest refused read wrote changed stop.Memory same is r d h = tt
+  stops_later again digest refused read wrote changed (stop.Changed n) same is r d h = d n (h.0, later_differs f old new first (digest_of again) frames (subst (λ (d : Option (List ℕ)). IsDigest first d) (sym is) same) says h.1)
 
--- those of the pass that writes, in each call
-pub convert_stops : (hashes : Bool) (digest : List ℕ) (first second old new : Option (List ℕ)) (frames : List FrameSpec) (read later wrote : Type 0) (s : Stop) → IsDigest first (digest_if hashes digest) → Says (judged_file first) (frames, None)
-    → (later → read) → StopsAgain (record { number = 2; digest = digest; hashes = hashes }) second later wrote s → ConvertStops first second old new read wrote s
-convert_stops hashes digest first second old new frames read later wrote s same says r h =
-    stops_later (record { number = 2; digest = digest; hashes = hashes }) first second (digest_if hashes digest) frames (RefusedFirst (judged_writable first) old new) read later wrote (ChangedIn 2 first second) s same says refl r (λ pass is. is) h
+  -- those of the pass that writes, in each call
+  module _ (hashes : Bool) (digest : List ℕ) (before now : Option (List ℕ)) (read wrote : Type 0) (s : Stop) (same : IsDigest first (digest_if hashes digest)) (failed : ReadFailed f old new → read) where
+    pub convert_stops : StopsAgain f (record { number = 2; digest = digest; hashes = hashes }) old new wrote s → ConvertStops first (f.remaining old) before now read wrote s
+    convert_stops h = stops_later (record { number = 2; digest = digest; hashes = hashes }) (digest_if hashes digest) (RefusedFirst (judged_writable first) before now) read wrote (ChangedIn 2 first (f.remaining old)) s same refl failed (λ pass is. is) h
 
-pub extract_stops : (hashes : Bool) (digest : List ℕ) (first second third old new : Option (List ℕ)) (frames : List FrameSpec) (read later wrote : Type 0) (s : Stop) → IsDigest first (digest_if hashes digest) → Says (judged_file first) (frames, None)
-    → (later → read) → StopsAgain (record { number = 3; digest = digest; hashes = hashes }) third later wrote s → ExtractStops first second third old new read wrote s
-extract_stops hashes digest first second third old new frames read later wrote s same says r h =
-    stops_later (record { number = 3; digest = digest; hashes = hashes }) first third (digest_if hashes digest) frames (RefusedFirst (judged_writable first) old new) read later wrote (λ pass. ChangedBefore 2 first second old new pass ⊎ ChangedIn 3 first third pass) s same says refl r (λ pass is. inr is) h
+    pub extract_stops : (second : Option (List ℕ)) → StopsAgain f (record { number = 3; digest = digest; hashes = hashes }) old new wrote s → ExtractStops first second (f.remaining old) before now read wrote s
+    extract_stops second h = stops_later (record { number = 3; digest = digest; hashes = hashes }) (digest_if hashes digest) (RefusedFirst (judged_writable first) before now) read wrote (λ pass. ChangedBefore 2 first second before now pass ⊎ ChangedIn 3 first (f.remaining old) pass) s same refl failed (λ pass is. inr is) h
 
-pub parents_stops : (hashes : Bool) (digest : List ℕ) (first second third fourth old new : Option (List ℕ)) (frames : List FrameSpec) (read later wrote : Type 0) (s : Stop) → IsDigest first (digest_if hashes digest) → Says (judged_file first) (frames, None)
-    → (later → read) → StopsAgain (record { number = 4; digest = digest; hashes = hashes }) fourth later wrote s → ParentsStops first second third fourth old new read wrote s
-parents_stops hashes digest first second third fourth old new frames read later wrote s same says r h =
-    stops_later (record { number = 4; digest = digest; hashes = hashes }) first fourth (digest_if hashes digest) frames (RefusedFirst (judged_writable first) old new) read later wrote
-    (λ pass. (ChangedBefore 2 first second old new pass ⊎ ChangedBefore 3 first third old new pass) ⊎ ChangedIn 4 first fourth pass) s same says refl r (λ pass is. inr is) h
+    pub parents_stops : (second third : Option (List ℕ)) → StopsAgain f (record { number = 4; digest = digest; hashes = hashes }) old new wrote s → ParentsStops first second third (f.remaining old) before now read wrote s
+    parents_stops second third h =
+        stops_later (record { number = 4; digest = digest; hashes = hashes }) (digest_if hashes digest) (RefusedFirst (judged_writable first) before now) read wrote
+        (λ pass. (ChangedBefore 2 first second before now pass ⊎ ChangedBefore 3 first third before now pass) ⊎ ChangedIn 4 first (f.remaining old) pass) s same refl failed (λ pass is. inr is) h
 
 -- the stops of earlier passes, in a call with more of them
 pub stops_earlier : (refused also : Fault → Type 0) (read more wrote : Type 0) (changed too : ℕ → Type 0) (s : Stop) → ((e : Fault) → refused e → also e) → (read → more) → ((pass : ℕ) → changed pass → too pass) → Caused refused read ⊥ changed s → Caused also more wrote too s

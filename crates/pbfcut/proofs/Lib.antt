@@ -6,8 +6,9 @@ pub mod FileLaw
 pub mod PickingLemmas
 pub mod PackingLemmas
 pub mod WritingLemmas
-pub mod RepeatLemmas
+pub mod StayLemmas
 pub mod ConvertingLemmas
+pub mod ChangedLemmas
 pub mod ExtractingLemmas
 pub mod KeptLaw
 pub mod NodeLemmas

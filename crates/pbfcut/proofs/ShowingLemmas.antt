@@ -1,5 +1,5 @@
 -- The text of frames, and why its writing stops.
-use Rattle.std.proofs.Common.{◌≡◌, ◌≤◌, ◌⊎◌, arith, ℕ, List, [], ◌∷◌, ◌++◌, append_assoc, Bool, Option, Some, None, subst, inl, inr, refl, sym, ap, ◌∙◌}
+use Rattle.std.proofs.Common.{◌≡◌, ◌≤◌, ◌⊎◌, arith, ℕ, List, [], ◌∷◌, ◌++◌, append_assoc, Bool, false, Option, Some, None, subst, inl, inr, refl, sym, ap, ◌∙◌}
 use Rattle.std.specs.List.{flat_map}
 use Rattle.std.proofs.lemmas.Grind.{flat_map-append}
 use Rattle.osm_entity.specs.Entity.{EntitySpec}
@@ -9,14 +9,20 @@ use Rattle.pbf_wire.specs.declared.fault.ReadFault.TheVariants as read
 use Rattle.pbf_frame.specs.Devices.{append, HasRisen, IsFront}
 use Rattle.pbf_frame.specs.Frames.{FrameSpec}
 use Rattle.pbf_frame.specs.Stops.{stop_of}
-use Rattle.pbf_frame.specs.Verdict.{Verdict, with_first_known, Says}
+use Rattle.pbf_frame.specs.Verdict.{Verdict, judged_known, with_first_known, Says}
 use Rattle.pbf_frame.specs.declared.device.Drain as drain
+use Rattle.pbf_frame.specs.declared.device.Feed as feed
 use Rattle.pbf_frame.specs.declared.stop.Stop.{Stop}
+use Rattle.pbf_frame.specs.declared.stop.Stop.TheVariants as why
+use Rattle.pbf_frame.proofs.Parting.{none_some, some_same}
 use Rattle.pbf_frame.specs.Transfers.{Added}
 use Rattle.pbf_frame.proofs.Passed.{added_none}
 use Rattle.pbf_pass.specs.Judged.{payload_fault, fully_known, judged_file}
+use Rattle.pbf_pass.specs.Again.{IsFaulty, ReadsFaulty}
 use Rattle.pbf_pass.specs.Given.{Took}
-use Rattle.pbf_pass.specs.Visit.{Takes, Fails, Visited, VisitsAll, StopsVisit}
+use Rattle.pbf_pass.specs.Refused.{RefusesRest}
+use Rattle.pbf_pass.proofs.AgainLemmas.{refuses_less}
+use Rattle.pbf_pass.specs.Visit.{Takes, Fails, Visited, VisitsAll, StopsVisit, RefusesVisit}
 use Rattle.pbfcut.specs.Showing.{frame_text, file_text, answer_text, Shown, ShowsFront, WritesFront, ShowsNext, FailsToShowNext}
 use Rattle.pbf_pass.specs.Stops.{Caused, FaultOf, Only, unchanged, WriteFailed}
 use Rattle.pbf_frame.proofs.Beginnings.{front_whole, front_longer, front_then}
@@ -33,6 +39,11 @@ use Rattle.pbf_pass.proofs.VisitLemmas.{visited_to}
 pub read_stops : (fault : Option Fault) (e : ReadFault) (before now : ℕ) → ((x : Fault) → e ≡ read.Refused x → fault ≡ Some x) → Caused (Only fault) ⊥ (HasRisen before now) unchanged (stop_of e)
 read_stops fault (read.Refused x) before now refused = refused x refl
 read_stops fault read.Memory before now refused = tt
+
+-- a file that has a fault isn't one that has none
+fault_is_faulty : (known : Option Verdict) (e : Fault) → FaultOf known e → IsFaulty known
+fault_is_faulty None e fault frames is = none_some _ _ refl is
+fault_is_faulty (Some v) e fault frames is = none_some _ _ (ap (λ (w : Verdict). w.1) (some_same _ _ is)) (ap (λ (w : Verdict). w.1) fault.1)
 
 -- ---- of a visitor that shows
 
@@ -89,6 +100,15 @@ module _ {V D : Type 0} (d : drain.Ghosts D) (to : V → D) (dates : V → Bool)
       of : StopsVisit took failed known read before now stop → d.failures (to before) ≤ d.failures (to now)
       of (inl s) = (has_shown before s.frames now s.visited).counts
       of (inr s) = omega (arith, (has_shown before s.frames s.mid s.visited).counts, (fails s.mid s.frame stop s.failing).counts)
+
+  -- what the feed gave has a fault
+  pub faulty_shown : {F : Type 0} (f : feed.Ghosts F) (first last : F) (failed : Fails V) (before now : V) (stop : Stop) (fails : (mid : V) (f : FrameSpec) (s : Stop) → failed mid f now s → FailsToShowNext d (dates mid) (to mid) (to now) f s)
+      → RefusesRest f first last (RefusesVisit took failed (λ b. judged_known false 0 (Some b)) before now) stop → ReadsFaulty f first last stop
+  faulty_shown f first last failed before now (why.Refused e) fails rest = refuses_less f first last _ _ (λ b stopped. fault_is_faulty (judged_file (Some b)) e (stops_shown failed (judged_known false 0 (Some b)) ⊥ before now (why.Refused e) fails stopped)) rest
+  faulty_shown f first last failed before now why.Read fails rest = tt
+  faulty_shown f first last failed before now why.Write fails rest = tt
+  faulty_shown f first last failed before now why.Memory fails rest = tt
+  faulty_shown f first last failed before now (why.Changed pass) fails rest = refuses_less f first last _ _ (λ b stopped. absurd (stops_shown failed (judged_known false 0 (Some b)) ⊥ before now (why.Changed pass) fails stopped)) rest
 
 -- the text of the file that is given is that of the file that is reported
 pub shown_told : (dates : Bool) (known : Option (List ℕ)) (file written : List ℕ) → Tells known file → Shown dates (judged_file (Some file)) written → Shown dates (judged_file known) written

@@ -1,5 +1,5 @@
 -- What the pass that writes has packed, and what went out if it stopped.
-use Rattle.std.proofs.Common.{◌≡◌, ◌⊎◌, ℕ, ◌≤◌, List, [], ◌∷◌, ◌++◌, append-nil, Option, Some, None, subst, inl, inr, refl, sym, ap, ap₂, ◌∙◌, arith}
+use Rattle.std.proofs.Common.{◌≡◌, ◌⊎◌, ℕ, ◌≤◌, List, [], ◌∷◌, ◌++◌, append-nil, false, Option, Some, None, subst, inl, inr, refl, sym, ap, ap₂, ◌∙◌, arith}
 use Rattle.std.specs.List.{AllByRecursion, filter}
 use Rattle.osm_entity.specs.Entity.{EntitySpec}
 use Rattle.osm_entity.specs.Ranges.{EntityFits}
@@ -10,24 +10,26 @@ use Rattle.pbf_header.specs.Header.{HeaderSpec}
 use Rattle.pbf_block.specs.declared.counts.Counts.{Counts}
 use Rattle.pbf_frame.specs.declared.frame.FrameKind.{FrameKind}
 use Rattle.pbf_frame.specs.declared.frame.FrameKind.TheVariants as kind
+use Rattle.pbf_frame.specs.declared.device.Feed as feed
 use Rattle.pbf_frame.specs.declared.device.Drain as drain
 use Rattle.pbf_frame.specs.declared.stop.Stop.{Stop}
 use Rattle.pbf_frame.specs.declared.stop.Stop.TheVariants as stop
 use Rattle.pbf_frame.specs.Devices.{HasRisen, append, IsFront}
 use Rattle.pbf_frame.specs.Frames.{FrameSpec}
-use Rattle.pbf_frame.specs.Verdict.{Verdict, with_first_known, Gone}
+use Rattle.pbf_frame.specs.Verdict.{Verdict, judged_known, with_first_known, Gone}
 use Rattle.pbf_frame.proofs.Beginnings.{front_whole}
 use Rattle.pbf_frame.proofs.Parting.{none_some}
 use Rattle.pbf_frame.proofs.VerdictLemmas.{gone_more}
-use Rattle.pbf_pass.specs.Again.{IsSound, StopsAtFrame, StopsUnjudged}
+use Rattle.pbf_pass.specs.Again.{IsSound, StopsAtFrame, StopsUnjudged, ReadsFaulty}
 use Rattle.pbf_pass.specs.Counting.{counts_of, stored_entities}
 use Rattle.pbf_pass.specs.Judged.{fault_in, fully, fully_known, judged_file}
 use Rattle.pbf_pass.specs.Payload.{Payload, payload_as, payload_of}
+use Rattle.pbf_pass.specs.Refused.{RefusesRest}
 use Rattle.pbf_pass.specs.Stops.{Caused, WriteFailed}
 use Rattle.pbf_pass.proofs.GivenLemmas.{Tells}
 use Rattle.pbf_pass.proofs.SoundLemmas.{sound_first_ones, sound_last, all_sound, rest_sound}
-use Rattle.pbf_pass.specs.Visit.{Takes, Fails, Visited, StopsVisit}
-use Rattle.pbf_pass.proofs.AgainLemmas.{stops_visited}
+use Rattle.pbf_pass.specs.Visit.{Takes, Fails, Visited, StopsVisit, RefusesVisit}
+use Rattle.pbf_pass.proofs.AgainLemmas.{stops_visited, faulty_visited}
 use Rattle.pbf_pass.proofs.VisitLemmas.{visited_to}
 use Rattle.pbfcut.specs.Pick.{Pick, HasPacked, BeginsAll, Begins, StopsAmong, picked_in}
 use Rattle.pbfcut.specs.Write.{PacksAgain, FailsAgain, PacksFrameAgain, FailsAtFrame, PacksNext, FailsAtNext, Packed, PacksFront}
@@ -177,6 +179,21 @@ module _ {V D S H : Type 0} (d : drain.Ghosts D) (to : V → Packing D S H) (cou
       of : StopsVisit took failed known read before now stop → d.failures (to before).drain ≤ d.failures (to now).drain
       of (inl s) = (has_written s.frames now s.visited none zero).drain_counts
       of (inr s) = omega (arith, (has_written s.frames s.mid s.visited none zero).drain_counts, (fails s.mid s.frame stop s.failing).keeps.drain_kept.counts)
+
+  -- what the feed gave has a fault
+  pub faulty_written : {F : Type 0} (f : feed.Ghosts F) (first last : F) (failed : Fails V) (now : V) (stop : Stop) (fails : (mid : V) (f : FrameSpec) (s : Stop) → failed mid f now s → FailsAtNext d (number mid) (pick mid) (to mid) (to now) f s)
+      → HasPacked d (to before).drain [] (to before) → counts before ≡ counts_of [] → RefusesRest f first last (RefusesVisit took failed (λ b. judged_known false 0 (Some b)) before now) stop → ReadsFaulty f first last stop
+  faulty_written f first last failed now stop fails none zero rest =
+      faulty_visited number took (λ old new f one. (is old new f one).2) f first last failed (HasRisen (d.failures (to before).drain) (d.failures (to now).drain)) before now stop (λ fs mid f s visited failing.
+      fails_again (number mid) _ _ _ f s (has_written fs mid visited none zero).drain_counts (fails mid f s failing).fails.cause) rest
+
+-- a packer finds no fault
+pub faulty_never : {F : Type 0} (f : feed.Ghosts F) (old new : F) (before now : ℕ) (s : Stop) → IsPackStop before now s → ReadsFaulty f old new s
+faulty_never f old new before now (stop.Refused e) h = absurd h
+faulty_never f old new before now stop.Read h = tt
+faulty_never f old new before now stop.Write h = tt
+faulty_never f old new before now stop.Memory h = tt
+faulty_never f old new before now (stop.Changed pass) h = absurd h
 
 -- the last block could not be written
 pub stops_last : (number first before now : ℕ) (known : Option Verdict) (read : Type 0) (s : Stop) → first ≤ before → IsPackStop before now s → StopsUnjudged number known read (HasRisen first now) s

@@ -10,3 +10,4 @@ pub mod Extracting
 pub mod Kept
 pub mod Theorem
 pub mod Calls
+pub mod Changes

@@ -3,6 +3,7 @@
 ghost use Rattle.std.specs.Prelude.{◌≡◌, ◌⊎◌, ℕ, List, IfOk, IfErr, OnOk, OnErr};
 ghost use Rattle.pbf_frame.specs.Devices.{IsFront};
 ghost use Rattle.pbfcut.specs.Calls.{BothSupply, ConvertStops};
+ghost use Rattle.pbfcut.specs.Changes.{ChangedAt, IfChanged};
 ghost use Rattle.pbfcut.specs.Theorem.{Converted, IsConverted, Promised, Canonical};
 ghost use Rattle.pbfcut.specs.Converting.{answer_bytes, CanBeWritten};
 ghost use Rattle.pbf_pass.specs.HeaderLimit.{judged_writable};
@@ -90,6 +91,10 @@ pub fn convert_with_receipt<F: Feed, G: Feed, D: Drain, S: BuildHasher + Drop>(
         (D.taken drain.old) (D.taken drain.new)
         (ReadFailed F.Feed first.old first.new ⊎ ReadFailed G.Feed second.old second.new)
         (WriteFailed D.Drain drain.old drain.new) (stop_of h)) }
+    // `Changed(2)`, whether the feeds report their bytes or not: the first gave a file, to its end, and the second gave bytes that the file
+    // doesn't begin with, or was at its end and had given another list. No other number comes.
+    ensures changed { IfErr result (λ h. IfChanged
+        (ChangedAt 2 F.Feed first.old first.new G.Feed second.old second.new) (stop_of h)) }
     // Whatever stopped it, if both feeds supply these bytes, a prefix of their conversion went out, and nothing if they have a fault.
     ensures beginning { OnErr result ((b : List ℕ)
         → BothSupply b (F.remaining first.old) (G.remaining second.old)

@@ -1,9 +1,11 @@
 //! The laws of whole files that are written. Each is the contract of a function that does nothing: a proof that needs the law calls
 //! it, or takes the lemma of that name from this crate's `proofs/`.
 
-ghost use Rattle.std.specs.Prelude.{◌≡◌, ℕ, [], ◌+◌, ◌≤◌, List, length, Some, None};
+ghost use Rattle.std.specs.Prelude.{◌≡◌, ℕ, [], ◌+◌, ◌++◌, ◌≤◌, false, List, length, Some, None};
 ghost use Rattle.std.specs.List.{AllByRecursion};
 ghost use Rattle.std.specs.Option.{option_map};
+ghost use Rattle.pbf_wire.specs.declared.fault.Fault.{Fault};
+ghost use Rattle.pbf_wire.specs.declared.fault.Reason.TheVariants.{EntityLarge};
 ghost use Rattle.pbf_wire.specs.Least.{least_by};
 ghost use Rattle.osm_entity.specs.Entity.{EntitySpec};
 ghost use Rattle.osm_entity.specs.Ranges.{EntityFits, EntityTyped};
@@ -16,19 +18,23 @@ ghost use Rattle.pbf_header.specs.Header.{HeaderSpec};
 ghost use Rattle.pbf_header.specs.declared.write.TheConstants.{MOST_HEADER_TEXT};
 ghost use Rattle.pbf_header.specs.WrittenHeader.{HeaderFits, header_out_for_convert};
 ghost use Rattle.pbf_frame.specs.declared.frame.TheConstants.{FILE_LIMIT};
+ghost use Rattle.pbf_frame.specs.Ends.{comes_of_end};
+ghost use Rattle.pbf_frame.specs.Refusals.{Refuses};
 ghost use Rattle.pbf_frame.specs.Transfers.{Added};
 ghost use Rattle.pbf_pass.specs.Counting.{stored_entities};
 ghost use Rattle.pbfcut.specs.Converting.{answer_bytes};
 ghost use Rattle.pbfcut.specs.Extracting.{complete_ways, all_parents, extract_bytes};
 ghost use Rattle.pbfcut.specs.FileFaults.{file_faults, file_rank};
+ghost use Rattle.pbf_pass.specs.HeaderLimit.{judged_writable};
 ghost use Rattle.pbf_pass.specs.Judged.{judged_file};
+ghost use Rattle.pbf_pass.specs.Stops.{FaultOf};
 ghost use Rattle.pbfcut.specs.Kept.{verdict_within, verdict_on, IsWritable, header_read, conversion_of, extract_of};
 ghost use Rattle.pbfcut.specs.Theorem.{IsConversion, IsExtract};
 ghost use Rattle.pbf_pass.specs.declared.hashed.HashedDrain.{HashedDrain};
 ghost use Rattle.sha2.specs.Sha256.{sha256};
 
 use osm_entity::BoundingBox;
-use pbf_frame::Drain;
+use pbf_frame::{Drain, Feed};
 use pbf_pass::HashedDrain;
 use sha2::{Digest, Sha256};
 
@@ -44,6 +50,34 @@ pub fn file_faults_are_one_order()
 pub fn bytes_within_the_limit_are_a_file()
     ensures { (bytes : List ℕ) → length bytes ≤ FILE_LIMIT → (verdict_within None bytes).1 ≡ None
         → verdict_on bytes ≡ verdict_within None bytes }
+{}
+
+/// The fault of a file is that of every file that begins with it, unless it comes of the file's end: the file is cut there, or has no
+/// header; or, of a file that is to be written, its header is too long.
+pub fn file_fault_stays()
+    ensures judged { (file rest : List ℕ) (fault : Fault) → FaultOf (judged_file (Some file)) fault
+        → comes_of_end fault.reason ≡ false → FaultOf (judged_file (Some (file ++ rest))) fault }
+    ensures writable { (file rest : List ℕ) (fault : Fault)
+        → FaultOf (judged_writable (Some file)) fault
+        → comes_of_end fault.reason ≡ false → (fault.reason ≡ EntityLarge → ⊥)
+        → FaultOf (judged_writable (Some (file ++ rest))) fault }
+{}
+
+/// A refusal for another reason than these holds whatever follows the bytes that were read: what the calls say of a refusal at the end of
+/// a feed concerns these reasons only.
+pub fn refusal_stays<F: Feed>()
+    // Of `check` and `show`.
+    ensures judged { (old new : F) (fault : Fault)
+        (bytes : Refuses (λ b. FaultOf (judged_file (Some b)) fault) (F.has_passed old)
+        (F.has_passed new) (F.remaining old) (F.remaining new))
+        → comes_of_end fault.reason ≡ false
+        → (rest : List ℕ) → FaultOf (judged_file (Some (bytes.read ++ rest))) fault }
+    // Of the calls that write a file.
+    ensures writable { (old new : F) (fault : Fault)
+        (bytes : Refuses (λ b. FaultOf (judged_writable (Some b)) fault) (F.has_passed old)
+        (F.has_passed new) (F.remaining old) (F.remaining new))
+        → comes_of_end fault.reason ≡ false → (fault.reason ≡ EntityLarge → ⊥)
+        → (rest : List ℕ) → FaultOf (judged_writable (Some (bytes.read ++ rest))) fault }
 {}
 
 /// A file that is written is read back, however long it is: it has no fault of any phase, its header is the header that was

@@ -11,6 +11,8 @@ ghost use Rattle.osm_text.specs.HeaderText.{header_text};
 ghost use Rattle.pbf_frame.specs.Devices.{IsFront};
 ghost use Rattle.pbf_frame.specs.Transfers.{Added};
 ghost use Rattle.pbfcut.specs.Calls.{RefusedFirst, ChangedIn};
+ghost use Rattle.pbfcut.specs.Changes.{ChangedAt, IfChanged};
+ghost use Rattle.pbf_pass.specs.Again.{ReadsFaulty};
 ghost use Rattle.pbf_pass.specs.Given.{GaveFile, Took};
 ghost use Rattle.pbf_pass.specs.Hashing.{digest_if};
 ghost use Rattle.pbf_pass.specs.Judged.{judged_file};
@@ -178,6 +180,7 @@ fn write_text<F: Feed, D: Drain>(
         (D.taken drain.old) (D.taken drain.new)) }
     ensures stops { IfErr result (Caused (FaultOf (judged_file (F.remaining feed.old)))
         (ReadFailed F.Feed feed.old feed.new) (WriteFailed D.Drain drain.old drain.new) unchanged) }
+    ensures faulty { IfErr result (ReadsFaulty F.Feed feed.old feed.new) }
     ensures drain { KeepsDrain D.Drain drain.old drain.new }
 {
     let mut text = Vec::new(passes.alloc);
@@ -255,6 +258,10 @@ pub fn show_with_receipt<F: Feed, G: Feed, D: Drain>(
         (ReadFailed F.Feed first.old first.new ⊎ ReadFailed G.Feed second.old second.new)
         (WriteFailed D.Drain drain.old drain.new)
         (ChangedIn 2 (F.remaining first.old) (G.remaining second.old)) (stop_of h)) }
+    // `Changed(2)`, whether the feeds report their bytes or not: the first gave a file, to its end, and the second gave bytes that the file
+    // doesn't begin with, or was at its end and had given another list. No other number comes.
+    ensures changed { IfErr result (λ h. IfChanged
+        (ChangedAt 2 F.Feed first.old first.new G.Feed second.old second.new) (stop_of h)) }
     // Whatever stopped it, if both feeds supply one file, a prefix of its text went out, and nothing if it has a fault.
     ensures beginning { OnErr result (F.remaining first.old ≡ G.remaining second.old
         → ShowsFront dates (judged_file (F.remaining first.old))

@@ -1,12 +1,14 @@
 //! The extracts with one pass fewer, for files whose ways come after their nodes.
 
-ghost use Rattle.std.specs.Prelude.{◌≡◌, ◌⊎◌, ℕ, List, IfOk, IfErr, OnOk, OnErr};
+ghost use Rattle.std.specs.Prelude.{◌≡◌, ◌⊎◌, ℕ, List, [], IfOk, IfErr, OnOk, OnErr};
 ghost use Rattle.osm_ways.specs.Parents.{extract_with_parents};
 ghost use Rattle.osm_ways.specs.Seen.{seen_decoded};
 ghost use Rattle.osm_ways.specs.Selection.{extract};
 ghost use Rattle.pbf_header.specs.Header.{header_of};
 ghost use Rattle.pbf_frame.specs.Devices.{IsFront};
+ghost use Rattle.pbf_frame.specs.Transfers.{Added};
 ghost use Rattle.pbfcut.specs.Calls.{AllSupply, FourSupply, GaveOrNot, ExtractStops, ParentsStops, ChangedIn};
+ghost use Rattle.pbfcut.specs.Changes.{ChangedAt, IfChanged};
 ghost use Rattle.pbfcut.specs.Theorem.{Extracted, IsExtraction, Promised, Canonical};
 ghost use Rattle.pbfcut.specs.Converting.{CanBeWritten};
 ghost use Rattle.pbf_pass.specs.HeaderLimit.{judged_writable};
@@ -46,6 +48,8 @@ pub(crate) fn choose_sorted<F: Feed, G: Feed>(
     ensures stops { IfErr result (λ h. Caused (FaultOf (judged_writable (F.remaining first.old)))
         (ReadFailed F.Feed first.old first.new ⊎ ReadFailed G.Feed second.old second.new) ⊥
         (ChangedIn 2 (F.remaining first.old) (G.remaining second.old)) (stop_of h)) }
+    ensures changed { IfErr result (λ h. IfChanged
+        (ChangedAt 2 F.Feed first.old first.new G.Feed second.old second.new) (stop_of h)) }
 {
     let Passes { alloc, hashes } = passes;
     let mut phase = FirstPhase::new(alloc, area);
@@ -145,6 +149,12 @@ pub fn extract_sorted_with_receipt<F: Feed, G: Feed, H: Feed, D: Drain, S: Build
         (ReadFailed F.Feed first.old first.new
         ⊎ (ReadFailed G.Feed second.old second.new ⊎ ReadFailed H.Feed third.old third.new))
         (WriteFailed D.Drain drain.old drain.new) (stop_of h)) }
+    // `Changed`, whether the feeds report their bytes or not: the first gave a file, to its end, and the second (or the third) gave bytes that
+    // the file doesn't begin with, or was at its end and had given another list. After `Changed(2)` the drain took nothing.
+    ensures changed { IfErr result (λ h. IfChanged (λ pass.
+        (ChangedAt 2 F.Feed first.old first.new G.Feed second.old second.new pass
+        × Added D.Drain drain.old [] drain.new)
+        ⊎ ChangedAt 3 F.Feed first.old first.new H.Feed third.old third.new pass) (stop_of h)) }
     // Whatever stopped it, if all feeds supply these bytes, a prefix of their extract went out, and nothing if they have a fault.
     ensures beginning { OnErr result ((b : List ℕ)
         → AllSupply b (F.remaining first.old) (G.remaining second.old) (H.remaining third.old)
@@ -192,6 +202,9 @@ fn choose_parents_sorted<F: Feed, G: Feed, H: Feed>(
         ⊎ (ReadFailed G.Feed second.old second.new ⊎ ReadFailed H.Feed third.old third.new)) ⊥
         (λ pass. ChangedIn 2 (F.remaining first.old) (G.remaining second.old) pass
         ⊎ ChangedIn 3 (F.remaining first.old) (H.remaining third.old) pass) (stop_of h)) }
+    ensures changed { IfErr result (λ h. IfChanged (λ pass.
+        ChangedAt 2 F.Feed first.old first.new G.Feed second.old second.new pass
+        ⊎ ChangedAt 3 F.Feed first.old first.new H.Feed third.old third.new pass) (stop_of h)) }
 {
     let choice = choose_sorted(passes, first, second, area)?;
     let digest = choice.digest;
@@ -250,6 +263,13 @@ pub fn extract_parents_sorted_with_receipt<
         ⊎ (ReadFailed G.Feed second.old second.new ⊎ ReadFailed H.Feed third.old third.new))
         ⊎ ReadFailed I.Feed fourth.old fourth.new)
         (WriteFailed D.Drain drain.old drain.new) (stop_of h)) }
+    // `Changed`, whether the feeds report their bytes or not: the first gave a file, to its end, and the feed of that pass gave bytes that
+    // the file doesn't begin with, or was at its end and had given another list. Before the fourth pass the drain took nothing.
+    ensures changed { IfErr result (λ h. IfChanged (λ pass.
+        ((ChangedAt 2 F.Feed first.old first.new G.Feed second.old second.new pass
+        ⊎ ChangedAt 3 F.Feed first.old first.new H.Feed third.old third.new pass)
+        × Added D.Drain drain.old [] drain.new)
+        ⊎ ChangedAt 4 F.Feed first.old first.new I.Feed fourth.old fourth.new pass) (stop_of h)) }
     // Whatever stopped it, if all feeds supply these bytes, a prefix of their extract went out, and nothing if they have a fault.
     ensures beginning { OnErr result ((b : List ℕ)
         → FourSupply b (F.remaining first.old) (G.remaining second.old) (H.remaining third.old)

@@ -4,7 +4,7 @@
 ghost use Rattle.std.specs.Prelude.{true, ◌∷◌, ◌≡◌, ◌<◌, ◌≤◌, ◌+◌, ◌^◌, IfOk, IfErr, OnOk, OnErr, length};
 ghost use Rattle.osm_pack.specs.Packing.{IsPacking, has_header};
 ghost use Rattle.pbf_header.specs.Header.{header_of};
-ghost use Rattle.pbf_pass.specs.Again.{StopsUnjudged};
+ghost use Rattle.pbf_pass.specs.Again.{StopsUnjudged, ReadsFaulty};
 ghost use Rattle.pbf_pass.specs.Given.{GaveFile, Took};
 ghost use Rattle.pbf_pass.specs.Hashing.{digest_if};
 ghost use Rattle.pbf_pass.specs.HeaderLimit.{IsShort};
@@ -148,6 +148,7 @@ fn pack_file<'a, F: Feed, D: Drain, S: BuildHasher>(
     ensures beginning { OnErr result (PacksFront (pick_of writing.entry.chosen)
         (header_of writing.entry.header.now) (judged_file (F.remaining feed.old))
         (D.taken packer.old.drain) (D.taken packer.new.drain)) }
+    ensures faulty { IfErr result (ReadsFaulty F.Feed feed.old feed.new) }
     ensures stops { IfErr result (StopsUnjudged number (judged_file (F.remaining feed.old))
         (ReadFailed F.Feed feed.old feed.new)
         (WriteFailed D.Drain packer.old.drain packer.new.drain)) }
@@ -186,6 +187,7 @@ pub(crate) fn write<F: Feed, D: Drain, S: BuildHasher + Drop>(
     ensures beginning { OnErr result (PacksFront (pick_of writing.entry.chosen)
         (header_of writing.entry.header.now) (judged_file (F.remaining feed.old))
         (D.taken drain.old) (D.taken drain.new)) }
+    ensures faulty { IfErr result (ReadsFaulty F.Feed feed.old feed.new) }
     ensures stops { IfErr result (StopsUnjudged number (judged_file (F.remaining feed.old))
         (ReadFailed F.Feed feed.old feed.new) (WriteFailed D.Drain drain.old drain.new)) }
     ensures drain { KeepsDrain D.Drain drain.old drain.new }

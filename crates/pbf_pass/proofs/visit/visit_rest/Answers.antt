@@ -51,7 +51,7 @@ pub returns-in_err-step-clause-refused : goal.returns-in_err-step-clause-refused
 returns-in_err-step-clause-refused g c =
     let p = err_from_is_err_and c.from_residual.result c.from_residual.ensures.1 in
     let so_far = c.frames.invariant in
-    rw (p.1, p.2) (has_passed_refused g.F.Feed g.V.Visit.took g.V.Visit.failed _ _ _ _ _ _ so_far.done.0 _ so_far.done.3 so_far.done.2 (refused_step g.F.Feed _ _ _ _ _ _ so_far.reading c.in_err-step.ensures.step))
+    rw (p.1, p.2) (has_passed_refused g.F.Feed g.V.Visit.took g.V.Visit.failed _ _ _ _ _ _ so_far.done.0 so_far.done.3 so_far.done.2 _ (refused_step g.F.Feed _ _ _ _ _ _ so_far.reading c.in_err-step.ensures.step))
 
 pub returns-clause-visited : goal.returns-clause-visited
 returns-clause-visited g c =

@@ -8,7 +8,9 @@ use Rattle.pbf_pass.proofs.LimitLemmas.{limit_refused}
 use Rattle.pbfcut.proofs.ExtractingLemmas.{chooses, stops_earlier, stops_later}
 use Rattle.pbf_pass.proofs.GivenLemmas.{tells_file, told_digest, told_says, takes_told}
 use Rattle.pbf_pass.proofs.HaltingLemmas.{halts_writing, limit_caused, limit_halts}
-use Rattle.pbfcut.proofs.RepeatLemmas.{no_refusal}
+use Rattle.pbfcut.specs.declared.repeat.Repeat.{Repeat}
+use Rattle.pbf_pass.specs.Refused.{stop_of}
+use Rattle.pbfcut.proofs.ChangedLemmas.{no_refusal, never_changed, changed_later}
 use Rattle.pbfcut.proofs.extracting.choose.Goals as goal
 
 pub returns-in_err-told-clause-refused : goal.returns-in_err-told-clause-refused
@@ -24,7 +26,7 @@ returns-in_err-writable_header-clause-refused g c =
 pub returns-in_err-gather-clause-refused : goal.returns-in_err-gather-clause-refused
 returns-in_err-gather-clause-refused g c =
     let p = err_from_is_err_and c.from_residual-in_err-gather.result c.from_residual-in_err-gather.ensures.1 in
-    rw (p.1, p.2) (no_refusal (record { number = 2; digest = c.in_ok-told.told.digest; hashes = true }) _ _ _ _ c.in_err-gather.ensures.stops)
+    rw (p.1, p.2) (no_refusal g.G.Feed (record { number = 2; digest = c.in_ok-told.told.digest; hashes = true }) _ _ _ _ c.in_err-gather.ensures.stops)
 
 pub returns-in_err-writable_header-clause-stops : goal.returns-in_err-writable_header-clause-stops
 returns-in_err-writable_header-clause-stops g c =
@@ -37,7 +39,26 @@ pub returns-in_err-gather-clause-stops : goal.returns-in_err-gather-clause-stops
 returns-in_err-gather-clause-stops g c =
     let p = err_from_is_err_and c.from_residual-in_err-gather.result c.from_residual-in_err-gather.ensures.1 in
     let one = c.in_ok-told.ensures.judged in
-    rw (p.1, p.2) (stops_later (record { number = 2; digest = c.in_ok-told.told.digest; hashes = true }) (g.F.Feed.remaining c.args.first.now) (g.G.Feed.remaining c.args.second.now) _ one.holding.1.frames (FaultOf (judged_writable (g.F.Feed.remaining c.args.first.now))) _ _ ⊥ (ChangedIn 2 (g.F.Feed.remaining c.args.first.now) (g.G.Feed.remaining c.args.second.now)) _ (told_digest g.F.Feed _ _ _ _ one) (told_says g.F.Feed _ _ _ _ _ one one.holding.1.says) refl (λ r. inr r) (λ pass is. is) c.in_err-gather.ensures.stops)
+    let first = g.F.Feed.remaining c.args.first.now in
+    let again : Repeat = record { number = 2; digest = c.in_ok-told.told.digest; hashes = true } in
+    rw (p.1, p.2) (stops_later g.G.Feed c.args.second.now c.gather.new.feed first one.holding.1.frames (told_says g.F.Feed _ _ _ _ _ one one.holding.1.says) again _ (FaultOf (judged_writable first)) _ ⊥ (ChangedIn 2 first (g.G.Feed.remaining c.args.second.now)) _ (told_digest g.F.Feed _ _ _ _ one) refl (λ r. inr r) (λ pass is. is) c.in_err-gather.ensures.stops)
+
+pub returns-in_err-told-clause-changed : goal.returns-in_err-told-clause-changed
+returns-in_err-told-clause-changed g c =
+    let p = err_from_is_err_and c.from_residual.result c.from_residual.ensures.1 in
+    rw (p.1, p.2) (never_changed _ _ _ _ (stop_of c.in_err-told.field-0.0) c.in_err-told.ensures.stops)
+
+pub returns-in_err-writable_header-clause-changed : goal.returns-in_err-writable_header-clause-changed
+returns-in_err-writable_header-clause-changed g c =
+    let p = err_from_is_err_and c.from_residual-in_err-writable_header.result c.from_residual-in_err-writable_header.ensures.1 in
+    rw (p.1, p.2) (never_changed (Only (header_limit (held_header c.in_ok-told.told.pass))) ⊥ ⊥ _ _ (limit_caused c.in_ok-told.told _ c.in_err-writable_header.ensures.refused))
+
+pub returns-in_err-gather-clause-changed : goal.returns-in_err-gather-clause-changed
+returns-in_err-gather-clause-changed g c =
+    let p = err_from_is_err_and c.from_residual-in_err-gather.result c.from_residual-in_err-gather.ensures.1 in
+    let one = c.in_ok-told.ensures.judged in
+    let again : Repeat = record { number = 2; digest = c.in_ok-told.told.digest; hashes = true } in
+    rw (p.1, p.2) (changed_later g.F.Feed _ _ g.G.Feed _ _ again _ _ _ _ c.in_err-gather.field-0.0 one one.holding.1.frames one.holding.1.says refl (λ pass is. is) c.in_err-gather.ensures.stops)
 
 pub returns-clause-chosen : goal.returns-clause-chosen
 returns-clause-chosen g c =

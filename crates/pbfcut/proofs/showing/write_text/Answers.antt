@@ -5,7 +5,7 @@ use Rattle.pbf_pass.specs.Given.{Took}
 use Rattle.pbf_pass.specs.Judged.{judged_file}
 use Rattle.pbf_pass.proofs.GivenLemmas.{gave_file_less}
 use Rattle.pbfcut.specs.Showing.{Shown}
-use Rattle.pbfcut.proofs.ShowingLemmas.{shows_file, shows_counts, front_shown, stops_shown, stopped_counts}
+use Rattle.pbfcut.proofs.ShowingLemmas.{shows_file, shows_counts, front_shown, stops_shown, stopped_counts, faulty_shown}
 use Rattle.pbfcut.proofs.showing.write_text.Goals as goal
 
 pub returns-clause-shown : goal.returns-clause-shown
@@ -35,3 +35,8 @@ pub returns-clause-drain : goal.returns-clause-drain
 returns-clause-drain g c =
     let counts = shows_counts g.D.Drain (λ v. v.drain.now) (λ v. v.dates) _ (λ old new f one. one) (judged_known false 0 (Some c.in_ok-pass_over.ensures.visited.file)) _ _ c.pass_over.new.visitor c.in_ok-pass_over.ensures.visited.holding.1 in
     search (rules, counts)
+
+pub returns-in_err-pass_over-clause-faulty : goal.returns-in_err-pass_over-clause-faulty
+returns-in_err-pass_over-clause-faulty g c =
+    let p = err_from_is_err_and c.from_residual.result c.from_residual.ensures.1 in
+    rw (p.1, p.2) (faulty_shown g.D.Drain (λ v. v.drain.now) (λ v. v.dates) _ (λ old new f one. one) g.F.Feed _ _ _ _ c.pass_over.new.visitor _ (λ mid f s failing. failing) c.in_err-pass_over.ensures.given)

@@ -1,4 +1,4 @@
-use Rattle.std.proofs.Common.{◌⊎◌, List, Some, None, ap, inr, refl}
+use Rattle.std.proofs.Common.{◌⊎◌, List, Some, None, ap, inl, inr, refl}
 use Rattle.std.proofs.lemmas.Result.{err_from_is_err_and}
 use Rattle.pbf_header.specs.Header.{header_of}
 use Rattle.osm_ways.specs.Seen.{seen_decoded}
@@ -14,7 +14,10 @@ use Rattle.pbf_frame.specs.Verdict.{Says}
 use Rattle.pbf_pass.proofs.GivenLemmas.{tells_file, told_digest, told_says}
 use Rattle.pbfcut.proofs.KeptLaw.{complete_ways_select}
 use Rattle.pbf_pass.proofs.HaltingLemmas.{halts_first}
-use Rattle.pbfcut.proofs.RepeatLemmas.{no_refusal}
+use Rattle.pbfcut.specs.declared.repeat.Repeat.{Repeat}
+use Rattle.pbf_pass.specs.Refused.{stop_of}
+use Rattle.pbfcut.proofs.ChangedLemmas.{no_refusal, changed_before, changed_later}
+use Rattle.pbf_frame.proofs.Passed.{added_none}
 use Rattle.pbfcut.proofs.sorted.extract_sorted_with_receipt.Goals as goal
 
 pub returns-in_err-choice-clause-refused : goal.returns-in_err-choice-clause-refused
@@ -25,7 +28,7 @@ returns-in_err-choice-clause-refused g c =
 pub returns-in_err-counts-clause-refused : goal.returns-in_err-counts-clause-refused
 returns-in_err-counts-clause-refused g c =
     let p = err_from_is_err_and c.from_residual-in_err-counts.result c.from_residual-in_err-counts.ensures.1 in
-    rw (p.1, p.2) (no_refusal _ _ _ _ _ c.in_err-counts.ensures.stops)
+    rw (p.1, p.2) (no_refusal g.H.Feed _ _ _ _ _ c.in_err-counts.ensures.stops)
 
 pub returns-in_err-counts-clause-stops : goal.returns-in_err-counts-clause-stops
 returns-in_err-counts-clause-stops g c =
@@ -37,11 +40,23 @@ returns-in_err-counts-clause-stops g c =
     let second = g.G.Feed.remaining c.args.second.now in
     let old = g.D.Drain.taken c.args.drain.now in
     let new = g.D.Drain.taken c.write.new.drain in
-    let third = g.H.Feed.remaining c.args.third.now in
     let read = ReadFailed g.F.Feed c.args.first.now c.choose_sorted.new.first ⊎ (ReadFailed g.G.Feed c.args.second.now c.choose_sorted.new.second ⊎ ReadFailed g.H.Feed c.args.third.now c.write.new.feed) in
-    let later = ReadFailed g.H.Feed c.args.third.now c.write.new.feed in
     let wrote = WriteFailed g.D.Drain c.args.drain.now c.write.new.drain in
-    rw (p.1, p.2) (extract_stops c.args.passes.hashes c.in_ok-choice.choice.digest first second third old new said.0 read later wrote _ (told_digest g.F.Feed _ _ _ _ one) (told_says g.F.Feed _ _ _ _ _ one said.1) (λ r. inr (inr r)) c.in_err-counts.ensures.stops)
+    rw (p.1, p.2) (extract_stops g.H.Feed c.args.third.now c.write.new.feed first said.0 (told_says g.F.Feed _ _ _ _ _ one said.1) c.args.passes.hashes c.in_ok-choice.choice.digest old new read wrote _ (told_digest g.F.Feed _ _ _ _ one) (λ r. inr (inr r)) second c.in_err-counts.ensures.stops)
+
+pub returns-in_err-choice-clause-changed : goal.returns-in_err-choice-clause-changed
+returns-in_err-choice-clause-changed g c =
+    let p = err_from_is_err_and c.from_residual.result c.from_residual.ensures.1 in
+    rw (p.1, p.2) (changed_before _ _ (stop_of c.in_err-choice.field-0.0) (λ pass is. inl (is, added_none g.D.Drain c.args.drain.now)) c.in_err-choice.ensures.changed)
+
+pub returns-in_err-counts-clause-changed : goal.returns-in_err-counts-clause-changed
+returns-in_err-counts-clause-changed g c =
+    let p = err_from_is_err_and c.from_residual-in_err-counts.result c.from_residual-in_err-counts.ensures.1 in
+    let one = c.in_ok-choice.ensures.chosen in
+    let said : (frames : List FrameSpec) × Says (judged_file (Some one.file)) (frames, None) =
+    gave_or_not g.G.Feed _ _ _ one.file _ _ (λ file choice. (choice.chosen.frames, choice.chosen.judged)) one.holding in
+    let last : Repeat = record { number = 3; digest = c.in_ok-choice.choice.digest; hashes = c.args.passes.hashes } in
+    rw (p.1, p.2) (changed_later g.F.Feed _ _ g.H.Feed _ _ last _ _ _ _ c.in_err-counts.field-0.0 one said.0 said.1 refl (λ pass is. inr is) c.in_err-counts.ensures.stops)
 
 pub returns-in_err-counts-clause-beginning : goal.returns-in_err-counts-clause-beginning
 returns-in_err-counts-clause-beginning g c =

@@ -12,7 +12,7 @@ use Rattle.pbf_pass.proofs.GivenLemmas.{gave_file_less, tells_file}
 use Rattle.pbfcut.specs.Pick.{pick_of}
 use Rattle.pbfcut.specs.Write.{Packed, PacksFront}
 use Rattle.pbfcut.proofs.PickingLemmas.{none_packed, behind_header, header_alone, whole_file, ended, end_front}
-use Rattle.pbfcut.proofs.WritingLemmas.{frames_all, last_front, front_told, has_written, front_written, stops_written, counts_written, stops_last}
+use Rattle.pbfcut.proofs.WritingLemmas.{frames_all, last_front, front_told, has_written, front_written, stops_written, faulty_written, faulty_never, counts_written, stops_last}
 use Rattle.pbfcut.proofs.write.pack_file.Goals as goal
 
 pub returns-in_err-put_header-clause-beginning : goal.returns-in_err-put_header-clause-beginning
@@ -34,6 +34,22 @@ returns-in_err-input-clause-stops g c =
     let none = none_packed g.D.Drain c.put_header.new.self (c.in_ok-put_header.ensures.pending [] c.requires.fresh.none) in
     let said = stops_written g.D.Drain (λ v. v.packer.now) (λ v. v.counts) (λ v. pick_of v.chosen) (λ v. v.number) _ (λ old new f one. one) _ _ _ _ c.pass_over-outcome.new.visitor _ (λ mid f s failing. failing) c.in_err-input.ensures.stops none c.none.ensures (g.D.Drain.failures c.args.packer.now.drain) c.put_header.ensures.counts in
     rw (p.1, p.2) (search (rules, said))
+
+pub returns-in_err-put_header-clause-faulty : goal.returns-in_err-put_header-clause-faulty
+returns-in_err-put_header-clause-faulty g c =
+    let p = err_from_is_err_and c.from_residual.result c.from_residual.ensures.1 in
+    rw (p.1, p.2) (faulty_never g.F.Feed _ _ _ _ _ (c.in_err-put_header.ensures.stops c.requires.fresh.packing))
+
+pub returns-in_err-input-clause-faulty : goal.returns-in_err-input-clause-faulty
+returns-in_err-input-clause-faulty g c =
+    let p = err_from_is_err_and c.from_residual-in_err-input.result c.from_residual-in_err-input.ensures.1 in
+    let none = none_packed g.D.Drain c.put_header.new.self (c.in_ok-put_header.ensures.pending [] c.requires.fresh.none) in
+    rw (p.1, p.2) (faulty_written g.D.Drain (λ v. v.packer.now) (λ v. v.counts) (λ v. pick_of v.chosen) (λ v. v.number) _ (λ old new f one. one) _ g.F.Feed _ _ _ c.pass_over-outcome.new.visitor _ (λ mid f s failing. failing) none c.none.ensures c.in_err-input.ensures.given)
+
+pub returns-in_err-finish-clause-faulty : goal.returns-in_err-finish-clause-faulty
+returns-in_err-finish-clause-faulty g c =
+    let p = err_from_is_err_and c.from_residual-in_err-finish.result c.from_residual-in_err-finish.ensures.1 in
+    rw (p.1, p.2) (faulty_never g.F.Feed _ _ _ _ _ (c.in_err-finish.ensures.stops c.in_ok-input.ensures.ready.1))
 
 pub returns-in_err-input-clause-drain : goal.returns-in_err-input-clause-drain
 returns-in_err-input-clause-drain g c =

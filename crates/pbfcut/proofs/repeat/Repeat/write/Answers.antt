@@ -1,9 +1,10 @@
 use Rattle.std.proofs.lemmas.Result.{err_from_is_err_and}
 use Rattle.pbf_header.specs.Header.{header_of}
 use Rattle.pbfcut.specs.Pick.{pick_of}
-use Rattle.pbf_pass.specs.Stops.{ReadFailed, WriteFailed}
+use Rattle.pbf_pass.specs.Judged.{judged_file}
+use Rattle.pbf_pass.specs.Stops.{WriteFailed}
 use Rattle.pbf_pass.proofs.GivenLemmas.{tells_file}
-use Rattle.pbfcut.proofs.RepeatLemmas.{stops_as_change}
+use Rattle.pbfcut.proofs.ChangedLemmas.{stops_as_change, digest_as_change}
 use Rattle.pbfcut.proofs.WritingLemmas.{packed_front, packed_told}
 use Rattle.pbfcut.proofs.repeat.Repeat.write.Goals as goal
 
@@ -15,6 +16,11 @@ returns-in_err-compare-in-Ok-clause-beginning g c =
     rw p.1 (packed_front (pick_of c.args.writing.chosen) (header_of c.args.writing.header.now) _ _ _ _ took.written
     (packed_told _ _ _ _ given.file took.written (tells_file g.F.Feed _ _ _ _ given) took.holding) took.added.told)
 
+pub returns-in_err-compare-in-Ok-clause-stops : goal.returns-in_err-compare-in-Ok-clause-stops
+returns-in_err-compare-in-Ok-clause-stops g c =
+    let p = err_from_is_err_and c.from_residual.result c.from_residual.ensures.1 in
+    rw (p.1, p.2) (digest_as_change g.F.Feed c.args.self c.args.feed.now c.write.new.feed (WriteFailed g.D.Drain c.args.drain.now c.write.new.drain) c.passes.result.hashes c.in-Ok.wrote.input _ _ c.passes.ensures c.in-Ok.ensures.packed c.in_err-compare-in-Ok.ensures.other)
+
 pub returns-in-Err-clause-stops : goal.returns-in-Err-clause-stops
 returns-in-Err-clause-stops g c =
-    rw c.changed.ensures (stops_as_change c.args.self (g.F.Feed.remaining c.args.feed.now) (ReadFailed g.F.Feed c.args.feed.now c.write.new.feed) (WriteFailed g.D.Drain c.args.drain.now c.write.new.drain) c.in-Err.stop c.in-Err.ensures.stops)
+    rw c.changed.ensures (stops_as_change g.F.Feed c.args.self c.args.feed.now c.write.new.feed (WriteFailed g.D.Drain c.args.drain.now c.write.new.drain) (judged_file (g.F.Feed.remaining c.args.feed.now)) c.in-Err.stop c.in-Err.ensures.stops c.in-Err.ensures.faulty)

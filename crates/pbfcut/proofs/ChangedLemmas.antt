@@ -1,0 +1,88 @@
+-- A later pass that stopped for a change: what its feed gave isn't the first feed's file.
+use Rattle.std.proofs.Common.{◌≡◌, ℕ, inr, Bool, true, List, Option, Some, None, subst, refl, sym, ap, ◌∙◌}
+use Rattle.sha2.specs.Sha256.{sha256}
+use Rattle.pbf_wire.specs.declared.fault.Fault.{Fault}
+use Rattle.pbf_frame.specs.declared.device.Feed as feed
+use Rattle.pbf_frame.specs.declared.stop.Stop.{Stop}
+use Rattle.pbf_frame.specs.declared.stop.Stop.TheVariants as stop
+use Rattle.pbf_frame.specs.Frames.{FrameSpec}
+use Rattle.pbf_frame.specs.Verdict.{Verdict, Says}
+use Rattle.pbf_pass.specs.Again.{StopsUnjudged, ReadsFaulty}
+use Rattle.pbf_pass.specs.Given.{GaveFile}
+use Rattle.pbf_pass.specs.Hashing.{IsDigestOf, digest_if}
+use Rattle.pbf_pass.specs.Judged.{judged_file}
+use Rattle.pbf_pass.specs.Stops.{Caused, unchanged, ReadFailed}
+use Rattle.pbf_pass.proofs.AgainLemmas.{refuses_less}
+use Rattle.pbfcut.specs.declared.repeat.Repeat.{Repeat}
+use Rattle.pbfcut.specs.Changes.{ChangedAt, IfChanged}
+use Rattle.pbfcut.specs.Repeat.{IsUnlike, StopsAgain, as_change, digest_of}
+use Rattle.pbfcut.proofs.ConvertingLemmas.{known_says}
+
+-- ---- of one later pass
+
+module _ {F : Type 0} (f : feed.Ghosts F) (repeat : Repeat) (old new : F) (wrote : Type 0) where
+  -- it is no refusal
+  pub no_refusal : (s : Stop) → StopsAgain f repeat old new wrote s → (e : Fault) → s ≡ stop.Refused e → ⊥
+  no_refusal s stops e is = subst (λ (x : Stop). StopsAgain f repeat old new wrote x) is stops
+
+  -- what stops a pass that doesn't judge
+  pub stops_as_change : (known : Option Verdict) (s : Stop) → StopsUnjudged repeat.number known (ReadFailed f old new) wrote s → ReadsFaulty f old new s → StopsAgain f repeat old new wrote (as_change repeat.number s)
+  stops_as_change known (stop.Refused e) stops faulty = (refl, refuses_less f old new _ (IsUnlike (digest_of repeat)) (λ b is same. is) faulty)
+  stops_as_change known stop.Read stops faulty = stops
+  stops_as_change known stop.Write stops faulty = stops
+  stops_as_change known stop.Memory stops faulty = tt
+  stops_as_change known (stop.Changed pass) stops faulty = (stops.0, refuses_less f old new _ (IsUnlike (digest_of repeat)) (λ b is same. is) faulty)
+
+  -- one that judges
+  pub fault_as_change : (refused : Fault → Type 0) (s : Stop) → Caused refused (ReadFailed f old new) wrote unchanged s → ReadsFaulty f old new s → StopsAgain f repeat old new wrote (as_change repeat.number s)
+  fault_as_change refused (stop.Refused e) stops faulty = (refl, refuses_less f old new _ (IsUnlike (digest_of repeat)) (λ b is same. is) faulty)
+  fault_as_change refused stop.Read stops faulty = stops
+  fault_as_change refused stop.Write stops faulty = stops
+  fault_as_change refused stop.Memory stops faulty = tt
+  fault_as_change refused (stop.Changed pass) stops faulty = absurd stops
+
+  -- the digest of bytes that were hashed
+  hashed_is : (hashes : Bool) (digest bytes : List ℕ) → hashes ≡ true → IsDigestOf (digest_if hashes digest) bytes → digest ≡ sha256 bytes
+  hashed_is hashes digest bytes is same = subst (λ (b : Bool). IsDigestOf (digest_if b digest) bytes) is same
+
+  -- all was read, and the digest is another
+  pub digest_as_change : (hashes : Bool) (digest : List ℕ) (holds : List ℕ → Type 0) (s : Stop) → hashes ≡ repeat.hashes → GaveFile f old new (digest_if hashes digest) holds → (s ≡ stop.Changed repeat.number) × (repeat.hashes ≡ true) × (digest ≡ repeat.digest → ⊥) → StopsAgain f repeat old new wrote s
+  digest_as_change hashes digest holds s same given (is, hashed, other) = subst (λ (x : Stop). StopsAgain f repeat old new wrote x) (sym is) (refl, record {
+    read = given.file;
+    told = given.supplied.told;
+    logged = given.supplied.logged;
+    faulty = inr (given.supplied.end, λ alike. absurd (other (hashed_is hashes digest given.file (same ∙ hashed) given.digest_is ∙ sym (hashed_is repeat.hashes repeat.digest given.file hashed alike))));
+  })
+
+-- ---- of a call
+
+-- in a pass that judges
+pub never_changed : (refused : Fault → Type 0) (read wrote : Type 0) (changed : ℕ → Type 0) (s : Stop) → Caused refused read wrote unchanged s → IfChanged changed s
+never_changed refused read wrote changed (stop.Refused e) stops = tt
+never_changed refused read wrote changed stop.Read stops = tt
+never_changed refused read wrote changed stop.Write stops = tt
+never_changed refused read wrote changed stop.Memory stops = tt
+never_changed refused read wrote changed (stop.Changed pass) stops = absurd stops
+
+-- in a pass before
+pub changed_before : (changed also : ℕ → Type 0) (s : Stop) → ((pass : ℕ) → changed pass → also pass) → IfChanged changed s → IfChanged also s
+changed_before changed also (stop.Refused e) step stops = tt
+changed_before changed also stop.Read step stops = tt
+changed_before changed also stop.Write step stops = tt
+changed_before changed also stop.Memory step stops = tt
+changed_before changed also (stop.Changed pass) step stops = step pass stops
+
+-- in a later one
+pub changed_later : {F G : Type 0} (f : feed.Ghosts F) (first now : F) (g : feed.Ghosts G) (old new : G) (repeat : Repeat) (digest : Option (List ℕ)) (holds : List ℕ → Type 0) (wrote : Type 0) (changed : ℕ → Type 0) (s : Stop)
+    → (given : GaveFile f first now digest holds) → (frames : List FrameSpec) → Says (judged_file (Some given.file)) (frames, None) → digest_of repeat ≡ digest → ((pass : ℕ) → ChangedAt repeat.number f first now g old new pass → changed pass) → StopsAgain g repeat old new wrote s → IfChanged changed s
+changed_later f first now g old new repeat digest holds wrote changed (stop.Refused e) given frames says is step stops = tt
+changed_later f first now g old new repeat digest holds wrote changed stop.Read given frames says is step stops = tt
+changed_later f first now g old new repeat digest holds wrote changed stop.Write given frames says is step stops = tt
+changed_later f first now g old new repeat digest holds wrote changed stop.Memory given frames says is step stops = tt
+changed_later f first now g old new repeat digest holds wrote changed (stop.Changed pass) given frames says is step stops = step pass (stops.0, record {
+  file = given.file;
+  supplied = given.supplied;
+  digest_is = tt;
+  holding = refuses_less g old new (IsUnlike (digest_of repeat)) _ (λ b unlike same. unlike (subst (λ (d : Option (List ℕ)). IsDigestOf d b) (sym is) (subst (λ (l : List ℕ). IsDigestOf digest l) same given.digest_is)) frames
+      (ap (λ (l : List ℕ). judged_file (Some l)) (sym same) ∙ known_says given.file (frames, None) says)) stops.1;
+})
