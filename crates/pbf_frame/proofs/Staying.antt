@@ -14,6 +14,7 @@ use Rattle.pbf_frame.specs.declared.header.TheConstants.{HEADER_LIMIT}
 use Rattle.pbf_frame.specs.Blob.{blob_fault}
 use Rattle.pbf_frame.specs.Ends.{comes_of_end}
 use Rattle.pbf_frame.specs.Frames.{FrameSpec, is_header, frame_kind, frame_end, frame_bytes, order_faults, next_of}
+use Rattle.pbf_frame.specs.declared.frame.TheConstants.{FILE_LIMIT}
 use Rattle.pbf_frame.specs.Verdict.{Verdict, with_first, with_all, judged_after, judged}
 use Rattle.pbf_frame.specs.Steps.{unless, ◌>>=◌, head_of, bytes_at, prefix_at, header_of, known_blob_of, blob_of, after_prefix}
 use Rattle.pbf_frame.proofs.FrontLemmas.{bytes_at_front}
@@ -99,7 +100,7 @@ unless_stays (Some f) x y e is = ap (λ (g : Fault). Err g) (err_same _ _ is)
 
 module _ (h : Bool) (p : ℕ) (prefix : List ℕ) where
   abbrev after_head : List ℕ × List ℕ → Head → Headed
-  after_head header head = unless (least (order_faults h p head.kind (p + 4 + length header.0 + head.size))) (Ok ((header.0, head), header.1))
+  after_head header head = unless (least (order_faults (Some FILE_LIMIT) h p head.kind (p + 4 + length header.0 + head.size))) (Ok ((header.0, head), header.1))
 
   abbrev after_bytes : List ℕ × List ℕ → Headed
   after_bytes header = head_of (p + 4) header.0 >>= after_head header
@@ -123,7 +124,7 @@ module _ (h : Bool) (p : ℕ) (prefix : List ℕ) where
       ∙ same header left (head_of (p + 4) header) said where
         same : (header left : List ℕ) (r : Result Head Fault) → (r >>= after_head (header, left)) ≡ Err e → (r >>= after_head (header, left ++ rest)) ≡ Err e
         same header left (Err x) is = is
-        same header left (Ok head) is = unless_stays (least (order_faults h p head.kind (p + 4 + length header + head.size))) _ _ e is
+        same header left (Ok head) is = unless_stays (least (order_faults (Some FILE_LIMIT) h p head.kind (p + 4 + length header + head.size))) _ _ e is
 
 -- ---- a blob
 
