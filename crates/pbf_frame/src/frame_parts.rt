@@ -164,8 +164,8 @@ fn read_header<F: Feed>(
         (Passes (F.has_passed feed.old) header.new.items (F.has_passed feed.new)) }
     ensures spelled { OnOk result (length header.new.items ≡ big_number 4 prefix.now) }
     ensures ordered { IfOk result (λ head.
-        least (order_faults (Some FILE_LIMIT) had_header place head.kind (place + 4 + length header.new.items
-        + head.size)) ≡ None) }
+        least (order_faults (Some FILE_LIMIT) had_header place head.kind
+        (place + 4 + length header.new.items + head.size)) ≡ None) }
     ensures counts { F.failures feed.old ≤ F.failures feed.new }
     ensures stops { IfErr result (IsReaderStop (F.failures feed.old) (F.failures feed.new)) }
 {

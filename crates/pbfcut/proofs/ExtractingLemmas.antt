@@ -1,5 +1,5 @@
 -- A file's extract, from what its passes say.
-use Rattle.std.proofs.Common.{◌≡◌, ◌⊎◌, inl, inr, ℕ, ℤ, ◌≤◌, ◌<◌, ◌^◌, rules, length, List, [], ◌∷◌, map, Bor, Bool, true, false, Option, Some, None, subst, refl, sym, ap, ◌∙◌}
+use Rattle.std.proofs.Common.{◌≡◌, ◌⊎◌, inl, inr, ℕ, ℤ, ◌<◌, ◌^◌, rules, List, [], ◌∷◌, map, Bor, Bool, true, false, Option, Some, None, subst, refl, sym, ap, ◌∙◌}
 use Rattle.std.specs.FinSet as set
 use Rattle.std.specs.List.{fold, filter}
 use Rattle.std.specs.Option.{option_map}

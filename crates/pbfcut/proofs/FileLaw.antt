@@ -1,14 +1,13 @@
 -- A file that is written is read as its header and its entities.
-use Rattle.std.proofs.Common.{◌≡◌, ℕ, ◌+◌, ◌^◌, ◌<◌, ◌≤◌, nat_lt, nat_le, Bool, true, false, List, [], ◌∷◌, ◌++◌, length, Option, Some, None, refl, sym, ap, ◌∙◌, subst, append-nil, length-append, arith}
+use Rattle.std.proofs.Common.{◌≡◌, ℕ, ◌+◌, ◌<◌, ◌≤◌, nat_le, Bool, true, false, List, [], ◌∷◌, ◌++◌, length, Option, Some, None, refl, sym, ap, ◌∙◌, subst, arith}
 use Rattle.std.specs.Prelude.{if◌then◌else◌}
 use Rattle.std.specs.List.{flat_map, last_or, AllByRecursion}
 use Rattle.std.specs.Option.{option_map}
 use Rattle.std.proofs.lemmas.Bool.Decides.{nat_tests}
 use Rattle.std.proofs.lemmas.List.Sums.{sum_by-cons}
 use Rattle.pbf_wire.specs.declared.fault.Fault.{Fault}
-use Rattle.pbf_wire.specs.declared.fault.Reason.TheVariants.{FileLong, EntityLarge}
-use Rattle.pbf_wire.specs.Faults.{fault, fault_where}
-use Rattle.pbf_wire.specs.Least.{least}
+use Rattle.pbf_wire.specs.declared.fault.Reason.TheVariants.{EntityLarge}
+use Rattle.pbf_wire.specs.Faults.{fault}
 use Rattle.pbf_wire.proofs.MessageLemmas.{all_left, all_right}
 use Rattle.osm_entity.specs.Entity.{EntitySpec}
 use Rattle.osm_entity.specs.Ranges.{EntityFits, EntityTyped}
@@ -18,7 +17,7 @@ use Rattle.pbf_frame.specs.declared.frame.FrameKind.TheVariants as kind
 use Rattle.pbf_frame.specs.Frames.{FrameSpec, frame_end, frame_kind, frame_payload, frame_payload_at, is_header}
 use Rattle.pbf_frame.specs.Sound.{IsFrameWithin, AreFramesWithin, had_after}
 use Rattle.pbf_frame.specs.Verdict.{Verdict, judged_within, with_first, joined_frames}
-use Rattle.pbf_frame.specs.Writing.{written_at, written_frame}
+use Rattle.pbf_frame.specs.Writing.{written_at}
 use Rattle.pbf_frame.proofs.AnyLength.{whole_file}
 use Rattle.pbf_frame.proofs.ReadBack.{written_is_frame, written_kind, written_payload, written_bytes}
 use Rattle.pbf_header.specs.Header.{HeaderSpec}
@@ -29,7 +28,7 @@ use Rattle.pbf_header.specs.WrittenHeader.{HeaderFits, header_message, header_ou
 use Rattle.pbf_header.proofs.HeaderLaw.{header_short, light_read, light_sound}
 use Rattle.pbf_block.proofs.LengthLaw.{block_fits}
 use Rattle.pbf_block.proofs.WrittenLaw.{written_sound, written_read}
-use Rattle.osm_pack.specs.Cuts.{cuts, block_frame, written_entities, header_frame, written_file}
+use Rattle.osm_pack.specs.Cuts.{cuts, block_frame, header_frame, written_file}
 use Rattle.osm_pack.proofs.CutLaws.{cuts_joined, cuts_kept}
 use Rattle.osm_pack.proofs.CutLemmas.{kept_bounds}
 use Rattle.osm_pack.proofs.OpenLemmas.{alone}
