@@ -47,12 +47,15 @@ module _ {F : Type 0} (f : feed.Ghosts F) (repeat : Repeat) (old new : F) (wrote
 
   -- all was read, and the digest is another
   pub digest_as_change : (hashes : Bool) (digest : List ℕ) (holds : List ℕ → Type 0) (s : Stop) → hashes ≡ repeat.hashes → GaveFile f old new (digest_if hashes digest) holds → (s ≡ stop.Changed repeat.number) × (repeat.hashes ≡ true) × (digest ≡ repeat.digest → ⊥) → StopsAgain f repeat old new wrote s
-  digest_as_change hashes digest holds s same given (is, hashed, other) = subst (λ (x : Stop). StopsAgain f repeat old new wrote x) (sym is) (refl, record {
-    read = given.file;
-    told = given.supplied.told;
-    logged = given.supplied.logged;
-    faulty = inr (given.supplied.end, λ alike. absurd (other (hashed_is hashes digest given.file (same ∙ hashed) given.digest_is ∙ sym (hashed_is repeat.hashes repeat.digest given.file hashed alike))));
-  })
+  digest_as_change hashes digest holds s same given (is, hashed, other) = subst (λ (x : Stop). StopsAgain f repeat old new wrote x) (sym is) (
+    refl,
+    record {
+      read = given.file;
+      told = given.supplied.told;
+      logged = given.supplied.logged;
+      faulty = inr (given.supplied.end, λ alike. absurd (other (hashed_is hashes digest given.file (same ∙ hashed) given.digest_is ∙ sym (hashed_is repeat.hashes repeat.digest given.file hashed alike))));
+    },
+  )
 
 -- ---- of a call
 
@@ -79,10 +82,13 @@ changed_later f first now g old new repeat digest holds wrote changed (stop.Refu
 changed_later f first now g old new repeat digest holds wrote changed stop.Read given frames says is step stops = tt
 changed_later f first now g old new repeat digest holds wrote changed stop.Write given frames says is step stops = tt
 changed_later f first now g old new repeat digest holds wrote changed stop.Memory given frames says is step stops = tt
-changed_later f first now g old new repeat digest holds wrote changed (stop.Changed pass) given frames says is step stops = step pass (stops.0, record {
-  file = given.file;
-  supplied = given.supplied;
-  digest_is = tt;
-  holding = refuses_less g old new (IsUnlike (digest_of repeat)) _ (λ b unlike same. unlike (subst (λ (d : Option (List ℕ)). IsDigestOf d b) (sym is) (subst (λ (l : List ℕ). IsDigestOf digest l) same given.digest_is)) frames
-      (ap (λ (l : List ℕ). judged_file (Some l)) (sym same) ∙ known_says given.file (frames, None) says)) stops.1;
-})
+changed_later f first now g old new repeat digest holds wrote changed (stop.Changed pass) given frames says is step stops = step pass (
+  stops.0,
+  record {
+    file = given.file;
+    supplied = given.supplied;
+    digest_is = tt;
+    holding = refuses_less g old new (IsUnlike (digest_of repeat)) _ (λ b unlike same. unlike (subst (λ (d : Option (List ℕ)). IsDigestOf d b) (sym is) (subst (λ (l : List ℕ). IsDigestOf digest l) same given.digest_is)) frames
+        (ap (λ (l : List ℕ). judged_file (Some l)) (sym same) ∙ known_says given.file (frames, None) says)) stops.1;
+  },
+)

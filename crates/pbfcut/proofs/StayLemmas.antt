@@ -1,15 +1,13 @@
 -- The fault of a file stays, whatever follows the file, unless it comes of the file's end.
-use Rattle.std.proofs.Common.{◌≡◌, ◌⊎◌, inl, inr, ℕ, Bool, true, false, if◌then◌else◌, List, [], ◌∷◌, ◌++◌, Option, Some, None, refl, sym, ap, ◌∙◌, subst}
+use Rattle.std.proofs.Common.{◌≡◌, ◌⊎◌, inl, inr, ℕ, Bool, true, false, if◌then◌else◌, List, [], ◌∷◌, ◌++◌, Option, Some, None, refl, sym, ap, ◌∙◌}
 use Rattle.pbf_wire.specs.declared.fault.Fault.{Fault}
-use Rattle.pbf_wire.specs.declared.fault.Reason.{Reason}
 use Rattle.pbf_wire.specs.declared.fault.Reason.TheVariants.{NoHeader, EntityLarge}
 use Rattle.pbf_wire.specs.Faults.{fault}
 use Rattle.pbf_header.specs.Header.{HeaderSpec}
 use Rattle.pbf_frame.specs.Devices.{IsAtEnd}
 use Rattle.pbf_frame.specs.Ends.{comes_of_end}
 use Rattle.pbf_frame.specs.Frames.{FrameSpec}
-use Rattle.pbf_frame.specs.Refusals.{Refuses}
-use Rattle.pbf_frame.specs.Verdict.{Verdict, with_first, judged, Says}
+use Rattle.pbf_frame.specs.Verdict.{Verdict, with_first, judged}
 use Rattle.pbf_frame.proofs.Parting.{none_some, some_same}
 use Rattle.pbf_frame.proofs.Staying.{judged_longer}
 use Rattle.pbf_pass.specs.HeaderLimit.{is_short, header_limit, with_limit, limited, judged_writable}

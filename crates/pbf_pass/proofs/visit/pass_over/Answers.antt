@@ -1,4 +1,4 @@
-use Rattle.std.proofs.Common.{zero, suc, [], false, Some, rules, sym, subst, ◌∙◌}
+use Rattle.std.proofs.Common.{zero, suc, [], false, Some, rules, ◌∙◌}
 use Rattle.pbf_frame.proofs.Refusing.{faulty_as}
 use Rattle.pbf_frame.specs.declared.stop.Stop.TheVariants.{Refused}
 use Rattle.pbf_frame.specs.Verdict.{judged_known}
