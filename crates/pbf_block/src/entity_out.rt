@@ -109,7 +109,8 @@ impl EntityOut {
             → OnOk result (self.new.message.items
             ≡ message (entity_slots (texts_after table.new used) id (meta_of meta.now)
             (tags_left tags.entry) [])) }
-        ensures held { OnOk result (begun_length self.new ≤ 120 + 20 * length (tags_left tags.entry)) }
+        ensures held { OnOk result
+            (begun_length self.new ≤ 120 + 20 * length (tags_left tags.entry)) }
         ensures columns { KeepsColumns self.old self.new }
     {
         put_tags(&mut self.keys, &mut self.values, tags, table)?;

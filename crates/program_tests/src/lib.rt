@@ -10,6 +10,4 @@ mod later_pass;
 #[cfg(test)]
 mod show;
 #[cfg(test)]
-mod steps;
-#[cfg(test)]
 mod words;
