@@ -10,4 +10,6 @@ mod later_pass;
 #[cfg(test)]
 mod show;
 #[cfg(test)]
+mod steps;
+#[cfg(test)]
 mod words;
