@@ -77,7 +77,10 @@ fn is(group: Result<Option<Vec<u8>>, AllocError>, bytes: &[u8]) -> Result<bool, 
 
 #[test]
 fn one_call_an_entity(rt: HostRuntime) -> Result<(), Fail> {
-    let way = is(way_group(rt.alloc()), b"\x1a\x07\x08\x07\x42\x03\x02\x02\x02")?;
+    let way = is(
+        way_group(rt.alloc()),
+        b"\x1a\x07\x08\x07\x42\x03\x02\x02\x02",
+    )?;
     let relation = is(
         relation_group(rt.alloc()),
         b"\x22\x0b\x08\x08\x42\x01\x01\x4a\x01\x02\x52\x01\x00",

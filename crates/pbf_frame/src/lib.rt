@@ -14,9 +14,7 @@ mod std_device;
 mod stop;
 mod transfer;
 
-pub use blob::{
-    BLOB_KINDS, BZIP2_DATA, LZ4_DATA, LZMA_DATA, RAW, RAW_SIZE, ZLIB_DATA, ZSTD_DATA,
-};
+pub use blob::{BLOB_KINDS, BZIP2_DATA, LZ4_DATA, LZMA_DATA, RAW, RAW_SIZE, ZLIB_DATA, ZSTD_DATA};
 pub use device::{Drain, Feed};
 pub use frame::{FILE_LIMIT, Frame, FrameKind, frame_end};
 pub use frame_parts::fill_vec;

@@ -1,24 +1,22 @@
 -- What a feed gave, unpacked, is the raw file that packed bytes mean.
-use Rattle.std.proofs.Common.{◌≡◌, ◌⊎◌, inl, inr, ℕ, zero, suc, Bool, true, false, List, [], Option, Some, Result, Ok, Err, IfErr, refl, sym, ap, ◌∙◌, subst, arith}
+use Rattle.std.proofs.Common.{◌≡◌, ◌⊎◌, inl, inr, ℕ, zero, suc, Bool, true, false, List, [], Option, Some, Result, Ok, Err, IfErr, sym, ap, ◌∙◌, subst}
 use Rattle.std.specs.Option.{option_map}
 use Rattle.sha2.specs.Sha256.{sha256}
 use Rattle.pbf_wire.specs.declared.fault.Fault.{Fault}
 use Rattle.pbf_frame.specs.declared.device.Feed as feed
 use Rattle.pbf_frame.specs.declared.stop.Stop.{Stop}
 use Rattle.pbf_frame.specs.declared.stop.Stop.TheVariants as stop
-use Rattle.pbf_frame.specs.Devices.{IsFront, HasRisen}
+use Rattle.pbf_frame.specs.Devices.{IsFront}
 use Rattle.pbf_pass.specs.Given.{GaveFile}
 use Rattle.pbf_pass.specs.Hashing.{HasCounted, IsDigestOf, digest_if}
 use Rattle.pbf_pass.specs.Stops.{Caused}
 use Rattle.pbf_pass.proofs.GivenLemmas.{tells_file}
-use Rattle.pbf_unpack.specs.declared.feed.UnpackedFeed.{UnpackedFeed}
-use Rattle.pbf_unpack.specs.Supplying.{failures_of}
 use Rattle.pbf_unpack.specs.Unpacked.{unpacked}
 use Rattle.pbf_pass.specs.HeaderLimit.{judged_writable}
 use Rattle.pbfcut.specs.Calls.{GaveOrNot, RefusedFirst}
 use Rattle.pbfcut.proofs.ConvertingLemmas.{nothing_out}
 use Rattle.pbf_published.specs.declared.input.PublishedHalt.{PublishedHalt}
-use Rattle.pbf_published.specs.Published.{GavePublished, GaveOrNone, Means, MeansIfSome, PassedAs, PassedIfSome, StopsFor, UnlessChanged, log_of, told_by}
+use Rattle.pbf_published.specs.Published.{GavePublished, GaveOrNone, Means, MeansIfSome, PassedAs, PassedIfSome, IsRefusedBy, UnlessChanged, log_of, told_by}
 
 -- what an unpacking feed says of the feed below, when it is opened and when it is closed, with a digest of what was read
 pub record IsOver {F U : Type 0} (f : feed.Ghosts F) (u : feed.Ghosts U) (first last : F) (old new : U) (hashes : Bool) (digest : Option (List ℕ)) : Type 0 where
@@ -84,30 +82,26 @@ passed_below below r has_passed last o digest log raw is same passed =
     let p = subst (λ (x : Option (List ℕ)). PassedIfSome below r x log raw) is passed in
     record { packed = p.packed; passed = same p.packed p.passed; means = p.means }
 
--- a read of an unpacking feed that failed, but not by itself, is a read of the feed below that failed
-pub risen_below : {F : Type 0} (failures : F → ℕ) (old new : UnpackedFeed F) → old.failures ≡ 0 → new.failures ≡ 0 → HasRisen (failures_of failures old) (failures_of failures new) → HasRisen (failures old.feed) (failures new.feed)
-risen_below failures old new fresh none risen = omega (arith, fresh, none, risen)
-
--- what a call over raw files says of its stops is said of published ones, if no feed lacked memory
-pub stops_told : (refused : Fault → Type 0) (above below wrote : Type 0) (changed : ℕ → Type 0) (lacks : Bool) (s told : Stop) → told ≡ told_by lacks s → (lacks ≡ false → above → below) → Caused refused above wrote changed s → StopsFor refused below wrote told
-stops_told refused above below wrote changed lacks s told is down caused = subst (λ (x : Stop). StopsFor refused below wrote x) (sym is) (of lacks s down caused) where
-  of : (lacks : Bool) (s : Stop) → (lacks ≡ false → above → below) → Caused refused above wrote changed s → StopsFor refused below wrote (told_by lacks s)
-  of true (stop.Refused e) down caused = caused
-  of false (stop.Refused e) down caused = caused
-  of true stop.Read down caused = tt
-  of false stop.Read down caused = down refl caused
-  of true stop.Write down caused = caused
-  of false stop.Write down caused = caused
-  of true stop.Memory down caused = tt
-  of false stop.Memory down caused = tt
-  of true (stop.Changed pass) down caused = tt
-  of false (stop.Changed pass) down caused = tt
+-- what a call over raw files says of a refusal is said of published ones
+refused_told : (at_fault : Fault → Type 0) (read wrote : Type 0) (changed : ℕ → Type 0) (lacks : Bool) (s told : Stop) → told ≡ told_by lacks s → Caused at_fault read wrote changed s → IsRefusedBy at_fault told
+refused_told at_fault read wrote changed lacks s told is caused = subst (λ (x : Stop). IsRefusedBy at_fault x) (sym is) (of lacks s caused) where
+  of : (lacks : Bool) (s : Stop) → Caused at_fault read wrote changed s → IsRefusedBy at_fault (told_by lacks s)
+  of true (stop.Refused e) caused = caused
+  of false (stop.Refused e) caused = caused
+  of true stop.Read caused = tt
+  of false stop.Read caused = tt
+  of true stop.Write caused = tt
+  of false stop.Write caused = tt
+  of true stop.Memory caused = tt
+  of false stop.Memory caused = tt
+  of true (stop.Changed pass) caused = tt
+  of false (stop.Changed pass) caused = tt
 
 -- the same of a file that can't be written
-pub stops_raw : (known raw old new : Option (List ℕ)) (above below wrote : Type 0) (changed : ℕ → Type 0) (lacks : Bool) (s told : Stop) → known ≡ raw → told ≡ told_by lacks s → (lacks ≡ false → above → below) → Caused (RefusedFirst (judged_writable known) old new) above wrote changed s
-    → StopsFor (RefusedFirst (judged_writable raw) old new) below wrote told
-stops_raw known raw old new above below wrote changed lacks s told same is down caused =
-    stops_told (RefusedFirst (judged_writable raw) old new) above below wrote changed lacks s told is down (subst (λ (k : Option (List ℕ)). Caused (RefusedFirst (judged_writable k) old new) above wrote changed s) same caused)
+pub refused_raw : (known raw old new : Option (List ℕ)) (read wrote : Type 0) (changed : ℕ → Type 0) (lacks : Bool) (s told : Stop) → known ≡ raw → told ≡ told_by lacks s → Caused (RefusedFirst (judged_writable known) old new) read wrote changed s
+    → IsRefusedBy (RefusedFirst (judged_writable raw) old new) told
+refused_raw known raw old new read wrote changed lacks s told same is caused =
+    refused_told (RefusedFirst (judged_writable raw) old new) read wrote changed lacks s told is (subst (λ (k : Option (List ℕ)). Caused (RefusedFirst (judged_writable k) old new) read wrote changed s) same caused)
 
 -- what holds after every stop
 pub unless_changed : (holds : Type 0) (s : Stop) → holds → UnlessChanged holds s

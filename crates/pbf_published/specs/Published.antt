@@ -62,9 +62,9 @@ PassedIfSome has_passed feed None log raw = Unit {0}
 abbrev pub raw_of : Option (List ℕ) → Option (List ℕ)
 raw_of known = option_map unpacked known
 
--- a refusal is for such a fault, and a failed read or write has its cause; of `Changed` nothing is said
-abbrev pub StopsFor : (refused : Fault → Type 0) (read wrote : Type 0) → Stop → Type 0
-StopsFor refused read wrote stop = Caused refused read wrote (λ pass. Unit {0}) stop
+-- a refusal is for such a fault; of other stops nothing is said
+abbrev pub IsRefusedBy : (Fault → Type 0) → Stop → Type 0
+IsRefusedBy at_fault stop = Caused at_fault (Unit {0}) (Unit {0}) (λ pass. Unit {0}) stop
 
 -- this holds unless the stop is that a later pass read other bytes
 abbrev pub UnlessChanged : Type 0 → Stop → Type 0

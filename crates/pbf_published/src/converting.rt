@@ -1,6 +1,6 @@
 //! `convert` of published files.
 
-ghost use Rattle.std.specs.Prelude.{◌⊎◌, Some, ◌≡◌, ℕ, List, IfOk, IfErr};
+ghost use Rattle.std.specs.Prelude.{Some, ◌≡◌, ℕ, List, IfOk, IfErr};
 ghost use Rattle.pbf_frame.specs.Devices.{IsFront};
 ghost use Rattle.pbf_pass.specs.Given.{Took};
 ghost use Rattle.pbf_pass.specs.HeaderLimit.{judged_writable};
@@ -8,8 +8,7 @@ ghost use Rattle.pbf_pass.specs.Hashing.{digest_if};
 ghost use Rattle.pbfcut.specs.Calls.{BothSupply, RefusedFirst};
 ghost use Rattle.pbfcut.specs.Kept.{IsWritable, conversion_of};
 ghost use Rattle.pbfcut.specs.Theorem.{IsConverted};
-ghost use Rattle.pbf_published.specs.Published.{GavePublished, StopsFor, UnlessChanged, raw_of};
-ghost use Rattle.pbf_pass.specs.Stops.{ReadFailed, WriteFailed};
+ghost use Rattle.pbf_published.specs.Published.{GavePublished, IsRefusedBy, UnlessChanged, raw_of};
 
 use crate::input::{
     PublishedHalt, PublishedInput, close, compare, first_digest, halted, lacks_memory, open,
@@ -43,12 +42,10 @@ pub fn convert_with_receipt<F: Feed, G: Feed, D: Drain, S: BuildHasher + Drop>(
         (digest_if passes.hashes receipt.raw)
         (λ c. Took D.Drain drain.old drain.new
         (λ written. b ≡ c → IsConverted b receipt.counts written)))) }
-    // What is refused is the raw file that the first feed's bytes mean, by its first fault, and then the drain took nothing. `Read` and
-    // `Write` come only if a count of failures rose: of a feed, of the drain.
-    ensures stops { IfErr result (λ h. StopsFor (RefusedFirst
+    // What is refused is the raw file that the first feed's bytes mean, by its first fault, and then the drain took nothing.
+    ensures refused { IfErr result (λ h. IsRefusedBy (RefusedFirst
         (judged_writable (raw_of (F.remaining first.old))) (D.taken drain.old) (D.taken drain.new))
-        (ReadFailed F.Feed first.old first.new ⊎ ReadFailed G.Feed second.old second.new)
-        (WriteFailed D.Drain drain.old drain.new) h.stop) }
+        h.stop) }
     // Whatever stopped it, except `Changed`, if both feeds mean this raw file, a prefix of its conversion went out.
     ensures beginning { IfErr result (λ h. UnlessChanged ((b : List ℕ)
         → BothSupply b (raw_of (F.remaining first.old)) (raw_of (G.remaining second.old))
@@ -61,11 +58,8 @@ pub fn convert_with_receipt<F: Feed, G: Feed, D: Drain, S: BuildHasher + Drop>(
     let receipt = match outcome {
         Ok(receipt) => receipt,
         Err(halt) => {
-            let is_memory = lacks_memory(&one) | lacks_memory(&two);
-            let told = halted(halt, &one, is_memory);
-            let (_, _first) = close(one);
-            let (_, _second) = close(two);
-            return Err(told);
+            let is_memory = lacks_memory(&one) || lacks_memory(&two);
+            return Err(halted(halt, &one, is_memory));
         }
     };
     let (one, _first) = close(one);

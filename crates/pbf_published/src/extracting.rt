@@ -1,6 +1,6 @@
 //! `extract` of published files.
 
-ghost use Rattle.std.specs.Prelude.{◌⊎◌, Some, ◌≡◌, ℕ, List, IfOk, IfErr};
+ghost use Rattle.std.specs.Prelude.{Some, ◌≡◌, ℕ, List, IfOk, IfErr};
 ghost use Rattle.osm_ways.specs.Seen.{seen_decoded};
 ghost use Rattle.osm_ways.specs.Selection.{extract};
 ghost use Rattle.pbf_frame.specs.Devices.{IsFront};
@@ -11,8 +11,7 @@ ghost use Rattle.pbfcut.specs.Calls.{AllSupply, RefusedFirst};
 ghost use Rattle.pbfcut.specs.Extracting.{complete_ways};
 ghost use Rattle.pbfcut.specs.Kept.{IsWritable, extract_of};
 ghost use Rattle.pbfcut.specs.Theorem.{IsExtraction};
-ghost use Rattle.pbf_published.specs.Published.{GavePublished, GaveOrNone, StopsFor, UnlessChanged, raw_of};
-ghost use Rattle.pbf_pass.specs.Stops.{ReadFailed, WriteFailed};
+ghost use Rattle.pbf_published.specs.Published.{GavePublished, GaveOrNone, IsRefusedBy, UnlessChanged, raw_of};
 
 use crate::input::{
     PublishedHalt, PublishedInput, close, compare, compare_or_none, first_digest, halted,
@@ -56,13 +55,10 @@ pub fn extract_sorted_with_receipt<F: Feed, G: Feed, H: Feed, D: Drain, S: Build
         (λ d. Took D.Drain drain.old drain.new
         (λ written. b ≡ c → b ≡ d → IsExtraction (complete_ways area) (extract (seen_decoded area))
         area b receipt.counts written))))) }
-    // What is refused is the raw file that the first feed's bytes mean, by its first fault, and then the drain took nothing. `Read` and
-    // `Write` come only if a count of failures rose: of a feed, of the drain.
-    ensures stops { IfErr result (λ h. StopsFor (RefusedFirst
+    // What is refused is the raw file that the first feed's bytes mean, by its first fault, and then the drain took nothing.
+    ensures refused { IfErr result (λ h. IsRefusedBy (RefusedFirst
         (judged_writable (raw_of (F.remaining first.old))) (D.taken drain.old) (D.taken drain.new))
-        (ReadFailed F.Feed first.old first.new
-        ⊎ (ReadFailed G.Feed second.old second.new ⊎ ReadFailed H.Feed third.old third.new))
-        (WriteFailed D.Drain drain.old drain.new) h.stop) }
+        h.stop) }
     // Whatever stopped it, except `Changed`, if all feeds mean this raw file, a prefix of its extract went out.
     ensures beginning { IfErr result (λ h. UnlessChanged ((b : List ℕ)
         → AllSupply b (raw_of (F.remaining first.old)) (raw_of (G.remaining second.old))
@@ -80,12 +76,8 @@ pub fn extract_sorted_with_receipt<F: Feed, G: Feed, H: Feed, D: Drain, S: Build
     let receipt = match outcome {
         Ok(receipt) => receipt,
         Err(halt) => {
-            let is_memory = lacks_memory(&one) | lacks_memory(&two) | lacks_memory(&three);
-            let told = halted(halt, &one, is_memory);
-            let (_, _first) = close(one);
-            let (_, _second) = close(two);
-            let (_, _third) = close(three);
-            return Err(told);
+            let is_memory = lacks_memory(&one) || lacks_memory(&two) || lacks_memory(&three);
+            return Err(halted(halt, &one, is_memory));
         }
     };
     let (one, _first) = close(one);

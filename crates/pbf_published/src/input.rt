@@ -1,6 +1,6 @@
 //! A published file that is read: hashed as it is, and unpacked.
 
-ghost use Rattle.std.specs.Prelude.{◌≡◌, ◌⊎◌, ℕ, suc, Bool, List, [], Some, IfOk, IfErr, OnOk, nat_lt};
+ghost use Rattle.std.specs.Prelude.{◌≡◌, ◌⊎◌, ℕ, suc, Bool, List, [], Some, IfOk, IfErr, OnOk};
 ghost use Rattle.sha2.specs.Sha256.{sha256};
 ghost use Rattle.pbf_frame.specs.declared.stop.Stop.TheVariants as stop;
 ghost use Rattle.pbf_pass.specs.Refused.{stop_of};
@@ -72,7 +72,6 @@ pub fn open<F: Feed>(
     ensures logged { (log : ℕ) → F.has_passed feed log []
         → ⟦<UnpackedFeed<PassFeed<F>> as Feed>⟧.has_passed result (suc (suc log)) [] }
     ensures lender { ⟦<UnpackedFeed<PassFeed<F>> as Feed>⟧.lender result ≡ F.lender feed }
-    ensures fresh { result.failures ≡ 0 }
 {
     UnpackedFeed::new(alloc, inflater, PassFeed::new(feed, hashes))
 }
@@ -169,9 +168,7 @@ pub fn halted<F: Feed>(
     }
 }
 
-/// Whether a feed was refused memory: otherwise its reads failed only if those of the feed below did.
-pub fn lacks_memory<F: Feed>(feed: &UnpackedFeed<F>) -> bool
-    ensures { result ≡ nat_lt 0 feed.now.failures }
-{
-    feed.failed_itself()
+/// Whether a feed was refused memory.
+pub fn lacks_memory<F: Feed>(feed: &UnpackedFeed<F>) -> bool {
+    feed.stop() == Some(Stop::Memory)
 }

@@ -1,6 +1,6 @@
 //! `extract --parents` of published files.
 
-ghost use Rattle.std.specs.Prelude.{◌⊎◌, Some, ◌≡◌, ℕ, List, IfOk, IfErr};
+ghost use Rattle.std.specs.Prelude.{Some, ◌≡◌, ℕ, List, IfOk, IfErr};
 ghost use Rattle.osm_ways.specs.Parents.{extract_with_parents};
 ghost use Rattle.osm_ways.specs.Seen.{seen_decoded};
 ghost use Rattle.pbf_frame.specs.Devices.{IsFront};
@@ -11,8 +11,7 @@ ghost use Rattle.pbfcut.specs.Calls.{FourSupply, RefusedFirst};
 ghost use Rattle.pbfcut.specs.Extracting.{all_parents};
 ghost use Rattle.pbfcut.specs.Kept.{IsWritable, extract_of};
 ghost use Rattle.pbfcut.specs.Theorem.{IsExtraction};
-ghost use Rattle.pbf_published.specs.Published.{GavePublished, GaveOrNone, StopsFor, UnlessChanged, raw_of};
-ghost use Rattle.pbf_pass.specs.Stops.{ReadFailed, WriteFailed};
+ghost use Rattle.pbf_published.specs.Published.{GavePublished, GaveOrNone, IsRefusedBy, UnlessChanged, raw_of};
 
 use crate::input::{
     PublishedHalt, PublishedInput, close, compare, compare_or_none, first_digest, halted,
@@ -59,14 +58,10 @@ pub fn extract_parents_sorted_with_receipt<
         (λ e. Took D.Drain drain.old drain.new
         (λ written. b ≡ c → b ≡ d → b ≡ e → IsExtraction (all_parents area)
         (extract_with_parents (seen_decoded area)) area b receipt.counts written)))))) }
-    // What is refused is the raw file that the first feed's bytes mean, by its first fault, and then the drain took nothing. `Read` and
-    // `Write` come only if a count of failures rose: of a feed, of the drain.
-    ensures stops { IfErr result (λ h. StopsFor (RefusedFirst
+    // What is refused is the raw file that the first feed's bytes mean, by its first fault, and then the drain took nothing.
+    ensures refused { IfErr result (λ h. IsRefusedBy (RefusedFirst
         (judged_writable (raw_of (F.remaining first.old))) (D.taken drain.old) (D.taken drain.new))
-        ((ReadFailed F.Feed first.old first.new
-        ⊎ (ReadFailed G.Feed second.old second.new ⊎ ReadFailed H.Feed third.old third.new))
-        ⊎ ReadFailed I.Feed fourth.old fourth.new)
-        (WriteFailed D.Drain drain.old drain.new) h.stop) }
+        h.stop) }
     // Whatever stopped it, except `Changed`, if all feeds mean this raw file, a prefix of its extract went out.
     ensures beginning { IfErr result (λ h. UnlessChanged ((b : List ℕ)
         → FourSupply b (raw_of (F.remaining first.old)) (raw_of (G.remaining second.old))
@@ -86,15 +81,10 @@ pub fn extract_parents_sorted_with_receipt<
         Ok(receipt) => receipt,
         Err(halt) => {
             let is_memory = lacks_memory(&one)
-                | lacks_memory(&two)
-                | lacks_memory(&three)
-                | lacks_memory(&four);
-            let told = halted(halt, &one, is_memory);
-            let (_, _first) = close(one);
-            let (_, _second) = close(two);
-            let (_, _third) = close(three);
-            let (_, _fourth) = close(four);
-            return Err(told);
+                || lacks_memory(&two)
+                || lacks_memory(&three)
+                || lacks_memory(&four);
+            return Err(halted(halt, &one, is_memory));
         }
     };
     let (one, _first) = close(one);

@@ -1,6 +1,6 @@
 //! `show` and `blobs` of published files.
 
-ghost use Rattle.std.specs.Prelude.{◌⊎◌, ◌≡◌, IfOk, IfErr, OnErr, Some, false};
+ghost use Rattle.std.specs.Prelude.{◌≡◌, IfOk, IfErr, OnErr, Some, false};
 ghost use Rattle.pbf_frame.specs.Verdict.{judged_known};
 ghost use Rattle.pbf_pass.specs.Given.{Took};
 ghost use Rattle.pbf_pass.specs.Judged.{judged_file};
@@ -9,8 +9,7 @@ ghost use Rattle.pbf_pass.specs.Hashing.{digest_if};
 ghost use Rattle.pbfcut.specs.Listing.{Lists, ListsFront, ListsToFault};
 ghost use Rattle.pbfcut.specs.Calls.{RefusedFirst};
 ghost use Rattle.pbfcut.specs.Showing.{Shown, ShowsFront};
-ghost use Rattle.pbf_published.specs.Published.{GavePublished, StopsFor, UnlessChanged, raw_of};
-ghost use Rattle.pbf_pass.specs.Stops.{ReadFailed, WriteFailed};
+ghost use Rattle.pbf_published.specs.Published.{GavePublished, IsRefusedBy, UnlessChanged, raw_of};
 
 use crate::input::{
     PublishedHalt, PublishedInput, close, compare, first_digest, halted, lacks_memory, open,
@@ -42,12 +41,10 @@ pub fn show_with_receipt<F: Feed, G: Feed, D: Drain>(
         × GavePublished G.Feed second.old second.new (Some receipt.input)
         (digest_if passes.hashes receipt.raw)
         (λ c. Took D.Drain drain.old drain.new (Shown dates (judged_file (Some c)))))) }
-    // What is refused is the raw file that the first feed's bytes mean, by its first fault, and then the drain took nothing. `Read` and
-    // `Write` come only if a count of failures rose: of a feed, of the drain.
-    ensures stops { IfErr result (λ h. StopsFor (RefusedFirst
+    // What is refused is the raw file that the first feed's bytes mean, by its first fault, and then the drain took nothing.
+    ensures refused { IfErr result (λ h. IsRefusedBy (RefusedFirst
         (judged_file (raw_of (F.remaining first.old))) (D.taken drain.old) (D.taken drain.new))
-        (ReadFailed F.Feed first.old first.new ⊎ ReadFailed G.Feed second.old second.new)
-        (WriteFailed D.Drain drain.old drain.new) h.stop) }
+        h.stop) }
     // Whatever stopped it, except `Changed`, if both feeds mean one raw file, a prefix of its text went out, and nothing if it has a fault.
     ensures beginning { IfErr result (λ h. UnlessChanged
         (raw_of (F.remaining first.old) ≡ raw_of (G.remaining second.old)
@@ -61,11 +58,8 @@ pub fn show_with_receipt<F: Feed, G: Feed, D: Drain>(
     let receipt = match outcome {
         Ok(receipt) => receipt,
         Err(halt) => {
-            let is_memory = lacks_memory(&one) | lacks_memory(&two);
-            let told = halted(halt, &one, is_memory);
-            let (_, _first) = close(one);
-            let (_, _second) = close(two);
-            return Err(told);
+            let is_memory = lacks_memory(&one) || lacks_memory(&two);
+            return Err(halted(halt, &one, is_memory));
         }
     };
     let (one, _first) = close(one);
@@ -92,11 +86,9 @@ pub fn list_blobs<F: Feed, D: Drain>(
     // returned.
     ensures listed { IfOk result (Lists D.Drain drain.old drain.new
         (judged_known false 0 (raw_of (F.remaining feed.old)))) }
-    // If it is refused, all the lines of the frames before the fault went out. `Read` and `Write` come only if a count of failures rose: of
-    // the feed, of the drain.
-    ensures stops { IfErr result (λ h. StopsFor (ListsToFault D.Drain drain.old drain.new
-        (judged_known false 0 (raw_of (F.remaining feed.old))))
-        (ReadFailed F.Feed feed.old feed.new) (WriteFailed D.Drain drain.old drain.new) h.stop) }
+    // If it is refused, all the lines of the frames before the fault went out.
+    ensures refused { IfErr result (λ h. IsRefusedBy (ListsToFault D.Drain drain.old drain.new
+        (judged_known false 0 (raw_of (F.remaining feed.old)))) h.stop) }
     // Whatever stopped it, a prefix of the lines of the frames before the first fault went out.
     ensures beginning { OnErr result (ListsFront D.Drain drain.old drain.new
         (judged_known false 0 (raw_of (F.remaining feed.old)))) }
@@ -104,10 +96,6 @@ pub fn list_blobs<F: Feed, D: Drain>(
     let mut input = open(alloc, Inflater::new(alloc)?, &mut *feed, false);
     match pbfcut::list_blobs(alloc, &mut input, drain) {
         Ok(frames) => Ok(frames),
-        Err(stop) => {
-            let told = stopped(stop, &input, lacks_memory(&input));
-            let (_, _feed) = close(input);
-            Err(told)
-        }
+        Err(stop) => Err(stopped(stop, &input, lacks_memory(&input))),
     }
 }

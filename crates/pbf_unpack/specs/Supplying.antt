@@ -1,5 +1,5 @@
 -- What a feed of unpacked bytes has supplied, and what it has still to supply.
-use Rattle.std.specs.Prelude.{◌≡◌, ℕ, ◌+◌, ◌-◌, ◌^◌, ◌<◌, min, List, [], ◌++◌, length, drop, Option}
+use Rattle.std.specs.Prelude.{◌≡◌, ℕ, ◌<◌, List, [], ◌++◌, length, drop, Option}
 use Rattle.std.specs.Option.{option_map}
 use Rattle.pbf_unpack.specs.declared.feed.State.{State}
 use Rattle.pbf_unpack.specs.declared.feed.State.TheVariants.{Reading, PassingOn, Ended, Stopped}
@@ -31,10 +31,6 @@ left_in u = drop u.done (u.buffers.front.items ++ u.buffers.raw.items)
 -- all bytes that are still to supply, if the feed below reports its own
 abbrev pub remaining_in : {F : Type 0} → (F → Option (List ℕ)) → UnpackedFeed F → Option (List ℕ)
 remaining_in remaining u = option_map (λ bytes. left_in u ++ (more u.state u.place bytes).0) (remaining u.feed)
-
--- how often a read failed: because one of the feed below did, or for another reason, which is counted here
-abbrev pub failures_of : {F : Type 0} → (F → ℕ) → UnpackedFeed F → ℕ
-failures_of failures u = min (failures u.feed + u.failures) (2 ^ 64 - 1)
 
 -- these bytes were supplied: by a log of the feed below packed bytes have passed, and they mean these bytes, those in the buffers, and then what
 -- those that follow mean; and the fault that is kept is the first of them

@@ -50,7 +50,6 @@ pub struct UnpackedFeed<F> {
     pub(crate) state: State,
     // The first fault of zlib data.
     pub(crate) fault: Option<UnpackFault>,
-    // How many reads failed for another reason than that one of the feed below did.
     pub(crate) failures: u64,
     // Of the frame in the buffers, and of the first one that is a header.
     pub(crate) origin: Origin,

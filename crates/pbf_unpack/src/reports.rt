@@ -1,6 +1,6 @@
 //! What a feed of unpacked bytes says of itself.
 
-ghost use Rattle.std.specs.Prelude.{◌≡◌, ◌+◌, ◌*◌, ◌≤◌, ℕ, List, [], None, true, nat_lt};
+ghost use Rattle.std.specs.Prelude.{◌≡◌, ◌+◌, ◌*◌, ◌≤◌, ℕ, List, [], None, true};
 ghost use Rattle.std.specs.Option.{option_map};
 ghost use Rattle.pbf_frame.specs.declared.header.TheConstants.{HEADER_LIMIT, LARGEST_SIZE};
 ghost use Rattle.pbf_unpack.specs.Reports.{stop_in, GavePacked, held_by};
@@ -69,13 +69,6 @@ impl<F: Feed> UnpackedFeed<F> {
             State::Stopped(stop) => Some(stop),
             State::Reading | State::PassingOn | State::Ended => None,
         }
-    }
-
-    /// Whether a read failed for another reason than that one of the feed below did: memory was refused, or a read had failed before.
-    pub fn failed_itself(&self) -> bool
-        ensures { result ≡ nat_lt 0 self.now.failures }
-    {
-        self.failures > 0
     }
 
     /// Whether nothing is left in the buffers: then what was supplied is exactly what the packed bytes mean that passed below, and

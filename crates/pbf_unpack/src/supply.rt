@@ -3,10 +3,8 @@
 ghost use Rattle.std.specs.Prelude.{◌≡◌, ◌+◌, ◌-◌, ◌<◌, ◌≤◌, ◌^◌, ◌++◌, ◌==◌, ℕ, List, [], None, true, length, take, drop, vec_len, IfOk, IfErr, OnOk, OnErr, IfSome};
 ghost use Rattle.std.specs.Option.{option_map};
 ghost use Rattle.pbf_frame.specs.Devices.{prepend, Passes, IsAtEnd, HasRisen};
-ghost use Rattle.pbf_frame.specs.Reads.{IsFillStop};
 ghost use Rattle.pbf_unpack.specs.declared.feed.State.TheVariants as states;
-ghost use Rattle.pbf_unpack.specs.Reports.{stop_in};
-ghost use Rattle.pbf_unpack.specs.Supplying.{left_in, remaining_in, failures_of, HasSupplied, GoesOn, IsReady, IsSameBut};
+ghost use Rattle.pbf_unpack.specs.Supplying.{left_in, remaining_in, HasSupplied, GoesOn, IsReady, IsSameBut};
 ghost use Rattle.pbf_unpack.specs.Unpacked.{unpacked};
 
 use crate::buffers::Buffers;
@@ -86,9 +84,6 @@ impl<F: Feed> UnpackedFeed<F> {
         ensures ready { OnOk result (IsReady self.new.state (left_in self.new)) }
         ensures lender { F.lender self.new.feed ≡ F.lender self.old.feed }
         ensures failures { self.new.failures ≡ self.old.failures }
-        ensures counts { F.failures self.old.feed ≤ F.failures self.new.feed }
-        ensures stops { IfErr result
-            (IsFillStop (F.failures self.old.feed) (F.failures self.new.feed)) }
     {
         let next = self.next_origin();
         self.done = 0;
@@ -120,9 +115,6 @@ impl<F: Feed> UnpackedFeed<F> {
         ensures ready { OnOk result (IsReady self.new.state (left_in self.new)) }
         ensures lender { F.lender self.new.feed ≡ F.lender self.old.feed }
         ensures failures { self.new.failures ≡ self.old.failures }
-        ensures counts { F.failures self.old.feed ≤ F.failures self.new.feed }
-        ensures stops { IfErr result (λ s. stop_in self.old.state ≡ None
-            → IsFillStop (F.failures self.old.feed) (F.failures self.new.feed) s) }
     {
         if let State::Stopped(stop) = self.state {
             return Err(stop);
@@ -161,9 +153,6 @@ impl<F: Feed> UnpackedFeed<F> {
             (take n buf.new) (HasSupplied F.has_passed self.new)) }
         ensures lender { F.lender self.new.feed ≡ F.lender self.old.feed }
         ensures failures { self.new.failures ≡ self.old.failures }
-        ensures counts { F.failures self.old.feed ≤ F.failures self.new.feed }
-        ensures stops { IfErr result (λ s. stop_in self.old.state ≡ None
-            → IsFillStop (F.failures self.old.feed) (F.failures self.new.feed) s) }
     {
         self.make_ready()?;
         if !self.is_spent() {
@@ -179,22 +168,18 @@ impl<F: Feed> UnpackedFeed<F> {
 impl<F: Feed> Feed for UnpackedFeed<F> {
     ghost remaining = { λ u. remaining_in F.remaining u };
 
-    ghost failures = { λ u. failures_of F.failures u };
+    ghost failures = { λ u. u.failures };
 
     ghost lender = { λ u. F.lender u.feed };
 
     ghost has_passed = { λ u log bytes. HasSupplied F.has_passed u log bytes };
 
     fn read(&mut self, buf: &mut [u8]) -> Result<usize, FeedFault> {
-        let was_stopped = self.stop().is_some();
         match self.supply(buf) {
             Ok(count) => Ok(count),
             Err(stop) => {
-                // A read of the feed below that failed is in that feed's count.
-                if was_stopped || stop == Stop::Memory {
-                    self.failures = self.failures.saturating_add(1);
-                }
                 self.state = State::Stopped(stop);
+                self.failures = self.failures.saturating_add(1);
                 Err(FeedFault)
             }
         }

@@ -1,16 +1,15 @@
 //! A whole frame, read from a feed.
 
-ghost use Rattle.std.specs.Prelude.{◌≡◌, ◌+◌, ◌-◌, ◌<◌, ◌≤◌, ◌^◌, ◌++◌, length, IfOk, IfErr, OnOk, vec_len, max};
+ghost use Rattle.std.specs.Prelude.{◌≡◌, ◌+◌, ◌-◌, ◌<◌, ◌≤◌, ◌^◌, ◌++◌, length, IfOk, OnOk, vec_len, max};
 ghost use Rattle.pbf_frame.specs.declared.header.Head.{Head};
 ghost use Rattle.pbf_frame.specs.declared.header.TheConstants.{HEADER_LIMIT, LARGEST_SIZE};
-ghost use Rattle.pbf_frame.specs.Reads.{IsFillStop};
 ghost use Rattle.pbf_frame.specs.Steps.{head_of};
 ghost use Rattle.pbf_unpack.specs.Whole.{Took, BeginsWith, Means, IsPlaced};
 ghost use Rattle.pbf_frame.specs.declared.frame.TheConstants.{FILE_LIMIT};
 
 use crate::buffers::Buffers;
 use byteorder::{BigEndian, ByteOrder};
-use pbf_frame::{Feed, FrameKind, HEADER_LIMIT, Head, Stop, fill_vec, read_head};
+use pbf_frame::{FILE_LIMIT, Feed, FrameKind, HEADER_LIMIT, Head, Stop, fill_vec, read_head};
 
 /// A whole frame. Its blob may be anything.
 #[derive(Clone, Copy, PartialEq, Eq)]
@@ -57,8 +56,6 @@ fn read_front<F: Feed>(
     ensures front_held { vec_len front.new ≤ max (HEADER_LIMIT + 3) (vec_len front.old) }
     ensures header_held { vec_len header.new ≤ max (HEADER_LIMIT - 1) (vec_len header.old) }
     ensures lender { F.lender feed.new ≡ F.lender feed.old }
-    ensures counts { F.failures feed.old ≤ F.failures feed.new }
-    ensures stops { IfErr result (IsFillStop (F.failures feed.old) (F.failures feed.new)) }
 {
     fill_vec(feed, front, 4)?;
     if front.len() < 4 {
@@ -93,8 +90,6 @@ pub(crate) fn read_whole<F: Feed>(
     ensures placed { IfOk result (IsPlaced buffers.new.packed.items) }
     ensures raw { buffers.new.raw ≡ buffers.old.raw }
     ensures lender { F.lender feed.new ≡ F.lender feed.old }
-    ensures counts { F.failures feed.old ≤ F.failures feed.new }
-    ensures stops { IfErr result (IsFillStop (F.failures feed.old) (F.failures feed.new)) }
 {
     buffers.packed.clear();
     let head = match read_front(feed, &mut buffers.front, &mut buffers.header, place)? {
@@ -104,7 +99,7 @@ pub(crate) fn read_whole<F: Feed>(
     };
     let blob_at = place + buffers.front.len() as u64;
     let end = blob_at + u64::from(head.size);
-    if end > 1 << 62 {
+    if end > FILE_LIMIT {
         return Ok(Found::Unfit);
     }
     fill_vec(feed, &mut buffers.packed, head.size as usize)?;
