@@ -4,12 +4,12 @@ use Rattle.pbf_unpack.specs.Whole.{BeginsWith, IsUnfit}
 use Rattle.pbf_unpack.proofs.WholeLemmas.{took_two, ends_too_far, cut_blob, whole_means}
 use Rattle.pbf_unpack.proofs.whole.read_whole.Goals as goal
 
-pub returns-then-end-clause-means : goal.returns-then-end-clause-means
-returns-then-end-clause-means g c =
+pub returns-then-end-gt-FILE_LIMIT-clause-means : goal.returns-then-end-gt-FILE_LIMIT-clause-means
+returns-then-end-gt-FILE_LIMIT-clause-means g c =
     let read = c.read_front.new.front in
     let has = subst (λ (x : Front). BeginsWith c.args.place read.items c.read_front.new.header.items (g.F.Feed.remaining c.read_front.new.feed) x) c.in-Says.is c.in_ok-head.ensures.means in
     subst (λ (l : List ℕ). IsUnfit c.args.place (read.items ++ l)) (sym c.clear.ensures.items)
-    (ends_too_far c.args.place read.items c.read_front.new.header.items c.in-Says.head has (omega (arith, c.if-end.true, c.len.ensures, c.from.ensures, read.ok.0)))
+    (ends_too_far c.args.place read.items c.read_front.new.header.items c.in-Says.head has (omega (arith, c.if-end-gt-FILE_LIMIT.true, c.len.ensures, c.from.ensures, read.ok.0)))
 
 pub returns-then-len-head-clause-took : goal.returns-then-len-head-clause-took
 returns-then-len-head-clause-took g c =
@@ -37,4 +37,4 @@ returns-clause-means g c =
     let has = subst (λ (x : Front). BeginsWith c.args.place read.items c.read_front.new.header.items (g.F.Feed.remaining c.read_front.new.feed) x) c.in-Says.is c.in_ok-head.ensures.means in
     let place : c.args.place + c.len.result ≡ c.args.place + length read.items = omega (arith, c.len.ensures, read.ok.0) in
     let sized : length blob.items ≡ c.in-Says.head.size = omega (arith, c.if-len-head.false, c.len-2.ensures, blob.ok.0, c.in_ok-fill_vec.ensures.bound) in
-    whole_means c.args.place read.items c.read_front.new.header.items c.in-Says.head has blob.items sized _ _ place (omega (arith, c.from.ensures, place)) (omega (arith, c.if-end.false, c.from.ensures, place))
+    whole_means c.args.place read.items c.read_front.new.header.items c.in-Says.head has blob.items sized _ _ place (omega (arith, c.from.ensures, place)) (omega (arith, c.if-end-gt-FILE_LIMIT.false, c.from.ensures, place))
