@@ -13,3 +13,5 @@ mod show;
 mod steps;
 #[cfg(test)]
 mod words;
+#[cfg(test)]
+mod writing;
