@@ -9,7 +9,7 @@ ghost use Rattle.pbf_pass.specs.Hashing.{digest_if};
 ghost use Rattle.pbf_pass.specs.Judged.{judged_file};
 ghost use Rattle.pbf_pass.specs.Pass.{IsStep};
 ghost use Rattle.pbf_pass.specs.Payload.{primitive_block, lent_by};
-ghost use Rattle.pbf_pass.specs.Stops.{ReadFailed};
+ghost use Rattle.pbf_pass.specs.Stops.{KeepsFeed, ReadFailed};
 ghost use Rattle.pbf_frame.specs.declared.frame.TheConstants.{FILE_LIMIT};
 ghost use Rattle.pbf_frame.specs.declared.reader.TheConstants.{MOST_BUFFERED};
 ghost use Rattle.pbf_wire.specs.declared.limits.TheConstants.{OFFSET_LIMIT, RAW_LIMIT};
@@ -133,6 +133,8 @@ pub fn gather_again<F: Feed, G: Gather>(
     // failures rose; `Write` never comes.
     ensures stops { IfErr result (StopsUnjudged number (judged_file (F.remaining feed.old))
         (ReadFailed F.Feed feed.old feed.new) ⊥) }
+    // The feed keeps its references, and its count of failures doesn't fall.
+    ensures keeps { KeepsFeed F.Feed feed.old feed.new }
 {
     let mut later = Later { gathering, number };
     Ok(pass_over(passes, feed, &mut later)?.digest)

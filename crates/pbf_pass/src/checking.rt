@@ -6,7 +6,7 @@ ghost use Rattle.pbf_pass.specs.Hashing.{digest_if};
 ghost use Rattle.pbf_pass.specs.Judged.{judged_file};
 ghost use Rattle.pbf_pass.specs.Pass.{CountsFile};
 ghost use Rattle.pbf_pass.specs.Refused.{RefusesFile, Halts, stop_of};
-ghost use Rattle.pbf_pass.specs.Stops.{Caused, FaultOf, unchanged, ReadFailed};
+ghost use Rattle.pbf_pass.specs.Stops.{KeepsFeed, Caused, FaultOf, unchanged, ReadFailed};
 
 use crate::pass::{Nothing, judge};
 use crate::receipt::{Halt, InputReceipt, Passes};
@@ -49,8 +49,8 @@ pub fn check_with_receipt<F: Feed>(passes: Passes, feed: &mut F) -> Result<Input
     // Each stop has its cause, as of `check`.
     ensures stops { IfErr result (λ h. Caused (FaultOf (judged_file (F.remaining feed.old)))
         (ReadFailed F.Feed feed.old feed.new) ⊥ unchanged (stop_of h)) }
-    // The feed's count of failures doesn't fall.
-    ensures counts { F.failures feed.old ≤ F.failures feed.new }
+    // The feed keeps its references, and its count of failures doesn't fall.
+    ensures keeps { KeepsFeed F.Feed feed.old feed.new }
 {
     let told = judge(passes, feed, &mut Nothing)?;
     let input = told.digest;

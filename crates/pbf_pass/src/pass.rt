@@ -18,7 +18,7 @@ ghost use Rattle.pbf_pass.specs.Pass.{IsFresh, TakesPayload, TakesAll, TakesFram
 ghost use Rattle.pbf_pass.specs.Given.{GaveFile};
 ghost use Rattle.pbf_pass.specs.Hashing.{IsLength, digest_if};
 ghost use Rattle.pbf_pass.specs.Refused.{RefusesFile, Halts, stop_of};
-ghost use Rattle.pbf_pass.specs.Stops.{Caused, FaultOf, unchanged, ReadFailed};
+ghost use Rattle.pbf_pass.specs.Stops.{KeepsFeed, Caused, FaultOf, unchanged, ReadFailed};
 ghost use Rattle.pbf_frame.specs.declared.frame.TheConstants.{FILE_LIMIT};
 ghost use Rattle.pbf_frame.specs.declared.reader.TheConstants.{MOST_BUFFERED};
 ghost use Rattle.pbf_wire.specs.declared.limits.TheConstants.{OFFSET_LIMIT, RAW_LIMIT};
@@ -447,8 +447,8 @@ pub fn judge<F: Feed, G: Gather>(
     ensures refused { IfErr result
         (Halts (RefusesFile F.Feed feed.old feed.new passes.hashes
         (λ b. judged_file (Some b)))) }
-    // The feed's count of failures doesn't fall.
-    ensures counts { F.failures feed.old ≤ F.failures feed.new }
+    // The feed keeps its references, and its count of failures doesn't fall.
+    ensures keeps { KeepsFeed F.Feed feed.old feed.new }
 {
     let mut pass = Pass::new();
     let mut judging = Judging {

@@ -138,7 +138,8 @@ pub fn pass_over<F: Feed, V: Visit>(
     ensures given { IfErr result (λ h. RefusesRest F.Feed feed.old feed.new
         (RefusesVisit V.took V.failed (λ b. judged_known false 0 (Some b))
         visitor.old visitor.new) (stop_of h)) }
-    ensures counts { F.failures feed.old ≤ F.failures feed.new }
+    // The feed keeps its references, and its count of failures doesn't fall.
+    ensures keeps { KeepsFeed F.Feed feed.old feed.new }
     ensures ready { OnOk result (V.ready visitor.new) }
     ensures lender { V.lender visitor.new ≡ V.lender visitor.old }
 {

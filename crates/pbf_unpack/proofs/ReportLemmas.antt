@@ -2,7 +2,7 @@
 use Rattle.std.proofs.Common.{◌≡◌, ◌==◌, true, ℕ, List, [], ◌∷◌, ◌++◌, length, None, refl, sym, ap, ◌∙◌, arith}
 use Rattle.std.proofs.lemmas.List.{append-nil}
 use Rattle.pbf_unpack.specs.declared.feed.State.{State}
-use Rattle.pbf_unpack.specs.declared.feed.State.TheVariants.{Reading, PassingOn, Ended, Stopped}
+use Rattle.pbf_unpack.specs.declared.feed.State.TheVariants.{Reading, PassingOn, Ended, Failed, Refused}
 use Rattle.pbf_unpack.specs.declared.feed.UnpackedFeed.{UnpackedFeed}
 use Rattle.pbf_unpack.specs.Reports.{stop_in, GavePacked}
 use Rattle.pbf_unpack.specs.Supplying.{more, CanFollow, left_in, HasSupplied}
@@ -18,7 +18,8 @@ at_end : (s : State) (place : ℕ) → stop_in s ≡ None → CanFollow s [] × 
 at_end Reading place none = (tt, nothing_more place)
 at_end PassingOn place none = (tt, refl)
 at_end Ended place none = (refl, refl)
-at_end (Stopped stop) place none = (let bad : ⊥ = cc in absurd bad)
+at_end Failed place none = (let bad : ⊥ = cc in absurd bad)
+at_end Refused place none = (let bad : ⊥ = cc in absurd bad)
 
 pub gave_packed : {F : Type 0} (has_passed : F → ℕ → List ℕ → Type 0) (u : UnpackedFeed F) (log : ℕ) (raw : List ℕ) → stop_in u.state ≡ None → left_in u ≡ [] → HasSupplied has_passed u log raw → GavePacked has_passed u.feed log raw u.fault
 gave_packed has_passed u log raw none spent has =

@@ -1,18 +1,20 @@
 -- What a feed of unpacked bytes says of itself.
 use Rattle.std.specs.Prelude.{◌≡◌, ℕ, ◌+◌, List, length, codes, Option, Some, None}
 use Rattle.pbf_frame.specs.declared.stop.Stop.{Stop}
+use Rattle.pbf_frame.specs.declared.stop.Stop.TheVariants as stop
 use Rattle.zlib.specs.Names.{fault_name}
 use Rattle.pbf_unpack.specs.declared.fault.UnpackFault.{UnpackFault}
 use Rattle.pbf_unpack.specs.declared.fault.UnpackReason.{UnpackReason}
 use Rattle.pbf_unpack.specs.declared.fault.UnpackReason.TheVariants.{Inflate, RawSize}
 use Rattle.pbf_unpack.specs.declared.feed.State.{State}
-use Rattle.pbf_unpack.specs.declared.feed.State.TheVariants.{Reading, PassingOn, Ended, Stopped}
+use Rattle.pbf_unpack.specs.declared.feed.State.TheVariants.{Reading, PassingOn, Ended, Failed, Refused}
 use Rattle.pbf_unpack.specs.declared.feed.UnpackedFeed.{UnpackedFeed}
 use Rattle.pbf_unpack.specs.Unpacked.{unpacked_from}
 
 -- why a feed failed
 abbrev pub stop_in : State → Option Stop
-stop_in (Stopped stop) = Some stop
+stop_in Failed = Some stop.Read
+stop_in Refused = Some stop.Memory
 stop_in Reading = None
 stop_in PassingOn = None
 stop_in Ended = None

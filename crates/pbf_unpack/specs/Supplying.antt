@@ -1,8 +1,11 @@
 -- What a feed of unpacked bytes has supplied, and what it has still to supply.
-use Rattle.std.specs.Prelude.{◌≡◌, ℕ, ◌<◌, List, [], ◌++◌, length, drop, Option}
+use Rattle.std.specs.Prelude.{◌≡◌, ℕ, ◌<◌, ◌-◌, ◌^◌, List, [], ◌++◌, length, drop, Option}
 use Rattle.std.specs.Option.{option_map}
+use Rattle.pbf_frame.specs.declared.stop.Stop.{Stop}
+use Rattle.pbf_frame.specs.declared.stop.Stop.TheVariants as stop
+use Rattle.pbf_frame.specs.Devices.{HasRisen}
 use Rattle.pbf_unpack.specs.declared.feed.State.{State}
-use Rattle.pbf_unpack.specs.declared.feed.State.TheVariants.{Reading, PassingOn, Ended, Stopped}
+use Rattle.pbf_unpack.specs.declared.feed.State.TheVariants.{Reading, PassingOn, Ended, Failed, Refused}
 use Rattle.pbf_unpack.specs.declared.feed.UnpackedFeed.{UnpackedFeed}
 use Rattle.pbf_unpack.specs.Unpacked.{Unpacked, joined, as_they_stand, unpacked_from}
 
@@ -11,14 +14,16 @@ abbrev pub more : State → ℕ → List ℕ → Unpacked
 more Reading place rest = unpacked_from place rest
 more PassingOn place rest = as_they_stand rest
 more Ended place rest = as_they_stand []
-more (Stopped stop) place rest = as_they_stand []
+more Failed place rest = as_they_stand rest
+more Refused place rest = as_they_stand []
 
 -- nothing follows the end, and of what follows a failure nothing is said
 abbrev pub CanFollow : State → List ℕ → Type 0
 CanFollow Reading rest = Unit {0}
 CanFollow PassingOn rest = Unit {0}
 CanFollow Ended rest = rest ≡ []
-CanFollow (Stopped stop) rest = ⊥
+CanFollow Failed rest = ⊥
+CanFollow Refused rest = ⊥
 
 -- bytes that were read from one place up to another mean this, and then what those that follow mean
 abbrev pub Carries : (start : ℕ) → State → (place : ℕ) → List ℕ → Unpacked → Type 0
@@ -39,6 +44,26 @@ pub record HasSupplied {F : Type 0} (has_passed : F → ℕ → List ℕ → Typ
   pub passed : has_passed u.feed log packed
   pub carries : Carries 0 u.state u.place packed (bytes ++ left_in u, u.fault)
 
+-- ---- failures
+
+-- how many failures count once memory was refused: as many as can be counted, since each later read fails too
+abbrev pub refusals : State → ℕ
+refusals Refused = 2 ^ 64 - 1
+refusals Reading = 0
+refusals PassingOn = 0
+refusals Ended = 0
+refusals Failed = 0
+
+-- why a read fails: memory was refused; or, if it never was, a read of the feed below failed, whose count has risen
+abbrev pub IsSupplyStop : State → (old new : ℕ) → Stop → Type 0
+IsSupplyStop state old new stop.Memory = Unit {0}
+IsSupplyStop state old new stop.Read = (refusals state ≡ 0) × HasRisen old new
+IsSupplyStop state old new stop.Write = ⊥
+IsSupplyStop state old new (stop.Refused e) = ⊥
+IsSupplyStop state old new (stop.Changed pass) = ⊥
+
+-- ---- how it goes on
+
 -- a feed that is still to supply the same, and has supplied the same
 pub record GoesOn {F : Type 0} (remaining : F → Option (List ℕ)) (has_passed : F → ℕ → List ℕ → Type 0) (old new : UnpackedFeed F) : Type 0 where
   pub remaining_same : remaining_in remaining old ≡ remaining_in remaining new
@@ -49,7 +74,8 @@ abbrev pub IsReady : State → List ℕ → Type 0
 IsReady Reading left = 0 < length left
 IsReady PassingOn left = Unit {0}
 IsReady Ended left = Unit {0}
-IsReady (Stopped stop) left = ⊥
+IsReady Failed left = Unit {0}
+IsReady Refused left = ⊥
 
 -- a feed is the same, except for where frames come from
 pub record IsSameBut {F : Type 0} (old new : UnpackedFeed F) : Type 0 where
@@ -59,4 +85,3 @@ pub record IsSameBut {F : Type 0} (old new : UnpackedFeed F) : Type 0 where
   pub place : new.place ≡ old.place
   pub state : new.state ≡ old.state
   pub fault : new.fault ≡ old.fault
-  pub failures : new.failures ≡ old.failures

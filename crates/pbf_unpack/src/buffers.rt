@@ -44,6 +44,12 @@ impl Buffers {
         std::mem::swap(&mut self.packed, &mut self.raw);
     }
 
+    /// Nothing is supplied any more.
+    pub(crate) fn drop_supplied(&mut self) {
+        self.front.clear();
+        self.raw.clear();
+    }
+
     /// The number of bytes held.
     pub(crate) fn held(&self) -> u64
         ensures { result ≡ vec_len self.now.front + vec_len self.now.header + vec_len self.now.packed + vec_len self.now.raw }

@@ -5,7 +5,7 @@ ghost use Rattle.pbf_frame.specs.declared.frame.TheConstants.{FILE_LIMIT};
 
 use crate::buffers::Buffers;
 use crate::fault::UnpackFault;
-use pbf_frame::{Feed, Stop};
+use pbf_frame::Feed;
 use std::alloc::{AllocError, Global};
 use zlib::Inflater;
 
@@ -18,8 +18,10 @@ pub(crate) enum State {
     PassingOn,
     /// With what is in the buffers, after which there is nothing.
     Ended,
-    /// Not at all.
-    Stopped(Stop),
+    /// With bytes as they are, since a read of the feed below failed.
+    Failed,
+    /// Not at all, since memory was refused.
+    Refused,
 }
 
 /// Where a frame comes from.
@@ -38,6 +40,9 @@ pub(crate) struct Origin {
 /// A frame whose blob holds zlib data and no other is supplied in written form, with its payload raw; every other frame, and what is no
 /// whole frame, as it is. So is a frame whose zlib data has a fault: its reader refuses it as `Zlib`, and [`fault`](Self::fault) says
 /// why. It holds one frame as it was read and one as it is supplied.
+///
+/// A read fails if one of the feed below does, and then it goes on with what that feed gives, as it is; or if memory was refused, and then
+/// each later one fails too.
 #[derive(Drop)]
 pub struct UnpackedFeed<F> {
     pub(crate) feed: F,
@@ -50,7 +55,6 @@ pub struct UnpackedFeed<F> {
     pub(crate) state: State,
     // The first fault of zlib data.
     pub(crate) fault: Option<UnpackFault>,
-    pub(crate) failures: u64,
     // Of the frame in the buffers, and of the first one that is a header.
     pub(crate) origin: Origin,
     pub(crate) header: Option<Origin>,

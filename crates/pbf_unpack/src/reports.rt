@@ -4,7 +4,7 @@ ghost use Rattle.std.specs.Prelude.{◌≡◌, ◌+◌, ◌*◌, ◌≤◌, ℕ,
 ghost use Rattle.std.specs.Option.{option_map};
 ghost use Rattle.pbf_frame.specs.declared.header.TheConstants.{HEADER_LIMIT, LARGEST_SIZE};
 ghost use Rattle.pbf_unpack.specs.Reports.{stop_in, GavePacked, held_by};
-ghost use Rattle.pbf_unpack.specs.Supplying.{remaining_in, HasSupplied};
+ghost use Rattle.pbf_unpack.specs.Supplying.{remaining_in, refusals, HasSupplied};
 ghost use Rattle.pbf_unpack.specs.Unpacked.{unpacked};
 
 use crate::buffers::Buffers;
@@ -34,7 +34,7 @@ impl<F: Feed> UnpackedFeed<F> {
         ensures supplied { (log : ℕ) → F.has_passed feed log []
             → HasSupplied F.has_passed result log [] }
         ensures fault { result.fault ≡ None }
-        ensures failures { result.failures ≡ 0 }
+        ensures failures { refusals result.state ≡ 0 }
     {
         UnpackedFeed {
             feed,
@@ -44,7 +44,6 @@ impl<F: Feed> UnpackedFeed<F> {
             place: 0,
             state: State::Reading,
             fault: None,
-            failures: 0,
             origin: Origin {
                 packed: 0,
                 raw: 0,
@@ -61,12 +60,13 @@ impl<F: Feed> UnpackedFeed<F> {
         self.fault
     }
 
-    /// Why reads fail, once one did: `Read` if one of the feed below did, `Memory` if memory was refused.
+    /// Why a read failed, once one did: `Read` if one of the feed below did, `Memory` if memory was refused.
     pub fn stop(&self) -> Option<Stop>
         ensures { result ≡ stop_in self.now.state }
     {
         match self.state {
-            State::Stopped(stop) => Some(stop),
+            State::Failed => Some(Stop::Read),
+            State::Refused => Some(Stop::Memory),
             State::Reading | State::PassingOn | State::Ended => None,
         }
     }

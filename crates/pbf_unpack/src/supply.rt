@@ -3,8 +3,9 @@
 ghost use Rattle.std.specs.Prelude.{◌≡◌, ◌+◌, ◌-◌, ◌<◌, ◌≤◌, ◌^◌, ◌++◌, ◌==◌, ℕ, List, [], None, true, length, take, drop, vec_len, IfOk, IfErr, OnOk, OnErr, IfSome};
 ghost use Rattle.std.specs.Option.{option_map};
 ghost use Rattle.pbf_frame.specs.Devices.{prepend, Passes, IsAtEnd, HasRisen};
+ghost use Rattle.pbf_frame.specs.Reads.{IsFillStop};
 ghost use Rattle.pbf_unpack.specs.declared.feed.State.TheVariants as states;
-ghost use Rattle.pbf_unpack.specs.Supplying.{left_in, remaining_in, HasSupplied, GoesOn, IsReady, IsSameBut};
+ghost use Rattle.pbf_unpack.specs.Supplying.{left_in, remaining_in, refusals, HasSupplied, GoesOn, IsReady, IsSameBut, IsSupplyStop};
 ghost use Rattle.pbf_unpack.specs.Unpacked.{unpacked};
 
 use crate::buffers::Buffers;
@@ -83,7 +84,9 @@ impl<F: Feed> UnpackedFeed<F> {
         ensures goes_on { OnOk result (GoesOn F.remaining F.has_passed self.old self.new) }
         ensures ready { OnOk result (IsReady self.new.state (left_in self.new)) }
         ensures lender { F.lender self.new.feed ≡ F.lender self.old.feed }
-        ensures failures { self.new.failures ≡ self.old.failures }
+        ensures counts { F.failures self.old.feed ≤ F.failures self.new.feed }
+        ensures stops { IfErr result
+            (IsFillStop (F.failures self.old.feed) (F.failures self.new.feed)) }
     {
         let next = self.next_origin();
         self.done = 0;
@@ -114,10 +117,13 @@ impl<F: Feed> UnpackedFeed<F> {
         ensures goes_on { OnOk result (GoesOn F.remaining F.has_passed self.old self.new) }
         ensures ready { OnOk result (IsReady self.new.state (left_in self.new)) }
         ensures lender { F.lender self.new.feed ≡ F.lender self.old.feed }
-        ensures failures { self.new.failures ≡ self.old.failures }
+        ensures counts { F.failures self.old.feed ≤ F.failures self.new.feed }
+        ensures goes { OnOk result (refusals self.old.state ≡ 0) }
+        ensures stops { IfErr result (IsSupplyStop self.old.state (F.failures self.old.feed)
+            (F.failures self.new.feed)) }
     {
-        if let State::Stopped(stop) = self.state {
-            return Err(stop);
+        if self.state == State::Refused {
+            return Err(Stop::Memory);
         }
         if self.state == State::Reading && self.is_spent() {
             self.next_frame()?;
@@ -135,11 +141,21 @@ impl<F: Feed> UnpackedFeed<F> {
         ensures state { self.new.state ≡ self.old.state }
         ensures place { self.new.place ≡ self.old.place }
         ensures fault { self.new.fault ≡ self.old.fault }
-        ensures failures { self.new.failures ≡ self.old.failures }
     {
         let count = copy_left(&self.buffers, self.done, buf);
         self.done += count;
         count
+    }
+
+    /// A read of the feed below failed: what was read of a frame is dropped, and what follows is passed on.
+    fn pass_on(&mut self)
+        ensures feed { self.new.feed ≡ self.old.feed }
+        ensures lender { F.lender self.new.feed ≡ F.lender self.old.feed }
+        ensures state { self.new.state ≡ states.Failed }
+    {
+        self.buffers.drop_supplied();
+        self.done = 0;
+        self.state = State::Failed;
     }
 
     /// Supplies bytes, none only at the end.
@@ -152,13 +168,16 @@ impl<F: Feed> UnpackedFeed<F> {
         ensures passed { IfOk result (λ n. Passes (HasSupplied F.has_passed self.old)
             (take n buf.new) (HasSupplied F.has_passed self.new)) }
         ensures lender { F.lender self.new.feed ≡ F.lender self.old.feed }
-        ensures failures { self.new.failures ≡ self.old.failures }
+        ensures counts { F.failures self.old.feed ≤ F.failures self.new.feed }
+        ensures goes { OnOk result (refusals self.old.state ≡ 0) }
+        ensures stops { IfErr result (IsSupplyStop self.old.state (F.failures self.old.feed)
+            (F.failures self.new.feed)) }
     {
         self.make_ready()?;
         if !self.is_spent() {
             return Ok(self.give(buf));
         }
-        if self.state == State::PassingOn {
+        if self.state == State::PassingOn || self.state == State::Failed {
             return Ok(self.feed.read(buf)?);
         }
         Ok(0)
@@ -168,7 +187,7 @@ impl<F: Feed> UnpackedFeed<F> {
 impl<F: Feed> Feed for UnpackedFeed<F> {
     ghost remaining = { λ u. remaining_in F.remaining u };
 
-    ghost failures = { λ u. u.failures };
+    ghost failures = { λ u. refusals u.state + F.failures u.feed };
 
     ghost lender = { λ u. F.lender u.feed };
 
@@ -177,9 +196,12 @@ impl<F: Feed> Feed for UnpackedFeed<F> {
     fn read(&mut self, buf: &mut [u8]) -> Result<usize, FeedFault> {
         match self.supply(buf) {
             Ok(count) => Ok(count),
-            Err(stop) => {
-                self.state = State::Stopped(stop);
-                self.failures = self.failures.saturating_add(1);
+            Err(Stop::Memory) => {
+                self.state = State::Refused;
+                Err(FeedFault)
+            }
+            Err(_) => {
+                self.pass_on();
                 Err(FeedFault)
             }
         }
