@@ -1,14 +1,16 @@
 -- What a call over published files was given: packed bytes, and the raw files that they mean.
-use Rattle.std.specs.Prelude.{◌≡◌, ◌⊎◌, ℕ, zero, suc, List, [], Bool, true, false, Option, Some, None}
+use Rattle.std.specs.Prelude.{◌≡◌, ◌≤◌, ◌⊎◌, ℕ, zero, suc, List, [], Bool, true, false, Option, Some, None, Result, Ok, Err}
 use Rattle.std.specs.Option.{option_map}
 use Rattle.sha2.specs.Sha256.{sha256}
-use Rattle.pbf_wire.specs.declared.fault.Fault.{Fault}
 use Rattle.pbf_frame.specs.declared.device.Feed as feed
 use Rattle.pbf_frame.specs.declared.stop.Stop.{Stop}
 use Rattle.pbf_frame.specs.declared.stop.Stop.TheVariants.{Refused, Read, Write, Memory, Changed}
 use Rattle.pbf_pass.specs.Hashing.{IsDigestOf, digest_if}
-use Rattle.pbf_pass.specs.Stops.{Caused}
+use Rattle.pbf_pass.specs.declared.receipt.Halt.{Halt}
+use Rattle.pbf_pass.specs.declared.receipt.InputReceipt.{InputReceipt}
+use Rattle.pbf_pass.specs.Refused.{stop_of}
 use Rattle.pbf_unpack.specs.Unpacked.{unpacked}
+use Rattle.pbf_published.specs.declared.input.PublishedHalt.{PublishedHalt}
 
 -- ---- what was given
 
@@ -62,9 +64,10 @@ PassedIfSome has_passed feed None log raw = Unit {0}
 abbrev pub raw_of : Option (List ℕ) → Option (List ℕ)
 raw_of known = option_map unpacked known
 
--- a refusal is for such a fault; of other stops nothing is said
-abbrev pub IsRefusedBy : (Fault → Type 0) → Stop → Type 0
-IsRefusedBy at_fault stop = Caused at_fault (Unit {0}) (Unit {0}) (λ pass. Unit {0}) stop
+-- `Changed` has the number of a pass of so many. Which bytes differ is not said: different packed bytes may have passed by different logs, and
+-- only the digests that are compared tell them apart
+abbrev pub IsPass : ℕ → ℕ → Type 0
+IsPass most pass = (1 ≤ pass) × (pass ≤ most)
 
 -- this holds unless the stop is that a later pass read other bytes
 abbrev pub UnlessChanged : Type 0 → Stop → Type 0
@@ -79,3 +82,10 @@ abbrev pub told_by : Bool → Stop → Stop
 told_by false s = s
 told_by true Read = Memory
 told_by true s = s
+
+-- what a call over raw files answers is told of published ones
+abbrev pub Tells : (lacks : Bool) → Result InputReceipt Halt → Result InputReceipt PublishedHalt → Type 0
+Tells lacks (Ok receipt) (Ok told) = told ≡ receipt
+Tells lacks (Err halt) (Err told) = told.stop ≡ told_by lacks (stop_of halt)
+Tells lacks (Ok receipt) (Err told) = ⊥
+Tells lacks (Err halt) (Ok told) = ⊥

@@ -3,13 +3,11 @@
 ghost use Rattle.std.specs.Prelude.{Some, IfOk, IfErr};
 ghost use Rattle.pbf_pass.specs.Judged.{judged_file};
 ghost use Rattle.pbf_pass.specs.Pass.{CountsFile};
-ghost use Rattle.pbf_pass.specs.Stops.{FaultOf};
+ghost use Rattle.pbf_pass.specs.Stops.{Caused, ReadFailed, FaultOf};
 ghost use Rattle.pbf_pass.specs.Hashing.{digest_if};
-ghost use Rattle.pbf_published.specs.Published.{GavePublished, IsRefusedBy, raw_of};
+ghost use Rattle.pbf_published.specs.Published.{GavePublished, IsPass, raw_of};
 
-use crate::input::{
-    PublishedHalt, PublishedInput, close, first_digest, halted, lacks_memory, open,
-};
+use crate::input::{PublishedHalt, PublishedInput, close, first_digest, lacks_memory, open, told};
 use pbf_frame::Feed;
 use pbf_pass::Passes;
 use pbf_unpack::Inflater;
@@ -28,18 +26,17 @@ pub fn check_with_receipt<F: Feed>(
         (digest_if passes.hashes receipt.input)
         (digest_if passes.hashes receipt.raw)
         (λ file. CountsFile (judged_file (Some file)) receipt.counts)) }
-    // What is refused is the raw file that the feed's bytes mean, by its first fault.
-    ensures refused { IfErr result (λ h. IsRefusedBy
-        (FaultOf (judged_file (raw_of (F.remaining feed.old)))) h.stop) }
+    // Each stop has its cause. What is refused is the raw file that the feed's bytes mean, by its first fault. `Read` comes only if the
+    // feed's count of failures rose; `Write` never comes. `Changed(1)` says that the feed was not read to its end.
+    ensures stops { IfErr result (λ h. Caused (FaultOf (judged_file (raw_of (F.remaining feed.old))))
+        (ReadFailed F.Feed feed.old feed.new) ⊥ (IsPass 1) h.stop) }
 {
     let alloc = passes.alloc;
     let mut input = open(alloc, Inflater::new(alloc)?, &mut *feed, passes.hashes);
     let outcome = pbf_pass::check_with_receipt(passes, &mut input);
-    let receipt = match outcome {
-        Ok(receipt) => receipt,
-        Err(halt) => return Err(halted(halt, &input, lacks_memory(&input))),
-    };
+    let outcome = told(outcome, &input, lacks_memory(&input));
     let (digest, _feed) = close(input);
+    let receipt = outcome?;
     Ok(PublishedInput {
         counts: receipt.counts,
         input: first_digest(digest)?,

@@ -1,6 +1,6 @@
 //! `convert` of published files.
 
-ghost use Rattle.std.specs.Prelude.{Some, ◌≡◌, ℕ, List, IfOk, IfErr};
+ghost use Rattle.std.specs.Prelude.{Some, ◌≡◌, ◌⊎◌, ℕ, List, IfOk, IfErr};
 ghost use Rattle.pbf_frame.specs.Devices.{IsFront};
 ghost use Rattle.pbf_pass.specs.Given.{Took};
 ghost use Rattle.pbf_pass.specs.HeaderLimit.{judged_writable};
@@ -8,14 +8,15 @@ ghost use Rattle.pbf_pass.specs.Hashing.{digest_if};
 ghost use Rattle.pbfcut.specs.Calls.{BothSupply, RefusedFirst};
 ghost use Rattle.pbfcut.specs.Kept.{IsWritable, conversion_of};
 ghost use Rattle.pbfcut.specs.Theorem.{IsConverted};
-ghost use Rattle.pbf_published.specs.Published.{GavePublished, IsRefusedBy, UnlessChanged, raw_of};
+ghost use Rattle.pbf_pass.specs.Stops.{Caused, ReadFailed, WriteFailed};
+ghost use Rattle.pbf_published.specs.Published.{GavePublished, IsPass, UnlessChanged, raw_of};
 
 use crate::input::{
-    PublishedHalt, PublishedInput, close, compare, first_digest, halted, lacks_memory, open,
+    PublishedHalt, PublishedInput, close, compare, first_digest, lacks_memory, open, told,
+    two_inflaters,
 };
 use pbf_frame::{Drain, Feed};
 use pbf_pass::Passes;
-use pbf_unpack::Inflater;
 use std::alloc::Global;
 use std::hash::BuildHasher;
 
@@ -42,28 +43,27 @@ pub fn convert_with_receipt<F: Feed, G: Feed, D: Drain, S: BuildHasher + Drop>(
         (digest_if passes.hashes receipt.raw)
         (λ c. Took D.Drain drain.old drain.new
         (λ written. b ≡ c → IsConverted b receipt.counts written)))) }
-    // What is refused is the raw file that the first feed's bytes mean, by its first fault, and then the drain took nothing.
-    ensures refused { IfErr result (λ h. IsRefusedBy (RefusedFirst
+    // Each stop has its cause. What is refused is the raw file that the first feed's bytes mean, by its first fault, and then the drain took
+    // nothing. `Read` and `Write` come only if a count of failures rose: of a feed, of the drain. `Changed` has the number of a pass.
+    ensures stops { IfErr result (λ h. Caused (RefusedFirst
         (judged_writable (raw_of (F.remaining first.old))) (D.taken drain.old) (D.taken drain.new))
-        h.stop) }
+        (ReadFailed F.Feed first.old first.new ⊎ ReadFailed G.Feed second.old second.new)
+        (WriteFailed D.Drain drain.old drain.new) (IsPass 2) h.stop) }
     // Whatever stopped it, except `Changed`, if both feeds mean this raw file, a prefix of its conversion went out.
     ensures beginning { IfErr result (λ h. UnlessChanged ((b : List ℕ)
         → BothSupply b (raw_of (F.remaining first.old)) (raw_of (G.remaining second.old))
         → IsFront (D.taken drain.old) (D.taken drain.new) (conversion_of b)) h.stop) }
 {
     let alloc = passes.alloc;
-    let mut one = open(alloc, Inflater::new(alloc)?, &mut *first, true);
-    let mut two = open(alloc, Inflater::new(alloc)?, &mut *second, true);
+    let (inflater, another) = two_inflaters(alloc)?;
+    let mut one = open(alloc, inflater, &mut *first, true);
+    let mut two = open(alloc, another, &mut *second, true);
     let outcome = pbfcut::convert_with_receipt(passes, &mut one, &mut two, drain, hasher);
-    let receipt = match outcome {
-        Ok(receipt) => receipt,
-        Err(halt) => {
-            let is_memory = lacks_memory(&one) || lacks_memory(&two);
-            return Err(halted(halt, &one, is_memory));
-        }
-    };
+    let is_memory = lacks_memory(&one) | lacks_memory(&two);
+    let outcome = told(outcome, &one, is_memory);
     let (one, _first) = close(one);
     let (two, _second) = close(two);
+    let receipt = outcome?;
     let input = first_digest(one)?;
     compare(input, two, 2)?;
     Ok(PublishedInput {

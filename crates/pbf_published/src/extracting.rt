@@ -1,6 +1,6 @@
 //! `extract` of published files.
 
-ghost use Rattle.std.specs.Prelude.{Some, ◌≡◌, ℕ, List, IfOk, IfErr};
+ghost use Rattle.std.specs.Prelude.{Some, ◌≡◌, ◌⊎◌, ℕ, List, IfOk, IfErr};
 ghost use Rattle.osm_ways.specs.Seen.{seen_decoded};
 ghost use Rattle.osm_ways.specs.Selection.{extract};
 ghost use Rattle.pbf_frame.specs.Devices.{IsFront};
@@ -11,11 +11,12 @@ ghost use Rattle.pbfcut.specs.Calls.{AllSupply, RefusedFirst};
 ghost use Rattle.pbfcut.specs.Extracting.{complete_ways};
 ghost use Rattle.pbfcut.specs.Kept.{IsWritable, extract_of};
 ghost use Rattle.pbfcut.specs.Theorem.{IsExtraction};
-ghost use Rattle.pbf_published.specs.Published.{GavePublished, GaveOrNone, IsRefusedBy, UnlessChanged, raw_of};
+ghost use Rattle.pbf_pass.specs.Stops.{Caused, ReadFailed, WriteFailed};
+ghost use Rattle.pbf_published.specs.Published.{GavePublished, GaveOrNone, IsPass, UnlessChanged, raw_of};
 
 use crate::input::{
-    PublishedHalt, PublishedInput, close, compare, compare_or_none, first_digest, halted,
-    lacks_memory, open,
+    PublishedHalt, PublishedInput, close, compare, compare_or_none, first_digest, lacks_memory,
+    open, told, two_inflaters,
 };
 use osm_entity::BoundingBox;
 use pbf_frame::{Drain, Feed};
@@ -55,10 +56,13 @@ pub fn extract_sorted_with_receipt<F: Feed, G: Feed, H: Feed, D: Drain, S: Build
         (λ d. Took D.Drain drain.old drain.new
         (λ written. b ≡ c → b ≡ d → IsExtraction (complete_ways area) (extract (seen_decoded area))
         area b receipt.counts written))))) }
-    // What is refused is the raw file that the first feed's bytes mean, by its first fault, and then the drain took nothing.
-    ensures refused { IfErr result (λ h. IsRefusedBy (RefusedFirst
+    // Each stop has its cause. What is refused is the raw file that the first feed's bytes mean, by its first fault, and then the drain took
+    // nothing. `Read` and `Write` come only if a count of failures rose: of a feed, of the drain. `Changed` has the number of a pass.
+    ensures stops { IfErr result (λ h. Caused (RefusedFirst
         (judged_writable (raw_of (F.remaining first.old))) (D.taken drain.old) (D.taken drain.new))
-        h.stop) }
+        (ReadFailed F.Feed first.old first.new
+        ⊎ (ReadFailed G.Feed second.old second.new ⊎ ReadFailed H.Feed third.old third.new))
+        (WriteFailed D.Drain drain.old drain.new) (IsPass 3) h.stop) }
     // Whatever stopped it, except `Changed`, if all feeds mean this raw file, a prefix of its extract went out.
     ensures beginning { IfErr result (λ h. UnlessChanged ((b : List ℕ)
         → AllSupply b (raw_of (F.remaining first.old)) (raw_of (G.remaining second.old))
@@ -67,22 +71,20 @@ pub fn extract_sorted_with_receipt<F: Feed, G: Feed, H: Feed, D: Drain, S: Build
         (extract_of (complete_ways area) area b)) h.stop) }
 {
     let alloc = passes.alloc;
-    let mut one = open(alloc, Inflater::new(alloc)?, &mut *first, true);
-    let mut two = open(alloc, Inflater::new(alloc)?, &mut *second, true);
-    let mut three = open(alloc, Inflater::new(alloc)?, &mut *third, true);
+    let (inflater, another) = two_inflaters(alloc)?;
+    let last = Inflater::new(alloc)?;
+    let mut one = open(alloc, inflater, &mut *first, true);
+    let mut two = open(alloc, another, &mut *second, true);
+    let mut three = open(alloc, last, &mut *third, true);
     let outcome = pbfcut::extract_sorted_with_receipt(
         passes, &mut one, &mut two, &mut three, area, drain, hasher,
     );
-    let receipt = match outcome {
-        Ok(receipt) => receipt,
-        Err(halt) => {
-            let is_memory = lacks_memory(&one) || lacks_memory(&two) || lacks_memory(&three);
-            return Err(halted(halt, &one, is_memory));
-        }
-    };
+    let is_memory = lacks_memory(&one) | lacks_memory(&two) | lacks_memory(&three);
+    let outcome = told(outcome, &one, is_memory);
     let (one, _first) = close(one);
     let (two, _second) = close(two);
     let (three, _third) = close(three);
+    let receipt = outcome?;
     let input = first_digest(one)?;
     compare_or_none(input, two, 2)?;
     compare(input, three, 3)?;

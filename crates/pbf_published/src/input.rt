@@ -3,12 +3,11 @@
 ghost use Rattle.std.specs.Prelude.{◌≡◌, ◌⊎◌, ℕ, suc, Bool, List, [], Some, IfOk, IfErr, OnOk};
 ghost use Rattle.sha2.specs.Sha256.{sha256};
 ghost use Rattle.pbf_frame.specs.declared.stop.Stop.TheVariants as stop;
-ghost use Rattle.pbf_pass.specs.Refused.{stop_of};
-ghost use Rattle.pbf_published.specs.Published.{MeansIfSome, PassedIfSome, log_of, raw_of, told_by};
+ghost use Rattle.pbf_published.specs.Published.{MeansIfSome, PassedIfSome, Tells, log_of, raw_of, told_by};
 
 use pbf_block::Counts;
 use pbf_frame::{Feed, Stop};
-use pbf_pass::{Halt, PassFeed, Refusal};
+use pbf_pass::{Halt, InputReceipt, PassFeed, Refusal};
 use pbf_unpack::{Inflater, Place, UnpackFault, UnpackedFeed};
 use sha2::{Digest, Sha256};
 use std::alloc::{AllocError, Global};
@@ -72,6 +71,7 @@ pub fn open<F: Feed>(
     ensures logged { (log : ℕ) → F.has_passed feed log []
         → ⟦<UnpackedFeed<PassFeed<F>> as Feed>⟧.has_passed result (suc (suc log)) [] }
     ensures lender { ⟦<UnpackedFeed<PassFeed<F>> as Feed>⟧.lender result ≡ F.lender feed }
+    ensures failures { ⟦<UnpackedFeed<PassFeed<F>> as Feed>⟧.failures result ≡ F.failures feed }
 {
     UnpackedFeed::new(alloc, inflater, PassFeed::new(feed, hashes))
 }
@@ -150,25 +150,33 @@ pub fn stopped<F: Feed>(
     }
 }
 
-/// The same of a halt.
-pub fn halted<F: Feed>(
-    halt: Halt,
+/// What a call over raw files answers, told of the published ones: of the first of them, and of a feed that was refused memory.
+pub fn told<F: Feed>(
+    outcome: Result<InputReceipt, Halt>,
     first: &UnpackedFeed<PassFeed<F>>,
     lacks_memory: bool,
-) -> PublishedHalt
-    ensures { result.stop ≡ told_by lacks_memory (stop_of halt) }
+) -> Result<InputReceipt, PublishedHalt>
+    ensures { Tells lacks_memory outcome result }
 {
-    let refusal = match halt {
-        Halt::Refused(refusal) => Some(refusal),
-        Halt::Stopped(_) => None,
-    };
-    PublishedHalt {
-        refusal,
-        ..stopped(Stop::from(halt), first, lacks_memory)
+    match outcome {
+        Ok(receipt) => Ok(receipt),
+        Err(Halt::Refused(refusal)) => Err(PublishedHalt {
+            refusal: Some(refusal),
+            ..stopped(Stop::Refused(refusal.fault), first, lacks_memory)
+        }),
+        Err(Halt::Stopped(stop)) => Err(stopped(stop, first, lacks_memory)),
     }
 }
 
-/// Whether a feed was refused memory.
-pub fn lacks_memory<F: Feed>(feed: &UnpackedFeed<F>) -> bool {
+/// Whether a feed was refused memory. If it wasn't, the reads of it that failed are those of the feed below.
+pub fn lacks_memory<F: Feed>(feed: &UnpackedFeed<PassFeed<F>>) -> bool
+    ensures { result ≡ false → ⟦<UnpackedFeed<PassFeed<F>> as Feed>⟧.failures feed.now
+        ≡ F.failures feed.now.feed.feed }
+{
     feed.stop() == Some(Stop::Memory)
+}
+
+/// The inflaters of two feeds.
+pub fn two_inflaters(alloc: Global) -> Result<(Inflater, Inflater), AllocError> {
+    Ok((Inflater::new(alloc)?, Inflater::new(alloc)?))
 }

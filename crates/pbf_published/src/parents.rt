@@ -1,6 +1,6 @@
 //! `extract --parents` of published files.
 
-ghost use Rattle.std.specs.Prelude.{Some, ◌≡◌, ℕ, List, IfOk, IfErr};
+ghost use Rattle.std.specs.Prelude.{Some, ◌≡◌, ◌⊎◌, ℕ, List, IfOk, IfErr};
 ghost use Rattle.osm_ways.specs.Parents.{extract_with_parents};
 ghost use Rattle.osm_ways.specs.Seen.{seen_decoded};
 ghost use Rattle.pbf_frame.specs.Devices.{IsFront};
@@ -11,16 +11,16 @@ ghost use Rattle.pbfcut.specs.Calls.{FourSupply, RefusedFirst};
 ghost use Rattle.pbfcut.specs.Extracting.{all_parents};
 ghost use Rattle.pbfcut.specs.Kept.{IsWritable, extract_of};
 ghost use Rattle.pbfcut.specs.Theorem.{IsExtraction};
-ghost use Rattle.pbf_published.specs.Published.{GavePublished, GaveOrNone, IsRefusedBy, UnlessChanged, raw_of};
+ghost use Rattle.pbf_pass.specs.Stops.{Caused, ReadFailed, WriteFailed};
+ghost use Rattle.pbf_published.specs.Published.{GavePublished, GaveOrNone, IsPass, UnlessChanged, raw_of};
 
 use crate::input::{
-    PublishedHalt, PublishedInput, close, compare, compare_or_none, first_digest, halted,
-    lacks_memory, open,
+    PublishedHalt, PublishedInput, close, compare, compare_or_none, first_digest, lacks_memory,
+    open, told, two_inflaters,
 };
 use osm_entity::BoundingBox;
 use pbf_frame::{Drain, Feed};
 use pbf_pass::Passes;
-use pbf_unpack::Inflater;
 use std::alloc::Global;
 use std::hash::BuildHasher;
 
@@ -58,10 +58,14 @@ pub fn extract_parents_sorted_with_receipt<
         (λ e. Took D.Drain drain.old drain.new
         (λ written. b ≡ c → b ≡ d → b ≡ e → IsExtraction (all_parents area)
         (extract_with_parents (seen_decoded area)) area b receipt.counts written)))))) }
-    // What is refused is the raw file that the first feed's bytes mean, by its first fault, and then the drain took nothing.
-    ensures refused { IfErr result (λ h. IsRefusedBy (RefusedFirst
+    // Each stop has its cause. What is refused is the raw file that the first feed's bytes mean, by its first fault, and then the drain took
+    // nothing. `Read` and `Write` come only if a count of failures rose: of a feed, of the drain. `Changed` has the number of a pass.
+    ensures stops { IfErr result (λ h. Caused (RefusedFirst
         (judged_writable (raw_of (F.remaining first.old))) (D.taken drain.old) (D.taken drain.new))
-        h.stop) }
+        ((ReadFailed F.Feed first.old first.new
+        ⊎ (ReadFailed G.Feed second.old second.new ⊎ ReadFailed H.Feed third.old third.new))
+        ⊎ ReadFailed I.Feed fourth.old fourth.new)
+        (WriteFailed D.Drain drain.old drain.new) (IsPass 4) h.stop) }
     // Whatever stopped it, except `Changed`, if all feeds mean this raw file, a prefix of its extract went out.
     ensures beginning { IfErr result (λ h. UnlessChanged ((b : List ℕ)
         → FourSupply b (raw_of (F.remaining first.old)) (raw_of (G.remaining second.old))
@@ -70,27 +74,25 @@ pub fn extract_parents_sorted_with_receipt<
         (extract_of (all_parents area) area b)) h.stop) }
 {
     let alloc = passes.alloc;
-    let mut one = open(alloc, Inflater::new(alloc)?, &mut *first, true);
-    let mut two = open(alloc, Inflater::new(alloc)?, &mut *second, true);
-    let mut three = open(alloc, Inflater::new(alloc)?, &mut *third, true);
-    let mut four = open(alloc, Inflater::new(alloc)?, &mut *fourth, true);
+    let (inflater, another) = two_inflaters(alloc)?;
+    let (more, last) = two_inflaters(alloc)?;
+    let mut one = open(alloc, inflater, &mut *first, true);
+    let mut two = open(alloc, another, &mut *second, true);
+    let mut three = open(alloc, more, &mut *third, true);
+    let mut four = open(alloc, last, &mut *fourth, true);
     let outcome = pbfcut::extract_parents_sorted_with_receipt(
         passes, &mut one, &mut two, &mut three, &mut four, area, drain, hasher,
     );
-    let receipt = match outcome {
-        Ok(receipt) => receipt,
-        Err(halt) => {
-            let is_memory = lacks_memory(&one)
-                || lacks_memory(&two)
-                || lacks_memory(&three)
-                || lacks_memory(&four);
-            return Err(halted(halt, &one, is_memory));
-        }
-    };
+    let is_memory = lacks_memory(&one)
+        | lacks_memory(&two)
+        | lacks_memory(&three)
+        | lacks_memory(&four);
+    let outcome = told(outcome, &one, is_memory);
     let (one, _first) = close(one);
     let (two, _second) = close(two);
     let (three, _third) = close(three);
     let (four, _fourth) = close(four);
+    let receipt = outcome?;
     let input = first_digest(one)?;
     compare_or_none(input, two, 2)?;
     compare(input, three, 3)?;

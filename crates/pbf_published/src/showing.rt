@@ -1,6 +1,6 @@
 //! `show` and `blobs` of published files.
 
-ghost use Rattle.std.specs.Prelude.{◌≡◌, IfOk, IfErr, OnErr, Some, false};
+ghost use Rattle.std.specs.Prelude.{◌≡◌, ◌⊎◌, IfOk, IfErr, OnErr, Some, false};
 ghost use Rattle.pbf_frame.specs.Verdict.{judged_known};
 ghost use Rattle.pbf_pass.specs.Given.{Took};
 ghost use Rattle.pbf_pass.specs.Judged.{judged_file};
@@ -9,11 +9,12 @@ ghost use Rattle.pbf_pass.specs.Hashing.{digest_if};
 ghost use Rattle.pbfcut.specs.Listing.{Lists, ListsFront, ListsToFault};
 ghost use Rattle.pbfcut.specs.Calls.{RefusedFirst};
 ghost use Rattle.pbfcut.specs.Showing.{Shown, ShowsFront};
-ghost use Rattle.pbf_published.specs.Published.{GavePublished, IsRefusedBy, UnlessChanged, raw_of};
+ghost use Rattle.pbf_pass.specs.Stops.{Caused, ReadFailed, WriteFailed, unchanged};
+ghost use Rattle.pbf_published.specs.Published.{GavePublished, IsPass, UnlessChanged, raw_of};
 
 use crate::input::{
-    PublishedHalt, PublishedInput, close, compare, first_digest, halted, lacks_memory, open,
-    stopped,
+    PublishedHalt, PublishedInput, close, compare, first_digest, lacks_memory, open, stopped, told,
+    two_inflaters,
 };
 use pbf_frame::{Drain, Feed};
 use pbf_pass::Passes;
@@ -41,10 +42,12 @@ pub fn show_with_receipt<F: Feed, G: Feed, D: Drain>(
         × GavePublished G.Feed second.old second.new (Some receipt.input)
         (digest_if passes.hashes receipt.raw)
         (λ c. Took D.Drain drain.old drain.new (Shown dates (judged_file (Some c)))))) }
-    // What is refused is the raw file that the first feed's bytes mean, by its first fault, and then the drain took nothing.
-    ensures refused { IfErr result (λ h. IsRefusedBy (RefusedFirst
+    // Each stop has its cause. What is refused is the raw file that the first feed's bytes mean, by its first fault, and then the drain took
+    // nothing. `Read` and `Write` come only if a count of failures rose: of a feed, of the drain. `Changed` has the number of a pass.
+    ensures stops { IfErr result (λ h. Caused (RefusedFirst
         (judged_file (raw_of (F.remaining first.old))) (D.taken drain.old) (D.taken drain.new))
-        h.stop) }
+        (ReadFailed F.Feed first.old first.new ⊎ ReadFailed G.Feed second.old second.new)
+        (WriteFailed D.Drain drain.old drain.new) (IsPass 2) h.stop) }
     // Whatever stopped it, except `Changed`, if both feeds mean one raw file, a prefix of its text went out, and nothing if it has a fault.
     ensures beginning { IfErr result (λ h. UnlessChanged
         (raw_of (F.remaining first.old) ≡ raw_of (G.remaining second.old)
@@ -52,18 +55,15 @@ pub fn show_with_receipt<F: Feed, G: Feed, D: Drain>(
         (D.taken drain.old) (D.taken drain.new)) h.stop) }
 {
     let alloc = passes.alloc;
-    let mut one = open(alloc, Inflater::new(alloc)?, &mut *first, true);
-    let mut two = open(alloc, Inflater::new(alloc)?, &mut *second, true);
+    let (inflater, another) = two_inflaters(alloc)?;
+    let mut one = open(alloc, inflater, &mut *first, true);
+    let mut two = open(alloc, another, &mut *second, true);
     let outcome = pbfcut::show_with_receipt(passes, &mut one, &mut two, drain, dates);
-    let receipt = match outcome {
-        Ok(receipt) => receipt,
-        Err(halt) => {
-            let is_memory = lacks_memory(&one) || lacks_memory(&two);
-            return Err(halted(halt, &one, is_memory));
-        }
-    };
+    let is_memory = lacks_memory(&one) | lacks_memory(&two);
+    let outcome = told(outcome, &one, is_memory);
     let (one, _first) = close(one);
     let (two, _second) = close(two);
+    let receipt = outcome?;
     let input = first_digest(one)?;
     compare(input, two, 2)?;
     Ok(PublishedInput {
@@ -86,16 +86,24 @@ pub fn list_blobs<F: Feed, D: Drain>(
     // returned.
     ensures listed { IfOk result (Lists D.Drain drain.old drain.new
         (judged_known false 0 (raw_of (F.remaining feed.old)))) }
-    // If it is refused, all the lines of the frames before the fault went out.
-    ensures refused { IfErr result (λ h. IsRefusedBy (ListsToFault D.Drain drain.old drain.new
-        (judged_known false 0 (raw_of (F.remaining feed.old)))) h.stop) }
+    // Each stop has its cause. If it is refused, all the lines of the frames before the fault went out. `Read` and `Write` come only if
+    // a count of failures rose: of the feed, of the drain; `Changed` never comes.
+    ensures stops { IfErr result (λ h. Caused (ListsToFault D.Drain drain.old drain.new
+        (judged_known false 0 (raw_of (F.remaining feed.old)))) (ReadFailed F.Feed feed.old feed.new)
+        (WriteFailed D.Drain drain.old drain.new) unchanged h.stop) }
     // Whatever stopped it, a prefix of the lines of the frames before the first fault went out.
     ensures beginning { OnErr result (ListsFront D.Drain drain.old drain.new
         (judged_known false 0 (raw_of (F.remaining feed.old)))) }
 {
     let mut input = open(alloc, Inflater::new(alloc)?, &mut *feed, false);
-    match pbfcut::list_blobs(alloc, &mut input, drain) {
+    let outcome = pbfcut::list_blobs(alloc, &mut input, drain);
+    match outcome {
         Ok(frames) => Ok(frames),
-        Err(stop) => Err(stopped(stop, &input, lacks_memory(&input))),
+        Err(stop) => {
+            let halt = stopped(stop, &input, lacks_memory(&input));
+            // What is known of the feed comes back with the reference itself, here and below.
+            let (_digest, _feed) = close(input);
+            Err(halt)
+        }
     }
 }

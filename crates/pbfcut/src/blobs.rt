@@ -6,7 +6,7 @@ ghost use Rattle.pbf_frame.specs.Transfers.{Added};
 ghost use Rattle.pbf_frame.specs.Verdict.{judged_known};
 ghost use Rattle.pbfcut.specs.Blobs.{lent_line, shown_name, shown_length};
 ghost use Rattle.pbfcut.specs.Listing.{Lists, ListsFront, ListsToFault, ListsNext, StopsListing};
-ghost use Rattle.pbf_pass.specs.Stops.{Caused, Only, unchanged, KeepsDrain, ReadFailed, WriteFailed};
+ghost use Rattle.pbf_pass.specs.Stops.{Caused, Only, unchanged, KeepsDrain, KeepsFeed, ReadFailed, WriteFailed};
 
 use osm_text::{put_number, put_quoted};
 use pbf_frame::{Drain, Feed, Frame, FrameKind, FrameReader, Stop, write_all};
@@ -106,6 +106,8 @@ pub fn list_blobs<F: Feed, D: Drain>(
     ensures stops { IfErr result (Caused
         (ListsToFault D.Drain drain.old drain.new (judged_known false 0 (F.remaining feed.old)))
         (ReadFailed F.Feed feed.old feed.new) (WriteFailed D.Drain drain.old drain.new) unchanged) }
+    // The feed keeps its references, and its count of failures doesn't fall.
+    ensures keeps { KeepsFeed F.Feed feed.old feed.new }
 {
     let mut text = Vec::new(alloc);
     let mut listing = Listing {

@@ -17,7 +17,7 @@ ghost use Rattle.pbf_pass.specs.Given.{GaveFile, Took};
 ghost use Rattle.pbfcut.specs.Kept.{IsWritable, extract_of};
 ghost use Rattle.pbf_pass.specs.Refused.{RefusesFile, Halts, HaltsFile, stop_of};
 ghost use Rattle.pbfcut.specs.Repeat.{SameDigest};
-ghost use Rattle.pbf_pass.specs.Stops.{Caused, FaultOf, KeepsDrain, ReadFailed, WriteFailed};
+ghost use Rattle.pbf_pass.specs.Stops.{Caused, FaultOf, KeepsDrain, KeepsFeed, ReadFailed, WriteFailed};
 
 use crate::repeat::Repeat;
 use crate::write::Writing;
@@ -58,6 +58,8 @@ fn choose<F: Feed, G: Feed>(
         (ChangedIn 2 (F.remaining first.old) (G.remaining second.old)) (stop_of h)) }
     ensures changed { IfErr result (λ h. IfChanged
         (ChangedAt 2 F.Feed first.old first.new G.Feed second.old second.new) (stop_of h)) }
+    ensures feeds { KeepsFeed F.Feed first.old first.new
+        × KeepsFeed G.Feed second.old second.new }
 {
     let passes = Passes {
         alloc,
@@ -173,6 +175,10 @@ pub fn extract_with_receipt<F: Feed, G: Feed, H: Feed, D: Drain, S: BuildHasher 
         → AllSupply b (F.remaining first.old) (G.remaining second.old) (H.remaining third.old)
         → IsFront (D.taken drain.old) (D.taken drain.new)
         (extract_of (complete_ways area) area b)) }
+    // Each feed keeps its references, and its count of failures doesn't fall.
+    ensures feeds { KeepsFeed F.Feed first.old first.new
+        × KeepsFeed G.Feed second.old second.new
+        × KeepsFeed H.Feed third.old third.new }
     // The drain keeps its references, and its count of failures doesn't fall.
     ensures drain { KeepsDrain D.Drain drain.old drain.new }
 {
@@ -216,6 +222,9 @@ fn choose_parents<F: Feed, G: Feed, H: Feed>(
     ensures changed { IfErr result (λ h. IfChanged (λ pass.
         ChangedAt 2 F.Feed first.old first.new G.Feed second.old second.new pass
         ⊎ ChangedAt 3 F.Feed first.old first.new H.Feed third.old third.new pass) (stop_of h)) }
+    ensures feeds { KeepsFeed F.Feed first.old first.new
+        × KeepsFeed G.Feed second.old second.new
+        × KeepsFeed H.Feed third.old third.new }
 {
     let choice = choose(alloc, first, second, area)?;
     let digest = choice.digest;
@@ -339,6 +348,11 @@ pub fn extract_parents_with_receipt<
         → FourSupply b (F.remaining first.old) (G.remaining second.old) (H.remaining third.old)
         (I.remaining fourth.old)
         → IsFront (D.taken drain.old) (D.taken drain.new) (extract_of (all_parents area) area b)) }
+    // Each feed keeps its references, and its count of failures doesn't fall.
+    ensures feeds { KeepsFeed F.Feed first.old first.new
+        × KeepsFeed G.Feed second.old second.new
+        × KeepsFeed H.Feed third.old third.new
+        × KeepsFeed I.Feed fourth.old fourth.new }
     // The drain keeps its references, and its count of failures doesn't fall.
     ensures drain { KeepsDrain D.Drain drain.old drain.new }
 {

@@ -9,7 +9,7 @@ ghost use Rattle.pbf_pass.specs.Given.{GaveFile, Took};
 ghost use Rattle.pbf_pass.specs.Hashing.{digest_if};
 ghost use Rattle.pbfcut.specs.Pick.{pick_of};
 ghost use Rattle.pbf_pass.specs.HeaderLimit.{IsShort};
-ghost use Rattle.pbf_pass.specs.Stops.{KeepsDrain, WriteFailed};
+ghost use Rattle.pbf_pass.specs.Stops.{KeepsDrain, KeepsFeed, WriteFailed};
 ghost use Rattle.pbfcut.specs.Repeat.{GathersRest, StopsAgain, as_change, digest_of};
 ghost use Rattle.pbfcut.specs.Write.{Packed, PacksFront};
 
@@ -76,6 +76,7 @@ impl Repeat {
             (λ file. GathersFile G.gathered (judged_file (Some file))
             gathering.old gathering.new)) }
         ensures stops { IfErr result (StopsAgain F.Feed self feed.old feed.new ⊥) }
+        ensures keeps { KeepsFeed F.Feed feed.old feed.new }
     {
         match gather_again(self.passes(alloc), feed, gathering, self.number) {
             Ok(digest) => self.compare(digest),
@@ -94,6 +95,7 @@ impl Repeat {
         ensures gathered { OnOk result (GathersRest F.Feed G.gathered is_done feed.old feed.new
             (digest_of self) gathering.old gathering.new) }
         ensures stops { IfErr result (StopsAgain F.Feed self feed.old feed.new ⊥) }
+        ensures keeps { KeepsFeed F.Feed feed.old feed.new }
     {
         if is_done {
             return Ok(());
@@ -120,6 +122,7 @@ impl Repeat {
             (D.taken drain.old) (D.taken drain.new)) }
         ensures stops { IfErr result (StopsAgain F.Feed self feed.old feed.new
             (WriteFailed D.Drain drain.old drain.new)) }
+        ensures keeps { KeepsFeed F.Feed feed.old feed.new }
         ensures drain { KeepsDrain D.Drain drain.old drain.new }
     {
         match write(

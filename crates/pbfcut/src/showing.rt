@@ -21,7 +21,7 @@ ghost use Rattle.pbf_pass.specs.Payload.{primitive_block, lent_by};
 ghost use Rattle.pbf_pass.specs.Refused.{HaltsFile, stop_of};
 ghost use Rattle.pbfcut.specs.Repeat.{SameDigest};
 ghost use Rattle.pbfcut.specs.Showing.{Shown, ShowsFront, WritesFront, ShowsText, StopsShowing, ShowsPayload, FailsToShowPayload, ShowsNext, FailsToShowNext};
-ghost use Rattle.pbf_pass.specs.Stops.{Caused, FaultOf, Only, unchanged, KeepsDrain, ReadFailed, WriteFailed};
+ghost use Rattle.pbf_pass.specs.Stops.{Caused, FaultOf, Only, unchanged, KeepsDrain, KeepsFeed, ReadFailed, WriteFailed};
 ghost use Rattle.pbf_wire.specs.declared.limits.TheConstants.{OFFSET_LIMIT, RAW_LIMIT};
 
 use crate::repeat::Repeat;
@@ -181,6 +181,7 @@ fn write_text<F: Feed, D: Drain>(
     ensures stops { IfErr result (Caused (FaultOf (judged_file (F.remaining feed.old)))
         (ReadFailed F.Feed feed.old feed.new) (WriteFailed D.Drain drain.old drain.new) unchanged) }
     ensures faulty { IfErr result (ReadsFaulty F.Feed feed.old feed.new) }
+    ensures keeps { KeepsFeed F.Feed feed.old feed.new }
     ensures drain { KeepsDrain D.Drain drain.old drain.new }
 {
     let mut text = Vec::new(passes.alloc);
@@ -266,6 +267,9 @@ pub fn show_with_receipt<F: Feed, G: Feed, D: Drain>(
     ensures beginning { OnErr result (F.remaining first.old ≡ G.remaining second.old
         → ShowsFront dates (judged_file (F.remaining first.old))
         (D.taken drain.old) (D.taken drain.new)) }
+    // Each feed keeps its references, and its count of failures doesn't fall.
+    ensures feeds { KeepsFeed F.Feed first.old first.new
+        × KeepsFeed G.Feed second.old second.new }
     // The drain keeps its references, and its count of failures doesn't fall.
     ensures drain { KeepsDrain D.Drain drain.old drain.new }
 {

@@ -18,7 +18,7 @@ ghost use Rattle.pbf_pass.specs.Hashing.{digest_if};
 ghost use Rattle.pbfcut.specs.Kept.{IsWritable, extract_of};
 ghost use Rattle.pbf_pass.specs.Refused.{RefusesFile, Halts, HaltsFile, stop_of};
 ghost use Rattle.pbfcut.specs.Repeat.{SameDigest};
-ghost use Rattle.pbf_pass.specs.Stops.{Caused, FaultOf, KeepsDrain, ReadFailed, WriteFailed};
+ghost use Rattle.pbf_pass.specs.Stops.{Caused, FaultOf, KeepsDrain, KeepsFeed, ReadFailed, WriteFailed};
 
 use crate::extracting::Choice;
 use crate::repeat::Repeat;
@@ -50,6 +50,8 @@ pub(crate) fn choose_sorted<F: Feed, G: Feed>(
         (ChangedIn 2 (F.remaining first.old) (G.remaining second.old)) (stop_of h)) }
     ensures changed { IfErr result (λ h. IfChanged
         (ChangedAt 2 F.Feed first.old first.new G.Feed second.old second.new) (stop_of h)) }
+    ensures feeds { KeepsFeed F.Feed first.old first.new
+        × KeepsFeed G.Feed second.old second.new }
 {
     let Passes { alloc, hashes } = passes;
     let mut phase = FirstPhase::new(alloc, area);
@@ -160,6 +162,10 @@ pub fn extract_sorted_with_receipt<F: Feed, G: Feed, H: Feed, D: Drain, S: Build
         → AllSupply b (F.remaining first.old) (G.remaining second.old) (H.remaining third.old)
         → IsFront (D.taken drain.old) (D.taken drain.new)
         (extract_of (complete_ways area) area b)) }
+    // Each feed keeps its references, and its count of failures doesn't fall.
+    ensures feeds { KeepsFeed F.Feed first.old first.new
+        × KeepsFeed G.Feed second.old second.new
+        × KeepsFeed H.Feed third.old third.new }
     // The drain keeps its references, and its count of failures doesn't fall.
     ensures drain { KeepsDrain D.Drain drain.old drain.new }
 {
@@ -205,6 +211,9 @@ fn choose_parents_sorted<F: Feed, G: Feed, H: Feed>(
     ensures changed { IfErr result (λ h. IfChanged (λ pass.
         ChangedAt 2 F.Feed first.old first.new G.Feed second.old second.new pass
         ⊎ ChangedAt 3 F.Feed first.old first.new H.Feed third.old third.new pass) (stop_of h)) }
+    ensures feeds { KeepsFeed F.Feed first.old first.new
+        × KeepsFeed G.Feed second.old second.new
+        × KeepsFeed H.Feed third.old third.new }
 {
     let choice = choose_sorted(passes, first, second, area)?;
     let digest = choice.digest;
@@ -275,6 +284,11 @@ pub fn extract_parents_sorted_with_receipt<
         → FourSupply b (F.remaining first.old) (G.remaining second.old) (H.remaining third.old)
         (I.remaining fourth.old)
         → IsFront (D.taken drain.old) (D.taken drain.new) (extract_of (all_parents area) area b)) }
+    // Each feed keeps its references, and its count of failures doesn't fall.
+    ensures feeds { KeepsFeed F.Feed first.old first.new
+        × KeepsFeed G.Feed second.old second.new
+        × KeepsFeed H.Feed third.old third.new
+        × KeepsFeed I.Feed fourth.old fourth.new }
     // The drain keeps its references, and its count of failures doesn't fall.
     ensures drain { KeepsDrain D.Drain drain.old drain.new }
 {

@@ -10,7 +10,7 @@ ghost use Rattle.pbf_pass.specs.Hashing.{digest_if};
 ghost use Rattle.pbf_pass.specs.HeaderLimit.{IsShort};
 ghost use Rattle.pbf_pass.specs.Judged.{judged_file};
 ghost use Rattle.pbf_pass.specs.Payload.{primitive_block, lent_by};
-ghost use Rattle.pbf_pass.specs.Stops.{KeepsDrain, ReadFailed, WriteFailed};
+ghost use Rattle.pbf_pass.specs.Stops.{KeepsDrain, KeepsFeed, ReadFailed, WriteFailed};
 ghost use Rattle.pbfcut.specs.Pick.{pick_of, KeepsPacker, IsFreshPacker};
 ghost use Rattle.pbfcut.specs.Write.{PacksAgain, FailsAgain, PacksNext, FailsAtNext, Packed, PacksFront};
 ghost use Rattle.pbf_wire.specs.declared.limits.TheConstants.{OFFSET_LIMIT, RAW_LIMIT};
@@ -152,6 +152,7 @@ fn pack_file<'a, F: Feed, D: Drain, S: BuildHasher>(
     ensures stops { IfErr result (StopsUnjudged number (judged_file (F.remaining feed.old))
         (ReadFailed F.Feed feed.old feed.new)
         (WriteFailed D.Drain packer.old.drain packer.new.drain)) }
+    ensures keeps { KeepsFeed F.Feed feed.old feed.new }
     ensures drain { KeepsDrain D.Drain packer.old.drain packer.new.drain }
 {
     packer.put_header(writing.header)?;
@@ -190,6 +191,7 @@ pub(crate) fn write<F: Feed, D: Drain, S: BuildHasher + Drop>(
     ensures faulty { IfErr result (ReadsFaulty F.Feed feed.old feed.new) }
     ensures stops { IfErr result (StopsUnjudged number (judged_file (F.remaining feed.old))
         (ReadFailed F.Feed feed.old feed.new) (WriteFailed D.Drain drain.old drain.new)) }
+    ensures keeps { KeepsFeed F.Feed feed.old feed.new }
     ensures drain { KeepsDrain D.Drain drain.old drain.new }
 {
     let mut packer = Packer::new(passes.alloc, &mut *drain, hasher);
