@@ -1,22 +1,24 @@
 -- What a feed gave, unpacked, is the raw file that packed bytes mean.
-use Rattle.std.proofs.Common.{◌≡◌, ◌⊎◌, inl, inr, ℕ, zero, suc, Bool, true, false, List, [], Option, Some, Result, Ok, Err, IfErr, sym, ap, ◌∙◌, subst}
+use Rattle.std.proofs.Common.{◌≡◌, ◌⊎◌, inl, inr, ℕ, zero, suc, Bool, true, false, List, [], Option, Some, Result, Ok, Err, IfOk, IfErr, OnErr, refl, sym, ap, ◌∙◌, subst}
 use Rattle.std.specs.Option.{option_map}
 use Rattle.sha2.specs.Sha256.{sha256}
 use Rattle.pbf_wire.specs.declared.fault.Fault.{Fault}
 use Rattle.pbf_frame.specs.declared.device.Feed as feed
 use Rattle.pbf_frame.specs.declared.stop.Stop.{Stop}
 use Rattle.pbf_frame.specs.declared.stop.Stop.TheVariants as stop
-use Rattle.pbf_frame.specs.Devices.{IsFront}
+use Rattle.pbf_frame.specs.Devices.{IsFront, HasRisen}
 use Rattle.pbf_pass.specs.Given.{GaveFile}
 use Rattle.pbf_pass.specs.Hashing.{HasCounted, IsDigestOf, digest_if}
-use Rattle.pbf_pass.specs.Stops.{Caused}
+use Rattle.pbf_pass.specs.declared.receipt.Halt.{Halt}
+use Rattle.pbf_pass.specs.declared.receipt.InputReceipt.{InputReceipt}
+use Rattle.pbf_pass.specs.Refused.{stop_of}
+use Rattle.pbf_pass.specs.Stops.{Caused, ReadFailed}
 use Rattle.pbf_pass.proofs.GivenLemmas.{tells_file}
 use Rattle.pbf_unpack.specs.Unpacked.{unpacked}
-use Rattle.pbf_pass.specs.HeaderLimit.{judged_writable}
-use Rattle.pbfcut.specs.Calls.{GaveOrNot, RefusedFirst}
+use Rattle.pbfcut.specs.Calls.{GaveOrNot}
 use Rattle.pbfcut.proofs.ConvertingLemmas.{nothing_out}
 use Rattle.pbf_published.specs.declared.input.PublishedHalt.{PublishedHalt}
-use Rattle.pbf_published.specs.Published.{GavePublished, GaveOrNone, Means, MeansIfSome, PassedAs, PassedIfSome, IsRefusedBy, UnlessChanged, log_of, told_by}
+use Rattle.pbf_published.specs.Published.{GavePublished, GaveOrNone, Means, MeansIfSome, PassedAs, PassedIfSome, Tells, UnlessChanged, log_of, told_by}
 
 -- what an unpacking feed says of the feed below, when it is opened and when it is closed, with a digest of what was read
 pub record IsOver {F U : Type 0} (f : feed.Ghosts F) (u : feed.Ghosts U) (first last : F) (old new : U) (hashes : Bool) (digest : Option (List ℕ)) : Type 0 where
@@ -82,26 +84,7 @@ passed_below below r has_passed last o digest log raw is same passed =
     let p = subst (λ (x : Option (List ℕ)). PassedIfSome below r x log raw) is passed in
     record { packed = p.packed; passed = same p.packed p.passed; means = p.means }
 
--- what a call over raw files says of a refusal is said of published ones
-refused_told : (at_fault : Fault → Type 0) (read wrote : Type 0) (changed : ℕ → Type 0) (lacks : Bool) (s told : Stop) → told ≡ told_by lacks s → Caused at_fault read wrote changed s → IsRefusedBy at_fault told
-refused_told at_fault read wrote changed lacks s told is caused = subst (λ (x : Stop). IsRefusedBy at_fault x) (sym is) (of lacks s caused) where
-  of : (lacks : Bool) (s : Stop) → Caused at_fault read wrote changed s → IsRefusedBy at_fault (told_by lacks s)
-  of true (stop.Refused e) caused = caused
-  of false (stop.Refused e) caused = caused
-  of true stop.Read caused = tt
-  of false stop.Read caused = tt
-  of true stop.Write caused = tt
-  of false stop.Write caused = tt
-  of true stop.Memory caused = tt
-  of false stop.Memory caused = tt
-  of true (stop.Changed pass) caused = tt
-  of false (stop.Changed pass) caused = tt
-
--- the same of a file that can't be written
-pub refused_raw : (known raw old new : Option (List ℕ)) (read wrote : Type 0) (changed : ℕ → Type 0) (lacks : Bool) (s told : Stop) → known ≡ raw → told ≡ told_by lacks s → Caused (RefusedFirst (judged_writable known) old new) read wrote changed s
-    → IsRefusedBy (RefusedFirst (judged_writable raw) old new) told
-refused_raw known raw old new read wrote changed lacks s told same is caused =
-    refused_told (RefusedFirst (judged_writable raw) old new) read wrote changed lacks s told is (subst (λ (k : Option (List ℕ)). Caused (RefusedFirst (judged_writable k) old new) read wrote changed s) same caused)
+-- ---- why a call stops
 
 -- what holds after every stop
 pub unless_changed : (holds : Type 0) (s : Stop) → holds → UnlessChanged holds s
@@ -110,6 +93,41 @@ unless_changed holds stop.Write h = h
 unless_changed holds stop.Memory h = h
 unless_changed holds (stop.Refused e) h = h
 unless_changed holds (stop.Changed pass) h = tt
+
+-- a stop of a call over raw files, told of published ones
+pub stops_told : (refused : Fault → Type 0) (below above wrote : Type 0) (changed numbers : ℕ → Type 0) (lacks : Bool) (s told : Stop) → told ≡ told_by lacks s → (lacks ≡ false → below → above) → ((pass : ℕ) → changed pass → numbers pass)
+    → Caused refused below wrote changed s → Caused refused above wrote numbers told
+stops_told refused below above wrote changed numbers lacks s told is reads passes caused = subst (λ (x : Stop). Caused refused above wrote numbers x) (sym is) (of lacks s reads caused) where
+  of : (l : Bool) (t : Stop) → (l ≡ false → below → above) → Caused refused below wrote changed t → Caused refused above wrote numbers (told_by l t)
+  of true (stop.Refused e) reads caused = caused
+  of false (stop.Refused e) reads caused = caused
+  of true stop.Read reads caused = tt
+  of false stop.Read reads caused = reads refl caused
+  of true stop.Write reads caused = caused
+  of false stop.Write reads caused = caused
+  of true stop.Memory reads caused = tt
+  of false stop.Memory reads caused = tt
+  of true (stop.Changed pass) reads caused = passes pass caused
+  of false (stop.Changed pass) reads caused = passes pass caused
+
+-- a read of an unpacking feed failed, and not for memory: so one of the feed below did
+pub read_below : {F U : Type 0} (f : feed.Ghosts F) (u : feed.Ghosts U) (first last : F) (old new : U) → u.failures old ≡ f.failures first → u.failures new ≡ f.failures last → ReadFailed u old new → ReadFailed f first last
+read_below f u first last old new before after failed = subst (λ (n : ℕ). HasRisen n (f.failures last)) before (subst (λ (n : ℕ). HasRisen (u.failures old) n) after failed)
+
+module _ (lacks : Bool) where
+  -- what a call over raw files answered, where it was told as a stop, or as a receipt
+  pub outcome_stops : (refused : Fault → Type 0) (below above wrote : Type 0) (changed numbers : ℕ → Type 0) (o : Result InputReceipt Halt) (told : PublishedHalt) → Tells lacks o (Err told) → (lacks ≡ false → below → above) → ((pass : ℕ) → changed pass → numbers pass)
+      → IfErr o (λ h. Caused refused below wrote changed (stop_of h)) → Caused refused above wrote numbers told.stop
+  outcome_stops refused below above wrote changed numbers (Ok receipt) told is reads passes caused = absurd is
+  outcome_stops refused below above wrote changed numbers (Err halt) told is reads passes caused = stops_told refused below above wrote changed numbers lacks (stop_of halt) told.stop is reads passes caused
+
+  pub outcome_receipt : (holds : InputReceipt → Type 0) (o : Result InputReceipt Halt) (receipt : InputReceipt) → Tells lacks o (Ok receipt) → IfOk o holds → holds receipt
+  outcome_receipt holds (Ok known) receipt is held = subst holds (sym is) held
+  outcome_receipt holds (Err halt) receipt is held = absurd is
+
+  pub outcome_beginning : (holds : Type 0) (o : Result InputReceipt Halt) (told : PublishedHalt) → Tells lacks o (Err told) → OnErr o holds → UnlessChanged holds told.stop
+  outcome_beginning holds (Ok receipt) told is held = absurd is
+  outcome_beginning holds (Err halt) told is held = unless_changed holds told.stop held
 
 -- before a drain was used, whatever is said
 pub nothing_went_out : {A : Type 0} (r : Result A PublishedHalt) (old new : Option (List ℕ)) (whole : List ℕ → List ℕ) (supplies : List ℕ → Type 0) → new ≡ old
