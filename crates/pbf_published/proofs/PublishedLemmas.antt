@@ -1,5 +1,5 @@
 -- What a feed gave, unpacked, is the raw file that packed bytes mean.
-use Rattle.std.proofs.Common.{◌≡◌, ◌⊎◌, inl, inr, ℕ, zero, suc, Bool, true, false, List, [], Option, Some, Result, Ok, Err, IfOk, IfErr, OnErr, refl, sym, ap, ◌∙◌, subst}
+use Rattle.std.proofs.Common.{◌≡◌, ◌≤◌, ◌||◌, ◌⊎◌, inl, inr, ℕ, zero, suc, Bool, true, false, List, [], Option, Some, Result, Ok, Err, IfOk, IfErr, OnErr, refl, sym, ap, ◌∙◌, subst}
 use Rattle.std.specs.Option.{option_map}
 use Rattle.sha2.specs.Sha256.{sha256}
 use Rattle.pbf_wire.specs.declared.fault.Fault.{Fault}
@@ -12,13 +12,14 @@ use Rattle.pbf_pass.specs.Hashing.{HasCounted, IsDigestOf, digest_if}
 use Rattle.pbf_pass.specs.declared.receipt.Halt.{Halt}
 use Rattle.pbf_pass.specs.declared.receipt.InputReceipt.{InputReceipt}
 use Rattle.pbf_pass.specs.Refused.{stop_of}
-use Rattle.pbf_pass.specs.Stops.{Caused, ReadFailed}
+use Rattle.pbf_pass.specs.HeaderLimit.{judged_writable}
+use Rattle.pbf_pass.specs.Stops.{Caused, FaultOf, ReadFailed}
 use Rattle.pbf_pass.proofs.GivenLemmas.{tells_file}
 use Rattle.pbf_unpack.specs.Unpacked.{unpacked}
-use Rattle.pbfcut.specs.Calls.{GaveOrNot}
+use Rattle.pbfcut.specs.Calls.{GaveOrNot, RefusedFirst}
 use Rattle.pbfcut.proofs.ConvertingLemmas.{nothing_out}
 use Rattle.pbf_published.specs.declared.input.PublishedHalt.{PublishedHalt}
-use Rattle.pbf_published.specs.Published.{GavePublished, GaveOrNone, Means, MeansIfSome, PassedAs, PassedIfSome, Tells, UnlessChanged, log_of, told_by}
+use Rattle.pbf_published.specs.Published.{GavePublished, GaveOrNone, Means, MeansIfSome, PassedAs, PassedIfSome, Tells, UnlessChanged, IsPass, log_of, told_by}
 
 -- what an unpacking feed says of the feed below, when it is opened and when it is closed, with a digest of what was read
 pub record IsOver {F U : Type 0} (f : feed.Ghosts F) (u : feed.Ghosts U) (first last : F) (old new : U) (hashes : Bool) (digest : Option (List ℕ)) : Type 0 where
@@ -94,13 +95,13 @@ unless_changed holds stop.Memory h = h
 unless_changed holds (stop.Refused e) h = h
 unless_changed holds (stop.Changed pass) h = tt
 
--- a stop of a call over raw files, told of published ones
-pub stops_told : (refused : Fault → Type 0) (below above wrote : Type 0) (changed numbers : ℕ → Type 0) (lacks : Bool) (s told : Stop) → told ≡ told_by lacks s → (lacks ≡ false → below → above) → ((pass : ℕ) → changed pass → numbers pass)
-    → Caused refused below wrote changed s → Caused refused above wrote numbers told
-stops_told refused below above wrote changed numbers lacks s told is reads passes caused = subst (λ (x : Stop). Caused refused above wrote numbers x) (sym is) (of lacks s reads caused) where
-  of : (l : Bool) (t : Stop) → (l ≡ false → below → above) → Caused refused below wrote changed t → Caused refused above wrote numbers (told_by l t)
-  of true (stop.Refused e) reads caused = caused
-  of false (stop.Refused e) reads caused = caused
+-- a stop of a call over raw files, told of published ones: what is said of a refusal, of a failed read, and of a change
+pub stops_told : (refused at_fault : Fault → Type 0) (below above wrote : Type 0) (changed numbers : ℕ → Type 0) (lacks : Bool) (s told : Stop) → told ≡ told_by lacks s → ((e : Fault) → refused e → at_fault e) → (lacks ≡ false → below → above) → ((pass : ℕ) → changed pass → numbers pass)
+    → Caused refused below wrote changed s → Caused at_fault above wrote numbers told
+stops_told refused at_fault below above wrote changed numbers lacks s told is faults reads passes caused = subst (λ (x : Stop). Caused at_fault above wrote numbers x) (sym is) (of lacks s reads caused) where
+  of : (l : Bool) (t : Stop) → (l ≡ false → below → above) → Caused refused below wrote changed t → Caused at_fault above wrote numbers (told_by l t)
+  of true (stop.Refused e) reads caused = faults e caused
+  of false (stop.Refused e) reads caused = faults e caused
   of true stop.Read reads caused = tt
   of false stop.Read reads caused = reads refl caused
   of true stop.Write reads caused = caused
@@ -111,23 +112,49 @@ stops_told refused below above wrote changed numbers lacks s told is reads passe
   of false (stop.Changed pass) reads caused = passes pass caused
 
 -- a read of an unpacking feed failed, and not for memory: so one of the feed below did
-pub read_below : {F U : Type 0} (f : feed.Ghosts F) (u : feed.Ghosts U) (first last : F) (old new : U) → u.failures old ≡ f.failures first → u.failures new ≡ f.failures last → ReadFailed u old new → ReadFailed f first last
-read_below f u first last old new before after failed = subst (λ (n : ℕ). HasRisen n (f.failures last)) before (subst (λ (n : ℕ). HasRisen (u.failures old) n) after failed)
+pub read_below : {F : Type 0} (f : feed.Ghosts F) (first last : F) (old new : ℕ) → old ≡ f.failures first → new ≡ f.failures last → HasRisen old new → ReadFailed f first last
+read_below f first last old new before after risen = subst (λ (n : ℕ). HasRisen n (f.failures last)) before (subst (λ (n : ℕ). HasRisen old n) after risen)
 
-module _ (lacks : Bool) where
-  -- what a call over raw files answered, where it was told as a stop, or as a receipt
-  pub outcome_stops : (refused : Fault → Type 0) (below above wrote : Type 0) (changed numbers : ℕ → Type 0) (o : Result InputReceipt Halt) (told : PublishedHalt) → Tells lacks o (Err told) → (lacks ≡ false → below → above) → ((pass : ℕ) → changed pass → numbers pass)
-      → IfErr o (λ h. Caused refused below wrote changed (stop_of h)) → Caused refused above wrote numbers told.stop
-  outcome_stops refused below above wrote changed numbers (Ok receipt) told is reads passes caused = absurd is
-  outcome_stops refused below above wrote changed numbers (Err halt) told is reads passes caused = stops_told refused below above wrote changed numbers lacks (stop_of halt) told.stop is reads passes caused
+module _ (lacks : Bool) (o : Result InputReceipt Halt) (r : Result InputReceipt PublishedHalt) (tells : Tells lacks o r) where
+  -- what a call over raw files answered, where it is told as a receipt
+  pub outcome_receipt : (holds : InputReceipt → Type 0) (receipt : InputReceipt) → r ≡ Ok receipt → IfOk o holds → holds receipt
+  outcome_receipt holds receipt is held = of o (subst (λ (x : Result InputReceipt PublishedHalt). Tells lacks o x) is tells) held where
+    of : (x : Result InputReceipt Halt) → Tells lacks x (Ok receipt) → IfOk x holds → holds receipt
+    of (Ok known) same held = subst holds (sym same) held
+    of (Err halt) same held = absurd same
 
-  pub outcome_receipt : (holds : InputReceipt → Type 0) (o : Result InputReceipt Halt) (receipt : InputReceipt) → Tells lacks o (Ok receipt) → IfOk o holds → holds receipt
-  outcome_receipt holds (Ok known) receipt is held = subst holds (sym is) held
-  outcome_receipt holds (Err halt) receipt is held = absurd is
+  -- and where it is told as a stop
+  pub outcome_stops : (refused at_fault : Fault → Type 0) (below above wrote : Type 0) (changed numbers : ℕ → Type 0) (told : PublishedHalt) → r ≡ Err told → ((e : Fault) → refused e → at_fault e) → (lacks ≡ false → below → above) → ((pass : ℕ) → changed pass → numbers pass)
+      → IfErr o (λ h. Caused refused below wrote changed (stop_of h)) → Caused at_fault above wrote numbers told.stop
+  outcome_stops refused at_fault below above wrote changed numbers told is faults reads passes caused = of o (subst (λ (x : Result InputReceipt PublishedHalt). Tells lacks o x) is tells) caused where
+    of : (x : Result InputReceipt Halt) → Tells lacks x (Err told) → IfErr x (λ h. Caused refused below wrote changed (stop_of h)) → Caused at_fault above wrote numbers told.stop
+    of (Ok receipt) same caused = absurd same
+    of (Err halt) same caused = stops_told refused at_fault below above wrote changed numbers lacks (stop_of halt) told.stop same faults reads passes caused
 
-  pub outcome_beginning : (holds : Type 0) (o : Result InputReceipt Halt) (told : PublishedHalt) → Tells lacks o (Err told) → OnErr o holds → UnlessChanged holds told.stop
-  outcome_beginning holds (Ok receipt) told is held = absurd is
-  outcome_beginning holds (Err halt) told is held = unless_changed holds told.stop held
+  pub outcome_beginning : (below above : Type 0) (told : PublishedHalt) → r ≡ Err told → (below → above) → OnErr o below → UnlessChanged above told.stop
+  outcome_beginning below above told is step held = of o (subst (λ (x : Result InputReceipt PublishedHalt). Tells lacks o x) is tells) held where
+    of : (x : Result InputReceipt Halt) → Tells lacks x (Err told) → OnErr x below → UnlessChanged above told.stop
+    of (Ok receipt) same held = absurd same
+    of (Err halt) same held = unless_changed above told.stop (step held)
+
+-- a raw file that is refused, by what is known of it
+pub refused_as : (known raw old new : Option (List ℕ)) (e : Fault) → known ≡ raw → RefusedFirst (judged_writable known) old new e → RefusedFirst (judged_writable raw) old new e
+refused_as known raw old new e same refused = (subst (λ (k : Option (List ℕ)). FaultOf (judged_writable k) e) same refused.0, refused.1)
+
+-- each of two cases gives one
+pub either_of : {A B C D : Type 0} → (A → C) → (B → D) → A ⊎ B → C ⊎ D
+either_of f g (inl a) = inl (f a)
+either_of f g (inr b) = inr (g b)
+
+-- no feed was refused memory
+pub none_lacks : (a b : Bool) → (a || b) ≡ false → (a ≡ false) × (b ≡ false)
+none_lacks false false none = (refl, refl)
+none_lacks true b none = (let bad : ⊥ = cc in absurd bad)
+none_lacks false true none = (let bad : ⊥ = cc in absurd bad)
+
+-- the number of a pass
+pub is_pass : (number most pass : ℕ) → 1 ≤ number → number ≤ most → pass ≡ number → IsPass most pass
+is_pass number most pass least within is = subst (IsPass most) (sym is) (least, within)
 
 -- before a drain was used, whatever is said
 pub nothing_went_out : {A : Type 0} (r : Result A PublishedHalt) (old new : Option (List ℕ)) (whole : List ℕ → List ℕ) (supplies : List ℕ → Type 0) → new ≡ old

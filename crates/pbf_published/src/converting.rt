@@ -64,11 +64,12 @@ pub fn convert_with_receipt<F: Feed, G: Feed, D: Drain, S: BuildHasher + Drop>(
     let (one, _first) = close(one);
     let (two, _second) = close(two);
     let receipt = outcome?;
+    let raw = receipt.input;
     let input = first_digest(one)?;
     compare(input, two, 2)?;
     Ok(PublishedInput {
         counts: receipt.counts,
         input,
-        raw: receipt.input,
+        raw,
     })
 }

@@ -85,12 +85,13 @@ pub fn extract_sorted_with_receipt<F: Feed, G: Feed, H: Feed, D: Drain, S: Build
     let (two, _second) = close(two);
     let (three, _third) = close(three);
     let receipt = outcome?;
+    let raw = receipt.input;
     let input = first_digest(one)?;
     compare_or_none(input, two, 2)?;
     compare(input, three, 3)?;
     Ok(PublishedInput {
         counts: receipt.counts,
         input,
-        raw: receipt.input,
+        raw,
     })
 }

@@ -1,6 +1,6 @@
 //! A published file that is read: hashed as it is, and unpacked.
 
-ghost use Rattle.std.specs.Prelude.{◌≡◌, ◌⊎◌, ℕ, suc, Bool, List, [], Some, IfOk, IfErr, OnOk};
+ghost use Rattle.std.specs.Prelude.{◌≡◌, ◌⊎◌, ℕ, suc, Bool, List, [], Some, IfOk, IfErr, OnOk, false};
 ghost use Rattle.sha2.specs.Sha256.{sha256};
 ghost use Rattle.pbf_frame.specs.declared.stop.Stop.TheVariants as stop;
 ghost use Rattle.pbf_published.specs.Published.{MeansIfSome, PassedIfSome, Tells, log_of, raw_of, told_by};

@@ -93,6 +93,7 @@ pub fn extract_parents_sorted_with_receipt<
     let (three, _third) = close(three);
     let (four, _fourth) = close(four);
     let receipt = outcome?;
+    let raw = receipt.input;
     let input = first_digest(one)?;
     compare_or_none(input, two, 2)?;
     compare(input, three, 3)?;
@@ -100,6 +101,6 @@ pub fn extract_parents_sorted_with_receipt<
     Ok(PublishedInput {
         counts: receipt.counts,
         input,
-        raw: receipt.input,
+        raw,
     })
 }

@@ -64,12 +64,13 @@ pub fn show_with_receipt<F: Feed, G: Feed, D: Drain>(
     let (one, _first) = close(one);
     let (two, _second) = close(two);
     let receipt = outcome?;
+    let raw = receipt.input;
     let input = first_digest(one)?;
     compare(input, two, 2)?;
     Ok(PublishedInput {
         counts: receipt.counts,
         input,
-        raw: receipt.input,
+        raw,
     })
 }
 

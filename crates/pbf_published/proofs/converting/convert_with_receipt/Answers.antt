@@ -1,12 +1,13 @@
-use Rattle.std.proofs.Common.{true, Some, rules, subst}
+use Rattle.std.proofs.Common.{true, Some, rules, subst, ◌∙◌}
+use Rattle.std.proofs.lemmas.Result.{err_from_is_err_and}
 use Rattle.pbf_pass.specs.Hashing.{digest_if}
-use Rattle.pbf_published.proofs.PublishedLemmas.{published_of, means_some, passed_below}
+use Rattle.pbf_published.proofs.PublishedLemmas.{published_of, means_some, passed_below, outcome_receipt, outcome_beginning}
 use Rattle.pbf_published.proofs.converting.convert_with_receipt.Goals as goal
 
 pub returns-clause-receipt : goal.returns-clause-receipt
 returns-clause-receipt g c =
     let digest = c.in_ok-input.input in
-    let raw_digest = digest_if c.args.passes.hashes c.in-Ok.receipt.input in
+    let raw_digest = digest_if c.args.passes.hashes c.in_ok-receipt.receipt.input in
     let first = c.in_ok-input.ensures.there in
     let second = c.in_ok-compare.ensures.same in
     published_of g.F.Feed _ c.args.first.now _ _ _ raw_digest _ _ (λ b holds. (
@@ -24,4 +25,9 @@ returns-clause-receipt g c =
       logged = c.open-one.ensures.logged;
       means = λ raw has. means_some true _ digest raw first (c.close-one.ensures.means true raw has);
       passed = λ log raw has. passed_below _ _ g.F.Feed.has_passed _ _ digest log raw first (λ packed p. subst (λ (x : g.row.F.Denot). g.F.Feed.has_passed x log packed) (search rules) p) (c.close-one.ensures.logged log raw has);
-    } c.in-Ok.ensures.receipt
+    } (outcome_receipt _ _ _ c.told-outcome.ensures _ _ c.in_ok-receipt.was c.convert_with_receipt-outcome.ensures.receipt)
+
+pub returns-in_err-receipt-clause-beginning : goal.returns-in_err-receipt-clause-beginning
+returns-in_err-receipt-clause-beginning g c =
+    let p = err_from_is_err_and c.from_residual-in_err-receipt.result c.from_residual-in_err-receipt.ensures.1 in
+    rw (p.1, p.2) (outcome_beginning _ _ _ c.told-outcome.ensures _ _ _ c.in_err-receipt.was (λ begun b supply. begun b (c.open-one.ensures.remaining ∙ supply.0, c.open-two.ensures.remaining ∙ supply.1)) c.convert_with_receipt-outcome.ensures.beginning)
