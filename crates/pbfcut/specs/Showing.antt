@@ -1,5 +1,5 @@
 -- The text of `show`, what a call does to its drain, and why it stops.
-use Rattle.std.specs.Prelude.{◌≡◌, ◌≤◌, ◌⊎◌, ℕ, List, [], Bool, Option, Some, None}
+use Rattle.std.specs.Prelude.{◌≡◌, ◌≤◌, ◌⊎◌, ℕ, List, [], Bool, Option, Some, None, Result, OnOk, OnErr, IfErr}
 use Rattle.std.specs.List.{flat_map}
 use Rattle.pbf_wire.specs.declared.fault.Fault.{Fault}
 use Rattle.pbf_header.specs.Header.{header_in}
@@ -12,9 +12,10 @@ use Rattle.pbf_frame.specs.Frames.{FrameSpec}
 use Rattle.pbf_frame.specs.Verdict.{Verdict, Says}
 use Rattle.osm_text.specs.EntityText.{entity_line}
 use Rattle.osm_text.specs.HeaderText.{header_text}
+use Rattle.pbfcut.specs.declared.showing.LineWriter.{LineWriter}
 use Rattle.pbf_pass.specs.Judged.{fault_in, payload_fault}
 use Rattle.pbf_pass.specs.Payload.{Payload, header_block, primitive_block, unknown, payload_of}
-use Rattle.pbf_pass.specs.Stops.{Caused, Only, unchanged, WriteFailed}
+use Rattle.pbf_pass.specs.Stops.{Caused, Only, unchanged, KeepsDrain, WriteFailed}
 
 -- ---- the text
 
@@ -72,6 +73,21 @@ ShowsPayload d dates p old new = ShowsText d (fault_in p) (text_in dates p) old 
 
 abbrev pub FailsToShowPayload : {D : Type 0} → drain.Ghosts D → Bool → Payload → D → D → Stop → Type 0
 FailsToShowPayload d dates p old new stop = StopsShowing d (fault_in p) (text_in dates p) old new stop
+
+-- what a call does that writes these lines
+pub record WritesLines {D X : Type 0} (d : drain.Ghosts D) (text : List ℕ) (before now : LineWriter) (old new : D) (result : Result X Stop) : Type 0 where
+  pub shown : OnOk result (Added d old text new)
+  pub front : OnErr result (IsFront (d.taken old) (d.taken new) text)
+  pub stops : IfErr result (Caused (Only None) ⊥ (WriteFailed d old new) unchanged)
+  pub keeps : KeepsDrain d old new
+  pub same : now.dates ≡ before.dates
+
+-- what a call does that judges a payload, and writes its lines
+pub record WritesPayload {D X : Type 0} (d : drain.Ghosts D) (p : Payload) (before now : LineWriter) (old new : D) (result : Result X Stop) : Type 0 where
+  pub shown : OnOk result (ShowsPayload d before.dates p old new)
+  pub stopped : IfErr result (FailsToShowPayload d before.dates p old new)
+  pub keeps : KeepsDrain d old new
+  pub same : now.dates ≡ before.dates
 
 -- the same of a frame
 abbrev pub ShowsFrame : {D : Type 0} → drain.Ghosts D → Bool → D → D → FrameSpec → Type 0
