@@ -3,4 +3,3 @@ pub mod Likenesses
 pub mod Open
 pub mod Stops
 pub mod Packing
-pub mod Pushing

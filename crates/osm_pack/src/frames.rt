@@ -39,26 +39,35 @@ pub(crate) fn close_into<D: Drain, S: BuildHasher>(
     Ok(())
 }
 
-/// Adds an entity of this weight to the open block, which is written first if the entity may not join it.
+/// An entity, and what it weighs.
+#[derive(Clone, Copy)]
+pub(crate) struct Weighed<'a, 'b> {
+    pub(crate) entity: &'a EntityRef<'b>,
+    pub(crate) weight: u64,
+}
+
+/// Adds an entity to the open block, which is written first if the entity may not join it.
 pub(crate) fn push_into<D: Drain, S: BuildHasher>(
     alloc: Global,
     drain: &mut D,
     block: &mut OpenBlock<S>,
-    entity: &EntityRef<'_>,
-    weight: u64,
+    weighed: Weighed<'_, '_>,
 ) -> Result<(), Stop>
     requires open { IsOpen block.old }
-    requires fits { EntityFits (entity_of entity.now) }
-    requires weighs { weight ≡ entity_weight (entity_of entity.now) }
+    requires fits { EntityFits (entity_of weighed.entity.now) }
+    requires weighs { weighed.weight ≡ entity_weight (entity_of weighed.entity.now) }
     ensures open { OnOk result (IsOpen block.new) }
     ensures pending { (es : List EntitySpec) → Holds block.old es
-        → OnOk result (Holds block.new (then_pending es (entity_of entity.now))) }
+        → OnOk result (Holds block.new (then_pending es (entity_of weighed.entry.entity.now))) }
     ensures written { (es : List EntitySpec) → Holds block.old es
-        → OnOk result (Added D.Drain drain.old (then_written es (entity_of entity.now)) drain.new) }
+        → OnOk result (Added D.Drain drain.old
+        (then_written es (entity_of weighed.entry.entity.now)) drain.new) }
     ensures front { (es : List EntitySpec) → Holds block.old es
-        → IsFront (D.taken drain.old) (D.taken drain.new) (then_written es (entity_of entity.now)) }
+        → IsFront (D.taken drain.old) (D.taken drain.new)
+        (then_written es (entity_of weighed.entry.entity.now)) }
     ensures drain { UsesDrain D.Drain drain.old drain.new result }
 {
+    let Weighed { entity, weight } = weighed;
     if !block.takes(entity, weight) {
         close_into(alloc, drain, block)?;
     }

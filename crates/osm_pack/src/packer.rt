@@ -1,6 +1,6 @@
 //! Entities on their way into a drain.
 
-use crate::frames::{finish_into, push_into, put_header_into};
+use crate::frames::{Weighed, finish_into, push_into, put_header_into};
 use crate::open_block::OpenBlock;
 use osm_entity::EntityRef;
 use pbf_frame::{Drain, Stop};
@@ -54,8 +54,7 @@ impl<D: Drain, S: BuildHasher> Packer<D, S> {
     ghost use Rattle.osm_pack.specs.Cuts.{header_frame, then_pending, then_written, at_end};
     ghost use Rattle.osm_pack.specs.declared.open_block.TheConstants.{MOST_HELD};
     ghost use Rattle.osm_pack.specs.Stops.{IsPackStop};
-    ghost use Rattle.osm_pack.specs.Pushing.{Pushes};
-    ghost use Rattle.osm_pack.specs.Packing.{Pending, IsPacking, HasStopped, has_header, packer_held};
+    ghost use Rattle.osm_pack.specs.Packing.{Pending, Pushes, IsPacking, HasStopped, has_header, packer_held};
 
     /// A packer over a drain, with no header and no entities yet. The input is untrusted, so the hasher should be seeded.
     pub fn new(alloc: Global, drain: D, hasher: S) -> Packer<D, S>
@@ -187,7 +186,8 @@ impl<D: Drain, S: BuildHasher> Packer<D, S> {
         if let Some(stop) = self.stop {
             return Err(stop);
         }
-        let outcome = push_into(self.alloc, &mut self.drain, &mut self.block, entity, weight);
+        let weighed = Weighed { entity, weight };
+        let outcome = push_into(self.alloc, &mut self.drain, &mut self.block, weighed);
         if let Err(stop) = outcome {
             self.stop = Some(stop);
             self.block.clear(self.alloc);
