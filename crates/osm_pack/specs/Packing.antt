@@ -1,8 +1,13 @@
 -- A packer, as contracts see it.
-use Rattle.std.specs.Prelude.{◌≡◌, ℕ, Bool, List, Option, Some, None}
+use Rattle.std.specs.Prelude.{◌≡◌, ◌≤◌, ℕ, Bool, true, List, Option, Some, None, Result, Err, OnOk, IfErr}
 use Rattle.osm_entity.specs.Entity.{EntitySpec}
+use Rattle.pbf_frame.specs.declared.device.Drain as drain
 use Rattle.pbf_frame.specs.declared.stop.Stop.{Stop}
+use Rattle.pbf_frame.specs.Devices.{IsFront}
+use Rattle.pbf_frame.specs.Transfers.{Added}
+use Rattle.osm_pack.specs.Cuts.{then_pending, then_written}
 use Rattle.osm_pack.specs.Open.{Holds, block_held}
+use Rattle.osm_pack.specs.Stops.{IsPackStop}
 use Rattle.osm_pack.specs.declared.open_block.OpenBlock.{OpenBlock}
 
 -- the drain after the frames that are written, the block that is open, whether a header was put, and why it stopped
@@ -31,3 +36,16 @@ has_header packer = packer.begun
 -- the bytes that it holds: those of its block, since no other field of its own has any
 abbrev pub packer_held : {D S H : Type 0} → Packing D S H → ℕ
 packer_held packer = block_held packer.block
+
+-- what `push` promises, of a call to which the weight is given
+pub record Pushes {D S H X : Type 0} (d : drain.Ghosts D) (e : EntitySpec) (old new : Packing D S H) (result : Result X Stop) : Type 0 where
+  pub header : has_header new ≡ true
+  pub pending : (es : List EntitySpec) → Pending old es → OnOk result (Pending new (then_pending es e))
+  pub written : (es : List EntitySpec) → Pending old es → OnOk result (Added d old.drain (then_written es e) new.drain)
+  pub packing : OnOk result (IsPacking old × IsPacking new)
+  pub front : IsPacking old → (es : List EntitySpec) → Pending old es → IsFront (d.taken old.drain) (d.taken new.drain) (then_written es e)
+  pub stopped : IfErr result (HasStopped new)
+  pub stops : IsPacking old → IfErr result (IsPackStop (d.failures old.drain) (d.failures new.drain))
+  pub counts : d.failures old.drain ≤ d.failures new.drain
+  pub lender : d.lender new.drain ≡ d.lender old.drain
+  pub spent : (stop : Stop) → HasStopped old stop → (result ≡ Err stop) × (new.drain ≡ old.drain)

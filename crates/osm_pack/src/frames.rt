@@ -1,6 +1,6 @@
 //! Headers and blocks, written as frames.
 
-ghost use Rattle.std.specs.Prelude.{◌≡◌, ◌+◌, ◌≤◌, [], List, IfErr, OnOk};
+ghost use Rattle.std.specs.Prelude.{◌≡◌, ◌+◌, ◌≤◌, [], List, OnOk};
 ghost use Rattle.osm_entity.specs.Entity.{EntitySpec};
 ghost use Rattle.osm_entity.specs.Ranges.{EntityFits};
 ghost use Rattle.osm_entity.specs.Views.{entity_of};
@@ -10,7 +10,7 @@ ghost use Rattle.pbf_frame.specs.Devices.{IsFront};
 ghost use Rattle.pbf_frame.specs.Transfers.{Added};
 ghost use Rattle.osm_pack.specs.Cuts.{block_frame, header_frame, then_pending, then_written, at_end};
 ghost use Rattle.osm_pack.specs.Open.{Holds, IsOpen};
-ghost use Rattle.osm_pack.specs.Stops.{IsPackStop};
+ghost use Rattle.osm_pack.specs.Stops.{UsesDrain};
 ghost use Rattle.pbf_header.specs.declared.write.TheConstants.{MOST_HEADER_TEXT};
 
 use crate::open_block::OpenBlock;
@@ -32,37 +32,42 @@ pub(crate) fn close_into<D: Drain, S: BuildHasher>(
     ensures empty { OnOk result (Holds block.new []) }
     ensures front { (es : List EntitySpec) → Holds block.old es
         → IsFront (D.taken drain.old) (D.taken drain.new) (block_frame es) }
-    ensures stops { IfErr result (IsPackStop (D.failures drain.old) (D.failures drain.new)) }
-    ensures counts { D.failures drain.old ≤ D.failures drain.new }
-    ensures lender { D.lender drain.new ≡ D.lender drain.old }
+    ensures drain { UsesDrain D.Drain drain.old drain.new result }
 {
     let payload = block.close(alloc)?;
     put_frame(drain, FrameKind::Data, &payload)?;
     Ok(())
 }
 
-/// Adds an entity of this weight to the open block, which is written first if the entity may not join it.
+/// An entity, and what it weighs.
+#[derive(Clone, Copy)]
+pub(crate) struct Weighed<'a, 'b> {
+    pub(crate) entity: &'a EntityRef<'b>,
+    pub(crate) weight: u64,
+}
+
+/// Adds an entity to the open block, which is written first if the entity may not join it.
 pub(crate) fn push_into<D: Drain, S: BuildHasher>(
     alloc: Global,
     drain: &mut D,
     block: &mut OpenBlock<S>,
-    entity: &EntityRef<'_>,
-    weight: u64,
+    weighed: Weighed<'_, '_>,
 ) -> Result<(), Stop>
     requires open { IsOpen block.old }
-    requires fits { EntityFits (entity_of entity.now) }
-    requires weighs { weight ≡ entity_weight (entity_of entity.now) }
+    requires fits { EntityFits (entity_of weighed.entity.now) }
+    requires weighs { weighed.weight ≡ entity_weight (entity_of weighed.entity.now) }
     ensures open { OnOk result (IsOpen block.new) }
     ensures pending { (es : List EntitySpec) → Holds block.old es
-        → OnOk result (Holds block.new (then_pending es (entity_of entity.now))) }
+        → OnOk result (Holds block.new (then_pending es (entity_of weighed.entry.entity.now))) }
     ensures written { (es : List EntitySpec) → Holds block.old es
-        → OnOk result (Added D.Drain drain.old (then_written es (entity_of entity.now)) drain.new) }
+        → OnOk result (Added D.Drain drain.old
+        (then_written es (entity_of weighed.entry.entity.now)) drain.new) }
     ensures front { (es : List EntitySpec) → Holds block.old es
-        → IsFront (D.taken drain.old) (D.taken drain.new) (then_written es (entity_of entity.now)) }
-    ensures stops { IfErr result (IsPackStop (D.failures drain.old) (D.failures drain.new)) }
-    ensures counts { D.failures drain.old ≤ D.failures drain.new }
-    ensures lender { D.lender drain.new ≡ D.lender drain.old }
+        → IsFront (D.taken drain.old) (D.taken drain.new)
+        (then_written es (entity_of weighed.entry.entity.now)) }
+    ensures drain { UsesDrain D.Drain drain.old drain.new result }
 {
+    let Weighed { entity, weight } = weighed;
     if !block.takes(entity, weight) {
         close_into(alloc, drain, block)?;
     }
@@ -82,9 +87,7 @@ pub(crate) fn put_header_into<D: Drain>(
         (Added D.Drain drain.old (header_frame (header_of header.now)) drain.new) }
     ensures front { IsFront (D.taken drain.old) (D.taken drain.new)
         (header_frame (header_of header.now)) }
-    ensures stops { IfErr result (IsPackStop (D.failures drain.old) (D.failures drain.new)) }
-    ensures counts { D.failures drain.old ≤ D.failures drain.new }
-    ensures lender { D.lender drain.new ≡ D.lender drain.old }
+    ensures drain { UsesDrain D.Drain drain.old drain.new result }
 {
     let mut payload = Vec::new(alloc);
     header.write(&mut payload)?;
@@ -105,9 +108,7 @@ pub(crate) fn finish_into<D: Drain, S: BuildHasher>(
     ensures empty { OnOk result (Holds block.new []) }
     ensures front { (es : List EntitySpec) → Holds block.old es
         → IsFront (D.taken drain.old) (D.taken drain.new) (at_end es) }
-    ensures stops { IfErr result (IsPackStop (D.failures drain.old) (D.failures drain.new)) }
-    ensures counts { D.failures drain.old ≤ D.failures drain.new }
-    ensures lender { D.lender drain.new ≡ D.lender drain.old }
+    ensures drain { UsesDrain D.Drain drain.old drain.new result }
 {
     if !block.is_empty() {
         close_into(alloc, drain, block)?;

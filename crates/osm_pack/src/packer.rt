@@ -1,6 +1,6 @@
 //! Entities on their way into a drain.
 
-use crate::frames::{finish_into, push_into, put_header_into};
+use crate::frames::{Weighed, finish_into, push_into, put_header_into};
 use crate::open_block::OpenBlock;
 use osm_entity::EntityRef;
 use pbf_frame::{Drain, Stop};
@@ -54,7 +54,7 @@ impl<D: Drain, S: BuildHasher> Packer<D, S> {
     ghost use Rattle.osm_pack.specs.Cuts.{header_frame, then_pending, then_written, at_end};
     ghost use Rattle.osm_pack.specs.declared.open_block.TheConstants.{MOST_HELD};
     ghost use Rattle.osm_pack.specs.Stops.{IsPackStop};
-    ghost use Rattle.osm_pack.specs.Packing.{Pending, IsPacking, HasStopped, has_header, packer_held};
+    ghost use Rattle.osm_pack.specs.Packing.{Pending, Pushes, IsPacking, HasStopped, has_header, packer_held};
 
     /// A packer over a drain, with no header and no entities yet. The input is untrusted, so the hasher should be seeded.
     pub fn new(alloc: Global, drain: D, hasher: S) -> Packer<D, S>
@@ -181,28 +181,13 @@ impl<D: Drain, S: BuildHasher> Packer<D, S> {
         requires begun { has_header self.old ≡ true }
         requires fits { EntityFits (entity_of entity.now) }
         requires weighs { weight ≡ entity_weight (entity_of entity.now) }
-        ensures header { has_header self.new ≡ true }
-        ensures pending { (es : List EntitySpec) → Pending self.old es
-            → OnOk result (Pending self.new (then_pending es (entity_of entity.now))) }
-        ensures written { (es : List EntitySpec) → Pending self.old es
-            → OnOk result (Added D.Drain self.old.drain
-            (then_written es (entity_of entity.now)) self.new.drain) }
-        ensures packing { OnOk result (IsPacking self.old × IsPacking self.new) }
-        ensures front { IsPacking self.old → (es : List EntitySpec) → Pending self.old es
-            → IsFront (D.taken self.old.drain) (D.taken self.new.drain)
-            (then_written es (entity_of entity.now)) }
-        ensures stopped { IfErr result (HasStopped self.new) }
-        ensures stops { IsPacking self.old
-            → IfErr result (IsPackStop (D.failures self.old.drain) (D.failures self.new.drain)) }
-        ensures counts { D.failures self.old.drain ≤ D.failures self.new.drain }
-        ensures lender { D.lender self.new.drain ≡ D.lender self.old.drain }
-        ensures spent { (stop : Stop) → HasStopped self.old stop
-            → (result ≡ Err stop) × (self.new.drain ≡ self.old.drain) }
+        ensures { Pushes D.Drain (entity_of entity.now) self.old self.new result }
     {
         if let Some(stop) = self.stop {
             return Err(stop);
         }
-        let outcome = push_into(self.alloc, &mut self.drain, &mut self.block, entity, weight);
+        let weighed = Weighed { entity, weight };
+        let outcome = push_into(self.alloc, &mut self.drain, &mut self.block, weighed);
         if let Err(stop) = outcome {
             self.stop = Some(stop);
             self.block.clear(self.alloc);

@@ -1,6 +1,7 @@
 -- What a call that reads from a feed gives.
-use Rattle.std.specs.Prelude.{◌≡◌, ◌≤◌, ◌+◌, ◌^◌, ℕ, Bool, true, List, [], Option, Some, None, Result, Ok, take, drop, length}
+use Rattle.std.specs.Prelude.{◌≡◌, ◌≤◌, ◌+◌, ℕ, Bool, true, List, [], Option, Some, None, Result, Ok, IfErr, take, drop, length}
 use Rattle.pbf_wire.specs.declared.fault.Fault.{Fault}
+use Rattle.pbf_frame.specs.declared.device.Feed as feed
 use Rattle.pbf_frame.specs.declared.frame.FrameKind.{FrameKind}
 use Rattle.pbf_frame.specs.declared.frame.FrameKind.TheVariants as kind
 use Rattle.pbf_frame.specs.declared.frame_parts.Seen.{Seen}
@@ -39,6 +40,12 @@ IsReaderStop old new (Refused f) = Unit {0}
 IsReaderStop old new Read = HasRisen old new
 IsReaderStop old new Memory = Unit {0}
 IsReaderStop _ _ _ = ⊥
+
+-- a call that reads frames stops for such a cause; the feed's count of failures doesn't fall, and it keeps its references
+pub record UsesFeed {F X : Type 0} (f : feed.Ghosts F) (old new : F) (result : Result X Stop) : Type 0 where
+  pub stops : IfErr result (IsReaderStop (f.failures old) (f.failures new))
+  pub counts : f.failures old ≤ f.failures new
+  pub lender : f.lender new ≡ f.lender old
 
 -- this many bytes are gone
 pub record Skips (before now : ℕ → List ℕ → Type 0) (old new : Option (List ℕ)) (count : ℕ) : Type 0 where

@@ -1,6 +1,7 @@
 -- Why bytes are refused: what was read of them, and what may follow.
 use Rattle.std.specs.Prelude.{◌≡◌, ◌⊎◌, ℕ, List, ◌++◌, Option, Result, Err}
 use Rattle.pbf_wire.specs.declared.fault.Fault.{Fault}
+use Rattle.pbf_frame.specs.declared.device.Feed as feed
 use Rattle.pbf_frame.specs.declared.stop.Stop.{Stop}
 use Rattle.pbf_frame.specs.declared.stop.Stop.TheVariants.{Refused, Read, Write, Memory, Changed}
 use Rattle.pbf_frame.specs.Devices.{prepend, Passes, IsAtEnd}
@@ -19,3 +20,7 @@ RefusedBy judge before now old new Read = Unit {0}
 RefusedBy judge before now old new Write = Unit {0}
 RefusedBy judge before now old new Memory = Unit {0}
 RefusedBy judge before now old new (Changed pass) = Unit {0}
+
+-- the same of the bytes that a feed gave meanwhile
+abbrev pub RefusedFrom : {F A : Type 0} → feed.Ghosts F → (List ℕ → Result A Fault) → (old new : F) → Stop → Type 0
+RefusedFrom f judge old new stop = RefusedBy judge (f.has_passed old) (f.has_passed new) (f.remaining old) (f.remaining new) stop

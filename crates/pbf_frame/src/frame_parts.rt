@@ -8,8 +8,8 @@ ghost use Rattle.pbf_wire.specs.Faults.{fault};
 ghost use Rattle.pbf_frame.specs.declared.frame.TheConstants.{FILE_LIMIT};
 ghost use Rattle.pbf_frame.specs.Frames.{order_faults, next_of};
 ghost use Rattle.pbf_frame.specs.declared.header.TheConstants.{LARGEST_SIZE};
-ghost use Rattle.pbf_frame.specs.Reads.{Gives, IsReaderStop, IsFillStop, Reads, Skips, GaveBlob, GaveFrame, GaveEnd, IsPlaced};
-ghost use Rattle.pbf_frame.specs.Refusals.{RefusedBy};
+ghost use Rattle.pbf_frame.specs.Reads.{Gives, UsesFeed, IsFillStop, Reads, Skips, GaveBlob, GaveFrame, GaveEnd, IsPlaced};
+ghost use Rattle.pbf_frame.specs.Refusals.{RefusedFrom};
 ghost use Rattle.pbf_frame.specs.Sound.{IsSound};
 ghost use Rattle.pbf_frame.specs.Blob.{blob_fault};
 ghost use Rattle.pbf_frame.specs.Steps.{prefix_at, bytes_at, header_of, known_blob_of, blob_of, head_of};
@@ -26,6 +26,13 @@ use pbf_wire::{Fault, Reason, fault_where, lesser};
 
 // How many bytes of a blob of another type are skipped at a time.
 const PIECE: usize = 8192;
+
+/// Where a frame begins, and whether the header came before it.
+#[derive(Clone, Copy)]
+pub(crate) struct FrameStart {
+    pub(crate) place: u64,
+    pub(crate) had_header: bool,
+}
 
 fn refused(offset: u64, reason: Reason) -> Stop
     ensures { result ≡ Stop.Refused (fault offset reason) }
@@ -57,38 +64,36 @@ pub fn fill_vec<F: Feed>(feed: &mut F, buf: &mut Vec<u8>, count: usize) -> Resul
 
 // The four bytes before the next frame's header, or nothing at the end.
 #[tactic(auto, unfolding(crate::specs::Steps::prefix_at))]
-fn read_prefix<F: Feed>(feed: &mut F, had_header: bool, place: u64) -> Result<Option<[u8; 4]>, Stop>
+fn read_prefix<F: Feed>(feed: &mut F, start: FrameStart) -> Result<Option<[u8; 4]>, Stop>
     ensures given { IfOk result (λ o.
-        Gives o (F.remaining feed.old) (F.remaining feed.new) (prefix_at had_header place)) }
+        Gives o (F.remaining feed.old) (F.remaining feed.new)
+        (prefix_at start.had_header start.place)) }
     ensures refused { IfErr result
-        (RefusedBy (prefix_at had_header place) (F.has_passed feed.old) (F.has_passed feed.new)
-        (F.remaining feed.old) (F.remaining feed.new)) }
+        (RefusedFrom F.Feed (prefix_at start.had_header start.place) feed.old feed.new) }
     ensures long { IfOk result (λ o. IfSome o (λ prefix. length prefix ≡ 4)) }
     ensures small { IfOk result (λ o. IfSome o (λ prefix. big_number 4 prefix < HEADER_LIMIT)) }
     ensures ended { IfOk result (λ o. IfNone o (IsAtEnd (F.remaining feed.new))) }
-    ensures header_given { IfOk result (λ o. IfNone o (had_header ≡ true)) }
+    ensures header_given { IfOk result (λ o. IfNone o (start.had_header ≡ true)) }
     ensures bytes { IfOk result (λ o. F.remaining feed.old
         ≡ prepend (given_prefix o) (F.remaining feed.new)) }
-    ensures lender { F.lender feed.new ≡ F.lender feed.old }
     ensures passed { IfOk result (λ o.
         Passes (F.has_passed feed.old) (given_prefix o) (F.has_passed feed.new)) }
-    ensures counts { F.failures feed.old ≤ F.failures feed.new }
-    ensures stops { IfErr result (IsReaderStop (F.failures feed.old) (F.failures feed.new)) }
+    ensures feed { UsesFeed F.Feed feed.old feed.new result }
 {
     let mut prefix = [0; 4];
     let read = fill(feed, &mut prefix)?;
     if read == 0 {
-        return if had_header {
+        return if start.had_header {
             Ok(None)
         } else {
-            Err(refused(place, Reason::NoHeader))
+            Err(refused(start.place, Reason::NoHeader))
         };
     }
     if read < 4 {
-        return Err(refused(place, Reason::PrefixCut));
+        return Err(refused(start.place, Reason::PrefixCut));
     }
     if BigEndian::read_u32(&prefix) >= HEADER_LIMIT {
-        return Err(refused(place, Reason::HeaderLong));
+        return Err(refused(start.place, Reason::HeaderLong));
     }
     Ok(Some(prefix))
 }
@@ -98,18 +103,14 @@ fn read_prefix<F: Feed>(feed: &mut F, had_header: bool, place: u64) -> Result<Op
 fn read_bytes<F: Feed>(feed: &mut F, buf: &mut Vec<u8>, count: u32, cut: Fault) -> Result<(), Stop>
     ensures given { OnOk result
         (Gives buf.new.items (F.remaining feed.old) (F.remaining feed.new) (bytes_at cut count)) }
-    ensures refused { IfErr result
-        (RefusedBy (bytes_at cut count) (F.has_passed feed.old) (F.has_passed feed.new)
-        (F.remaining feed.old) (F.remaining feed.new)) }
+    ensures refused { IfErr result (RefusedFrom F.Feed (bytes_at cut count) feed.old feed.new) }
     ensures held { vec_len buf.new ≤ max count (vec_len buf.old) }
     ensures len { OnOk result (vec_len buf.new ≡ count) }
     ensures bytes { OnOk result (F.remaining feed.old
         ≡ prepend buf.new.items (F.remaining feed.new)) }
-    ensures lender { F.lender feed.new ≡ F.lender feed.old }
     ensures passed { OnOk result
         (Passes (F.has_passed feed.old) buf.new.items (F.has_passed feed.new)) }
-    ensures counts { F.failures feed.old ≤ F.failures feed.new }
-    ensures stops { IfErr result (IsReaderStop (F.failures feed.old) (F.failures feed.new)) }
+    ensures feed { UsesFeed F.Feed feed.old feed.new result }
 {
     fill_vec(feed, buf, count as usize)?;
     if buf.len() < count as usize {
@@ -120,18 +121,19 @@ fn read_bytes<F: Feed>(feed: &mut F, buf: &mut Vec<u8>, count: u32, cut: Fault) 
 
 // Whether a frame of this kind may be here and end here.
 #[tactic(auto, using(crate::proofs::Parts::lesser_parts))]
-fn judge_order(had_header: bool, place: u64, kind: FrameKind, end: u64) -> Option<Fault>
-    ensures { result ≡ least (order_faults (Some FILE_LIMIT) had_header place kind end) }
+fn judge_order(start: FrameStart, kind: FrameKind, end: u64) -> Option<Fault>
+    ensures { result ≡ least
+        (order_faults (Some FILE_LIMIT) start.had_header start.place kind end) }
 {
-    let second = had_header && kind == FrameKind::Header;
-    let first = !had_header && kind == FrameKind::Data;
+    let second = start.had_header && kind == FrameKind::Header;
+    let first = !start.had_header && kind == FrameKind::Data;
     let order = lesser(
-        fault_where(second, place, Reason::SecondHeader),
-        fault_where(first, place, Reason::DataFirst),
+        fault_where(second, start.place, Reason::SecondHeader),
+        fault_where(first, start.place, Reason::DataFirst),
     );
     lesser(
         order,
-        fault_where(end > FILE_LIMIT, place, Reason::FileLong),
+        fault_where(end > FILE_LIMIT, start.place, Reason::FileLong),
     )
 }
 
@@ -140,43 +142,40 @@ fn judge_order(had_header: bool, place: u64, kind: FrameKind, end: u64) -> Optio
 fn read_header<F: Feed>(
     feed: &mut F,
     header: &mut Vec<u8>,
-    had_header: bool,
-    place: u64,
+    start: FrameStart,
     prefix: &[u8],
 ) -> Result<Head, Stop>
-    requires in_range { place ≤ FILE_LIMIT }
+    requires in_range { start.place ≤ FILE_LIMIT }
     requires whole { 4 ≤ length prefix.now }
     requires small { big_number 4 prefix.now < HEADER_LIMIT }
     ensures given { IfOk result (λ head.
         Gives (header.new.items, head) (F.remaining feed.old) (F.remaining feed.new)
-        (header_of had_header place prefix.now)) }
+        (header_of start.had_header start.place prefix.now)) }
     ensures refused { IfErr result
-        (RefusedBy (header_of had_header place prefix.now) (F.has_passed feed.old)
-        (F.has_passed feed.new) (F.remaining feed.old) (F.remaining feed.new)) }
-    ensures head { IfOk result (λ head. head_of (place + 4) header.new.items ≡ Ok head) }
+        (RefusedFrom F.Feed (header_of start.had_header start.place prefix.now) feed.old feed.new) }
+    ensures head { IfOk result (λ head. head_of (start.place + 4) header.new.items ≡ Ok head) }
     ensures small { IfOk result (λ head. head.size ≤ LARGEST_SIZE) }
-    ensures end { IfOk result (λ head. place + 4 + vec_len header.new + head.size ≤ FILE_LIMIT) }
+    ensures end { IfOk result (λ head.
+        start.place + 4 + vec_len header.new + head.size ≤ FILE_LIMIT) }
     ensures held { vec_len header.new ≤ max 65535 (vec_len header.old) }
     ensures bytes { OnOk result (F.remaining feed.old
         ≡ prepend header.new.items (F.remaining feed.new)) }
-    ensures lender { F.lender feed.new ≡ F.lender feed.old }
     ensures passed { OnOk result
         (Passes (F.has_passed feed.old) header.new.items (F.has_passed feed.new)) }
     ensures spelled { OnOk result (length header.new.items ≡ big_number 4 prefix.now) }
     ensures ordered { IfOk result (λ head.
-        least (order_faults (Some FILE_LIMIT) had_header place head.kind
-        (place + 4 + length header.new.items + head.size)) ≡ None) }
-    ensures counts { F.failures feed.old ≤ F.failures feed.new }
-    ensures stops { IfErr result (IsReaderStop (F.failures feed.old) (F.failures feed.new)) }
+        least (order_faults (Some FILE_LIMIT) start.had_header start.place head.kind
+        (start.place + 4 + length header.new.items + head.size)) ≡ None) }
+    ensures feed { UsesFeed F.Feed feed.old feed.new result }
 {
     let cut = Fault {
-        offset: place,
+        offset: start.place,
         reason: Reason::HeaderCut,
     };
     read_bytes(feed, header, BigEndian::read_u32(prefix), cut)?;
-    let head = read_head(header, place + 4)?;
-    let end = place + 4 + header.len() as u64 + u64::from(head.size);
-    if let Some(fault) = judge_order(had_header, place, head.kind, end) {
+    let head = read_head(header, start.place + 4)?;
+    let end = start.place + 4 + header.len() as u64 + u64::from(head.size);
+    if let Some(fault) = judge_order(start, head.kind, end) {
         return Err(Stop::Refused(fault));
     }
     Ok(head)
@@ -188,12 +187,8 @@ fn skip<F: Feed>(feed: &mut F, count: u32, room: &mut [u8], cut: Fault) -> Resul
     ensures skips { OnOk result
         (Skips (F.has_passed feed.old) (F.has_passed feed.new) (F.remaining feed.old)
         (F.remaining feed.new) count) }
-    ensures lender { F.lender feed.new ≡ F.lender feed.old }
-    ensures counts { F.failures feed.old ≤ F.failures feed.new }
-    ensures refused { IfErr result
-        (RefusedBy (bytes_at cut count) (F.has_passed feed.old) (F.has_passed feed.new)
-        (F.remaining feed.old) (F.remaining feed.new)) }
-    ensures stops { IfErr result (IsReaderStop (F.failures feed.old) (F.failures feed.new)) }
+    ensures refused { IfErr result (RefusedFrom F.Feed (bytes_at cut count) feed.old feed.new) }
+    ensures feed { UsesFeed F.Feed feed.old feed.new result }
 {
     let mut left = count as usize;
     while left > 0 {
@@ -219,19 +214,15 @@ fn read_known_blob<F: Feed>(
     ensures given { OnOk result
         (Gives blob.new.items (F.remaining feed.old) (F.remaining feed.new)
         (known_blob_of size at)) }
-    ensures refused { IfErr result
-        (RefusedBy (known_blob_of size at) (F.has_passed feed.old) (F.has_passed feed.new)
-        (F.remaining feed.old) (F.remaining feed.new)) }
+    ensures refused { IfErr result (RefusedFrom F.Feed (known_blob_of size at) feed.old feed.new) }
     ensures sound { OnOk result (blob_fault at blob.new.items ≡ None) }
     ensures long { OnOk result (vec_len blob.new ≡ size) }
     ensures held { vec_len blob.new ≤ max size (vec_len blob.old) }
     ensures bytes { OnOk result (F.remaining feed.old
         ≡ prepend blob.new.items (F.remaining feed.new)) }
-    ensures lender { F.lender feed.new ≡ F.lender feed.old }
     ensures passed { OnOk result
         (Passes (F.has_passed feed.old) blob.new.items (F.has_passed feed.new)) }
-    ensures counts { F.failures feed.old ≤ F.failures feed.new }
-    ensures stops { IfErr result (IsReaderStop (F.failures feed.old) (F.failures feed.new)) }
+    ensures feed { UsesFeed F.Feed feed.old feed.new result }
 {
     let cut = Fault {
         offset: at,
@@ -252,12 +243,9 @@ fn read_blob<F: Feed>(feed: &mut F, blob: &mut Vec<u8>, head: Head, at: u64) -> 
         (F.has_passed feed.new) (F.remaining feed.old) (F.remaining feed.new)) }
     ensures sound { OnOk result (IsSound head.kind at blob.new.items) }
     ensures refused { IfErr result
-        (RefusedBy (blob_of head.kind head.size at) (F.has_passed feed.old) (F.has_passed feed.new)
-        (F.remaining feed.old) (F.remaining feed.new)) }
+        (RefusedFrom F.Feed (blob_of head.kind head.size at) feed.old feed.new) }
     ensures held { vec_len blob.new ≤ max head.size (vec_len blob.old) }
-    ensures lender { F.lender feed.new ≡ F.lender feed.old }
-    ensures counts { F.failures feed.old ≤ F.failures feed.new }
-    ensures stops { IfErr result (IsReaderStop (F.failures feed.old) (F.failures feed.new)) }
+    ensures feed { UsesFeed F.Feed feed.old feed.new result }
 {
     match head.kind {
         FrameKind::Header | FrameKind::Data => read_known_blob(feed, blob, head.size, at),
@@ -287,37 +275,34 @@ pub(crate) fn read_frame<F: Feed>(
     feed: &mut F,
     header: &mut Vec<u8>,
     blob: &mut Vec<u8>,
-    had_header: bool,
-    place: u64,
+    start: FrameStart,
 ) -> Result<Option<Seen>, Stop>
-    requires in_range { place ≤ FILE_LIMIT }
+    requires in_range { start.place ≤ FILE_LIMIT }
     ensures gave { IfOk result (λ o.
-        IfSome o (λ seen. GaveFrame had_header place header.new.items blob.new.items seen
-        (F.has_passed feed.old) (F.has_passed feed.new) (F.remaining feed.old)
+        IfSome o (λ seen. GaveFrame start.had_header start.place header.new.items blob.new.items
+        seen (F.has_passed feed.old) (F.has_passed feed.new) (F.remaining feed.old)
         (F.remaining feed.new))) }
     ensures ended { IfOk result (λ o.
-        IfNone o (GaveEnd had_header place (F.has_passed feed.old) (F.has_passed feed.new)
-        (F.remaining feed.old) (F.remaining feed.new))) }
+        IfNone o (GaveEnd start.had_header start.place (F.has_passed feed.old)
+        (F.has_passed feed.new) (F.remaining feed.old) (F.remaining feed.new))) }
     ensures refused { IfErr result
-        (RefusedBy (next_of had_header place) (F.has_passed feed.old) (F.has_passed feed.new)
-        (F.remaining feed.old) (F.remaining feed.new)) }
-    ensures later { IfOk result (λ o. IfSome o (λ seen. (place < seen.blob_at) × IsPlaced seen)) }
+        (RefusedFrom F.Feed (next_of start.had_header start.place) feed.old feed.new) }
+    ensures later { IfOk result (λ o.
+        IfSome o (λ seen. (start.place < seen.blob_at) × IsPlaced seen)) }
     ensures sound { IfOk result (λ o.
         IfSome o (λ seen. IsSound seen.kind seen.blob_at blob.new.items)) }
     ensures header_held { vec_len header.new ≤ max 65535 (vec_len header.old) }
     ensures blob_held { vec_len blob.new ≤ max LARGEST_SIZE (vec_len blob.old) }
-    ensures lender { F.lender feed.new ≡ F.lender feed.old }
-    ensures counts { F.failures feed.old ≤ F.failures feed.new }
-    ensures stops { IfErr result (IsReaderStop (F.failures feed.old) (F.failures feed.new)) }
+    ensures feed { UsesFeed F.Feed feed.old feed.new result }
 {
-    let Some(prefix) = read_prefix(feed, had_header, place)? else {
+    let Some(prefix) = read_prefix(feed, start)? else {
         return Ok(None);
     };
-    let head = read_header(feed, header, had_header, place, &prefix)?;
-    let blob_at = place + 4 + header.len() as u64;
+    let head = read_header(feed, header, start, &prefix)?;
+    let blob_at = start.place + 4 + header.len() as u64;
     read_blob(feed, blob, head, blob_at)?;
     Ok(Some(Seen {
-        offset: place,
+        offset: start.place,
         kind: head.kind,
         size: head.size,
         blob_at,

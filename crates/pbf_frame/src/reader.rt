@@ -8,7 +8,7 @@ ghost use Rattle.pbf_frame.specs.declared.reader.TheConstants.{MOST_BUFFERED};
 use crate::blob::payload_in;
 use crate::device::Feed;
 use crate::frame::{Frame, FrameKind};
-use crate::frame_parts::{Seen, read_frame};
+use crate::frame_parts::{FrameStart, Seen, read_frame};
 use crate::header::{TYPE, occurrence_text};
 use crate::stop::Stop;
 use pbf_wire::{Message, last_field};
@@ -86,13 +86,11 @@ impl<F: Feed> FrameReader<F> {
             State::Stopped(stop) => return Err(stop),
             State::Reading => {}
         }
-        let read = read_frame(
-            &mut self.feed,
-            &mut self.header,
-            &mut self.blob,
-            self.had_header,
-            self.place,
-        );
+        let start = FrameStart {
+            place: self.place,
+            had_header: self.had_header,
+        };
+        let read = read_frame(&mut self.feed, &mut self.header, &mut self.blob, start);
         match read {
             Ok(Some(seen)) => {
                 self.place = seen.blob_at + u64::from(seen.size);

@@ -1,17 +1,17 @@
 -- The nodes of a dense message, if their ids decide which are picked.
-use Rattle.std.proofs.Common.{◌≡◌, ℕ, zero, suc, ◌+◌, ℤ, Bool, true, false, cond, List, [], ◌∷◌, ◌++◌, map, append_assoc, append-nil, take-append-drop, take, drop, add-one, Option, Some, None, subst, refl, sym, ap, ◌∙◌}
+use Rattle.std.proofs.Common.{◌≡◌, ℕ, zero, suc, ◌+◌, ℤ, Bool, true, false, cond, Ok, Err, List, [], ◌∷◌, ◌++◌, map, append_assoc, append-nil, take-append-drop, take, drop, add-one, Option, Some, None, subst, refl, sym, ap, ◌∙◌}
 use Rattle.std.specs.List.{filter}
 use Rattle.std.proofs.lemmas.List.{map-append}
 use Rattle.osm_entity.specs.Entity.{NodeSpec, EntitySpec, node}
 use Rattle.pbf_dense.specs.Places.{BeginWithIds}
-use Rattle.pbf_block.specs.declared.counts.Counts.{Counts}
 use Rattle.pbf_frame.specs.declared.device.Drain as drain
 use Rattle.pbf_frame.specs.declared.stop.Stop.{Stop}
-use Rattle.osm_pack.specs.Packing.{Packing, IsPacking}
+use Rattle.osm_pack.specs.Packing.{Packing, IsPacking, has_header}
+use Rattle.pbfcut.specs.declared.pick.EntityPacker.{EntityPacker}
 use Rattle.pbfcut.specs.declared.pick.Picker.{Picker}
 use Rattle.osm_ways.specs.Phases.{KeptSets}
-use Rattle.pbfcut.specs.Pick.{everything, picked_by_some, id_picked, picks_of, picks_id, PacksPicked, StopsAmong, KeepsPacker}
-use Rattle.pbfcut.proofs.PackingLemmas.{only_picked, packs_none, packs_same, packs_more, stops_same, stops_later}
+use Rattle.pbfcut.specs.Pick.{everything, picked_by_some, id_picked, picks_of, picks_id, PacksEach, KeepsPacker}
+use Rattle.pbfcut.proofs.PackingLemmas.{PackedEach, each_left, each_picked, each_more, each_later}
 
 some_by_id : (sets : Option KeptSets) (n : NodeSpec) → picked_by_some sets (node n) ≡ id_picked sets n.id
 some_by_id None n = refl
@@ -63,61 +63,68 @@ module _ (p : Picker) where
 
 -- ---- in a dense message
 
-module _ {D S H : Type 0} (d : drain.Ghosts D) (p : Picker) (all : List NodeSpec) (first : Packing D S H) (before : Counts) where
+module _ {D S H : Type 0} (d : drain.Ghosts D) (first : EntityPacker) (all : List NodeSpec) (old : Packing D S H) where
   -- what is picked of the nodes that are gone was packed and counted
-  pub record OnNodes (left : List NodeSpec) (packer : Packing D S H) (counts : Counts) : Type 0 where
+  pub record OnNodes (left : List NodeSpec) (now : EntityPacker) (new : Packing D S H) : Type 0 where
     pub gone : List NodeSpec
     pub split : gone ++ left ≡ all
-    pub packed : PacksPicked d (picks_of p) (map node gone) first packer before counts
+    pub each : PackedEach d (picks_of first.picker) (map node gone) first now old new
 
-  pub at_first : IsPacking first → OnNodes all first before
-  at_first going = record { gone = []; split = refl; packed = packs_none d (picks_of p) first before going }
+  pub at_first : has_header old ≡ true → IsPacking old → OnNodes all first old
+  at_first begun going = record { gone = []; split = refl; each = each_left d (picks_of first.picker) [] first first old tt refl refl begun going }
 
   -- more nodes are gone
-  more_gone : (gone more : List NodeSpec) (packer next : Packing D S H) (counts now : Counts)
-      → PacksPicked d (picks_of p) (map node gone) first packer before counts → PacksPicked d (picks_of p) (map node more) packer next counts now → PacksPicked d (picks_of p) (map node (gone ++ more)) first next before now
-  more_gone gone more packer next counts now so_far then =
-      subst (λ (l : List EntitySpec). PacksPicked d (picks_of p) l first next before now) (sym (map-append node gone more))
-      (packs_more d (picks_of p) (map node gone) (map node more) first packer next before counts now so_far then)
+  more_gone : {X Y : Type 0} (gone more : List NodeSpec) (mid now : EntityPacker) (packer next : Packing D S H) (x : X) (y : Y) → PackedEach d (picks_of first.picker) (map node gone) first mid old packer
+      → PacksEach d (picks_of mid.picker) (map node more) mid now packer next (Ok x) → PacksEach d (picks_of first.picker) (map node (gone ++ more)) first now old next (Ok y)
+  more_gone gone more mid now packer next x y so_far then =
+      subst (λ (l : List EntitySpec). PacksEach d (picks_of first.picker) l first now old next (Ok y)) (sym (map-append node gone more))
+      (each_more d (map node gone) (map node more) first mid now old packer next tt x y so_far then)
 
   -- nodes that aren't picked
-  none_gone : (more : List NodeSpec) (packer : Packing D S H) (counts : Counts) → filter (picks_of p) (map node more) ≡ [] → IsPacking packer → PacksPicked d (picks_of p) (map node more) packer packer counts counts
-  none_gone more packer counts none going = packs_same d (picks_of p) (picks_of p) [] (map node more) packer packer counts counts (sym none) (packs_none d (picks_of p) packer counts going)
+  none_gone : (more : List NodeSpec) (mid now : EntityPacker) (packer : Packing D S H) → now ≡ mid → filter (picks_of mid.picker) (map node more) ≡ [] → KeepsPacker d old packer → IsPacking packer
+      → PackedEach d (picks_of mid.picker) (map node more) mid now packer packer
+  none_gone more mid now packer same none keeps going = each_left d (picks_of mid.picker) (map node more) mid now packer tt same none keeps.header going
 
   -- the next isn't picked, and so many after it aren't either
-  pub some_passed : (left ns : List NodeSpec) (n : NodeSpec) (count : ℕ) (packer : Packing D S H) (counts : Counts) → left ≡ n ∷ ns → picks_id p n.id ≡ false → NonePicked p count ns → OnNodes left packer counts → OnNodes (drop count ns) packer counts
-  some_passed left ns n count packer counts is here later on =
+  pub some_passed : (left ns rest : List NodeSpec) (n : NodeSpec) (count : ℕ) (mid now : EntityPacker) (packer : Packing D S H) → left ≡ n ∷ ns → rest ≡ drop count ns → picks_id mid.picker n.id ≡ false → NonePicked mid.picker count ns → now ≡ mid → OnNodes left mid packer → OnNodes rest now packer
+  some_passed left ns rest n count mid now packer is passed here later same on =
+      let p = mid.picker in
       let none : filter (picks_of p) (map node (n ∷ take count ns)) ≡ [] = ap (λ (b : Bool). cond b (node n ∷ filter (picks_of p) (map node (take count ns))) (filter (picks_of p) (map node (take count ns)))) (picked_by_id p n ∙ here) ∙ later in
       record {
         gone = on.gone ++ (n ∷ take count ns);
-        split = append_assoc on.gone (n ∷ take count ns) (drop count ns) ∙ (ap (λ (l : List NodeSpec). on.gone ++ (n ∷ l)) (take-append-drop count ns) ∙ (ap (λ (l : List NodeSpec). on.gone ++ l) (sym is) ∙ on.split));
-        packed = more_gone on.gone (n ∷ take count ns) packer packer counts counts on.packed (none_gone (n ∷ take count ns) packer counts none on.packed.going);
+        split = ap (λ (l : List NodeSpec). (on.gone ++ (n ∷ take count ns)) ++ l) passed ∙ (append_assoc on.gone (n ∷ take count ns) (drop count ns) ∙ (ap (λ (l : List NodeSpec). on.gone ++ (n ∷ l)) (take-append-drop count ns) ∙ (ap (λ (l : List NodeSpec). on.gone ++ l) (sym is) ∙ on.split)));
+        each = more_gone on.gone (n ∷ take count ns) mid now packer packer tt tt on.each (none_gone (n ∷ take count ns) mid now packer same none on.each.keeps on.each.packed.going);
       }
 
   -- the next isn't picked, and none after it is either
-  pub rest_passed : (left ns : List NodeSpec) (n : NodeSpec) (packer : Packing D S H) (counts : Counts) → left ≡ n ∷ ns → picks_id p n.id ≡ false → filter (picks_of p) (map node ns) ≡ [] → OnNodes left packer counts → PacksPicked d (picks_of p) (map node all) first packer before counts
-  rest_passed left ns n packer counts is here later on =
+  pub rest_passed : {Y : Type 0} (left ns : List NodeSpec) (n : NodeSpec) (mid now : EntityPacker) (packer : Packing D S H) (y : Y) → left ≡ n ∷ ns → picks_id mid.picker n.id ≡ false → filter (picks_of mid.picker) (map node ns) ≡ [] → now ≡ mid → OnNodes left mid packer
+      → PacksEach d (picks_of first.picker) (map node all) first now old packer (Ok y)
+  rest_passed left ns n mid now packer y is here later same on =
+      let p = mid.picker in
       let none : filter (picks_of p) (map node (n ∷ ns)) ≡ [] = ap (λ (b : Bool). cond b (node n ∷ filter (picks_of p) (map node ns)) (filter (picks_of p) (map node ns))) (picked_by_id p n ∙ here) ∙ later in
-      subst (λ (l : List NodeSpec). PacksPicked d (picks_of p) (map node l) first packer before counts) (ap (λ (l : List NodeSpec). on.gone ++ l) (sym is) ∙ on.split)
-      (more_gone on.gone (n ∷ ns) packer packer counts counts on.packed (none_gone (n ∷ ns) packer counts none on.packed.going))
+      subst (λ (l : List NodeSpec). PacksEach d (picks_of first.picker) (map node l) first now old packer (Ok y)) (ap (λ (l : List NodeSpec). on.gone ++ l) (sym is) ∙ on.split)
+      (more_gone on.gone (n ∷ ns) mid now packer packer tt y on.each (none_gone (n ∷ ns) mid now packer same none on.each.keeps on.each.packed.going))
 
   -- the next is picked
-  pub one_packed : (left ns : List NodeSpec) (n : NodeSpec) (packer next : Packing D S H) (counts now : Counts) → left ≡ n ∷ ns → picks_id p n.id ≡ true → OnNodes left packer counts → PacksPicked d everything (node n ∷ []) packer next counts now → OnNodes ns next now
-  one_packed left ns n packer next counts now is picked on one = record {
+  pub one_packed : {X : Type 0} (left ns : List NodeSpec) (n : NodeSpec) (mid then now : EntityPacker) (packer next : Packing D S H) (x : X) → left ≡ n ∷ ns → picks_id mid.picker n.id ≡ true → then ≡ mid → OnNodes left mid packer
+      → PacksEach d everything (node n ∷ []) then now packer next (Ok x) → OnNodes ns now next
+  one_packed left ns n mid then now packer next x is picked same on one = record {
     gone = on.gone ++ n ∷ [];
     split = append_assoc on.gone (n ∷ []) ns ∙ (ap (λ (l : List NodeSpec). on.gone ++ l) (sym is) ∙ on.split);
-    packed = more_gone on.gone (n ∷ []) packer next counts now on.packed (packs_same d everything (picks_of p) (node n ∷ []) (node n ∷ []) packer next counts now (only_picked (picks_of p) (node n) (picked_by_id p n ∙ picked)) one);
+    each = more_gone on.gone (n ∷ []) mid now packer next x tt on.each (each_picked d (picks_of mid.picker) (node n) mid then now packer next (Ok x) same (picked_by_id mid.picker n ∙ picked) one);
   }
 
-  pub one_stops : (number : ℕ) (left ns : List NodeSpec) (n : NodeSpec) (packer next : Packing D S H) (counts : Counts) (s : Stop) → left ≡ n ∷ ns → picks_id p n.id ≡ true → OnNodes left packer counts → KeepsPacker d first packer
-      → StopsAmong d number everything (node n ∷ []) packer next s → StopsAmong d number (picks_of p) (map node all) first next s
-  one_stops number left ns n packer next counts s is picked on keeps stops =
+  pub one_stops : {X : Type 0} (left ns : List NodeSpec) (n : NodeSpec) (mid then now : EntityPacker) (packer next : Packing D S H) (s : Stop) → left ≡ n ∷ ns → picks_id mid.picker n.id ≡ true → then ≡ mid → OnNodes left mid packer
+      → PacksEach {X = X} d everything (node n ∷ []) then now packer next (Err s) → PacksEach {X = X} d (picks_of first.picker) (map node all) first now old next (Err s)
+  one_stops {X} left ns n mid then now packer next s is picked same on stops =
       let split = sym (map-append node on.gone (n ∷ ns)) ∙ ap (map node) (ap (λ (l : List NodeSpec). on.gone ++ l) (sym is) ∙ on.split) in
-      stops_later d number (picks_of p) (map node on.gone) (node n ∷ []) (map node ns) (map node all) first packer next before counts s split on.packed keeps
-      (stops_same d number everything (picks_of p) (node n ∷ []) packer next s (only_picked (picks_of p) (node n) (picked_by_id p n ∙ picked)) stops)
+      each_later d (map node on.gone) (node n ∷ []) (map node ns) (map node all) first mid now old packer next tt s split on.each
+      (each_picked d (picks_of mid.picker) (node n) mid then now packer next (Err s) same (picked_by_id mid.picker n ∙ picked) stops)
 
   -- no node is left
-  pub all_gone : (left : List NodeSpec) (packer : Packing D S H) (counts : Counts) → left ≡ [] → OnNodes left packer counts → PacksPicked d (picks_of p) (map node all) first packer before counts
-  all_gone left packer counts none on =
+  pub all_gone : {Y : Type 0} (left : List NodeSpec) (now : EntityPacker) (new : Packing D S H) (y : Y) → left ≡ [] → OnNodes left now new → PacksEach d (picks_of first.picker) (map node all) first now old new (Ok y)
+  all_gone left now new y none on =
       let is = sym (append-nil on.gone) ∙ (ap (λ (l : List NodeSpec). on.gone ++ l) (sym none) ∙ on.split) in
-      subst (λ (l : List NodeSpec). PacksPicked d (picks_of p) (map node l) first packer before counts) is on.packed
+      let each = on.each in
+      subst (λ (l : List NodeSpec). PacksEach d (picks_of first.picker) (map node l) first now old new (Ok y)) is
+      (record { packed = each.packed; stopped = tt; keeps = each.keeps; same = each.same })

@@ -1,6 +1,6 @@
 -- Entities of which some are picked and packed, part by part.
 use Rattle.std.proofs.Common.{◌≡◌, ℕ, List, [], ◌∷◌, ◌++◌, append_assoc, append-nil, Bool, true, false, subst, refl, sym, ap, ◌∙◌, arith}
-use Rattle.std.specs.Prelude.{cond}
+use Rattle.std.specs.Prelude.{cond, Result, Ok, Err}
 use Rattle.std.proofs.lemmas.List.Elements.{filter-append}
 use Rattle.std.specs.List.{AllByRecursion, filter}
 use Rattle.osm_entity.specs.Entity.{EntitySpec, node, way, relation}
@@ -17,7 +17,9 @@ use Rattle.osm_pack.specs.Stops.{IsPackStop}
 use Rattle.pbf_pass.specs.Counting.{counts_of, counted_with, count_one}
 use Rattle.pbf_pass.specs.Stops.{Caused, WriteFailed}
 use Rattle.pbf_pass.proofs.CountLemmas.{same_counts, counts_together}
-use Rattle.pbfcut.specs.Pick.{Pick, everything, HasPacked, Packs, Begins, PacksPicked, StopsAmong, KeepsPacker}
+use Rattle.pbfcut.specs.declared.pick.EntityPacker.{EntityPacker}
+use Rattle.pbfcut.specs.declared.pick.Picker.{Picker}
+use Rattle.pbfcut.specs.Pick.{Pick, everything, picks_of, HasPacked, Packs, Begins, PacksPicked, StopsAmong, PacksEach, KeepsPacker}
 use Rattle.pbfcut.proofs.PickingLemmas.{packed_push, begins_push, begins_none, none_gone, pack_stop}
 
 -- ---- which are picked
@@ -102,10 +104,6 @@ module _ {D S H : Type 0} (d : drain.Ghosts D) where
     counted = λ done is. p.counted done is ∙ ap (λ (l : List EntitySpec). counts_of (done ++ l)) same;
   }
 
-  -- the same of an entity that is equal
-  pub stops_as : (number : ℕ) (pick : Pick) (e made : EntitySpec) (old new : Packing D S H) (s : Stop) → made ≡ e → StopsAmong d number pick (made ∷ []) old new s → StopsAmong d number pick (e ∷ []) old new s
-  stops_as number pick e made old new s same stops = subst (λ x. StopsAmong d number pick (x ∷ []) old new s) same stops
-
   pub stops_same : (number : ℕ) (pick other : Pick) (xs : List EntitySpec) (a b : Packing D S H) (s : Stop) → filter pick xs ≡ filter other xs → StopsAmong d number pick xs a b s → StopsAmong d number other xs a b s
   stops_same number pick other xs a b s same stops = record { cause = stops.cause; begins = subst (λ (l : List EntitySpec). Begins d a b l) same stops.begins }
 
@@ -147,3 +145,57 @@ module _ {D S H : Type 0} (d : drain.Ghosts D) where
     of stop.Write h = omega (arith, keeps.drain_kept.counts, h)
     of stop.Memory h = tt
     of (stop.Changed pass) h = (h.0, λ every. h.1 (fits every))
+
+-- ---- what a call does
+
+-- so far, in a loop over such calls
+abbrev pub PackedEach : {D S H : Type 0} → drain.Ghosts D → Pick → List EntitySpec → (before now : EntityPacker) → (old new : Packing D S H) → Type 0
+PackedEach d pick es before now old new = PacksEach {X = Unit {0}} d pick es before now old new (Ok tt)
+
+module _ {D S H X : Type 0} (d : drain.Ghosts D) where
+  -- the same of entities that are equal
+  pub each_as : (pick : Pick) (xs ys : List EntitySpec) (a b : EntityPacker) (old new : Packing D S H) (r : Result X Stop) → xs ≡ ys → PacksEach d pick xs a b old new r → PacksEach d pick ys a b old new r
+  each_as pick xs ys a b old new r same p = subst (λ (l : List EntitySpec). PacksEach d pick l a b old new r) same p
+
+  -- entities of which none is picked
+  pub each_left : (pick : Pick) (es : List EntitySpec) (a b : EntityPacker) (packer : Packing D S H) (x : X) → b ≡ a → filter pick es ≡ [] → has_header packer ≡ true → IsPacking packer → PacksEach d pick es a b packer packer (Ok x)
+  each_left pick es a b packer x same none begun going = subst (λ (m : EntityPacker). PacksEach d pick es a m packer packer (Ok x)) (sym same) (record {
+    packed = packs_same d pick pick [] es packer packer a.counts a.counts (sym none) (packs_none d pick packer a.counts going);
+    stopped = tt;
+    keeps = keeps_same d packer begun;
+    same = (refl, refl);
+  })
+
+  -- an entity that is picked
+  pub each_picked : (pick : Pick) (e : EntitySpec) (a mid b : EntityPacker) (old new : Packing D S H) (r : Result X Stop) → mid ≡ a → pick e ≡ true → PacksEach d everything (e ∷ []) mid b old new r → PacksEach d pick (e ∷ []) a b old new r
+  each_picked pick e a mid b old new r same is one = of r (subst (λ (m : EntityPacker). PacksEach d everything (e ∷ []) m b old new r) same one)
+    where
+      of : (r : Result X Stop) → PacksEach d everything (e ∷ []) a b old new r → PacksEach d pick (e ∷ []) a b old new r
+      of (Ok x) p = record { packed = packs_same d everything pick (e ∷ []) (e ∷ []) old new a.counts b.counts (only_picked pick e is) p.packed; stopped = tt; keeps = p.keeps; same = p.same }
+      of (Err s) p = record { packed = tt; stopped = stops_same d a.number everything pick (e ∷ []) old new s (only_picked pick e is) p.stopped; keeps = p.keeps; same = p.same }
+
+  -- ---- one call after another
+
+  pub each_more : {Y Z : Type 0} (xs ys : List EntitySpec) (a b c : EntityPacker) (old mid new : Packing D S H) (x : X) (y : Y) (z : Z)
+      → PacksEach d (picks_of a.picker) xs a b old mid (Ok x) → PacksEach d (picks_of b.picker) ys b c mid new (Ok y) → PacksEach d (picks_of a.picker) (xs ++ ys) a c old new (Ok z)
+  each_more xs ys a b c old mid new x y z p then =
+      let q = subst (λ (k : Picker). PacksEach d (picks_of k) ys b c mid new (Ok y)) p.same.0 then in
+      record {
+        packed = packs_more d (picks_of a.picker) xs ys old mid new a.counts b.counts c.counts p.packed q.packed;
+        stopped = tt;
+        keeps = keeps_more d old mid new p.keeps q.keeps;
+        same = (q.same.0 ∙ p.same.0, q.same.1 ∙ p.same.1);
+      }
+
+  -- a stop in one part is a stop in all of them
+  pub each_later : {Y : Type 0} (xs ys zs all : List EntitySpec) (a b c : EntityPacker) (old mid new : Packing D S H) (x : X) (s : Stop) → xs ++ (ys ++ zs) ≡ all
+      → PacksEach d (picks_of a.picker) xs a b old mid (Ok x) → PacksEach {X = Y} d (picks_of b.picker) ys b c mid new (Err s) → PacksEach {X = Y} d (picks_of a.picker) all a c old new (Err s)
+  each_later {Y} xs ys zs all a b c old mid new x s split p then =
+      let q = subst (λ (k : Picker). PacksEach {X = Y} d (picks_of k) ys b c mid new (Err s)) p.same.0 then in
+      let stops = subst (λ (n : ℕ). StopsAmong d n (picks_of a.picker) ys mid new s) p.same.1 q.stopped in
+      record {
+        packed = tt;
+        stopped = stops_later d a.number (picks_of a.picker) xs ys zs all old mid new a.counts b.counts s split p.packed p.keeps stops;
+        keeps = keeps_more d old mid new p.keeps q.keeps;
+        same = (q.same.0 ∙ p.same.0, q.same.1 ∙ p.same.1);
+      }

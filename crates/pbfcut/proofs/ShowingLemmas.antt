@@ -1,5 +1,5 @@
 -- The text of frames, and why its writing stops.
-use Rattle.std.proofs.Common.{◌≡◌, ◌≤◌, ◌⊎◌, arith, ℕ, List, [], ◌∷◌, ◌++◌, append_assoc, Bool, false, Option, Some, None, subst, inl, inr, refl, sym, ap, ◌∙◌}
+use Rattle.std.proofs.Common.{◌≡◌, ◌≤◌, ◌⊎◌, arith, ℕ, List, [], ◌∷◌, ◌++◌, append_assoc, Bool, false, Option, Some, None, Result, subst, inl, inr, refl, sym, ap, ◌∙◌}
 use Rattle.std.specs.List.{flat_map}
 use Rattle.std.proofs.lemmas.Grind.{flat_map-append}
 use Rattle.osm_entity.specs.Entity.{EntitySpec}
@@ -23,8 +23,9 @@ use Rattle.pbf_pass.specs.Given.{Took}
 use Rattle.pbf_pass.specs.Refused.{RefusesRest}
 use Rattle.pbf_pass.proofs.AgainLemmas.{refuses_less}
 use Rattle.pbf_pass.specs.Visit.{Takes, Fails, Visited, VisitsAll, StopsVisit, RefusesVisit}
-use Rattle.pbfcut.specs.Showing.{frame_text, file_text, answer_text, Shown, ShowsFront, WritesFront, ShowsNext, FailsToShowNext}
-use Rattle.pbf_pass.specs.Stops.{Caused, FaultOf, Only, unchanged, WriteFailed}
+use Rattle.pbfcut.specs.declared.showing.LineWriter.{LineWriter}
+use Rattle.pbfcut.specs.Showing.{frame_text, file_text, answer_text, Shown, ShowsFront, WritesFront, WritesLines, ShowsNext, FailsToShowNext}
+use Rattle.pbf_pass.specs.Stops.{Caused, FaultOf, Only, unchanged, KeepsDrain, WriteFailed}
 use Rattle.pbf_frame.proofs.Beginnings.{front_whole, front_longer, front_then}
 use Rattle.osm_text.specs.EntityText.{entity_line}
 use Rattle.pbfcut.proofs.ListingLemmas.{StoppedWithin, text_one, texts_added, texts_front}
@@ -137,3 +138,17 @@ entities_front dates done left rest all e before now after is split went front =
     subst (λ (l : List ℕ). IsFront before after l)
     (ap (λ (l : List ℕ). l ++ lines rest) (sym (text_one line done e)) ∙ sym (flat_map-append line (done ++ e ∷ []) rest) ∙ ap lines (entities_more done left rest all e is split))
     (front_longer before after (lines done ++ line e) (lines rest) (front_then before now after (lines done) (line e) went front))
+
+-- ---- of lines
+
+module _ {D : Type 0} (d : drain.Ghosts D) where
+  pub keeps_drain : (a b c : D) → KeepsDrain d a b → KeepsDrain d b c → KeepsDrain d a c
+  keeps_drain a b c k l = record { counts = omega (arith, k.counts, l.counts); lender = l.lender ∙ k.lender }
+
+  -- of a writer with other dates that are the same
+  pub lines_by : {X : Type 0} (here dates : Bool) (e : EntitySpec) (before now : LineWriter) (old new : D) (r : Result X Stop) → here ≡ dates → WritesLines d (entity_line here e) before now old new r → WritesLines d (entity_line dates e) before now old new r
+  lines_by here dates e before now old new r same lines = subst (λ (b : Bool). WritesLines d (entity_line b e) before now old new r) same lines
+
+  -- a stop after what was written is one of all
+  pub stopped_since : (a b c : D) (s : Stop) → KeepsDrain d a b → Caused (Only None) ⊥ (WriteFailed d b c) unchanged s → Caused (Only None) ⊥ (WriteFailed d a c) unchanged s
+  stopped_since a b c s keeps stops = fails_since None _ _ _ s keeps.counts stops

@@ -1,5 +1,5 @@
 -- Entities that are picked, on their way into the drain.
-use Rattle.std.specs.Prelude.{◌≡◌, ◌⊎◌, ℕ, ℤ, List, [], ◌++◌, Bool, true, false, Option, Some, None}
+use Rattle.std.specs.Prelude.{◌≡◌, ◌⊎◌, ℕ, ℤ, List, [], ◌++◌, Bool, true, false, Option, Some, None, Result, OnOk, IfErr}
 use Rattle.std.specs.Borrow.{Bor}
 use Rattle.std.specs.FinSet as set
 use Rattle.std.specs.List.{AllByRecursion, filter}
@@ -18,6 +18,7 @@ use Rattle.pbf_frame.specs.Frames.{FrameSpec}
 use Rattle.pbf_wire.specs.declared.fault.Fault.{Fault}
 use Rattle.pbf_pass.specs.declared.pass.Pass.{Pass}
 use Rattle.osm_ways.specs.declared.phases.Chosen.{Chosen}
+use Rattle.pbfcut.specs.declared.pick.EntityPacker.{EntityPacker}
 use Rattle.pbfcut.specs.declared.pick.Picker.{Picker}
 use Rattle.pbf_block.specs.declared.counts.Counts.{Counts}
 use Rattle.pbf_pass.specs.Counting.{entities_in, counts_of}
@@ -107,6 +108,17 @@ pub record PacksPicked {D S H : Type 0} (d : drain.Ghosts D) (pick : Pick) (es :
 pub record KeepsPacker {D S H : Type 0} (d : drain.Ghosts D) (old new : Packing D S H) : Type 0 where
   pub header : has_header new ≡ true
   pub drain_kept : KeepsDrain d old.drain new.drain
+
+-- what a call does that packs those of these entities that are picked, one after another, and counts them
+pub record PacksEach {D S H X : Type 0} (d : drain.Ghosts D) (pick : Pick) (es : List EntitySpec) (before now : EntityPacker) (old new : Packing D S H) (result : Result X Stop) : Type 0 where
+  pub packed : OnOk result (PacksPicked d pick es old new before.counts now.counts)
+  pub stopped : IfErr result (StopsAmong d before.number pick es old new)
+  pub keeps : KeepsPacker d old new
+  pub same : (now.picker ≡ before.picker) × (now.number ≡ before.number)
+
+-- a packer that has its header, and goes on
+abbrev pub IsReady : {D S H : Type 0} → Packing D S H → Type 0
+IsReady packer = (has_header packer ≡ true) × IsPacking packer
 
 -- a packer that was just made
 pub record IsFreshPacker {D S H : Type 0} (packer : Packing D S H) : Type 0 where

@@ -1,5 +1,5 @@
 -- Passes after the first one: their bytes have to have its digest.
-use Rattle.std.specs.Prelude.{◌≡◌, ℕ, List, Bool, true, false, Option, Some, None}
+use Rattle.std.specs.Prelude.{◌≡◌, ℕ, List, Bool, true, false, Option, Some}
 use Rattle.sha2.specs.Sha256.{sha256}
 use Rattle.osm_entity.specs.Entity.{EntitySpec}
 use Rattle.pbf_frame.specs.declared.device.Feed as feed

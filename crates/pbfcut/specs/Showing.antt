@@ -1,5 +1,5 @@
 -- The text of `show`, what a call does to its drain, and why it stops.
-use Rattle.std.specs.Prelude.{◌≡◌, ◌≤◌, ◌⊎◌, ℕ, List, [], Bool, Option, Some, None}
+use Rattle.std.specs.Prelude.{◌≡◌, ◌≤◌, ◌⊎◌, ℕ, List, [], Bool, Option, Some, None, Result, OnOk, OnErr, IfErr}
 use Rattle.std.specs.List.{flat_map}
 use Rattle.pbf_wire.specs.declared.fault.Fault.{Fault}
 use Rattle.pbf_header.specs.Header.{header_in}
@@ -12,9 +12,10 @@ use Rattle.pbf_frame.specs.Frames.{FrameSpec}
 use Rattle.pbf_frame.specs.Verdict.{Verdict, Says}
 use Rattle.osm_text.specs.EntityText.{entity_line}
 use Rattle.osm_text.specs.HeaderText.{header_text}
+use Rattle.pbfcut.specs.declared.showing.LineWriter.{LineWriter}
 use Rattle.pbf_pass.specs.Judged.{fault_in, payload_fault}
 use Rattle.pbf_pass.specs.Payload.{Payload, header_block, primitive_block, unknown, payload_of}
-use Rattle.pbf_pass.specs.Stops.{Caused, Only, unchanged, WriteFailed}
+use Rattle.pbf_pass.specs.Stops.{Caused, Only, unchanged, KeepsDrain, WriteFailed}
 
 -- ---- the text
 
@@ -66,25 +67,26 @@ pub record StopsShowing {D : Type 0} (d : drain.Ghosts D) (fault : Option Fault)
   pub cause : Caused (Only fault) ⊥ (WriteFailed d old new) unchanged stop
   pub front : (d.taken new ≡ d.taken old) ⊎ ((fault ≡ None) × IsFront (d.taken old) (d.taken new) text)
 
--- a payload was shown, or a call stopped at it
-abbrev pub ShowsPayload : {D : Type 0} → drain.Ghosts D → Bool → Payload → D → D → Type 0
-ShowsPayload d dates p old new = ShowsText d (fault_in p) (text_in dates p) old new
+-- what a call does that writes these lines
+pub record WritesLines {D X : Type 0} (d : drain.Ghosts D) (text : List ℕ) (before now : LineWriter) (old new : D) (result : Result X Stop) : Type 0 where
+  pub shown : OnOk result (Added d old text new)
+  pub front : OnErr result (IsFront (d.taken old) (d.taken new) text)
+  pub stops : IfErr result (Caused (Only None) ⊥ (WriteFailed d old new) unchanged)
+  pub keeps : KeepsDrain d old new
+  pub same : now.dates ≡ before.dates
 
-abbrev pub FailsToShowPayload : {D : Type 0} → drain.Ghosts D → Bool → Payload → D → D → Stop → Type 0
-FailsToShowPayload d dates p old new stop = StopsShowing d (fault_in p) (text_in dates p) old new stop
+-- what a call does that judges a payload, and writes its lines
+pub record WritesPayload {D X : Type 0} (d : drain.Ghosts D) (p : Payload) (before now : LineWriter) (old new : D) (result : Result X Stop) : Type 0 where
+  pub shown : OnOk result (ShowsText d (fault_in p) (text_in before.dates p) old new)
+  pub stopped : IfErr result (StopsShowing d (fault_in p) (text_in before.dates p) old new)
+  pub keeps : KeepsDrain d old new
+  pub same : now.dates ≡ before.dates
 
--- the same of a frame
-abbrev pub ShowsFrame : {D : Type 0} → drain.Ghosts D → Bool → D → D → FrameSpec → Type 0
-ShowsFrame d dates old new f = ShowsText d (payload_fault f) (frame_text dates f) old new
-
-abbrev pub FailsToShow : {D : Type 0} → drain.Ghosts D → Bool → D → D → FrameSpec → Stop → Type 0
-FailsToShow d dates old new f stop = StopsShowing d (payload_fault f) (frame_text dates f) old new stop
-
--- what a visitor does that shows, and the count of failures doesn't fall
+-- what a visitor does with a frame that shows, and the count of failures doesn't fall
 pub record ShowsNext {D : Type 0} (d : drain.Ghosts D) (dates : Bool) (old new : D) (f : FrameSpec) : Type 0 where
-  pub shows : ShowsFrame d dates old new f
+  pub shows : ShowsText d (payload_fault f) (frame_text dates f) old new
   pub counts : d.failures old ≤ d.failures new
 
 pub record FailsToShowNext {D : Type 0} (d : drain.Ghosts D) (dates : Bool) (old new : D) (f : FrameSpec) (stop : Stop) : Type 0 where
-  pub fails : FailsToShow d dates old new f stop
+  pub fails : StopsShowing d (payload_fault f) (frame_text dates f) old new stop
   pub counts : d.failures old ≤ d.failures new

@@ -1,5 +1,5 @@
 -- The pass that writes, over payloads that it doesn't judge: what is written is stated for files without a fault.
-use Rattle.std.specs.Prelude.{◌≡◌, ℕ, List, ◌++◌, Option, Some, None}
+use Rattle.std.specs.Prelude.{◌≡◌, ℕ, List, ◌++◌, Option, Some, None, Result, OnOk, IfErr}
 use Rattle.std.specs.List.{filter}
 use Rattle.osm_entity.specs.Entity.{EntitySpec}
 use Rattle.osm_pack.specs.Cuts.{written_file}
@@ -16,7 +16,8 @@ use Rattle.pbf_pass.specs.Counting.{counts_of, stored_entities}
 use Rattle.pbf_pass.specs.Judged.{fault_in}
 use Rattle.pbf_pass.specs.Payload.{Payload, payload_of}
 use Rattle.pbf_pass.specs.Stops.{WriteFailed}
-use Rattle.pbfcut.specs.Pick.{Pick, Packs, Begins, KeepsPacker, picked_in}
+use Rattle.pbfcut.specs.declared.pick.EntityPacker.{EntityPacker}
+use Rattle.pbfcut.specs.Pick.{Pick, Packs, Begins, KeepsPacker, picked_in, picks_of}
 
 -- ---- one payload, and one frame
 
@@ -33,6 +34,12 @@ pub record PacksAgain {D S H : Type 0} (d : drain.Ghosts D) (pick : Pick) (p : P
 pub record FailsAgain {D S H : Type 0} (d : drain.Ghosts D) (number : ℕ) (pick : Pick) (p : Payload) (old new : Packing D S H) (stop : Stop) : Type 0 where
   pub cause : StopsAtPayload number (WriteFailed d old.drain new.drain) p stop
   pub begins : fault_in p ≡ None → Begins d old new (picked_in pick p)
+
+-- what a call does at a payload that it doesn't judge
+pub record PacksUnjudged {D S H X : Type 0} (d : drain.Ghosts D) (p : Payload) (before now : EntityPacker) (old new : Packing D S H) (result : Result X Stop) : Type 0 where
+  pub packed : OnOk result (PacksAgain d (picks_of before.picker) p old new before.counts now.counts)
+  pub stopped : IfErr result (FailsAgain d before.number (picks_of before.picker) p old new)
+  pub keeps : KeepsPacker d old new
 
 -- the same of a frame
 abbrev pub PacksFrameAgain : {D S H : Type 0} → drain.Ghosts D → Pick → (old new : Packing D S H) → (before now : Counts) → FrameSpec → Type 0

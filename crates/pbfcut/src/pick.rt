@@ -1,6 +1,6 @@
 //! Entities that are picked, on their way into the drain, and the steps that judge them.
 
-ghost use Rattle.std.specs.Prelude.{true, [], ◌∷◌, ◌≡◌, ◌<◌, ◌≤◌, ◌+◌, ◌^◌, None, Err, IfOk, IfErr, OnOk, MatchOption, length, map, filter, take};
+ghost use Rattle.std.specs.Prelude.{true, [], ◌∷◌, ◌≡◌, ◌≤◌, ◌+◌, None, Err, IfErr, OnOk, MatchOption, map, filter, take};
 ghost use Rattle.std.specs.Option.{option_map};
 ghost use Rattle.osm_entity.specs.Entity.{node, way};
 ghost use Rattle.osm_entity.specs.Views.{entity_of};
@@ -16,9 +16,8 @@ ghost use Rattle.pbf_pass.specs.Counting.{counts_of};
 ghost use Rattle.pbf_pass.specs.Judged.{fault_in};
 ghost use Rattle.pbf_pass.specs.Pass.{IsStep};
 ghost use Rattle.pbf_pass.specs.Payload.{primitive_block, lent_by};
-ghost use Rattle.pbfcut.specs.Pick.{everything, pick_of, picks_of, picked_in, picks_id, picked_by, picked_by_some, PacksAll, PacksPicked, StopsAmong, KeepsPacker, PacksPayload, FailsToPackPayload, PacksFrame, FailsToPack};
+ghost use Rattle.pbfcut.specs.Pick.{everything, pick_of, picks_of, picked_in, picks_id, picked_by, picked_by_some, IsReady, PacksAll, PacksEach, KeepsPacker, PacksPayload, FailsToPackPayload, PacksFrame, FailsToPack};
 ghost use Rattle.pbf_frame.specs.declared.frame.TheConstants.{FILE_LIMIT};
-ghost use Rattle.pbf_wire.specs.declared.limits.TheConstants.{OFFSET_LIMIT, RAW_LIMIT};
 
 use osm_entity::EntityRef;
 use osm_pack::Packer;
@@ -32,7 +31,7 @@ use std::hash::BuildHasher;
 
 /// Which entities are written, for many of them one after another: the look-ups of ids that lie close together are cheap.
 #[derive(Drop)]
-pub(crate) struct Picker<'a> {
+struct Picker<'a> {
     /// What was chosen; all of them if nothing was.
     chooser: Option<Chooser<'a>>,
 }
@@ -92,78 +91,6 @@ impl<'a> Picker<'a> {
     }
 }
 
-/// Packs an entity, and counts it. One that can't be written is `Changed`, with the number of the pass.
-#[inline(always)]
-fn pack<D: Drain, S: BuildHasher>(
-    entity: &EntityRef<'_>,
-    counts: &mut Counts,
-    number: u8,
-    packer: &mut Packer<D, S>,
-) -> Result<(), Stop>
-    requires begun { has_header packer.old ≡ true }
-    requires packing { IsPacking packer.old }
-    ensures packed { OnOk result (PacksPicked D.Drain everything (entity_of entity.now ∷ [])
-        packer.old packer.new counts.old counts.new) }
-    ensures stopped { IfErr result (StopsAmong D.Drain number everything
-        (entity_of entity.now ∷ []) packer.old packer.new) }
-    ensures keeps { KeepsPacker D.Drain packer.old packer.new }
-{
-    let Some(weight) = entity.weight_if_fits() else {
-        return Err(Stop::Changed(number));
-    };
-    packer.push_weighed(entity, weight)?;
-    counts.take(entity);
-    Ok(())
-}
-
-/// Packs an entity if it is picked.
-fn pack_entity<D: Drain, S: BuildHasher>(
-    entity: &EntityRef<'_>,
-    picker: &mut Picker<'_>,
-    counts: &mut Counts,
-    number: u8,
-    packer: &mut Packer<D, S>,
-) -> Result<(), Stop>
-    requires begun { has_header packer.old ≡ true }
-    requires packing { IsPacking packer.old }
-    ensures packed { OnOk result (PacksPicked D.Drain (picks_of picker.old)
-        (entity_of entity.now ∷ []) packer.old packer.new counts.old counts.new) }
-    ensures stopped { IfErr result (StopsAmong D.Drain number (picks_of picker.old)
-        (entity_of entity.now ∷ []) packer.old packer.new) }
-    ensures keeps { KeepsPacker D.Drain packer.old packer.new }
-    ensures same { picker.new ≡ picker.old }
-{
-    let is_picked = picker.picks(entity);
-    if is_picked {
-        pack(entity, counts, number, packer)?;
-    }
-    Ok(())
-}
-
-/// Packs a way if it is picked, which is made only then.
-fn pack_way<D: Drain, S: BuildHasher>(
-    unmade: &UnmadeWay<'_>,
-    picker: &mut Picker<'_>,
-    counts: &mut Counts,
-    number: u8,
-    packer: &mut Packer<D, S>,
-) -> Result<(), Stop>
-    requires begun { has_header packer.old ≡ true }
-    requires packing { IsPacking packer.old }
-    ensures packed { OnOk result (PacksPicked D.Drain (picks_of picker.old)
-        (way (way_from unmade.now) ∷ []) packer.old packer.new counts.old counts.new) }
-    ensures stopped { IfErr result (StopsAmong D.Drain number (picks_of picker.old)
-        (way (way_from unmade.now) ∷ []) packer.old packer.new) }
-    ensures keeps { KeepsPacker D.Drain packer.old packer.new }
-    ensures same { picker.new ≡ picker.old }
-{
-    let is_picked = picker.picks_way(unmade);
-    if is_picked {
-        pack(&EntityRef::Way(unmade.make()), counts, number, packer)?;
-    }
-    Ok(())
-}
-
 /// At most this many nodes are skipped at a time.
 const MOST_PASSED: usize = 8_000;
 
@@ -185,147 +112,193 @@ fn unpicked(dense: &Dense<'_>, picker: &mut Picker<'_>) -> Option<usize>
     None
 }
 
-/// Packs those nodes of a dense message that are picked. After one that is not, all up to the next that is are skipped together, and
-/// not made; if there is none, nothing more is read.
-fn pack_nodes<D: Drain, S: BuildHasher>(
-    dense: &Dense<'_>,
-    picker: &mut Picker<'_>,
-    counts: &mut Counts,
-    number: u8,
-    packer: &mut Packer<D, S>,
-) -> Result<(), Stop>
-    requires begun { has_header packer.old ≡ true }
-    requires packing { IsPacking packer.old }
-    ensures packed { OnOk result (PacksPicked D.Drain (picks_of picker.old)
-        (map node (dense_left dense.now)) packer.old packer.new counts.old counts.new) }
-    ensures stopped { IfErr result (StopsAmong D.Drain number (picks_of picker.old)
-        (map node (dense_left dense.now)) packer.old packer.new) }
-    ensures keeps { KeepsPacker D.Drain packer.old packer.new }
-    ensures same { picker.new ≡ picker.old }
-{
-    let mut nodes = *dense;
-    'nodes: while let Some(node) = nodes.next() {
-        if picker.picks_id(node.id()) {
-            pack(&EntityRef::Node(node), counts, number, packer)?;
+/// Packs those entities of a payload that are picked, one after another, and counts them.
+#[derive(Drop)]
+pub(crate) struct EntityPacker<'a> {
+    picker: Picker<'a>,
+    /// The numbers of the entities that were packed.
+    pub(crate) counts: Counts,
+    /// The pass: `Changed` with this number says that an entity can't be written.
+    pub(crate) number: u8,
+}
+
+impl<'a> EntityPacker<'a> {
+    /// Of those that were chosen, or of all if nothing was; so many were packed before, in the pass of this number.
+    pub(crate) fn new(chosen: Option<&'a Chosen>, counts: Counts, number: u8) -> EntityPacker<'a>
+        ensures picker { picks_of result.picker ≡ pick_of chosen.entry }
+        ensures counts { result.counts ≡ counts }
+        ensures number { result.number ≡ number }
+    {
+        EntityPacker {
+            picker: Picker::of(chosen),
+            counts,
+            number,
+        }
+    }
+
+    /// Packs an entity, whether it is picked or not.
+    #[inline(always)]
+    fn pack<D: Drain, S: BuildHasher>(
+        &mut self,
+        entity: &EntityRef<'_>,
+        packer: &mut Packer<D, S>,
+    ) -> Result<(), Stop>
+        requires { IsReady packer.old }
+        ensures { PacksEach D.Drain everything (entity_of entity.now ∷ [])
+            self.old self.new packer.old packer.new result }
+    {
+        let Some(weight) = entity.weight_if_fits() else {
+            return Err(Stop::Changed(self.number));
+        };
+        packer.push_weighed(entity, weight)?;
+        self.counts.take(entity);
+        Ok(())
+    }
+
+    /// Packs an entity if it is picked.
+    fn pack_entity<D: Drain, S: BuildHasher>(
+        &mut self,
+        entity: &EntityRef<'_>,
+        packer: &mut Packer<D, S>,
+    ) -> Result<(), Stop>
+        requires { IsReady packer.old }
+        ensures { PacksEach D.Drain (picks_of self.old.picker) (entity_of entity.now ∷ [])
+            self.old self.new packer.old packer.new result }
+    {
+        let is_picked = self.picker.picks(entity);
+        if is_picked {
+            self.pack(entity, packer)
         } else {
-            let Some(count) = unpicked(&nodes, picker) else {
-                return Ok(());
-            };
-            nodes.pass(count);
+            Ok(())
         }
     }
-    Ok(())
-}
 
-/// Packs what is picked of a run.
-fn pack_run<D: Drain, S: BuildHasher>(
-    run: &Run<'_>,
-    picker: &mut Picker<'_>,
-    counts: &mut Counts,
-    number: u8,
-    packer: &mut Packer<D, S>,
-) -> Result<(), Stop>
-    requires begun { has_header packer.old ≡ true }
-    requires packing { IsPacking packer.old }
-    ensures packed { OnOk result (PacksPicked D.Drain (picks_of picker.old) (run_entities run.now)
-        packer.old packer.new counts.old counts.new) }
-    ensures stopped { IfErr result (StopsAmong D.Drain number (picks_of picker.old)
-        (run_entities run.now) packer.old packer.new) }
-    ensures keeps { KeepsPacker D.Drain packer.old packer.new }
-    ensures same { picker.new ≡ picker.old }
-{
-    match run {
-        Run::Nothing => Ok(()),
-        Run::One(entity) => pack_entity(entity, picker, counts, number, packer),
-        Run::Way(unmade) => pack_way(unmade, picker, counts, number, packer),
-        Run::Dense(dense) => pack_nodes(dense, picker, counts, number, packer),
-    }
-}
-
-/// Packs what is picked of the entities of these runs, one by one, and counts it. One that can't be written is `Changed`, with the
-/// number of the pass.
-pub(crate) fn pack_runs<D: Drain, S: BuildHasher>(
-    runs: Runs<'_>,
-    chosen: Option<&Chosen>,
-    counts: &mut Counts,
-    number: u8,
-    packer: &mut Packer<D, S>,
-) -> Result<(), Stop>
-    requires begun { has_header packer.old ≡ true }
-    requires packing { IsPacking packer.old }
-    ensures packed { OnOk result (PacksPicked D.Drain (pick_of chosen.entry)
-        (joined_runs (runs_left runs.entry)) packer.old packer.new counts.old counts.new) }
-    ensures stopped { IfErr result (StopsAmong D.Drain number (pick_of chosen.entry)
-        (joined_runs (runs_left runs.entry)) packer.old packer.new) }
-    ensures keeps { KeepsPacker D.Drain packer.old packer.new }
-{
-    let mut picker = Picker::of(chosen);
-    for run in runs {
-        pack_run(&run, &mut picker, counts, number, packer)?;
-    }
-    Ok(())
-}
-
-/// Judges a PrimitiveBlock whose first byte is at `at` in the file, packs what is picked of it, and returns the numbers of
-/// these entities.
-fn pack_block<D: Drain, S: BuildHasher>(
-    alloc: Global,
-    payload: &[u8],
-    at: u64,
-    chosen: Option<&Chosen>,
-    packer: &mut Packer<D, S>,
-) -> Result<Counts, Stop>
-    requires placed { at + length payload.now ≤ OFFSET_LIMIT }
-    requires short { length payload.now < RAW_LIMIT }
-    requires begun { has_header packer.old ≡ true }
-    requires packing { IsPacking packer.old }
-    ensures packed { OnOk result (PacksAll D.Drain (fault_in (primitive_block at payload.now))
-        (picked_in (pick_of chosen.entry) (primitive_block at payload.now))
-        packer.old packer.new) }
-    ensures counted { IfOk result (λ counts. counts ≡ counts_of
-        (picked_in (pick_of chosen.entry) (primitive_block at payload.now))) }
-    ensures stopped { IfErr result (FailsToPackPayload D.Drain (pick_of chosen.entry)
-        (primitive_block at payload.now) packer.old packer.new) }
-    ensures keeps { KeepsPacker D.Drain packer.old packer.new }
-{
-    let block = Block::read(alloc, payload, at)?;
-    let mut counts = Counts::none();
-    // Each entity of a block that was judged can be written, so this is no later pass.
-    pack_runs(
-        block.runs_among(Kinds::all()),
-        chosen,
-        &mut counts,
-        0,
-        packer,
-    )?;
-    Ok(counts)
-}
-
-/// Judges the payload of a frame, packs what is picked of it, and takes its header or the numbers of these entities.
-fn pack_payload<D: Drain, S: BuildHasher>(
-    alloc: Global,
-    frame: &Frame<'_>,
-    pass: &mut Pass,
-    chosen: Option<&Chosen>,
-    packer: &mut Packer<D, S>,
-) -> Result<(), Stop>
-    requires begun { has_header packer.old ≡ true }
-    requires packing { IsPacking packer.old }
-    ensures packed { OnOk result (PacksPayload D.Drain (pick_of chosen.entry) (lent_by frame.now)
-        packer.old packer.new pass.old pass.new) }
-    ensures stopped { IfErr result (FailsToPackPayload D.Drain (pick_of chosen.entry)
-        (lent_by frame.now) packer.old packer.new) }
-    ensures keeps { KeepsPacker D.Drain packer.old packer.new }
-{
-    match frame.kind {
-        FrameKind::Header => pass.take_header(alloc, frame.payload, frame.payload_at)?,
-        FrameKind::Data => {
-            let counts = pack_block(alloc, frame.payload, frame.payload_at, chosen, packer)?;
-            pass.counts.add(counts);
+    /// Packs a way if it is picked, which is made only then.
+    fn pack_way<D: Drain, S: BuildHasher>(
+        &mut self,
+        unmade: &UnmadeWay<'_>,
+        packer: &mut Packer<D, S>,
+    ) -> Result<(), Stop>
+        requires { IsReady packer.old }
+        ensures { PacksEach D.Drain (picks_of self.old.picker) (way (way_from unmade.now) ∷ [])
+            self.old self.new packer.old packer.new result }
+    {
+        let is_picked = self.picker.picks_way(unmade);
+        if is_picked {
+            self.pack(&EntityRef::Way(unmade.make()), packer)
+        } else {
+            Ok(())
         }
-        FrameKind::Other => {}
     }
-    Ok(())
+
+    /// Packs those nodes of a dense message that are picked. After one that is not, all up to the next that is are skipped together, and
+    /// not made; if there is none, nothing more is read.
+    fn pack_nodes<D: Drain, S: BuildHasher>(
+        &mut self,
+        dense: &Dense<'_>,
+        packer: &mut Packer<D, S>,
+    ) -> Result<(), Stop>
+        requires { IsReady packer.old }
+        ensures { PacksEach D.Drain (picks_of self.old.picker) (map node (dense_left dense.now))
+            self.old self.new packer.old packer.new result }
+    {
+        let mut nodes = *dense;
+        'nodes: while let Some(node) = nodes.next() {
+            if self.picker.picks_id(node.id()) {
+                self.pack(&EntityRef::Node(node), packer)?;
+            } else {
+                let Some(count) = unpicked(&nodes, &mut self.picker) else {
+                    return Ok(());
+                };
+                nodes.pass(count);
+            }
+        }
+        Ok(())
+    }
+
+    /// Packs what is picked of a run.
+    fn pack_run<D: Drain, S: BuildHasher>(
+        &mut self,
+        run: &Run<'_>,
+        packer: &mut Packer<D, S>,
+    ) -> Result<(), Stop>
+        requires { IsReady packer.old }
+        ensures { PacksEach D.Drain (picks_of self.old.picker) (run_entities run.now)
+            self.old self.new packer.old packer.new result }
+    {
+        match run {
+            Run::Nothing => Ok(()),
+            Run::One(entity) => self.pack_entity(entity, packer),
+            Run::Way(unmade) => self.pack_way(unmade, packer),
+            Run::Dense(dense) => self.pack_nodes(dense, packer),
+        }
+    }
+
+    /// Packs what is picked of the entities of these runs, one by one.
+    pub(crate) fn pack_runs<D: Drain, S: BuildHasher>(
+        &mut self,
+        runs: Runs<'_>,
+        packer: &mut Packer<D, S>,
+    ) -> Result<(), Stop>
+        requires { IsReady packer.old }
+        ensures { PacksEach D.Drain (picks_of self.old.picker) (joined_runs (runs_left runs.entry))
+            self.old self.new packer.old packer.new result }
+    {
+        for run in runs {
+            self.pack_run(&run, packer)?;
+        }
+        Ok(())
+    }
+
+    /// Judges a PrimitiveBlock, and packs what is picked of it. Each entity of a block without a fault can be written.
+    fn pack_block<D: Drain, S: BuildHasher>(
+        &mut self,
+        alloc: Global,
+        frame: &Frame<'_>,
+        packer: &mut Packer<D, S>,
+    ) -> Result<(), Stop>
+        requires none { self.old.counts ≡ counts_of [] }
+        requires ready { IsReady packer.old }
+        ensures packed { let p = primitive_block frame.now.payload_at frame.now.payload.now in
+            OnOk result (PacksAll D.Drain (fault_in p) (picked_in (picks_of self.old.picker) p)
+            packer.old packer.new) }
+        ensures counted { OnOk result (self.new.counts ≡ counts_of (picked_in
+            (picks_of self.old.picker) (primitive_block frame.now.payload_at frame.now.payload.now))) }
+        ensures stopped { IfErr result (FailsToPackPayload D.Drain (picks_of self.old.picker)
+            (primitive_block frame.now.payload_at frame.now.payload.now) packer.old packer.new) }
+        ensures keeps { KeepsPacker D.Drain packer.old packer.new }
+    {
+        let block = Block::read(alloc, frame.payload, frame.payload_at)?;
+        self.pack_runs(block.runs_among(Kinds::all()), packer)?;
+        Ok(())
+    }
+
+    /// Judges the payload of a frame, packs what is picked of it, and takes its header or the numbers of these entities.
+    fn pack_payload<D: Drain, S: BuildHasher>(
+        &mut self,
+        alloc: Global,
+        frame: &Frame<'_>,
+        pass: &mut Pass,
+        packer: &mut Packer<D, S>,
+    ) -> Result<(), Stop>
+        requires none { self.old.counts ≡ counts_of [] }
+        requires ready { IsReady packer.old }
+        ensures packed { OnOk result (PacksPayload D.Drain (picks_of self.old.picker)
+            (lent_by frame.now) packer.old packer.new pass.old pass.new) }
+        ensures stopped { IfErr result (FailsToPackPayload D.Drain (picks_of self.old.picker)
+            (lent_by frame.now) packer.old packer.new) }
+        ensures keeps { KeepsPacker D.Drain packer.old packer.new }
+    {
+        match frame.kind {
+            FrameKind::Header => pass.take_header(alloc, frame.payload, frame.payload_at)?,
+            FrameKind::Data => {
+                self.pack_block(alloc, frame, packer)?;
+                pass.counts.add(self.counts);
+            }
+            FrameKind::Other => {}
+        }
+        Ok(())
+    }
 }
 
 /// Packs the next frame's entities that are picked, in order, and counts these; false at the end of an input that had its header.
@@ -366,7 +339,8 @@ pub fn step_pack<F: Feed, D: Drain, S: BuildHasher>(
     let Some(frame) = reader.next()? else {
         return Ok(false);
     };
-    let outcome = pack_payload(alloc, &frame, pass, chosen, packer);
+    let mut entities = EntityPacker::new(chosen, Counts::none(), 0);
+    let outcome = entities.pack_payload(alloc, &frame, pass, packer);
     packer.held_is_bounded();
     outcome?;
     Ok(true)

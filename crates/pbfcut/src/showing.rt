@@ -1,15 +1,10 @@
 //! `show`: a line for each field of the header and for each entity.
 
-ghost use Rattle.std.specs.Prelude.{◌∷◌, ◌≡◌, ◌+◌, ◌<◌, ◌≤◌, ◌^◌, ◌⊎◌, None, Some, IfOk, IfErr, OnOk, OnErr, length};
+ghost use Rattle.std.specs.Prelude.{◌∷◌, ◌≡◌, ◌⊎◌, Some, IfOk, IfErr, OnOk, OnErr};
 ghost use Rattle.std.specs.List.{flat_map};
 ghost use Rattle.osm_entity.specs.Views.{entity_of};
 ghost use Rattle.pbf_block.specs.Runs.{entities_left};
-ghost use Rattle.pbf_header.specs.Header.{header_in};
-ghost use Rattle.pbf_header.specs.HeaderFaults.{header_fault};
 ghost use Rattle.osm_text.specs.EntityText.{entity_line};
-ghost use Rattle.osm_text.specs.HeaderText.{header_text};
-ghost use Rattle.pbf_frame.specs.Devices.{IsFront};
-ghost use Rattle.pbf_frame.specs.Transfers.{Added};
 ghost use Rattle.pbfcut.specs.Calls.{RefusedFirst, ChangedIn};
 ghost use Rattle.pbfcut.specs.Changes.{ChangedAt, IfChanged};
 ghost use Rattle.pbf_pass.specs.Again.{ReadsFaulty};
@@ -17,12 +12,11 @@ ghost use Rattle.pbf_pass.specs.Given.{GaveFile, Took};
 ghost use Rattle.pbf_pass.specs.Hashing.{digest_if};
 ghost use Rattle.pbf_pass.specs.Judged.{judged_file};
 ghost use Rattle.pbf_pass.specs.Pass.{CountsFile};
-ghost use Rattle.pbf_pass.specs.Payload.{primitive_block, lent_by};
+ghost use Rattle.pbf_pass.specs.Payload.{header_block, primitive_block, lent_by};
 ghost use Rattle.pbf_pass.specs.Refused.{HaltsFile, stop_of};
 ghost use Rattle.pbfcut.specs.Repeat.{SameDigest};
-ghost use Rattle.pbfcut.specs.Showing.{Shown, ShowsFront, WritesFront, ShowsText, StopsShowing, ShowsPayload, FailsToShowPayload, ShowsNext, FailsToShowNext};
-ghost use Rattle.pbf_pass.specs.Stops.{Caused, FaultOf, Only, unchanged, KeepsDrain, KeepsFeed, ReadFailed, WriteFailed};
-ghost use Rattle.pbf_wire.specs.declared.limits.TheConstants.{OFFSET_LIMIT, RAW_LIMIT};
+ghost use Rattle.pbfcut.specs.Showing.{Shown, ShowsFront, WritesFront, WritesLines, WritesPayload, ShowsNext, FailsToShowNext};
+ghost use Rattle.pbf_pass.specs.Stops.{Caused, FaultOf, unchanged, KeepsDrain, KeepsFeed, ReadFailed, WriteFailed};
 
 use crate::repeat::Repeat;
 use osm_entity::EntityRef;
@@ -33,137 +27,112 @@ use pbf_header::Header;
 use pbf_pass::{Halt, InputReceipt, Nothing, Passes, Visit, judge, pass_over};
 use std::alloc::Global;
 
-/// Writes the line of an entity, which is put together in `text`.
-fn write_entity<D: Drain>(
-    entity: &EntityRef<'_>,
-    text: &mut Vec<u8>,
-    drain: &mut D,
+/// Writes lines into a drain.
+#[derive(Drop)]
+struct LineWriter {
+    /// What a line is put together in.
+    text: Vec<u8>,
+    /// Whether times are written as dates.
     dates: bool,
-) -> Result<(), Stop>
-    ensures shown { OnOk result
-        (Added D.Drain drain.old (entity_line dates (entity_of entity.now)) drain.new) }
-    ensures front { IsFront (D.taken drain.old) (D.taken drain.new)
-        (entity_line dates (entity_of entity.now)) }
-    ensures stops { IfErr result
-        (Caused (Only None) ⊥ (WriteFailed D.Drain drain.old drain.new) unchanged) }
-    ensures keeps { KeepsDrain D.Drain drain.old drain.new }
-{
-    text.clear();
-    put_entity(text, entity, dates)?;
-    write_all(drain, text)?;
-    Ok(())
 }
 
-/// Writes the lines of entities.
-fn write_entities<D: Drain>(
-    entities: Entities<'_>,
-    text: &mut Vec<u8>,
-    drain: &mut D,
-    dates: bool,
-) -> Result<(), Stop>
-    ensures shown { OnOk result (Added D.Drain drain.old
-        (flat_map (entity_line dates) (entities_left entities.entry)) drain.new) }
-    ensures front { OnErr result (IsFront (D.taken drain.old) (D.taken drain.new)
-        (flat_map (entity_line dates) (entities_left entities.entry))) }
-    ensures stops { IfErr result
-        (Caused (Only None) ⊥ (WriteFailed D.Drain drain.old drain.new) unchanged) }
-    ensures keeps { KeepsDrain D.Drain drain.old drain.new }
-{
-    for entity in entities {
-        write_entity(&entity, text, drain, dates)?;
+impl LineWriter {
+    /// Writes the line of an entity.
+    fn write_entity<D: Drain>(&mut self, entity: &EntityRef<'_>, drain: &mut D) -> Result<(), Stop>
+        ensures { WritesLines D.Drain (entity_line self.old.dates (entity_of entity.now))
+            self.old self.new drain.old drain.new result }
+    {
+        self.text.clear();
+        put_entity(&mut self.text, entity, self.dates)?;
+        write_all(drain, &self.text)?;
+        Ok(())
     }
-    Ok(())
-}
 
-/// Judges a HeaderBlock whose first byte is at `at` in the file, and writes its lines.
-fn write_header<D: Drain>(
-    alloc: Global,
-    payload: &[u8],
-    at: u64,
-    text: &mut Vec<u8>,
-    drain: &mut D,
-) -> Result<(), Stop>
-    requires { at + length payload.now ≤ OFFSET_LIMIT }
-    ensures shown { OnOk result (ShowsText D.Drain (header_fault at payload.now)
-        (header_text (header_in at payload.now)) drain.old drain.new) }
-    ensures stopped { IfErr result (StopsShowing D.Drain (header_fault at payload.now)
-        (header_text (header_in at payload.now)) drain.old drain.new) }
-    ensures keeps { KeepsDrain D.Drain drain.old drain.new }
-{
-    let header = Header::read(alloc, payload, at)?;
-    text.clear();
-    put_header(text, &header)?;
-    write_all(drain, text)?;
-    Ok(())
-}
-
-/// Judges a PrimitiveBlock whose first byte is at `at` in the file, and writes the lines of its entities.
-fn write_block<D: Drain>(
-    alloc: Global,
-    payload: &[u8],
-    at: u64,
-    text: &mut Vec<u8>,
-    drain: &mut D,
-    dates: bool,
-) -> Result<(), Stop>
-    requires placed { at + length payload.now ≤ OFFSET_LIMIT }
-    requires short { length payload.now < RAW_LIMIT }
-    ensures shown { OnOk result (ShowsPayload D.Drain dates (primitive_block at payload.now)
-        drain.old drain.new) }
-    ensures stopped { IfErr result (FailsToShowPayload D.Drain dates
-        (primitive_block at payload.now) drain.old drain.new) }
-    ensures keeps { KeepsDrain D.Drain drain.old drain.new }
-{
-    let block = Block::read(alloc, payload, at)?;
-    write_entities(block.entities(), text, drain, dates)?;
-    Ok(())
-}
-
-/// Judges the payload of a frame, and writes its lines. Nothing is written of one that has a fault.
-fn write_payload<D: Drain>(
-    alloc: Global,
-    frame: &Frame<'_>,
-    text: &mut Vec<u8>,
-    drain: &mut D,
-    dates: bool,
-) -> Result<(), Stop>
-    ensures shown { OnOk result
-        (ShowsPayload D.Drain dates (lent_by frame.now) drain.old drain.new) }
-    ensures stopped { IfErr result
-        (FailsToShowPayload D.Drain dates (lent_by frame.now) drain.old drain.new) }
-    ensures keeps { KeepsDrain D.Drain drain.old drain.new }
-{
-    match frame.kind {
-        FrameKind::Header => write_header(alloc, frame.payload, frame.payload_at, text, drain)?,
-        FrameKind::Data => {
-            write_block(alloc, frame.payload, frame.payload_at, text, drain, dates)?;
+    /// Writes the lines of entities.
+    fn write_entities<D: Drain>(
+        &mut self,
+        entities: Entities<'_>,
+        drain: &mut D,
+    ) -> Result<(), Stop>
+        ensures { WritesLines D.Drain
+            (flat_map (entity_line self.old.dates) (entities_left entities.entry))
+            self.old self.new drain.old drain.new result }
+    {
+        for entity in entities {
+            self.write_entity(&entity, drain)?;
         }
-        FrameKind::Other => {}
+        Ok(())
     }
-    Ok(())
+
+    /// Judges a HeaderBlock, and writes its lines.
+    fn write_header<D: Drain>(
+        &mut self,
+        alloc: Global,
+        frame: &Frame<'_>,
+        drain: &mut D,
+    ) -> Result<(), Stop>
+        ensures { WritesPayload D.Drain (header_block frame.now.payload_at frame.now.payload.now)
+            self.old self.new drain.old drain.new result }
+    {
+        let header = Header::read(alloc, frame.payload, frame.payload_at)?;
+        self.text.clear();
+        put_header(&mut self.text, &header)?;
+        write_all(drain, &self.text)?;
+        Ok(())
+    }
+
+    /// Judges a PrimitiveBlock, and writes the lines of its entities.
+    fn write_block<D: Drain>(
+        &mut self,
+        alloc: Global,
+        frame: &Frame<'_>,
+        drain: &mut D,
+    ) -> Result<(), Stop>
+        ensures { WritesPayload D.Drain (primitive_block frame.now.payload_at frame.now.payload.now)
+            self.old self.new drain.old drain.new result }
+    {
+        let block = Block::read(alloc, frame.payload, frame.payload_at)?;
+        self.write_entities(block.entities(), drain)?;
+        Ok(())
+    }
+
+    /// Judges the payload of a frame, and writes its lines. Nothing is written of one that has a fault.
+    fn write_payload<D: Drain>(
+        &mut self,
+        alloc: Global,
+        frame: &Frame<'_>,
+        drain: &mut D,
+    ) -> Result<(), Stop>
+        ensures { WritesPayload D.Drain (lent_by frame.now)
+            self.old self.new drain.old drain.new result }
+    {
+        match frame.kind {
+            FrameKind::Header => self.write_header(alloc, frame, drain),
+            FrameKind::Data => self.write_block(alloc, frame, drain),
+            FrameKind::Other => Ok(()),
+        }
+    }
 }
 
 /// Judges frames, and writes the text of what they hold.
 #[derive(Drop)]
 struct Showing<'a, D> {
-    /// What a line is put together in.
-    text: &'a mut Vec<u8>,
+    lines: &'a mut LineWriter,
     drain: &'a mut D,
-    dates: bool,
 }
 
 impl<D: Drain> Visit for Showing<'_, D> {
-    ghost took = { λ old f new. ShowsNext D.Drain old.dates old.drain.now new.drain.now f
-        × (new.dates ≡ old.dates) };
+    ghost took = { λ old f new. ShowsNext D.Drain old.lines.now.dates old.drain.now new.drain.now f
+        × (new.lines.now.dates ≡ old.lines.now.dates) };
 
-    ghost failed = { λ old f new stop. FailsToShowNext D.Drain old.dates
+    ghost failed = { λ old f new stop. FailsToShowNext D.Drain old.lines.now.dates
         old.drain.now new.drain.now f stop };
 
     ghost lender = { λ v. v.drain.ghost_name ∷ D.lender v.drain.now };
 
     #[tactic(auto, unfolding(crate::specs::Showing::frame_text))]
     fn visit(&mut self, alloc: Global, frame: &Frame<'_>) -> Result<(), Stop> {
-        write_payload(alloc, frame, self.text, self.drain, self.dates)
+        self.lines.write_payload(alloc, frame, self.drain)
     }
 }
 
@@ -184,11 +153,11 @@ fn write_text<F: Feed, D: Drain>(
     ensures keeps { KeepsFeed F.Feed feed.old feed.new }
     ensures drain { KeepsDrain D.Drain drain.old drain.new }
 {
-    let mut text = Vec::new(passes.alloc);
+    let text = Vec::new(passes.alloc);
+    let mut lines = LineWriter { text, dates };
     let mut showing = Showing {
-        text: &mut text,
+        lines: &mut lines,
         drain,
-        dates,
     };
     Ok(pass_over(passes, feed, &mut showing)?.digest)
 }

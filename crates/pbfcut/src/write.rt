@@ -1,8 +1,7 @@
 //! The pass that writes. It comes after the one that judged the file, and judges no payload: that its bytes are those of the first
 //! pass is seen by their digest, at the end.
 
-ghost use Rattle.std.specs.Prelude.{true, ◌∷◌, ◌≡◌, ◌<◌, ◌≤◌, ◌+◌, ◌^◌, IfOk, IfErr, OnOk, OnErr, length};
-ghost use Rattle.osm_pack.specs.Packing.{IsPacking, has_header};
+ghost use Rattle.std.specs.Prelude.{◌∷◌, ◌≡◌, IfOk, IfErr, OnErr};
 ghost use Rattle.pbf_header.specs.Header.{header_of};
 ghost use Rattle.pbf_pass.specs.Again.{StopsUnjudged, ReadsFaulty};
 ghost use Rattle.pbf_pass.specs.Given.{GaveFile, Took};
@@ -11,11 +10,10 @@ ghost use Rattle.pbf_pass.specs.HeaderLimit.{IsShort};
 ghost use Rattle.pbf_pass.specs.Judged.{judged_file};
 ghost use Rattle.pbf_pass.specs.Payload.{primitive_block, lent_by};
 ghost use Rattle.pbf_pass.specs.Stops.{KeepsDrain, KeepsFeed, ReadFailed, WriteFailed};
-ghost use Rattle.pbfcut.specs.Pick.{pick_of, KeepsPacker, IsFreshPacker};
-ghost use Rattle.pbfcut.specs.Write.{PacksAgain, FailsAgain, PacksNext, FailsAtNext, Packed, PacksFront};
-ghost use Rattle.pbf_wire.specs.declared.limits.TheConstants.{OFFSET_LIMIT, RAW_LIMIT};
+ghost use Rattle.pbfcut.specs.Pick.{pick_of, IsFreshPacker, IsReady};
+ghost use Rattle.pbfcut.specs.Write.{PacksUnjudged, PacksNext, FailsAtNext, Packed, PacksFront};
 
-use crate::pick::pack_runs;
+use crate::pick::EntityPacker;
 use osm_pack::Packer;
 use osm_ways::Chosen;
 use pbf_block::{Counts, Kinds, UnjudgedBlock};
@@ -25,61 +23,37 @@ use pbf_pass::{InputReceipt, Passes, Visit, pass_over};
 use std::alloc::Global;
 use std::hash::BuildHasher;
 
-/// Packs what is picked of a PrimitiveBlock whose first byte is at `at` in the file, in a pass of this number, and counts it.
+/// Packs what is picked of a PrimitiveBlock, which isn't judged.
 fn pack_block<D: Drain, S: BuildHasher>(
     alloc: Global,
-    payload: &[u8],
-    at: u64,
-    counts: &mut Counts,
-    chosen: Option<&Chosen>,
-    number: u8,
+    frame: &Frame<'_>,
+    entities: &mut EntityPacker<'_>,
     packer: &mut Packer<D, S>,
 ) -> Result<(), Stop>
-    requires placed { at + length payload.now ≤ OFFSET_LIMIT }
-    requires short { length payload.now < RAW_LIMIT }
-    requires begun { has_header packer.old ≡ true }
-    requires packing { IsPacking packer.old }
-    ensures packed { OnOk result (PacksAgain D.Drain (pick_of chosen.entry)
-        (primitive_block at payload.now) packer.old packer.new counts.old counts.new) }
-    ensures stopped { IfErr result (FailsAgain D.Drain number (pick_of chosen.entry)
-        (primitive_block at payload.now) packer.old packer.new) }
-    ensures keeps { KeepsPacker D.Drain packer.old packer.new }
+    requires { IsReady packer.old }
+    ensures { PacksUnjudged D.Drain (primitive_block frame.now.payload_at frame.now.payload.now)
+        entities.old entities.new packer.old packer.new result }
 {
-    let Some(block) = UnjudgedBlock::open(alloc, payload, at)? else {
-        return Err(Stop::Changed(number));
+    let Some(block) = UnjudgedBlock::open(alloc, frame.payload, frame.payload_at)? else {
+        return Err(Stop::Changed(entities.number));
     };
-    pack_runs(
-        block.runs_among(Kinds::all()),
-        chosen,
-        counts,
-        number,
-        packer,
-    )?;
+    entities.pack_runs(block.runs_among(Kinds::all()), packer)?;
     Ok(())
 }
 
-/// Packs what is picked of the payload of a frame, in a pass of this number, and counts it.
+/// Packs what is picked of the payload of a frame, which isn't judged.
 fn pack_payload<D: Drain, S: BuildHasher>(
     alloc: Global,
     frame: &Frame<'_>,
-    counts: &mut Counts,
-    chosen: Option<&Chosen>,
-    number: u8,
+    entities: &mut EntityPacker<'_>,
     packer: &mut Packer<D, S>,
 ) -> Result<(), Stop>
-    requires begun { has_header packer.old ≡ true }
-    requires packing { IsPacking packer.old }
-    ensures packed { OnOk result (PacksAgain D.Drain (pick_of chosen.entry)
-        (lent_by frame.now) packer.old packer.new counts.old counts.new) }
-    ensures stopped { IfErr result (FailsAgain D.Drain number (pick_of chosen.entry)
-        (lent_by frame.now) packer.old packer.new) }
-    ensures keeps { KeepsPacker D.Drain packer.old packer.new }
+    requires { IsReady packer.old }
+    ensures { PacksUnjudged D.Drain (lent_by frame.now)
+        entities.old entities.new packer.old packer.new result }
 {
     match frame.kind {
-        FrameKind::Data => {
-            let (payload, at) = (frame.payload, frame.payload_at);
-            pack_block(alloc, payload, at, counts, chosen, number, packer)
-        }
+        FrameKind::Data => pack_block(alloc, frame, entities, packer),
         FrameKind::Header | FrameKind::Other => Ok(()),
     }
 }
@@ -106,19 +80,15 @@ impl<D: Drain, S: BuildHasher> Visit for Writer<'_, D, S> {
     ghost failed = { λ old f new stop. FailsAtNext D.Drain old.number (pick_of old.chosen)
         old.packer.now new.packer.now f stop };
 
-    ghost ready = { λ v. (has_header v.packer.now ≡ true) × IsPacking v.packer.now };
+    ghost ready = { λ v. IsReady v.packer.now };
 
     ghost lender = { λ v. v.packer.ghost_name ∷ D.lender v.packer.now.drain };
 
     fn visit(&mut self, alloc: Global, frame: &Frame<'_>) -> Result<(), Stop> {
-        pack_payload(
-            alloc,
-            frame,
-            &mut self.counts,
-            self.chosen,
-            self.number,
-            self.packer,
-        )
+        let mut entities = EntityPacker::new(self.chosen, self.counts, self.number);
+        pack_payload(alloc, frame, &mut entities, self.packer)?;
+        self.counts = entities.counts;
+        Ok(())
     }
 }
 

@@ -11,7 +11,7 @@ returns-then-read-lt4-clause-refused g c =
     let read = take c.in_ok-read.read c.fill.new.buf in
     let long : length read ≡ c.in_ok-read.read = length-take-le c.in_ok-read.read c.fill.new.buf (omega (arith, c.in_ok-read.ensures.bound, c.fill.auto.buf)) in
     rw (c.refused-then-read-lt4.ensures) (at_end _ _ _ _ read _ c.in_ok-read.ensures.bytes c.in_ok-read.ensures.passed (c.in_ok-read.ensures.end (omega (arith, c.if-read-lt4.true)))
-    (prefix_short c.args.had_header c.args.place read (omega (arith, long, c.if-read-eq0.false)) (omega (arith, long, c.if-read-lt4.true))))
+    (prefix_short c.args.start.had_header c.args.start.place read (omega (arith, long, c.if-read-eq0.false)) (omega (arith, long, c.if-read-lt4.true))))
 
 pub returns-then-read_u32-ge-HEADER_LIMIT-clause-refused : goal.returns-then-read_u32-ge-HEADER_LIMIT-clause-refused
 returns-then-read_u32-ge-HEADER_LIMIT-clause-refused g c =
@@ -22,4 +22,4 @@ returns-then-read_u32-ge-HEADER_LIMIT-clause-refused g c =
     rw (c.refused-then-read_u32-ge-HEADER_LIMIT.ensures) (whatever_follows _ _ _ _ prefix _
     (c.in_ok-read.ensures.bytes ∙ ap (λ (l : List ℕ). prepend l (g.F.Feed.remaining c.fill.new.feed)) whole)
     (subst (λ (l : List ℕ). Passes (g.F.Feed.has_passed c.args.feed.now) l (g.F.Feed.has_passed c.fill.new.feed)) whole c.in_ok-read.ensures.passed)
-    (λ rest. prefix_large c.args.had_header c.args.place prefix rest long large))
+    (λ rest. prefix_large c.args.start.had_header c.args.start.place prefix rest long large))

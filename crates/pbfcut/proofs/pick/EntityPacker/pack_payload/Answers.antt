@@ -1,7 +1,7 @@
 use Rattle.std.proofs.Common.{Err, ap, inl, refl}
 use Rattle.std.proofs.lemmas.Result.{err_from_is_err_and}
 use Rattle.pbfcut.proofs.ShowingLemmas.{read_stops}
-use Rattle.pbfcut.proofs.pick.pack_payload.Goals as goal
+use Rattle.pbfcut.proofs.pick.EntityPacker.pack_payload.Goals as goal
 
 pub returns-in_err-take_header-in-Header-clause-stopped : goal.returns-in_err-take_header-in-Header-clause-stopped
 returns-in_err-take_header-in-Header-clause-stopped g c =
