@@ -119,6 +119,7 @@ impl<S: BuildHasher> OpenBlock<S> {
 
     /// Makes the message of a way in the writer. Its columns and the message are held there beside what the block holds, until the
     /// message is in the group too: all of it together is no more than `MOST_HELD` (`room`).
+    #[inline(never)]
     fn make_way(&mut self, view: &WayRef<'_>) -> Result<(), AllocError>
         requires open { IsOpen self.old }
         requires fits { WayFits (way_of view.now) }
@@ -135,6 +136,7 @@ impl<S: BuildHasher> OpenBlock<S> {
     }
 
     /// The same of a relation.
+    #[inline(never)]
     fn make_relation(&mut self, view: &RelationRef<'_>) -> Result<(), AllocError>
         requires open { IsOpen self.old }
         requires fits { RelationFits (relation_of view.now) }
