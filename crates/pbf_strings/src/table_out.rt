@@ -15,7 +15,7 @@ use std::hash::BuildHasher;
 use std::marker::Model;
 
 /// How many texts are remembered without their hash.
-const SLOTS: usize = 1024;
+const SLOTS: usize = 2048;
 
 /// The slot after those: that of the last user, who mostly is the one of the next entity too.
 const LAST_USER: usize = SLOTS;
@@ -24,9 +24,13 @@ const LAST_USER: usize = SLOTS;
 fn slot_of(text: &[u8]) -> usize
     ensures { result < SLOTS }
 {
-    let byte_at = |place: usize| usize::from(text.get(place).copied().unwrap_or(0));
+    let Some(first) = text.first() else {
+        return 0;
+    };
     let length = text.len();
-    let bytes = byte_at(0) + 7 * byte_at(length / 2) + 31 * byte_at(length.saturating_sub(1));
+    let middle = text[length / 2];
+    let last = text[length - 1];
+    let bytes = usize::from(*first) + 31 * usize::from(middle) + 63 * usize::from(last);
     (length % SLOTS + bytes) % SLOTS
 }
 
