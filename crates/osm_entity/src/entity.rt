@@ -94,6 +94,7 @@ impl<'a> EntityRef<'a> {
     }
 
     /// What the entity counts for in a block, if [`EntityRef::fits`] holds of it, and otherwise `None`: all of it is read once.
+    #[inline(always)]
     pub fn weight_if_fits(&self) -> Option<u64>
         ensures { SomeIff result (EntityFits (entity_of self.now))
             (entity_weight (entity_of self.now)) }

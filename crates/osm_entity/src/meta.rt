@@ -117,7 +117,7 @@ fn uid_fits(uid: Option<i32>) -> bool
     ensures { IsTrue result ↔ IfPresent IsUid uid }
 {
     match uid {
-        Some(uid) => i64::from(uid).unsigned_abs() < UID_LIMIT.unsigned_abs(),
+        Some(uid) => -UID_LIMIT < i64::from(uid) && i64::from(uid) < UID_LIMIT,
         None => true,
     }
 }

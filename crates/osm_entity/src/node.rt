@@ -173,6 +173,7 @@ impl<'a> NodeRef<'a> {
     }
 
     /// What the node counts for in a block, if [`NodeRef::fits`] holds of it, and otherwise `None`.
+    #[inline(always)]
     pub fn weight_if_fits(&self) -> Option<u64>
         ensures { SomeIff result (NodeFits (node_of self.now)) (node_weight (node_of self.now)) }
     {

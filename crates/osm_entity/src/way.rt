@@ -1,13 +1,14 @@
 //! Ways.
 
 ghost use Rattle.std.specs.Prelude.{◌≡◌, ◌↔◌, ◌-◌, ◌*◌, ◌^◌, min, map, length, IsTrue, IfOk, SomeIff};
+ghost use Rattle.std.specs.List.{AllByRecursion};
 ghost use Rattle.std.specs.Option.{option_map};
 ghost use Rattle.osm_entity.specs.Scale.{millis};
 ghost use Rattle.osm_entity.specs.Entity.{nano_location};
 ghost use Rattle.osm_entity.specs.Sources.{tags_left, refs_left, locations_left, nano_locations_left};
 ghost use Rattle.osm_entity.specs.Views.{meta_of, way_of, owned_way};
 ghost use Rattle.osm_entity.specs.Weight.{way_weight};
-ghost use Rattle.osm_entity.specs.Ranges.{AreLocated, WayFits};
+ghost use Rattle.osm_entity.specs.Ranges.{AreLocated, LocationFits, WayFits};
 
 use crate::locations::{Locations, NanoLocations, OwnedLocations, owned_locations};
 use crate::meta::{Meta, MetaRef};
@@ -146,13 +147,15 @@ impl<'a> WayRef<'a> {
         self.meta.millis(self.scale)
     }
 
-    /// The weight of the way, whose refs weigh this.
-    fn weight_with(&self, refs: u64) -> u64
-        requires { refs ≡ min (32 * length (way_of self.now).refs) (2 ^ 64 - 1) }
+    /// The weight of the way, whose refs and locations weigh this.
+    fn weight_with(&self, refs: u64, locations: u64) -> u64
+        requires refs { refs ≡ min (32 * length (way_of self.now).refs) (2 ^ 64 - 1) }
+        requires locations { locations
+            ≡ min (32 * length (way_of self.now).locations) (2 ^ 64 - 1) }
         ensures { result ≡ min (way_weight (way_of self.now)) (2 ^ 64 - 1) }
     {
         let texts = tags_weight(self.tags).saturating_add(self.meta.user_weight());
-        refs.saturating_add(locations_weight(self.locations))
+        refs.saturating_add(locations)
             .saturating_add(texts)
             .saturating_add(160)
     }
@@ -161,23 +164,21 @@ impl<'a> WayRef<'a> {
     pub fn weight(&self) -> u64
         ensures { result ≡ min (way_weight (way_of self.now)) (2 ^ 64 - 1) }
     {
-        self.weight_with(refs_weight(self.refs))
+        self.weight_with(refs_weight(self.refs), locations_weight(self.locations))
     }
 
     /// What the way counts for in a block, if [`WayRef::fits`] holds of it, and otherwise `None`. The refs are decoded once at most.
+    #[inline(never)]
     pub fn weight_if_fits(&self) -> Option<u64>
         ensures { SomeIff result (WayFits (way_of self.now)) (way_weight (way_of self.now)) }
     {
         let refs = stored_refs_weight(self.refs)?;
-        let is_in_range = id_fits(self.id)
-            && self.meta.fits()
-            && self.scale.fits()
-            && locations_fit(self.locations)
-            && located(self.refs, self.locations);
+        let is_in_range = id_fits(self.id) && self.meta.fits() && self.scale.fits();
         if !is_in_range {
             return None;
         }
-        light(self.weight_with(refs))
+        let locations = located_weight(self.refs, self.locations)?;
+        light(self.weight_with(refs, locations))
     }
 
     /// Whether all stored numbers are in their ranges, the weight is within its limit, both granularities are at least 1, and
@@ -217,10 +218,18 @@ fn as_many(refs: Refs<'_>, locations: Locations<'_>) -> bool
     rest.next().is_none()
 }
 
-/// Whether there are no locations, or as many as refs.
-fn located(refs: Refs<'_>, locations: Locations<'_>) -> bool
-    ensures { IsTrue result ↔ AreLocated (refs_left refs.entry) (locations_left locations.entry) }
+/// What the locations weigh, if each is in its range and there are as many as refs. Most ways have none, which is seen first.
+fn located_weight(refs: Refs<'_>, locations: Locations<'_>) -> Option<u64>
+    ensures { SomeIff result (AllByRecursion LocationFits (locations_left locations.entry)
+        × AreLocated (refs_left refs.entry) (locations_left locations.entry))
+        (min (32 * length (locations_left locations.entry)) (2 ^ 64 - 1)) }
 {
     let mut rest = locations;
-    rest.next().is_none() || as_many(refs, locations)
+    if rest.next().is_none() {
+        return Some(0);
+    }
+    if !locations_fit(locations) || !as_many(refs, locations) {
+        return None;
+    }
+    Some(locations_weight(locations))
 }

@@ -90,7 +90,7 @@ pub(crate) fn members_weight(members: Members<'_>) -> u64
 pub(crate) fn id_fits(number: i64) -> bool
     ensures { IsTrue result ↔ IsStored number }
 {
-    number.unsigned_abs() < STORED_LIMIT.unsigned_abs()
+    -STORED_LIMIT < number && number < STORED_LIMIT
 }
 
 /// What the refs weigh by [`refs_weight`], if each is in its range.

@@ -109,6 +109,7 @@ impl<S: BuildHasher> OpenBlock<S> {
 
     /// Whether one more entity of this weight may join the block. The caller passes the weight, because to find it means to go through
     /// all of an entity's texts and lists.
+    #[inline(always)]
     pub(crate) fn takes(&self, entity: &EntityRef<'_>, weight: u64) -> bool
         requires weighs { weight ≡ entity_weight (entity_of entity.now) }
         ensures { (es : List EntitySpec) → Holds self.now es
@@ -119,6 +120,7 @@ impl<S: BuildHasher> OpenBlock<S> {
 
     /// Makes the message of a way in the writer. Its columns and the message are held there beside what the block holds, until the
     /// message is in the group too: all of it together is no more than `MOST_HELD` (`room`).
+    #[inline(never)]
     fn make_way(&mut self, view: &WayRef<'_>) -> Result<(), AllocError>
         requires open { IsOpen self.old }
         requires fits { WayFits (way_of view.now) }
@@ -135,6 +137,7 @@ impl<S: BuildHasher> OpenBlock<S> {
     }
 
     /// The same of a relation.
+    #[inline(never)]
     fn make_relation(&mut self, view: &RelationRef<'_>) -> Result<(), AllocError>
         requires open { IsOpen self.old }
         requires fits { RelationFits (relation_of view.now) }
@@ -152,6 +155,7 @@ impl<S: BuildHasher> OpenBlock<S> {
     }
 
     /// Encodes an entity after the others.
+    #[inline(always)]
     fn put(&mut self, entity: &EntityRef<'_>) -> Result<(), AllocError>
         requires open { IsOpen self.old }
         requires fits { EntityFits (entity_of entity.now) }
@@ -175,6 +179,7 @@ impl<S: BuildHasher> OpenBlock<S> {
     }
 
     /// Adds an entity of this weight after the others. After an `Err` the block is unspecified.
+    #[inline(always)]
     pub(crate) fn add(&mut self, entity: &EntityRef<'_>, weight: u64) -> Result<(), AllocError>
         requires open { IsOpen self.old }
         requires fits { EntityFits (entity_of entity.now) }

@@ -8,7 +8,7 @@ ghost use Rattle.osm_entity.specs.Entity.{NodeSpec};
 ghost use Rattle.osm_entity.specs.EntityTexts.{tag_texts, node_texts};
 ghost use Rattle.osm_entity.specs.Ranges.{NodeFits};
 ghost use Rattle.osm_entity.specs.Views.{node_of};
-ghost use Rattle.pbf_dense.specs.WrittenDense.{HoldsNodes, run_of, columns_held, dense_message, dense_length};
+ghost use Rattle.pbf_dense.specs.WrittenDense.{HoldsNodes, are_some, run_of, columns_held, dense_message, dense_length};
 ghost use Rattle.pbf_strings.specs.declared.table.TheConstants.{MOST_USED_TEXTS};
 
 use crate::dense_nodes::{DENSEINFO, ID, KEYS_VALS, LAT, LON};
@@ -30,8 +30,37 @@ pub struct DenseOut {
     tagged: bool,
 }
 
-/// Adds the indexes of the keys and values of a node's tags in turn, and then a 0. If the node is seen to have no tag, no
-/// copy of them is made: its run is only the 0.
+/// Whether a node has a tag. It is a call, so that its copy of the tags takes no room where nodes are pushed.
+#[inline(never)]
+fn is_tagged(node: &NodeRef<'_>) -> bool
+    ensures { result ≡ are_some (node_of node.now).tags }
+{
+    node.tags().next().is_some()
+}
+
+/// Adds the indexes of the keys and values of a node's tags in turn, and then a 0. It is a call for the same reason.
+#[inline(never)]
+fn push_each_tag<S: BuildHasher>(
+    runs: &mut ColumnOut,
+    node: &NodeRef<'_>,
+    table: &mut TableOut<S>,
+) -> Result<(), AllocError>
+    requires { length table.old + length (tag_texts (node_of node.now).tags) ≤ MOST_USED_TEXTS }
+    ensures texts { OnOk result
+        (table.new ≡ texts_after table.old (tag_texts (node_of node.now).tags)) }
+    ensures runs { (used : List (List ℕ))
+        → OnOk result (runs.new
+        ≡ runs.old ++ run_of (texts_after table.new used) (node_of node.now).tags) }
+{
+    for (key, value) in node.tags() {
+        runs.push(u64::from(table.index_of(key)?))?;
+        runs.push(u64::from(table.index_of(value)?))?;
+    }
+    runs.push(0)?;
+    Ok(())
+}
+
+/// Like [`push_each_tag`]. If the node is seen to have no tag, its run is only the 0.
 fn push_tags<S: BuildHasher>(
     runs: &mut ColumnOut,
     node: &NodeRef<'_>,
@@ -49,12 +78,7 @@ fn push_tags<S: BuildHasher>(
         runs.push(no_key)?;
         return Ok(());
     }
-    for (key, value) in node.tags() {
-        runs.push(u64::from(table.index_of(key)?))?;
-        runs.push(u64::from(table.index_of(value)?))?;
-    }
-    runs.push(0)?;
-    Ok(())
+    push_each_tag(runs, node, table)
 }
 
 impl DenseOut {
@@ -94,7 +118,7 @@ impl DenseOut {
         self.ids.push(node.id())?;
         self.lats.push(node.lat())?;
         self.lons.push(node.lon())?;
-        self.tagged = self.tagged || node.tags().next().is_some();
+        self.tagged = self.tagged || is_tagged(node);
         Ok(())
     }
 

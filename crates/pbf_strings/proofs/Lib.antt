@@ -1,3 +1,4 @@
 pub mod TextsLemmas
+mod SameTexts
 pub mod UsedTexts
 pub mod WrittenTable

@@ -22,7 +22,7 @@ pub place_with : (texts : List (List ℕ)) (text : List ℕ) → place_in (with_
 place_with texts text = elim (list_any (bytes_eq text) texts) as (λ b. place_in (cond b texts (texts ++ text ∷ [])) text ≡ place_in texts text) [ true ↦ refl | false ↦ place_push texts text ]
 
 module _ {K : Type 0} (items : K → List ℕ) where
-  any_map : (text : List ℕ) (keys : List K) → list_any (bytes_eq text) (map items keys) ≡ list_any (λ key. bytes_eq text (items key)) keys
+  pub any_map : (text : List ℕ) (keys : List K) → list_any (bytes_eq text) (map items keys) ≡ list_any (λ key. bytes_eq text (items key)) keys
   any_map text [] = refl
   any_map text (key ∷ keys) = ap (λ b. bytes_eq text (items key) || b) (any_map text keys)
 

@@ -26,6 +26,7 @@ pub const MOST_TEXTS: usize = 1_048_576;
 pub const MOST_USED_TEXTS: usize = 1_048_575;
 
 /// The text that the first field holds.
+#[inline(never)]
 fn first_text(fields: &[u8], at: u64) -> &[u8]
     requires { at + length fields.now ≤ OFFSET_LIMIT }
     ensures { result.now ≡ first_text (items at fields.now) }

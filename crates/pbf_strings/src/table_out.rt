@@ -1,6 +1,6 @@
 //! A table that is written: its texts in order of first use.
 
-ghost use Rattle.std.specs.Prelude.{◌≡◌, ◌<◌, ◌≤◌, ◌+◌, ◌-◌, ℕ, List, ◌^◌, ◌↔◌, min, ◌++◌, [], length, map, Some, true, IsTrue, IsOk, IfOk, IfSome, OnOk, OnErr, slice_get};
+ghost use Rattle.std.specs.Prelude.{◌≡◌, ◌<◌, ◌≤◌, ◌+◌, ◌-◌, ℕ, List, ◌^◌, ◌↔◌, min, ◌++◌, [], length, map, take, Some, true, IsTrue, IsOk, IfOk, IfSome, OnOk, OnErr, slice_get};
 ghost use Rattle.std.specs.List.{sum_by};
 ghost use Rattle.std.specs.Option.{option_map, option_to_list};
 ghost use Rattle.pbf_wire.specs.Message.{Each, slot_bytes};
@@ -15,33 +15,75 @@ use std::hash::BuildHasher;
 use std::marker::Model;
 
 /// How many texts are remembered without their hash.
-const SLOTS: usize = 1024;
+const SLOTS: usize = 2048;
+
+/// The slot after those: that of the last user, who mostly is the one of the next entity too.
+const LAST_USER: usize = SLOTS;
 
 /// The slot of a text: by its length and three of its bytes, as it has to cost less than a hash.
 fn slot_of(text: &[u8]) -> usize
     ensures { result < SLOTS }
 {
-    let byte_at = |place: usize| usize::from(text.get(place).copied().unwrap_or(0));
+    let Some(first) = text.first() else {
+        return 0;
+    };
     let length = text.len();
-    let bytes = byte_at(0) + 7 * byte_at(length / 2) + 31 * byte_at(length.saturating_sub(1));
+    let middle = text[length / 2];
+    let last = text[length - 1];
+    let bytes = usize::from(*first) + 31 * usize::from(middle) + 63 * usize::from(last);
     (length % SLOTS + bytes) % SLOTS
 }
 
-/// Whether two texts are the same. Most are so short that to compare each byte takes less than `==`, which is a call.
+/// Whether two texts begin with the same eight bytes.
+#[inline(always)]
+fn same_eight(one: &[u8], other: &[u8]) -> bool
+    requires { (8 ≤ length one.now) × (8 ≤ length other.now) }
+    ensures { IsTrue result ↔ (take 8 one.now ≡ take 8 other.now) }
+{
+    let (Some(one), Some(other)) = (one.first_chunk::<8>(), other.first_chunk::<8>()) else {
+        return false;
+    };
+    u64::from_le_bytes(*one) == u64::from_le_bytes(*other)
+}
+
+/// Whether two texts begin with the same four bytes.
+#[inline(always)]
+fn same_four(one: &[u8], other: &[u8]) -> bool
+    requires { (4 ≤ length one.now) × (4 ≤ length other.now) }
+    ensures { IsTrue result ↔ (take 4 one.now ≡ take 4 other.now) }
+{
+    let (Some(one), Some(other)) = (one.first_chunk::<4>(), other.first_chunk::<4>()) else {
+        return false;
+    };
+    u32::from_le_bytes(*one) == u32::from_le_bytes(*other)
+}
+
+/// Whether two texts of any length are the same. It is a call, which most texts need not take.
+#[inline(never)]
+fn is_same_any(one: &[u8], other: &[u8]) -> bool
+    ensures { IsTrue result ↔ (one.now ≡ other.now) }
+{
+    one == other
+}
+
+/// Whether two texts are the same. Of 4 to 16 bytes, which most have, the first and the last four or eight are compared: they meet.
+#[inline(always)]
 fn is_same(one: &[u8], other: &[u8]) -> bool
     ensures { IsTrue result ↔ (one.now ≡ other.now) }
 {
-    if one.len() != other.len() {
+    let length = one.len();
+    if length != other.len() {
         return false;
     }
-    let mut place = 0;
-    'places: while place < one.len() {
-        if one[place] != other[place] {
-            return false;
-        }
-        place += 1;
+    if length >= 8 && length <= 16 {
+        let last = length - 8;
+        return same_eight(one, other) && same_eight(&one[last..], &other[last..]);
     }
-    true
+    if length >= 4 && length < 8 {
+        let last = length - 4;
+        return same_four(one, other) && same_four(&one[last..], &other[last..]);
+    }
+    is_same_any(one, other)
 }
 
 /// The texts of a block that is being written, in order of first use. The caller passes the hasher, since the input is untrusted.
@@ -49,8 +91,9 @@ fn is_same(one: &[u8], other: &[u8]) -> bool
 #[derive(Drop)]
 pub struct TableOut<S: BuildHasher> {
     texts: IndexSet<Vec<u8>, S>,
-    /// The indexes of texts that were looked up recently, each in its slot; a text that isn't there is looked up by its hash.
-    recent: [u32; SLOTS],
+    /// The indexes of texts that were looked up recently, each in its slot, and 0 in a slot that no text was looked up in; a text
+    /// that isn't there is looked up by its hash.
+    recent: [u32; SLOTS + 1],
     alloc: Global,
 }
 
@@ -69,7 +112,7 @@ impl<S: BuildHasher> TableOut<S> {
     {
         TableOut {
             texts: IndexSet::with_hasher(alloc, hasher),
-            recent: [0; SLOTS],
+            recent: [0; SLOTS + 1],
             alloc,
         }
     }
@@ -93,22 +136,44 @@ impl<S: BuildHasher> TableOut<S> {
         ensures { self.new ≡ [] }
     {
         self.texts.truncate(0);
+        self.recent = [0; SLOTS + 1];
     }
 
     /// The index of a text by its slot, `None` if another text is there.
+    #[inline(always)]
     fn recent_index(&self, slot: usize, text: &[u8]) -> Option<u32>
         requires room { length self.now < MOST_USED_TEXTS }
-        requires slot { slot < SLOTS }
+        requires slot { slot ≤ LAST_USER }
         ensures { IfSome result
             (λ index. (has_text self.now text.now ≡ true) × (index ≡ index_in self.now text.now)) }
     {
-        let place = self.recent[slot];
+        let index = self.recent[slot];
+        let place = index.checked_sub(1)?;
         let known = self.texts.as_slice().get(place as usize)?;
         if is_same(known.as_slice(), text) {
-            Some(place + 1)
+            Some(index)
         } else {
             None
         }
+    }
+
+    /// Like [`TableOut::index_of`], of a text that is most likely new: a copy is made first, so that it is hashed once.
+    fn index_of_new(&mut self, text: &[u8]) -> Result<u32, AllocError>
+        requires { length self.old < MOST_USED_TEXTS }
+        ensures texts { OnOk result (self.new ≡ with_text self.old text.now) }
+        ensures index { IfOk result (λ index. index ≡ index_in self.new text.now) }
+        ensures named { IfOk result (λ index. slice_get (table_of self.new) index ≡ Some text.now) }
+        ensures known { has_text self.old text.now ≡ true → IsOk result }
+        ensures err { OnErr result (self.new ≡ self.old) }
+    {
+        let Ok(copy) = Vec::from_slice(self.alloc, text) else {
+            return match self.texts.get_index_of(text) {
+                Some(place) => Ok(place as u32 + 1),
+                None => Err(AllocError),
+            };
+        };
+        let (place, _) = self.texts.insert_full(copy)?;
+        Ok(1 + place as u32)
     }
 
     /// Like [`TableOut::index_of`], by the hash of the text.
@@ -130,8 +195,26 @@ impl<S: BuildHasher> TableOut<S> {
         Ok(index as u32 + 1)
     }
 
+    /// Like [`TableOut::index_of`], of a text that isn't in its slot. A slot that no text was looked up in shows that the text is new.
+    #[inline(never)]
+    fn index_elsewhere(&mut self, slot: usize, text: &[u8]) -> Result<u32, AllocError>
+        requires room { length self.old < MOST_USED_TEXTS }
+        requires slot { slot < SLOTS }
+        ensures texts { OnOk result (self.new ≡ with_text self.old text.now) }
+        ensures index { IfOk result (λ index. index ≡ index_in self.new text.now) }
+        ensures named { IfOk result (λ index. slice_get (table_of self.new) index ≡ Some text.now) }
+        ensures known { has_text self.old text.now ≡ true → IsOk result }
+        ensures err { OnErr result (self.new ≡ self.old) }
+    {
+        if self.recent[slot] == 0 {
+            return self.index_of_new(text);
+        }
+        self.index_by_hash(text)
+    }
+
     /// The index of a text in the written table, from 1 in order of first use; a new text is added after the others. For a text that
     /// is there it does not allocate. An `Err` leaves the texts as they were.
+    #[inline(never)]
     pub fn index_of(&mut self, text: &[u8]) -> Result<u32, AllocError>
         requires { length self.old < MOST_USED_TEXTS }
         ensures texts { OnOk result (self.new ≡ with_text self.old text.now) }
@@ -144,12 +227,29 @@ impl<S: BuildHasher> TableOut<S> {
         if let Some(index) = self.recent_index(slot, text) {
             return Ok(index);
         }
-        let index = self.index_by_hash(text)?;
-        self.recent[slot] = index - 1;
+        let index = self.index_elsewhere(slot, text)?;
+        self.recent[slot] = index;
+        Ok(index)
+    }
+
+    /// Like [`TableOut::index_of`], of a user.
+    #[inline(always)]
+    fn index_of_user(&mut self, text: &[u8]) -> Result<u32, AllocError>
+        requires { length self.old < MOST_USED_TEXTS }
+        ensures texts { OnOk result (self.new ≡ with_text self.old text.now) }
+        ensures index { IfOk result (λ index. index ≡ index_in self.new text.now) }
+        ensures err { OnErr result (self.new ≡ self.old) }
+    {
+        if let Some(index) = self.recent_index(LAST_USER, text) {
+            return Ok(index);
+        }
+        let index = self.index_of(text)?;
+        self.recent[LAST_USER] = index;
         Ok(index)
     }
 
     /// The index of a text, if there is one, as [`TableOut::index_of`] gives it. It stays, whatever texts are used later.
+    #[inline(always)]
     pub fn index_if_some(&mut self, text: Option<&[u8]>) -> Result<Option<u32>, AllocError>
         requires { length self.old + length (option_to_list (option_map (λ text. text.now) text))
             ≤ MOST_USED_TEXTS }
@@ -161,7 +261,7 @@ impl<S: BuildHasher> TableOut<S> {
         ensures err { OnErr result (self.new ≡ self.old) }
     {
         match text {
-            Some(text) => Ok(Some(self.index_of(text)?)),
+            Some(text) => Ok(Some(self.index_of_user(text)?)),
             None => Ok(None),
         }
     }

@@ -1,7 +1,7 @@
 use Rattle.osm_entity.specs.Sources.{tags_left}
 use Rattle.osm_entity.specs.Views.{node_of}
 use Rattle.pbf_dense.proofs.DenseOutLemmas.{RunPut}
-use Rattle.pbf_dense.proofs.dense_out.push_tags.Given as goal
+use Rattle.pbf_dense.proofs.dense_out.push_each_tag.Given as goal
 
 abbrev pub invariant-loop-key : goal.invariant-loop-key
 invariant-loop-key g l = record {
