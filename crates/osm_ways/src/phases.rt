@@ -235,8 +235,9 @@ pub(crate) fn add_way<I: IdLookup>(
     way_ids: &mut IdSet,
     way: SeenWay<'_>,
 ) -> Result<(), AllocError>
-    ensures { OnOk result (sets_of (I.ids known.old) refs.new way_ids.new
+    ensures sets { OnOk result (sets_of (I.ids known.old) refs.new way_ids.new
         ≡ way_step (sets_of (I.ids known.old) refs.old way_ids.old) (seen_refs way.entry)) }
+    ensures same { OnOk result (known.new ≡ known.old) }
 {
     if is_kept_by(known, way.refs) {
         add_refs(known, refs, way.refs)?;
