@@ -1,9 +1,9 @@
 -- Messages whose fields come once each, in the order of their numbers: what they begin with, and that they have no faults.
-use Rattle.std.proofs.Common.{◌≡◌, ℕ, ◌+◌, ◌-◌, ◌/◌, ◌%◌, ◌^◌, ◌<◌, ◌≤◌, ltb, eqb, Bool, true, false, pos, List, [], ◌∷◌, ◌++◌, length, take, drop, get_or, refl, sym, ap, subst, ◌∙◌, arith, append-nil, eq-eqb}
+use Rattle.std.proofs.Common.{◌≡◌, ℕ, ◌+◌, ◌-◌, ◌/◌, ◌%◌, ◌^◌, ◌<◌, ◌≤◌, ltb, eqb, Bool, true, false, pos, List, [], ◌∷◌, ◌++◌, length, map, take, drop, get_or, refl, sym, ap, subst, ◌∙◌, arith, append-nil, eq-eqb}
 use Rattle.std.specs.Prelude.{Ok, Option, None, Some, nat_lt, not, if◌then◌else◌, filter}
 use Rattle.std.specs.List.{AllByRecursion}
 use Rattle.std.proofs.lemmas.Bool.{lt-ltb, le-ltb}
-use Rattle.std.proofs.lemmas.List.{take_rest, drop-drop, length-drop}
+use Rattle.std.proofs.lemmas.List.{take_rest, drop-drop, length-drop, get_or-drop}
 use Rattle.pbf_wire.specs.declared.fault.Fault.{Fault}
 use Rattle.pbf_wire.specs.declared.fault.Reason.{Reason}
 use Rattle.pbf_wire.specs.declared.fault.Reason.TheVariants.{StringIndex, TagColumns, OutOfRange}
@@ -11,9 +11,9 @@ use Rattle.pbf_wire.specs.declared.fields.Fields.{Fields}
 use Rattle.pbf_wire.specs.declared.message.Message.{Message}
 use Rattle.pbf_wire.specs.Cursors.{fields_left}
 use Rattle.pbf_wire.specs.Varint.{varint_at}
-use Rattle.pbf_wire.specs.Columns.{entries, entry_fault, read_entries, placed, joined}
+use Rattle.pbf_wire.specs.Columns.{entries, entry_fault, read_entries, placed, joined, column}
 use Rattle.pbf_wire.specs.Occurrence.{Number, Bytes, Occurrence, Item, body_at, occurrence_at, items, found}
-use Rattle.pbf_wire.specs.Faults.{fault_where, below_fault, index_faults, nested_faults, sum_faults, ends_in, in_last, found_in}
+use Rattle.pbf_wire.specs.Faults.{fault_where, below_fault, index_faults, nested_faults, sum_faults, ends_in, in_last, fields_in, found_in}
 use Rattle.pbf_wire.specs.Least.{lesser, least, rank, is_less}
 use Rattle.pbf_wire.specs.Short.{IsShort}
 use Rattle.pbf_wire.specs.Signed.{low_i32, low_i64, is_within}
@@ -28,6 +28,7 @@ use Rattle.pbf_block.specs.declared.way.TheConstants.{WAY_KINDS, REFS}
 use Rattle.pbf_block.specs.declared.info.TheConstants.{INFO_KINDS}
 use Rattle.pbf_block.specs.Info.{info_values, out_of_range}
 use Rattle.pbf_block.specs.Plain.{IsTag, number_field, bytes_field, BeginsWithNumber, BeginsWithBytes, IsPlainWay, IsPlainInfo}
+use Rattle.pbf_block.specs.Scale.{number_or}
 use Rattle.pbf_block.specs.Way.{way_structure, way_values}
 
 -- ---- what a message begins with
@@ -72,15 +73,16 @@ bytes_begins at tag v after m is some first read lt le room =
 
 -- ---- fields one after another
 
-pub way_fields : (at : ℕ) (m m1 m2 m3 m4 m5 : List ℕ) (way : PlainWay)
+pub way_fields : (at : ℕ) (m m1 m2 m3 m5 : List ℕ) (way : PlainWay)
     → ((at : ℕ) → BeginsWithNumber at m 1 way.id m1) → ((at : ℕ) → BeginsWithBytes at m1 2 way.keys.now m2) → ((at : ℕ) → BeginsWithBytes at m2 3 way.vals.now m3)
-    → ((at : ℕ) → BeginsWithBytes at m3 4 way.info.now m4) → ((at : ℕ) → BeginsWithBytes at m4 8 way.refs.now m5) → length m5 ≡ 0 → IsPlainWay way at m
-way_fields at m m1 m2 m3 m4 m5 way a b c d e none =
+    → ((at : ℕ) → BeginsWithBytes at m3 4 way.info.now way.last.now) → ((at : ℕ) → BeginsWithBytes at way.last.now 8 way.refs.now m5) → length m5 ≡ 0 → IsPlainWay way at m
+way_fields at m m1 m2 m3 m5 way a b c d e none =
     let one = a at in
     let two = b one.next in
     let three = c two.next in
     let four = d three.next in
     let five = e four.next in
+    let tail = e 0 in
     record {
       keys = one.next;
       keys_at = two.held_at;
@@ -91,6 +93,8 @@ way_fields at m m1 m2 m3 m4 m5 way a b c d e none =
       refs = four.next;
       refs_at = five.held_at;
       is = one.is ∙ ap (λ r. number_field at ID way.id ∷ r) (two.is ∙ ap (λ r. bytes_field one.next 2 two.held_at way.keys.now ∷ r) (three.is ∙ ap (λ r. bytes_field two.next 3 three.held_at way.vals.now ∷ r) (four.is ∙ ap (λ r. bytes_field three.next 4 four.held_at way.info.now ∷ r) (five.is ∙ ap (λ r. bytes_field four.next 8 five.held_at way.refs.now ∷ r) (items_none five.next m5 none)))));
+      last_at = tail.held_at;
+      last = tail.is ∙ ap (λ r. bytes_field 0 8 tail.held_at way.refs.now ∷ r) (items_none tail.next m5 none);
     }
 
 pub info_fields : (at : ℕ) (m m1 m2 m3 m4 m5 : List ℕ) (info : PlainInfo)
@@ -193,3 +197,20 @@ valued message way limit p id keys vals info few short =
     let one = none_where (not (is_within (pos (2 ^ 62)) (low_i64 way.id))) 0 message.at OutOfRange id in
     let refs = subst (λ (is : List Item). sum_faults (pos (2 ^ 62)) false (joined REFS (found is)) ≡ []) p.is (refs_small message way p few short) in
     rw (p.is, one, keys, vals, info, refs) refl
+
+-- ---- what is read
+
+numbers_of : (p q : ℕ) (ns : List ℕ) → map (λ (x : ℕ × ℕ). x.0) (placed p ns ++ []) ≡ map (λ (x : ℕ × ℕ). x.0) (placed q ns ++ [])
+numbers_of p q [] = refl
+numbers_of p q (n ∷ ns) = ap (λ (xs : List ℕ). n ∷ xs) (numbers_of p q ns)
+
+pub plain_id : (way : PlainWay) (at : ℕ) (m : List ℕ) → IsPlainWay way at m → number_or (pos 0) low_i64 ID (fields_in at m) ≡ low_i64 way.id
+plain_id way at m p = rw p.is refl
+
+pub plain_refs : (way : PlainWay) (at : ℕ) (m : List ℕ) → IsPlainWay way at m → column REFS (fields_in 0 way.last.now) ≡ column REFS (fields_in at m)
+plain_refs way at m p = rw (p.is, p.last) (numbers_of 0 p.refs (read_entries (entries way.refs.now)))
+
+-- the second byte is a whole varint
+pub short_after : (m : List ℕ) → 1 < length m → get_or m 1 0 < 128 → varint_at (drop 1 m) ≡ Ok (get_or m 1 0, 1)
+short_after m lt small =
+    one_byte (drop 1 m) (omega (arith, lt, length-drop 1 m)) (omega (arith, small, get_or-drop 1 m 0 0)) ∙ ap (λ b. Ok (b, 1)) (get_or-drop 1 m 0 0)

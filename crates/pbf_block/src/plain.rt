@@ -22,8 +22,14 @@ fn after_tag(bytes: &[u8], tag: u8) -> Option<(u64, usize)>
         × (varint_at (drop 1 bytes.now) ≡ Ok (found.0, found.1 - 1))
         × (1 < found.1) × (found.1 ≤ length bytes.now)) }
 {
-    if *bytes.first()? != tag {
+    let [first, second, ..] = bytes else {
         return None;
+    };
+    if *first != tag {
+        return None;
+    }
+    if *second < 128 {
+        return Some((u64::from(*second), 2));
     }
     let Ok(found) = get_varint(bytes, 1) else {
         return None;
@@ -61,23 +67,25 @@ fn bytes_front(bytes: &[u8], tag: u8) -> Option<(&[u8], &[u8])>
 /// A way with one id, keys, values, an Info and refs.
 #[derive(Clone, Copy)]
 pub(crate) struct PlainWay<'a> {
-    id: u64,
+    pub(crate) id: u64,
     keys: &'a [u8],
     vals: &'a [u8],
     info: &'a [u8],
     refs: &'a [u8],
+    /// The last field, which holds the refs, from its tag on.
+    pub(crate) last: &'a [u8],
 }
 
 /// The fields of a way, if it is plain.
 #[inline(always)]
-fn plain_way(bytes: &[u8]) -> Option<PlainWay<'_>>
+pub(crate) fn plain_way(bytes: &[u8]) -> Option<PlainWay<'_>>
     ensures { IfSome result (λ way. (at : ℕ) → IsPlainWay way at bytes.now) }
 {
     let (id, rest) = number_front(bytes, 8)?;
     let (keys, rest) = bytes_front(rest, 18)?;
     let (vals, rest) = bytes_front(rest, 26)?;
-    let (info, rest) = bytes_front(rest, 34)?;
-    let (refs, rest) = bytes_front(rest, 66)?;
+    let (info, last) = bytes_front(rest, 34)?;
+    let (refs, rest) = bytes_front(last, 66)?;
     if !rest.is_empty() {
         return None;
     }
@@ -87,6 +95,7 @@ fn plain_way(bytes: &[u8]) -> Option<PlainWay<'_>>
         vals,
         info,
         refs,
+        last,
     })
 }
 

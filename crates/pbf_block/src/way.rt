@@ -15,11 +15,13 @@ ghost use Rattle.pbf_block.specs.Way.{are_located, way_structure, way_values, wa
 use crate::entity::{ID, INFO, KEYS, NO_FIELD, VALS, entity_counts, entity_values};
 use crate::entity_fields::{entity_fields, last_wide, values};
 use crate::info::INFO_KINDS;
-use crate::plain::{is_built, is_formed, is_valued};
+use crate::plain::{is_built, is_formed, is_valued, plain_way};
 use crate::ranges::{judge_sums, judge_wide};
 use osm_entity::{Locations, Refs, Scale, SummedLocations, WayRef};
 use pbf_strings::Table;
-use pbf_wire::{Fault, Kind, Message, Reason, column_count, fault_where, judge_nested, lesser};
+use pbf_wire::{
+    Fault, Fields, Kind, Message, Reason, column_count, fault_where, judge_nested, lesser, low_i64,
+};
 
 // The fields of a Way beside those that all entities have: its refs, and their locations.
 pub(crate) const REFS: u64 = 8;
@@ -119,19 +121,28 @@ pub struct UnmadeWay<'a> {
 
 impl<'a> UnmadeWay<'a> {
     /// Its id. Nothing else of the message is read.
+    #[inline(always)]
     #[tactic(auto, unfolding(crate::specs::Way::way_in))]
     pub fn id(&self) -> i64
         ensures { result ≡ (way_from self.now).id }
     {
-        last_wide(self.message.fields(), ID)
+        match plain_way(self.message.bytes) {
+            Some(way) => low_i64(way.id),
+            None => last_wide(self.message.fields(), ID),
+        }
     }
 
     /// Its refs. Nothing else of the message is read.
+    #[inline(always)]
     #[tactic(auto, unfolding(crate::specs::Way::way_in))]
     pub fn refs(&self) -> Refs<'a>
         ensures { refs_left result ≡ (way_from self.now).refs }
     {
-        Refs::Summed(values(self.message.fields(), REFS))
+        // If the last field has all refs, the others needn't be passed to find it.
+        match plain_way(self.message.bytes) {
+            Some(way) => Refs::Summed(values(Fields::new(way.last, 0), REFS)),
+            None => Refs::Summed(values(self.message.fields(), REFS)),
+        }
     }
 
     /// The way.
