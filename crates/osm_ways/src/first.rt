@@ -170,6 +170,7 @@ impl FirstPhase {
         } = self;
         Ok(WayPhase {
             box_ids: sealed(box_ids)?,
+            known: Known::nothing(),
             refs,
             way_ids,
             alloc,
