@@ -86,6 +86,7 @@ impl FirstPhase {
     /// # Errors
     ///
     /// If memory is refused, the phase may only be dropped.
+    #[inline(always)]
     pub fn take_place(&mut self, id: i64, lat: i128, lon: i128) -> Result<(), AllocError>
         ensures { OnOk result
             (self.new ≡ first_step self.old (a_node id (is_inside self.old.area lat lon))) }
