@@ -76,6 +76,7 @@ impl<'a> Iterator for Refs<'a> {
 
     ghost remaining = { item_count refs_left };
 
+    #[inline(always)]
     fn next(&mut self) -> Option<i64> {
         match self {
             Refs::Owned(refs) => refs.next(),

@@ -1,9 +1,13 @@
 -- From where a look-up reads on.
-use Rattle.std.proofs.Common.{◌≡◌, ℕ, ◌-◌, ◌<◌, ◌≤◌, List, length, get_or, ℤ, pos, refl, sym, subst, arith}
+use Rattle.std.proofs.Common.{◌≡◌, ℕ, ◌-◌, ◌<◌, ◌≤◌, List, length, get_or, ℤ, pos, refl, sym, ap, subst, ◌∙◌, ◌<ℤ◌, arith}
+use Rattle.std.specs.FinSet as set
 use Rattle.std.proofs.lemmas.List.{get_or_default}
 use Rattle.osm_ids.specs.declared.pages.PageStart.{PageStart}
+use Rattle.osm_ids.specs.declared.lookup.Known.{Known}
 use Rattle.osm_ids.specs.declared.lookup.Place.{Place}
-use Rattle.osm_ids.specs.Cursors.{IsPassedAt, IsPlace, Stands}
+use Rattle.osm_ids.specs.Cursors.{IsPassedAt, IsPlace, Stands, AreKnown, IsKnown}
+use Rattle.osm_ids.specs.Pages.{Page, IsSealed, ids_in}
+use Rattle.osm_ids.proofs.Sets.{Ids, ids_of, contains-ids_of}
 use Rattle.osm_ids.proofs.Reading.{cursor, IsAhead}
 use Rattle.osm_ids.proofs.Found.{ReadsFrom, reads_first, reads_still}
 
@@ -33,3 +37,11 @@ chosen_still index bytes begun place id seen same e some held ahead = record {
   same = sym same;
   reads = reads_still index bytes begun place.begun place.page.now place.page.now place.cursor place.cursor id seen same refl refl e some held.stands ahead;
 }
+
+-- what is known of a set is known of the ids that it stands for, by whatever names
+pub known_seen : (index seen : List PageStart) (bytes seen_bytes : List ℕ) (pages : List Page) (ids : Ids) (known : Known) → seen ≡ index → seen_bytes ≡ bytes → IsSealed index bytes pages → ids_of (ids_in index bytes) ≡ ids → IsKnown ids known → IsSealed seen seen_bytes pages × AreKnown seen seen_bytes known
+known_seen index seen bytes seen_bytes pages ids known e f sealed is h = (
+  subst (λ i. IsSealed i seen_bytes pages) (sym e) (subst (λ b. IsSealed index b pages) (sym f) sealed),
+  subst (λ i. AreKnown i seen_bytes known) (sym e) (subst (λ b. AreKnown index b known) (sym f)
+      (λ id above below. sym (contains-ids_of (ids_in index bytes) id) ∙ ap (λ (s : Ids). set.contains s id) is ∙ h id above below)),
+)

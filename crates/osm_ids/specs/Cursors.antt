@@ -2,7 +2,8 @@
 use Rattle.std.specs.Prelude.{◌≡◌, ℕ, ◌⊎◌, ◌<◌, ◌≤◌, List, ◌∷◌, length, drop, get_or, ℤ, ◌<ℤ◌, ◌≤ℤ◌, int_le, nat_lt, Bool, true, false}
 use Rattle.std.specs.List.{list_any}
 use Rattle.std.specs.List.Sorted.{IsPartitionPoint}
-use Rattle.std.specs.Ordering.{int_eq}
+use Rattle.std.specs.Ordering.{int_eq, int_cmp}
+use Rattle.std.specs.FinSet as set
 use Rattle.osm_ids.specs.declared.lookup.Known.{Known}
 use Rattle.osm_ids.specs.declared.lookup.Place.{Place}
 use Rattle.osm_ids.specs.declared.page.Cursor.{Cursor}
@@ -40,6 +41,10 @@ pub record Stands (index : List PageStart) (bytes : List ℕ) (begun : ℕ) (pag
 -- of the ids between the two, the set that an index and bytes stand for has all, or none
 abbrev pub AreKnown : List PageStart → List ℕ → Known → Type 0
 AreKnown index bytes known = (id : ℤ) → known.above <ℤ id → id <ℤ known.below → list_any (int_eq id) (ids_in index bytes) ≡ known.there
+
+-- of the ids between the two, a set has all, or none
+abbrev pub IsKnown : set.FinSet int_cmp → Known → Type 0
+IsKnown ids known = (id : ℤ) → known.above <ℤ id → id <ℤ known.below → set.contains ids id ≡ known.there
 
 -- a page can be read on from here, if any is begun, and the ids round the last one are known
 pub record IsPlace (index : List PageStart) (bytes : List ℕ) (place : Place) : Type 0 where

@@ -14,7 +14,7 @@ mod set;
 mod walk;
 
 pub use links::{Link, Links};
-pub use lookup::Lookup;
+pub use lookup::{Known, Lookup};
 pub use open_lookup::{IdLookup, OpenLookup};
 pub use pages::SealedIds;
 pub use set::IdSet;

@@ -6,15 +6,17 @@ ghost use Rattle.std.specs.List.Sorted.{IsPartitionedBy};
 ghost use Rattle.std.specs.Ordering.{int_eq};
 ghost use Rattle.std.specs.FinSet as set;
 ghost use Rattle.osm_ids.specs.Pages.{Page, IsSealed, ids_in};
-ghost use Rattle.osm_ids.specs.Cursors.{IsAt, IsPassedAt, IsReadTo, IsPlace, Stands, AreKnown, BeginFrom};
+ghost use Rattle.osm_ids.specs.Cursors.{IsAt, IsPassedAt, IsReadTo, IsPlace, Stands, AreKnown, IsKnown, BeginFrom};
+ghost use Rattle.std.specs.Ordering.{int_cmp};
 
 use crate::page::{Cursor, read_up_to, short_step};
 use crate::pages::{PAGE, PageStart, SealedIds};
 use std::marker::Model;
 
-/// What is known of the ids above one number and below another: the set has all of them, or none.
+/// What is known of the ids above one number and below another: the set has all of them, or none. A look-up learns it, and another
+/// one in the same set can begin with it.
 #[derive(Clone, Copy)]
-pub(crate) struct Known {
+pub struct Known {
     pub(crate) above: i64,
     pub(crate) below: i64,
     pub(crate) there: bool,
@@ -26,6 +28,15 @@ const NOTHING: Known = Known {
     below: 0,
     there: false,
 };
+
+impl Known {
+    /// Nothing is known, of whatever set.
+    pub fn nothing() -> Known
+        ensures { (ids : set.FinSet int_cmp) → IsKnown ids result }
+    {
+        NOTHING
+    }
+}
 
 /// How far a page is read, and what is known of the ids round the last one that was looked up there.
 #[derive(Clone, Copy)]
@@ -75,8 +86,16 @@ impl SealedIds {
     pub fn lookup(&self) -> Lookup<'_>
         ensures { result ≡ self.now }
     {
+        self.lookup_from(NOTHING)
+    }
+
+    /// The same, with what an earlier look-up in this set learnt: an id that it says something of isn't searched.
+    pub fn lookup_from(&self, known: Known) -> Lookup<'_>
+        requires { IsKnown self.now known }
+        ensures { result ≡ self.now }
+    {
         let nowhere = Place {
-            known: NOTHING,
+            known,
             begun: 0,
             page: &[],
             cursor: Cursor {
@@ -95,6 +114,14 @@ impl SealedIds {
 }
 
 impl<'a> Lookup<'a> {
+    /// What the last look-up learnt of the ids round its own.
+    pub fn known(&self) -> Known
+        ensures { IsKnown self.now result }
+    {
+        let Place { known, .. } = self.here;
+        known
+    }
+
     /// Whether the set has the id, in whatever order ids come; the set stays the same. An id that is known to be absent takes two
     /// comparisons, and the next one of a dense set no call.
     #[inline(always)]

@@ -3,8 +3,9 @@
 ghost use Rattle.std.specs.Prelude.{◌≡◌};
 ghost use Rattle.std.specs.FinSet as set;
 ghost use Rattle.std.specs.Ordering.{int_cmp};
+ghost use Rattle.osm_ids.specs.Cursors.{IsKnown};
 
-use crate::lookup::Lookup;
+use crate::lookup::{Known, Lookup};
 use std::collections::BTreeSet;
 use std::marker::Model;
 
@@ -45,6 +46,19 @@ impl<'a> Model for OpenLookup<'a> {
     ghost coded = { set.code coded_ℤ };
 
     ghost view = { λ a. set.union a.laid (set.from_list a.late.now.keys) };
+}
+
+impl OpenLookup<'_> {
+    /// What the last look-up learnt of the ids round its own; nothing, if some ids came out of order.
+    pub fn known(&self) -> Known
+        ensures { IsKnown self.now result }
+    {
+        if self.late.is_empty() {
+            self.laid.known()
+        } else {
+            Known::nothing()
+        }
+    }
 }
 
 impl IdLookup for OpenLookup<'_> {

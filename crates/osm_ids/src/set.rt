@@ -3,7 +3,9 @@
 ghost use Rattle.std.specs.Prelude.{◌≡◌, not, IfOk, IfErr, OnOk, OnErr};
 ghost use Rattle.std.specs.FinSet as set;
 ghost use Rattle.osm_ids.specs.Pages.{IsRising};
+ghost use Rattle.osm_ids.specs.Cursors.{IsKnown};
 
+use crate::lookup::Known;
 use crate::merge::Merged;
 use crate::open_lookup::OpenLookup;
 use crate::open_pages::OpenPages;
@@ -111,8 +113,21 @@ impl IdSet {
     pub fn lookup(&self) -> OpenLookup<'_>
         ensures { result ≡ self.now }
     {
+        self.lookup_from(Known::nothing())
+    }
+
+    /// The same, with what an earlier look-up in this set learnt, if all ids so far came in order.
+    pub fn lookup_from(&self, known: Known) -> OpenLookup<'_>
+        requires { IsKnown self.now known }
+        ensures { result ≡ self.now }
+    {
+        let known = if self.late.is_empty() {
+            known
+        } else {
+            Known::nothing()
+        };
         OpenLookup {
-            laid: self.laid.ids().lookup(),
+            laid: self.laid.ids().lookup_from(known),
             late: &self.late,
         }
     }

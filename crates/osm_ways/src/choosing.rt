@@ -56,6 +56,7 @@ fn has(ids: &mut Option<Lookup<'_>>, id: i64) -> bool
 
 impl<'a> Chooser<'a> {
     /// Whether nodes of this id are kept: it is that of a node in the box, or a ref of a kept way. The choice stays the same.
+    #[inline(always)]
     pub fn keeps_node(&mut self, id: i64) -> bool
         ensures kept { result ≡ set.contains self.old.ways.node_ids id }
         ensures same { self.new ≡ self.old }

@@ -9,7 +9,7 @@ ghost use Rattle.osm_ways.specs.Seen.{seen_node, seen_way, seen_refs};
 
 use crate::phases::{SeenWay, WayPhase, add_way, sealed};
 use osm_entity::{BoundingBox, NodeRef, WayRef};
-use osm_ids::IdSet;
+use osm_ids::{IdSet, Known};
 use std::alloc::{AllocError, Global};
 use std::marker::Model;
 
@@ -19,6 +19,8 @@ use std::marker::Model;
 pub struct FirstPhase {
     area: BoundingBox,
     box_ids: IdSet,
+    /// What the last look-up among them learnt, for the next way's.
+    known: Known,
     /// The refs of kept ways that aren't nodes of the box; none if the order was broken.
     refs: IdSet,
     /// The ids of kept ways; none if the order was broken.
@@ -33,6 +35,7 @@ pub struct FirstPhase {
 impl Model for FirstPhase {
     ghost use Rattle.osm_ways.specs.First.{FirstSets, IsWayless, first_sets_code};
     ghost use Rattle.osm_ways.specs.Phases.{sets_of};
+    ghost use Rattle.osm_ids.specs.Cursors.{IsKnown};
 
     ghost Value = { FirstSets };
 
@@ -45,7 +48,8 @@ impl Model for FirstPhase {
       ways = sets_of a.box_ids a.refs a.way_ids;
     } };
 
-    ghost invariant = { λ a. IsWayless a.has_ways a.in_order a.refs a.way_ids };
+    ghost invariant = { λ a. IsWayless a.has_ways a.in_order a.refs a.way_ids
+        × IsKnown a.box_ids a.known };
 }
 
 impl FirstPhase {
@@ -56,6 +60,7 @@ impl FirstPhase {
         FirstPhase {
             area,
             box_ids: IdSet::new(alloc),
+            known: Known::nothing(),
             refs: IdSet::new(alloc),
             way_ids: IdSet::new(alloc),
             has_ways: false,
@@ -81,12 +86,14 @@ impl FirstPhase {
     /// # Errors
     ///
     /// If memory is refused, the phase may only be dropped.
+    #[inline(always)]
     pub fn take_place(&mut self, id: i64, lat: i128, lon: i128) -> Result<(), AllocError>
         ensures { OnOk result
             (self.new ≡ first_step self.old (a_node id (is_inside self.old.area lat lon))) }
     {
         self.begin_node();
         if self.area.contains(lat, lon) {
+            self.known = Known::nothing();
             self.box_ids.add(id)?;
         }
         Ok(())
@@ -134,8 +141,10 @@ impl FirstPhase {
         if !self.in_order {
             return Ok(());
         }
-        let mut known = self.box_ids.lookup();
-        add_way(&mut known, &mut self.refs, &mut self.way_ids, way)
+        let mut known = self.box_ids.lookup_from(self.known);
+        add_way(&mut known, &mut self.refs, &mut self.way_ids, way)?;
+        self.known = known.known();
+        Ok(())
     }
 
     /// Whether no node came after a way, so that all ways were taken too.
@@ -162,6 +171,7 @@ impl FirstPhase {
         } = self;
         Ok(WayPhase {
             box_ids: sealed(box_ids)?,
+            known: Known::nothing(),
             refs,
             way_ids,
             alloc,

@@ -11,7 +11,7 @@ ghost use Rattle.osm_ways.specs.Seen.{seen_node, seen_way, seen_refs};
 ghost use Rattle.osm_ways.specs.Phases.{start_nodes, start_ways, node_step, way_step, sets_of, without_parents};
 
 use osm_entity::{BoundingBox, NodeRef, Refs, WayRef};
-use osm_ids::{IdLookup, IdSet, SealedIds};
+use osm_ids::{IdLookup, IdSet, Known, SealedIds};
 use std::alloc::{AllocError, Global};
 use std::marker::Model;
 
@@ -93,6 +93,7 @@ impl NodePhase {
         let NodePhase { box_ids, alloc, .. } = self;
         Ok(WayPhase {
             box_ids: sealed(box_ids)?,
+            known: Known::nothing(),
             refs: IdSet::new(alloc),
             way_ids: IdSet::new(alloc),
             alloc,
@@ -104,6 +105,8 @@ impl NodePhase {
 #[derive(Drop)]
 pub struct WayPhase {
     pub(crate) box_ids: SealedIds,
+    /// What the last look-up among them learnt, for the next way's.
+    pub(crate) known: Known,
     /// The refs of kept ways that aren't nodes of the box.
     pub(crate) refs: IdSet,
     pub(crate) way_ids: IdSet,
@@ -112,12 +115,15 @@ pub struct WayPhase {
 
 impl Model for WayPhase {
     ghost use Rattle.osm_ways.specs.Phases.{WaySets, way_sets_code, sets_of};
+    ghost use Rattle.osm_ids.specs.Cursors.{IsKnown};
 
     ghost Value = { WaySets };
 
     ghost coded = { way_sets_code };
 
     ghost view = { λ a. sets_of a.box_ids a.refs a.way_ids };
+
+    ghost invariant = { λ a. IsKnown a.box_ids a.known };
 }
 
 impl WayPhase {
@@ -141,8 +147,10 @@ impl WayPhase {
     pub fn take_refs(&mut self, way: SeenWay<'_>) -> Result<(), AllocError>
         ensures { OnOk result (self.new ≡ way_step self.old (seen_refs way.entry)) }
     {
-        let mut known = self.box_ids.lookup();
-        add_way(&mut known, &mut self.refs, &mut self.way_ids, way)
+        let mut known = self.box_ids.lookup_from(self.known);
+        add_way(&mut known, &mut self.refs, &mut self.way_ids, way)?;
+        self.known = known.known();
+        Ok(())
     }
 
     /// All ways are taken: returns what was chosen, without parents.
@@ -158,6 +166,7 @@ impl WayPhase {
             refs,
             way_ids,
             alloc,
+            ..
         } = self;
         let refs = sealed(refs)?;
         let way_ids = sealed(way_ids)?;
@@ -235,8 +244,9 @@ pub(crate) fn add_way<I: IdLookup>(
     way_ids: &mut IdSet,
     way: SeenWay<'_>,
 ) -> Result<(), AllocError>
-    ensures { OnOk result (sets_of (I.ids known.old) refs.new way_ids.new
+    ensures sets { OnOk result (sets_of (I.ids known.old) refs.new way_ids.new
         ≡ way_step (sets_of (I.ids known.old) refs.old way_ids.old) (seen_refs way.entry)) }
+    ensures same { OnOk result (known.new ≡ known.old) }
 {
     if is_kept_by(known, way.refs) {
         add_refs(known, refs, way.refs)?;

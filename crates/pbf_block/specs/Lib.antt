@@ -10,5 +10,6 @@ pub mod Passes
 pub mod Kinds
 pub mod Numbers
 pub mod Runs
+pub mod Plain
 pub mod WrittenEntity
 pub mod WrittenBlock

@@ -16,7 +16,7 @@ use crate::kinds::Kinds;
 use crate::node::{self, NODE_KINDS};
 use crate::relation::{self, RELATION_KINDS};
 use crate::runs::{Run, run_in};
-use crate::way::{self, WAY_KINDS};
+use crate::way;
 use osm_entity::{EntityRef, HIGHEST_WEIGHT, Scale};
 use pbf_dense::{Dense, KEYS_VALS};
 use pbf_strings::Table;
@@ -58,7 +58,7 @@ impl Judge for MemberForm {
         match field.number {
             NODES => judge_nested(message, &NODE_KINDS, INFO, &INFO_KINDS),
             DENSE => Dense::judge_wire(message),
-            WAYS => judge_nested(message, &WAY_KINDS, INFO, &INFO_KINDS),
+            WAYS => way::judge_wire(message),
             RELATIONS => judge_nested(message, &RELATION_KINDS, INFO, &INFO_KINDS),
             _ => None,
         }

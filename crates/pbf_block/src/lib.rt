@@ -15,6 +15,7 @@ mod kinds;
 pub mod laws;
 mod members;
 mod node;
+mod plain;
 mod primitive_block;
 mod ranges;
 mod relation;

@@ -1,7 +1,10 @@
 //! A Way: its fields, its rules phase by phase, and how it is read. Its rule of wire form is [`WAY_KINDS`].
 
 ghost use Rattle.std.specs.Prelude.{◌≡◌};
-ghost use Rattle.pbf_wire.specs.Faults.{column_count, found_in};
+ghost use Rattle.pbf_wire.specs.Faults.{column_count, found_in, nested_faults};
+ghost use Rattle.pbf_block.specs.declared.info.TheConstants.{INFO_KINDS};
+ghost use Rattle.pbf_block.specs.declared.entity.TheConstants.{INFO};
+ghost use Rattle.pbf_block.specs.declared.way.TheConstants.{WAY_KINDS};
 ghost use Rattle.pbf_wire.specs.Least.{least};
 ghost use Rattle.osm_entity.specs.Sources.{refs_left};
 ghost use Rattle.osm_entity.specs.Views.{way_of};
@@ -11,10 +14,14 @@ ghost use Rattle.pbf_block.specs.Way.{are_located, way_structure, way_values, wa
 
 use crate::entity::{ID, INFO, KEYS, NO_FIELD, VALS, entity_counts, entity_values};
 use crate::entity_fields::{entity_fields, last_wide, values};
+use crate::info::INFO_KINDS;
+use crate::plain::{is_built, is_formed, is_valued, plain_way};
 use crate::ranges::{judge_sums, judge_wide};
 use osm_entity::{Locations, Refs, Scale, SummedLocations, WayRef};
 use pbf_strings::Table;
-use pbf_wire::{Fault, Kind, Message, Reason, column_count, fault_where, lesser};
+use pbf_wire::{
+    Fault, Fields, Kind, Message, Reason, column_count, fault_where, judge_nested, lesser, low_i64,
+};
 
 // The fields of a Way beside those that all entities have: its refs, and their locations.
 pub(crate) const REFS: u64 = 8;
@@ -43,12 +50,26 @@ fn are_located(message: Message<'_>, lats: usize, lons: usize) -> bool
     lats == lons && (lats == 0 || lats == column_count(message, REFS))
 }
 
-/// The least fault of structure: what all entities have, and locations.
+/// The least wire fault of a way and of its Infos. Most ways are plain.
+pub(crate) fn judge_wire(message: Message<'_>) -> Option<Fault>
+    ensures { result ≡ least (nested_faults WAY_KINDS INFO INFO_KINDS 0
+        message.entry.at message.entry.bytes.now) }
+{
+    if is_formed(message) {
+        return None;
+    }
+    judge_nested(message, &WAY_KINDS, INFO, &INFO_KINDS)
+}
+
+/// The least fault of structure: what all entities have, and locations. Most ways are plain.
 #[inline(never)]
 #[tactic(auto, using(crate::proofs::Parts::lesser_parts))]
 pub(crate) fn judge_structure(message: Message<'_>, place: u64) -> Option<Fault>
     ensures { result ≡ least (way_structure place message.entry.at message.entry.bytes.now) }
 {
+    if is_built(message, place) {
+        return None;
+    }
     let (counts, lats, lons, _) = entity_counts::<WAY_LAT, WAY_LON, NO_FIELD>(message);
     let located = are_located(message, lats, lons);
     lesser(
@@ -57,12 +78,15 @@ pub(crate) fn judge_structure(message: Message<'_>, place: u64) -> Option<Fault>
     )
 }
 
-/// The least fault of values, if the table has `limit` texts.
+/// The least fault of values, if the table has `limit` texts. Most ways are plain.
 #[inline(never)]
 #[tactic(auto, using(crate::proofs::Parts::lesser_parts))]
 pub(crate) fn judge_values(message: Message<'_>, limit: u64) -> Option<Fault>
     ensures { result ≡ least (way_values limit 0 message.entry.at message.entry.bytes.now) }
 {
+    if is_valued(message, limit) {
+        return None;
+    }
     let (values, refs, lats, lons) = entity_values::<REFS, WAY_LAT, WAY_LON>(message, limit);
     let alike = lesser(judge_wide(values.id), values.judge());
     let refs = lesser(alike, judge_sums(refs, REFS));
@@ -97,19 +121,28 @@ pub struct UnmadeWay<'a> {
 
 impl<'a> UnmadeWay<'a> {
     /// Its id. Nothing else of the message is read.
+    #[inline(always)]
     #[tactic(auto, unfolding(crate::specs::Way::way_in))]
     pub fn id(&self) -> i64
         ensures { result ≡ (way_from self.now).id }
     {
-        last_wide(self.message.fields(), ID)
+        match plain_way(self.message.bytes) {
+            Some(way) => low_i64(way.id),
+            None => last_wide(self.message.fields(), ID),
+        }
     }
 
     /// Its refs. Nothing else of the message is read.
+    #[inline(always)]
     #[tactic(auto, unfolding(crate::specs::Way::way_in))]
     pub fn refs(&self) -> Refs<'a>
         ensures { refs_left result ≡ (way_from self.now).refs }
     {
-        Refs::Summed(values(self.message.fields(), REFS))
+        // If the last field has all refs, the others needn't be passed to find it.
+        match plain_way(self.message.bytes) {
+            Some(way) => Refs::Summed(values(Fields::new(way.last, 0), REFS)),
+            None => Refs::Summed(values(self.message.fields(), REFS)),
+        }
     }
 
     /// The way.

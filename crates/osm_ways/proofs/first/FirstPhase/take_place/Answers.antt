@@ -18,4 +18,10 @@ returns-in_ok-add c =
     sym (c.contains.ensures ∙ ap₂ (λ y x. is_inside s.area y x) (to_z-of_z w128 c.args.lat c.ranges.lat) (to_z-of_z w128 c.args.lon c.ranges.lon) ∙ ap (λ (s : FirstSets). is_inside s.area c.args.lat c.args.lon) same) ∙ c.if-contains.true in
     let added : c.add.new.self ≡ with_node now.ways.box_ids id (is_inside now.area c.args.lat c.args.lon) =
     c.in_ok-add.ensures.ok ∙ ap₂ (λ (ids : Ids) z. set.insert ids z) (ap (λ (s : FirstSets). s.ways.box_ids) same) (to_z-of_z w64 id c.ranges.id) ∙ ap (λ b. cond b (set.insert now.ways.box_ids id) now.ways.box_ids) (sym inside) in
-    placed now s.area s.has_ways s.in_order s.box_ids s.refs s.way_ids _ _ same c.self.invariant added
+    placed now s.area s.has_ways s.in_order s.box_ids s.refs s.way_ids _ _ same c.self.invariant.0 added
+
+pub invariant_of-self : goal.invariant_of-self
+invariant_of-self c = (c.self.invariant.0, c.nothing-self-inside.ensures c.add.new.self)
+
+pub invariant_of-self-in_err-add : goal.invariant_of-self-in_err-add
+invariant_of-self-in_err-add c = (c.self.invariant.0, c.nothing-self-inside.ensures c.add.new.self)

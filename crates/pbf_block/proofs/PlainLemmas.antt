@@ -1,0 +1,216 @@
+-- Messages whose fields come once each, in the order of their numbers: what they begin with, and that they have no faults.
+use Rattle.std.proofs.Common.{◌≡◌, ℕ, ◌+◌, ◌-◌, ◌/◌, ◌%◌, ◌^◌, ◌<◌, ◌≤◌, ltb, eqb, Bool, true, false, pos, List, [], ◌∷◌, ◌++◌, length, map, take, drop, get_or, refl, sym, ap, subst, ◌∙◌, arith, append-nil, eq-eqb}
+use Rattle.std.specs.Prelude.{Ok, Option, None, Some, nat_lt, not, if◌then◌else◌, filter}
+use Rattle.std.specs.List.{AllByRecursion}
+use Rattle.std.proofs.lemmas.Bool.{lt-ltb, le-ltb}
+use Rattle.std.proofs.lemmas.List.{take_rest, drop-drop, length-drop, get_or-drop}
+use Rattle.pbf_wire.specs.declared.fault.Fault.{Fault}
+use Rattle.pbf_wire.specs.declared.fault.Reason.{Reason}
+use Rattle.pbf_wire.specs.declared.fault.Reason.TheVariants.{StringIndex, TagColumns, OutOfRange}
+use Rattle.pbf_wire.specs.declared.fields.Fields.{Fields}
+use Rattle.pbf_wire.specs.declared.message.Message.{Message}
+use Rattle.pbf_wire.specs.Cursors.{fields_left}
+use Rattle.pbf_wire.specs.Varint.{varint_at}
+use Rattle.pbf_wire.specs.Columns.{entries, entry_fault, read_entries, placed, joined, column}
+use Rattle.pbf_wire.specs.Occurrence.{Number, Bytes, Occurrence, Item, body_at, occurrence_at, items, found}
+use Rattle.pbf_wire.specs.Faults.{fault_where, below_fault, index_faults, nested_faults, sum_faults, ends_in, in_last, fields_in, found_in}
+use Rattle.pbf_wire.specs.Least.{lesser, least, rank, is_less}
+use Rattle.pbf_wire.specs.Short.{IsShort}
+use Rattle.pbf_wire.specs.Signed.{low_i32, low_i64, is_within}
+use Rattle.pbf_wire.proofs.Items.{items_none, items_ok}
+use Rattle.pbf_wire.proofs.LeastLemmas.{lesser_parts}
+use Rattle.pbf_wire.proofs.Varints.{one_byte}
+use Rattle.pbf_wire.proofs.ShortLemmas.{short_numbers, small_sums}
+use Rattle.pbf_block.specs.declared.plain.PlainWay.{PlainWay}
+use Rattle.pbf_block.specs.declared.plain.PlainInfo.{PlainInfo}
+use Rattle.pbf_block.specs.declared.entity.TheConstants.{ID, INFO}
+use Rattle.pbf_block.specs.declared.way.TheConstants.{WAY_KINDS, REFS}
+use Rattle.pbf_block.specs.declared.info.TheConstants.{INFO_KINDS}
+use Rattle.pbf_block.specs.Info.{info_values, out_of_range}
+use Rattle.pbf_block.specs.Plain.{IsTag, number_field, bytes_field, BeginsWithNumber, BeginsWithBytes, IsPlainWay, IsPlainInfo}
+use Rattle.pbf_block.specs.Scale.{number_or}
+use Rattle.pbf_block.specs.Way.{way_structure, way_values}
+
+-- ---- what a message begins with
+
+small : (tag : ℕ) → tag < 128 → ltb tag (2 ^ 32) ≡ true
+small tag lt = lt-ltb _ _ (omega (arith, lt))
+
+numbered : (tag : ℕ) → 8 ≤ tag → eqb (tag / 8) 0 ≡ false
+numbered tag le = grind (arith, le)
+
+number_at : (at tag v k : ℕ) (m : List ℕ) → IsTag 0 tag → varint_at m ≡ Ok (tag, 1) → varint_at (drop 1 m) ≡ Ok (v, k) → occurrence_at at m ≡ Ok (record { place = at; number = tag / 8; content = Number v }, 1 + k)
+unfolding occurrence_at body_at
+number_at at tag v k m is one read = rw (one, small tag is.1, numbered tag is.0, is.2, read) refl
+
+bytes_at : (at tag v k : ℕ) (m : List ℕ) → IsTag 2 tag → varint_at m ≡ Ok (tag, 1) → varint_at (drop 1 m) ≡ Ok (v, k) → ltb (length (drop k (drop 1 m))) v ≡ false → occurrence_at at m ≡ Ok (record { place = at; number = tag / 8; content = Bytes (take v (drop k (drop 1 m))) (at + 1 + k) }, 1 + (k + v))
+unfolding occurrence_at body_at
+bytes_at at tag v k m is one read room = rw (one, small tag is.1, numbered tag is.0, is.2, read, room) refl
+
+pub number_begins : (at tag v after : ℕ) (m : List ℕ) → IsTag 0 tag → 0 < length m → get_or m 0 0 ≡ tag → varint_at (drop 1 m) ≡ Ok (v, after - 1) → 1 < after → after ≤ length m
+    → BeginsWithNumber at m (tag / 8) v (take (length m - after) (drop after m))
+number_begins at tag v after m is some first read lt le =
+    let one : varint_at m ≡ Ok (tag, 1) = one_byte m some (omega (arith, first, is.1)) ∙ ap (λ b. Ok (b, 1)) first in
+    let size : 1 + (after - 1) ≡ after = omega (arith, lt) in
+    let front = number_at at tag v (after - 1) m is one read ∙ ap (λ n. Ok (record { place = at; number = tag / 8; content = Number v }, n)) size in
+    record { next = at + after; is = rw take_rest (items_ok at m _ after (omega (arith, lt)) le front) }
+
+pub bytes_begins : (at tag v after : ℕ) (m : List ℕ) → IsTag 2 tag → 0 < length m → get_or m 0 0 ≡ tag → varint_at (drop 1 m) ≡ Ok (v, after - 1) → 1 < after → after ≤ length m → v ≤ length m - after
+    → BeginsWithBytes at m (tag / 8) (take v (drop after m)) (drop v (drop after m))
+bytes_begins at tag v after m is some first read lt le room =
+    let one : varint_at m ≡ Ok (tag, 1) = one_byte m some (omega (arith, first, is.1)) ∙ ap (λ b. Ok (b, 1)) first in
+    let rest : drop (after - 1) (drop 1 m) ≡ drop after m = drop-drop (after - 1) 1 m ∙ ap (λ n. drop n m) (omega (arith, lt)) in
+    let fits : ltb (length (drop (after - 1) (drop 1 m))) v ≡ false = le-ltb _ _ (omega (arith, room, ap length rest, length-drop after m)) in
+    let size : 1 + (after - 1 + v) ≡ after + v = omega (arith, lt) in
+    let front = bytes_at at tag v (after - 1) m is one read fits ∙ ap (λ n. Ok (record { place = at; number = tag / 8; content = Bytes (take v (drop (after - 1) (drop 1 m))) (at + 1 + (after - 1)) }, n)) size in
+    record {
+      held_at = at + 1 + (after - 1);
+      next = at + (after + v);
+      is = items_ok at m _ (after + v) (omega (arith, lt)) (omega (arith, le, room)) front
+          ∙ ap (λ (b : List ℕ). bytes_field at (tag / 8) (at + 1 + (after - 1)) (take v b) ∷ items (at + (after + v)) (drop (after + v) m)) rest
+          ∙ ap (λ (r : List ℕ). bytes_field at (tag / 8) (at + 1 + (after - 1)) (take v (drop after m)) ∷ items (at + (after + v)) r) (sym (drop-drop v after m));
+    }
+
+-- ---- fields one after another
+
+pub way_fields : (at : ℕ) (m m1 m2 m3 m5 : List ℕ) (way : PlainWay)
+    → ((at : ℕ) → BeginsWithNumber at m 1 way.id m1) → ((at : ℕ) → BeginsWithBytes at m1 2 way.keys.now m2) → ((at : ℕ) → BeginsWithBytes at m2 3 way.vals.now m3)
+    → ((at : ℕ) → BeginsWithBytes at m3 4 way.info.now way.last.now) → ((at : ℕ) → BeginsWithBytes at way.last.now 8 way.refs.now m5) → length m5 ≡ 0 → IsPlainWay way at m
+way_fields at m m1 m2 m3 m5 way a b c d e none =
+    let one = a at in
+    let two = b one.next in
+    let three = c two.next in
+    let four = d three.next in
+    let five = e four.next in
+    let tail = e 0 in
+    record {
+      keys = one.next;
+      keys_at = two.held_at;
+      vals = two.next;
+      vals_at = three.held_at;
+      info = three.next;
+      info_at = four.held_at;
+      refs = four.next;
+      refs_at = five.held_at;
+      is = one.is ∙ ap (λ r. number_field at ID way.id ∷ r) (two.is ∙ ap (λ r. bytes_field one.next 2 two.held_at way.keys.now ∷ r) (three.is ∙ ap (λ r. bytes_field two.next 3 three.held_at way.vals.now ∷ r) (four.is ∙ ap (λ r. bytes_field three.next 4 four.held_at way.info.now ∷ r) (five.is ∙ ap (λ r. bytes_field four.next 8 five.held_at way.refs.now ∷ r) (items_none five.next m5 none)))));
+      last_at = tail.held_at;
+      last = tail.is ∙ ap (λ r. bytes_field 0 8 tail.held_at way.refs.now ∷ r) (items_none tail.next m5 none);
+    }
+
+pub info_fields : (at : ℕ) (m m1 m2 m3 m4 m5 : List ℕ) (info : PlainInfo)
+    → ((at : ℕ) → BeginsWithNumber at m 1 info.version m1) → ((at : ℕ) → BeginsWithNumber at m1 2 info.timestamp m2) → ((at : ℕ) → BeginsWithNumber at m2 3 info.changeset m3)
+    → ((at : ℕ) → BeginsWithNumber at m3 4 info.uid m4) → ((at : ℕ) → BeginsWithNumber at m4 5 info.user m5) → length m5 ≡ 0 → IsPlainInfo info at m
+info_fields at m m1 m2 m3 m4 m5 info a b c d e none =
+    let one = a at in
+    let two = b one.next in
+    let three = c two.next in
+    let four = d three.next in
+    let five = e four.next in
+    record {
+      timestamp = one.next;
+      changeset = two.next;
+      uid = three.next;
+      user = four.next;
+      is = one.is ∙ ap (λ r. number_field at 1 info.version ∷ r) (two.is ∙ ap (λ r. number_field one.next 2 info.timestamp ∷ r) (three.is ∙ ap (λ r. number_field two.next 3 info.changeset ∷ r) (four.is ∙ ap (λ r. number_field three.next 4 info.uid ∷ r) (five.is ∙ ap (λ r. number_field four.next 5 info.user ∷ r) (items_none five.next m5 none)))));
+    }
+
+-- ---- no wire fault
+
+pub formed : (way : PlainWay) (info : PlainInfo) (at : ℕ) (m : List ℕ) → IsPlainWay way at m → ((at : ℕ) → IsPlainInfo info at way.info.now) → entry_fault (entries way.keys.now) ≡ None → entry_fault (entries way.vals.now) ≡ None → entry_fault (entries way.refs.now) ≡ None
+    → nested_faults WAY_KINDS INFO INFO_KINDS 0 at m ≡ []
+formed way info at m p q keys vals refs = rw (p.is, keys, vals, (q p.info_at).is, refs) refl
+
+-- ---- no fault of structure
+
+pub built : (way : PlainWay) (place at : ℕ) (m : List ℕ) → IsPlainWay way at m → length (ends_in (Bytes way.keys.now 0)) ≡ length (ends_in (Bytes way.vals.now 0)) → way_structure place at m ≡ []
+built way place at m p same =
+    let long : length (ends_in (Bytes way.keys.now 0) ++ []) ≡ length (ends_in (Bytes way.vals.now 0) ++ []) = ap length (append-nil (ends_in (Bytes way.keys.now 0))) ∙ same ∙ sym (ap length (append-nil (ends_in (Bytes way.vals.now 0)))) in
+    rw (p.is, eq-eqb _ _ long) refl
+
+-- ---- no fault of values
+
+pub none_where : (b : Bool) (p q : ℕ) (r : Reason) → None ≡ least (fault_where b p r) → fault_where b q r ≡ []
+none_where true p q r e = absurd (cc)
+none_where false p q r e = refl
+
+least_some : (f : Fault) (w : Option Fault) → None ≡ lesser (Some f) w → ⊥
+least_some f None e = cc
+least_some f (Some g) e = by (is_less (rank g) (rank f)) e where
+  by : (b : Bool) → ◌≡◌ {A = Option Fault} None (if b then Some g else Some f) → ⊥
+  by true e = cc
+  by false e = cc
+
+pub none_indexed : (limit p q : ℕ) (ns : List ℕ) → None ≡ least (index_faults limit (placed p ns)) → index_faults limit (placed q ns ++ []) ≡ []
+none_indexed limit p q [] e = refl
+none_indexed limit p q (n ∷ ns) e = by (nat_lt (n % 2 ^ 32) limit) e (none_indexed limit p q ns) where
+  by : (b : Bool) → None ≡ least (fault_where (not b) p StringIndex ++ index_faults limit (placed p ns)) → (None ≡ least (index_faults limit (placed p ns)) → index_faults limit (placed q ns ++ []) ≡ [])
+      → fault_where (not b) q StringIndex ++ index_faults limit (placed q ns ++ []) ≡ []
+  by true e more = more e
+  by false e more = absurd (least_some (record { offset = p; reason = StringIndex }) (least (index_faults limit (placed p ns))) e)
+
+none_of : (xs : List Fault) → None ≡ least xs → xs ≡ []
+none_of [] e = refl
+none_of (x ∷ xs) e = absurd (least_some x (least xs) e)
+
+parts_none : (xs ys : List Fault) → xs ++ ys ≡ [] → (xs ≡ []) × (ys ≡ [])
+parts_none [] ys e = (refl, e)
+parts_none (x ∷ xs) ys e = absurd (cc)
+
+moved : (b : Bool) (p q : ℕ) (r : Reason) → fault_where b p r ≡ [] → fault_where b q r ≡ []
+moved true p q r e = absurd (cc)
+moved false p q r e = refl
+
+pub info_valued : (limit : ℕ) (info : PlainInfo) (place at : ℕ) (m : List ℕ) → IsPlainInfo info at m
+    → None ≡ lesser (lesser (lesser (least (out_of_range 62 low_i64 0 info.timestamp)) (least (out_of_range 62 low_i64 0 info.changeset))) (least (out_of_range 30 low_i32 0 info.uid))) (least (below_fault StringIndex limit (info.user, 0)))
+    → info_values limit place at m ≡ []
+info_valued limit info place at m p e =
+    let times = out_of_range 62 low_i64 0 info.timestamp in
+    let sets = out_of_range 62 low_i64 0 info.changeset in
+    let uids = out_of_range 30 low_i32 0 info.uid in
+    let users = below_fault StringIndex limit (info.user, 0) in
+    let all : ((times ++ sets) ++ uids) ++ users ≡ [] = none_of (((times ++ sets) ++ uids) ++ users)
+    (e ∙ ap (λ w. lesser (lesser w (least uids)) (least users)) (lesser_parts times sets) ∙ ap (λ w. lesser w (least users)) (lesser_parts (times ++ sets) uids) ∙ lesser_parts ((times ++ sets) ++ uids) users) in
+    let three = parts_none ((times ++ sets) ++ uids) users all in
+    let two = parts_none (times ++ sets) uids three.0 in
+    let one = parts_none times sets two.0 in
+    let t = moved (not (is_within (pos (2 ^ 62)) (low_i64 info.timestamp))) 0 p.timestamp OutOfRange one.0 in
+    let s = moved (not (is_within (pos (2 ^ 62)) (low_i64 info.changeset))) 0 p.changeset OutOfRange one.1 in
+    let u = moved (not (is_within (pos (2 ^ 30)) (low_i32 info.uid))) 0 p.uid OutOfRange two.1 in
+    let n = moved (not (nat_lt (info.user % 2 ^ 32) limit)) 0 p.user StringIndex three.1 in
+    rw (p.is, t, s, u, n) refl
+
+all_placed : (place : ℕ) (ns : List ℕ) → AllByRecursion (λ v. v < 2 ^ 35) ns → AllByRecursion (λ (x : ℕ × ℕ). x.0 < 2 ^ 35) (placed place ns ++ [])
+all_placed place [] h = tt
+all_placed place (n ∷ ns) h = (h.0, all_placed place ns h.1)
+
+refs_small : (message : Message) (way : PlainWay) → IsPlainWay way message.at message.bytes.now → length message.bytes.now ≤ 2 ^ 26 → IsShort way.refs.now → sum_faults (pos (2 ^ 62)) false (joined REFS (found_in message)) ≡ []
+unfolding fields_left
+refs_small message way p few short =
+    let fields : Fields = record { rest = message.bytes; at = message.at; fits = message.fits } in
+    small_sums REFS fields few
+    (subst (λ (is : List Item). AllByRecursion (λ (x : ℕ × ℕ). x.0 < 2 ^ 35) (joined REFS (found is))) (sym p.is) (all_placed p.refs (read_entries (entries way.refs.now)) (short_numbers way.refs.now short)))
+
+pub valued : (message : Message) (way : PlainWay) (limit : ℕ) (p : IsPlainWay way message.at message.bytes.now) → None ≡ least (out_of_range 62 low_i64 0 way.id)
+    → index_faults limit (placed p.keys (read_entries (entries way.keys.now)) ++ []) ≡ [] → index_faults limit (placed p.vals (read_entries (entries way.vals.now)) ++ []) ≡ []
+    → info_values limit p.info p.info_at way.info.now ≡ [] → length message.bytes.now ≤ 2 ^ 26 → IsShort way.refs.now → way_values limit 0 message.at message.bytes.now ≡ []
+valued message way limit p id keys vals info few short =
+    let one = none_where (not (is_within (pos (2 ^ 62)) (low_i64 way.id))) 0 message.at OutOfRange id in
+    let refs = subst (λ (is : List Item). sum_faults (pos (2 ^ 62)) false (joined REFS (found is)) ≡ []) p.is (refs_small message way p few short) in
+    rw (p.is, one, keys, vals, info, refs) refl
+
+-- ---- what is read
+
+numbers_of : (p q : ℕ) (ns : List ℕ) → map (λ (x : ℕ × ℕ). x.0) (placed p ns ++ []) ≡ map (λ (x : ℕ × ℕ). x.0) (placed q ns ++ [])
+numbers_of p q [] = refl
+numbers_of p q (n ∷ ns) = ap (λ (xs : List ℕ). n ∷ xs) (numbers_of p q ns)
+
+pub plain_id : (way : PlainWay) (at : ℕ) (m : List ℕ) → IsPlainWay way at m → number_or (pos 0) low_i64 ID (fields_in at m) ≡ low_i64 way.id
+plain_id way at m p = rw p.is refl
+
+pub plain_refs : (way : PlainWay) (at : ℕ) (m : List ℕ) → IsPlainWay way at m → column REFS (fields_in 0 way.last.now) ≡ column REFS (fields_in at m)
+plain_refs way at m p = rw (p.is, p.last) (numbers_of 0 p.refs (read_entries (entries way.refs.now)))
+
+-- the second byte is a whole varint
+pub short_after : (m : List ℕ) → 1 < length m → get_or m 1 0 < 128 → varint_at (drop 1 m) ≡ Ok (get_or m 1 0, 1)
+short_after m lt small =
+    one_byte (drop 1 m) (omega (arith, lt, length-drop 1 m)) (omega (arith, small, get_or-drop 1 m 0 0)) ∙ ap (λ b. Ok (b, 1)) (get_or-drop 1 m 0 0)

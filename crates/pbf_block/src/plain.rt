@@ -1,0 +1,215 @@
+//! Ways and Infos as most are: each field once, in the order of their numbers, and none that is unknown. They are read straight on,
+//! without a loop over fields. A quick test that says nothing of other messages, which are judged field by field.
+
+ghost use Rattle.std.specs.Prelude.{◌≡◌, ◌-◌, ◌/◌, ◌<◌, ◌≤◌, ◌++◌, [], ℕ, List, None, Ok, IfSome, IsTrue, drop, length, slice_index};
+ghost use Rattle.pbf_wire.specs.Varint.{varint_at};
+ghost use Rattle.pbf_wire.specs.Columns.{entries, entry_fault, placed, read_entries};
+ghost use Rattle.pbf_wire.specs.Faults.{index_faults, nested_faults};
+ghost use Rattle.pbf_block.specs.Info.{info_values};
+ghost use Rattle.pbf_block.specs.Plain.{IsTag, BeginsWithNumber, BeginsWithBytes, IsPlainWay, IsPlainInfo};
+ghost use Rattle.pbf_block.specs.Way.{way_structure, way_values};
+ghost use Rattle.pbf_block.specs.declared.entity.TheConstants.{INFO};
+ghost use Rattle.pbf_block.specs.declared.way.TheConstants.{WAY_KINDS};
+ghost use Rattle.pbf_block.specs.declared.info.TheConstants.{INFO_KINDS};
+
+use crate::ranges::{judge_packed, judge_uid, judge_user, judge_wide};
+use pbf_wire::{Kind, Message, Payload, get_varint, is_short, judge_payload, lesser};
+
+/// The varint after a tag of one byte, and the index after it, if the bytes begin with that tag.
+#[inline(always)]
+fn after_tag(bytes: &[u8], tag: u8) -> Option<(u64, usize)>
+    ensures { IfSome result (λ found. (0 < length bytes.now) × (slice_index bytes.now 0 ≡ tag)
+        × (varint_at (drop 1 bytes.now) ≡ Ok (found.0, found.1 - 1))
+        × (1 < found.1) × (found.1 ≤ length bytes.now)) }
+{
+    let [first, second, ..] = bytes else {
+        return None;
+    };
+    if *first != tag {
+        return None;
+    }
+    if *second < 128 {
+        return Some((u64::from(*second), 2));
+    }
+    let Ok(found) = get_varint(bytes, 1) else {
+        return None;
+    };
+    Some(found)
+}
+
+/// The number of the field that the bytes begin with, if it has this tag, and the bytes after it.
+#[inline(always)]
+fn number_front(bytes: &[u8], tag: u8) -> Option<(u64, &[u8])>
+    requires { IsTag 0 tag }
+    ensures { IfSome result (λ front. (at : ℕ)
+        → BeginsWithNumber at bytes.now (tag / 8) front.0 front.1.now) }
+{
+    let (number, after) = after_tag(bytes, tag)?;
+    Some((number, &bytes[after..]))
+}
+
+/// The bytes of the field that the bytes begin with, if it has this tag, and the bytes after it.
+#[inline(always)]
+fn bytes_front(bytes: &[u8], tag: u8) -> Option<(&[u8], &[u8])>
+    requires { IsTag 2 tag }
+    ensures { IfSome result (λ front. (at : ℕ)
+        → BeginsWithBytes at bytes.now (tag / 8) front.0.now front.1.now) }
+{
+    let (size, after) = after_tag(bytes, tag)?;
+    let rest = &bytes[after..];
+    if (rest.len() as u64) < size {
+        return None;
+    }
+    let size = size as usize;
+    Some((&rest[..size], &rest[size..]))
+}
+
+/// A way with one id, keys, values, an Info and refs.
+#[derive(Clone, Copy)]
+pub(crate) struct PlainWay<'a> {
+    pub(crate) id: u64,
+    keys: &'a [u8],
+    vals: &'a [u8],
+    info: &'a [u8],
+    refs: &'a [u8],
+    /// The last field, which holds the refs, from its tag on.
+    pub(crate) last: &'a [u8],
+}
+
+/// The fields of a way, if it is plain.
+#[inline(always)]
+pub(crate) fn plain_way(bytes: &[u8]) -> Option<PlainWay<'_>>
+    ensures { IfSome result (λ way. (at : ℕ) → IsPlainWay way at bytes.now) }
+{
+    let (id, rest) = number_front(bytes, 8)?;
+    let (keys, rest) = bytes_front(rest, 18)?;
+    let (vals, rest) = bytes_front(rest, 26)?;
+    let (info, last) = bytes_front(rest, 34)?;
+    let (refs, rest) = bytes_front(last, 66)?;
+    if !rest.is_empty() {
+        return None;
+    }
+    Some(PlainWay {
+        id,
+        keys,
+        vals,
+        info,
+        refs,
+        last,
+    })
+}
+
+/// The numbers of an Info with a version, a time, a changeset and a user.
+#[derive(Clone, Copy)]
+pub(crate) struct PlainInfo {
+    version: u64,
+    timestamp: u64,
+    changeset: u64,
+    uid: u64,
+    user: u64,
+}
+
+/// The numbers of an Info, if it is plain.
+#[inline(always)]
+fn plain_info(bytes: &[u8]) -> Option<PlainInfo>
+    ensures { IfSome result (λ info. (at : ℕ) → IsPlainInfo info at bytes.now) }
+{
+    let (version, rest) = number_front(bytes, 8)?;
+    let (timestamp, rest) = number_front(rest, 16)?;
+    let (changeset, rest) = number_front(rest, 24)?;
+    let (uid, rest) = number_front(rest, 32)?;
+    let (user, rest) = number_front(rest, 40)?;
+    if !rest.is_empty() {
+        return None;
+    }
+    Some(PlainInfo {
+        version,
+        timestamp,
+        changeset,
+        uid,
+        user,
+    })
+}
+
+/// Whether the bytes are whole varints.
+#[inline(always)]
+fn is_column(packed: &[u8]) -> bool
+    ensures { IsTrue result → entry_fault (entries packed.now) ≡ None }
+{
+    judge_payload(Payload::Bytes(packed, 0), Some(Kind::Column)).is_ok()
+}
+
+/// Whether a way is plain and so is its Info, and the columns are whole varints: then it has no wire fault.
+#[inline(never)]
+pub(crate) fn is_formed(message: Message<'_>) -> bool
+    ensures { IsTrue result
+        → nested_faults WAY_KINDS INFO INFO_KINDS 0 message.entry.at message.entry.bytes.now ≡ [] }
+{
+    let Some(way) = plain_way(message.bytes) else {
+        return false;
+    };
+    let Some(_info) = plain_info(way.info) else {
+        return false;
+    };
+    if !is_column(way.keys) || !is_column(way.vals) {
+        return false;
+    }
+    is_column(way.refs)
+}
+
+/// Whether a way is plain and has as many keys as values: then it has no fault of structure.
+#[inline(never)]
+pub(crate) fn is_built(message: Message<'_>, place: u64) -> bool
+    ensures { IsTrue result → way_structure place message.entry.at message.entry.bytes.now ≡ [] }
+{
+    let Some(way) = plain_way(message.bytes) else {
+        return false;
+    };
+    Payload::Bytes(way.keys, 0).count() == Payload::Bytes(way.vals, 0).count()
+}
+
+/// Messages of at most so many bytes have no more than 2^26 refs.
+const MOST_BYTES: usize = 1 << 26;
+
+/// Whether the values of a plain Info are in range, and the table of `limit` texts has one for its user.
+#[inline(always)]
+fn is_info_valued(info: PlainInfo, limit: u64) -> bool
+    ensures { IsTrue result → (place at : ℕ) (m : List ℕ) → IsPlainInfo info at m
+        → info_values limit place at m ≡ [] }
+{
+    let times = lesser(
+        judge_wide(Some((0, info.timestamp))),
+        judge_wide(Some((0, info.changeset))),
+    );
+    let signed = lesser(times, judge_uid(Some((0, info.uid))));
+    lesser(signed, judge_user(Some((0, info.user)), limit)).is_none()
+}
+
+/// Whether a table of `limit` texts has one for each number of a packed column.
+fn are_named(packed: &[u8], limit: u64) -> bool
+    ensures { IsTrue result → (place : ℕ)
+        → index_faults limit (placed place (read_entries (entries packed.now)) ++ []) ≡ [] }
+{
+    judge_packed(packed, 0, limit).is_none()
+}
+
+/// Whether a way is plain and so is its Info, its values are in range, and the table of `limit` texts has one for each of its
+/// numbers: then it has no fault of values.
+#[inline(never)]
+pub(crate) fn is_valued(message: Message<'_>, limit: u64) -> bool
+    ensures { IsTrue result → way_values limit 0 message.entry.at message.entry.bytes.now ≡ [] }
+{
+    let Some(way) = plain_way(message.bytes) else {
+        return false;
+    };
+    let Some(info) = plain_info(way.info) else {
+        return false;
+    };
+    if judge_wide(Some((0, way.id))).is_some() || !is_info_valued(info, limit) {
+        return false;
+    }
+    if !are_named(way.keys, limit) || !are_named(way.vals, limit) {
+        return false;
+    }
+    message.bytes.len() <= MOST_BYTES && is_short(way.refs)
+}
