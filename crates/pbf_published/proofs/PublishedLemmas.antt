@@ -19,7 +19,7 @@ use Rattle.pbf_unpack.specs.Unpacked.{unpacked}
 use Rattle.pbfcut.specs.Calls.{GaveOrNot, RefusedFirst}
 use Rattle.pbfcut.proofs.ConvertingLemmas.{nothing_out}
 use Rattle.pbf_published.specs.declared.input.PublishedHalt.{PublishedHalt}
-use Rattle.pbf_published.specs.Published.{GavePublished, GaveOrNone, Means, MeansIfSome, PassedAs, PassedIfSome, Tells, UnlessChanged, IsPass, log_of, told_by}
+use Rattle.pbf_published.specs.Published.{GavePublished, GaveOrNone, Means, MeansIfSome, PassedAs, PassedIfSome, ReportsOutcome, UnlessChanged, IsPass, log_of, told_by}
 
 -- what an unpacking feed says of the feed below, when it is opened and when it is closed, with a digest of what was read
 pub record IsOver {F U : Type 0} (f : feed.Ghosts F) (u : feed.Ghosts U) (first last : F) (old new : U) (hashes : Bool) (digest : Option (List ℕ)) : Type 0 where
@@ -95,10 +95,10 @@ unless_changed holds stop.Memory h = h
 unless_changed holds (stop.Refused e) h = h
 unless_changed holds (stop.Changed pass) h = tt
 
--- a stop of a call over raw files, told of published ones: what is said of a refusal, of a failed read, and of a change
-pub stops_told : (refused at_fault : Fault → Type 0) (below above wrote : Type 0) (changed numbers : ℕ → Type 0) (lacks : Bool) (s told : Stop) → told ≡ told_by lacks s → ((e : Fault) → refused e → at_fault e) → (lacks ≡ false → below → above) → ((pass : ℕ) → changed pass → numbers pass)
-    → Caused refused below wrote changed s → Caused at_fault above wrote numbers told
-stops_told refused at_fault below above wrote changed numbers lacks s told is faults reads passes caused = subst (λ (x : Stop). Caused at_fault above wrote numbers x) (sym is) (of lacks s reads caused) where
+-- a stop of a call over raw files, as it is reported of published ones: what is said of a refusal, of a failed read, and of a change
+pub stops_reported : (refused at_fault : Fault → Type 0) (below above wrote : Type 0) (changed numbers : ℕ → Type 0) (lacks : Bool) (s reported : Stop) → reported ≡ told_by lacks s → ((e : Fault) → refused e → at_fault e) → (lacks ≡ false → below → above) → ((pass : ℕ) → changed pass → numbers pass)
+    → Caused refused below wrote changed s → Caused at_fault above wrote numbers reported
+stops_reported refused at_fault below above wrote changed numbers lacks s reported is faults reads passes caused = subst (λ (x : Stop). Caused at_fault above wrote numbers x) (sym is) (of lacks s reads caused) where
   of : (l : Bool) (t : Stop) → (l ≡ false → below → above) → Caused refused below wrote changed t → Caused at_fault above wrote numbers (told_by l t)
   of true (stop.Refused e) reads caused = faults e caused
   of false (stop.Refused e) reads caused = faults e caused
@@ -115,27 +115,27 @@ stops_told refused at_fault below above wrote changed numbers lacks s told is fa
 pub read_below : {F : Type 0} (f : feed.Ghosts F) (first last : F) (old new : ℕ) → old ≡ f.failures first → new ≡ f.failures last → HasRisen old new → ReadFailed f first last
 read_below f first last old new before after risen = subst (λ (n : ℕ). HasRisen n (f.failures last)) before (subst (λ (n : ℕ). HasRisen old n) after risen)
 
-module _ (lacks : Bool) (o : Result InputReceipt Halt) (r : Result InputReceipt PublishedHalt) (tells : Tells lacks o r) where
-  -- what a call over raw files answered, where it is told as a receipt
+module _ (lacks : Bool) (o : Result InputReceipt Halt) (r : Result InputReceipt PublishedHalt) (tells : ReportsOutcome lacks o r) where
+  -- what a call over raw files returned, if it is reported as a receipt
   pub outcome_receipt : (holds : InputReceipt → Type 0) (receipt : InputReceipt) → r ≡ Ok receipt → IfOk o holds → holds receipt
-  outcome_receipt holds receipt is held = of o (subst (λ (x : Result InputReceipt PublishedHalt). Tells lacks o x) is tells) held where
-    of : (x : Result InputReceipt Halt) → Tells lacks x (Ok receipt) → IfOk x holds → holds receipt
+  outcome_receipt holds receipt is held = of o (subst (λ (x : Result InputReceipt PublishedHalt). ReportsOutcome lacks o x) is tells) held where
+    of : (x : Result InputReceipt Halt) → ReportsOutcome lacks x (Ok receipt) → IfOk x holds → holds receipt
     of (Ok known) same held = subst holds (sym same) held
     of (Err halt) same held = absurd same
 
-  -- and where it is told as a stop
-  pub outcome_stops : (refused at_fault : Fault → Type 0) (below above wrote : Type 0) (changed numbers : ℕ → Type 0) (told : PublishedHalt) → r ≡ Err told → ((e : Fault) → refused e → at_fault e) → (lacks ≡ false → below → above) → ((pass : ℕ) → changed pass → numbers pass)
-      → IfErr o (λ h. Caused refused below wrote changed (stop_of h)) → Caused at_fault above wrote numbers told.stop
-  outcome_stops refused at_fault below above wrote changed numbers told is faults reads passes caused = of o (subst (λ (x : Result InputReceipt PublishedHalt). Tells lacks o x) is tells) caused where
-    of : (x : Result InputReceipt Halt) → Tells lacks x (Err told) → IfErr x (λ h. Caused refused below wrote changed (stop_of h)) → Caused at_fault above wrote numbers told.stop
+  -- and if it is reported as a stop
+  pub outcome_stops : (refused at_fault : Fault → Type 0) (below above wrote : Type 0) (changed numbers : ℕ → Type 0) (reported : PublishedHalt) → r ≡ Err reported → ((e : Fault) → refused e → at_fault e) → (lacks ≡ false → below → above) → ((pass : ℕ) → changed pass → numbers pass)
+      → IfErr o (λ h. Caused refused below wrote changed (stop_of h)) → Caused at_fault above wrote numbers reported.stop
+  outcome_stops refused at_fault below above wrote changed numbers reported is faults reads passes caused = of o (subst (λ (x : Result InputReceipt PublishedHalt). ReportsOutcome lacks o x) is tells) caused where
+    of : (x : Result InputReceipt Halt) → ReportsOutcome lacks x (Err reported) → IfErr x (λ h. Caused refused below wrote changed (stop_of h)) → Caused at_fault above wrote numbers reported.stop
     of (Ok receipt) same caused = absurd same
-    of (Err halt) same caused = stops_told refused at_fault below above wrote changed numbers lacks (stop_of halt) told.stop same faults reads passes caused
+    of (Err halt) same caused = stops_reported refused at_fault below above wrote changed numbers lacks (stop_of halt) reported.stop same faults reads passes caused
 
-  pub outcome_beginning : (below above : Type 0) (told : PublishedHalt) → r ≡ Err told → (below → above) → OnErr o below → UnlessChanged above told.stop
-  outcome_beginning below above told is step held = of o (subst (λ (x : Result InputReceipt PublishedHalt). Tells lacks o x) is tells) held where
-    of : (x : Result InputReceipt Halt) → Tells lacks x (Err told) → OnErr x below → UnlessChanged above told.stop
+  pub outcome_beginning : (below above : Type 0) (reported : PublishedHalt) → r ≡ Err reported → (below → above) → OnErr o below → UnlessChanged above reported.stop
+  outcome_beginning below above reported is step held = of o (subst (λ (x : Result InputReceipt PublishedHalt). ReportsOutcome lacks o x) is tells) held where
+    of : (x : Result InputReceipt Halt) → ReportsOutcome lacks x (Err reported) → OnErr x below → UnlessChanged above reported.stop
     of (Ok receipt) same held = absurd same
-    of (Err halt) same held = unless_changed above told.stop (step held)
+    of (Err halt) same held = unless_changed above reported.stop (step held)
 
 -- a raw file that is refused, by what is known of it
 pub refused_as : (known raw old new : Option (List ℕ)) (e : Fault) → known ≡ raw → RefusedFirst (judged_writable known) old new e → RefusedFirst (judged_writable raw) old new e

@@ -64,8 +64,8 @@ PassedIfSome has_passed feed None log raw = Unit {0}
 abbrev pub raw_of : Option (List ℕ) → Option (List ℕ)
 raw_of known = option_map unpacked known
 
--- `Changed` has the number of a pass of so many. Which bytes differ is not said: different packed bytes may have passed by different logs, and
--- only the digests that are compared tell them apart
+-- `Changed` has the number of a pass of so many. Which bytes differ is unspecified: different packed bytes may have passed by different logs, and
+-- only their digests are compared
 abbrev pub IsPass : ℕ → ℕ → Type 0
 IsPass most pass = (1 ≤ pass) × (pass ≤ most)
 
@@ -83,9 +83,9 @@ told_by false s = s
 told_by true Read = Memory
 told_by true s = s
 
--- what a call over raw files answers is told of published ones
-abbrev pub Tells : (lacks : Bool) → Result InputReceipt Halt → Result InputReceipt PublishedHalt → Type 0
-Tells lacks (Ok receipt) (Ok told) = told ≡ receipt
-Tells lacks (Err halt) (Err told) = told.stop ≡ told_by lacks (stop_of halt)
-Tells lacks (Ok receipt) (Err told) = ⊥
-Tells lacks (Err halt) (Ok told) = ⊥
+-- what a call over raw files returns, as it is reported of published ones
+abbrev pub ReportsOutcome : (lacks : Bool) → Result InputReceipt Halt → Result InputReceipt PublishedHalt → Type 0
+ReportsOutcome lacks (Ok receipt) (Ok reported) = reported ≡ receipt
+ReportsOutcome lacks (Err halt) (Err reported) = reported.stop ≡ told_by lacks (stop_of halt)
+ReportsOutcome lacks (Ok receipt) (Err reported) = ⊥
+ReportsOutcome lacks (Err halt) (Ok reported) = ⊥

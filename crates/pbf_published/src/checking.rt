@@ -7,7 +7,9 @@ ghost use Rattle.pbf_pass.specs.Stops.{Caused, ReadFailed, FaultOf};
 ghost use Rattle.pbf_pass.specs.Hashing.{digest_if};
 ghost use Rattle.pbf_published.specs.Published.{GavePublished, IsPass, raw_of};
 
-use crate::input::{PublishedHalt, PublishedInput, close, first_digest, lacks_memory, open, told};
+use crate::input::{
+    PublishedHalt, PublishedInput, close, first_digest, lacks_memory, open, published_outcome,
+};
 use pbf_frame::Feed;
 use pbf_pass::Passes;
 use pbf_unpack::Inflater;
@@ -34,7 +36,7 @@ pub fn check_with_receipt<F: Feed>(
     let alloc = passes.alloc;
     let mut input = open(alloc, Inflater::new(alloc)?, &mut *feed, passes.hashes);
     let outcome = pbf_pass::check_with_receipt(passes, &mut input);
-    let outcome = told(outcome, &input, lacks_memory(&input));
+    let outcome = published_outcome(outcome, &input, lacks_memory(&input));
     let (digest, _feed) = close(input);
     let receipt = outcome?;
     Ok(PublishedInput {

@@ -16,7 +16,7 @@ ghost use Rattle.pbf_published.specs.Published.{GavePublished, GaveOrNone, IsPas
 
 use crate::input::{
     PublishedHalt, PublishedInput, close, compare, compare_or_none, first_digest, lacks_memory,
-    open, told, two_inflaters,
+    open, published_outcome, two_inflaters,
 };
 use osm_entity::BoundingBox;
 use pbf_frame::{Drain, Feed};
@@ -80,7 +80,7 @@ pub fn extract_sorted_with_receipt<F: Feed, G: Feed, H: Feed, D: Drain, S: Build
         passes, &mut one, &mut two, &mut three, area, drain, hasher,
     );
     let is_memory = lacks_memory(&one) | lacks_memory(&two) | lacks_memory(&three);
-    let outcome = told(outcome, &one, is_memory);
+    let outcome = published_outcome(outcome, &one, is_memory);
     let (one, _first) = close(one);
     let (two, _second) = close(two);
     let (three, _third) = close(three);

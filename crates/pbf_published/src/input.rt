@@ -3,7 +3,7 @@
 ghost use Rattle.std.specs.Prelude.{◌≡◌, ◌⊎◌, ℕ, suc, Bool, List, [], Some, IfOk, IfErr, OnOk, false};
 ghost use Rattle.sha2.specs.Sha256.{sha256};
 ghost use Rattle.pbf_frame.specs.declared.stop.Stop.TheVariants as stop;
-ghost use Rattle.pbf_published.specs.Published.{MeansIfSome, PassedIfSome, Tells, log_of, raw_of, told_by};
+ghost use Rattle.pbf_published.specs.Published.{MeansIfSome, PassedIfSome, ReportsOutcome, log_of, raw_of, told_by};
 
 use pbf_block::Counts;
 use pbf_frame::{Feed, Stop};
@@ -150,13 +150,14 @@ pub fn stopped<F: Feed>(
     }
 }
 
-/// What a call over raw files answers, told of the published ones: of the first of them, and of a feed that was refused memory.
-pub fn told<F: Feed>(
+/// What a call over raw files returns, as it is reported of the published ones: of the first of them, and of a feed that was refused
+/// memory.
+pub fn published_outcome<F: Feed>(
     outcome: Result<InputReceipt, Halt>,
     first: &UnpackedFeed<PassFeed<F>>,
     lacks_memory: bool,
 ) -> Result<InputReceipt, PublishedHalt>
-    ensures { Tells lacks_memory outcome result }
+    ensures { ReportsOutcome lacks_memory outcome result }
 {
     match outcome {
         Ok(receipt) => Ok(receipt),

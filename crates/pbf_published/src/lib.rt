@@ -14,7 +14,7 @@ pub use converting::convert_with_receipt;
 pub use extracting::extract_sorted_with_receipt;
 pub use input::{
     PublishedHalt, PublishedInput, close, compare, compare_or_none, first_digest, lacks_memory,
-    open, stopped, told, two_inflaters,
+    open, published_outcome, stopped, two_inflaters,
 };
 pub use parents::extract_parents_sorted_with_receipt;
 pub use showing::{list_blobs, show_with_receipt};

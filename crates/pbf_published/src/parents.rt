@@ -16,7 +16,7 @@ ghost use Rattle.pbf_published.specs.Published.{GavePublished, GaveOrNone, IsPas
 
 use crate::input::{
     PublishedHalt, PublishedInput, close, compare, compare_or_none, first_digest, lacks_memory,
-    open, told, two_inflaters,
+    open, published_outcome, two_inflaters,
 };
 use osm_entity::BoundingBox;
 use pbf_frame::{Drain, Feed};
@@ -87,7 +87,7 @@ pub fn extract_parents_sorted_with_receipt<
         | lacks_memory(&two)
         | lacks_memory(&three)
         | lacks_memory(&four);
-    let outcome = told(outcome, &one, is_memory);
+    let outcome = published_outcome(outcome, &one, is_memory);
     let (one, _first) = close(one);
     let (two, _second) = close(two);
     let (three, _third) = close(three);

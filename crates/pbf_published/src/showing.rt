@@ -13,8 +13,8 @@ ghost use Rattle.pbf_pass.specs.Stops.{Caused, ReadFailed, WriteFailed, unchange
 ghost use Rattle.pbf_published.specs.Published.{GavePublished, IsPass, UnlessChanged, raw_of};
 
 use crate::input::{
-    PublishedHalt, PublishedInput, close, compare, first_digest, lacks_memory, open, stopped, told,
-    two_inflaters,
+    PublishedHalt, PublishedInput, close, compare, first_digest, lacks_memory, open,
+    published_outcome, stopped, two_inflaters,
 };
 use pbf_frame::{Drain, Feed};
 use pbf_pass::Passes;
@@ -60,7 +60,7 @@ pub fn show_with_receipt<F: Feed, G: Feed, D: Drain>(
     let mut two = open(alloc, another, &mut *second, true);
     let outcome = pbfcut::show_with_receipt(passes, &mut one, &mut two, drain, dates);
     let is_memory = lacks_memory(&one) | lacks_memory(&two);
-    let outcome = told(outcome, &one, is_memory);
+    let outcome = published_outcome(outcome, &one, is_memory);
     let (one, _first) = close(one);
     let (two, _second) = close(two);
     let receipt = outcome?;

@@ -13,4 +13,4 @@ returns-clause-receipt g c =
       logged = c.open-input.ensures.logged;
       means = λ raw has. means_some c.args.passes.hashes _ digest raw is (c.close-digest.ensures.means c.args.passes.hashes raw has);
       passed = λ log raw has. passed_below _ _ g.F.Feed.has_passed _ _ digest log raw is (λ packed p. subst (λ (x : g.row.F.Denot). g.F.Feed.has_passed x log packed) (search rules) p) (c.close-digest.ensures.logged log raw has);
-    } (outcome_receipt _ _ _ c.told-outcome.ensures _ _ c.in_ok-receipt.was c.check_with_receipt-outcome.ensures.receipt)
+    } (outcome_receipt _ _ _ c.published_outcome-outcome.ensures _ _ c.in_ok-receipt.was c.check_with_receipt-outcome.ensures.receipt)

@@ -25,9 +25,9 @@ returns-clause-receipt g c =
       logged = c.open-one.ensures.logged;
       means = λ raw has. means_some true _ digest raw first (c.close-one.ensures.means true raw has);
       passed = λ log raw has. passed_below _ _ g.F.Feed.has_passed _ _ digest log raw first (λ packed p. subst (λ (x : g.row.F.Denot). g.F.Feed.has_passed x log packed) (search rules) p) (c.close-one.ensures.logged log raw has);
-    } (outcome_receipt _ _ _ c.told-outcome.ensures _ _ c.in_ok-receipt.was c.convert_with_receipt-outcome.ensures.receipt)
+    } (outcome_receipt _ _ _ c.published_outcome-outcome.ensures _ _ c.in_ok-receipt.was c.convert_with_receipt-outcome.ensures.receipt)
 
 pub returns-in_err-receipt-clause-beginning : goal.returns-in_err-receipt-clause-beginning
 returns-in_err-receipt-clause-beginning g c =
     let p = err_from_is_err_and c.from_residual-in_err-receipt.result c.from_residual-in_err-receipt.ensures.1 in
-    rw (p.1, p.2) (outcome_beginning _ _ _ c.told-outcome.ensures _ _ _ c.in_err-receipt.was (λ begun b supply. begun b (c.open-one.ensures.remaining ∙ supply.0, c.open-two.ensures.remaining ∙ supply.1)) c.convert_with_receipt-outcome.ensures.beginning)
+    rw (p.1, p.2) (outcome_beginning _ _ _ c.published_outcome-outcome.ensures _ _ _ c.in_err-receipt.was (λ begun b supply. begun b (c.open-one.ensures.remaining ∙ supply.0, c.open-two.ensures.remaining ∙ supply.1)) c.convert_with_receipt-outcome.ensures.beginning)

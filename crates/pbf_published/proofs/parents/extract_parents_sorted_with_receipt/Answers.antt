@@ -44,7 +44,7 @@ returns-clause-receipt g c =
       logged = c.open-one.ensures.logged;
       means = λ raw has. means_some true _ digest raw first (c.close-one.ensures.means true raw has);
       passed = λ log raw has. passed_below _ _ g.F.Feed.has_passed _ _ digest log raw first (λ packed p. subst (λ (x : g.row.F.Denot). g.F.Feed.has_passed x log packed) (search rules) p) (c.close-one.ensures.logged log raw has);
-    } (outcome_receipt _ _ _ c.told-outcome.ensures _ _ c.in_ok-receipt.was c.extract_parents_sorted_with_receipt-outcome.ensures.receipt)
+    } (outcome_receipt _ _ _ c.published_outcome-outcome.ensures _ _ c.in_ok-receipt.was c.extract_parents_sorted_with_receipt-outcome.ensures.receipt)
 
 pub returns-in_err-inflater-clause-beginning : goal.returns-in_err-inflater-clause-beginning
 returns-in_err-inflater-clause-beginning g c = nothing_went_out c.from_residual.result _ _ _ _ (search rules)
@@ -55,12 +55,12 @@ returns-in_err-more-clause-beginning g c = nothing_went_out c.from_residual-in_e
 pub returns-in_err-receipt-clause-beginning : goal.returns-in_err-receipt-clause-beginning
 returns-in_err-receipt-clause-beginning g c =
     let p = err_from_is_err_and c.from_residual-in_err-receipt.result c.from_residual-in_err-receipt.ensures.1 in
-    rw (p.1, p.2) (outcome_beginning _ _ _ c.told-outcome.ensures _ _ _ c.in_err-receipt.was (λ begun b supply. begun b (c.open-one.ensures.remaining ∙ supply.0, c.open-two.ensures.remaining ∙ supply.1, c.open-three.ensures.remaining ∙ supply.2, c.open-four.ensures.remaining ∙ supply.3)) c.extract_parents_sorted_with_receipt-outcome.ensures.beginning)
+    rw (p.1, p.2) (outcome_beginning _ _ _ c.published_outcome-outcome.ensures _ _ _ c.in_err-receipt.was (λ begun b supply. begun b (c.open-one.ensures.remaining ∙ supply.0, c.open-two.ensures.remaining ∙ supply.1, c.open-three.ensures.remaining ∙ supply.2, c.open-four.ensures.remaining ∙ supply.3)) c.extract_parents_sorted_with_receipt-outcome.ensures.beginning)
 
 pub returns-in_err-receipt-clause-stops : goal.returns-in_err-receipt-clause-stops
 returns-in_err-receipt-clause-stops g c =
     let p = err_from_is_err_and c.from_residual-in_err-receipt.result c.from_residual-in_err-receipt.ensures.1 in
-    rw (p.1, p.2) (outcome_stops _ _ _ c.told-outcome.ensures _ _ _ _ _ _ _ _ c.in_err-receipt.was
+    rw (p.1, p.2) (outcome_stops _ _ _ c.published_outcome-outcome.ensures _ _ _ _ _ _ _ _ c.in_err-receipt.was
     (λ e refused. refused_as _ _ _ _ e c.open-one.ensures.remaining refused)
     (λ none.
     let four = none_lacks _ _ none in
