@@ -50,7 +50,7 @@ pub(crate) fn put_refs(column: &mut DeltaOut, refs: Refs<'_>) -> Result<(), Allo
     ensures { OnOk result (column.new ≡ refs_left refs.entry) }
 {
     column.clear();
-    // One loop for each kind of refs, which need not be told at each ref.
+    // One loop for each kind of refs, so that the kind is matched once and not at each ref.
     match refs {
         Refs::Owned(owned) => {
             'owned: for reference in owned {

@@ -20,14 +20,14 @@ meet n last xs ys long whole close first e =
     let rest : drop n xs ≡ drop n ys = ap (λ (k : ℕ). drop k xs) (sym there) ∙ (sym (drop-drop (n - last) last xs) ∙ (ap (drop (n - last)) ends ∙ (drop-drop (n - last) last ys ∙ ap (λ (k : ℕ). drop k ys) there))) in
     sym (take-append-drop n xs) ∙ (ap (λ (w : List ℕ). w ++ drop n xs) first ∙ (ap (λ (w : List ℕ). take n ys ++ w) rest ∙ take-append-drop n ys))
 
--- the bytes of a front are bytes
+-- the bytes of a prefix are bytes
 pub small : (n : ℕ) (xs front : List ℕ) → n ≤ length xs → front ≡ take n xs → ((i : ℕ) → get_or xs i 0 < 256) → (i : ℕ) → get_or front i 0 < 256
 small n xs front enough e all i = rw e (elim (cases_lt i n) [
   | inl lt ↦ rw (get_or-take n xs i 0 lt) (all i)
   | inr ge ↦ rw (get_or_past (take n xs) i 0 (omega (arith, length-take-le n xs enough))) (omega arith)
 ])
 
--- what two tests of the first and of the last n bytes tell, if these meet
+-- texts are the same if their first and their last n bytes are, and these meet
 pub both_ends : (n last : ℕ) (xs ys : List ℕ) (ends : Bool) → length xs ≡ length ys → last + n ≡ length xs → last ≤ n → take n xs ≡ take n ys
     → ((IsTrue ends → take n (take (length xs - last) (drop last xs)) ≡ take n (take (length ys - last) (drop last ys))) × (take n (take (length xs - last) (drop last xs)) ≡ take n (take (length ys - last) (drop last ys)) → IsTrue ends))
     → (IsTrue ends → xs ≡ ys) × (xs ≡ ys → IsTrue ends)
