@@ -27,7 +27,7 @@ small n xs front enough e all i = rw e (elim (cases_lt i n) [
   | inr ge ↦ rw (get_or_past (take n xs) i 0 (omega (arith, length-take-le n xs enough))) (omega arith)
 ])
 
--- what two tests of the first and of the last n bytes show, if these meet
+-- texts are the same if their first and their last n bytes are, and these meet
 pub both_ends : (n last : ℕ) (xs ys : List ℕ) (ends : Bool) → length xs ≡ length ys → last + n ≡ length xs → last ≤ n → take n xs ≡ take n ys
     → ((IsTrue ends → take n (take (length xs - last) (drop last xs)) ≡ take n (take (length ys - last) (drop last ys))) × (take n (take (length xs - last) (drop last xs)) ≡ take n (take (length ys - last) (drop last ys)) → IsTrue ends))
     → (IsTrue ends → xs ≡ ys) × (xs ≡ ys → IsTrue ends)

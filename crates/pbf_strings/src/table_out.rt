@@ -214,7 +214,7 @@ impl<S: BuildHasher> TableOut<S> {
 
     /// The index of a text in the written table, from 1 in order of first use; a new text is added after the others. For a text that
     /// is there it does not allocate. An `Err` leaves the texts as they were.
-    #[inline(never)]
+    #[inline(always)]
     pub fn index_of(&mut self, text: &[u8]) -> Result<u32, AllocError>
         requires { length self.old < MOST_USED_TEXTS }
         ensures texts { OnOk result (self.new ≡ with_text self.old text.now) }
@@ -232,6 +232,17 @@ impl<S: BuildHasher> TableOut<S> {
         Ok(index)
     }
 
+    /// Like [`TableOut::index_of`], which is part of its callers, by a call.
+    #[inline(never)]
+    fn index_apart(&mut self, text: &[u8]) -> Result<u32, AllocError>
+        requires { length self.old < MOST_USED_TEXTS }
+        ensures texts { OnOk result (self.new ≡ with_text self.old text.now) }
+        ensures index { IfOk result (λ index. index ≡ index_in self.new text.now) }
+        ensures err { OnErr result (self.new ≡ self.old) }
+    {
+        self.index_of(text)
+    }
+
     /// Like [`TableOut::index_of`], of a user.
     #[inline(always)]
     fn index_of_user(&mut self, text: &[u8]) -> Result<u32, AllocError>
@@ -243,7 +254,7 @@ impl<S: BuildHasher> TableOut<S> {
         if let Some(index) = self.recent_index(LAST_USER, text) {
             return Ok(index);
         }
-        let index = self.index_of(text)?;
+        let index = self.index_apart(text)?;
         self.recent[LAST_USER] = index;
         Ok(index)
     }
