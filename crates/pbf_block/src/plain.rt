@@ -15,6 +15,27 @@ ghost use Rattle.pbf_block.specs.declared.info.TheConstants.{INFO_KINDS};
 use crate::ranges::{judge_packed, judge_uid, judge_user, judge_wide};
 use pbf_wire::{Kind, Message, Payload, get_varint, is_short, judge_payload, lesser};
 
+// Tags of one byte: eight times the field's number, and 2 if it holds bytes. First those of a way, then those of an Info.
+const ID_TAG: u8 = 8;
+
+const KEYS_TAG: u8 = 18;
+
+const VALS_TAG: u8 = 26;
+
+const INFO_TAG: u8 = 34;
+
+const REFS_TAG: u8 = 66;
+
+const VERSION_TAG: u8 = 8;
+
+const TIMESTAMP_TAG: u8 = 16;
+
+const CHANGESET_TAG: u8 = 24;
+
+const UID_TAG: u8 = 32;
+
+const USER_SID_TAG: u8 = 40;
+
 /// The varint after a tag of one byte, and the index after it, if the bytes begin with that tag.
 #[inline(always)]
 fn after_tag(bytes: &[u8], tag: u8) -> Option<(u64, usize)>
@@ -81,11 +102,11 @@ pub(crate) struct PlainWay<'a> {
 pub(crate) fn plain_way(bytes: &[u8]) -> Option<PlainWay<'_>>
     ensures { IfSome result (λ way. (at : ℕ) → IsPlainWay way at bytes.now) }
 {
-    let (id, rest) = number_front(bytes, 8)?;
-    let (keys, rest) = bytes_front(rest, 18)?;
-    let (vals, rest) = bytes_front(rest, 26)?;
-    let (info, last) = bytes_front(rest, 34)?;
-    let (refs, rest) = bytes_front(last, 66)?;
+    let (id, rest) = number_front(bytes, ID_TAG)?;
+    let (keys, rest) = bytes_front(rest, KEYS_TAG)?;
+    let (vals, rest) = bytes_front(rest, VALS_TAG)?;
+    let (info, last) = bytes_front(rest, INFO_TAG)?;
+    let (refs, rest) = bytes_front(last, REFS_TAG)?;
     if !rest.is_empty() {
         return None;
     }
@@ -114,11 +135,11 @@ pub(crate) struct PlainInfo {
 fn plain_info(bytes: &[u8]) -> Option<PlainInfo>
     ensures { IfSome result (λ info. (at : ℕ) → IsPlainInfo info at bytes.now) }
 {
-    let (version, rest) = number_front(bytes, 8)?;
-    let (timestamp, rest) = number_front(rest, 16)?;
-    let (changeset, rest) = number_front(rest, 24)?;
-    let (uid, rest) = number_front(rest, 32)?;
-    let (user, rest) = number_front(rest, 40)?;
+    let (version, rest) = number_front(bytes, VERSION_TAG)?;
+    let (timestamp, rest) = number_front(rest, TIMESTAMP_TAG)?;
+    let (changeset, rest) = number_front(rest, CHANGESET_TAG)?;
+    let (uid, rest) = number_front(rest, UID_TAG)?;
+    let (user, rest) = number_front(rest, USER_SID_TAG)?;
     if !rest.is_empty() {
         return None;
     }
