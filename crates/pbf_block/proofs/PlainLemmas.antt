@@ -1,24 +1,23 @@
 -- Messages whose fields come once each, in the order of their numbers: what they begin with, and that they have no faults.
 use Rattle.std.proofs.Common.{◌≡◌, ℕ, ◌+◌, ◌-◌, ◌/◌, ◌%◌, ◌^◌, ◌<◌, ◌≤◌, ltb, eqb, Bool, true, false, pos, List, [], ◌∷◌, ◌++◌, length, map, take, drop, get_or, refl, sym, ap, subst, ◌∙◌, arith, append-nil, eq-eqb}
-use Rattle.std.specs.Prelude.{Ok, Option, None, Some, nat_lt, not, if◌then◌else◌, filter}
+use Rattle.std.specs.Prelude.{Ok, Option, None, Some, nat_lt, not, if◌then◌else◌}
 use Rattle.std.specs.List.{AllByRecursion}
 use Rattle.std.proofs.lemmas.Bool.{lt-ltb, le-ltb}
 use Rattle.std.proofs.lemmas.List.{take_rest, drop-drop, length-drop, get_or-drop}
 use Rattle.pbf_wire.specs.declared.fault.Fault.{Fault}
 use Rattle.pbf_wire.specs.declared.fault.Reason.{Reason}
-use Rattle.pbf_wire.specs.declared.fault.Reason.TheVariants.{StringIndex, TagColumns, OutOfRange}
+use Rattle.pbf_wire.specs.declared.fault.Reason.TheVariants.{StringIndex, OutOfRange}
 use Rattle.pbf_wire.specs.declared.fields.Fields.{Fields}
 use Rattle.pbf_wire.specs.declared.message.Message.{Message}
 use Rattle.pbf_wire.specs.Cursors.{fields_left}
 use Rattle.pbf_wire.specs.Varint.{varint_at}
 use Rattle.pbf_wire.specs.Columns.{entries, entry_fault, read_entries, placed, joined, column}
-use Rattle.pbf_wire.specs.Occurrence.{Number, Bytes, Occurrence, Item, body_at, occurrence_at, items, found}
-use Rattle.pbf_wire.specs.Faults.{fault_where, below_fault, index_faults, nested_faults, sum_faults, ends_in, in_last, fields_in, found_in}
+use Rattle.pbf_wire.specs.Occurrence.{Number, Bytes, Item, body_at, occurrence_at, items, found}
+use Rattle.pbf_wire.specs.Faults.{fault_where, index_faults, nested_faults, sum_faults, ends_in, fields_in, found_in}
 use Rattle.pbf_wire.specs.Least.{lesser, least, rank, is_less}
 use Rattle.pbf_wire.specs.Short.{IsShort}
-use Rattle.pbf_wire.specs.Signed.{low_i32, low_i64, is_within}
+use Rattle.pbf_wire.specs.Signed.{low_i64, is_within}
 use Rattle.pbf_wire.proofs.Items.{items_none, items_ok}
-use Rattle.pbf_wire.proofs.LeastLemmas.{lesser_parts}
 use Rattle.pbf_wire.proofs.Varints.{one_byte}
 use Rattle.pbf_wire.proofs.ShortLemmas.{short_numbers, small_sums}
 use Rattle.pbf_block.specs.declared.plain.PlainWay.{PlainWay}
@@ -147,37 +146,6 @@ none_indexed limit p q (n ∷ ns) e = by (nat_lt (n % 2 ^ 32) limit) e (none_ind
       → fault_where (not b) q StringIndex ++ index_faults limit (placed q ns ++ []) ≡ []
   by true e more = more e
   by false e more = absurd (least_some (record { offset = p; reason = StringIndex }) (least (index_faults limit (placed p ns))) e)
-
-none_of : (xs : List Fault) → None ≡ least xs → xs ≡ []
-none_of [] e = refl
-none_of (x ∷ xs) e = absurd (least_some x (least xs) e)
-
-parts_none : (xs ys : List Fault) → xs ++ ys ≡ [] → (xs ≡ []) × (ys ≡ [])
-parts_none [] ys e = (refl, e)
-parts_none (x ∷ xs) ys e = absurd (cc)
-
-moved : (b : Bool) (p q : ℕ) (r : Reason) → fault_where b p r ≡ [] → fault_where b q r ≡ []
-moved true p q r e = absurd (cc)
-moved false p q r e = refl
-
-pub info_valued : (limit : ℕ) (info : PlainInfo) (place at : ℕ) (m : List ℕ) → IsPlainInfo info at m
-    → None ≡ lesser (lesser (lesser (least (out_of_range 62 low_i64 0 info.timestamp)) (least (out_of_range 62 low_i64 0 info.changeset))) (least (out_of_range 30 low_i32 0 info.uid))) (least (below_fault StringIndex limit (info.user, 0)))
-    → info_values limit place at m ≡ []
-info_valued limit info place at m p e =
-    let times = out_of_range 62 low_i64 0 info.timestamp in
-    let sets = out_of_range 62 low_i64 0 info.changeset in
-    let uids = out_of_range 30 low_i32 0 info.uid in
-    let users = below_fault StringIndex limit (info.user, 0) in
-    let all : ((times ++ sets) ++ uids) ++ users ≡ [] = none_of (((times ++ sets) ++ uids) ++ users)
-    (e ∙ ap (λ w. lesser (lesser w (least uids)) (least users)) (lesser_parts times sets) ∙ ap (λ w. lesser w (least users)) (lesser_parts (times ++ sets) uids) ∙ lesser_parts ((times ++ sets) ++ uids) users) in
-    let three = parts_none ((times ++ sets) ++ uids) users all in
-    let two = parts_none (times ++ sets) uids three.0 in
-    let one = parts_none times sets two.0 in
-    let t = moved (not (is_within (pos (2 ^ 62)) (low_i64 info.timestamp))) 0 p.timestamp OutOfRange one.0 in
-    let s = moved (not (is_within (pos (2 ^ 62)) (low_i64 info.changeset))) 0 p.changeset OutOfRange one.1 in
-    let u = moved (not (is_within (pos (2 ^ 30)) (low_i32 info.uid))) 0 p.uid OutOfRange two.1 in
-    let n = moved (not (nat_lt (info.user % 2 ^ 32) limit)) 0 p.user StringIndex three.1 in
-    rw (p.is, t, s, u, n) refl
 
 all_placed : (place : ℕ) (ns : List ℕ) → AllByRecursion (λ v. v < 2 ^ 35) ns → AllByRecursion (λ (x : ℕ × ℕ). x.0 < 2 ^ 35) (placed place ns ++ [])
 all_placed place [] h = tt

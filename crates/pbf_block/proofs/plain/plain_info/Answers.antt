@@ -1,4 +1,4 @@
-use Rattle.std.proofs.Common.{◌≡◌, length, sym, ◌∙◌}
+use Rattle.std.proofs.Common.{sym, ◌∙◌}
 use Rattle.std.proofs.lemmas.Bool.{eqb-true}
 use Rattle.pbf_block.proofs.PlainLemmas.{info_fields}
 use Rattle.pbf_block.proofs.plain.plain_info.Goals as goal
