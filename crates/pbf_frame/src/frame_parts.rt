@@ -1,6 +1,6 @@
 //! The parts of a frame, read from a feed.
 
-ghost use Rattle.std.specs.Prelude.{None, Ok, true, ◌≡◌, ◌+◌, ◌<◌, ◌≤◌, ◌^◌, length, IfOk, OnOk, IfErr, IfSome, IfNone, vec_len, max};
+ghost use Rattle.std.specs.Prelude.{None, Ok, true, ◌≡◌, ◌+◌, ◌<◌, ◌≤◌, length, IfOk, OnOk, IfErr, IfSome, IfNone, vec_len, max};
 ghost use Rattle.byteorder.specs.Endian.{big_number};
 ghost use Rattle.pbf_wire.specs.Least.{least};
 ghost use Rattle.pbf_frame.specs.Devices.{IsAtEnd, Passes, given_prefix, prepend};

@@ -1,6 +1,6 @@
 //! A pass over a file: what it takes and gathers frame by frame, and the loop that judges the whole file.
 
-ghost use Rattle.std.specs.Prelude.{◌≡◌, ◌≤◌, ◌<◌, ◌+◌, ◌^◌, [], ◌∷◌, false, None, Some, Err, IfOk, IfErr, OnOk, length, map};
+ghost use Rattle.std.specs.Prelude.{◌≡◌, ◌≤◌, ◌<◌, ◌+◌, [], ◌∷◌, false, None, Some, Err, IfOk, IfErr, OnOk, length, map};
 ghost use Rattle.std.specs.List.{fold};
 ghost use Rattle.osm_entity.specs.Entity.{EntitySpec, node, way};
 ghost use Rattle.osm_entity.specs.Views.{entity_of};

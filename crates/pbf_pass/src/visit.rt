@@ -1,6 +1,6 @@
 //! A pass over frames, each of which goes to a visitor.
 
-ghost use Rattle.std.specs.Prelude.{◌≡◌, ◌≤◌, ◌^◌, List, [], false, Some, IfOk, IfErr, OnOk};
+ghost use Rattle.std.specs.Prelude.{◌≡◌, ◌≤◌, List, [], false, Some, IfOk, IfErr, OnOk};
 ghost use Rattle.std.specs.Borrow.{GName};
 ghost use Rattle.pbf_frame.specs.declared.stop.Stop.{Stop};
 ghost use Rattle.pbf_frame.specs.declared.stop.Stop.TheVariants as stop;

@@ -1,6 +1,6 @@
 //! A table that is read: where each text is in the message.
 
-ghost use Rattle.std.specs.Prelude.{◌≡◌, ◌+◌, ◌*◌, ◌≤◌, ◌<◌, ◌^◌, ◌↔◌, [], Some, None, Err, IsTrue, IfOk, OnOk, length, map, slice_get, ℕ, MatchOption, ⊤, nat_lt};
+ghost use Rattle.std.specs.Prelude.{◌≡◌, ◌+◌, ◌*◌, ◌≤◌, ◌<◌, ◌↔◌, [], Some, None, Err, IsTrue, IfOk, OnOk, length, map, slice_get, ℕ, MatchOption, ⊤, nat_lt};
 ghost use Rattle.std.specs.Option.{option_map};
 ghost use Rattle.pbf_wire.specs.declared.fault.Fault.{Fault};
 ghost use Rattle.pbf_wire.specs.declared.fault.ReadFault.TheVariants.{Refused};

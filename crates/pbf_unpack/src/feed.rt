@@ -1,6 +1,6 @@
 //! The raw file that a packed one means, as a feed.
 
-ghost use Rattle.std.specs.Prelude.{◌≡◌, ◌+◌, ◌≤◌, ◌^◌, vec_len};
+ghost use Rattle.std.specs.Prelude.{◌+◌, ◌≤◌, vec_len};
 ghost use Rattle.pbf_frame.specs.declared.frame.TheConstants.{FILE_LIMIT};
 
 use crate::buffers::Buffers;

@@ -1,12 +1,10 @@
 //! How the raw bytes are supplied.
 
-ghost use Rattle.std.specs.Prelude.{◌≡◌, ◌+◌, ◌-◌, ◌<◌, ◌≤◌, ◌^◌, ◌++◌, ◌==◌, ℕ, List, [], None, true, length, take, drop, vec_len, IfOk, IfErr, OnOk, OnErr, IfSome};
-ghost use Rattle.std.specs.Option.{option_map};
-ghost use Rattle.pbf_frame.specs.Devices.{prepend, Passes, IsAtEnd, HasRisen};
+ghost use Rattle.std.specs.Prelude.{◌≡◌, ◌+◌, ◌-◌, ◌<◌, ◌≤◌, ◌++◌, ◌==◌, [], None, length, take, drop, vec_len, IfOk, IfErr, OnOk};
+ghost use Rattle.pbf_frame.specs.Devices.{prepend, Passes, IsAtEnd};
 ghost use Rattle.pbf_frame.specs.Reads.{IsFillStop};
 ghost use Rattle.pbf_unpack.specs.declared.feed.State.TheVariants as states;
 ghost use Rattle.pbf_unpack.specs.Supplying.{left_in, remaining_in, refusals, HasSupplied, GoesOn, IsReady, IsSameBut, IsSupplyStop};
-ghost use Rattle.pbf_unpack.specs.Unpacked.{unpacked};
 
 use crate::buffers::Buffers;
 use crate::feed::{Origin, State, UnpackedFeed};

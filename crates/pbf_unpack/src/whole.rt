@@ -1,10 +1,9 @@
 //! A whole frame, read from a feed.
 
-ghost use Rattle.std.specs.Prelude.{◌≡◌, ◌+◌, ◌-◌, ◌<◌, ◌≤◌, ◌^◌, ◌++◌, length, IfOk, IfErr, OnOk, vec_len, max};
+ghost use Rattle.std.specs.Prelude.{◌≡◌, ◌+◌, ◌-◌, ◌<◌, ◌≤◌, ◌++◌, length, IfOk, IfErr, OnOk, vec_len, max};
 ghost use Rattle.pbf_frame.specs.declared.header.Head.{Head};
-ghost use Rattle.pbf_frame.specs.declared.header.TheConstants.{HEADER_LIMIT, LARGEST_SIZE};
+ghost use Rattle.pbf_frame.specs.declared.header.TheConstants.{HEADER_LIMIT};
 ghost use Rattle.pbf_frame.specs.Reads.{IsFillStop};
-ghost use Rattle.pbf_frame.specs.Steps.{head_of};
 ghost use Rattle.pbf_unpack.specs.Whole.{Took, BeginsWith, Means, IsPlaced};
 ghost use Rattle.pbf_frame.specs.declared.frame.TheConstants.{FILE_LIMIT};
 

@@ -1,6 +1,6 @@
 //! `blobs`: a line for each frame.
 
-ghost use Rattle.std.specs.Prelude.{[], ◌∷◌, false, None, ◌≡◌, ◌++◌, ◌≤◌, ◌^◌, IfOk, IfErr, OnOk, OnErr};
+ghost use Rattle.std.specs.Prelude.{◌∷◌, false, None, ◌≡◌, ◌++◌, IfOk, IfErr, OnOk, OnErr};
 ghost use Rattle.pbf_frame.specs.Devices.{IsFront};
 ghost use Rattle.pbf_frame.specs.Transfers.{Added};
 ghost use Rattle.pbf_frame.specs.Verdict.{judged_known};
