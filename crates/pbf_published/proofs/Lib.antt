@@ -1,1 +1,2 @@
 pub mod PublishedLemmas
+pub mod TracedLemmas

@@ -1,12 +1,12 @@
 -- What a feed gave, unpacked, is the raw file that packed bytes mean.
-use Rattle.std.proofs.Common.{◌≡◌, ◌≤◌, ◌||◌, ◌⊎◌, inl, inr, ℕ, suc, Bool, true, false, List, [], Option, Some, Result, Ok, Err, IfOk, IfErr, OnErr, refl, sym, ap, ◌∙◌, subst}
-use Rattle.std.specs.Option.{option_map}
+use Rattle.std.proofs.Common.{◌≡◌, ◌≤◌, ◌||◌, ◌⊎◌, inl, inr, ℕ, suc, Bool, true, false, List, [], Option, Some, Result, Ok, Err, IfOk, IfErr, IfSome, OnErr, refl, sym, ap, ◌∙◌, subst}
+use Rattle.std.proofs.lemmas.Option.{same_Some}
 use Rattle.sha2.specs.Sha256.{sha256}
 use Rattle.pbf_wire.specs.declared.fault.Fault.{Fault}
 use Rattle.pbf_frame.specs.declared.device.Feed as feed
 use Rattle.pbf_frame.specs.declared.stop.Stop.{Stop}
 use Rattle.pbf_frame.specs.declared.stop.Stop.TheVariants as stop
-use Rattle.pbf_frame.specs.Devices.{IsFront, HasRisen}
+use Rattle.pbf_frame.specs.Devices.{IsAtEnd, IsFront, HasRisen, prepend}
 use Rattle.pbf_pass.specs.Given.{GaveFile}
 use Rattle.pbf_pass.specs.Hashing.{HasCounted, IsDigestOf, digest_if}
 use Rattle.pbf_pass.specs.declared.receipt.Halt.{Halt}
@@ -14,20 +14,11 @@ use Rattle.pbf_pass.specs.declared.receipt.InputReceipt.{InputReceipt}
 use Rattle.pbf_pass.specs.Refused.{stop_of}
 use Rattle.pbf_pass.specs.HeaderLimit.{judged_writable}
 use Rattle.pbf_pass.specs.Stops.{Caused, FaultOf, ReadFailed}
-use Rattle.pbf_pass.proofs.GivenLemmas.{tells_file}
 use Rattle.pbf_unpack.specs.Unpacked.{unpacked}
-use Rattle.pbfcut.specs.Calls.{GaveOrNot, RefusedFirst}
+use Rattle.pbfcut.specs.Calls.{Differ, GaveOrNot, RefusedFirst}
 use Rattle.pbfcut.proofs.ConvertingLemmas.{nothing_out}
 use Rattle.pbf_published.specs.declared.input.PublishedHalt.{PublishedHalt}
-use Rattle.pbf_published.specs.Published.{GavePublished, GaveOrNone, Means, MeansIfSome, PassedAs, PassedIfSome, ReportsOutcome, UnlessChanged, IsPass, log_of, told_by}
-
--- what an unpacking feed says of the feed below, when it is opened and when it is closed, with a digest of what was read
-pub record IsOver {F U : Type 0} (f : feed.Ghosts F) (u : feed.Ghosts U) (first last : F) (old new : U) (hashes : Bool) (digest : Option (List ℕ)) : Type 0 where
-  pub remaining : u.remaining old ≡ option_map unpacked (f.remaining first)
-  pub opened : u.has_passed old (log_of hashes) []
-  pub logged : (log : ℕ) → f.has_passed first log [] → u.has_passed old (suc (suc log)) []
-  pub means : (raw : List ℕ) → u.has_passed new (log_of hashes) raw → Means digest raw
-  pub passed : (log : ℕ) (raw : List ℕ) → u.has_passed new (suc (suc log)) raw → PassedAs f.has_passed last log raw
+use Rattle.pbf_published.specs.Published.{Closed, GavePublished, GaveOrNone, Opened, PassedAs, ReportsOutcome, UnlessChanged, log_number, log_of, raw_of, told_by}
 
 -- a feed of a pass that was opened, in the log that says most
 pub opened_by : {D H : Type 0} (holds : H → List ℕ → Type 0) (below : D → ℕ → List ℕ → Type 0) (device : D) (flag hashes : Bool) (hasher : H) (count : ℕ) → flag ≡ hashes → holds hasher [] → count ≡ 0 → HasCounted holds below device flag hasher count (log_of hashes) []
@@ -40,50 +31,68 @@ pub digest_by : {D H : Type 0} (holds : H → List ℕ → Type 0) (below : D �
 digest_by holds below device flag true hasher count digest packed passed is = is packed passed.1
 digest_by holds below device flag false hasher count digest packed passed is = tt
 
--- its digest is this, or that of nothing
-pub either_over : {F U : Type 0} (f : feed.Ghosts F) (u : feed.Ghosts U) (first last : F) (old new : U) (o : Option (List ℕ)) (digest : List ℕ) → (o ≡ Some digest) ⊎ (o ≡ Some (sha256 []))
-    → ((d : List ℕ) → o ≡ Some d → IsOver f u first last old new true (Some d)) → IsOver f u first last old new true (Some digest) ⊎ IsOver f u first last old new true (Some (sha256 []))
-either_over f u first last old new o digest (inl is) over = inl (over digest is)
-either_over f u first last old new o digest (inr is) over = inr (over (sha256 []) is)
-
 -- what is one with a third is the same
 pub same_by : {F : Type 0} (mid last first : F) → mid ≡ last → mid ≡ first → last ≡ first
 same_by mid last first e e2 = sym e ∙ e2
 
-module _ {F U : Type 0} (f : feed.Ghosts F) (u : feed.Ghosts U) (first last : F) (old new : U) (raw_digest : Option (List ℕ)) (holds keeps : List ℕ → Type 0) (step : (file : List ℕ) → holds file → keeps file) where
+-- what is said of a digest that may be there
+if_digest : (o : Option (List ℕ)) (digest : List ℕ) (holds : List ℕ → Type 0) → o ≡ Some digest → IfSome o holds → holds digest
+if_digest o digest holds is has = subst (λ (x : Option (List ℕ)). IfSome x holds) is has
+
+-- a feed that gave a file, and of which it is known what it was to give, has nothing left
+nothing_left : (old new : Option (List ℕ)) (file all : List ℕ) → old ≡ prepend file new → IsAtEnd new → old ≡ Some all → new ≡ Some []
+nothing_left old (Some rest) file all told end is = ap (λ (l : List ℕ). Some l) end
+nothing_left old None file all told end is = (let bad : ⊥ = (let none = sym told ∙ is in cc) in absurd bad)
+
+-- a feed of which all was read has the digest of what it had to give, as far as that is known
+abbrev pub DigestIsOf : (known digest : Option (List ℕ)) → Type 0
+DigestIsOf known digest = (all : List ℕ) → known ≡ Some all → digest ≡ Some (sha256 all)
+
+module _ {F U : Type 0} (f : feed.Ghosts F) (u : feed.Ghosts U) (first last : F) (old new : U) (raw_digest : Option (List ℕ)) (holds : List ℕ → Type 0) (hashes : Bool) (o : Option (List ℕ))
+  (remaining : u.remaining old ≡ raw_of (f.remaining first)) (opened : Opened (f.remaining first) (f.has_passed first) hashes (u.has_passed old)) (closed : Closed (f.has_passed last) (u.has_passed new) (u.remaining new) o)
+where
+  ended : GaveFile u old new raw_digest holds → (all : List ℕ) → f.remaining first ≡ Some all → u.remaining new ≡ Some []
+  ended given all is = nothing_left (u.remaining old) (u.remaining new) given.file (unpacked all) given.supplied.told given.supplied.end (remaining ∙ ap raw_of is)
+
   -- what is said of the file that an unpacking feed gave is said of the raw file that packed bytes mean
-  pub published_of : (hashes : Bool) (digest : Option (List ℕ)) → IsOver f u first last old new hashes digest → GaveFile u old new raw_digest holds → GavePublished f first last digest raw_digest keeps
-  published_of hashes digest over given =
+  pub published_of : (keeps : List ℕ → Type 0) → ((file : List ℕ) → holds file → keeps file) → (digest : List ℕ) → o ≡ Some digest → GaveFile u old new raw_digest holds → GavePublished f first last (digest_if hashes digest) raw_digest keeps
+  published_of keeps step digest is given =
       let file = given.file in
-      let m = over.means file (given.supplied.logged (log_of hashes) [] over.opened) in
+      let known = f.remaining first in
+      let m = if_digest o digest _ is (closed.means hashes known file (given.supplied.logged (log_number (log_of hashes) known) [] opened.hashed)) in
       record {
         packed = m.packed;
         digest_is = m.digest_is;
         raw_digest_is = subst (λ (l : List ℕ). IsDigestOf raw_digest l) (sym m.means) given.digest_is;
-        told = λ all is. sym (tells_file u old new raw_digest holds given (unpacked all) (over.remaining ∙ ap (λ (k : Option (List ℕ)). option_map unpacked k) is)) ∙ sym m.means;
+        told = λ all all_is. same_Some _ _ (sym all_is ∙ m.told (ended given all all_is));
         logged = λ log start.
-            let p = over.passed log file (given.supplied.logged (suc (suc log)) [] (over.logged log start)) in
+            let p = if_digest o digest _ is (closed.logged log known file (given.supplied.logged (log_number (suc (suc log)) known) [] (opened.logged log start))) in
             record { packed = p.packed; passed = p.passed; means = p.means ∙ sym m.means };
         holding = subst keeps (sym m.means) (step file given.holding);
       }
 
-  -- the same of a feed of which perhaps nothing was read
-  pub published_or_none : (digest file : List ℕ) → IsOver f u first last old new true (Some digest) ⊎ IsOver f u first last old new true (Some (sha256 [])) → (new ≡ old → last ≡ first) → GaveOrNot u old new raw_digest file holds
-      → GaveOrNone f first last digest raw_digest file keeps
-  published_or_none digest file (inl over) same (inl given) = inl (inl (published_of true (Some digest) over given))
-  published_or_none digest file (inr over) same (inl given) = inl (inr (published_of true (Some (sha256 [])) over given))
-  published_or_none digest file over same (inr (is, holding)) = inr (same is, step file holding)
+  -- the digest is that of what the feed had to give
+  pub digest_told : hashes ≡ true → GaveFile u old new raw_digest holds → DigestIsOf (f.remaining first) o
+  digest_told hashed given all is = of o refl where
+    of : (x : Option (List ℕ)) → o ≡ x → o ≡ Some (sha256 all)
+    of None none = absurd (closed.there (ended given all is) none)
+    of (Some digest) some =
+        let p = published_of holds (λ file h. h) digest some given in
+        let digest_is : digest ≡ sha256 p.packed = subst (λ (h : Bool). IsDigestOf (digest_if h digest) p.packed) hashed p.digest_is in
+        some ∙ ap (λ (l : List ℕ). Some l) digest_is ∙ ap (λ (l : List ℕ). Some (sha256 l)) (sym (p.told all is))
 
--- a digest that is there
-pub means_some : (hashes : Bool) (o : Option (List ℕ)) (digest raw : List ℕ) → o ≡ Some digest → MeansIfSome hashes o raw → Means (digest_if hashes digest) raw
-means_some hashes o digest raw is means = subst (λ (x : Option (List ℕ)). MeansIfSome hashes x raw) is means
+-- the same of a feed of which perhaps nothing was read
+pub published_or_none : {F U : Type 0} (f : feed.Ghosts F) (u : feed.Ghosts U) (first last : F) (old new : U) (raw_digest : Option (List ℕ)) (holds keeps : List ℕ → Type 0) (o : Option (List ℕ)) (remaining : u.remaining old ≡ raw_of (f.remaining first))
+    (opened : Opened (f.remaining first) (f.has_passed first) true (u.has_passed old)) (closed : Closed (f.has_passed last) (u.has_passed new) (u.remaining new) o) → ((file : List ℕ) → holds file → keeps file) → (digest file : List ℕ)
+    → (o ≡ Some digest) ⊎ (o ≡ Some (sha256 [])) → (new ≡ old → last ≡ first) → GaveOrNot u old new raw_digest file holds → GaveOrNone f first last digest raw_digest file keeps
+published_or_none f u first last old new raw_digest holds keeps o remaining opened closed step digest file (inl is) same (inl given) = inl (inl (published_of f u first last old new raw_digest holds true o remaining opened closed keeps step digest is given))
+published_or_none f u first last old new raw_digest holds keeps o remaining opened closed step digest file (inr is) same (inl given) =
+    inl (inr (published_of f u first last old new raw_digest holds true o remaining opened closed keeps step (sha256 []) is given))
+published_or_none f u first last old new raw_digest holds keeps o remaining opened closed step digest file is same (inr (unchanged, holding)) = inr (same unchanged, step file holding)
 
--- and what passed below the feed that was closed, which goes through a reference to the feed in question
-pub passed_below : {R F : Type 0} (below : R → ℕ → List ℕ → Type 0) (r : R) (has_passed : F → ℕ → List ℕ → Type 0) (last : F) (o : Option (List ℕ)) (digest : List ℕ) (log : ℕ) (raw : List ℕ) → o ≡ Some digest
-    → ((packed : List ℕ) → below r log packed → has_passed last log packed) → PassedIfSome below r o log raw → PassedAs has_passed last log raw
-passed_below below r has_passed last o digest log raw is same passed =
-    let p = subst (λ (x : Option (List ℕ)). PassedIfSome below r x log raw) is passed in
-    record { packed = p.packed; passed = same p.packed p.passed; means = p.means }
+-- a feed that was closed is one that a reference goes to
+pub closed_below : {F : Type 0} (has_passed : F → ℕ → List ℕ → Type 0) (mid last : F) (supplied : ℕ → List ℕ → Type 0) (left o : Option (List ℕ)) → mid ≡ last → Closed (has_passed mid) supplied left o → Closed (has_passed last) supplied left o
+closed_below has_passed mid last supplied left o same closed = subst (λ (x : _). Closed (has_passed x) supplied left o) same closed
 
 -- ---- why a call stops
 
@@ -152,9 +161,34 @@ none_lacks false false none = (refl, refl)
 none_lacks true b none = (let bad : ⊥ = cc in absurd bad)
 none_lacks false true none = (let bad : ⊥ = cc in absurd bad)
 
--- the number of a pass
-pub is_pass : (number most pass : ℕ) → 1 ≤ number → number ≤ most → pass ≡ number → IsPass most pass
-is_pass number most pass least within is = subst (IsPass most) (sym is) (least, within)
+-- ---- why a pass is reported as changed
+
+-- two feeds mean raw files that differ: so their bytes do
+pub packed_differ : (first other raw_first raw_other : Option (List ℕ)) → raw_first ≡ raw_of first → raw_other ≡ raw_of other → Differ raw_first raw_other → Differ first other
+packed_differ first other raw_first raw_other first_is other_is differ b c is_b is_c same = differ (unpacked b) (unpacked c) (first_is ∙ ap raw_of is_b) (other_is ∙ ap raw_of is_c) (ap unpacked same)
+
+-- the stop of a pass that is reported as changed
+pub changed_stop : (refused : Fault → Type 0) (read wrote : Type 0) (numbers : ℕ → Type 0) (reported s : Stop) (number : ℕ) → reported ≡ s → s ≡ stop.Changed number → numbers number → Caused refused read wrote numbers reported
+changed_stop refused read wrote numbers reported s number is change holds = subst (λ (x : Stop). Caused refused read wrote numbers x) (sym (is ∙ change)) holds
+
+-- the first feed has no digest: so it doesn't report its bytes
+pub first_unknown : (known o : Option (List ℕ)) → DigestIsOf known o → o ≡ None → Differ known known
+first_unknown known o of none b c is_b is_c same = (let bad : ⊥ = (let some : None ≡ Some (sha256 b) = sym none ∙ of b is_b in cc) in absurd bad)
+
+-- a later feed hasn't the digest of the first: so its bytes differ
+pub later_differ : (first other o p : Option (List ℕ)) (digest : List ℕ) → DigestIsOf first o → o ≡ Some digest → DigestIsOf other p → (p ≡ Some digest → ⊥) → Differ first other
+later_differ first other o p digest of is other_of no b c is_b is_c same = no (other_of c is_c ∙ ap (λ (l : List ℕ). Some (sha256 l)) (sym same) ∙ sym (of b is_b) ∙ is)
+
+-- the second feed hasn't the digest of the first nor that of nothing: it was read, and its bytes differ
+pub second_differs : {U : Type 0} (u : feed.Ghosts U) (old new : U) (raw_digest : Option (List ℕ)) (file : List ℕ) {holds : List ℕ → Type 0} → GaveOrNot u old new raw_digest file holds → {first other o p : Option (List ℕ)} {digest : List ℕ} → DigestIsOf first o → o ≡ Some digest
+    → (GaveFile u old new raw_digest holds → DigestIsOf other p) → (new ≡ old → p ≡ Some (sha256 [])) → (p ≡ Some digest → ⊥) × (p ≡ Some (sha256 []) → ⊥) → Differ first other
+second_differs u old new raw_digest file (inl given) of is read unread no = later_differ _ _ _ _ _ of is (read given) no.0
+second_differs u old new raw_digest file (inr (same, holding)) of is read unread no = absurd (no.1 (unread same))
+
+-- what is said of the next feed, whether the one before was read or not
+pub rest_of : {U : Type 0} {u : feed.Ghosts U} {old new : U} {raw_digest : Option (List ℕ)} {file : List ℕ} {holds : List ℕ → Type 0} → GaveOrNot u old new raw_digest file holds → (c : List ℕ) × holds c
+rest_of (inl given) = (given.file, given.holding)
+rest_of {file = file} (inr (same, holding)) = (file, holding)
 
 -- before a drain was used, whatever is said
 pub nothing_went_out : {A : Type 0} (r : Result A PublishedHalt) (old new : Option (List ℕ)) (whole : List ℕ → List ℕ) (supplies : List ℕ → Type 0) → new ≡ old

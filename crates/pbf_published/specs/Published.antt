@@ -1,34 +1,41 @@
 -- What a call over published files was given: packed bytes, and the raw files that they mean.
-use Rattle.std.specs.Prelude.{◌≡◌, ◌≤◌, ◌⊎◌, ℕ, zero, suc, List, [], Bool, true, false, Option, Some, None, Result, Ok, Err}
+use Rattle.std.specs.Prelude.{◌≡◌, ◌⊎◌, ℕ, zero, suc, ◌+◌, ◌*◌, List, [], ◌∷◌, Bool, true, false, Option, Some, None, Result, Ok, Err, IfSome}
 use Rattle.std.specs.Option.{option_map}
+use Rattle.sha2.specs.declared.Sha256.{Sha256}
 use Rattle.sha2.specs.Sha256.{sha256}
 use Rattle.pbf_frame.specs.declared.device.Feed as feed
 use Rattle.pbf_frame.specs.declared.stop.Stop.{Stop}
 use Rattle.pbf_frame.specs.declared.stop.Stop.TheVariants.{Refused, Read, Write, Memory, Changed}
+use Rattle.pbf_frame.specs.Devices.{prepend}
+use Rattle.pbf_pass.specs.declared.hashed.PassFeed.{PassFeed}
 use Rattle.pbf_pass.specs.Hashing.{IsDigestOf, digest_if}
 use Rattle.pbf_pass.specs.declared.receipt.Halt.{Halt}
 use Rattle.pbf_pass.specs.declared.receipt.InputReceipt.{InputReceipt}
 use Rattle.pbf_pass.specs.Refused.{stop_of}
+use Rattle.pbf_unpack.specs.declared.feed.UnpackedFeed.{UnpackedFeed}
+use Rattle.pbf_unpack.specs.Reports.{has_all}
 use Rattle.pbf_unpack.specs.Unpacked.{unpacked}
+use Rattle.pbfcut.specs.Calls.{ChangedIn}
+use Rattle.pbf_published.specs.declared.traced.TracedFeed.{TracedFeed}
 use Rattle.pbf_published.specs.declared.input.PublishedHalt.{PublishedHalt}
 
 -- ---- what was given
 
 -- by a log of a feed packed bytes passed that mean this raw file
-pub record PassedAs {F : Type 0} (has_passed : F → ℕ → List ℕ → Type 0) (feed : F) (log : ℕ) (raw : List ℕ) : Type 0 where
+pub record PassedAs (has_passed : ℕ → List ℕ → Type 0) (log : ℕ) (raw : List ℕ) : Type 0 where
   pub packed : List ℕ
-  pub passed : has_passed feed log packed
+  pub passed : has_passed log packed
   pub means : unpacked packed ≡ raw
 
--- a feed gave packed bytes of one digest, which mean a raw file, of another if there is one, and this holds of that file
+-- a feed gave packed bytes of one digest, which mean a raw file, of another if there is one, and this holds of that file. They are what the feed had
+-- to give, if it reports its bytes
 pub record GavePublished {F : Type 0} (f : feed.Ghosts F) (old new : F) (digest raw_digest : Option (List ℕ)) (holds : List ℕ → Type 0) : Type 0 where
   pub packed : List ℕ
   pub digest_is : IsDigestOf digest packed
   pub raw_digest_is : IsDigestOf raw_digest (unpacked packed)
-  -- what the feed had to supply means that file, if it reports its bytes
-  pub told : (all : List ℕ) → f.remaining old ≡ Some all → unpacked all ≡ unpacked packed
-  -- and so do the bytes that passed by each log of a feed that was at its start
-  pub logged : (log : ℕ) → f.has_passed old log [] → PassedAs f.has_passed new log (unpacked packed)
+  pub told : (all : List ℕ) → f.remaining old ≡ Some all → all ≡ packed
+  -- that file is also what those bytes mean that passed by each log of a feed that was at its start
+  pub logged : (log : ℕ) → f.has_passed old log [] → PassedAs (f.has_passed new) log (unpacked packed)
   pub holding : holds (unpacked packed)
 
 -- a later feed did so; or it had no bytes; or nothing was read of it, and this holds of the file before
@@ -42,21 +49,55 @@ abbrev pub log_of : Bool → ℕ
 log_of true = zero
 log_of false = suc zero
 
--- packed bytes of this digest mean this raw file
-pub record Means (digest : Option (List ℕ)) (raw : List ℕ) : Type 0 where
+-- packed bytes of this digest mean this raw file; and if nothing is left, they are what there was at the start, as far as that is known
+pub record Means (digest start left : Option (List ℕ)) (raw : List ℕ) : Type 0 where
   pub packed : List ℕ
   pub digest_is : IsDigestOf digest packed
   pub means : unpacked packed ≡ raw
+  pub told : left ≡ Some [] → start ≡ Some packed
 
--- so they do, if there is a digest
-abbrev pub MeansIfSome : Bool → Option (List ℕ) → List ℕ → Type 0
-MeansIfSome hashes (Some digest) raw = Means (digest_if hashes digest) raw
-MeansIfSome hashes None raw = Unit {0}
+-- ---- logs that know what a feed had to give
 
--- and they passed by this log
-abbrev pub PassedIfSome : {F : Type 0} → (F → ℕ → List ℕ → Type 0) → F → Option (List ℕ) → ℕ → List ℕ → Type 0
-PassedIfSome has_passed feed (Some digest) log raw = PassedAs has_passed feed log raw
-PassedIfSome has_passed feed None log raw = Unit {0}
+-- a pair of numbers as one: two to the first, times an odd number
+abbrev pub pair_number : ℕ → ℕ → ℕ
+pair_number zero b = 2 * b + 1
+pair_number (suc a) b = 2 * pair_number a b
+
+-- the number of a list, which no other list has
+abbrev pub list_number : List ℕ → ℕ
+list_number [] = 0
+list_number (x ∷ xs) = pair_number x (list_number xs)
+
+-- a log for each log of the feed below and each list that it may have to give at its start, or none if it doesn't report that
+abbrev pub log_number : ℕ → Option (List ℕ) → ℕ
+log_number log None = pair_number log 0
+log_number log (Some start) = pair_number log (suc (list_number start))
+
+-- bytes passed by this log: by a log of the feed below, and they and what it has still to give are what it had to give at the start
+pub record HasTraced {F : Type 0} (f : feed.Ghosts F) (feed : F) (log : ℕ) (bytes : List ℕ) : Type 0 where
+  pub below : ℕ
+  pub start : Option (List ℕ)
+  pub number : log ≡ log_number below start
+  pub passed : f.has_passed feed below bytes
+  pub told : start ≡ prepend bytes (f.remaining feed)
+
+-- ---- feeds that are opened and closed
+
+-- nothing was read of an unpacking feed over this one
+abbrev pub IsUnread : {F : Type 0} → (Sha256 → List ℕ → Type 0) → UnpackedFeed (TracedFeed (PassFeed F)) → F → Type 0
+IsUnread holds u below = (has_all u ≡ true) × holds u.feed.feed.hasher [] × (u.feed.feed.feed ≡ below)
+
+-- an unpacking feed, by its logs, has supplied nothing of what the feed below reports and logs
+pub record Opened (known : Option (List ℕ)) (passed : ℕ → List ℕ → Type 0) (hashes : Bool) (supplied : ℕ → List ℕ → Type 0) : Type 0 where
+  pub hashed : supplied (log_number (log_of hashes) known) []
+  pub logged : (log : ℕ) → passed log [] → supplied (log_number (suc (suc log)) known) []
+
+-- the packed bytes, of the digest if there is one, mean what was supplied, and passed by each log of the feed below; and there is a digest if nothing
+-- is reported to be left
+pub record Closed (passed supplied : ℕ → List ℕ → Type 0) (left digest : Option (List ℕ)) : Type 0 where
+  pub means : (hashes : Bool) (start : Option (List ℕ)) (raw : List ℕ) → supplied (log_number (log_of hashes) start) raw → IfSome digest (λ d. Means (digest_if hashes d) start left raw)
+  pub logged : (log : ℕ) (start : Option (List ℕ)) (raw : List ℕ) → supplied (log_number (suc (suc log)) start) raw → IfSome digest (λ d. PassedAs passed log raw)
+  pub there : left ≡ Some [] → digest ≡ None → ⊥
 
 -- ---- why a call stops
 
@@ -64,10 +105,19 @@ PassedIfSome has_passed feed None log raw = Unit {0}
 abbrev pub raw_of : Option (List ℕ) → Option (List ℕ)
 raw_of known = option_map unpacked known
 
--- `Changed` has the number of a pass of so many. Which bytes differ is unspecified: different packed bytes may have passed by different logs, and
--- only their digests are compared
-abbrev pub IsPass : ℕ → ℕ → Type 0
-IsPass most pass = (1 ≤ pass) × (pass ≤ most)
+-- the packed bytes that were changed: `Changed` has the number of the pass whose feed has other bytes than the first, as far as both report them.
+-- The number 1 comes only if the first doesn't
+abbrev pub ChangedOfOne : Option (List ℕ) → ℕ → Type 0
+ChangedOfOne first = ChangedIn 1 first first
+
+abbrev pub ChangedOfTwo : (first second : Option (List ℕ)) → ℕ → Type 0
+ChangedOfTwo first second pass = ChangedOfOne first pass ⊎ ChangedIn 2 first second pass
+
+abbrev pub ChangedOfThree : (first second third : Option (List ℕ)) → ℕ → Type 0
+ChangedOfThree first second third pass = ChangedOfTwo first second pass ⊎ ChangedIn 3 first third pass
+
+abbrev pub ChangedOfFour : (first second third fourth : Option (List ℕ)) → ℕ → Type 0
+ChangedOfFour first second third fourth pass = ChangedOfThree first second third pass ⊎ ChangedIn 4 first fourth pass
 
 -- this holds unless the stop is that a later pass read other bytes
 abbrev pub UnlessChanged : Type 0 → Stop → Type 0

@@ -5,7 +5,7 @@ ghost use Rattle.pbf_pass.specs.Judged.{judged_file};
 ghost use Rattle.pbf_pass.specs.Pass.{CountsFile};
 ghost use Rattle.pbf_pass.specs.Stops.{Caused, ReadFailed, FaultOf};
 ghost use Rattle.pbf_pass.specs.Hashing.{digest_if};
-ghost use Rattle.pbf_published.specs.Published.{GavePublished, IsPass, raw_of};
+ghost use Rattle.pbf_published.specs.Published.{ChangedOfOne, GavePublished, raw_of};
 
 use crate::input::{
     PublishedHalt, PublishedInput, close, first_digest, lacks_memory, open, published_outcome,
@@ -29,9 +29,11 @@ pub fn check_with_receipt<F: Feed>(
         (digest_if passes.hashes receipt.raw)
         (λ file. CountsFile (judged_file (Some file)) receipt.counts)) }
     // Each stop has its cause. What is refused is the raw file that the feed's bytes mean, by its first fault. `Read` comes only if the
-    // feed's count of failures rose; `Write` never comes. `Changed(1)` says that the feed was not read to its end.
+    // feed's count of failures rose; `Write` never comes. `Changed(1)` comes only if the feed doesn't
+    // report its bytes.
     ensures stops { IfErr result (λ h. Caused (FaultOf (judged_file (raw_of (F.remaining feed.old))))
-        (ReadFailed F.Feed feed.old feed.new) ⊥ (IsPass 1) h.stop) }
+        (ReadFailed F.Feed feed.old feed.new) ⊥
+        (ChangedOfOne (F.remaining feed.old)) h.stop) }
 {
     let alloc = passes.alloc;
     let mut input = open(alloc, Inflater::new(alloc)?, &mut *feed, passes.hashes);

@@ -9,7 +9,7 @@ ghost use Rattle.pbfcut.specs.Calls.{BothSupply, RefusedFirst};
 ghost use Rattle.pbfcut.specs.Kept.{IsWritable, conversion_of};
 ghost use Rattle.pbfcut.specs.Theorem.{IsConverted};
 ghost use Rattle.pbf_pass.specs.Stops.{Caused, ReadFailed, WriteFailed};
-ghost use Rattle.pbf_published.specs.Published.{GavePublished, IsPass, UnlessChanged, raw_of};
+ghost use Rattle.pbf_published.specs.Published.{ChangedOfTwo, GavePublished, UnlessChanged, raw_of};
 
 use crate::input::{
     PublishedHalt, PublishedInput, close, compare, first_digest, lacks_memory, open,
@@ -44,11 +44,13 @@ pub fn convert_with_receipt<F: Feed, G: Feed, D: Drain, S: BuildHasher + Drop>(
         (λ c. Took D.Drain drain.old drain.new
         (λ written. b ≡ c → IsConverted b receipt.counts written)))) }
     // Each stop has its cause. What is refused is the raw file that the first feed's bytes mean, by its first fault, and then the drain took
-    // nothing. `Read` and `Write` come only if a count of failures rose: of a feed, of the drain. `Changed` has the number of a pass.
+    // nothing. `Read` and `Write` come only if a count of failures rose: of a feed, of the drain. `Changed` has the number of the pass
+    // whose feed has other packed bytes than the first, as far as both report them.
     ensures stops { IfErr result (λ h. Caused (RefusedFirst
         (judged_writable (raw_of (F.remaining first.old))) (D.taken drain.old) (D.taken drain.new))
         (ReadFailed F.Feed first.old first.new ⊎ ReadFailed G.Feed second.old second.new)
-        (WriteFailed D.Drain drain.old drain.new) (IsPass 2) h.stop) }
+        (WriteFailed D.Drain drain.old drain.new)
+        (ChangedOfTwo (F.remaining first.old) (G.remaining second.old)) h.stop) }
     // Whatever stopped it, except `Changed`, if both feeds mean this raw file, a prefix of its conversion went out.
     ensures beginning { IfErr result (λ h. UnlessChanged ((b : List ℕ)
         → BothSupply b (raw_of (F.remaining first.old)) (raw_of (G.remaining second.old))

@@ -1,10 +1,11 @@
 //! A published file that is read: hashed as it is, and unpacked.
 
-ghost use Rattle.std.specs.Prelude.{◌≡◌, ◌⊎◌, ℕ, suc, Bool, List, [], Some, IfOk, IfErr, OnOk, false};
+ghost use Rattle.std.specs.Prelude.{◌≡◌, ◌⊎◌, [], Some, None, IfOk, IfErr, OnOk, false};
 ghost use Rattle.sha2.specs.Sha256.{sha256};
 ghost use Rattle.pbf_frame.specs.declared.stop.Stop.TheVariants as stop;
-ghost use Rattle.pbf_published.specs.Published.{MeansIfSome, PassedIfSome, ReportsOutcome, log_of, raw_of, told_by};
+ghost use Rattle.pbf_published.specs.Published.{Closed, IsUnread, Opened, ReportsOutcome, raw_of, told_by};
 
+use crate::traced::TracedFeed;
 use pbf_block::Counts;
 use pbf_frame::{Feed, Stop};
 use pbf_pass::{Halt, InputReceipt, PassFeed, Refusal};
@@ -57,40 +58,45 @@ impl From<AllocError> for PublishedHalt {
     }
 }
 
+/// A published file, hashed as it is, and supplied as the raw file that it means.
+pub type PublishedFeed<F> = UnpackedFeed<TracedFeed<PassFeed<F>>>;
+
 /// A published file from its start.
 pub fn open<F: Feed>(
     alloc: Global,
     inflater: Inflater,
     feed: F,
     hashes: bool,
-) -> UnpackedFeed<PassFeed<F>>
-    ensures feed { result.feed.feed ≡ feed }
-    ensures remaining { ⟦<UnpackedFeed<PassFeed<F>> as Feed>⟧.remaining result
+) -> UnpackedFeed<TracedFeed<PassFeed<F>>>
+    ensures remaining { ⟦<UnpackedFeed<TracedFeed<PassFeed<F>>> as Feed>⟧.remaining result
         ≡ raw_of (F.remaining feed) }
-    ensures opened { ⟦<UnpackedFeed<PassFeed<F>> as Feed>⟧.has_passed result (log_of hashes) [] }
-    ensures logged { (log : ℕ) → F.has_passed feed log []
-        → ⟦<UnpackedFeed<PassFeed<F>> as Feed>⟧.has_passed result (suc (suc log)) [] }
-    ensures lender { ⟦<UnpackedFeed<PassFeed<F>> as Feed>⟧.lender result ≡ F.lender feed }
-    ensures failures { ⟦<UnpackedFeed<PassFeed<F>> as Feed>⟧.failures result ≡ F.failures feed }
+    ensures opened { Opened (F.remaining feed) (F.has_passed feed) hashes
+        (⟦<UnpackedFeed<TracedFeed<PassFeed<F>>> as Feed>⟧.has_passed result) }
+    ensures unread { IsUnread ⟦<Sha256 as Digest>⟧.holds result feed }
+    ensures lender { ⟦<UnpackedFeed<TracedFeed<PassFeed<F>>> as Feed>⟧.lender result ≡ F.lender feed }
+    ensures failures { ⟦<UnpackedFeed<TracedFeed<PassFeed<F>>> as Feed>⟧.failures result
+        ≡ F.failures feed }
 {
-    UnpackedFeed::new(alloc, inflater, PassFeed::new(feed, hashes))
+    let traced = TracedFeed {
+        feed: PassFeed::new(feed, hashes),
+    };
+    UnpackedFeed::new(alloc, inflater, traced)
 }
 
 /// The digest of the packed bytes that were read, if all that they mean was supplied, and the feed below.
-pub fn close<F: Feed>(feed: UnpackedFeed<PassFeed<F>>) -> (Option<[u8; 32]>, F)
-    // The digest is that of packed bytes which mean all that was supplied.
-    ensures means { (hashes : Bool) (raw : List ℕ)
-        → ⟦<UnpackedFeed<PassFeed<F>> as Feed>⟧.has_passed feed (log_of hashes) raw
-        → MeansIfSome hashes result.0 raw }
-    // They passed, by each log of the feed below.
-    ensures logged { (log : ℕ) (raw : List ℕ)
-        → ⟦<UnpackedFeed<PassFeed<F>> as Feed>⟧.has_passed feed (suc (suc log)) raw
-        → PassedIfSome F.has_passed result.1 result.0 log raw }
-    ensures feed { result.1 ≡ feed.feed.feed }
-    ensures lender { F.lender result.1 ≡ ⟦<UnpackedFeed<PassFeed<F>> as Feed>⟧.lender feed }
+pub fn close<F: Feed>(feed: UnpackedFeed<TracedFeed<PassFeed<F>>>) -> (Option<[u8; 32]>, F)
+    ensures closed { Closed (F.has_passed result.1)
+        (⟦<UnpackedFeed<TracedFeed<PassFeed<F>>> as Feed>⟧.has_passed feed)
+        (⟦<UnpackedFeed<TracedFeed<PassFeed<F>>> as Feed>⟧.remaining feed) result.0 }
+    ensures unread { (below : _) → IsUnread ⟦<Sha256 as Digest>⟧.holds feed below
+        → result.0 ≡ Some (sha256 []) }
+    ensures feed { result.1 ≡ feed.feed.feed.feed }
+    ensures lender { F.lender result.1
+        ≡ ⟦<UnpackedFeed<TracedFeed<PassFeed<F>>> as Feed>⟧.lender feed }
 {
     let all = feed.has_given_all();
-    let mut hashed = feed.into_feed();
+    let traced = feed.into_feed();
+    let mut hashed = traced.feed;
     let digest = hashed.digest();
     (if all { Some(digest) } else { None }, hashed.into_inner())
 }
@@ -98,7 +104,7 @@ pub fn close<F: Feed>(feed: UnpackedFeed<PassFeed<F>>) -> (Option<[u8; 32]>, F)
 /// The digest of the feed of the first pass, which has one after a call that succeeded.
 pub fn first_digest(first: Option<[u8; 32]>) -> Result<[u8; 32], Stop>
     ensures there { IfOk result (λ digest. first ≡ Some digest) }
-    ensures stops { IfErr result (λ s. s ≡ stop.Changed 1) }
+    ensures stops { IfErr result (λ s. (s ≡ stop.Changed 1) × (first ≡ None)) }
 {
     first.ok_or(Stop::Changed(1))
 }
@@ -106,7 +112,7 @@ pub fn first_digest(first: Option<[u8; 32]>) -> Result<[u8; 32], Stop>
 /// A later pass with another digest is `Changed`.
 pub fn compare(digest: [u8; 32], later: Option<[u8; 32]>, pass: u8) -> Result<(), Stop>
     ensures same { OnOk result (later ≡ Some digest) }
-    ensures stops { IfErr result (λ s. s ≡ stop.Changed pass) }
+    ensures stops { IfErr result (λ s. (s ≡ stop.Changed pass) × (later ≡ Some digest → ⊥)) }
 {
     if later == Some(digest) {
         Ok(())
@@ -118,7 +124,8 @@ pub fn compare(digest: [u8; 32], later: Option<[u8; 32]>, pass: u8) -> Result<()
 /// The same, for a feed of which nothing may have been read.
 pub fn compare_or_none(digest: [u8; 32], later: Option<[u8; 32]>, pass: u8) -> Result<(), Stop>
     ensures same { OnOk result ((later ≡ Some digest) ⊎ (later ≡ Some (sha256 []))) }
-    ensures stops { IfErr result (λ s. s ≡ stop.Changed pass) }
+    ensures stops { IfErr result (λ s. (s ≡ stop.Changed pass)
+        × ((later ≡ Some digest → ⊥) × (later ≡ Some (sha256 []) → ⊥))) }
 {
     let mut hasher = Sha256::new();
     if later == Some(hasher.finalize_reset()) {
@@ -128,11 +135,7 @@ pub fn compare_or_none(digest: [u8; 32], later: Option<[u8; 32]>, pass: u8) -> R
 }
 
 /// What a stop of a call over raw files says of published ones: of the first of them, and of a feed that was refused memory.
-pub fn stopped<F: Feed>(
-    stop: Stop,
-    first: &UnpackedFeed<PassFeed<F>>,
-    lacks_memory: bool,
-) -> PublishedHalt
+pub fn stopped<F: Feed>(stop: Stop, first: &PublishedFeed<F>, lacks_memory: bool) -> PublishedHalt
     ensures { result.stop ≡ told_by lacks_memory stop }
 {
     let place = match stop {
@@ -154,7 +157,7 @@ pub fn stopped<F: Feed>(
 /// memory.
 pub fn published_outcome<F: Feed>(
     outcome: Result<InputReceipt, Halt>,
-    first: &UnpackedFeed<PassFeed<F>>,
+    first: &PublishedFeed<F>,
     lacks_memory: bool,
 ) -> Result<InputReceipt, PublishedHalt>
     ensures { ReportsOutcome lacks_memory outcome result }
@@ -170,14 +173,14 @@ pub fn published_outcome<F: Feed>(
 }
 
 /// Whether a feed was refused memory. If it wasn't, the reads of it that failed are those of the feed below.
-pub fn lacks_memory<F: Feed>(feed: &UnpackedFeed<PassFeed<F>>) -> bool
-    ensures { result ≡ false → ⟦<UnpackedFeed<PassFeed<F>> as Feed>⟧.failures feed.now
-        ≡ F.failures feed.now.feed.feed }
+pub fn lacks_memory<F: Feed>(feed: &PublishedFeed<F>) -> bool
+    ensures { result ≡ false → ⟦<UnpackedFeed<TracedFeed<PassFeed<F>>> as Feed>⟧.failures feed.now
+        ≡ F.failures feed.now.feed.feed.feed }
 {
     feed.stop() == Some(Stop::Memory)
 }
 
 /// The inflaters of two feeds.
-pub fn two_inflaters(alloc: Global) -> Result<(Inflater, Inflater), AllocError> {
+pub(crate) fn two_inflaters(alloc: Global) -> Result<(Inflater, Inflater), AllocError> {
     Ok((Inflater::new(alloc)?, Inflater::new(alloc)?))
 }

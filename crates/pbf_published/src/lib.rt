@@ -8,13 +8,15 @@ mod extracting;
 mod input;
 mod parents;
 mod showing;
+mod traced;
 
 pub use checking::check_with_receipt;
 pub use converting::convert_with_receipt;
 pub use extracting::extract_sorted_with_receipt;
 pub use input::{
-    PublishedHalt, PublishedInput, close, compare, compare_or_none, first_digest, lacks_memory,
-    open, published_outcome, stopped, two_inflaters,
+    PublishedFeed, PublishedHalt, PublishedInput, close, compare, compare_or_none, first_digest,
+    lacks_memory, open, published_outcome, stopped,
 };
 pub use parents::extract_parents_sorted_with_receipt;
 pub use showing::{list_blobs, show_with_receipt};
+pub use traced::TracedFeed;

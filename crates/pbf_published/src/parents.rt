@@ -12,7 +12,7 @@ ghost use Rattle.pbfcut.specs.Extracting.{all_parents};
 ghost use Rattle.pbfcut.specs.Kept.{IsWritable, extract_of};
 ghost use Rattle.pbfcut.specs.Theorem.{IsExtraction};
 ghost use Rattle.pbf_pass.specs.Stops.{Caused, ReadFailed, WriteFailed};
-ghost use Rattle.pbf_published.specs.Published.{GavePublished, GaveOrNone, IsPass, UnlessChanged, raw_of};
+ghost use Rattle.pbf_published.specs.Published.{ChangedOfFour, GaveOrNone, GavePublished, UnlessChanged, raw_of};
 
 use crate::input::{
     PublishedHalt, PublishedInput, close, compare, compare_or_none, first_digest, lacks_memory,
@@ -59,13 +59,16 @@ pub fn extract_parents_sorted_with_receipt<
         (λ written. b ≡ c → b ≡ d → b ≡ e → IsExtraction (all_parents area)
         (extract_with_parents (seen_decoded area)) area b receipt.counts written)))))) }
     // Each stop has its cause. What is refused is the raw file that the first feed's bytes mean, by its first fault, and then the drain took
-    // nothing. `Read` and `Write` come only if a count of failures rose: of a feed, of the drain. `Changed` has the number of a pass.
+    // nothing. `Read` and `Write` come only if a count of failures rose: of a feed, of the drain. `Changed` has the number of the pass
+    // whose feed has other packed bytes than the first, as far as both report them.
     ensures stops { IfErr result (λ h. Caused (RefusedFirst
         (judged_writable (raw_of (F.remaining first.old))) (D.taken drain.old) (D.taken drain.new))
         ((ReadFailed F.Feed first.old first.new
         ⊎ (ReadFailed G.Feed second.old second.new ⊎ ReadFailed H.Feed third.old third.new))
         ⊎ ReadFailed I.Feed fourth.old fourth.new)
-        (WriteFailed D.Drain drain.old drain.new) (IsPass 4) h.stop) }
+        (WriteFailed D.Drain drain.old drain.new)
+        (ChangedOfFour (F.remaining first.old) (G.remaining second.old) (H.remaining third.old)
+        (I.remaining fourth.old)) h.stop) }
     // Whatever stopped it, except `Changed`, if all feeds mean this raw file, a prefix of its extract went out.
     ensures beginning { IfErr result (λ h. UnlessChanged ((b : List ℕ)
         → FourSupply b (raw_of (F.remaining first.old)) (raw_of (G.remaining second.old))

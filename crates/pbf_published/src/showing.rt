@@ -10,7 +10,7 @@ ghost use Rattle.pbfcut.specs.Listing.{Lists, ListsFront, ListsToFault};
 ghost use Rattle.pbfcut.specs.Calls.{RefusedFirst};
 ghost use Rattle.pbfcut.specs.Showing.{Shown, ShowsFront};
 ghost use Rattle.pbf_pass.specs.Stops.{Caused, ReadFailed, WriteFailed, unchanged};
-ghost use Rattle.pbf_published.specs.Published.{GavePublished, IsPass, UnlessChanged, raw_of};
+ghost use Rattle.pbf_published.specs.Published.{ChangedOfTwo, GavePublished, UnlessChanged, raw_of};
 
 use crate::input::{
     PublishedHalt, PublishedInput, close, compare, first_digest, lacks_memory, open,
@@ -43,11 +43,13 @@ pub fn show_with_receipt<F: Feed, G: Feed, D: Drain>(
         (digest_if passes.hashes receipt.raw)
         (λ c. Took D.Drain drain.old drain.new (Shown dates (judged_file (Some c)))))) }
     // Each stop has its cause. What is refused is the raw file that the first feed's bytes mean, by its first fault, and then the drain took
-    // nothing. `Read` and `Write` come only if a count of failures rose: of a feed, of the drain. `Changed` has the number of a pass.
+    // nothing. `Read` and `Write` come only if a count of failures rose: of a feed, of the drain. `Changed` has the number of the pass
+    // whose feed has other packed bytes than the first, as far as both report them.
     ensures stops { IfErr result (λ h. Caused (RefusedFirst
         (judged_file (raw_of (F.remaining first.old))) (D.taken drain.old) (D.taken drain.new))
         (ReadFailed F.Feed first.old first.new ⊎ ReadFailed G.Feed second.old second.new)
-        (WriteFailed D.Drain drain.old drain.new) (IsPass 2) h.stop) }
+        (WriteFailed D.Drain drain.old drain.new)
+        (ChangedOfTwo (F.remaining first.old) (G.remaining second.old)) h.stop) }
     // Whatever stopped it, except `Changed`, if both feeds mean one raw file, a prefix of its text went out, and nothing if it has a fault.
     ensures beginning { IfErr result (λ h. UnlessChanged
         (raw_of (F.remaining first.old) ≡ raw_of (G.remaining second.old)
@@ -102,7 +104,7 @@ pub fn list_blobs<F: Feed, D: Drain>(
         Ok(frames) => Ok(frames),
         Err(stop) => {
             let halt = stopped(stop, &input, lacks_memory(&input));
-            // What is known of the feed comes back with the reference itself, here and below.
+            // What is known of the feed comes back with the reference itself.
             let (_digest, _feed) = close(input);
             Err(halt)
         }

@@ -1,14 +1,15 @@
 -- What a feed of unpacked bytes says of itself.
-use Rattle.std.specs.Prelude.{◌≡◌, ℕ, ◌+◌, List, length, codes, Option, Some, None}
+use Rattle.std.specs.Prelude.{◌≡◌, ℕ, ◌+◌, ◌==◌, ◌&&◌, Bool, List, [], length, codes, Option, Some, None}
+use Rattle.std.specs.Option.{is_none}
 use Rattle.pbf_frame.specs.declared.stop.Stop.{Stop}
 use Rattle.pbf_frame.specs.declared.stop.Stop.TheVariants as stop
 use Rattle.zlib.specs.Names.{fault_name}
-use Rattle.pbf_unpack.specs.declared.fault.UnpackFault.{UnpackFault}
 use Rattle.pbf_unpack.specs.declared.fault.UnpackReason.{UnpackReason}
 use Rattle.pbf_unpack.specs.declared.fault.UnpackReason.TheVariants.{Inflate, RawSize}
 use Rattle.pbf_unpack.specs.declared.feed.State.{State}
 use Rattle.pbf_unpack.specs.declared.feed.State.TheVariants.{Reading, PassingOn, Ended, Failed, Refused}
 use Rattle.pbf_unpack.specs.declared.feed.UnpackedFeed.{UnpackedFeed}
+use Rattle.pbf_unpack.specs.Supplying.{left_in, remaining_in}
 use Rattle.pbf_unpack.specs.Unpacked.{unpacked_from}
 
 -- why a feed failed
@@ -24,11 +25,17 @@ abbrev pub reason_name : UnpackReason → List ℕ
 reason_name (Inflate fault) = fault_name fault
 reason_name RawSize = codes "RawSize"
 
--- packed bytes passed by this log of a feed; these are the raw file that they mean, and this is their first fault
-pub record GavePacked {F : Type 0} (has_passed : F → ℕ → List ℕ → Type 0) (feed : F) (log : ℕ) (raw : List ℕ) (fault : Option UnpackFault) : Type 0 where
+-- no read failed, and nothing is left in the buffers
+abbrev pub has_all : {F : Type 0} → UnpackedFeed F → Bool
+has_all u = is_none (stop_in u.state) && length (left_in u) == 0
+
+-- packed bytes passed by this log of the feed below; these are the raw file that they mean, and the fault that is kept is their first. If nothing
+-- is reported to be left, nothing is left below
+pub record GavePacked {F : Type 0} (remaining : F → Option (List ℕ)) (has_passed : F → ℕ → List ℕ → Type 0) (u : UnpackedFeed F) (log : ℕ) (raw : List ℕ) : Type 0 where
   pub packed : List ℕ
-  pub passed : has_passed feed log packed
-  pub means : unpacked_from 0 packed ≡ (raw, fault)
+  pub passed : has_passed u.feed log packed
+  pub means : unpacked_from 0 packed ≡ (raw, u.fault)
+  pub end : remaining_in remaining u ≡ Some [] → remaining u.feed ≡ Some []
 
 -- the bytes held
 abbrev pub held_by : {F : Type 0} → UnpackedFeed F → ℕ

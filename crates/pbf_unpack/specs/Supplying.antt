@@ -1,9 +1,9 @@
 -- What a feed of unpacked bytes has supplied, and what it has still to supply.
-use Rattle.std.specs.Prelude.{◌≡◌, ℕ, ◌<◌, ◌-◌, ◌^◌, List, [], ◌++◌, length, drop, Option}
+use Rattle.std.specs.Prelude.{◌≡◌, ℕ, ◌<◌, ◌-◌, ◌^◌, List, [], ◌++◌, length, drop, Option, None}
 use Rattle.std.specs.Option.{option_map}
 use Rattle.pbf_frame.specs.declared.stop.Stop.{Stop}
 use Rattle.pbf_frame.specs.declared.stop.Stop.TheVariants as stop
-use Rattle.pbf_frame.specs.Devices.{HasRisen}
+use Rattle.pbf_frame.specs.Devices.{HasRisen, IsAtEnd}
 use Rattle.pbf_unpack.specs.declared.feed.State.{State}
 use Rattle.pbf_unpack.specs.declared.feed.State.TheVariants.{Reading, PassingOn, Ended, Failed, Refused}
 use Rattle.pbf_unpack.specs.declared.feed.UnpackedFeed.{UnpackedFeed}
@@ -33,16 +33,33 @@ Carries start state place read meaning = (rest : List ℕ) → CanFollow state r
 abbrev pub left_in : {F : Type 0} → UnpackedFeed F → List ℕ
 left_in u = drop u.done (u.buffers.front.items ++ u.buffers.raw.items)
 
+-- nothing is reported once a read failed
+abbrev pub unless_failed : State → Option (List ℕ) → Option (List ℕ)
+unless_failed Reading known = known
+unless_failed PassingOn known = known
+unless_failed Ended known = known
+unless_failed Failed known = None
+unless_failed Refused known = None
+
 -- all bytes that are still to supply, if the feed below reports its own
 abbrev pub remaining_in : {F : Type 0} → (F → Option (List ℕ)) → UnpackedFeed F → Option (List ℕ)
-remaining_in remaining u = option_map (λ bytes. left_in u ++ (more u.state u.place bytes).0) (remaining u.feed)
+remaining_in remaining u = unless_failed u.state (option_map (λ bytes. left_in u ++ (more u.state u.place bytes).0) (remaining u.feed))
+
+-- once the end was reached, the feed below is at its own
+abbrev pub IsEndBelow : State → Option (List ℕ) → Type 0
+IsEndBelow Reading known = Unit {0}
+IsEndBelow PassingOn known = Unit {0}
+IsEndBelow Ended known = IsAtEnd known
+IsEndBelow Failed known = Unit {0}
+IsEndBelow Refused known = Unit {0}
 
 -- these bytes were supplied: by a log of the feed below packed bytes have passed, and they mean these bytes, those in the buffers, and then what
 -- those that follow mean; and the fault that is kept is the first of them
-pub record HasSupplied {F : Type 0} (has_passed : F → ℕ → List ℕ → Type 0) (u : UnpackedFeed F) (log : ℕ) (bytes : List ℕ) : Type 0 where
+pub record HasSupplied {F : Type 0} (remaining : F → Option (List ℕ)) (has_passed : F → ℕ → List ℕ → Type 0) (u : UnpackedFeed F) (log : ℕ) (bytes : List ℕ) : Type 0 where
   pub packed : List ℕ
   pub passed : has_passed u.feed log packed
   pub carries : Carries 0 u.state u.place packed (bytes ++ left_in u, u.fault)
+  pub ended : IsEndBelow u.state (remaining u.feed)
 
 -- ---- failures
 
@@ -67,7 +84,7 @@ IsSupplyStop state old new (stop.Changed pass) = ⊥
 -- a feed that is still to supply the same, and has supplied the same
 pub record GoesOn {F : Type 0} (remaining : F → Option (List ℕ)) (has_passed : F → ℕ → List ℕ → Type 0) (old new : UnpackedFeed F) : Type 0 where
   pub remaining_same : remaining_in remaining old ≡ remaining_in remaining new
-  pub supplied_same : (log : ℕ) (bytes : List ℕ) → HasSupplied has_passed old log bytes → HasSupplied has_passed new log bytes
+  pub supplied_same : (log : ℕ) (bytes : List ℕ) → HasSupplied remaining has_passed old log bytes → HasSupplied remaining has_passed new log bytes
 
 -- there are bytes in the buffers, or the end was reached
 abbrev pub IsReady : State → List ℕ → Type 0

@@ -3,7 +3,7 @@
 ghost use Rattle.std.specs.Prelude.{◌≡◌, ◌+◌, ◌*◌, ◌≤◌, ℕ, List, [], None, true};
 ghost use Rattle.std.specs.Option.{option_map};
 ghost use Rattle.pbf_frame.specs.declared.header.TheConstants.{HEADER_LIMIT, LARGEST_SIZE};
-ghost use Rattle.pbf_unpack.specs.Reports.{stop_in, GavePacked, held_by};
+ghost use Rattle.pbf_unpack.specs.Reports.{stop_in, has_all, GavePacked, held_by};
 ghost use Rattle.pbf_unpack.specs.Supplying.{remaining_in, refusals, HasSupplied};
 ghost use Rattle.pbf_unpack.specs.Unpacked.{unpacked};
 
@@ -32,9 +32,10 @@ impl<F: Feed> UnpackedFeed<F> {
         ensures remaining { remaining_in F.remaining result
             ≡ option_map unpacked (F.remaining feed) }
         ensures supplied { (log : ℕ) → F.has_passed feed log []
-            → HasSupplied F.has_passed result log [] }
+            → HasSupplied F.remaining F.has_passed result log [] }
         ensures fault { result.fault ≡ None }
         ensures failures { refusals result.state ≡ 0 }
+        ensures all { has_all result ≡ true }
     {
         UnpackedFeed {
             feed,
@@ -74,8 +75,10 @@ impl<F: Feed> UnpackedFeed<F> {
     /// Whether nothing is left in the buffers: then what was supplied is exactly what the packed bytes mean that passed below, and
     /// [`fault`](Self::fault) is their first fault.
     pub fn has_given_all(&self) -> bool
-        ensures { (log : ℕ) (raw : List ℕ) → result ≡ true → HasSupplied F.has_passed self.now log raw
-            → GavePacked F.has_passed self.now.feed log raw self.now.fault }
+        ensures value { result ≡ has_all self.now }
+        ensures gave { (log : ℕ) (raw : List ℕ) → result ≡ true
+            → HasSupplied F.remaining F.has_passed self.now log raw
+            → GavePacked F.remaining F.has_passed self.now log raw }
     {
         self.stop().is_none() && self.is_spent()
     }

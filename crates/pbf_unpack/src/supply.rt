@@ -163,8 +163,8 @@ impl<F: Feed> UnpackedFeed<F> {
             ≡ prepend (take n buf.new) (remaining_in F.remaining self.new)) }
         ensures end { IfOk result (λ n. n ≡ 0 → 0 < length buf.old
             → IsAtEnd (remaining_in F.remaining self.old)) }
-        ensures passed { IfOk result (λ n. Passes (HasSupplied F.has_passed self.old)
-            (take n buf.new) (HasSupplied F.has_passed self.new)) }
+        ensures passed { IfOk result (λ n. Passes (HasSupplied F.remaining F.has_passed self.old)
+            (take n buf.new) (HasSupplied F.remaining F.has_passed self.new)) }
         ensures lender { F.lender self.new.feed ≡ F.lender self.old.feed }
         ensures counts { F.failures self.old.feed ≤ F.failures self.new.feed }
         ensures goes { OnOk result (refusals self.old.state ≡ 0) }
@@ -189,7 +189,7 @@ impl<F: Feed> Feed for UnpackedFeed<F> {
 
     ghost lender = { λ u. F.lender u.feed };
 
-    ghost has_passed = { λ u log bytes. HasSupplied F.has_passed u log bytes };
+    ghost has_passed = { λ u log bytes. HasSupplied F.remaining F.has_passed u log bytes };
 
     fn read(&mut self, buf: &mut [u8]) -> Result<usize, FeedFault> {
         match self.supply(buf) {

@@ -1,48 +1,32 @@
-use Rattle.std.proofs.Common.{true, Some, inl, inr, arith, rules, subst, sym, ap, ◌∙◌}
+use Rattle.std.proofs.Common.{ℕ, List, true, Some, inl, inr, arith, refl, rules, subst, sym, ap, ◌∙◌}
 use Rattle.std.proofs.lemmas.Result.{err_from_is_err_and}
+use Rattle.sha2.specs.declared.Sha256.{Sha256}
+use Rattle.sha2.specs.Sha256.{Holds, initial_hash_256}
+use Rattle.pbf_published.specs.Published.{IsUnread}
 use Rattle.pbf_pass.specs.Hashing.{digest_if}
-use Rattle.pbf_published.proofs.PublishedLemmas.{published_of, published_or_none, either_over, same_by, means_some, passed_below, outcome_receipt, outcome_stops, outcome_beginning, read_below, either_of, refused_as, none_lacks, is_pass, nothing_went_out}
+use Rattle.pbf_published.proofs.PublishedLemmas.{published_of, published_or_none, digest_told, closed_below, same_by, outcome_receipt, outcome_stops, outcome_beginning, read_below, either_of, refused_as, none_lacks, nothing_went_out, packed_differ, changed_stop, first_unknown, second_differs, later_differ, rest_of}
 use Rattle.pbf_published.proofs.extracting.extract_sorted_with_receipt.Goals as goal
 
 pub returns-clause-receipt : goal.returns-clause-receipt
 returns-clause-receipt g c =
     let digest = c.in_ok-input.input in
     let raw_digest = digest_if c.args.passes.hashes c.in_ok-receipt.receipt.input in
-    let first = c.in_ok-input.ensures.there in
-    let third = c.in_ok-compare.ensures.same in
-    published_of g.F.Feed _ c.args.first.now _ _ _ raw_digest _ _ (λ b holds. (
+    published_of g.F.Feed _ c.args.first.now _ _ _ raw_digest _ true _ c.open-one.ensures.remaining c.open-one.ensures.opened (closed_below g.F.Feed.has_passed c.close-one.result.1.now _ _ _ _ (search rules) c.close-one.ensures.closed) _ (λ b holds. (
       holds.0,
-      published_or_none g.G.Feed _ c.args.second.now _ _ _ raw_digest _ _ (λ e rest.
-          published_of g.H.Feed _ c.args.third.now _ _ _ raw_digest _ _ (λ d took. took) true (Some digest) record {
-            remaining = c.open-three.ensures.remaining;
-            opened = c.open-three.ensures.opened;
-            logged = c.open-three.ensures.logged;
-            means = λ raw has. means_some true _ digest raw third (c.close-three.ensures.means true raw has);
-            passed = λ log raw has. passed_below _ _ g.H.Feed.has_passed _ _ digest log raw third (λ packed p. subst (λ (x : g.row.H.Denot). g.H.Feed.has_passed x log packed) (search rules) p) (c.close-three.ensures.logged log raw has);
-          } rest)
-          digest b
-          (either_over g.G.Feed _ c.args.second.now _ _ _ _ digest c.in_ok-compare_or_none.ensures.same (λ d is. record {
-            remaining = c.open-two.ensures.remaining;
-            opened = c.open-two.ensures.opened;
-            logged = c.open-two.ensures.logged;
-            means = λ raw has. means_some true _ d raw is (c.close-two.ensures.means true raw has);
-            passed = λ log raw has. passed_below _ _ g.G.Feed.has_passed _ _ d log raw is (λ packed p. subst (λ (x : g.row.G.Denot). g.G.Feed.has_passed x log packed) (search rules) p) (c.close-two.ensures.logged log raw has);
-          }))
-          (λ e. same_by c.close-two.result.1.now _ _ (search rules) (ap (λ r. r.now) c.close-two.ensures.feed ∙ ap (λ u. u.feed.feed.now) e ∙ ap (λ r. r.now) c.open-two.ensures.feed))
+      published_or_none g.G.Feed _ c.args.second.now _ _ _ raw_digest _ _ _ c.open-two.ensures.remaining c.open-two.ensures.opened (closed_below g.G.Feed.has_passed c.close-two.result.1.now _ _ _ _ (search rules) c.close-two.ensures.closed) (λ e rest.
+          published_of g.H.Feed _ c.args.third.now _ _ _ raw_digest _ true _ c.open-three.ensures.remaining c.open-three.ensures.opened (closed_below g.H.Feed.has_passed c.close-three.result.1.now _ _ _ _ (search rules) c.close-three.ensures.closed) _ (λ d took. took) digest c.in_ok-compare.ensures.same (rest))
+          digest b c.in_ok-compare_or_none.ensures.same
+          (λ e. same_by c.close-two.result.1.now _ _ (search rules) (ap (λ r. r.now) c.close-two.ensures.feed ∙ ap (λ u. u.feed.feed.feed.now) e ∙ ap (λ r. r.now) c.open-two.ensures.unread.2))
           holds.1,
-    )) true (Some digest) record {
-      remaining = c.open-one.ensures.remaining;
-      opened = c.open-one.ensures.opened;
-      logged = c.open-one.ensures.logged;
-      means = λ raw has. means_some true _ digest raw first (c.close-one.ensures.means true raw has);
-      passed = λ log raw has. passed_below _ _ g.F.Feed.has_passed _ _ digest log raw first (λ packed p. subst (λ (x : g.row.F.Denot). g.F.Feed.has_passed x log packed) (search rules) p) (c.close-one.ensures.logged log raw has);
-    } (outcome_receipt _ _ _ c.published_outcome-outcome.ensures _ _ c.in_ok-receipt.was c.extract_sorted_with_receipt-outcome.ensures.receipt)
+    )) digest c.in_ok-input.ensures.there (outcome_receipt _ _ _ c.published_outcome-outcome.ensures _ _ c.in_ok-receipt.was c.extract_sorted_with_receipt-outcome.ensures.receipt)
 
 pub returns-in_err-inflater-clause-beginning : goal.returns-in_err-inflater-clause-beginning
-returns-in_err-inflater-clause-beginning g c = nothing_went_out c.from_residual.result _ _ _ _ (search rules)
+returns-in_err-inflater-clause-beginning g c =
+    nothing_went_out c.from_residual.result _ _ _ _ (search rules)
 
 pub returns-in_err-last-clause-beginning : goal.returns-in_err-last-clause-beginning
-returns-in_err-last-clause-beginning g c = nothing_went_out c.from_residual-in_err-last.result _ _ _ _ (search rules)
+returns-in_err-last-clause-beginning g c =
+    nothing_went_out c.from_residual-in_err-last.result _ _ _ _ (search rules)
 
 pub returns-in_err-receipt-clause-beginning : goal.returns-in_err-receipt-clause-beginning
 returns-in_err-receipt-clause-beginning g c =
@@ -58,5 +42,23 @@ returns-in_err-receipt-clause-stops g c =
     let three = none_lacks _ _ none in
     let two = none_lacks _ _ three.0 in
     either_of (read_below g.F.Feed _ _ _ _ c.open-one.ensures.failures (c.lacks_memory.ensures two.0 ∙ ap (λ r. g.F.Feed.failures r.now) (sym c.close-one.ensures.feed) ∙ ap (λ (x : g.row.F.Denot). g.F.Feed.failures x) (search rules))) (either_of (read_below g.G.Feed _ _ _ _ c.open-two.ensures.failures (c.lacks_memory-2.ensures two.1 ∙ ap (λ r. g.G.Feed.failures r.now) (sym c.close-two.ensures.feed) ∙ ap (λ (x : g.row.G.Denot). g.G.Feed.failures x) (search rules))) (read_below g.H.Feed _ _ _ _ c.open-three.ensures.failures (c.lacks_memory-3.ensures three.1 ∙ ap (λ r. g.H.Feed.failures r.now) (sym c.close-three.ensures.feed) ∙ ap (λ (x : g.row.H.Denot). g.H.Feed.failures x) (search rules)))))
-    (λ pass is. elim is [ inl before ↦ is_pass 2 3 pass (omega arith) (omega arith) before.0.0 | inr after ↦ is_pass 3 3 pass (omega arith) (omega arith) after.0 ])
+    (λ pass is. elim is [ inl before ↦ inl (inr (before.0.0, packed_differ _ _ _ _ c.open-one.ensures.remaining c.open-two.ensures.remaining before.0.1)) | inr after ↦ inr (after.0, packed_differ _ _ _ _ c.open-one.ensures.remaining c.open-three.ensures.remaining after.1) ])
     c.extract_sorted_with_receipt-outcome.ensures.stops)
+
+pub returns-in_err-input-clause-stops : goal.returns-in_err-input-clause-stops
+returns-in_err-input-clause-stops g c =
+    let p = err_from_is_err_and c.from_residual-in_err-input.result c.from_residual-in_err-input.ensures.1 in
+    let from_first = outcome_receipt _ _ _ c.published_outcome-outcome.ensures _ _ c.in_ok-receipt.was c.extract_sorted_with_receipt-outcome.ensures.receipt in
+    rw p.1 (changed_stop _ _ _ _ _ _ 1 p.2 c.in_err-input.ensures.stops.0 (inl (inl (refl, first_unknown _ _ (digest_told g.F.Feed _ c.args.first.now _ _ _ _ _ true _ c.open-one.ensures.remaining c.open-one.ensures.opened (closed_below g.F.Feed.has_passed c.close-one.result.1.now _ _ _ _ (search rules) c.close-one.ensures.closed) refl (from_first)) c.in_err-input.ensures.stops.1))))
+
+pub returns-in_err-compare_or_none-clause-stops : goal.returns-in_err-compare_or_none-clause-stops
+returns-in_err-compare_or_none-clause-stops g c =
+    let p = err_from_is_err_and c.from_residual-in_err-compare_or_none.result c.from_residual-in_err-compare_or_none.ensures.1 in
+    let from_first = outcome_receipt _ _ _ c.published_outcome-outcome.ensures _ _ c.in_ok-receipt.was c.extract_sorted_with_receipt-outcome.ensures.receipt in
+    rw p.1 (changed_stop _ _ _ _ _ _ 2 p.2 c.in_err-compare_or_none.ensures.stops.0 (inl (inr (refl, second_differs _ _ _ _ _ from_first.holding.1 (digest_told g.F.Feed _ c.args.first.now _ _ _ _ _ true _ c.open-one.ensures.remaining c.open-one.ensures.opened (closed_below g.F.Feed.has_passed c.close-one.result.1.now _ _ _ _ (search rules) c.close-one.ensures.closed) refl (from_first)) c.in_ok-input.ensures.there (λ given. digest_told g.G.Feed _ c.args.second.now _ _ _ _ _ true _ c.open-two.ensures.remaining c.open-two.ensures.opened (closed_below g.G.Feed.has_passed c.close-two.result.1.now _ _ _ _ (search rules) c.close-two.ensures.closed) refl (given)) (λ same. c.close-two.ensures.unread _ (subst (λ u. IsUnread (λ (s : Sha256) (b : List ℕ). Holds initial_hash_256 s.core b) u c.args.second) (sym same) c.open-two.ensures.unread)) c.in_err-compare_or_none.ensures.stops.1))))
+
+pub returns-in_err-compare-clause-stops : goal.returns-in_err-compare-clause-stops
+returns-in_err-compare-clause-stops g c =
+    let p = err_from_is_err_and c.from_residual-in_err-compare.result c.from_residual-in_err-compare.ensures.1 in
+    let from_first = outcome_receipt _ _ _ c.published_outcome-outcome.ensures _ _ c.in_ok-receipt.was c.extract_sorted_with_receipt-outcome.ensures.receipt in
+    rw p.1 (changed_stop _ _ _ _ _ _ 3 p.2 c.in_err-compare.ensures.stops.0 (inr (refl, later_differ _ _ _ _ _ (digest_told g.F.Feed _ c.args.first.now _ _ _ _ _ true _ c.open-one.ensures.remaining c.open-one.ensures.opened (closed_below g.F.Feed.has_passed c.close-one.result.1.now _ _ _ _ (search rules) c.close-one.ensures.closed) refl (from_first)) c.in_ok-input.ensures.there (digest_told g.H.Feed _ c.args.third.now _ _ _ _ _ true _ c.open-three.ensures.remaining c.open-three.ensures.opened (closed_below g.H.Feed.has_passed c.close-three.result.1.now _ _ _ _ (search rules) c.close-three.ensures.closed) refl ((rest_of from_first.holding.1).1)) c.in_err-compare.ensures.stops.1)))

@@ -1,0 +1,66 @@
+-- Logs that know what a feed had to give: their numbers, and what they say once the feed is at its end.
+use Rattle.std.proofs.Common.{◌≡◌, ◌≤◌, ◌<◌, ◌+◌, ◌*◌, ℕ, zero, suc, List, [], ◌∷◌, ◌++◌, Option, Some, None, refl, sym, ap, ◌∙◌, subst, arith}
+use Rattle.std.proofs.lemmas.List.{append-nil}
+use Rattle.pbf_frame.specs.declared.device.Feed as feed
+use Rattle.pbf_frame.specs.Devices.{prepend, Passes}
+use Rattle.pbf_frame.proofs.KnownBytes.{prepend_more}
+use Rattle.pbf_published.specs.Published.{HasTraced, list_number, log_number, pair_number}
+
+-- ---- no two pairs, lists or logs have one number
+
+pair_some : (a b : ℕ) → 0 < pair_number a b
+pair_some zero b = omega arith
+pair_some (suc a) b = omega (arith, pair_some a b)
+
+same_pair : (a b c d : ℕ) → pair_number a b ≡ pair_number c d → (a ≡ c) × (b ≡ d)
+same_pair zero b zero d is = (refl, omega (arith, is))
+same_pair zero b (suc c) d is = (let bad : ⊥ = omega (arith, is) in absurd bad)
+same_pair (suc a) b zero d is = (let bad : ⊥ = omega (arith, is) in absurd bad)
+same_pair (suc a) b (suc c) d is =
+    let same = same_pair a b c d (omega (arith, is)) in
+    (ap suc same.0, same.1)
+
+same_list : (xs ys : List ℕ) → list_number xs ≡ list_number ys → xs ≡ ys
+same_list [] [] is = refl
+same_list [] (y ∷ ys) is = (let bad : ⊥ = omega (arith, is, pair_some y (list_number ys)) in absurd bad)
+same_list (x ∷ xs) [] is = (let bad : ⊥ = omega (arith, is, pair_some x (list_number xs)) in absurd bad)
+same_list (x ∷ xs) (y ∷ ys) is =
+    let same = same_pair x (list_number xs) y (list_number ys) is in
+    ap (λ (n : ℕ). n ∷ xs) same.0 ∙ ap (λ (l : List ℕ). y ∷ l) (same_list xs ys same.1)
+
+same_log : (a b : ℕ) (start other : Option (List ℕ)) → log_number a start ≡ log_number b other → (a ≡ b) × (start ≡ other)
+same_log a b None None is = ((same_pair a 0 b 0 is).0, refl)
+same_log a b None (Some ys) is = (let bad : ⊥ = (let same = same_pair a 0 b (suc (list_number ys)) is in omega (arith, same.1)) in absurd bad)
+same_log a b (Some xs) None is = (let bad : ⊥ = (let same = same_pair a (suc (list_number xs)) b 0 is in omega (arith, same.1)) in absurd bad)
+same_log a b (Some xs) (Some ys) is =
+    let same = same_pair a (suc (list_number xs)) b (suc (list_number ys)) is in
+    (same.0, ap (λ (l : List ℕ). Some l) (same_list xs ys (omega (arith, same.1))))
+
+-- ---- what the logs say
+
+prepend_nothing : (known : Option (List ℕ)) → known ≡ prepend [] known
+prepend_nothing None = refl
+prepend_nothing (Some rest) = refl
+
+-- at its start a feed has a log for each one below
+pub traced_from : {F : Type 0} (f : feed.Ghosts F) (start : F) (below : ℕ) → f.has_passed start below [] → HasTraced f start (log_number below (f.remaining start)) []
+traced_from f start below passed = record { below = below; start = f.remaining start; number = refl; passed = passed; told = prepend_nothing (f.remaining start) }
+
+-- a read of the feed below goes on with it
+pub traced_more : {F : Type 0} (f : feed.Ghosts F) (old new : F) (read : List ℕ) → f.remaining old ≡ prepend read (f.remaining new) → Passes (f.has_passed old) read (f.has_passed new) → Passes (HasTraced f old) read (HasTraced f new)
+traced_more f old new read told passes log before has = record {
+  below = has.below;
+  start = has.start;
+  number = has.number;
+  passed = passes has.below before has.passed;
+  told = prepend_more has.start (f.remaining old) (f.remaining new) before read has.told told;
+}
+
+-- what passed below
+pub traced_below : {F : Type 0} (f : feed.Ghosts F) (now : F) (below : ℕ) (start : Option (List ℕ)) (bytes : List ℕ) → HasTraced f now (log_number below start) bytes → f.has_passed now below bytes
+traced_below f now below start bytes has = subst (λ (n : ℕ). f.has_passed now n bytes) (sym (same_log below has.below start has.start has.number).0) has.passed
+
+-- and if nothing is left, that is all that there was
+pub traced_all : {F : Type 0} (f : feed.Ghosts F) (now : F) (below : ℕ) (start : Option (List ℕ)) (bytes : List ℕ) → f.remaining now ≡ Some [] → HasTraced f now (log_number below start) bytes → start ≡ Some bytes
+traced_all f now below start bytes ended has =
+    (same_log below has.below start has.start has.number).1 ∙ has.told ∙ ap (prepend bytes) ended ∙ ap (λ (l : List ℕ). Some l) (append-nil bytes)
