@@ -11,7 +11,7 @@ use Rattle.pbf_wire.specs.Reading.{bytes_held, occurrence_text, last_of}
 use Rattle.pbf_wire.specs.Faults.{inside, entered, fields_in}
 use Rattle.pbf_wire.proofs.FaultLemmas.{held_short}
 use Rattle.pbf_wire.proofs.SoundLemmas.{both_nil, all_nil, not_wrong, last_holds}
-use Rattle.pbf_wire.specs.Wire.{judged}
+use Rattle.pbf_wire.specs.Wire.{ok_unless}
 use Rattle.pbf_strings.specs.Texts.{texts, count_fault}
 use Rattle.pbf_block.specs.declared.primitive_block.TheConstants.{STRINGTABLE, PRIMITIVEGROUP}
 use Rattle.pbf_block.specs.Scale.{table_of}
@@ -56,9 +56,9 @@ table_few at m s =
     few_if os (last_of STRINGTABLE os) (all_nil part_structure os (both_nil _ (flat_map part_structure os) s).1) refl
 
 -- a payload whose table has more of them has a fault
-counts_few : (b : Bool) (e : Fault) → b ≡ false → is_err (judged (if b then Some e else None)) ≡ true → ⊥
+counts_few : (b : Bool) (e : Fault) → b ≡ false → is_err (ok_unless (if b then Some e else None)) ≡ true → ⊥
 counts_few true e few is = cc
 counts_few false e few is = cc
 
-pub many_texts : (tag at : ℕ) (m : List ℕ) → is_err (judged (count_fault tag (occurrence_text (last_of STRINGTABLE (fields_in at m))))) ≡ true → structure_faults at m ≡ [] → ⊥
+pub many_texts : (tag at : ℕ) (m : List ℕ) → is_err (ok_unless (count_fault tag (occurrence_text (last_of STRINGTABLE (fields_in at m))))) ≡ true → structure_faults at m ≡ [] → ⊥
 many_texts tag at m is sound = counts_few (nat_lt 1048576 (length (table_of (fields_in at m)))) _ (le-ltb _ _ (omega (arith, table_few at m sound))) is
