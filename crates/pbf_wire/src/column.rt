@@ -6,7 +6,7 @@ ghost use Rattle.pbf_wire.specs.declared.limits.TheConstants.{OFFSET_LIMIT};
 
 use crate::field::Payload;
 use crate::fields::{Fields, FoundFields};
-use crate::short::{MOST_BYTES, count_small_left};
+use crate::short::{MOST_BYTES, count_left_if_small};
 use crate::varint::{first_varint, short_varint};
 
 /// The first number of a packed column, and the bytes after it; `None` if the bytes don't begin with a varint.
@@ -93,7 +93,7 @@ impl<'a> Column<'a> {
     /// How many numbers are still to come, if a quick test shows that they are few and small: at most 2^26, each below 2^35. None is
     /// decoded.
     #[inline(always)]
-    pub(crate) fn count_small(&self) -> Option<usize>
+    pub(crate) fn count_if_small(&self) -> Option<usize>
         ensures counted { MatchOption result ⊤
             (λ count. (count ≡ length (column_left self.now)) × (count ≤ 2 ^ 26)) }
         ensures small { MatchOption result ⊤
@@ -103,7 +103,7 @@ impl<'a> Column<'a> {
         if !self.packed.is_empty() || self.fields.0.len() > MOST_BYTES {
             return None;
         }
-        count_small_left(self.fields.0, self.number)
+        count_left_if_small(self.fields.0, self.number)
     }
 
     /// The next number of the packed occurrence that was begun. If it has none nothing changes.
