@@ -7,7 +7,7 @@ use Rattle.pbf_header.specs.Header.{HeaderSpec}
 use Rattle.pbf_frame.specs.Devices.{IsAtEnd}
 use Rattle.pbf_frame.specs.Ends.{comes_of_end}
 use Rattle.pbf_frame.specs.Frames.{FrameSpec}
-use Rattle.pbf_frame.specs.Verdict.{Verdict, with_first, judged}
+use Rattle.pbf_frame.specs.Verdict.{Verdict, with_frame_first, judged}
 use Rattle.pbf_frame.proofs.Parting.{none_some, some_same}
 use Rattle.pbf_frame.proofs.Staying.{judged_longer}
 use Rattle.pbf_pass.specs.HeaderLimit.{is_short, header_limit, with_limit, limited, judged_writable}
@@ -31,8 +31,8 @@ front_stays (f ∷ frames) ending later fs e is ends = of (payload_fault f) is (
   of (Some y) is more = is
   of None is more =
       let v = sound_front frames ending in
-      let said : v ≡ (v.0, Some e) = ap (λ (o : Option Fault). let w : Verdict = (v.0, o) in w) (fault_of_both (with_first f v) (fs, Some e) is) in
-      ap (with_first f) (more v.0 said) ∙ ap (λ (l : List FrameSpec). let w : Verdict = (l, Some e) in w) (ap (λ (w : Verdict). w.0) is)
+      let said : v ≡ (v.0, Some e) = ap (λ (o : Option Fault). let w : Verdict = (v.0, o) in w) (fault_of_both (with_frame_first f v) (fs, Some e) is) in
+      ap (with_frame_first f) (more v.0 said) ∙ ap (λ (l : List FrameSpec). let w : Verdict = (l, Some e) in w) (ap (λ (w : Verdict). w.0) is)
 
 stays_fully : (file rest : List ℕ) (fs : List FrameSpec) (e : Fault) → fully (judged false 0 file) ≡ (fs, Some e) → comes_of_end e.reason ≡ false → fully (judged false 0 (file ++ rest)) ≡ (fs, Some e)
 stays_fully file rest fs e is stays =
