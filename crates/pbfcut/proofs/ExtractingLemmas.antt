@@ -44,7 +44,7 @@ use Rattle.pbf_pass.specs.Given.{GaveFile, Took}
 use Rattle.pbfcut.proofs.KeptLaw.{IsSelection, IsKeptExtract, complete_ways_select, all_parents_select, same_verdict, extract_kept}
 use Rattle.pbfcut.proofs.TheoremLemmas.{took_weaker}
 use Rattle.pbf_pass.specs.Pass.{with_node, with_first, with_way, with_relation, TakesFile, file_header}
-use Rattle.pbfcut.specs.declared.repeat.Repeat.{Repeat}
+use Rattle.pbfcut.specs.declared.repeat.LaterPass.{LaterPass}
 use Rattle.pbfcut.specs.Repeat.{IsUnlike, GathersRest, StopsAgain, digest_of}
 use Rattle.pbf_pass.specs.Hashing.{IsDigestOf, digest_if}
 use Rattle.pbf_pass.specs.Stops.{Caused, ReadFailed}
@@ -180,7 +180,7 @@ later_differs f old new first digest frames same says unlike b c is too e =
 
 -- the stops of a later pass, as those of the call
 module _ {F : Type 0} (f : feed.Ghosts F) (old new : F) (first : Option (List ℕ)) (frames : List FrameSpec) (says : Says (judged_file first) (frames, None)) where
-  pub stops_later : (again : Repeat) (digest : Option (List ℕ)) (refused : Fault → Type 0) (read wrote : Type 0) (changed : ℕ → Type 0) (s : Stop) → IsDigest first digest → digest_of again ≡ digest
+  pub stops_later : (again : LaterPass) (digest : Option (List ℕ)) (refused : Fault → Type 0) (read wrote : Type 0) (changed : ℕ → Type 0) (s : Stop) → IsDigest first digest → digest_of again ≡ digest
       → (ReadFailed f old new → read) → ((pass : ℕ) → ChangedIn again.number first (f.remaining old) pass → changed pass) → StopsAgain f again old new wrote s → Caused refused read wrote changed s
   stops_later again digest refused read wrote changed (stop.Refused e) same is r d h = absurd h
   stops_later again digest refused read wrote changed stop.Read same is r d h = r h

@@ -19,8 +19,8 @@ ghost use Rattle.pbf_pass.specs.Refused.{RefusesFile, Halts, HaltsFile, stop_of}
 ghost use Rattle.pbfcut.specs.Repeat.{SameDigest};
 ghost use Rattle.pbf_pass.specs.Stops.{Caused, FaultOf, KeepsDrain, KeepsFeed, ReadFailed, WriteFailed};
 
-use crate::repeat::Repeat;
-use crate::write::Writing;
+use crate::repeat::LaterPass;
+use crate::write::OutputPlan;
 use osm_entity::BoundingBox;
 use osm_ways::{Chosen, NodePhase};
 use pbf_block::Counts;
@@ -66,11 +66,11 @@ fn choose<F: Feed, G: Feed>(
         hashes: true,
     };
     let mut nodes = NodePhase::new(alloc, area);
-    let told = judge(passes, first, &mut nodes)?;
-    let header = writable_header(&told)?.for_box(alloc, area)?;
-    let digest = told.digest;
+    let judged = judge(passes, first, &mut nodes)?;
+    let header = writable_header(&judged)?.for_box(alloc, area)?;
+    let digest = judged.digest;
     let mut ways = nodes.end_nodes()?;
-    let last = Repeat {
+    let last = LaterPass {
         number: 2,
         digest,
         hashes: true,
@@ -184,16 +184,16 @@ pub fn extract_with_receipt<F: Feed, G: Feed, H: Feed, D: Drain, S: BuildHasher 
 {
     let choice = choose(alloc, first, second, area)?;
     let digest = choice.digest;
-    let writing = Writing {
+    let plan = OutputPlan {
         header: &choice.header,
         chosen: Some(&choice.chosen),
     };
-    let last = Repeat {
+    let last = LaterPass {
         number: 3,
         digest,
         hashes: true,
     };
-    let counts = last.write(alloc, third, drain, hasher, writing)?;
+    let counts = last.write(alloc, third, drain, hasher, plan)?;
     Ok(InputReceipt {
         counts,
         input: digest,
@@ -229,7 +229,7 @@ fn choose_parents<F: Feed, G: Feed, H: Feed>(
     let choice = choose(alloc, first, second, area)?;
     let digest = choice.digest;
     let mut relations = choice.chosen.with_parents();
-    let last = Repeat {
+    let last = LaterPass {
         number: 3,
         digest,
         hashes: true,
@@ -358,16 +358,16 @@ pub fn extract_parents_with_receipt<
 {
     let choice = choose_parents(alloc, first, second, third, area)?;
     let digest = choice.digest;
-    let writing = Writing {
+    let plan = OutputPlan {
         header: &choice.header,
         chosen: Some(&choice.chosen),
     };
-    let last = Repeat {
+    let last = LaterPass {
         number: 4,
         digest,
         hashes: true,
     };
-    let counts = last.write(alloc, fourth, drain, hasher, writing)?;
+    let counts = last.write(alloc, fourth, drain, hasher, plan)?;
     Ok(InputReceipt {
         counts,
         input: digest,

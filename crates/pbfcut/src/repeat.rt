@@ -13,7 +13,7 @@ ghost use Rattle.pbf_pass.specs.Stops.{KeepsDrain, KeepsFeed, WriteFailed};
 ghost use Rattle.pbfcut.specs.Repeat.{GathersRest, StopsAgain, as_change, digest_of};
 ghost use Rattle.pbfcut.specs.Write.{Packed, PacksFront};
 
-use crate::write::{Writing, write};
+use crate::write::{OutputPlan, write};
 use pbf_block::Counts;
 use pbf_frame::{Drain, Feed, Stop};
 use pbf_pass::{Gather, Passes, gather_again};
@@ -22,7 +22,7 @@ use std::hash::BuildHasher;
 
 /// A pass after the first.
 #[derive(Clone, Copy)]
-pub(crate) struct Repeat {
+pub(crate) struct LaterPass {
     /// Which one.
     pub(crate) number: u8,
     /// The digest of the bytes of the first.
@@ -31,7 +31,7 @@ pub(crate) struct Repeat {
     pub(crate) hashes: bool,
 }
 
-impl Repeat {
+impl LaterPass {
     /// How the pass is made.
     fn passes(self, alloc: Global) -> Passes
         ensures { result.hashes ≡ self.hashes }
@@ -110,15 +110,15 @@ impl Repeat {
         feed: &mut F,
         drain: &mut D,
         hasher: S,
-        writing: Writing<'_>,
+        plan: OutputPlan<'_>,
     ) -> Result<Counts, Stop>
-        requires { IsShort (header_of writing.header.now) }
+        requires { IsShort (header_of plan.header.now) }
         ensures packed { IfOk result (λ counts. GaveFile F.Feed feed.old feed.new (digest_of self)
             (λ file. Took D.Drain drain.old drain.new
-            (Packed (pick_of writing.entry.chosen) (header_of writing.entry.header.now)
+            (Packed (pick_of plan.entry.chosen) (header_of plan.entry.header.now)
             counts (judged_file (Some file))))) }
-        ensures beginning { OnErr result (PacksFront (pick_of writing.entry.chosen)
-            (header_of writing.entry.header.now) (judged_file (F.remaining feed.old))
+        ensures beginning { OnErr result (PacksFront (pick_of plan.entry.chosen)
+            (header_of plan.entry.header.now) (judged_file (F.remaining feed.old))
             (D.taken drain.old) (D.taken drain.new)) }
         ensures stops { IfErr result (StopsAgain F.Feed self feed.old feed.new
             (WriteFailed D.Drain drain.old drain.new)) }
@@ -130,7 +130,7 @@ impl Repeat {
             feed,
             drain,
             hasher,
-            writing,
+            plan,
             self.number,
         ) {
             Ok(wrote) => {

@@ -21,8 +21,8 @@ ghost use Rattle.pbfcut.specs.Repeat.{SameDigest};
 ghost use Rattle.pbf_pass.specs.Stops.{Caused, FaultOf, KeepsDrain, KeepsFeed, ReadFailed, WriteFailed};
 
 use crate::extracting::Choice;
-use crate::repeat::Repeat;
-use crate::write::Writing;
+use crate::repeat::LaterPass;
+use crate::write::OutputPlan;
 use osm_entity::BoundingBox;
 use osm_ways::FirstPhase;
 use pbf_block::Counts;
@@ -55,12 +55,12 @@ pub(crate) fn choose_sorted<F: Feed, G: Feed>(
 {
     let Passes { alloc, hashes } = passes;
     let mut phase = FirstPhase::new(alloc, area);
-    let told = judge(passes, first, &mut phase)?;
-    let header = writable_header(&told)?.for_box(alloc, area)?;
-    let digest = told.digest;
+    let judged = judge(passes, first, &mut phase)?;
+    let header = writable_header(&judged)?.for_box(alloc, area)?;
+    let digest = judged.digest;
     let in_order = phase.is_in_order();
     let mut ways = phase.end()?;
-    let again = Repeat {
+    let again = LaterPass {
         number: 2,
         digest,
         hashes,
@@ -171,16 +171,16 @@ pub fn extract_sorted_with_receipt<F: Feed, G: Feed, H: Feed, D: Drain, S: Build
 {
     let choice = choose_sorted(passes, first, second, area)?;
     let digest = choice.digest;
-    let writing = Writing {
+    let plan = OutputPlan {
         header: &choice.header,
         chosen: Some(&choice.chosen),
     };
-    let last = Repeat {
+    let last = LaterPass {
         number: 3,
         digest,
         hashes: passes.hashes,
     };
-    let counts = last.write(passes.alloc, third, drain, hasher, writing)?;
+    let counts = last.write(passes.alloc, third, drain, hasher, plan)?;
     Ok(InputReceipt {
         counts,
         input: digest,
@@ -218,7 +218,7 @@ fn choose_parents_sorted<F: Feed, G: Feed, H: Feed>(
     let choice = choose_sorted(passes, first, second, area)?;
     let digest = choice.digest;
     let mut relations = choice.chosen.with_parents();
-    let again = Repeat {
+    let again = LaterPass {
         number: 3,
         digest,
         hashes: passes.hashes,
@@ -294,16 +294,16 @@ pub fn extract_parents_sorted_with_receipt<
 {
     let choice = choose_parents_sorted(passes, first, second, third, area)?;
     let digest = choice.digest;
-    let writing = Writing {
+    let plan = OutputPlan {
         header: &choice.header,
         chosen: Some(&choice.chosen),
     };
-    let last = Repeat {
+    let last = LaterPass {
         number: 4,
         digest,
         hashes: passes.hashes,
     };
-    let counts = last.write(passes.alloc, fourth, drain, hasher, writing)?;
+    let counts = last.write(passes.alloc, fourth, drain, hasher, plan)?;
     Ok(InputReceipt {
         counts,
         input: digest,

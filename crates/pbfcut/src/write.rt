@@ -94,7 +94,7 @@ impl<D: Drain, S: BuildHasher> Visit for Writer<'_, D, S> {
 
 /// What is written of a file.
 #[derive(Clone, Copy)]
-pub(crate) struct Writing<'a> {
+pub(crate) struct OutputPlan<'a> {
     /// The header.
     pub(crate) header: &'a Header,
     /// Which of the entities; all of them if nothing was chosen.
@@ -106,17 +106,17 @@ fn pack_file<'a, F: Feed, D: Drain, S: BuildHasher>(
     passes: Passes,
     feed: &mut F,
     packer: &'a mut Packer<D, S>,
-    writing: Writing<'a>,
+    plan: OutputPlan<'a>,
     number: u8,
 ) -> Result<InputReceipt, Stop>
     requires fresh { IsFreshPacker packer.old }
-    requires short { IsShort (header_of writing.header.now) }
+    requires short { IsShort (header_of plan.header.now) }
     ensures packed { IfOk result (λ wrote. GaveFile F.Feed feed.old feed.new
         (digest_if passes.hashes wrote.input) (λ file. Took D.Drain packer.old.drain packer.new.drain
-        (Packed (pick_of writing.entry.chosen) (header_of writing.entry.header.now)
+        (Packed (pick_of plan.entry.chosen) (header_of plan.entry.header.now)
         wrote.counts (judged_file (Some file))))) }
-    ensures beginning { OnErr result (PacksFront (pick_of writing.entry.chosen)
-        (header_of writing.entry.header.now) (judged_file (F.remaining feed.old))
+    ensures beginning { OnErr result (PacksFront (pick_of plan.entry.chosen)
+        (header_of plan.entry.header.now) (judged_file (F.remaining feed.old))
         (D.taken packer.old.drain) (D.taken packer.new.drain)) }
     ensures faulty { IfErr result (ReadsFaulty F.Feed feed.old feed.new) }
     ensures stops { IfErr result (StopsUnjudged number (judged_file (F.remaining feed.old))
@@ -125,11 +125,11 @@ fn pack_file<'a, F: Feed, D: Drain, S: BuildHasher>(
     ensures keeps { KeepsFeed F.Feed feed.old feed.new }
     ensures drain { KeepsDrain D.Drain packer.old.drain packer.new.drain }
 {
-    packer.put_header(writing.header)?;
+    packer.put_header(plan.header)?;
     let mut writer = Writer {
         packer,
         counts: Counts::none(),
-        chosen: writing.chosen,
+        chosen: plan.chosen,
         number,
     };
     let outcome = pass_over(passes, feed, &mut writer);
@@ -147,16 +147,16 @@ pub(crate) fn write<F: Feed, D: Drain, S: BuildHasher + Drop>(
     feed: &mut F,
     drain: &mut D,
     hasher: S,
-    writing: Writing<'_>,
+    plan: OutputPlan<'_>,
     number: u8,
 ) -> Result<InputReceipt, Stop>
-    requires { IsShort (header_of writing.header.now) }
+    requires { IsShort (header_of plan.header.now) }
     ensures packed { IfOk result (λ wrote. GaveFile F.Feed feed.old feed.new
         (digest_if passes.hashes wrote.input) (λ file. Took D.Drain drain.old drain.new
-        (Packed (pick_of writing.entry.chosen) (header_of writing.entry.header.now)
+        (Packed (pick_of plan.entry.chosen) (header_of plan.entry.header.now)
         wrote.counts (judged_file (Some file))))) }
-    ensures beginning { OnErr result (PacksFront (pick_of writing.entry.chosen)
-        (header_of writing.entry.header.now) (judged_file (F.remaining feed.old))
+    ensures beginning { OnErr result (PacksFront (pick_of plan.entry.chosen)
+        (header_of plan.entry.header.now) (judged_file (F.remaining feed.old))
         (D.taken drain.old) (D.taken drain.new)) }
     ensures faulty { IfErr result (ReadsFaulty F.Feed feed.old feed.new) }
     ensures stops { IfErr result (StopsUnjudged number (judged_file (F.remaining feed.old))
@@ -165,7 +165,7 @@ pub(crate) fn write<F: Feed, D: Drain, S: BuildHasher + Drop>(
     ensures drain { KeepsDrain D.Drain drain.old drain.new }
 {
     let mut packer = Packer::new(passes.alloc, &mut *drain, hasher);
-    let outcome = pack_file(passes, feed, &mut packer, writing, number);
+    let outcome = pack_file(passes, feed, &mut packer, plan, number);
     // What is known of the drain comes back with the reference itself.
     let _drain = packer.into_drain();
     outcome

@@ -6,7 +6,7 @@ use Rattle.pbf_pass.specs.HeaderLimit.{judged_writable}
 use Rattle.pbf_pass.specs.Stops.{FaultOf}
 use Rattle.pbfcut.proofs.ExtractingLemmas.{chooses_parents, stops_later}
 use Rattle.pbf_pass.proofs.GivenLemmas.{told_digest, told_says}
-use Rattle.pbfcut.specs.declared.repeat.Repeat.{Repeat}
+use Rattle.pbfcut.specs.declared.repeat.LaterPass.{LaterPass}
 use Rattle.pbf_pass.specs.Refused.{stop_of}
 use Rattle.pbfcut.proofs.ChangedLemmas.{no_refusal, changed_before, changed_later}
 use Rattle.pbfcut.proofs.extracting.choose_parents.Goals as goal
@@ -23,7 +23,7 @@ returns-in_err-gather-clause-stops g c =
     let choice = one.holding.holding.chosen in
     let first = g.F.Feed.remaining c.args.first.now in
     let third = g.H.Feed.remaining c.args.third.now in
-    let again : Repeat = record { number = 3; digest = c.in_ok-choice.choice.digest; hashes = true } in
+    let again : LaterPass = record { number = 3; digest = c.in_ok-choice.choice.digest; hashes = true } in
     rw (p.1, p.2) (stops_later g.H.Feed c.args.third.now c.gather.new.feed first choice.frames (told_says g.F.Feed _ _ _ _ _ one choice.judged) again _ (FaultOf (judged_writable first)) _ ⊥ (λ pass. ChangedIn 2 first (g.G.Feed.remaining c.args.second.now) pass ⊎ ChangedIn 3 first third pass) _
     (told_digest g.F.Feed _ _ _ _ one) refl (λ r. inr (inr r)) (λ pass is. inr is) c.in_err-gather.ensures.stops)
 
@@ -37,7 +37,7 @@ returns-in_err-gather-clause-changed g c =
     let p = err_from_is_err_and c.from_residual-in_err-gather.result c.from_residual-in_err-gather.ensures.1 in
     let one = c.in_ok-choice.ensures.chosen in
     let choice = one.holding.holding.chosen in
-    let again : Repeat = record { number = 3; digest = c.in_ok-choice.choice.digest; hashes = true } in
+    let again : LaterPass = record { number = 3; digest = c.in_ok-choice.choice.digest; hashes = true } in
     rw (p.1, p.2) (changed_later g.F.Feed _ _ g.H.Feed _ _ again _ _ _ _ c.in_err-gather.field-0.0 one choice.frames choice.judged refl (λ pass is. inr is) c.in_err-gather.ensures.stops)
 
 pub returns-clause-chosen : goal.returns-clause-chosen

@@ -10,7 +10,7 @@ use Rattle.pbfcut.proofs.ExtractingLemmas.{chosen_sound, edges_typed, selects_ch
 use Rattle.pbf_pass.proofs.GivenLemmas.{tells_file, told_digest, told_says}
 use Rattle.pbfcut.proofs.KeptLaw.{complete_ways_select}
 use Rattle.pbf_pass.proofs.HaltingLemmas.{halts_first}
-use Rattle.pbfcut.specs.declared.repeat.Repeat.{Repeat}
+use Rattle.pbfcut.specs.declared.repeat.LaterPass.{LaterPass}
 use Rattle.pbf_pass.specs.Refused.{stop_of}
 use Rattle.pbfcut.proofs.ChangedLemmas.{no_refusal, changed_before, changed_later}
 use Rattle.pbf_frame.proofs.Passed.{added_none}
@@ -50,7 +50,7 @@ returns-in_err-counts-clause-changed g c =
     let p = err_from_is_err_and c.from_residual-in_err-counts.result c.from_residual-in_err-counts.ensures.1 in
     let one = c.in_ok-choice.ensures.chosen in
     let choice = one.holding.holding.chosen in
-    let last : Repeat = record { number = 3; digest = c.in_ok-choice.choice.digest; hashes = true } in
+    let last : LaterPass = record { number = 3; digest = c.in_ok-choice.choice.digest; hashes = true } in
     rw (p.1, p.2) (changed_later g.F.Feed _ _ g.H.Feed _ _ last _ _ _ _ c.in_err-counts.field-0.0 one choice.frames choice.judged refl (λ pass is. inr is) c.in_err-counts.ensures.stops)
 
 pub returns-in_err-counts-clause-beginning : goal.returns-in_err-counts-clause-beginning

@@ -10,7 +10,7 @@ use Rattle.pbf_frame.specs.Frames.{FrameSpec}
 use Rattle.pbf_frame.specs.Verdict.{Says}
 use Rattle.pbf_pass.specs.Judged.{judged_file}
 use Rattle.pbfcut.proofs.TheoremLemmas.{gave_or_not, gave_or_less}
-use Rattle.pbfcut.specs.declared.repeat.Repeat.{Repeat}
+use Rattle.pbfcut.specs.declared.repeat.LaterPass.{LaterPass}
 use Rattle.pbf_pass.specs.Refused.{stop_of}
 use Rattle.pbfcut.proofs.ChangedLemmas.{no_refusal, changed_before, changed_later}
 use Rattle.pbfcut.proofs.sorted.choose_parents_sorted.Goals as goal
@@ -28,7 +28,7 @@ returns-in_err-gather-clause-stops g c =
     gave_or_not g.G.Feed _ _ _ one.file _ _ (λ file choice. (choice.chosen.frames, choice.chosen.judged)) one.holding in
     let first = g.F.Feed.remaining c.args.first.now in
     let third = g.H.Feed.remaining c.args.third.now in
-    let again : Repeat = record { number = 3; digest = c.in_ok-choice.choice.digest; hashes = c.args.passes.hashes } in
+    let again : LaterPass = record { number = 3; digest = c.in_ok-choice.choice.digest; hashes = c.args.passes.hashes } in
     rw (p.1, p.2) (stops_later g.H.Feed c.args.third.now c.gather.new.feed first said.0 (told_says g.F.Feed _ _ _ _ _ one said.1) again _ (FaultOf (judged_writable first)) _ ⊥ (λ pass. ChangedIn 2 first (g.G.Feed.remaining c.args.second.now) pass ⊎ ChangedIn 3 first third pass) _
     (told_digest g.F.Feed _ _ _ _ one) refl (λ r. inr (inr r)) (λ pass is. inr is) c.in_err-gather.ensures.stops)
 
@@ -43,7 +43,7 @@ returns-in_err-gather-clause-changed g c =
     let one = c.in_ok-choice.ensures.chosen in
     let said : (frames : List FrameSpec) × Says (judged_file (Some one.file)) (frames, None) =
     gave_or_not g.G.Feed _ _ _ one.file _ _ (λ file choice. (choice.chosen.frames, choice.chosen.judged)) one.holding in
-    let again : Repeat = record { number = 3; digest = c.in_ok-choice.choice.digest; hashes = c.args.passes.hashes } in
+    let again : LaterPass = record { number = 3; digest = c.in_ok-choice.choice.digest; hashes = c.args.passes.hashes } in
     rw (p.1, p.2) (changed_later g.F.Feed _ _ g.H.Feed _ _ again _ _ _ _ c.in_err-gather.field-0.0 one said.0 said.1 refl (λ pass is. inr is) c.in_err-gather.ensures.stops)
 
 pub returns-clause-chosen : goal.returns-clause-chosen

@@ -14,7 +14,7 @@ use Rattle.pbf_frame.specs.Verdict.{Says}
 use Rattle.pbf_pass.proofs.GivenLemmas.{tells_file, told_digest, told_says}
 use Rattle.pbfcut.proofs.KeptLaw.{complete_ways_select}
 use Rattle.pbf_pass.proofs.HaltingLemmas.{halts_first}
-use Rattle.pbfcut.specs.declared.repeat.Repeat.{Repeat}
+use Rattle.pbfcut.specs.declared.repeat.LaterPass.{LaterPass}
 use Rattle.pbf_pass.specs.Refused.{stop_of}
 use Rattle.pbfcut.proofs.ChangedLemmas.{no_refusal, changed_before, changed_later}
 use Rattle.pbf_frame.proofs.Passed.{added_none}
@@ -55,7 +55,7 @@ returns-in_err-counts-clause-changed g c =
     let one = c.in_ok-choice.ensures.chosen in
     let said : (frames : List FrameSpec) × Says (judged_file (Some one.file)) (frames, None) =
     gave_or_not g.G.Feed _ _ _ one.file _ _ (λ file choice. (choice.chosen.frames, choice.chosen.judged)) one.holding in
-    let last : Repeat = record { number = 3; digest = c.in_ok-choice.choice.digest; hashes = c.args.passes.hashes } in
+    let last : LaterPass = record { number = 3; digest = c.in_ok-choice.choice.digest; hashes = c.args.passes.hashes } in
     rw (p.1, p.2) (changed_later g.F.Feed _ _ g.H.Feed _ _ last _ _ _ _ c.in_err-counts.field-0.0 one said.0 said.1 refl (λ pass is. inr is) c.in_err-counts.ensures.stops)
 
 pub returns-in_err-counts-clause-beginning : goal.returns-in_err-counts-clause-beginning

@@ -6,14 +6,14 @@ use Rattle.pbf_pass.specs.Stops.{WriteFailed}
 use Rattle.pbf_pass.proofs.GivenLemmas.{tells_file}
 use Rattle.pbfcut.proofs.ChangedLemmas.{stops_as_change, digest_as_change}
 use Rattle.pbfcut.proofs.WritingLemmas.{packed_front, packed_told}
-use Rattle.pbfcut.proofs.repeat.Repeat.write.Goals as goal
+use Rattle.pbfcut.proofs.repeat.LaterPass.write.Goals as goal
 
 pub returns-in_err-compare-in-Ok-clause-beginning : goal.returns-in_err-compare-in-Ok-clause-beginning
 returns-in_err-compare-in-Ok-clause-beginning g c =
     let p = err_from_is_err_and c.from_residual.result c.from_residual.ensures.1 in
     let given = c.in-Ok.ensures.packed in
     let took = given.holding in
-    rw p.1 (packed_front (pick_of c.args.writing.chosen) (header_of c.args.writing.header.now) _ _ _ _ took.written
+    rw p.1 (packed_front (pick_of c.args.plan.chosen) (header_of c.args.plan.header.now) _ _ _ _ took.written
     (packed_told _ _ _ _ given.file took.written (tells_file g.F.Feed _ _ _ _ given) took.holding) took.added.told)
 
 pub returns-in_err-compare-in-Ok-clause-stops : goal.returns-in_err-compare-in-Ok-clause-stops

@@ -2,7 +2,7 @@ use Rattle.std.proofs.lemmas.Result.{IfErr-weaker}
 use Rattle.pbf_pass.specs.Judged.{judged_file}
 use Rattle.pbfcut.specs.Repeat.{StopsAgain}
 use Rattle.pbfcut.proofs.ChangedLemmas.{stops_as_change, digest_as_change}
-use Rattle.pbfcut.proofs.repeat.Repeat.gather.Goals as goal
+use Rattle.pbfcut.proofs.repeat.LaterPass.gather.Goals as goal
 
 pub returns-in-Ok-clause-stops : goal.returns-in-Ok-clause-stops
 returns-in-Ok-clause-stops g c =
