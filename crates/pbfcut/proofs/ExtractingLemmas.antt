@@ -33,7 +33,7 @@ use Rattle.pbf_frame.proofs.Parting.{none_some}
 use Rattle.pbf_frame.proofs.Refusing.{refused_told}
 use Rattle.pbf_block.specs.declared.counts.Counts.{Counts}
 use Rattle.pbf_pass.specs.declared.pass.Pass.{Pass}
-use Rattle.pbf_pass.specs.HeaderLimit.{IsShort, header_limit, judged_writable, held_header}
+use Rattle.pbf_pass.specs.HeaderLimit.{HasShortTexts, header_limit, judged_writable, held_header}
 use Rattle.pbf_pass.specs.Counting.{counts_of, stored_entities}
 use Rattle.pbfcut.specs.Calls.{GaveOrNot, Differ, ChangedIn, ChangedBefore, RefusedFirst, ConvertStops, ExtractStops, ParentsStops}
 use Rattle.pbfcut.specs.Theorem.{IsExtraction}
@@ -293,7 +293,7 @@ same_frames b one two e f = let same : ◌≡◌ {A = Option Verdict} (Some (one
 
 -- what the first pass took, and a second one if the order was broken
 module _ {G : Type 0} (f : feed.Ghosts G) (old new : G) (digest : Option (List ℕ)) (area : BoundingBox) (b : List ℕ) (pass : Pass) (header h : HeaderSpec) (begun phase : FirstSets) (started ways : WaySets) (sets : KeptSets) where
-  pub chooses_first : (in_order : Bool) → TakesFile with_first (judged_file (Some b)) begun phase pass → begun ≡ start_first area → held_header pass ≡ Some (pass.header_at, header) → header_limit (held_header pass) ≡ None → h ≡ header_out_for_box area header → IsShort h
+  pub chooses_first : (in_order : Bool) → TakesFile with_first (judged_file (Some b)) begun phase pass → begun ≡ start_first area → held_header pass ≡ Some (pass.header_at, header) → header_limit (held_header pass) ≡ None → h ≡ header_out_for_box area header → HasShortTexts h
       → in_order ≡ phase.in_order → started ≡ phase.ways → GathersRest f with_way in_order old new digest started ways → sets ≡ without_parents ways → GaveOrNot f old new digest b (λ c. IsChoice area b c sets h)
   chooses_first true p fresh held within is short order starts rest ends =
       let told = held_is (file_header p.frames) pass p.header in

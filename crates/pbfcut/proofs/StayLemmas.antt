@@ -10,7 +10,7 @@ use Rattle.pbf_frame.specs.Frames.{FrameSpec}
 use Rattle.pbf_frame.specs.Verdict.{Verdict, with_frame_first, judged}
 use Rattle.pbf_frame.proofs.Parting.{none_some, some_same}
 use Rattle.pbf_frame.proofs.Staying.{judged_longer}
-use Rattle.pbf_pass.specs.HeaderLimit.{is_short, header_limit, with_limit, limited, judged_writable}
+use Rattle.pbf_pass.specs.HeaderLimit.{has_short_texts, header_limit, with_limit, limited, judged_writable}
 use Rattle.pbf_pass.specs.Judged.{payload_fault, sound_first, sound_front, fully, judged_file}
 use Rattle.pbf_pass.specs.Pass.{file_header}
 use Rattle.pbf_pass.specs.Stops.{FaultOf}
@@ -50,7 +50,7 @@ limit_reason : (o : Option (ℕ × HeaderSpec)) (e : Fault) → header_limit o �
 limit_reason None e is stays = (let ends : comes_of_end e.reason ≡ true = ap (λ (f : Fault). comes_of_end f.reason) (sym (some_same (fault 0 NoHeader) e is)) in absurd (both (comes_of_end e.reason) ends stays)) where
   both : (b : Bool) → b ≡ true → b ≡ false → ⊥
   both b t f = cc
-limit_reason (Some header) e is stays = of (is_short header.1) is where
+limit_reason (Some header) e is stays = of (has_short_texts header.1) is where
   of : (b : Bool) → (if b then None else Some (fault header.0 EntityLarge)) ≡ Some e → e.reason ≡ EntityLarge
   of true is = absurd (none_some _ _ refl is)
   of false is = ap (λ (f : Fault). f.reason) (sym (some_same (fault header.0 EntityLarge) e is))

@@ -8,7 +8,7 @@ ghost use Rattle.pbf_pass.specs.Judged.{judged_file};
 ghost use Rattle.pbf_pass.specs.Given.{GaveFile, Took};
 ghost use Rattle.pbf_pass.specs.Hashing.{digest_if};
 ghost use Rattle.pbfcut.specs.Pick.{pick_of};
-ghost use Rattle.pbf_pass.specs.HeaderLimit.{IsShort};
+ghost use Rattle.pbf_pass.specs.HeaderLimit.{HasShortTexts};
 ghost use Rattle.pbf_pass.specs.Stops.{KeepsDrain, KeepsFeed, WriteFailed};
 ghost use Rattle.pbfcut.specs.Repeat.{GathersRest, StopsAgain, as_change, digest_of};
 ghost use Rattle.pbfcut.specs.Write.{Packed, PacksFront};
@@ -112,7 +112,7 @@ impl LaterPass {
         hasher: S,
         plan: OutputPlan<'_>,
     ) -> Result<Counts, Stop>
-        requires { IsShort (header_of plan.header.now) }
+        requires { HasShortTexts (header_of plan.header.now) }
         ensures packed { IfOk result (λ counts. GaveFile F.Feed feed.old feed.new (digest_of self)
             (λ file. Took D.Drain drain.old drain.new
             (Packed (pick_of plan.entry.chosen) (header_of plan.entry.header.now)

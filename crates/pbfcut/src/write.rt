@@ -6,11 +6,11 @@ ghost use Rattle.pbf_header.specs.Header.{header_of};
 ghost use Rattle.pbf_pass.specs.Again.{StopsUnjudged, ReadsFaulty};
 ghost use Rattle.pbf_pass.specs.Given.{GaveFile, Took};
 ghost use Rattle.pbf_pass.specs.Hashing.{digest_if};
-ghost use Rattle.pbf_pass.specs.HeaderLimit.{IsShort};
+ghost use Rattle.pbf_pass.specs.HeaderLimit.{HasShortTexts};
 ghost use Rattle.pbf_pass.specs.Judged.{judged_file};
 ghost use Rattle.pbf_pass.specs.Payload.{primitive_block, lent_by};
 ghost use Rattle.pbf_pass.specs.Stops.{KeepsDrain, KeepsFeed, ReadFailed, WriteFailed};
-ghost use Rattle.pbfcut.specs.Pick.{pick_of, IsFreshPacker, IsReady};
+ghost use Rattle.pbfcut.specs.Pick.{pick_of, IsFreshPacker, IsReadyToPack};
 ghost use Rattle.pbfcut.specs.Write.{PacksUnjudged, PacksNext, FailsAtNext, Packed, PacksFront};
 
 use crate::pick::EntityPacker;
@@ -30,7 +30,7 @@ fn pack_block<D: Drain, S: BuildHasher>(
     entities: &mut EntityPacker<'_>,
     packer: &mut Packer<D, S>,
 ) -> Result<(), Stop>
-    requires { IsReady packer.old }
+    requires { IsReadyToPack packer.old }
     ensures { PacksUnjudged D.Drain (primitive_block frame.now.payload_at frame.now.payload.now)
         entities.old entities.new packer.old packer.new result }
 {
@@ -48,7 +48,7 @@ fn pack_payload<D: Drain, S: BuildHasher>(
     entities: &mut EntityPacker<'_>,
     packer: &mut Packer<D, S>,
 ) -> Result<(), Stop>
-    requires { IsReady packer.old }
+    requires { IsReadyToPack packer.old }
     ensures { PacksUnjudged D.Drain (lent_by frame.now)
         entities.old entities.new packer.old packer.new result }
 {
@@ -80,7 +80,7 @@ impl<D: Drain, S: BuildHasher> Visit for Writer<'_, D, S> {
     ghost failed = { λ old f new stop. FailsAtNext D.Drain old.number (pick_of old.chosen)
         old.packer.now new.packer.now f stop };
 
-    ghost ready = { λ v. IsReady v.packer.now };
+    ghost ready = { λ v. IsReadyToPack v.packer.now };
 
     ghost lender = { λ v. v.packer.ghost_name ∷ D.lender v.packer.now.drain };
 
@@ -110,7 +110,7 @@ fn pack_file<'a, F: Feed, D: Drain, S: BuildHasher>(
     number: u8,
 ) -> Result<InputReceipt, Stop>
     requires fresh { IsFreshPacker packer.old }
-    requires short { IsShort (header_of plan.header.now) }
+    requires short { HasShortTexts (header_of plan.header.now) }
     ensures packed { IfOk result (λ wrote. GaveFile F.Feed feed.old feed.new
         (digest_if passes.hashes wrote.input) (λ file. Took D.Drain packer.old.drain packer.new.drain
         (Packed (pick_of plan.entry.chosen) (header_of plan.entry.header.now)
@@ -150,7 +150,7 @@ pub(crate) fn write<F: Feed, D: Drain, S: BuildHasher + Drop>(
     plan: OutputPlan<'_>,
     number: u8,
 ) -> Result<InputReceipt, Stop>
-    requires { IsShort (header_of plan.header.now) }
+    requires { HasShortTexts (header_of plan.header.now) }
     ensures packed { IfOk result (λ wrote. GaveFile F.Feed feed.old feed.new
         (digest_if passes.hashes wrote.input) (λ file. Took D.Drain drain.old drain.new
         (Packed (pick_of plan.entry.chosen) (header_of plan.entry.header.now)
