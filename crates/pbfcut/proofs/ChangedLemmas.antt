@@ -46,14 +46,14 @@ module _ {F : Type 0} (f : feed.Ghosts F) (repeat : LaterPass) (old new : F) (wr
   hashed_is hashes digest bytes is same = subst (λ (b : Bool). IsDigestOf (digest_if b digest) bytes) is same
 
   -- all was read, and the digest is another
-  pub digest_as_change : (hashes : Bool) (digest : List ℕ) (holds : List ℕ → Type 0) (s : Stop) → hashes ≡ repeat.hashes → GaveFile f old new (digest_if hashes digest) holds → (s ≡ stop.Changed repeat.number) × (repeat.hashes ≡ true) × (digest ≡ repeat.digest → ⊥) → StopsAgain f repeat old new wrote s
+  pub digest_as_change : (hashes : Bool) (digest : List ℕ) (holds : List ℕ → Type 0) (s : Stop) → hashes ≡ repeat.passes.hashes → GaveFile f old new (digest_if hashes digest) holds → (s ≡ stop.Changed repeat.number) × (repeat.passes.hashes ≡ true) × (digest ≡ repeat.digest → ⊥) → StopsAgain f repeat old new wrote s
   digest_as_change hashes digest holds s same given (is, hashed, other) = subst (λ (x : Stop). StopsAgain f repeat old new wrote x) (sym is) (
     refl,
     record {
       read = given.file;
       told = given.supplied.told;
       logged = given.supplied.logged;
-      faulty = inr (given.supplied.end, λ alike. absurd (other (hashed_is hashes digest given.file (same ∙ hashed) given.digest_is ∙ sym (hashed_is repeat.hashes repeat.digest given.file hashed alike))));
+      faulty = inr (given.supplied.end, λ alike. absurd (other (hashed_is hashes digest given.file (same ∙ hashed) given.digest_is ∙ sym (hashed_is repeat.passes.hashes repeat.digest given.file hashed alike))));
     },
   )
 

@@ -44,6 +44,7 @@ use Rattle.pbf_pass.specs.Given.{GaveFile, Took}
 use Rattle.pbfcut.proofs.KeptLaw.{IsSelection, IsKeptExtract, complete_ways_select, all_parents_select, same_verdict, extract_kept}
 use Rattle.pbfcut.proofs.TheoremLemmas.{took_weaker}
 use Rattle.pbf_pass.specs.Pass.{with_node, with_first, with_way, with_relation, TakesFile, file_header}
+use Rattle.pbf_pass.specs.declared.receipt.Passes.{Passes}
 use Rattle.pbfcut.specs.declared.repeat.LaterPass.{LaterPass}
 use Rattle.pbfcut.specs.Repeat.{IsUnlike, GathersRest, StopsAgain, digest_of}
 use Rattle.pbf_pass.specs.Hashing.{IsDigestOf, digest_if}
@@ -189,16 +190,16 @@ module _ {F : Type 0} (f : feed.Ghosts F) (old new : F) (first : Option (List �
   stops_later again digest refused read wrote changed (stop.Changed n) same is r d h = d n (h.0, later_differs f old new first (digest_of again) frames (subst (λ (d : Option (List ℕ)). IsDigest first d) (sym is) same) says h.1)
 
   -- those of the pass that writes, in each call
-  module _ (hashes : Bool) (digest : List ℕ) (before now : Option (List ℕ)) (read wrote : Type 0) (s : Stop) (same : IsDigest first (digest_if hashes digest)) (failed : ReadFailed f old new → read) where
-    pub convert_stops : StopsAgain f (record { number = 2; digest = digest; hashes = hashes }) old new wrote s → ConvertStops first (f.remaining old) before now read wrote s
-    convert_stops h = stops_later (record { number = 2; digest = digest; hashes = hashes }) (digest_if hashes digest) (RefusedFirst (judged_writable first) before now) read wrote (ChangedIn 2 first (f.remaining old)) s same refl failed (λ pass is. is) h
+  module _ (passes : Passes) (digest : List ℕ) (before now : Option (List ℕ)) (read wrote : Type 0) (s : Stop) (same : IsDigest first (digest_if passes.hashes digest)) (failed : ReadFailed f old new → read) where
+    pub convert_stops : StopsAgain f (record { number = 2; digest = digest; passes = passes }) old new wrote s → ConvertStops first (f.remaining old) before now read wrote s
+    convert_stops h = stops_later (record { number = 2; digest = digest; passes = passes }) (digest_if passes.hashes digest) (RefusedFirst (judged_writable first) before now) read wrote (ChangedIn 2 first (f.remaining old)) s same refl failed (λ pass is. is) h
 
-    pub extract_stops : (second : Option (List ℕ)) → StopsAgain f (record { number = 3; digest = digest; hashes = hashes }) old new wrote s → ExtractStops first second (f.remaining old) before now read wrote s
-    extract_stops second h = stops_later (record { number = 3; digest = digest; hashes = hashes }) (digest_if hashes digest) (RefusedFirst (judged_writable first) before now) read wrote (λ pass. ChangedBefore 2 first second before now pass ⊎ ChangedIn 3 first (f.remaining old) pass) s same refl failed (λ pass is. inr is) h
+    pub extract_stops : (second : Option (List ℕ)) → StopsAgain f (record { number = 3; digest = digest; passes = passes }) old new wrote s → ExtractStops first second (f.remaining old) before now read wrote s
+    extract_stops second h = stops_later (record { number = 3; digest = digest; passes = passes }) (digest_if passes.hashes digest) (RefusedFirst (judged_writable first) before now) read wrote (λ pass. ChangedBefore 2 first second before now pass ⊎ ChangedIn 3 first (f.remaining old) pass) s same refl failed (λ pass is. inr is) h
 
-    pub parents_stops : (second third : Option (List ℕ)) → StopsAgain f (record { number = 4; digest = digest; hashes = hashes }) old new wrote s → ParentsStops first second third (f.remaining old) before now read wrote s
+    pub parents_stops : (second third : Option (List ℕ)) → StopsAgain f (record { number = 4; digest = digest; passes = passes }) old new wrote s → ParentsStops first second third (f.remaining old) before now read wrote s
     parents_stops second third h =
-        stops_later (record { number = 4; digest = digest; hashes = hashes }) (digest_if hashes digest) (RefusedFirst (judged_writable first) before now) read wrote
+        stops_later (record { number = 4; digest = digest; passes = passes }) (digest_if passes.hashes digest) (RefusedFirst (judged_writable first) before now) read wrote
         (λ pass. (ChangedBefore 2 first second before now pass ⊎ ChangedBefore 3 first third before now pass) ⊎ ChangedIn 4 first (f.remaining old) pass) s same refl failed (λ pass is. inr is) h
 
 -- the stops of earlier passes, in a call with more of them

@@ -15,7 +15,7 @@ use Rattle.pbf_pass.specs.Stops.{Caused, ReadFailed}
 
 -- the digest of the first pass, if it was hashed
 abbrev pub digest_of : LaterPass → Option (List ℕ)
-digest_of again = digest_if again.hashes again.digest
+digest_of again = digest_if again.passes.hashes again.digest
 
 -- these aren't bytes without a fault that have this digest, if there is one
 abbrev pub IsUnlike : Option (List ℕ) → List ℕ → Type 0

@@ -114,9 +114,9 @@ pub fn convert_with_receipt<F: Feed, G: Feed, D: Drain, S: BuildHasher + Drop>(
     let last = LaterPass {
         number: 2,
         digest,
-        hashes: passes.hashes,
+        passes,
     };
-    let counts = last.write(passes.alloc, second, drain, hasher, plan)?;
+    let counts = last.write(second, drain, hasher, plan)?;
     Ok(InputReceipt {
         counts,
         input: digest,

@@ -247,7 +247,7 @@ pub fn show_with_receipt<F: Feed, G: Feed, D: Drain>(
     let last = LaterPass {
         number: 2,
         digest: input,
-        hashes: passes.hashes,
+        passes,
     };
     match write_text(passes, second, drain, dates) {
         Ok(digest) => {

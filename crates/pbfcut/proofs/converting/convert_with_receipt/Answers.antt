@@ -54,7 +54,7 @@ returns-in_err-counts-clause-stops g c =
     let new = g.D.Drain.taken c.write.new.drain in
     let read = ReadFailed g.F.Feed c.args.first.now c.judge.new.feed ⊎ ReadFailed g.G.Feed c.args.second.now c.write.new.feed in
     let wrote = WriteFailed g.D.Drain c.args.drain.now c.write.new.drain in
-    rw (p.1, p.2) (convert_stops g.G.Feed c.args.second.now c.write.new.feed first one.holding.1.frames (told_says g.F.Feed _ _ _ _ _ one one.holding.1.says) c.args.passes.hashes c.in_ok-judged.judged.digest old new read wrote _ (told_digest g.F.Feed _ _ _ _ one) (λ r. inr r) c.in_err-counts.ensures.stops)
+    rw (p.1, p.2) (convert_stops g.G.Feed c.args.second.now c.write.new.feed first one.holding.1.frames (told_says g.F.Feed _ _ _ _ _ one one.holding.1.says) c.args.passes c.in_ok-judged.judged.digest old new read wrote _ (told_digest g.F.Feed _ _ _ _ one) (λ r. inr r) c.in_err-counts.ensures.stops)
 
 pub returns-in_err-judged-clause-changed : goal.returns-in_err-judged-clause-changed
 returns-in_err-judged-clause-changed g c =
@@ -70,7 +70,7 @@ pub returns-in_err-counts-clause-changed : goal.returns-in_err-counts-clause-cha
 returns-in_err-counts-clause-changed g c =
     let p = err_from_is_err_and c.from_residual-in_err-counts.result c.from_residual-in_err-counts.ensures.1 in
     let one = c.in_ok-judged.ensures.judged in
-    let last : LaterPass = record { number = 2; digest = c.in_ok-judged.judged.digest; hashes = c.args.passes.hashes } in
+    let last : LaterPass = record { number = 2; digest = c.in_ok-judged.judged.digest; passes = c.args.passes } in
     rw (p.1, p.2) (changed_later g.F.Feed _ _ g.G.Feed _ _ last _ _ _ _ c.in_err-counts.field-0.0 one one.holding.1.frames one.holding.1.says refl (λ pass is. is) c.in_err-counts.ensures.stops)
 
 pub returns-in_err-counts-clause-beginning : goal.returns-in_err-counts-clause-beginning

@@ -27,13 +27,13 @@ pub returns-in_err-compare-in-Ok-clause-changed : goal.returns-in_err-compare-in
 returns-in_err-compare-in-Ok-clause-changed g c =
     let p = err_from_is_err_and c.from_residual-in_err-compare-in-Ok.result c.from_residual-in_err-compare-in-Ok.ensures.1 in
     let one = c.in_ok-judged.ensures.judged in
-    let last : LaterPass = record { number = 2; digest = c.in_ok-judged.judged.digest; hashes = c.args.passes.hashes } in
+    let last : LaterPass = record { number = 2; digest = c.in_ok-judged.judged.digest; passes = c.args.passes } in
     let stops = digest_as_change g.G.Feed last c.args.second.now c.write_text.new.feed ⊥ c.args.passes.hashes c.in-Ok.digest _ _ refl c.in-Ok.ensures.shown c.in_err-compare-in-Ok.ensures.other in
     rw (p.1, p.2) (changed_later g.F.Feed _ _ g.G.Feed _ _ last _ _ _ _ c.in_err-compare-in-Ok.field-0.0 one one.holding.1.frames one.holding.1.says refl (λ pass is. is) stops)
 
 pub returns-clause-changed : goal.returns-clause-changed
 returns-clause-changed g c =
     let one = c.in_ok-judged.ensures.judged in
-    let last : LaterPass = record { number = 2; digest = c.in_ok-judged.judged.digest; hashes = c.args.passes.hashes } in
+    let last : LaterPass = record { number = 2; digest = c.in_ok-judged.judged.digest; passes = c.args.passes } in
     let stops = fault_as_change g.G.Feed last c.args.second.now c.write_text.new.feed _ _ c.in-Err.stop c.in-Err.ensures.stops c.in-Err.ensures.faulty in
     rw (c.from.ensures, c.changed.ensures) (changed_later g.F.Feed _ _ g.G.Feed _ _ last _ _ _ _ (as_change 2 c.in-Err.stop) one one.holding.1.frames one.holding.1.says refl (λ pass is. is) stops)

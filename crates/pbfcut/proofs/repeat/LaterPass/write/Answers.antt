@@ -1,3 +1,4 @@
+use Rattle.std.proofs.Common.{refl}
 use Rattle.std.proofs.lemmas.Result.{err_from_is_err_and}
 use Rattle.pbf_header.specs.Header.{header_of}
 use Rattle.pbfcut.specs.Pick.{pick_of}
@@ -19,8 +20,8 @@ returns-in_err-compare-in-Ok-clause-beginning g c =
 pub returns-in_err-compare-in-Ok-clause-stops : goal.returns-in_err-compare-in-Ok-clause-stops
 returns-in_err-compare-in-Ok-clause-stops g c =
     let p = err_from_is_err_and c.from_residual.result c.from_residual.ensures.1 in
-    rw (p.1, p.2) (digest_as_change g.F.Feed c.args.self c.args.feed.now c.write.new.feed (WriteFailed g.D.Drain c.args.drain.now c.write.new.drain) c.passes.result.hashes c.in-Ok.wrote.input _ _ c.passes.ensures c.in-Ok.ensures.packed c.in_err-compare-in-Ok.ensures.other)
+    rw (p.1, p.2) (digest_as_change g.F.Feed c.args.self c.args.feed.now c.write_unjudged.new.feed (WriteFailed g.D.Drain c.args.drain.now c.write_unjudged.new.drain) c.args.self.passes.hashes c.in-Ok.wrote.input _ _ refl c.in-Ok.ensures.packed c.in_err-compare-in-Ok.ensures.other)
 
 pub returns-in-Err-clause-stops : goal.returns-in-Err-clause-stops
 returns-in-Err-clause-stops g c =
-    rw c.changed.ensures (stops_as_change g.F.Feed c.args.self c.args.feed.now c.write.new.feed (WriteFailed g.D.Drain c.args.drain.now c.write.new.drain) (judged_file (g.F.Feed.remaining c.args.feed.now)) c.in-Err.stop c.in-Err.ensures.stops c.in-Err.ensures.faulty)
+    rw c.changed.ensures (stops_as_change g.F.Feed c.args.self c.args.feed.now c.write_unjudged.new.feed (WriteFailed g.D.Drain c.args.drain.now c.write_unjudged.new.drain) (judged_file (g.F.Feed.remaining c.args.feed.now)) c.in-Err.stop c.in-Err.ensures.stops c.in-Err.ensures.faulty)

@@ -13,7 +13,7 @@ use Rattle.pbfcut.specs.Pick.{pick_of}
 use Rattle.pbfcut.specs.Write.{Packed, PacksFront}
 use Rattle.pbfcut.proofs.PickingLemmas.{none_packed, behind_header, header_alone, whole_file, ended, end_front}
 use Rattle.pbfcut.proofs.WritingLemmas.{frames_all, last_front, front_told, has_written, front_written, stops_written, faulty_written, faulty_never, counts_written, stops_last}
-use Rattle.pbfcut.proofs.write.pack_file.Goals as goal
+use Rattle.pbfcut.proofs.repeat.LaterPass.pack_file.Goals as goal
 
 pub returns-in_err-put_header-clause-beginning : goal.returns-in_err-put_header-clause-beginning
 returns-in_err-put_header-clause-beginning g c =
@@ -80,7 +80,7 @@ returns-in_err-finish-clause-stops g c =
     let w = has_written g.D.Drain (λ v. v.packer.now) (λ v. v.counts) (λ v. pick_of v.chosen) (λ v. v.number) _ (λ old new f one. one) _ all.frames c.pass_over-outcome.new.visitor all.visited none c.none.ensures in
     let counts : g.D.Drain.failures c.args.packer.now.drain ≤ g.D.Drain.failures c.pass_over-outcome.new.visitor.packer.now.drain = omega (arith, c.put_header.ensures.uses.counts, w.drain_counts) in
     let read = ReadFailed g.F.Feed c.args.feed.now c.pass_over-outcome.new.feed in
-    let said : StopsUnjudged c.args.number (judged_file (g.F.Feed.remaining c.args.feed.now)) read (WriteFailed g.D.Drain c.args.packer.now.drain c.finish.new.self.drain) c.in_err-finish.field-0.0 = stops_last c.args.number _ _ _ (judged_file (g.F.Feed.remaining c.args.feed.now)) read _ counts (c.in_err-finish.ensures.uses.stops c.in_ok-input.ensures.ready.1) in
+    let said : StopsUnjudged c.args.self.number (judged_file (g.F.Feed.remaining c.args.feed.now)) read (WriteFailed g.D.Drain c.args.packer.now.drain c.finish.new.self.drain) c.in_err-finish.field-0.0 = stops_last c.args.self.number _ _ _ (judged_file (g.F.Feed.remaining c.args.feed.now)) read _ counts (c.in_err-finish.ensures.uses.stops c.in_ok-input.ensures.ready.1) in
     rw (p.1, p.2) (search (rules, said))
 
 pub returns-in_err-finish-clause-drain : goal.returns-in_err-finish-clause-drain
