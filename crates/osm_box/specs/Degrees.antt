@@ -49,8 +49,8 @@ pub record Parts : Type 0 where
   pub top : List ℕ
 
 -- the parts between exactly three commas
-abbrev pub parts_of : List ℕ → Option Parts
-parts_of text = option_and_then (λ p. option_and_then (λ q. option_and_then (λ r.
+abbrev pub comma_parts : List ℕ → Option Parts
+comma_parts text = option_and_then (λ p. option_and_then (λ q. option_and_then (λ r.
     if is_some (cut_of 44 r.1) then None
     else Some (record { left = p.0; bottom = q.0; right = r.0; top = r.1 }))
     (cut_of 44 q.1)) (cut_of 44 p.1)) (cut_of 44 text)
@@ -67,4 +67,4 @@ box_of_parts (Some p) =
 
 -- the box of the text, or its fault with the least number
 unfoldable pub box_of_text : List ℕ → Result BoundingBox BoxFault
-box_of_text text = box_of_parts (parts_of text)
+box_of_text text = box_of_parts (comma_parts text)

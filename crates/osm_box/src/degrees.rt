@@ -3,7 +3,7 @@
 ghost use Rattle.std.specs.Prelude.{◌≡◌, ◌≤ℤ◌, ◌<ℤ◌, pos, ◌+◌, ◌<◌, ◌≤◌, ◌*◌, ◌^◌, ◌-◌, length, IfSome, option_map};
 ghost use Rattle.std.specs.List.{list_all};
 ghost use Rattle.std.specs.Char.{is_ascii_digit};
-ghost use Rattle.osm_box.specs.Degrees.{cut_of, degrees_of, digits_of, halves_of, magnitude_of, parts_of};
+ghost use Rattle.osm_box.specs.Degrees.{cut_of, degrees_of, digits_of, halves_of, magnitude_of, comma_parts};
 ghost use Rattle.osm_box.specs.BoxText.{texts_of};
 
 /// The text before and after the first such character.
@@ -86,7 +86,7 @@ pub(crate) struct Parts<'a> {
 impl<'a> Parts<'a> {
     /// The parts between exactly three commas.
     pub(crate) fn of(text: &'a str) -> Option<Parts<'a>>
-        ensures { option_map texts_of result ≡ parts_of text.now }
+        ensures { option_map texts_of result ≡ comma_parts text.now }
     {
         let (left, rest) = cut(text, ',')?;
         let (bottom, rest) = cut(rest, ',')?;

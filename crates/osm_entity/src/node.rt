@@ -11,7 +11,7 @@ ghost use Rattle.osm_entity.specs.Views.{meta_of, node_of, owned_node};
 use crate::meta::{Meta, MetaRef};
 use crate::scale::Scale;
 use crate::tags::{OwnedTags, Tag, Tags, owned_tags};
-use crate::weight::{id_fits, light, tags_weight};
+use crate::weight::{id_fits, tags_weight, within_weight_limit};
 use std::alloc::{AllocError, Global};
 
 /// A node that owns its texts.
@@ -185,7 +185,7 @@ impl<'a> NodeRef<'a> {
         if !is_in_range {
             return None;
         }
-        light(self.weight())
+        within_weight_limit(self.weight())
     }
 
     /// Whether all stored numbers are in their ranges, the weight is within its limit, and both granularities are at least 1.

@@ -61,7 +61,7 @@ impl<'a> Refs<'a> {
     {
         match self {
             Refs::Owned(_) => None,
-            Refs::Summed(refs) => refs.count_small(),
+            Refs::Summed(refs) => refs.count_if_small(),
         }
     }
 }

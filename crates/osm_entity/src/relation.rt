@@ -12,7 +12,9 @@ use crate::member::{Member, Members, OwnedMembers, owned_members};
 use crate::meta::{Meta, MetaRef};
 use crate::scale::Scale;
 use crate::tags::{OwnedTags, Tag, Tags, owned_tags};
-use crate::weight::{id_fits, light, members_weight, stored_members_weight, tags_weight};
+use crate::weight::{
+    id_fits, members_weight, stored_members_weight, tags_weight, within_weight_limit,
+};
 use std::alloc::{AllocError, Global};
 
 /// A relation that owns its texts and members.
@@ -147,7 +149,7 @@ impl<'a> RelationRef<'a> {
         if !(id_fits(self.id) && self.meta.fits() && self.scale.fits()) {
             return None;
         }
-        light(self.weight_with(members))
+        within_weight_limit(self.weight_with(members))
     }
 
     /// Whether all stored numbers are in their ranges, the weight is within its limit, and both granularities are at least 1.

@@ -16,7 +16,8 @@ use crate::refs::{OwnedRefs, Refs, owned_refs};
 use crate::scale::Scale;
 use crate::tags::{OwnedTags, Tag, Tags, owned_tags};
 use crate::weight::{
-    id_fits, light, locations_fit, locations_weight, refs_weight, stored_refs_weight, tags_weight,
+    id_fits, locations_fit, locations_weight, refs_weight, stored_refs_weight, tags_weight,
+    within_weight_limit,
 };
 use std::alloc::{AllocError, Global};
 
@@ -178,7 +179,7 @@ impl<'a> WayRef<'a> {
             return None;
         }
         let locations = located_weight(self.refs, self.locations)?;
-        light(self.weight_with(refs, locations))
+        within_weight_limit(self.weight_with(refs, locations))
     }
 
     /// Whether all stored numbers are in their ranges, the weight is within its limit, both granularities are at least 1, and

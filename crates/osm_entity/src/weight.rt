@@ -20,7 +20,7 @@ pub const HIGHEST_WEIGHT: u64 = 12_000_000;
 pub const UID_LIMIT: i64 = 1 << 30;
 
 /// A weight that is within its limit.
-pub(crate) fn light(weight: u64) -> Option<u64>
+pub(crate) fn within_weight_limit(weight: u64) -> Option<u64>
     ensures { SomeIff result (weight ≤ HIGHEST_WEIGHT) weight }
 {
     if weight > HIGHEST_WEIGHT {

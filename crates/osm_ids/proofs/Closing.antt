@@ -9,7 +9,7 @@ use Rattle.std.proofs.lemmas.Bool.Decides.{Decides-int_eq}
 use Rattle.std.proofs.lemmas.List.Folds.{list_any-append}
 use Rattle.std.proofs.lemmas.List.Sums.{sum_by-cons}
 use Rattle.osm_ids.specs.declared.links.Link.{Link}
-use Rattle.osm_ids.specs.Links.{link_cmp, Has, IsClosed, IsLeast, is_among, is_of, is_in, missing, IsAdded}
+use Rattle.osm_ids.specs.Links.{link_cmp, Has, IsClosed, IsLeast, is_link_among, is_of, is_in, missing_parents, IsAdded}
 use Rattle.osm_ids.proofs.Sets.{Ids, ids_of, contains-ids_of}
 use Rattle.osm_ids.proofs.LinkOrder.{found_is, all_kept}
 
@@ -57,17 +57,17 @@ lacks_le s p l =
       | false ↦ λ _. elim (lacks (set.insert s p) l) as (λ b. cond b 1 0 ≤ 1) [ true ↦ omega arith | false ↦ omega arith ]
     ] refl
 
-missing_cons : (s : Ids) (l : Link) (links : List Link) → missing (l ∷ links) s ≡ cond (lacks s l) 1 0 + missing links s
+missing_cons : (s : Ids) (l : Link) (links : List Link) → missing_parents (l ∷ links) s ≡ cond (lacks s l) 1 0 + missing_parents links s
 missing_cons s l links = sum_by-cons (λ (x : Link). cond (lacks s x) 1 0) l links
 
-missing_le : (links : List Link) (s : Ids) (p : ℤ) → missing links (set.insert s p) ≤ missing links s
+missing_le : (links : List Link) (s : Ids) (p : ℤ) → missing_parents links (set.insert s p) ≤ missing_parents links s
 missing_le [] s p = omega arith
 missing_le (l ∷ links) s p = omega (arith, missing_cons s l links, missing_cons (set.insert s p) l links, missing_le links s p, lacks_le s p l)
 
-missing_less : (links : List Link) (x : Link) (s : Ids) → is_among links x ≡ true → set.contains s x.parent ≡ false → missing links (set.insert s x.parent) + 1 ≤ missing links s
+missing_less : (links : List Link) (x : Link) (s : Ids) → is_link_among links x ≡ true → set.contains s x.parent ≡ false → missing_parents links (set.insert s x.parent) + 1 ≤ missing_parents links s
 missing_less [] x s here e = absurd (both_ways false refl here)
 missing_less (l ∷ links) x s here e =
-    elim (or_cases (eq_by_cmp link_cmp x l) (is_among links x) here) [
+    elim (or_cases (eq_by_cmp link_cmp x l) (is_link_among links x) here) [
       | inl at ↦
           let same : x.parent ≡ l.parent = ap (λ (y : Link). y.parent) (found_is x l at) in
           let now : ◌≡◌ {A = ℕ} (cond (lacks s l) 1 0) 1 = ap (λ p. cond (not (set.contains s p)) 1 0) (sym same) ∙ ap (λ b. cond (not b) 1 0) e in
@@ -87,8 +87,8 @@ pub record Adding (links rest : List Link) (id : ℤ) (old : Ids) (old_work : Li
   pub fresh : (x : ℤ) → set.contains new x ≡ true → (set.contains old x ≡ true) ⊎ (is_in new_work x ≡ true)
   pub kept : (x : ℤ) → is_in old_work x ≡ true → is_in new_work x ≡ true
   pub known : (x : ℤ) → is_in new_work x ≡ true → (is_in old_work x ≡ true) ⊎ (set.contains new x ≡ true)
-  pub only : (test : ℤ → Bool) → IsClosed (is_among links) test → test id ≡ true → Has old test → Has new test
-  pub work : 2 * missing links new + length new_work ≤ 2 * missing links old + length old_work
+  pub only : (test : ℤ → Bool) → IsClosed (is_link_among links) test → test id ≡ true → Has old test → Has new test
+  pub work : 2 * missing_parents links new + length new_work ≤ 2 * missing_parents links old + length old_work
 
 pub adding_start : (links rest : List Link) (id : ℤ) (old : Ids) (old_work : List ℤ) → rest ≡ filter (is_of id) links → Adding links rest id old old_work old old_work
 adding_start links rest id old old_work e =
@@ -117,8 +117,8 @@ all_middle P [] x rest h = h.0
 all_middle P (d ∷ done) x rest h = all_middle P done x rest h.1
 
 module _ (links : List Link) (x : Link) (rest : List Link) (id : ℤ) (old : Ids) (old_work : List ℤ) (new : Ids) (new_work : List ℤ) (a : Adding links (x ∷ rest) id old old_work new new_work) where
-  one_of : (is_of id x ≡ true) × (is_among links x ≡ true)
-  one_of = all_middle (λ l. (is_of id l ≡ true) × (is_among links l ≡ true)) a.done x rest (subst (AllByRecursion (λ l. (is_of id l ≡ true) × (is_among links l ≡ true))) (sym a.whole) (all_kept (is_of id) links))
+  one_of : (is_of id x ≡ true) × (is_link_among links x ≡ true)
+  one_of = all_middle (λ l. (is_of id l ≡ true) × (is_link_among links l ≡ true)) a.done x rest (subst (AllByRecursion (λ l. (is_of id l ≡ true) × (is_link_among links l ≡ true))) (sym a.whole) (all_kept (is_of id) links))
 
   -- a parent that is there
   pub adding_same : set.contains new x.parent ≡ true → Adding links rest id old old_work new new_work
@@ -162,15 +162,15 @@ module _ (links : List Link) (x : Link) (rest : List Link) (id : ℤ) (old : Ids
       }
 
 -- a link of the id is among those that the filter keeps
-found_kept : (P : Link → Type 0) (p : Link → Bool) (links : List Link) (l : Link) → AllByRecursion P (filter p links) → is_among links l ≡ true → p l ≡ true → P l
+found_kept : (P : Link → Type 0) (p : Link → Bool) (links : List Link) (l : Link) → AllByRecursion P (filter p links) → is_link_among links l ≡ true → p l ≡ true → P l
 found_kept P p [] l h here is = absurd (both_ways false refl here)
 found_kept P p (x ∷ links) l h here is =
     elim (p x) as (λ b. p x ≡ b → AllByRecursion P (cond b (x ∷ filter p links) (filter p links)) → P l) [
-      | true ↦ λ e all. elim (or_cases (eq_by_cmp link_cmp l x) (is_among links l) here) [
+      | true ↦ λ e all. elim (or_cases (eq_by_cmp link_cmp l x) (is_link_among links l) here) [
         | inl at ↦ subst P (sym (found_is l x at)) all.0
         | inr later ↦ found_kept P p links l all.1 later is
       ]
-      | false ↦ λ e all. elim (or_cases (eq_by_cmp link_cmp l x) (is_among links l) here) [
+      | false ↦ λ e all. elim (or_cases (eq_by_cmp link_cmp l x) (is_link_among links l) here) [
         | inl at ↦ absurd (both_ways false refl (sym (sym is ∙ ap p (found_is l x at) ∙ e)))
         | inr later ↦ found_kept P p links l all later is
       ]
@@ -194,8 +194,8 @@ adding_end links rest id old old_work new new_work a none =
 pub record IsClosing (links : List Link) (start ids : Ids) (work : List ℤ) : Type 0 where
   pub holds : Has start (set.contains ids)
   pub known : (x : ℤ) → is_in work x ≡ true → set.contains ids x ≡ true
-  pub done : (l : Link) → is_among links l ≡ true → set.contains ids l.member ≡ true → (is_in work l.member ≡ true) ⊎ (set.contains ids l.parent ≡ true)
-  pub least : (test : ℤ → Bool) → Has start test → IsClosed (is_among links) test → Has ids test
+  pub done : (l : Link) → is_link_among links l ≡ true → set.contains ids l.member ≡ true → (is_in work l.member ≡ true) ⊎ (set.contains ids l.parent ≡ true)
+  pub least : (test : ℤ → Bool) → Has start test → IsClosed (is_link_among links) test → Has ids test
 
 pub closing_start : (links : List Link) (start : Ids) (work : List ℤ) → ids_of work ≡ start → IsClosing links start start work
 closing_start links start work e =
@@ -226,7 +226,7 @@ closing_more links start ids new work new_work id c a =
       least = λ test has closed. a.only test closed (c.least test has closed id at_id) (c.least test has closed);
     }
 
-pub closing_end : (links : List Link) (start ids : Ids) (work : List ℤ) → IsClosing links start ids work → work ≡ [] → IsLeast (is_among links) start ids
+pub closing_end : (links : List Link) (start ids : Ids) (work : List ℤ) → IsClosing links start ids work → work ≡ [] → IsLeast (is_link_among links) start ids
 closing_end links start ids work c none =
     record {
       holds = c.holds;

@@ -7,7 +7,7 @@ use Rattle.std.proofs.Math.Seq.{drop-append_seam, take-append_seam}
 use Rattle.osm_ids.specs.declared.pages.PageStart.{PageStart}
 use Rattle.pbf_wire.specs.Varint.{shortest}
 use Rattle.pbf_wire.specs.Packed.{numbers_of}
-use Rattle.osm_ids.specs.Pages.{gap, Page, page_ids, page_bytes, ids_of_pages, bytes_of_pages, starts_from, IsFilled, Rises, IsRising, AllFit, raised, ids_in, IsSealed}
+use Rattle.osm_ids.specs.Pages.{gap, Page, page_ids, page_bytes, ids_of_pages, bytes_of_pages, starts_from, HasFullPages, Rises, IsRising, AllFit, raised, ids_in, IsSealed}
 use Rattle.osm_ids.proofs.Rising.{rises_front, rising_tail}
 use Rattle.osm_ids.proofs.Gaps.{spelled_after, read_spelled}
 
@@ -88,7 +88,7 @@ open-with_id (page ∷ []) room last id h = (omega (arith, length-append page.ot
 open-with_id (page ∷ next ∷ []) room last id h = (h.0, open-with_id (next ∷ []) room last id h.1)
 open-with_id (page ∷ next ∷ more ∷ pages) room last id h = (h.0, open-with_id (next ∷ more ∷ pages) room last id h.1)
 
-pub filled_from_open : (pages : List Page) (room : ℕ) (last : ℤ) → IsOpen pages room last → IsFilled pages
+pub filled_from_open : (pages : List Page) (room : ℕ) (last : ℤ) → IsOpen pages room last → HasFullPages pages
 filled_from_open [] room last h = tt
 filled_from_open (page ∷ []) room last h = omega (arith, h.0)
 filled_from_open (page ∷ next ∷ pages) room last h = (h.0, filled_from_open (next ∷ pages) room last h.1)
@@ -142,7 +142,7 @@ pub record Sized (ids pages : ℕ) : Type 0 where
   pub some : 0 < rest
   pub most : rest ≤ 128
 
-sized : (at : ℕ) (page : Page) (pages : List Page) → IsFilled (page ∷ pages) → Sized (length (ids_of_pages (page ∷ pages))) (length (starts_from at (page ∷ pages)))
+sized : (at : ℕ) (page : Page) (pages : List Page) → HasFullPages (page ∷ pages) → Sized (length (ids_of_pages (page ∷ pages))) (length (starts_from at (page ∷ pages)))
 sized at page [] h = record { full = 0; rest = 1 + length page.others; count = omega arith; size = ap (λ s. length (page.first ∷ s)) (append-nil page.others) ∙ omega arith; some = omega arith; most = omega (arith, h) }
 sized at page (next ∷ pages) h =
     let r = sized (at + length (page_bytes page)) next pages h.1 in
@@ -160,6 +160,6 @@ ceil_of ids pages s =
     let full = s.full in let rest = s.rest in let a = s.count in let b = s.size in let d = s.some in let e = s.most in
     omega arith
 
-pub pages_is : (at : ℕ) (pages : List Page) → IsFilled pages → length (starts_from at pages) ≡ div_ceil (length (ids_of_pages pages)) 128
+pub pages_is : (at : ℕ) (pages : List Page) → HasFullPages pages → length (starts_from at pages) ≡ div_ceil (length (ids_of_pages pages)) 128
 pages_is at [] h = refl
 pages_is at (page ∷ pages) h = ceil_of (length (ids_of_pages (page ∷ pages))) (length (starts_from at (page ∷ pages))) (sized at page pages h)

@@ -9,7 +9,7 @@ use Rattle.std.proofs.lemmas.Int.{ints}
 use Rattle.std.proofs.lemmas.List.{append-nil}
 use Rattle.osm_ids.specs.declared.pages.PageStart.{PageStart}
 use Rattle.pbf_wire.specs.Varint.{shortest}
-use Rattle.osm_ids.specs.Pages.{gap, Page, page_ids, page_bytes, ids_of_pages, bytes_of_pages, starts_from, IsFilled, Rises, IsRising, AllFit, ids_in, IsSealed}
+use Rattle.osm_ids.specs.Pages.{gap, Page, page_ids, page_bytes, ids_of_pages, bytes_of_pages, starts_from, HasFullPages, Rises, IsRising, AllFit, ids_in, IsSealed}
 use Rattle.osm_ids.specs.Order.{IsAbove, IsGreatest}
 use Rattle.osm_ids.proofs.Sets.{ids_of, contains-ids_of}
 use Rattle.osm_ids.proofs.Gaps.{spelled_after, gap-lt, shortest_some}
@@ -71,7 +71,7 @@ pub record Room (pages : List Page) (last : ℤ) (count : ℕ) : Type 0 where
 fits_page : (others count : ℕ) → others ≤ 127 → count ≡ suc others → (count % 128 ≡ 0 → 127 - others ≡ 0) × (0 < count % 128 → 0 < 127 - others)
 fits_page others count few e = (λ z. omega arith, λ p. omega arith)
 
-pub room_of : (pages : List Page) (last : ℤ) → IsFilled pages → EndsWith (ids_of_pages pages) last → Room pages last (length (ids_of_pages pages))
+pub room_of : (pages : List Page) (last : ℤ) → HasFullPages pages → EndsWith (ids_of_pages pages) last → Room pages last (length (ids_of_pages pages))
 room_of [] last h e = record { room = 0; unfinished = refl; full = λ _. refl; some = λ p. absurd (omega (arith, p)) }
 room_of (page ∷ []) last h e =
     let count : length (ids_of_pages (page ∷ [])) ≡ suc (length page.others) = ap length (append-nil (page_ids page)) in

@@ -11,7 +11,7 @@ use Rattle.std.proofs.lemmas.Int.{ints}
 use Rattle.std.proofs.lemmas.Bool.{or_cases, or_left, or_right}
 use Rattle.std.proofs.lemmas.Bool.Decides.{Decides-int_eq}
 use Rattle.osm_ids.specs.declared.links.Link.{Link}
-use Rattle.osm_ids.specs.Links.{link_cmp, is_among, is_of, ParentsFit}
+use Rattle.osm_ids.specs.Links.{link_cmp, is_link_among, is_of, ParentsFit}
 use Rattle.osm_ids.proofs.Rising.{other_above, other_below}
 use Rattle.osm_ids.proofs.Sets.{any-insert_key, from_list-insert_key}
 
@@ -35,7 +35,7 @@ link_cmp-IsAntisymmetric a b e =
     same_link a b (set.int_cmp-IsAntisymmetric a.member b.member parts.0) (set.int_cmp-IsAntisymmetric a.parent b.parent parts.1)
 
 -- the test of a set of links is the test of its keys
-pub contains-links : (links : List Link) → set.contains (set.from_list {R = link_cmp} links) ≡ is_among links
+pub contains-links : (links : List Link) → set.contains (set.from_list {R = link_cmp} links) ≡ is_link_among links
 contains-links links = λ i l. set.contains-from_list link_cmp_total links l i
 
 pub links-insert_key : (links : List Link) (new : Link) → set.from_list {R = link_cmp} (insert_key link_cmp links new) ≡ set.insert (set.from_list links) new
@@ -52,7 +52,7 @@ found_is l x e = link_cmp-IsAntisymmetric l x (alike (link_cmp l x) e)
 
 pub fit_more : (links : List Link) (new : Link) → ParentsFit links → FitsSigned w64 new.parent → ParentsFit (insert_key link_cmp links new)
 fit_more links new fit f l h =
-    elim (or_cases (eq_by_cmp link_cmp l new) (is_among links l) (sym (any-insert_key link_cmp_total link_cmp-IsAntisymmetric links new l) ∙ h)) [
+    elim (or_cases (eq_by_cmp link_cmp l new) (is_link_among links l) (sym (any-insert_key link_cmp_total link_cmp-IsAntisymmetric links new l) ∙ h)) [
       | inl e ↦ subst (λ (x : Link). FitsSigned w64 x.parent) (sym (found_is l new e)) f
       | inr e ↦ fit l e
     ]
@@ -85,26 +85,26 @@ between_is id lo hi l low high =
     ] refl
 
 module _ (p q : Link → Bool) where
-  alike_kept : (links : List Link) → ((l : Link) → is_among links l ≡ true → p l ≡ q l) → filter p links ≡ filter q links
+  alike_kept : (links : List Link) → ((l : Link) → is_link_among links l ≡ true → p l ≡ q l) → filter p links ≡ filter q links
   alike_kept [] h = refl
   alike_kept (x ∷ links) h =
-      let here = h x (or_left (eq_by_cmp link_cmp x x) (is_among links x) (ap is_eq (tied_itself link_cmp_total x))) in
-      let rest = alike_kept links (λ l e. h l (or_right (eq_by_cmp link_cmp l x) (is_among links l) e)) in
+      let here = h x (or_left (eq_by_cmp link_cmp x x) (is_link_among links x) (ap is_eq (tied_itself link_cmp_total x))) in
+      let rest = alike_kept links (λ l e. h l (or_right (eq_by_cmp link_cmp l x) (is_link_among links l) e)) in
       ap (λ b. cond b (x ∷ filter p links) (filter p links)) here ∙ ap (λ ls. cond (q x) (x ∷ ls) ls) rest
 
-pub links_between : (links : List Link) (id lo hi : ℤ) → ((l : Link) → is_among links l ≡ true → (lo ≤ℤ l.parent) × (l.parent ≤ℤ hi)) → filter (range_contains link_cmp (Included (link_of id lo)) (Included (link_of id hi))) links ≡ filter (is_of id) links
+pub links_between : (links : List Link) (id lo hi : ℤ) → ((l : Link) → is_link_among links l ≡ true → (lo ≤ℤ l.parent) × (l.parent ≤ℤ hi)) → filter (range_contains link_cmp (Included (link_of id lo)) (Included (link_of id hi))) links ≡ filter (is_of id) links
 links_between links id lo hi fit = alike_kept _ _ links (λ l e. between_is id lo hi l (fit l e).0 (fit l e).1)
 
 -- each link that a filter keeps passes the test and is among the links
-pub all_kept : (p : Link → Bool) (links : List Link) → AllByRecursion (λ l. (p l ≡ true) × (is_among links l ≡ true)) (filter p links)
+pub all_kept : (p : Link → Bool) (links : List Link) → AllByRecursion (λ l. (p l ≡ true) × (is_link_among links l ≡ true)) (filter p links)
 all_kept p [] = tt
 all_kept p (x ∷ links) =
     let rest = weaken (filter p links) (all_kept p links) in
-    elim (p x) as (λ b. p x ≡ b → AllByRecursion (λ l. (p l ≡ true) × (is_among (x ∷ links) l ≡ true)) (cond b (x ∷ filter p links) (filter p links))) [
-      | true ↦ λ e. ((e, or_left (eq_by_cmp link_cmp x x) (is_among links x) (ap is_eq (tied_itself link_cmp_total x))), rest)
+    elim (p x) as (λ b. p x ≡ b → AllByRecursion (λ l. (p l ≡ true) × (is_link_among (x ∷ links) l ≡ true)) (cond b (x ∷ filter p links) (filter p links))) [
+      | true ↦ λ e. ((e, or_left (eq_by_cmp link_cmp x x) (is_link_among links x) (ap is_eq (tied_itself link_cmp_total x))), rest)
       | false ↦ λ _. rest
     ] refl
   where
-    weaken : (ls : List Link) → AllByRecursion (λ l. (p l ≡ true) × (is_among links l ≡ true)) ls → AllByRecursion (λ l. (p l ≡ true) × (is_among (x ∷ links) l ≡ true)) ls
+    weaken : (ls : List Link) → AllByRecursion (λ l. (p l ≡ true) × (is_link_among links l ≡ true)) ls → AllByRecursion (λ l. (p l ≡ true) × (is_link_among (x ∷ links) l ≡ true)) ls
     weaken [] h = tt
-    weaken (l ∷ ls) h = ((h.0.0, or_right (eq_by_cmp link_cmp l x) (is_among links l) h.0.1), weaken ls h.1)
+    weaken (l ∷ ls) h = ((h.0.0, or_right (eq_by_cmp link_cmp l x) (is_link_among links l) h.0.1), weaken ls h.1)

@@ -3,7 +3,7 @@ use Rattle.std.proofs.Common.{◌≡◌, ℕ, zero, suc, ◌≤◌, List, [], �
 use Rattle.std.proofs.lemmas.List.{append-nil, take_all, length-take, length-take-le}
 use Rattle.std.proofs.Math.Seq.{take-append_seam, drop-nil}
 use Rattle.std.proofs.lemmas.Bool.{cases_lt}
-use Rattle.osm_ids.specs.Pages.{Page, page_ids, ids_of_pages, pages_past, pages_of, IsFilled}
+use Rattle.osm_ids.specs.Pages.{Page, page_ids, ids_of_pages, pages_past, pages_of, HasFullPages}
 
 -- ids that are skipped begin no page
 past_all : (ids : List ℤ) (skip : ℕ) → length ids ≤ skip → pages_past skip ids ≡ []
@@ -37,7 +37,7 @@ last_page page few =
     ∙ ap (λ (pages : List Page). page ∷ pages) (past_all page.others 127 few)
 
 -- filled pages are the pages of their ids
-pub pages_of-ids : (pages : List Page) → IsFilled pages → pages_of (ids_of_pages pages) ≡ pages
+pub pages_of-ids : (pages : List Page) → HasFullPages pages → pages_of (ids_of_pages pages) ≡ pages
 unfolding pages_past
 pages_of-ids [] h = refl
 pages_of-ids (page ∷ []) h = ap pages_of (append-nil (page_ids page)) ∙ last_page page h
@@ -54,11 +54,11 @@ ids-past zero (id ∷ ids) = ap (λ (rest : List ℤ). id ∷ (take 127 ids ++ r
 pub ids-pages_of : (ids : List ℤ) → ids_of_pages (pages_of ids) ≡ ids
 ids-pages_of ids = ids-past 0 ids
 
-filled_cons : (page : Page) (pages : List Page) → length page.others ≡ 127 → IsFilled pages → IsFilled (page ∷ pages)
+filled_cons : (page : Page) (pages : List Page) → length page.others ≡ 127 → HasFullPages pages → HasFullPages (page ∷ pages)
 filled_cons page [] full h = omega arith
 filled_cons page (next ∷ pages) full h = (full, h)
 
-filled_past : (skip : ℕ) (ids : List ℤ) → IsFilled (pages_past skip ids)
+filled_past : (skip : ℕ) (ids : List ℤ) → HasFullPages (pages_past skip ids)
 unfolding pages_past
 filled_past skip [] = tt
 filled_past (suc skip) (id ∷ ids) = filled_past skip ids
@@ -66,8 +66,8 @@ filled_past zero (id ∷ ids) =
     let page : Page = record { first = id; others = take 127 ids } in
     elim (cases_lt 127 (length ids)) [
       | inl more ↦ filled_cons page (pages_past 127 ids) (length-take-le 127 ids (omega arith)) (filled_past 127 ids)
-      | inr few ↦ subst (λ (pages : List Page). IsFilled (page ∷ pages)) (sym (past_all ids 127 few)) (omega (arith, length-take 127 ids))
+      | inr few ↦ subst (λ (pages : List Page). HasFullPages (page ∷ pages)) (sym (past_all ids 127 few)) (omega (arith, length-take 127 ids))
     ]
 
-pub filled_pages_of : (ids : List ℤ) → IsFilled (pages_of ids)
+pub filled_pages_of : (ids : List ℤ) → HasFullPages (pages_of ids)
 filled_pages_of ids = filled_past 0 ids

@@ -6,7 +6,7 @@ use Rattle.std.proofs.lemmas.Int.{ints}
 use Rattle.std.proofs.lemmas.Grind.{flat_map-append}
 use Rattle.std.proofs.lemmas.List.Folds.{list_any-append}
 use Rattle.osm_ids.specs.declared.pages.PageStart.{PageStart}
-use Rattle.osm_ids.specs.Pages.{Page, page_ids, ids_of_pages, Rises, IsRising, IsFilled, IsSealed, ids_in}
+use Rattle.osm_ids.specs.Pages.{Page, page_ids, ids_of_pages, Rises, IsRising, HasFullPages, IsSealed, ids_in}
 use Rattle.osm_ids.proofs.Found.{page_at}
 use Rattle.osm_ids.proofs.Laid.{ids_in_sealed}
 use Rattle.osm_ids.proofs.Rising.{cases_order, first_among, rising_back}
@@ -38,7 +38,7 @@ no_gap low (y ∷ ids) high back x h room above below =
     ]
 
 -- each page but the last has 128 ids
-filled_at : (before : List Page) (page later : Page) (rest : List Page) → IsFilled (before ++ page ∷ later ∷ rest) → length page.others ≡ 127
+filled_at : (before : List Page) (page later : Page) (rest : List Page) → HasFullPages (before ++ page ∷ later ∷ rest) → length page.others ≡ 127
 filled_at [] page later rest h = h.0
 filled_at (p ∷ []) page later rest h = h.1.0
 filled_at (p ∷ q ∷ before) page later rest h = filled_at (q ∷ before) page later rest h.1
@@ -60,7 +60,7 @@ whole_at index bytes pages j start next id sealed lt is follows room low high =
           let back = later.others ++ ids_of_pages more.1 in
           let second : next.first ≡ later.first = ap (λ (s : PageStart). s.first) (follows ∙ ap (λ i. get_or i (suc j) next) starts ∙ more.4 next) in
           let whole : pages ≡ r.before ++ page ∷ later ∷ more.1 = r.whole ∙ ap (λ a. r.before ++ page ∷ a) more.2 in
-          let full = filled_at r.before page later more.1 (subst IsFilled whole sealed.filled) in
+          let full = filled_at r.before page later more.1 (subst HasFullPages whole sealed.filled) in
           let parts : ids_of_pages pages ≡ ids_of_pages r.before ++ (page_ids page ++ (later.first ∷ back)) = ap ids_of_pages whole ∙ flat_map-append page_ids r.before (page ∷ later ∷ more.1) in
           let rises = rising_back (ids_of_pages r.before) page.first (page.others ++ (later.first ∷ back)) (subst IsRising parts sealed.rising) in
           let there : list_any (int_eq id) (page_ids page) ≡ true = elim (cases_order id page.first) [

@@ -33,8 +33,8 @@ pub record IsLeast (is_link : Link → Bool) (start ids : set.FinSet int_cmp) : 
 
 -- ---- following the links of one id
 
-abbrev pub is_among : List Link → Link → Bool
-is_among links l = list_any (eq_by_cmp link_cmp l) links
+abbrev pub is_link_among : List Link → Link → Bool
+is_link_among links l = list_any (eq_by_cmp link_cmp l) links
 
 -- whether it is a link of the id
 abbrev pub is_of : ℤ → Link → Bool
@@ -45,8 +45,8 @@ abbrev pub is_in : List ℤ → ℤ → Bool
 is_in work id = list_any (int_eq id) work
 
 -- links whose parent the set lacks
-abbrev pub missing : List Link → set.FinSet int_cmp → ℕ
-missing links ids = count_by (λ (l : Link). not (set.contains ids l.parent)) links
+abbrev pub missing_parents : List Link → set.FinSet int_cmp → ℕ
+missing_parents links ids = count_by (λ (l : Link). not (set.contains ids l.parent)) links
 
 -- the parents of an id are added, each new one to the work
 pub record IsAdded (links : List Link) (id : ℤ) (old : set.FinSet int_cmp) (old_work : List ℤ) (new : set.FinSet int_cmp) (new_work : List ℤ) : Type 0 where
@@ -54,10 +54,10 @@ pub record IsAdded (links : List Link) (id : ℤ) (old : set.FinSet int_cmp) (ol
   pub fresh : (x : ℤ) → set.contains new x ≡ true → (set.contains old x ≡ true) ⊎ (is_in new_work x ≡ true)
   pub kept : (x : ℤ) → is_in old_work x ≡ true → is_in new_work x ≡ true
   pub known : (x : ℤ) → is_in new_work x ≡ true → (is_in old_work x ≡ true) ⊎ (set.contains new x ≡ true)
-  pub parents : (l : Link) → is_among links l ≡ true → l.member ≡ id → set.contains new l.parent ≡ true
-  pub only : (test : ℤ → Bool) → IsClosed (is_among links) test → test id ≡ true → Has old test → Has new test
-  pub work : 2 * missing links new + length new_work ≤ 2 * missing links old + length old_work
+  pub parents : (l : Link) → is_link_among links l ≡ true → l.member ≡ id → set.contains new l.parent ≡ true
+  pub only : (test : ℤ → Bool) → IsClosed (is_link_among links) test → test id ≡ true → Has old test → Has new test
+  pub work : 2 * missing_parents links new + length new_work ≤ 2 * missing_parents links old + length old_work
 
 -- the parents are numbers of 64 bits
 abbrev pub ParentsFit : List Link → Type 0
-ParentsFit links = (l : Link) → is_among links l ≡ true → FitsSigned w64 l.parent
+ParentsFit links = (l : Link) → is_link_among links l ≡ true → FitsSigned w64 l.parent

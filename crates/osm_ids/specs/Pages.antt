@@ -30,10 +30,10 @@ abbrev pub pages_of : List ℤ → List Page
 pages_of ids = pages_past 0 ids
 
 -- every page but the last has 128 ids, and the last at most as many
-abbrev pub IsFilled : List Page → Type 0
-IsFilled [] = Unit {0}
-IsFilled (page ∷ []) = length page.others ≤ 127
-IsFilled (page ∷ next ∷ pages) = (length page.others ≡ 127) × IsFilled (next ∷ pages)
+abbrev pub HasFullPages : List Page → Type 0
+HasFullPages [] = Unit {0}
+HasFullPages (page ∷ []) = length page.others ≤ 127
+HasFullPages (page ∷ next ∷ pages) = (length page.others ≡ 127) × HasFullPages (next ∷ pages)
 
 -- ---- their bytes
 
@@ -90,6 +90,6 @@ AllFit (id ∷ ids) = FitsSigned w64 id × AllFit ids
 pub record IsSealed (index : List PageStart) (bytes : List ℕ) (pages : List Page) : Type 0 where
   pub starts : index ≡ starts_from 0 pages
   pub spelled : bytes ≡ bytes_of_pages pages
-  pub filled : IsFilled pages
+  pub filled : HasFullPages pages
   pub rising : IsRising (ids_of_pages pages)
   pub fits : AllFit (ids_of_pages pages)

@@ -17,7 +17,7 @@ use Rattle.osm_entity.specs.Ranges.{EntityFits}
 use Rattle.osm_entity.specs.Weight.{entity_weight}
 use Rattle.osm_entity.proofs.TextCounts.{node_count, way_count, relation_count}
 use Rattle.pbf_dense.specs.declared.dense_out.DenseOut.{DenseOut}
-use Rattle.pbf_dense.specs.WrittenDense.{HoldsNodes, columns_of, columns_held, dense_message, info_message, dense_length}
+use Rattle.pbf_dense.specs.WrittenDense.{HoldsNodes, columns_of, columns_held, dense_message, dense_info_message, dense_length}
 use Rattle.pbf_block.specs.WrittenBlock.{are_alike, is_block, nodes_among, ways_among, relations_among, texts_of_all, messages_among, group_message, scale_among, block_slots, block_message}
 use Rattle.pbf_block.specs.declared.entity_out.EntityOut.{EntityOut}
 use Rattle.pbf_block.specs.WrittenEntity.{way_message, relation_message, writer_length, most_way_held, most_relation_held}
@@ -191,7 +191,7 @@ messages_relation texts es r =
     rw (ways_relation es r, relations_relation es r, append_assoc) (ap (λ (bs : List ℕ). slot_bytes (Each 3 (map (way_message texts) (ways_among es))) ++ bs) (pushed 4 (relation_message texts) (relations_among es) r))
 
 no_dense : (texts : List (List ℕ)) → dense_message texts [] ≡ []
-unfolding dense_message info_message message
+unfolding dense_message dense_info_message message
 no_dense texts = refl
 
 group_parts : (texts : List (List ℕ)) (es : List EntitySpec) → group_message texts es ≡ slot_bytes (Each 2 (unless_empty (dense_message texts (nodes_among es)))) ++ messages_among texts es

@@ -4,7 +4,7 @@ use Rattle.std.specs.Option.{is_some}
 use Rattle.osm_entity.specs.declared.member.MemberKind.{MemberKind}
 use Rattle.osm_entity.specs.declared.member.MemberKind.TheVariants as kind
 use Rattle.osm_entity.specs.Entity.{MetaSpec, EntitySpec, node, way, relation}
-use Rattle.pbf_block.specs.WrittenBlock.{both, same_scale}
+use Rattle.pbf_block.specs.WrittenBlock.{iff, same_scale}
 use Rattle.osm_pack.specs.declared.likeness.PresentFields.{PresentFields}
 use Rattle.osm_pack.specs.declared.likeness.Likeness.{Likeness}
 
@@ -36,8 +36,8 @@ same_kind _ _ = false
 
 abbrev pub same_present : PresentFields → PresentFields → Bool
 same_present f g =
-    both f.version g.version && both f.timestamp g.timestamp && both f.changeset g.changeset
-    && both f.uid g.uid && both f.user g.user && both f.visible g.visible
+    iff f.version g.version && iff f.timestamp g.timestamp && iff f.changeset g.changeset
+    && iff f.uid g.uid && iff f.user g.user && iff f.visible g.visible
 
 abbrev pub same_likeness : Likeness → Likeness → Bool
 same_likeness s t = same_kind s.kind t.kind && (same_scale s.scale t.scale && same_present s.fields t.fields)

@@ -37,6 +37,15 @@ has_header packer = packer.begun
 abbrev pub packer_held : {D S H : Type 0} → Packing D S H → ℕ
 packer_held packer = block_held packer.block
 
+-- what each call that writes promises, whatever it writes: after a stop, which has its cause, it is spent, and returns its stop again while the
+-- drain is as it was; the drain's count of failures doesn't fall, and it keeps its references
+pub record UsesPacker {D S H X : Type 0} (d : drain.Ghosts D) (old new : Packing D S H) (result : Result X Stop) : Type 0 where
+  pub stopped : IfErr result (HasStopped new)
+  pub stops : IsPacking old → IfErr result (IsPackStop (d.failures old.drain) (d.failures new.drain))
+  pub counts : d.failures old.drain ≤ d.failures new.drain
+  pub lender : d.lender new.drain ≡ d.lender old.drain
+  pub spent : (stop : Stop) → HasStopped old stop → (result ≡ Err stop) × (new.drain ≡ old.drain)
+
 -- what `push` promises, of a call to which the weight is given
 pub record Pushes {D S H X : Type 0} (d : drain.Ghosts D) (e : EntitySpec) (old new : Packing D S H) (result : Result X Stop) : Type 0 where
   pub header : has_header new ≡ true
@@ -44,8 +53,4 @@ pub record Pushes {D S H X : Type 0} (d : drain.Ghosts D) (e : EntitySpec) (old 
   pub written : (es : List EntitySpec) → Pending old es → OnOk result (Added d old.drain (then_written es e) new.drain)
   pub packing : OnOk result (IsPacking old × IsPacking new)
   pub front : IsPacking old → (es : List EntitySpec) → Pending old es → IsFront (d.taken old.drain) (d.taken new.drain) (then_written es e)
-  pub stopped : IfErr result (HasStopped new)
-  pub stops : IsPacking old → IfErr result (IsPackStop (d.failures old.drain) (d.failures new.drain))
-  pub counts : d.failures old.drain ≤ d.failures new.drain
-  pub lender : d.lender new.drain ≡ d.lender old.drain
-  pub spent : (stop : Stop) → HasStopped old stop → (result ≡ Err stop) × (new.drain ≡ old.drain)
+  pub uses : UsesPacker d old new result

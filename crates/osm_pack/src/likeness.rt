@@ -3,14 +3,14 @@
 ghost use Rattle.std.specs.Prelude.{◌≡◌, ◌&&◌};
 ghost use Rattle.std.specs.Ordering.{int_eq};
 ghost use Rattle.osm_entity.specs.Views.{meta_of, entity_of};
-ghost use Rattle.pbf_block.specs.WrittenBlock.{both, same_scale};
+ghost use Rattle.pbf_block.specs.WrittenBlock.{iff, same_scale};
 ghost use Rattle.osm_pack.specs.Likenesses.{present_fields, no_fields, likeness_of, same_kind, same_present, same_likeness};
 
 use osm_entity::{EntityRef, MemberKind, MetaRef, Scale};
 
 /// Whether both are so, or neither is.
-fn both(one: bool, other: bool) -> bool
-    ensures { result ≡ both one other }
+fn iff(one: bool, other: bool) -> bool
+    ensures { result ≡ iff one other }
 {
     if one { other } else { !other }
 }
@@ -59,12 +59,12 @@ impl PresentFields {
     fn same(self, other: PresentFields) -> bool
         ensures { result ≡ same_present self other }
     {
-        both(self.version, other.version)
-            && both(self.timestamp, other.timestamp)
-            && both(self.changeset, other.changeset)
-            && both(self.uid, other.uid)
-            && both(self.user, other.user)
-            && both(self.visible, other.visible)
+        iff(self.version, other.version)
+            && iff(self.timestamp, other.timestamp)
+            && iff(self.changeset, other.changeset)
+            && iff(self.uid, other.uid)
+            && iff(self.user, other.user)
+            && iff(self.visible, other.visible)
     }
 }
 

@@ -41,20 +41,18 @@ impl<D: Drain, S: BuildHasher> Model for Packer<D, S> {
 }
 
 impl<D: Drain, S: BuildHasher> Packer<D, S> {
-    ghost use Rattle.std.specs.Prelude.{◌≡◌, ◌+◌, ◌≤◌, [], List, true, false, Err, IfErr, OnOk};
+    ghost use Rattle.std.specs.Prelude.{◌≡◌, ◌+◌, ◌≤◌, [], List, true, false, OnOk};
     ghost use Rattle.osm_entity.specs.Entity.{EntitySpec};
     ghost use Rattle.osm_entity.specs.Ranges.{EntityFits};
     ghost use Rattle.osm_entity.specs.Views.{entity_of};
     ghost use Rattle.pbf_header.specs.Header.{header_of};
     ghost use Rattle.osm_entity.specs.Weight.{entity_weight, text_weight};
     ghost use Rattle.pbf_header.specs.declared.write.TheConstants.{MOST_HEADER_TEXT};
-    ghost use Rattle.pbf_frame.specs.declared.stop.Stop.{Stop};
     ghost use Rattle.pbf_frame.specs.Devices.{IsFront};
     ghost use Rattle.pbf_frame.specs.Transfers.{Added};
     ghost use Rattle.osm_pack.specs.Cuts.{header_frame, then_pending, then_written, at_end};
     ghost use Rattle.osm_pack.specs.declared.open_block.TheConstants.{MOST_HELD};
-    ghost use Rattle.osm_pack.specs.Stops.{IsPackStop};
-    ghost use Rattle.osm_pack.specs.Packing.{Pending, Pushes, IsPacking, HasStopped, has_header, packer_held};
+    ghost use Rattle.osm_pack.specs.Packing.{Pending, Pushes, UsesPacker, IsPacking, has_header, packer_held};
 
     /// A packer over a drain, with no header and no entities yet. The input is untrusted, so the hasher should be seeded.
     pub fn new(alloc: Global, drain: D, hasher: S) -> Packer<D, S>
@@ -111,18 +109,9 @@ impl<D: Drain, S: BuildHasher> Packer<D, S> {
         ensures front { IsPacking self.old
             → IsFront (D.taken self.old.drain) (D.taken self.new.drain)
             (header_frame (header_of header.now)) }
-        // After a stop the packer is spent.
-        ensures stopped { IfErr result (HasStopped self.new) }
-        // `Write` comes only if the drain's count of failures rose; any other stop is `Memory`.
-        ensures stops { IsPacking self.old
-            → IfErr result (IsPackStop (D.failures self.old.drain) (D.failures self.new.drain)) }
-        // The drain's count of failures doesn't fall.
-        ensures counts { D.failures self.old.drain ≤ D.failures self.new.drain }
-        // The drain keeps its references.
-        ensures lender { D.lender self.new.drain ≡ D.lender self.old.drain }
-        // A spent packer returns its stop again, and the drain is as it was.
-        ensures spent { (stop : Stop) → HasStopped self.old stop
-            → (result ≡ Err stop) × (self.new.drain ≡ self.old.drain) }
+        // After a stop the packer is spent: it returns the same stop again, and the drain is as it was. `Write` comes only if the drain's count
+        // of failures rose; any other stop is `Memory`. The drain keeps its references, and its count of failures doesn't fall.
+        ensures uses { UsesPacker D.Drain self.old self.new result }
     {
         self.begun = true;
         if let Some(stop) = self.stop {
@@ -160,18 +149,9 @@ impl<D: Drain, S: BuildHasher> Packer<D, S> {
         ensures front { IsPacking self.old → (es : List EntitySpec) → Pending self.old es
             → IsFront (D.taken self.old.drain) (D.taken self.new.drain)
             (then_written es (entity_of entity.now)) }
-        // After a stop the packer is spent.
-        ensures stopped { IfErr result (HasStopped self.new) }
-        // `Write` comes only if the drain's count of failures rose; any other stop is `Memory`.
-        ensures stops { IsPacking self.old
-            → IfErr result (IsPackStop (D.failures self.old.drain) (D.failures self.new.drain)) }
-        // The drain's count of failures doesn't fall.
-        ensures counts { D.failures self.old.drain ≤ D.failures self.new.drain }
-        // The drain keeps its references.
-        ensures lender { D.lender self.new.drain ≡ D.lender self.old.drain }
-        // A spent packer returns its stop again, and the drain is as it was.
-        ensures spent { (stop : Stop) → HasStopped self.old stop
-            → (result ≡ Err stop) × (self.new.drain ≡ self.old.drain) }
+        // After a stop the packer is spent: it returns the same stop again, and the drain is as it was. `Write` comes only if the drain's count
+        // of failures rose; any other stop is `Memory`. The drain keeps its references, and its count of failures doesn't fall.
+        ensures uses { UsesPacker D.Drain self.old self.new result }
     {
         self.push_weighed(entity, entity.weight())
     }
@@ -212,18 +192,9 @@ impl<D: Drain, S: BuildHasher> Packer<D, S> {
         // What went out is a prefix of what was to be written.
         ensures front { IsPacking self.old → (es : List EntitySpec) → Pending self.old es
             → IsFront (D.taken self.old.drain) (D.taken self.new.drain) (at_end es) }
-        // After a stop the packer is spent.
-        ensures stopped { IfErr result (HasStopped self.new) }
-        // `Write` comes only if the drain's count of failures rose; any other stop is `Memory`.
-        ensures stops { IsPacking self.old
-            → IfErr result (IsPackStop (D.failures self.old.drain) (D.failures self.new.drain)) }
-        // The drain's count of failures doesn't fall.
-        ensures counts { D.failures self.old.drain ≤ D.failures self.new.drain }
-        // The drain keeps its references.
-        ensures lender { D.lender self.new.drain ≡ D.lender self.old.drain }
-        // A spent packer returns its stop again, and the drain is as it was.
-        ensures spent { (stop : Stop) → HasStopped self.old stop
-            → (result ≡ Err stop) × (self.new.drain ≡ self.old.drain) }
+        // After a stop the packer is spent: it returns the same stop again, and the drain is as it was. `Write` comes only if the drain's count
+        // of failures rose; any other stop is `Memory`. The drain keeps its references, and its count of failures doesn't fall.
+        ensures uses { UsesPacker D.Drain self.old self.new result }
     {
         if let Some(stop) = self.stop {
             return Err(stop);

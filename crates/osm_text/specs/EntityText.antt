@@ -79,10 +79,10 @@ start_text letter id = letter ∷ [] ++ spaced id
 unfoldable pub common_text : Bool → MetaSpec → List TagSpec → List ℕ
 common_text dates meta tags = meta_text dates meta ++ flat_map tag_text tags
 
-abbrev pub line_of : Bool → Decoded → List ℕ
-line_of dates (node_at id lat lon meta tags) = start_text 78 id ++ spaced_pair lat lon ++ common_text dates meta tags ++ 10 ∷ []
-line_of dates (way_through id meta tags refs locations) = start_text 87 id ++ common_text dates meta tags ++ refs_text refs locations ++ 10 ∷ []
-line_of dates (relation_among id meta tags members) = start_text 82 id ++ common_text dates meta tags ++ flat_map member_text members ++ 10 ∷ []
+abbrev pub decoded_line : Bool → Decoded → List ℕ
+decoded_line dates (node_at id lat lon meta tags) = start_text 78 id ++ spaced_pair lat lon ++ common_text dates meta tags ++ 10 ∷ []
+decoded_line dates (way_through id meta tags refs locations) = start_text 87 id ++ common_text dates meta tags ++ refs_text refs locations ++ 10 ∷ []
+decoded_line dates (relation_among id meta tags members) = start_text 82 id ++ common_text dates meta tags ++ flat_map member_text members ++ 10 ∷ []
 
 abbrev pub entity_line : Bool → EntitySpec → List ℕ
-entity_line dates e = line_of dates (decoded e)
+entity_line dates e = decoded_line dates (decoded e)

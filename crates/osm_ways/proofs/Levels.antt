@@ -6,7 +6,7 @@ use Rattle.std.specs.Cmp.{both_ways as same_answers}
 use Rattle.std.proofs.lemmas.Bool.{both_ways, or_cases, and_parts, cases_lt}
 use Rattle.std.proofs.lemmas.Bool.Decides.{Decides-int_eq}
 use Rattle.osm_ways.specs.Selection.{MemberSeen, node_member, way_member, relation_member, Seen, a_node, a_way, a_relation, IdTest, is_selecting, is_kept_relation}
-use Rattle.osm_ways.specs.Parents.{is_selected, selected, IsClosed, IsLeastSelected, levels}
+use Rattle.osm_ways.specs.Parents.{is_selected, selected, HasAllSelected, IsLeastSelected, levels}
 use Rattle.osm_ways.proofs.Filters.{any_weaker}
 
 pub and_true : (a b : Bool) → a ≡ true → b ≡ true → (a && b) ≡ true
@@ -132,7 +132,7 @@ module _ (nodes ways : IdTest) (seen : List Seen) where
         ]
       ]
 
-  level_least : (test : IdTest) → IsClosed nodes ways seen test → (n : ℕ) → Implies (level n) test
+  level_least : (test : IdTest) → HasAllSelected nodes ways seen test → (n : ℕ) → Implies (level n) test
   level_least test closed zero id e = absurd (both_ways false refl e)
   level_least test closed (suc n) id e = closed id (selected_more nodes ways seen (level n) test (level_least test closed n) id e)
 

@@ -9,7 +9,7 @@ use Rattle.std.proofs.lemmas.Bool.Decides.{Decides-int_eq}
 use Rattle.osm_ids.specs.declared.links.Link.{Link}
 use Rattle.osm_ids.specs.Links.{IsLeast}
 use Rattle.osm_ways.specs.Selection.{MemberSeen, node_member, way_member, relation_member, Seen, a_node, a_way, a_relation, IdTest, no_ids, box_ids, node_ids, way_ids, is_selecting, is_kept_relation, is_kept}
-use Rattle.osm_ways.specs.Parents.{is_selected, IsClosed, IsLeastSelected, relation_ids, keeps_with_parents, is_relation_member, has_link, links_in, start_in}
+use Rattle.osm_ways.specs.Parents.{is_selected, HasAllSelected, IsLeastSelected, relation_ids, keeps_with_parents, is_relation_member, has_link, links_in, start_in}
 use Rattle.osm_ways.proofs.Filters.{any_of_kept, any_unfiltered, any_weaker, any_found}
 use Rattle.osm_ways.proofs.Extracts.{kept, box_ids-kept, node_ids-kept, way_ids-kept, IsSettled}
 use Rattle.osm_ways.proofs.Levels.{Implies, and_true, kept_relation_more, selected_more, levels_are_least, least_alike}
@@ -36,7 +36,7 @@ module _ (seen : List Seen) where
   keep = is_kept (box_ids seen) nodes ways rels
 
   -- the list's least set is closed over a part of the list
-  closed_over_part : IsClosed nodes ways part rels
+  closed_over_part : HasAllSelected nodes ways part rels
   closed_over_part id e = (relation_ids_least seen).closed id (any_unfiltered (is_selected nodes ways rels id) keep seen e)
 
   selected_is_kept : (some : IdTest) → Implies some rels → (id : ℤ) (e : Seen) → is_selected nodes ways some id e ≡ true → keep e ≡ true
@@ -99,7 +99,7 @@ module _ (seen : List Seen) (start ids : set.FinSet int_cmp) (starts : set.conta
       (λ m linked has. h.closed (record { member = m; parent = id }) (among (has_link (record { member = m; parent = id })) (and_true _ _ parts.1 linked)) has)
 
   -- the closed set has the id of each relation with a member in it
-  by_links : IsClosed all_nodes all_ways seen (set.contains ids)
+  by_links : HasAllSelected all_nodes all_ways seen (set.contains ids)
   by_links id e = any_found (is_selected all_nodes all_ways (set.contains ids) id) (set.contains ids id ≡ true) seen e (by_relation id)
 
   selects : (id : ℤ) → relation_ids seen id ≡ true → (m : MemberSeen) → is_relation_member id m ≡ true → is_selecting all_nodes all_ways (relation_ids seen) m ≡ true

@@ -9,7 +9,7 @@ use Rattle.osm_ids.specs.Links.{link_cmp, IsLeast}
 use Rattle.osm_ids.proofs.LinkOrder.{link_cmp_total}
 use Rattle.osm_ways.specs.Selection.{MemberSeen, node_member, way_member, relation_member, Seen, a_node, a_way, a_relation, no_ids, box_ids, node_ids, way_ids, is_box_node, is_kept_way, is_kept_ref, is_kept_id, is_kept, keeps}
 use Rattle.osm_ways.specs.Parents.{is_selected, is_relation_member, links_in, start_in, keeps_with_parents}
-use Rattle.osm_ways.specs.Phases.{Ids, LinkSet, WaySets, RelationSets, with_way, with_link, with_relation, is_start, node_step, way_step, relation_step, start_ways, start_relations, node_pass, way_pass, relation_pass, without_parents, is_chosen}
+use Rattle.osm_ways.specs.Phases.{Ids, LinkSet, WaySets, RelationSets, sets_with_way, with_link, sets_with_relation, is_start, node_step, way_step, relation_step, start_ways, start_relations, node_pass, way_pass, relation_pass, without_parents, is_chosen}
 use Rattle.osm_ways.proofs.ParentLaws.{links_are_parents}
 
 -- what came first may go last
@@ -60,7 +60,7 @@ box_ids-way_pass : (sets : WaySets) (seen : List Seen) → (fold way_step sets s
 box_ids-way_pass sets [] = refl
 box_ids-way_pass sets (a_node own inside ∷ seen) = box_ids-way_pass sets seen
 box_ids-way_pass sets (a_way own refs ∷ seen) =
-    box_ids-way_pass (with_way sets own refs) seen
+    box_ids-way_pass (sets_with_way sets own refs) seen
     ∙ elim (is_kept_way (set.contains sets.box_ids) refs) as (λ b. (cond b (with_kept sets own refs) sets).box_ids ≡ sets.box_ids) [ true ↦ refl | false ↦ refl ]
 box_ids-way_pass sets (a_relation own members ∷ seen) = box_ids-way_pass sets seen
 
@@ -96,7 +96,7 @@ ways-relation_pass : (sets : RelationSets) (seen : List Seen) → (fold relation
 ways-relation_pass sets [] = refl
 ways-relation_pass sets (a_node own inside ∷ seen) = ways-relation_pass sets seen
 ways-relation_pass sets (a_way own refs ∷ seen) = ways-relation_pass sets seen
-ways-relation_pass sets (a_relation own members ∷ seen) = ways-relation_pass (with_relation sets own members) seen
+ways-relation_pass sets (a_relation own members ∷ seen) = ways-relation_pass (sets_with_relation sets own members) seen
 
 abbrev is_started : WaySets → ℤ → Seen → Bool
 is_started sets = is_selected (set.contains sets.node_ids) (set.contains sets.way_ids) no_ids
@@ -106,7 +106,7 @@ start-relation_pass sets [] id = or_none _
 start-relation_pass sets (a_node own inside ∷ seen) id = start-relation_pass sets seen id
 start-relation_pass sets (a_way own refs ∷ seen) id = start-relation_pass sets seen id
 start-relation_pass sets (a_relation own members ∷ seen) id =
-    start-relation_pass (with_relation sets own members) seen id
+    start-relation_pass (sets_with_relation sets own members) seen id
     ∙ elim (is_start sets.ways members) as (λ b. (set.contains (cond b (set.insert sets.start own) sets.start) id || list_any (is_started sets.ways id) seen) ≡ (set.contains sets.start id || ((b && int_eq id own) || list_any (is_started sets.ways id) seen))) [
       | true ↦ ap (λ b. b || list_any (is_started sets.ways id) seen) (contains-insert sets.start own id) ∙ or_later (int_eq id own) (set.contains sets.start id) _
       | false ↦ refl
@@ -148,7 +148,7 @@ links-relation_pass sets [] l = or_none _
 links-relation_pass sets (a_node own inside ∷ seen) l = links-relation_pass sets seen l
 links-relation_pass sets (a_way own refs ∷ seen) l = links-relation_pass sets seen l
 links-relation_pass sets (a_relation own members ∷ seen) l =
-    links-relation_pass (with_relation sets own members) seen l
+    links-relation_pass (sets_with_relation sets own members) seen l
     ∙ ap (λ b. b || links_in seen l) (contains-links own sets.links members l)
     ∙ or_assoc (set.contains sets.links l) _ _
 

@@ -14,13 +14,13 @@ is_selected _ _ _ _ _ = false
 abbrev pub selected : IdTest → IdTest → List Seen → IdTest → IdTest
 selected nodes ways seen relations id = list_any (is_selected nodes ways relations id) seen
 
-abbrev pub IsClosed : IdTest → IdTest → List Seen → IdTest → Type 0
-IsClosed nodes ways seen relations = (id : ℤ) → selected nodes ways seen relations id ≡ true → relations id ≡ true
+abbrev pub HasAllSelected : IdTest → IdTest → List Seen → IdTest → Type 0
+HasAllSelected nodes ways seen relations = (id : ℤ) → selected nodes ways seen relations id ≡ true → relations id ≡ true
 
 -- the least set of ids that has the id of each relation with a member in it, in the nodes or in the ways
 pub record IsLeastSelected (nodes ways : IdTest) (seen : List Seen) (relations : IdTest) : Type 0 where
-  pub closed : IsClosed nodes ways seen relations
-  pub least : (test : IdTest) → IsClosed nodes ways seen test → (id : ℤ) → relations id ≡ true → test id ≡ true
+  pub closed : HasAllSelected nodes ways seen relations
+  pub least : (test : IdTest) → HasAllSelected nodes ways seen test → (id : ℤ) → relations id ≡ true → test id ≡ true
 
 -- so many levels of parents
 abbrev pub levels : IdTest → IdTest → List Seen → ℕ → IdTest

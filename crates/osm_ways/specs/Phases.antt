@@ -70,11 +70,11 @@ ids_or_none (Some ids) = ids
 
 -- ---- what one entity adds
 
-abbrev pub with_node : Ids → ℤ → Bool → Ids
-with_node ids id inside = if inside then set.insert ids id else ids
+abbrev pub ids_with_node : Ids → ℤ → Bool → Ids
+ids_with_node ids id inside = if inside then set.insert ids id else ids
 
-abbrev pub with_way : WaySets → ℤ → List ℤ → WaySets
-with_way sets id refs =
+abbrev pub sets_with_way : WaySets → ℤ → List ℤ → WaySets
+sets_with_way sets id refs =
     if is_kept_way (set.contains sets.box_ids) refs then record sets { node_ids = fold set.insert sets.node_ids refs; way_ids = set.insert sets.way_ids id } else sets
 
 -- the link of a member to its relation
@@ -86,22 +86,22 @@ with_link _ links _ = links
 abbrev pub is_start : WaySets → List MemberSeen → Bool
 is_start sets members = is_kept_relation (set.contains sets.node_ids) (set.contains sets.way_ids) no_ids members
 
-abbrev pub with_relation : RelationSets → ℤ → List MemberSeen → RelationSets
-with_relation sets id members =
+abbrev pub sets_with_relation : RelationSets → ℤ → List MemberSeen → RelationSets
+sets_with_relation sets id members =
     record { ways = sets.ways; start = if is_start sets.ways members then set.insert sets.start id else sets.start; links = fold (with_link id) sets.links members }
 
 -- ---- the passes
 
 abbrev pub node_step : Ids → Seen → Ids
-node_step ids (a_node id inside) = with_node ids id inside
+node_step ids (a_node id inside) = ids_with_node ids id inside
 node_step ids _ = ids
 
 abbrev pub way_step : WaySets → Seen → WaySets
-way_step sets (a_way id refs) = with_way sets id refs
+way_step sets (a_way id refs) = sets_with_way sets id refs
 way_step sets _ = sets
 
 abbrev pub relation_step : RelationSets → Seen → RelationSets
-relation_step sets (a_relation id members) = with_relation sets id members
+relation_step sets (a_relation id members) = sets_with_relation sets id members
 relation_step sets _ = sets
 
 abbrev pub start_nodes : BoundingBox → NodeSets

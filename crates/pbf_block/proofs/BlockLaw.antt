@@ -29,8 +29,8 @@ use Rattle.osm_entity.specs.Ranges.{IsInt32, ScaleTyped}
 use Rattle.osm_entity.specs.Entity.{EntitySpec}
 use Rattle.pbf_block.specs.Group.{in_group, group_wire, group_structure, member_values, member_weights, member_entities}
 use Rattle.pbf_block.specs.declared.primitive_block.TheConstants.{STRINGTABLE, PRIMITIVEGROUP, BLOCK_KINDS, GRANULARITY, DATE_GRANULARITY, LAT_OFFSET, LON_OFFSET}
-use Rattle.pbf_block.specs.Scale.{number_or, scale_of, table_of}
-use Rattle.pbf_block.specs.PrimitiveBlock.{part_wire, wire_faults, table_structure, part_structure, structure_faults, value_faults, payload_weights, block_fault, positive, by_index, entities}
+use Rattle.pbf_block.specs.Scale.{number_or, scale_of, stored_texts}
+use Rattle.pbf_block.specs.PrimitiveBlock.{part_wire, wire_faults, table_structure, part_structure, structure_faults, value_faults, payload_weights, block_fault, positive, indexed, entities}
 use Rattle.pbf_block.specs.WrittenBlock.{unless_default, block_slots}
 use Rattle.pbf_block.specs.declared.scale.TheConstants.{DEFAULT_SCALE}
 use Rattle.pbf_wire.proofs.SlotLemmas.{none_of, scalar_given, last_given}
@@ -154,7 +154,7 @@ module _ (scale : Scale) (used : List (List ℕ)) (group : List ℕ) (es : List 
 
   -- ---- the table and the scale
 
-  table_is : (at : ℕ) → table_of (fields_in at (message (block_slots scale used group))) ≡ written_table used
+  table_is : (at : ℕ) → stored_texts (fields_in at (message (block_slots scale used group))) ≡ written_table used
   table_is at =
       let held = last_held STRINGTABLE at (block_slots scale used group) (table_message used) fits short refl only_table in
       ap (λ (o : Option Occurrence). texts (occurrence_text o)) held.2 ∙ table_read
@@ -197,7 +197,7 @@ module _ (scale : Scale) (used : List (List ℕ)) (group : List ℕ) (es : List 
       (scalar_given DATE_GRANULARITY _ (take 3 (block_slots scale used group)) (drop 4 (block_slots scale used group)) refl (tt, (tt, (refl, tt))) (refl, (refl, tt))) (positive_quiet DateGranularity scale.date_granularity typed.date_granularity fit.dates) in
       rw (places, dates, groups_good at) refl
 
-  pub values_sound : (at : ℕ) → value_faults (length (table_of (fields_in at (message (block_slots scale used group))))) at (message (block_slots scale used group)) ≡ []
+  pub values_sound : (at : ℕ) → value_faults (length (stored_texts (fields_in at (message (block_slots scale used group))))) at (message (block_slots scale used group)) ≡ []
   values_sound at = ap (λ (ts : List (List ℕ)). value_faults (length ts) at (message (block_slots scale used group))) (table_is at) ∙ values_good at
 
   -- ---- weights
@@ -205,9 +205,9 @@ module _ (scale : Scale) (used : List (List ℕ)) (group : List ℕ) (es : List 
   pub weights_sound : (at : ℕ) → payload_weights at (message (block_slots scale used group)) ≡ []
   unfolding payload_weights
   weights_sound at =
-      ap₂ (λ (ts : List (List ℕ)) (s : Scale). flat_map (in_group (member_weights by_index ts s)) (fields_in at (message (block_slots scale used group)))) (table_is at) (scale_is at)
-      ∙ fields_quiet (in_group (member_weights by_index (written_table used) scale)) at (block_slots scale used group)
-      (parts_quiet (in_group (member_weights by_index (written_table used) scale)) (λ number place value. no_message PRIMITIVEGROUP number place value (λ place at m. flat_map (member_weights by_index (written_table used) scale) (fields_in at m))) (λ place begin. refl) (λ place begin. good.weights begin)) fits short
+      ap₂ (λ (ts : List (List ℕ)) (s : Scale). flat_map (in_group (member_weights indexed ts s)) (fields_in at (message (block_slots scale used group)))) (table_is at) (scale_is at)
+      ∙ fields_quiet (in_group (member_weights indexed (written_table used) scale)) at (block_slots scale used group)
+      (parts_quiet (in_group (member_weights indexed (written_table used) scale)) (λ number place value. no_message PRIMITIVEGROUP number place value (λ place at m. flat_map (member_weights indexed (written_table used) scale) (fields_in at m))) (λ place begin. refl) (λ place begin. good.weights begin)) fits short
 
   pub block_sound : (at : ℕ) → block_fault at (message (block_slots scale used group)) ≡ None
   unfolding block_fault
@@ -218,9 +218,9 @@ module _ (scale : Scale) (used : List (List ℕ)) (group : List ℕ) (es : List 
   pub block_read : (at : ℕ) → entities at (message (block_slots scale used group)) ≡ es
   unfolding entities
   block_read at =
-      let f = in_group (member_entities by_index (written_table used) scale) in
-      let give = λ (number place value : ℕ). no_message PRIMITIVEGROUP number place value (λ place at m. flat_map (member_entities by_index (written_table used) scale) (fields_in at m)) in
-      ap₂ (λ (ts : List (List ℕ)) (s : Scale). flat_map (in_group (member_entities by_index ts s)) (fields_in at (message (block_slots scale used group)))) (table_is at) (scale_is at)
+      let f = in_group (member_entities indexed (written_table used) scale) in
+      let give = λ (number place value : ℕ). no_message PRIMITIVEGROUP number place value (λ place at m. flat_map (member_entities indexed (written_table used) scale) (fields_in at m)) in
+      ap₂ (λ (ts : List (List ℕ)) (s : Scale). flat_map (in_group (member_entities indexed ts s)) (fields_in at (message (block_slots scale used group)))) (table_is at) (scale_is at)
       ∙ fields_give f at
       ((Each STRINGTABLE (table_message used ∷ []), []) ∷ (Each PRIMITIVEGROUP (group ∷ []), es)
       ∷ (Scalar GRANULARITY (unless_default DEFAULT_SCALE.granularity scale.granularity), []) ∷ (Scalar DATE_GRANULARITY (unless_default DEFAULT_SCALE.date_granularity scale.date_granularity), [])
@@ -242,5 +242,5 @@ module _ (scale : Scale) (used : List (List ℕ)) (group : List ℕ) (es : List 
       )
       fits short ∙ append-nil es
     where
-      one_group : SlotGives (in_group (member_entities by_index (written_table used) scale)) (Each PRIMITIVEGROUP (group ∷ [])) es
+      one_group : SlotGives (in_group (member_entities indexed (written_table used) scale)) (Each PRIMITIVEGROUP (group ∷ [])) es
       one_group = λ at. append-nil _ ∙ good.entities _

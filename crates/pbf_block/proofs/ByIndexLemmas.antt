@@ -20,7 +20,7 @@ use Rattle.pbf_block.specs.declared.relation.TheConstants.{MEMIDS, ROLES_SID, TY
 use Rattle.pbf_block.specs.Entity.{values_in}
 use Rattle.pbf_block.specs.Way.{way_in, way_values}
 use Rattle.pbf_block.specs.Relation.{relation_in, relation_values}
-use Rattle.pbf_block.specs.PrimitiveBlock.{by_index, along}
+use Rattle.pbf_block.specs.PrimitiveBlock.{indexed, streaming}
 use Rattle.pbf_block.proofs.MemberLemmas.{inside_same, cond_same, InGroup, groups_same, IsClean, HoldsClean}
 
 -- ---- one message
@@ -29,21 +29,21 @@ use Rattle.pbf_block.proofs.MemberLemmas.{inside_same, cond_same, InGroup, group
 abbrev InRange : ℕ → List Occurrence → Type 0
 InRange k os = sum_faults (pos (2 ^ 62)) false (joined k os) ≡ []
 
-values_same : (k : ℕ) (os : List Occurrence) → InRange k os → values_in along k os ≡ values_in by_index k os
+values_same : (k : ℕ) (os : List Occurrence) → InRange k os → values_in streaming k os ≡ values_in indexed k os
 values_same k os e = sums_in_range (pos (2 ^ 62)) (map unzigzag (column k os)) (sums_within_limit (pos (2 ^ 62)) OutOfRange false (joined k os) e)
 
 way_same : (table : List (List ℕ)) (scale : Scale) (os : List Occurrence) → InRange REFS os → InRange WAY_LAT os → InRange WAY_LON os
-    → way_in along table scale os ≡ way_in by_index table scale os
+    → way_in streaming table scale os ≡ way_in indexed table scale os
 unfolding way_in
 way_same table scale os refs lats lons =
-    let all : List ℤ → List ℤ → List ℤ → WaySpec = λ r a o. record (way_in along table scale os) { refs = r; locations = zip a o } in
-    ap (λ r. all r (values_in along WAY_LAT os) (values_in along WAY_LON os)) (values_same REFS os refs)
-    ∙ ap₂ (all (values_in by_index REFS os)) (values_same WAY_LAT os lats) (values_same WAY_LON os lons)
+    let all : List ℤ → List ℤ → List ℤ → WaySpec = λ r a o. record (way_in streaming table scale os) { refs = r; locations = zip a o } in
+    ap (λ r. all r (values_in streaming WAY_LAT os) (values_in streaming WAY_LON os)) (values_same REFS os refs)
+    ∙ ap₂ (all (values_in indexed REFS os)) (values_same WAY_LAT os lats) (values_same WAY_LON os lons)
 
-relation_same : (table : List (List ℕ)) (scale : Scale) (os : List Occurrence) → InRange MEMIDS os → relation_in along table scale os ≡ relation_in by_index table scale os
+relation_same : (table : List (List ℕ)) (scale : Scale) (os : List Occurrence) → InRange MEMIDS os → relation_in streaming table scale os ≡ relation_in indexed table scale os
 unfolding relation_in
 relation_same table scale os memids =
-    ap (λ ids. record (relation_in along table scale os) { members = column_members table (column TYPES os) ids (column ROLES_SID os) }) (values_same MEMIDS os memids)
+    ap (λ ids. record (relation_in streaming table scale os) { members = column_members table (column TYPES os) ids (column ROLES_SID os) }) (values_same MEMIDS os memids)
 
 -- ---- one field of a group, whose message has no fault
 
@@ -61,7 +61,7 @@ relation_reads limit place at m e =
     ids.1
 
 module _ (table : List (List ℕ)) (few : length table ≤ 2 ^ 62) (scale : Scale) where
-  message_same : (k place at : ℕ) (m : List ℕ) → IsClean (length table) k place at m → message_entities along table scale k (fields_in at m) ≡ message_entities by_index table scale k (fields_in at m)
+  message_same : (k place at : ℕ) (m : List ℕ) → IsClean (length table) k place at m → message_entities streaming table scale k (fields_in at m) ≡ message_entities indexed table scale k (fields_in at m)
   message_same k place at m h =
       let os = fields_in at m in
       cond_same (eqb k NODES) _ _ _ _ (λ t. refl)
@@ -70,14 +70,14 @@ module _ (table : List (List ℕ)) (few : length table ≤ 2 ^ 62) (scale : Scal
       (cond_same (eqb k WAYS) _ _ _ _ (λ t. let r = way_reads (length table) place at m (h.way_numbers (eqb-true k WAYS t)) in ap (λ w. way w ∷ []) (way_same table scale os r.0 r.1 r.2))
       (cond_same (eqb k RELATIONS) _ _ _ _ (λ t. ap (λ r. relation r ∷ []) (relation_same table scale os (relation_reads (length table) place at m (h.relation_numbers (eqb-true k RELATIONS t))))) refl)))
 
-  member_same : (o : Occurrence) → HoldsClean (length table) o → member_entities along table scale o ≡ member_entities by_index table scale o
+  member_same : (o : Occurrence) → HoldsClean (length table) o → member_entities streaming table scale o ≡ member_entities indexed table scale o
   member_same o h = inside_same _ _ _ o.content (λ at m p. message_same o.number o.place at m p) h
 
   -- ---- all groups
 
-  pub entities_same : (os : List Occurrence) → AllByRecursion (InGroup (HoldsClean (length table))) os → flat_map (in_group (member_entities along table scale)) os ≡ flat_map (in_group (member_entities by_index table scale)) os
-  entities_same os h = groups_same (member_entities along table scale) (member_entities by_index table scale) (HoldsClean (length table)) member_same os h
+  pub entities_same : (os : List Occurrence) → AllByRecursion (InGroup (HoldsClean (length table))) os → flat_map (in_group (member_entities streaming table scale)) os ≡ flat_map (in_group (member_entities indexed table scale)) os
+  entities_same os h = groups_same (member_entities streaming table scale) (member_entities indexed table scale) (HoldsClean (length table)) member_same os h
 
-  pub weights_same : (os : List Occurrence) → AllByRecursion (InGroup (HoldsClean (length table))) os → flat_map (in_group (member_weights along table scale)) os ≡ flat_map (in_group (member_weights by_index table scale)) os
+  pub weights_same : (os : List Occurrence) → AllByRecursion (InGroup (HoldsClean (length table))) os → flat_map (in_group (member_weights streaming table scale)) os ≡ flat_map (in_group (member_weights indexed table scale)) os
   weights_same os h =
-      groups_same (member_weights along table scale) (member_weights by_index table scale) (HoldsClean (length table)) (λ o p. ap (flat_map (weight_fault o.place)) (member_same o p)) os h
+      groups_same (member_weights streaming table scale) (member_weights indexed table scale) (HoldsClean (length table)) (λ o p. ap (flat_map (weight_fault o.place)) (member_same o p)) os h

@@ -13,11 +13,11 @@ use Rattle.osm_entity.specs.declared.scale.Scale.{Scale}
 use Rattle.osm_entity.specs.Entity.{WaySpec, RelationSpec, EntitySpec, way, relation}
 use Rattle.osm_entity.specs.EntityTexts.{way_texts, relation_texts}
 use Rattle.osm_entity.specs.Ranges.{WayFits, RelationFits, EntityTyped}
-use Rattle.pbf_dense.specs.WrittenDense.{dense_message, info_message}
+use Rattle.pbf_dense.specs.WrittenDense.{dense_message, dense_info_message}
 use Rattle.pbf_block.specs.declared.group.TheConstants.{GROUP_KINDS, DENSE, WAYS, RELATIONS, CHANGESETS}
 use Rattle.pbf_block.specs.Way.{way_in}
 use Rattle.pbf_block.specs.Relation.{relation_in}
-use Rattle.pbf_block.specs.PrimitiveBlock.{by_index}
+use Rattle.pbf_block.specs.PrimitiveBlock.{indexed}
 use Rattle.pbf_block.specs.Group.{is_member}
 use Rattle.pbf_block.specs.WrittenBlock.{nodes_among, ways_among, relations_among, group_message}
 use Rattle.pbf_block.specs.WrittenEntity.{way_message, relation_message}
@@ -56,7 +56,7 @@ module _ {W : Type 0} (table : List (List ℕ)) (scale : Scale) (k : ℕ) (messa
 
 -- no nodes are no dense message
 pub no_dense : (texts : List (List ℕ)) → dense_message texts [] ≡ []
-unfolding dense_message info_message message
+unfolding dense_message dense_info_message message
 no_dense texts = refl
 
 -- ---- ways
@@ -75,7 +75,7 @@ way_good texts scale w h room = record {
   structure = λ place begin. rw (way_no_structure texts w h.fits h.typed h.among h.few begin room place) refl;
   values = λ place begin. rw (way_no_value texts w h.fits h.typed h.among h.few begin room place) refl;
   entities = λ place begin.
-      ap (λ (s : Scale). way (way_in by_index (table_of texts) s (fields_in begin (way_message texts w))) ∷ []) (sym h.scaled)
+      ap (λ (s : Scale). way (way_in indexed (table_of texts) s (fields_in begin (way_message texts w))) ∷ []) (sym h.scaled)
       ∙ ap (λ (w : WaySpec). way w ∷ []) (way_read texts w h.fits h.typed h.among h.few begin room);
   light = λ place. rw (le-ltb _ _ h.fits.light) refl;
 }
@@ -119,7 +119,7 @@ relation_good texts scale r h room = record {
   structure = λ place begin. rw (relation_no_structure texts r h.fits h.typed h.among h.few begin room place) refl;
   values = λ place begin. rw (relation_no_value texts r h.fits h.typed h.among h.few begin room place) refl;
   entities = λ place begin.
-      ap (λ (s : Scale). relation (relation_in by_index (table_of texts) s (fields_in begin (relation_message texts r))) ∷ []) (sym h.scaled)
+      ap (λ (s : Scale). relation (relation_in indexed (table_of texts) s (fields_in begin (relation_message texts r))) ∷ []) (sym h.scaled)
       ∙ ap (λ (r : RelationSpec). relation r ∷ []) (relation_read texts r h.fits h.typed h.among h.few begin room);
   light = λ place. rw (le-ltb _ _ h.fits.light) refl;
 }

@@ -27,7 +27,7 @@ use Rattle.pbf_block.specs.declared.entity.TheConstants.{ID, KEYS, VALS, INFO}
 use Rattle.pbf_block.specs.declared.info.TheConstants.{INFO_KINDS}
 use Rattle.pbf_block.specs.Info.{info_in, info_values, out_of_range}
 use Rattle.pbf_block.specs.Entity.{values_in, tags_in, entity_structure, entity_values}
-use Rattle.pbf_block.specs.PrimitiveBlock.{by_index}
+use Rattle.pbf_block.specs.PrimitiveBlock.{indexed}
 use Rattle.pbf_block.specs.Scale.{number_or}
 use Rattle.pbf_block.specs.WrittenEntity.{key_index, value_index, info_message, entity_slots}
 use Rattle.pbf_block.proofs.InfoLaw.{IsAmong, MetaReady, named_read, stored_fits, stored_read, info_read, info_wire, info_quiet}
@@ -115,7 +115,7 @@ user_among texts user h = user_of (IsAmong texts) user h
 
 -- ---- columns of differences
 
-pub values_read : (k : ℕ) (os : List Occurrence) (values : List ℤ) → column k os ≡ deltas values → values_in by_index k os ≡ values
+pub values_read : (k : ℕ) (os : List Occurrence) (values : List ℤ) → column k os ≡ deltas values → values_in indexed k os ≡ values
 values_read k os values e = ap (λ (ns : List ℕ). sums (map unzigzag ns)) e ∙ sums_of_deltas values
 
 -- a column of values in range

@@ -30,8 +30,8 @@ use Rattle.pbf_block.specs.declared.entity.TheConstants.{INFO}
 use Rattle.pbf_block.specs.Node.{node_in}
 use Rattle.pbf_block.specs.Way.{way_in}
 use Rattle.pbf_block.specs.Relation.{relation_in}
-use Rattle.pbf_block.specs.PrimitiveBlock.{by_index, entities, payload_weights, block_fault, value_faults, positive}
-use Rattle.pbf_block.specs.Scale.{scale_of, table_of}
+use Rattle.pbf_block.specs.PrimitiveBlock.{indexed, entities, payload_weights, block_fault, value_faults, positive}
+use Rattle.pbf_block.specs.Scale.{scale_of, stored_texts}
 use Rattle.pbf_block.specs.declared.scale.TheConstants.{DEFAULT_SCALE}
 use Rattle.pbf_block.proofs.EntityLaw.{all_such, map_of_all}
 use Rattle.pbf_block.proofs.MemberLemmas.{cond_all, inside_all, InGroup, groups_all, groups_nil, IsClean, HoldsClean, payload_clean}
@@ -46,10 +46,10 @@ light place e h = ltb-false HIGHEST_WEIGHT (entity_weight e) (not_wrong _ place 
 
 module _ (table : List (List ℕ)) (scale : Scale) where
   abbrev weights : Occurrence → List Fault
-  weights = member_weights by_index table scale
+  weights = member_weights indexed table scale
 
   abbrev held : Occurrence → List EntitySpec
-  held = member_entities by_index table scale
+  held = member_entities indexed table scale
 
   member_light : (o : Occurrence) → weights o ≡ [] → AllByRecursion IsLight (held o)
   member_light o e = all_such (λ x. weight_fault o.place x ≡ []) IsLight (light o.place) (held o) (all_nil (weight_fault o.place) (held o) e)
@@ -80,7 +80,7 @@ module _ (table : List (List ℕ)) (few : length table ≤ 2 ^ 62) (scale : Scal
   abbrev limit : ℕ
   limit = length table
 
-  message_fits : (k place at : ℕ) (m : List ℕ) → IsClean limit k place at m → AllByRecursion FitsLight (message_entities by_index table scale k (fields_in at m))
+  message_fits : (k place at : ℕ) (m : List ℕ) → IsClean limit k place at m → AllByRecursion FitsLight (message_entities indexed table scale k (fields_in at m))
   message_fits k place at m h =
       cond_all FitsLight (eqb k NODES) _ _ (λ t. let is = eqb-true k NODES t in (node_fits limit table scale scaled place at m (h.node_numbers is), tt))
       (cond_all FitsLight (eqb k DENSE) _ _
@@ -88,9 +88,9 @@ module _ (table : List (List ℕ)) (few : length table ≤ 2 ^ 62) (scale : Scal
       (cond_all FitsLight (eqb k WAYS) _ _ (λ t. let is = eqb-true k WAYS t in (way_fits limit table scale scaled place at m (h.way_form is) (h.way_parts is) (h.way_numbers is), tt))
       (cond_all FitsLight (eqb k RELATIONS) _ _ (λ t. let is = eqb-true k RELATIONS t in (relation_fits limit table scale scaled place at m (h.relation_numbers is), tt)) tt)))
 
-  payload_fits : (os : List Occurrence) → AllByRecursion (InGroup (HoldsClean limit)) os → AllByRecursion FitsLight (flat_map (in_group (member_entities by_index table scale)) os)
+  payload_fits : (os : List Occurrence) → AllByRecursion (InGroup (HoldsClean limit)) os → AllByRecursion FitsLight (flat_map (in_group (member_entities indexed table scale)) os)
   payload_fits os clean =
-      groups_all FitsLight (member_entities by_index table scale) (HoldsClean limit) (λ o h. inside_all FitsLight _ _ o.content (λ at m p. message_fits o.number o.place at m p) h) os clean
+      groups_all FitsLight (member_entities indexed table scale) (HoldsClean limit) (λ o h. inside_all FitsLight _ _ o.content (λ at m p. message_fits o.number o.place at m p) h) os clean
 
 both : (es : List EntitySpec) → AllByRecursion FitsLight es → AllByRecursion IsLight es → AllByRecursion EntityFits es
 both [] f l = tt
@@ -101,9 +101,9 @@ unfolding entities payload_weights
 entities_fit at m e =
     let os = fields_in at m in
     let none = no_fault at m e in
-    let few : length (table_of os) ≤ 2 ^ 62 = omega (arith, table_few at m none.1) in
-    let scaled = scale_fits (length (table_of os)) at m none.2 in
-    both (flat_map (in_group (member_entities by_index (table_of os) (scale_of os))) os) (payload_fits (table_of os) few (scale_of os) scaled os (payload_clean (length (table_of os)) at m none.0 none.1 none.2)) (payload_light (table_of os) (scale_of os) os none.3)
+    let few : length (stored_texts os) ≤ 2 ^ 62 = omega (arith, table_few at m none.1) in
+    let scaled = scale_fits (length (stored_texts os)) at m none.2 in
+    both (flat_map (in_group (member_entities indexed (stored_texts os) (scale_of os))) os) (payload_fits (stored_texts os) few (scale_of os) scaled os (payload_clean (length (stored_texts os)) at m none.0 none.1 none.2)) (payload_light (stored_texts os) (scale_of os) os none.3)
 
 -- ---- types
 
@@ -116,15 +116,15 @@ module _ (table : List (List ℕ)) (scale : Scale) (scaled : ScaleTyped scale) w
   unfolding node_in
   node_typed os = record { version = version_typed (last_number VERSION (embedded INFO os)); scale = scaled }
 
-  way_typed : (os : List Occurrence) → EntityTyped (way (way_in by_index table scale os))
+  way_typed : (os : List Occurrence) → EntityTyped (way (way_in indexed table scale os))
   unfolding way_in
   way_typed os = record { version = version_typed (last_number VERSION (embedded INFO os)); scale = scaled }
 
-  relation_typed : (os : List Occurrence) → EntityTyped (relation (relation_in by_index table scale os))
+  relation_typed : (os : List Occurrence) → EntityTyped (relation (relation_in indexed table scale os))
   unfolding relation_in
   relation_typed os = record { version = version_typed (last_number VERSION (embedded INFO os)); scale = scaled }
 
-  message_typed : (k : ℕ) (os : List Occurrence) → AllByRecursion EntityTyped (message_entities by_index table scale k os)
+  message_typed : (k : ℕ) (os : List Occurrence) → AllByRecursion EntityTyped (message_entities indexed table scale k os)
   message_typed k os =
       cond_all EntityTyped (eqb k NODES) _ _ (λ t. (node_typed os, tt)) (cond_all EntityTyped (eqb k DENSE) _ _ (λ t. map_of_all EntityTyped node _ (nodes_typed table scale scaled os))
       (cond_all EntityTyped (eqb k WAYS) _ _ (λ t. (way_typed os, tt)) (cond_all EntityTyped (eqb k RELATIONS) _ _ (λ t. (relation_typed os, tt)) tt)))
@@ -133,11 +133,11 @@ module _ (table : List (List ℕ)) (scale : Scale) (scaled : ScaleTyped scale) w
   inside_typed f (Bytes bytes at) each = each at bytes
   inside_typed f c each = tt
 
-  member_typed : (o : Occurrence) → AllByRecursion EntityTyped (member_entities by_index table scale o)
+  member_typed : (o : Occurrence) → AllByRecursion EntityTyped (member_entities indexed table scale o)
   member_typed o = inside_typed _ o.content (λ at m. message_typed o.number (fields_in at m))
 
-  group_typed : (o : Occurrence) → AllByRecursion EntityTyped (in_group (member_entities by_index table scale) o)
-  group_typed o = cond_all EntityTyped (eqb o.number PRIMITIVEGROUP) _ _ (λ t. inside_typed _ o.content (λ at m. all_flat EntityTyped (member_entities by_index table scale) (fields_in at m) member_typed)) tt
+  group_typed : (o : Occurrence) → AllByRecursion EntityTyped (in_group (member_entities indexed table scale) o)
+  group_typed o = cond_all EntityTyped (eqb o.number PRIMITIVEGROUP) _ _ (λ t. inside_typed _ o.content (λ at m. all_flat EntityTyped (member_entities indexed table scale) (fields_in at m) member_typed)) tt
 
 int32_or : (otherwise : ℤ) (o : Option ℕ) → IsInt32 otherwise → IsInt32 (option_map_or low_i32 o otherwise)
 int32_or otherwise None h = h
@@ -160,4 +160,4 @@ pub entities_typed : (at : ℕ) (m : List ℕ) → AllByRecursion EntityTyped (e
 unfolding entities
 entities_typed at m =
     let os = fields_in at m in
-    all_flat EntityTyped (in_group (member_entities by_index (table_of os) (scale_of os))) os (group_typed (table_of os) (scale_of os) (scale_typed os))
+    all_flat EntityTyped (in_group (member_entities indexed (stored_texts os) (scale_of os))) os (group_typed (stored_texts os) (scale_of os) (scale_typed os))

@@ -38,7 +38,7 @@ use Rattle.pbf_block.specs.Entity.{values_in, entity_structure, entity_values}
 use Rattle.pbf_block.specs.Node.{node_in, node_values}
 use Rattle.pbf_block.specs.Way.{way_in, are_located, way_structure, way_values}
 use Rattle.pbf_block.specs.Relation.{relation_in, relation_values}
-use Rattle.pbf_block.specs.PrimitiveBlock.{by_index}
+use Rattle.pbf_block.specs.PrimitiveBlock.{indexed}
 use Rattle.pbf_block.specs.Scale.{number_or}
 use Rattle.pbf_block.proofs.MemberLemmas.{entered_nil}
 use Rattle.osm_entity.specs.declared.weight.TheConstants.{HIGHEST_WEIGHT}
@@ -109,13 +109,13 @@ members_fit table (k ∷ kinds) [] roles h = tt
 members_fit table (k ∷ kinds) (id ∷ ids) [] h = tt
 members_fit table (k ∷ kinds) (id ∷ ids) (role ∷ roles) h = (h.0, members_fit table kinds ids roles h.1)
 
-values_counted : (kinds : List (ℕ × Kind)) (inner : Occurrence → List Fault) (k : ℕ) (os : List Occurrence) → kind_of kinds k ≡ Some kind.Column → AllByRecursion (IsSound kinds inner) os → length (values_in by_index k os) ≡ column_count k os
+values_counted : (kinds : List (ℕ × Kind)) (inner : Occurrence → List Fault) (k : ℕ) (os : List Occurrence) → kind_of kinds k ≡ Some kind.Column → AllByRecursion (IsSound kinds inner) os → length (values_in indexed k os) ≡ column_count k os
 values_counted kinds inner k os known sound =
     let entries = map unzigzag (column k os) in
     length-map-range_with_len (sum_at entries) 0 (length entries) ∙ length-map (column k os) unzigzag ∙ length-map (joined k os) (λ p. p.0)
     ∙ sym (count_is_length kinds inner k os known sound)
 
-values_fit : (k : ℕ) (os : List Occurrence) → range_faults k os ≡ [] → AllByRecursion IsStored (values_in by_index k os)
+values_fit : (k : ℕ) (os : List Occurrence) → range_faults k os ≡ [] → AllByRecursion IsStored (values_in indexed k os)
 values_fit k os e = sums_within_limit (pos (2 ^ 62)) OutOfRange false (joined k os) e
 
 -- ---- entities, if they are light
@@ -137,7 +137,7 @@ module _ (limit : ℕ) (table : List (List ℕ)) (scale : Scale) (scaled : Scale
       let alike = both_nil (in_last ID (out_of_range 62 unzigzag) os) (entity_values limit os) lats.0 in
       record { id = stored unzigzag ID os alike.0; lat = stored unzigzag NODE_LAT os lats.1; lon = stored unzigzag NODE_LON os lons.1; meta = meta_fits limit table os alike.1; scale = scaled; light = light }
 
-  pub way_fits : (place at : ℕ) (m : List ℕ) → nested_faults WAY_KINDS INFO INFO_KINDS place at m ≡ [] → way_structure place at m ≡ [] → way_values limit place at m ≡ [] → FitsLight (way (way_in by_index table scale (fields_in at m)))
+  pub way_fits : (place at : ℕ) (m : List ℕ) → nested_faults WAY_KINDS INFO INFO_KINDS place at m ≡ [] → way_structure place at m ≡ [] → way_values limit place at m ≡ [] → FitsLight (way (way_in indexed table scale (fields_in at m)))
   unfolding way_in
   way_fits place at m w s v light =
       let os = fields_in at m in
@@ -154,12 +154,12 @@ module _ (limit : ℕ) (table : List (List ℕ)) (scale : Scale) (scaled : Scale
         scale = scaled;
         refs = values_fit REFS os refs.1;
         locations = locations_fit _ _ (values_fit WAY_LAT os lats.1) (values_fit WAY_LON os lons.1);
-        located = located (values_in by_index WAY_LAT os) (values_in by_index WAY_LON os) (values_in by_index REFS os)
+        located = located (values_in indexed WAY_LAT os) (values_in indexed WAY_LON os) (values_in indexed REFS os)
             (rw (values_counted WAY_KINDS inner WAY_LAT os refl sound, values_counted WAY_KINDS inner WAY_LON os refl sound, values_counted WAY_KINDS inner REFS os refl sound) counts);
         light = light;
       }
 
-  pub relation_fits : (place at : ℕ) (m : List ℕ) → relation_values limit place at m ≡ [] → FitsLight (relation (relation_in by_index table scale (fields_in at m)))
+  pub relation_fits : (place at : ℕ) (m : List ℕ) → relation_values limit place at m ≡ [] → FitsLight (relation (relation_in indexed table scale (fields_in at m)))
   unfolding relation_in
   relation_fits place at m v light =
       let os = fields_in at m in
@@ -171,6 +171,6 @@ module _ (limit : ℕ) (table : List (List ℕ)) (scale : Scale) (scaled : Scale
         id = stored low_i64 ID os alike.0;
         meta = meta_fits limit table os alike.1;
         scale = scaled;
-        members = members_fit table (column TYPES os) (values_in by_index MEMIDS os) (column ROLES_SID os) (values_fit MEMIDS os ids.1);
+        members = members_fit table (column TYPES os) (values_in indexed MEMIDS os) (column ROLES_SID os) (values_fit MEMIDS os ids.1);
         light = light;
       }

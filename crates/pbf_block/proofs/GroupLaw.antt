@@ -17,14 +17,14 @@ use Rattle.osm_entity.specs.declared.scale.Scale.{Scale}
 use Rattle.osm_entity.specs.Entity.{EntitySpec}
 use Rattle.pbf_block.specs.declared.group.TheConstants.{GROUP_KINDS, DENSE, CHANGESETS}
 use Rattle.pbf_block.specs.Group.{member_wire, group_wire, member_structure, is_member, first_member, is_other, entities_structure, group_structure, member_values, weight_fault, member_weights, member_entities}
-use Rattle.pbf_block.specs.PrimitiveBlock.{by_index}
+use Rattle.pbf_block.specs.PrimitiveBlock.{indexed}
 
 -- a message at the field k of a group has no fault and holds these entities, wherever it is
 pub record MemberGood (table : List (List ℕ)) (scale : Scale) (k : ℕ) (m : List ℕ) (es : List EntitySpec) : Type 0 where
   pub wire : (place begin : ℕ) → member_wire (field_at place k (Bytes m begin)) ≡ []
   pub structure : (place begin : ℕ) → entities_structure (field_at place k (Bytes m begin)) ≡ []
   pub values : (place begin : ℕ) → member_values (length table) (field_at place k (Bytes m begin)) ≡ []
-  pub entities : (place begin : ℕ) → member_entities by_index table scale (field_at place k (Bytes m begin)) ≡ es
+  pub entities : (place begin : ℕ) → member_entities indexed table scale (field_at place k (Bytes m begin)) ≡ es
   pub light : (place : ℕ) → flat_map (weight_fault place) es ≡ []
 
 -- the same of a group
@@ -32,8 +32,8 @@ pub record GroupGood (table : List (List ℕ)) (scale : Scale) (group : List ℕ
   pub wire : (place at : ℕ) → group_wire place at group ≡ []
   pub structure : (place at : ℕ) → group_structure place at group ≡ []
   pub values : (place at : ℕ) → flat_map (member_values (length table)) (fields_in at group) ≡ []
-  pub entities : (at : ℕ) → flat_map (member_entities by_index table scale) (fields_in at group) ≡ es
-  pub weights : (at : ℕ) → flat_map (member_weights by_index table scale) (fields_in at group) ≡ []
+  pub entities : (at : ℕ) → flat_map (member_entities indexed table scale) (fields_in at group) ≡ es
+  pub weights : (at : ℕ) → flat_map (member_weights indexed table scale) (fields_in at group) ≡ []
 
 -- ---- fields of one number
 
@@ -77,7 +77,7 @@ module _ (table : List (List ℕ)) (scale : Scale) (k : ℕ) where
   all_quiet f [] each h = tt
   all_quiet f (g ∷ held) each h = (each g.0 g.1 h.0, all_quiet f held each h.1)
 
-  all_given : (held : Held) → AllByRecursion IsGood held → AllByRecursion (λ g. (place begin : ℕ) → member_entities by_index table scale (field_at place k (Bytes g.0 begin)) ≡ g.1) held
+  all_given : (held : Held) → AllByRecursion IsGood held → AllByRecursion (λ g. (place begin : ℕ) → member_entities indexed table scale (field_at place k (Bytes g.0 begin)) ≡ g.1) held
   all_given [] h = tt
   all_given (g ∷ held) h = (h.0.entities, all_given held h.1)
 
@@ -100,9 +100,9 @@ module _ (table : List (List ℕ)) (scale : Scale) (k : ℕ) where
         let members : flat_map f os ≡ [] = fields_quiet f at slots (all_quiet f held (λ m es g place begin. rw (not_mixed k os member (numbered at), other, g.structure place begin) refl) h, tt) fits short in
         rw (repeated, members) refl
 
-    group_entities_are : (at : ℕ) → flat_map (member_entities by_index table scale) (fields_in at (message slots)) ≡ flat_map (λ g. g.1) held
+    group_entities_are : (at : ℕ) → flat_map (member_entities indexed table scale) (fields_in at (message slots)) ≡ flat_map (λ g. g.1) held
     group_entities_are at =
-        let f = member_entities by_index table scale in
+        let f = member_entities indexed table scale in
         fields_give f at ((Each k (messages held), flat_map (λ g. g.1) held) ∷ []) (each_gives f (λ g. g.0) (λ g. g.1) k held (all_given held h), tt) fits short ∙ append-nil _
 
     pub group_good : GroupGood table scale (message slots) (flat_map (λ g. g.1) held)
@@ -111,6 +111,6 @@ module _ (table : List (List ℕ)) (scale : Scale) (k : ℕ) where
       structure = sound;
       values = λ place at. fields_quiet (member_values (length table)) at slots (all_quiet (member_values (length table)) held (λ m es g. g.values) h, tt) fits short;
       entities = group_entities_are;
-      weights = λ at. fields_quiet (member_weights by_index table scale) at slots
-          (all_quiet (member_weights by_index table scale) held (λ m es g place begin. ap (flat_map (weight_fault place)) (g.entities place begin) ∙ g.light place) h, tt) fits short;
+      weights = λ at. fields_quiet (member_weights indexed table scale) at slots
+          (all_quiet (member_weights indexed table scale) held (λ m es g place begin. ap (flat_map (weight_fault place)) (g.entities place begin) ∙ g.light place) h, tt) fits short;
     }

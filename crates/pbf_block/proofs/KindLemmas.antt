@@ -11,7 +11,7 @@ use Rattle.pbf_block.specs.Group.{in_group, message_entities, member_entities}
 use Rattle.pbf_block.specs.declared.kinds.Kinds.{Kinds}
 use Rattle.pbf_block.specs.declared.primitive_block.TheConstants.{PRIMITIVEGROUP}
 use Rattle.pbf_block.specs.declared.group.TheConstants.{NODES, DENSE, WAYS, RELATIONS}
-use Rattle.pbf_block.specs.Entity.{How}
+use Rattle.pbf_block.specs.Entity.{Decoding}
 use Rattle.pbf_block.specs.Node.{node_in}
 use Rattle.pbf_block.specs.Way.{way_in}
 use Rattle.pbf_block.specs.Relation.{relation_in}
@@ -52,7 +52,7 @@ none_else_none : (b : Bool) (none : List EntitySpec) → none ≡ [] → (if b t
 none_else_none true none e = refl
 none_else_none false none e = sym e
 
-module _ (kinds : Kinds) (how : How) (table : List (List ℕ)) (scale : Scale) where
+module _ (kinds : Kinds) (how : Decoding) (table : List (List ℕ)) (scale : Scale) where
   one_kept : (e : EntitySpec) → (if is_among kinds e then e ∷ [] else []) ≡ filter (is_among kinds) (e ∷ [])
   one_kept e = sym (kept_one kinds e (is_among kinds e) refl)
 
@@ -92,7 +92,7 @@ module _ (kinds : Kinds) (how : How) (table : List (List ℕ)) (scale : Scale) w
   all_kept os = kept_parts (is_among kinds) (in_group (member_entities how table scale)) (group_entities_among kinds how table scale) group_kept os
 
 -- if all kinds are wanted, a field gives all its entities
-pub member_of_all : (kinds : Kinds) (how : How) (table : List (List ℕ)) (scale : Scale) → ((e : EntitySpec) → is_among kinds e ≡ true) → (o : Occurrence) → member_entities_among kinds how table scale o ≡ member_entities how table scale o
+pub member_of_all : (kinds : Kinds) (how : Decoding) (table : List (List ℕ)) (scale : Scale) → ((e : EntitySpec) → is_among kinds e ≡ true) → (o : Occurrence) → member_entities_among kinds how table scale o ≡ member_entities how table scale o
 member_of_all kinds how table scale all o = member_kept kinds how table scale o ∙ filter_every (is_among kinds) all (member_entities how table scale o)
 
 -- what holds of all holds of those that are kept

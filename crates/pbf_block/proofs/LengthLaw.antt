@@ -16,7 +16,7 @@ use Rattle.osm_entity.specs.EntityTexts.{tag_texts, node_texts, way_texts, relat
 use Rattle.osm_entity.specs.Weight.{tags_weight, members_weight, text_weight, node_weight, way_weight, relation_weight, entity_weight}
 use Rattle.osm_entity.specs.Ranges.{WayFits, RelationFits}
 use Rattle.pbf_dense.specs.Info.{InfoSpec}
-use Rattle.pbf_dense.specs.WrittenDense.{bit_of, tag_numbers, run_of, info_columns, info_slots as dense_info_slots, info_message as dense_info_message, columns_of, dense_slots, dense_message, info_length, dense_length}
+use Rattle.pbf_dense.specs.WrittenDense.{bit_of, tag_numbers, run_of, info_columns, dense_info_slots, dense_info_message, columns_of, dense_slots, dense_message, info_length, dense_length}
 use Rattle.pbf_dense.proofs.InfoLaw.{deltas_length}
 use Rattle.pbf_block.specs.WrittenEntity.{key_index, value_index, role_index, kind_number, info_slots, info_message, way_slots, way_message, relation_slots, relation_message}
 use Rattle.pbf_block.specs.WrittenBlock.{all_alike, is_block, nodes_among, ways_among, relations_among, group_slots, group_message, block_slots, scale_among, texts_of_all, messages_among, block_message}

@@ -20,8 +20,8 @@ use Rattle.osm_entity.specs.declared.scale.Scale.{Scale}
 use Rattle.osm_entity.specs.Entity.{EntitySpec, node, way, relation}
 use Rattle.osm_entity.specs.Sources.{low_32, named, tag_of, run, member_of}
 use Rattle.osm_entity.specs.Weight.{tags_weight, members_weight, text_weight, node_weight, way_weight, relation_weight, entity_weight}
-use Rattle.pbf_dense.specs.Info.{InfoSpec, meta_at, user_text, info_along, later}
-use Rattle.pbf_dense.specs.Nodes.{moving, nodes_along}
+use Rattle.pbf_dense.specs.Info.{InfoSpec, meta_at, user_text, info_along, info_rest}
+use Rattle.pbf_dense.specs.Nodes.{nodes_of_columns, nodes_along}
 use Rattle.pbf_dense.specs.Runs.{after_run}
 use Rattle.pbf_dense.specs.declared.dense_nodes.TheConstants.{KEYS_VALS}
 use Rattle.pbf_dense.specs.declared.dense_info.TheConstants.{USER_SID}
@@ -34,7 +34,7 @@ use Rattle.pbf_block.specs.Way.{way_in}
 use Rattle.pbf_block.specs.Relation.{relation_in}
 use Rattle.pbf_block.specs.Entity.{values_in}
 use Rattle.pbf_block.specs.Group.{message_entities, weight_fault}
-use Rattle.pbf_block.specs.PrimitiveBlock.{along}
+use Rattle.pbf_block.specs.PrimitiveBlock.{streaming}
 use Rattle.osm_entity.specs.declared.weight.TheConstants.{HIGHEST_WEIGHT}
 
 -- ---- texts
@@ -88,7 +88,7 @@ column_counted k os = omega (arith, length-map {B = ℕ} (joined k os) (λ p. p.
 column_short : (k at : ℕ) (m : List ℕ) → length (column k (fields_in at m)) ≤ length m
 column_short k at m = omega (arith, column_counted k (fields_in at m), count_short k at m)
 
-values_short : (k at : ℕ) (m : List ℕ) → length (values_in along k (fields_in at m)) ≤ length m
+values_short : (k at : ℕ) (m : List ℕ) → length (values_in streaming k (fields_in at m)) ≤ length m
 values_short k at m =
     omega (arith, sums_short (pos (2 ^ 62)) (pos 0) (map unzigzag (column k (fields_in at m))), length-map {B = ℤ} (column k (fields_in at m)) unzigzag, column_short k at m)
 
@@ -130,14 +130,14 @@ module _ (table : List (List ℕ)) (scale : Scale) (u : ℕ) (h : 32 + 2 * longe
       let pairs = zip (map low_32 (column KEYS os)) (map low_32 (column VALS os)) in
       omega (arith, user_short table (last_number USER_SID (embedded INFO os)), tags_short table u h pairs, below (length pairs) (pairs_short at m))
 
-  way_light : way_weight (way_in along table scale (fields_in at m)) ≤ 160 + longest table + 3 * (length m * u)
+  way_light : way_weight (way_in streaming table scale (fields_in at m)) ≤ 160 + longest table + 3 * (length m * u)
   unfolding way_in
   way_light =
       let os = fields_in at m in
       let pairs = zip (map low_32 (column KEYS os)) (map low_32 (column VALS os)) in
-      let refs = values_in along REFS os in
-      let lats = values_in along WAY_LAT os in
-      let places = zip lats (values_in along WAY_LON os) in
+      let refs = values_in streaming REFS os in
+      let lats = values_in streaming WAY_LAT os in
+      let places = zip lats (values_in streaming WAY_LON os) in
       omega (
         arith,
         user_short table (last_number USER_SID (embedded INFO os)),
@@ -146,17 +146,17 @@ module _ (table : List (List ℕ)) (scale : Scale) (u : ℕ) (h : 32 + 2 * longe
         times_32 (length refs),
         below (length refs) (values_short REFS at m),
         times_32 (length places),
-        mul-le-mul_right u (zip_short lats (values_in along WAY_LON os)),
+        mul-le-mul_right u (zip_short lats (values_in streaming WAY_LON os)),
         below (length lats) (values_short WAY_LAT at m),
       )
 
-  relation_light : relation_weight (relation_in along table scale (fields_in at m)) ≤ 160 + longest table + 3 * (length m * u)
+  relation_light : relation_weight (relation_in streaming table scale (fields_in at m)) ≤ 160 + longest table + 3 * (length m * u)
   unfolding relation_in
   relation_light =
       let os = fields_in at m in
       let pairs = zip (map low_32 (column KEYS os)) (map low_32 (column VALS os)) in
       let kinds = column TYPES os in
-      let others = zip (values_in along MEMIDS os) (column ROLES_SID os) in
+      let others = zip (values_in streaming MEMIDS os) (column ROLES_SID os) in
       omega (
         arith,
         user_short table (last_number USER_SID (embedded INFO os)),
@@ -170,18 +170,18 @@ module _ (table : List (List ℕ)) (scale : Scale) (u : ℕ) (h : 32 + 2 * longe
 -- ---- dense nodes
 
 module _ (table : List (List ℕ)) (scale : Scale) (u c : ℕ) (h : 32 + 2 * longest table ≤ u) (few : 160 + longest table + c * u ≤ HIGHEST_WEIGHT) (place : ℕ) where
-  moving_light : (ids lats lons : List ℤ) (info : InfoSpec) (keys_vals : List ℕ) → length keys_vals ≤ 2 * c + 1 → flat_map (weight_fault place) (map node (moving table scale ids lats lons info keys_vals)) ≡ []
+  moving_light : (ids lats lons : List ℤ) (info : InfoSpec) (keys_vals : List ℕ) → length keys_vals ≤ 2 * c + 1 → flat_map (weight_fault place) (map node (nodes_of_columns table scale ids lats lons info keys_vals)) ≡ []
   moving_light [] lats lons info keys_vals le = refl
   moving_light (id ∷ ids) [] lons info keys_vals le = refl
   moving_light (id ∷ ids) (lat ∷ lats) [] info keys_vals le = refl
   moving_light (id ∷ ids) (lat ∷ lats) (lon ∷ lons) info keys_vals le =
       let runs : length (run keys_vals) ≤ c = omega (arith, run_short keys_vals, le) in
       let light : 160 + text_weight (option_map (user_text table) (slice_get info.users 0)) + tags_weight (map (tag_of table) (run keys_vals)) ≤ HIGHEST_WEIGHT = omega (arith, few, user_at_short table (slice_get info.users 0), tags_short table u h (run keys_vals), mul-le-mul_right u runs) in
-      ap₂ (λ (a b : List Fault). a ++ b) (light_none place (node (record { id = id; lat = lat; lon = lon; meta = meta_at table info 0; tags = map (tag_of table) (run keys_vals); scale = scale })) light) (moving_light ids lats lons (later info) (after_run keys_vals) (omega (arith, after_short keys_vals, le)))
+      ap₂ (λ (a b : List Fault). a ++ b) (light_none place (node (record { id = id; lat = lat; lon = lon; meta = meta_at table info 0; tags = map (tag_of table) (run keys_vals); scale = scale })) light) (moving_light ids lats lons (info_rest info) (after_run keys_vals) (omega (arith, after_short keys_vals, le)))
 
 -- a dense message with so many numbers of texts has no heavy node
 pub dense_member : (table : List (List ℕ)) (scale : Scale) (most place k : ℕ) (os : List Occurrence) → longest table ≤ most → k ≡ DENSE
-    → 160 + most + (column_count KEYS_VALS os / 2) * (32 + 2 * most) ≤ HIGHEST_WEIGHT → flat_map (weight_fault place) (message_entities along table scale k os) ≡ []
+    → 160 + most + (column_count KEYS_VALS os / 2) * (32 + 2 * most) ≤ HIGHEST_WEIGHT → flat_map (weight_fault place) (message_entities streaming table scale k os) ≡ []
 unfolding nodes_along
 dense_member table scale most place k os short same few =
     let u = 32 + 2 * most in
@@ -194,7 +194,7 @@ one_light place entity le = rw (light_none place entity le) refl
 
 -- a message of this length that isn't dense has no heavy entity
 pub other_member : (table : List (List ℕ)) (scale : Scale) (most place k at : ℕ) (m : List ℕ) → longest table ≤ most → ¬ (k ≡ DENSE)
-    → 160 + most + (3 * length m) * (32 + 2 * most) ≤ HIGHEST_WEIGHT → flat_map (weight_fault place) (message_entities along table scale k (fields_in at m)) ≡ []
+    → 160 + most + (3 * length m) * (32 + 2 * most) ≤ HIGHEST_WEIGHT → flat_map (weight_fault place) (message_entities streaming table scale k (fields_in at m)) ≡ []
 other_member table scale most place k at m short unlike few =
     let other : (k == DENSE) ≡ false = grind (arith, unlike) in
     let u = 32 + 2 * most in
@@ -203,8 +203,8 @@ other_member table scale most place k at m short unlike few =
     let os = fields_in at m in
     rw other (by_kind (k == NODES) (k == WAYS) (k == RELATIONS) _ _ _
     (one_light place (node (node_in table scale os)) (omega (arith, room, node_light table scale u h at m)))
-    (one_light place (way (way_in along table scale os)) (omega (arith, room, way_light table scale u h at m)))
-    (one_light place (relation (relation_in along table scale os)) (omega (arith, room, relation_light table scale u h at m))))
+    (one_light place (way (way_in streaming table scale os)) (omega (arith, room, way_light table scale u h at m)))
+    (one_light place (relation (relation_in streaming table scale os)) (omega (arith, room, relation_light table scale u h at m))))
   where
     by_kind : (a b c : Bool) (x y z : List EntitySpec) → flat_map (weight_fault place) x ≡ [] → flat_map (weight_fault place) y ≡ [] → flat_map (weight_fault place) z ≡ []
         → flat_map (weight_fault place) (if a then x else (if b then y else (if c then z else []))) ≡ []

@@ -9,7 +9,7 @@ use Rattle.pbf_wire.proofs.PhaseLemmas.{phases_joined as joined}
 use Rattle.pbf_wire.proofs.SoundLemmas.{no_least}
 use Rattle.pbf_block.specs.PrimitiveBlock.{wire_faults, structure_faults, payload_weights, block_phases, block_fault, all_faults, value_faults}
 use Rattle.pbf_wire.specs.Faults.{fields_in}
-use Rattle.pbf_block.specs.Scale.{table_of}
+use Rattle.pbf_block.specs.Scale.{stored_texts}
 
 -- ---- if the first two phases have no fault, and if they have one
 
@@ -27,17 +27,17 @@ more_phases f (Some w) s late e = e
 
 pub first_early : (f : Fault) (at : ℕ) (m : List ℕ) → Some f ≡ option_or (least (wire_faults at m)) (least (structure_faults at m)) → block_fault at m ≡ Some f
 unfolding block_fault
-first_early f at m e = more_phases f (least (wire_faults at m)) (least (structure_faults at m)) (first_fault (value_faults (length (table_of (fields_in at m))) at m ∷ payload_weights at m ∷ [])) (sym e)
+first_early f at m e = more_phases f (least (wire_faults at m)) (least (structure_faults at m)) (first_fault (value_faults (length (stored_texts (fields_in at m))) at m ∷ payload_weights at m ∷ [])) (sym e)
 
 last_phase : (f : Option Fault) → option_or f None ≡ f
 last_phase None = refl
 last_phase (Some f) = refl
 
-pub first_late : (r : Option Fault) (at : ℕ) (m : List ℕ) → wire_faults at m ≡ [] → structure_faults at m ≡ [] → r ≡ option_or (least (value_faults (length (table_of (fields_in at m))) at m)) (least (payload_weights at m)) → block_fault at m ≡ r
+pub first_late : (r : Option Fault) (at : ℕ) (m : List ℕ) → wire_faults at m ≡ [] → structure_faults at m ≡ [] → r ≡ option_or (least (value_faults (length (stored_texts (fields_in at m))) at m)) (least (payload_weights at m)) → block_fault at m ≡ r
 unfolding block_fault
 first_late r at m w s e =
-    ap₂ (λ w s. first_fault (w ∷ s ∷ value_faults (length (table_of (fields_in at m))) at m ∷ payload_weights at m ∷ [])) w s
-    ∙ ap (option_or (least (value_faults (length (table_of (fields_in at m))) at m))) (last_phase (least (payload_weights at m))) ∙ sym e
+    ap₂ (λ w s. first_fault (w ∷ s ∷ value_faults (length (stored_texts (fields_in at m))) at m ∷ payload_weights at m ∷ [])) w s
+    ∙ ap (option_or (least (value_faults (length (stored_texts (fields_in at m))) at m))) (last_phase (least (payload_weights at m))) ∙ sym e
 
 no_later : (w s v x : List Fault) → first_fault (w ∷ s ∷ v ∷ x ∷ []) ≡ None → (w ≡ []) × (s ≡ []) × (v ≡ []) × (x ≡ [])
 no_later w s v x e =
@@ -48,9 +48,9 @@ no_later w s v x e =
     (no_least w one.0, no_least s two.0, no_least v three.0, no_least x four.0)
 
 -- no fault is no fault of any phase
-pub no_fault : (at : ℕ) (m : List ℕ) → block_fault at m ≡ None → (wire_faults at m ≡ []) × (structure_faults at m ≡ []) × (value_faults (length (table_of (fields_in at m))) at m ≡ []) × (payload_weights at m ≡ [])
+pub no_fault : (at : ℕ) (m : List ℕ) → block_fault at m ≡ None → (wire_faults at m ≡ []) × (structure_faults at m ≡ []) × (value_faults (length (stored_texts (fields_in at m))) at m ≡ []) × (payload_weights at m ≡ [])
 unfolding block_fault
-no_fault at m e = no_later (wire_faults at m) (structure_faults at m) (value_faults (length (table_of (fields_in at m))) at m) (payload_weights at m) e
+no_fault at m e = no_later (wire_faults at m) (structure_faults at m) (value_faults (length (stored_texts (fields_in at m))) at m) (payload_weights at m) e
 
 -- ---- as one order
 

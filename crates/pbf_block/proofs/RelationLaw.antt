@@ -25,7 +25,7 @@ use Rattle.pbf_block.specs.declared.relation.TheConstants.{RELATION_KINDS, ROLES
 use Rattle.pbf_block.specs.declared.entity.TheConstants.{INFO}
 use Rattle.pbf_block.specs.declared.info.TheConstants.{INFO_KINDS}
 use Rattle.pbf_block.specs.Relation.{relation_in, are_members, relation_structure, relation_values}
-use Rattle.pbf_block.specs.PrimitiveBlock.{by_index}
+use Rattle.pbf_block.specs.PrimitiveBlock.{indexed}
 use Rattle.pbf_block.specs.WrittenEntity.{kind_number, role_index, relation_slots, relation_message}
 use Rattle.pbf_block.proofs.InfoLaw.{named_read}
 use Rattle.pbf_block.proofs.EntityLaw.{AreAmong, IsNamed, AreKnown, IsOwn, IsReady, all_such, user_among, named_fit, named_good, values_read, count_is, sums_good, entity_fits, id_read, tags_read, meta_read, entity_wire, no_structure, id_quiet, no_value}
@@ -116,7 +116,7 @@ module _ (texts : List (List ℕ)) (r : RelationSpec) (h : RelationFits r) (type
     kinds_column : column TYPES (fields_in at (message (relation_slots texts r))) ≡ map (λ m. kind_number m.kind) r.members
     kinds_column = column_written TYPES at (relation_slots texts r) fits room ∙ append-nil _
 
-    slots_read : relation_in by_index (table_of texts) r.scale (fields_in at (message (relation_slots texts r))) ≡ r
+    slots_read : relation_in indexed (table_of texts) r.scale (fields_in at (message (relation_slots texts r))) ≡ r
     unfolding relation_in
     slots_read =
         let id = id_read RELATION_KINDS known texts r.id r.meta r.tags own ready own_is at room in
@@ -146,7 +146,7 @@ module _ (texts : List (List ℕ)) (r : RelationSpec) (h : RelationFits r) (type
         rw (id, common, sids, ids, kinds) refl
 
   module _ (at : ℕ) (room : length (relation_message texts r) < 2 ^ 64) where
-    pub relation_read : relation_in by_index (table_of texts) r.scale (fields_in at (relation_message texts r)) ≡ r
+    pub relation_read : relation_in indexed (table_of texts) r.scale (fields_in at (relation_message texts r)) ≡ r
     unfolding relation_message
     relation_read = slots_read at room
 

@@ -11,10 +11,10 @@ use Rattle.pbf_wire.specs.Reading.{bytes_held, occurrence_text, last_of}
 use Rattle.pbf_wire.specs.Faults.{inside, entered, fields_in}
 use Rattle.pbf_wire.proofs.FaultLemmas.{held_short}
 use Rattle.pbf_wire.proofs.SoundLemmas.{both_nil, all_nil, not_wrong, last_holds}
-use Rattle.pbf_wire.specs.Wire.{judged}
+use Rattle.pbf_wire.specs.Wire.{ok_unless}
 use Rattle.pbf_strings.specs.Texts.{texts, count_fault}
 use Rattle.pbf_block.specs.declared.primitive_block.TheConstants.{STRINGTABLE, PRIMITIVEGROUP}
-use Rattle.pbf_block.specs.Scale.{table_of}
+use Rattle.pbf_block.specs.Scale.{stored_texts}
 use Rattle.pbf_block.specs.PrimitiveBlock.{table_structure, part_structure, structure_faults}
 use Rattle.pbf_block.specs.Group.{group_structure}
 use Rattle.pbf_block.proofs.MemberLemmas.{entered_nil}
@@ -49,16 +49,16 @@ few_if os (Some o) all e =
     let h = last_holds (λ o. part_structure o ≡ []) STRINGTABLE os o all e in
     few_inside o.place o.content (entered_nil STRINGTABLE table_structure o (both_nil _ (entered PRIMITIVEGROUP group_structure o) h.0).0 h.1)
 
-pub table_few : (at : ℕ) (m : List ℕ) → structure_faults at m ≡ [] → length (table_of (fields_in at m)) ≤ 1048576
+pub table_few : (at : ℕ) (m : List ℕ) → structure_faults at m ≡ [] → length (stored_texts (fields_in at m)) ≤ 1048576
 unfolding structure_faults
 table_few at m s =
     let os = fields_in at m in
     few_if os (last_of STRINGTABLE os) (all_nil part_structure os (both_nil _ (flat_map part_structure os) s).1) refl
 
 -- a payload whose table has more of them has a fault
-counts_few : (b : Bool) (e : Fault) → b ≡ false → is_err (judged (if b then Some e else None)) ≡ true → ⊥
+counts_few : (b : Bool) (e : Fault) → b ≡ false → is_err (ok_unless (if b then Some e else None)) ≡ true → ⊥
 counts_few true e few is = cc
 counts_few false e few is = cc
 
-pub many_texts : (tag at : ℕ) (m : List ℕ) → is_err (judged (count_fault tag (occurrence_text (last_of STRINGTABLE (fields_in at m))))) ≡ true → structure_faults at m ≡ [] → ⊥
-many_texts tag at m is sound = counts_few (nat_lt 1048576 (length (table_of (fields_in at m)))) _ (le-ltb _ _ (omega (arith, table_few at m sound))) is
+pub many_texts : (tag at : ℕ) (m : List ℕ) → is_err (ok_unless (count_fault tag (occurrence_text (last_of STRINGTABLE (fields_in at m))))) ≡ true → structure_faults at m ≡ [] → ⊥
+many_texts tag at m is sound = counts_few (nat_lt 1048576 (length (stored_texts (fields_in at m)))) _ (le-ltb _ _ (omega (arith, table_few at m sound))) is

@@ -19,7 +19,7 @@ use Rattle.pbf_block.specs.declared.way.TheConstants.{WAY_KINDS, REFS, WAY_LAT, 
 use Rattle.pbf_block.specs.declared.entity.TheConstants.{INFO}
 use Rattle.pbf_block.specs.declared.info.TheConstants.{INFO_KINDS}
 use Rattle.pbf_block.specs.Way.{way_in, are_located, way_structure, way_values}
-use Rattle.pbf_block.specs.PrimitiveBlock.{by_index}
+use Rattle.pbf_block.specs.PrimitiveBlock.{indexed}
 use Rattle.pbf_block.specs.WrittenEntity.{way_slots, way_message}
 use Rattle.pbf_block.proofs.EntityLaw.{AreAmong, AreKnown, IsOwn, IsReady, user_among, values_read, count_is, sums_good, entity_fits, id_read, tags_read, meta_read, entity_wire, no_structure, id_quiet, no_value}
 
@@ -88,7 +88,7 @@ module _ (texts : List (List ℕ)) (w : WaySpec) (h : WayFits w) (typed : Entity
     lons_column : column WAY_LON (fields_in at (message (way_slots texts w))) ≡ deltas (map (λ l. l.1) w.locations)
     lons_column = column_written WAY_LON at (way_slots texts w) fits room ∙ append-nil _
 
-    slots_read : way_in by_index (table_of texts) w.scale (fields_in at (message (way_slots texts w))) ≡ w
+    slots_read : way_in indexed (table_of texts) w.scale (fields_in at (message (way_slots texts w))) ≡ w
     unfolding way_in
     slots_read =
         let id = id_read WAY_KINDS known texts w.id w.meta w.tags own ready own_is at room in
@@ -119,7 +119,7 @@ module _ (texts : List (List ℕ)) (w : WaySpec) (h : WayFits w) (typed : Entity
         rw (id, alike, refs, lats, lons) refl
 
   module _ (at : ℕ) (room : length (way_message texts w) < 2 ^ 64) where
-    pub way_read : way_in by_index (table_of texts) w.scale (fields_in at (way_message texts w)) ≡ w
+    pub way_read : way_in indexed (table_of texts) w.scale (fields_in at (way_message texts w)) ≡ w
     unfolding way_message
     way_read = slots_read at room
 

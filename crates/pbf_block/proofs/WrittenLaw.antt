@@ -23,7 +23,7 @@ use Rattle.osm_entity.proofs.TextCounts.{node_count, way_count, relation_count}
 use Rattle.pbf_dense.specs.WrittenDense.{dense_message, AreAlike}
 use Rattle.pbf_block.specs.declared.group.TheConstants.{DENSE}
 use Rattle.pbf_block.specs.PrimitiveBlock.{block_fault, entities}
-use Rattle.pbf_block.specs.WrittenBlock.{same_scale, both, same_fields, are_alike, all_alike, is_block, scale_among, texts_of_all, group_message, block_slots, block_message}
+use Rattle.pbf_block.specs.WrittenBlock.{same_scale, iff, same_fields, are_alike, all_alike, is_block, scale_among, texts_of_all, group_message, block_slots, block_message}
 use Rattle.pbf_block.proofs.EntityLaw.{all_such, AreAmong, map_of_all}
 use Rattle.pbf_block.proofs.GroupLaw.{GroupGood}
 use Rattle.pbf_block.proofs.NodesLaw.{group_of_nodes, nodes_good}
@@ -71,7 +71,7 @@ scale_same s t e =
         → ◌≡◌ {A = Scale} (record { granularity = p; date_granularity = q; lat_offset = r; lon_offset = s }) (record { granularity = a; date_granularity = b; lat_offset = c; lon_offset = d })
     same a b c d p q r s e f g h = rw (e, f, g, h) refl
 
-both_are : (a b : Bool) → both a b ≡ true → b ≡ a
+both_are : (a b : Bool) → iff a b ≡ true → b ≡ a
 both_are true b e = e
 both_are false true e = absurd cc
 both_are false false e = refl

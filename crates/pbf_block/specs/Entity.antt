@@ -30,11 +30,11 @@ tags_in table os = paired_tags table (column KEYS os) (column VALS os)
 
 -- what is left open: what is read of a column of differences, and of a dense message. It is said once by index, and once as cursors
 -- go along the columns
-pub record How : Type 0 where
+pub record Decoding : Type 0 where
   pub values : List ℤ → List ℤ
   pub dense : List (List ℕ) → Scale → List Occurrence → List NodeSpec
 
-abbrev pub values_in : How → ℕ → List Occurrence → List ℤ
+abbrev pub values_in : Decoding → ℕ → List Occurrence → List ℤ
 values_in how k os = how.values (map unzigzag (column k os))
 
 -- ---- what one pass over the message finds

@@ -18,7 +18,7 @@ use Rattle.pbf_block.specs.declared.node.TheConstants.{NODE_KINDS}
 use Rattle.pbf_block.specs.declared.primitive_block.TheConstants.{PRIMITIVEGROUP}
 use Rattle.pbf_block.specs.declared.relation.TheConstants.{RELATION_KINDS}
 use Rattle.pbf_block.specs.declared.way.TheConstants.{WAY_KINDS}
-use Rattle.pbf_block.specs.Entity.{How}
+use Rattle.pbf_block.specs.Entity.{Decoding}
 use Rattle.pbf_block.specs.Node.{node_structure, node_values, node_in}
 use Rattle.pbf_block.specs.Relation.{relation_structure, relation_values, relation_in}
 use Rattle.pbf_block.specs.Way.{way_structure, way_values, way_in}
@@ -67,7 +67,7 @@ member_values limit o = entered NODES (node_values limit) o ++ entered DENSE (de
 -- ---- the entities of a field
 
 -- those of the message that the field k holds
-abbrev pub message_entities : How → List (List ℕ) → Scale → ℕ → List Occurrence → List EntitySpec
+abbrev pub message_entities : Decoding → List (List ℕ) → Scale → ℕ → List Occurrence → List EntitySpec
 message_entities how table scale k os =
     if k == NODES then node (node_in table scale os) ∷ []
     else (if k == DENSE then map node (how.dense table scale os)
@@ -75,7 +75,7 @@ message_entities how table scale k os =
     else (if k == RELATIONS then relation (relation_in how table scale os) ∷ []
     else [])))
 
-abbrev pub member_entities : How → List (List ℕ) → Scale → Occurrence → List EntitySpec
+abbrev pub member_entities : Decoding → List (List ℕ) → Scale → Occurrence → List EntitySpec
 member_entities how table scale o = inside (λ at m. message_entities how table scale o.number (fields_in at m)) o.content
 
 -- ---- weights
@@ -84,7 +84,7 @@ abbrev pub weight_fault : ℕ → EntitySpec → List Fault
 weight_fault place entity = fault_where (nat_lt HIGHEST_WEIGHT (entity_weight entity)) place EntityLarge
 
 -- of the entities of one field, at that field's place
-abbrev pub member_weights : How → List (List ℕ) → Scale → Occurrence → List Fault
+abbrev pub member_weights : Decoding → List (List ℕ) → Scale → Occurrence → List Fault
 member_weights how table scale o = flat_map (weight_fault o.place) (member_entities how table scale o)
 
 -- ---- groups in a block

@@ -8,7 +8,7 @@ use Rattle.osm_entity.specs.Entity.{EntitySpec, node, way, relation}
 use Rattle.pbf_block.specs.declared.kinds.Kinds.{Kinds}
 use Rattle.pbf_block.specs.declared.primitive_block.TheConstants.{PRIMITIVEGROUP}
 use Rattle.pbf_block.specs.declared.group.TheConstants.{NODES, DENSE, WAYS, RELATIONS}
-use Rattle.pbf_block.specs.Entity.{How}
+use Rattle.pbf_block.specs.Entity.{Decoding}
 use Rattle.pbf_block.specs.Group.{member_entities}
 
 -- an entity is of one of the kinds
@@ -28,11 +28,11 @@ holds_kind kinds k =
 
 -- ---- the entities of these kinds, where other fields are skipped
 
-abbrev pub member_entities_among : Kinds → How → List (List ℕ) → Scale → Occurrence → List EntitySpec
+abbrev pub member_entities_among : Kinds → Decoding → List (List ℕ) → Scale → Occurrence → List EntitySpec
 member_entities_among kinds how table scale o = if holds_kind kinds o.number then member_entities how table scale o else []
 
-abbrev pub group_entities_among : Kinds → How → List (List ℕ) → Scale → Occurrence → List EntitySpec
+abbrev pub group_entities_among : Kinds → Decoding → List (List ℕ) → Scale → Occurrence → List EntitySpec
 group_entities_among kinds how table scale o = entered PRIMITIVEGROUP (λ place at m. flat_map (member_entities_among kinds how table scale) (fields_in at m)) o
 
-abbrev pub entities_among : Kinds → How → List (List ℕ) → Scale → List Occurrence → List EntitySpec
+abbrev pub entities_among : Kinds → Decoding → List (List ℕ) → Scale → List Occurrence → List EntitySpec
 entities_among kinds how table scale os = flat_map (group_entities_among kinds how table scale) os

@@ -6,7 +6,7 @@ use Rattle.osm_entity.specs.Entity.{EntitySpec, node, way, relation}
 use Rattle.pbf_dense.specs.Judged.{id_count}
 use Rattle.pbf_dense.specs.Nodes.{node_at}
 use Rattle.pbf_block.specs.declared.counts.Counts.{Counts}
-use Rattle.pbf_block.specs.Entity.{How}
+use Rattle.pbf_block.specs.Entity.{Decoding}
 
 abbrev pub nodes_of : EntitySpec → ℕ
 nodes_of (node n) = 1
@@ -47,5 +47,5 @@ count_one c (way w) = record c { ways = capped (c.ways + 1) }
 count_one c (relation r) = record c { relations = capped (c.relations + 1) }
 
 -- the entities, where a dense message has a node for each byte that ends a varint in its column of ids
-abbrev pub by_ends : How
-by_ends = record { values = sums; dense = λ table scale os. map (node_at table scale os) (range_with_len 0 (id_count os)) }
+abbrev pub counting : Decoding
+counting = record { values = sums; dense = λ table scale os. map (node_at table scale os) (range_with_len 0 (id_count os)) }

@@ -23,8 +23,8 @@ only_from k None os = only k os
 only_from k (Some fields) os = only_left k fields
 
 -- each of the numbers that a kind of entity has of its own is above the one before, and all are above those that all entities have
-abbrev pub AreApart : ℕ × ℕ × ℕ → Type 0
-AreApart own = (INFO < own.0) × (own.0 < own.1) × (own.1 < own.2)
+abbrev pub HasRisingNumbers : ℕ × ℕ × ℕ → Type 0
+HasRisingNumbers own = (INFO < own.0) × (own.0 < own.1) × (own.1 < own.2)
 
 -- what was found of the fields of these numbers
 pub record AreOwn (own : ℕ × ℕ × ℕ) (found : Fields × Fields × Fields) (os : List Occurrence) : Type 0 where

@@ -13,26 +13,26 @@ use Rattle.pbf_strings.specs.Texts.{texts, table_kinds}
 use Rattle.osm_entity.specs.Entity.{EntitySpec}
 use Rattle.pbf_dense.specs.Nodes.{nodes, nodes_along}
 use Rattle.pbf_block.specs.declared.primitive_block.TheConstants.{STRINGTABLE, PRIMITIVEGROUP, GRANULARITY, DATE_GRANULARITY, BLOCK_KINDS}
-use Rattle.pbf_block.specs.Entity.{How}
+use Rattle.pbf_block.specs.Entity.{Decoding}
 use Rattle.pbf_block.specs.Group.{group_wire, group_structure, in_group, member_values, member_entities, member_weights}
-use Rattle.pbf_block.specs.Scale.{scale_of, table_of}
+use Rattle.pbf_block.specs.Scale.{scale_of, stored_texts}
 use Rattle.pbf_strings.specs.declared.table.TheConstants.{MOST_TEXTS}
 use Rattle.pbf_wire.specs.declared.limits.TheConstants.{SUM_LIMIT}
 
 -- ---- entities
 
 -- each value of a column is the sum of all entries up to its own
-abbrev pub by_index : How
-by_index = record { values = sums; dense = nodes }
+abbrev pub indexed : Decoding
+indexed = record { values = sums; dense = nodes }
 
 -- running sums, up to the first that is out of range
-abbrev pub along : How
-along = record { values = sums_within (pos SUM_LIMIT) (pos 0); dense = nodes_along }
+abbrev pub streaming : Decoding
+streaming = record { values = sums_within (pos SUM_LIMIT) (pos 0); dense = nodes_along }
 
 -- the entities of a payload that begins at this place: group by group, in a group field by field, of a dense message node by
 -- node
 unfoldable pub entities : ℕ → List ℕ → List EntitySpec
-entities at payload = let os = fields_in at payload in flat_map (in_group (member_entities by_index (table_of os) (scale_of os))) os
+entities at payload = let os = fields_in at payload in flat_map (in_group (member_entities indexed (stored_texts os) (scale_of os))) os
 
 -- ---- wire form
 
@@ -69,13 +69,13 @@ value_faults limit at m =
 -- ---- weights: entities that are too heavy to be written
 
 unfoldable pub payload_weights : ℕ → List ℕ → List Fault
-payload_weights at m = let os = fields_in at m in flat_map (in_group (member_weights by_index (table_of os) (scale_of os))) os
+payload_weights at m = let os = fields_in at m in flat_map (in_group (member_weights indexed (stored_texts os) (scale_of os))) os
 
 -- ---- all phases
 
 -- phase by phase; the texts are those of the last table, wherever it is
 abbrev pub block_phases : ℕ → List ℕ → List (List Fault)
-block_phases at m = wire_faults at m ∷ structure_faults at m ∷ value_faults (length (table_of (fields_in at m))) at m ∷ payload_weights at m ∷ []
+block_phases at m = wire_faults at m ∷ structure_faults at m ∷ value_faults (length (stored_texts (fields_in at m))) at m ∷ payload_weights at m ∷ []
 
 -- the first of them: the least of the first phase that has one
 unfoldable pub block_fault : ℕ → List ℕ → Option Fault

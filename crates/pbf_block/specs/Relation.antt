@@ -13,7 +13,7 @@ use Rattle.osm_entity.specs.Sources.{column_members}
 use Rattle.pbf_dense.specs.Judged.{range_faults}
 use Rattle.pbf_block.specs.declared.entity.TheConstants.{ID, INFO}
 use Rattle.pbf_block.specs.declared.relation.TheConstants.{ROLES_SID, MEMIDS, TYPES}
-use Rattle.pbf_block.specs.Entity.{How, entity_structure, entity_values, tags_in, values_in}
+use Rattle.pbf_block.specs.Entity.{Decoding, entity_structure, entity_values, tags_in, values_in}
 use Rattle.pbf_block.specs.Info.{info_in, out_of_range}
 use Rattle.pbf_block.specs.Scale.{number_or}
 
@@ -31,7 +31,7 @@ relation_values limit place at m =
     in_last ID (out_of_range 62 low_i64) os ++ entity_values limit os
     ++ index_faults limit (joined ROLES_SID os) ++ range_faults MEMIDS os ++ flat_map (below_fault MemberKind 3) (joined TYPES os)
 
-unfoldable pub relation_in : How → List (List ℕ) → Scale → List Occurrence → RelationSpec
+unfoldable pub relation_in : Decoding → List (List ℕ) → Scale → List Occurrence → RelationSpec
 relation_in how table scale os = record {
   id = number_or (pos 0) low_i64 ID os;
   meta = info_in table (embedded INFO os);

@@ -10,18 +10,18 @@ use Rattle.pbf_dense.specs.declared.dense.Dense.{Dense}
 use Rattle.pbf_dense.specs.Cursors.{dense_left}
 use Rattle.pbf_block.specs.declared.entities.Entities.{Entities}
 use Rattle.pbf_block.specs.declared.primitive_block.TheConstants.{PRIMITIVEGROUP}
-use Rattle.pbf_block.specs.declared.members.Members.{Members}
+use Rattle.pbf_block.specs.declared.members.GroupFields.{GroupFields}
 use Rattle.pbf_block.specs.declared.way.UnmadeWay.{UnmadeWay}
 use Rattle.pbf_block.specs.Way.{way_in}
 use Rattle.pbf_block.specs.declared.runs.Run.{Run}
 use Rattle.pbf_block.specs.declared.runs.Run.TheVariants as run
 use Rattle.pbf_block.specs.declared.runs.Runs.{Runs}
 use Rattle.pbf_block.specs.Kinds.{member_entities_among}
-use Rattle.pbf_block.specs.PrimitiveBlock.{along}
+use Rattle.pbf_block.specs.PrimitiveBlock.{streaming}
 
 -- the way that a message holds, which is not made yet
 abbrev pub way_from : UnmadeWay → WaySpec
-way_from w = way_in along w.table.now w.scale (found_in w.message)
+way_from w = way_in streaming w.table.now w.scale (found_in w.message)
 
 -- those that a run holds
 abbrev pub run_entities : Run → List EntitySpec
@@ -40,11 +40,11 @@ joined_runs runs = flat_map (λ es. es) runs
 abbrev pub group_members : Occurrence → List Occurrence
 group_members o = entered PRIMITIVEGROUP (λ place. fields_in) o
 
-abbrev pub members_left : Members → List Occurrence
-members_left it = found_left it.fields ++ flat_map group_members (found_left it.groups)
+abbrev pub group_fields_left : GroupFields → List Occurrence
+group_fields_left it = found_left it.fields ++ flat_map group_members (found_left it.groups)
 
 unfoldable pub runs_left : Runs → List (List EntitySpec)
-runs_left it = map (member_entities_among it.kinds along it.table.now it.scale) (members_left it.members)
+runs_left it = map (member_entities_among it.kinds streaming it.table.now it.scale) (group_fields_left it.members)
 
 -- of the dense message that was begun
 abbrev pub begun_dense : Option Dense → List EntitySpec

@@ -23,5 +23,5 @@ scale_of os = record {
 }
 
 -- the texts of the last string table
-abbrev pub table_of : List Occurrence → List (List ℕ)
-table_of os = texts (occurrence_text (last_of STRINGTABLE os))
+abbrev pub stored_texts : List Occurrence → List (List ℕ)
+stored_texts os = texts (occurrence_text (last_of STRINGTABLE os))

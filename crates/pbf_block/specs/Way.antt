@@ -11,7 +11,7 @@ use Rattle.osm_entity.specs.Entity.{WaySpec}
 use Rattle.pbf_dense.specs.Judged.{goes_with, range_faults}
 use Rattle.pbf_block.specs.declared.entity.TheConstants.{ID, INFO}
 use Rattle.pbf_block.specs.declared.way.TheConstants.{REFS, WAY_LAT, WAY_LON}
-use Rattle.pbf_block.specs.Entity.{How, entity_structure, entity_values, tags_in, values_in}
+use Rattle.pbf_block.specs.Entity.{Decoding, entity_structure, entity_values, tags_in, values_in}
 use Rattle.pbf_block.specs.Info.{info_in, out_of_range}
 use Rattle.pbf_block.specs.Scale.{number_or}
 
@@ -29,7 +29,7 @@ way_values limit place at m =
     in_last ID (out_of_range 62 low_i64) os ++ entity_values limit os
     ++ range_faults REFS os ++ range_faults WAY_LAT os ++ range_faults WAY_LON os
 
-unfoldable pub way_in : How → List (List ℕ) → Scale → List Occurrence → WaySpec
+unfoldable pub way_in : Decoding → List (List ℕ) → Scale → List Occurrence → WaySpec
 way_in how table scale os = record {
   id = number_or (pos 0) low_i64 ID os;
   meta = info_in table (embedded INFO os);

@@ -25,16 +25,16 @@ same_scale s t =
     int_eq s.granularity t.granularity && int_eq s.date_granularity t.date_granularity
     && int_eq s.lat_offset t.lat_offset && int_eq s.lon_offset t.lon_offset
 
-abbrev pub both : Bool → Bool → Bool
-both true b = b
-both false b = not b
+abbrev pub iff : Bool → Bool → Bool
+iff true b = b
+iff false b = not b
 
 -- the same fields of metadata are present
 abbrev pub same_fields : MetaSpec → MetaSpec → Bool
 same_fields m n =
-    both (is_some m.version) (is_some n.version) && both (is_some m.timestamp) (is_some n.timestamp)
-    && both (is_some m.changeset) (is_some n.changeset) && both (is_some m.uid) (is_some n.uid)
-    && both (is_some m.user) (is_some n.user) && both (is_some m.visible) (is_some n.visible)
+    iff (is_some m.version) (is_some n.version) && iff (is_some m.timestamp) (is_some n.timestamp)
+    && iff (is_some m.changeset) (is_some n.changeset) && iff (is_some m.uid) (is_some n.uid)
+    && iff (is_some m.user) (is_some n.user) && iff (is_some m.visible) (is_some n.visible)
 
 -- two entities are of one kind and one scale; and nodes, which are in columns, have the same fields of metadata
 abbrev pub are_alike : EntitySpec → EntitySpec → Bool

@@ -14,7 +14,7 @@ ghost use Rattle.pbf_block.specs.Kinds.{is_among};
 ghost use Rattle.pbf_block.specs.Numbers.{counts_of};
 ghost use Rattle.pbf_block.specs.Runs.{entities_left, joined_runs, runs_left};
 ghost use Rattle.pbf_wire.specs.Fields.{occurrence};
-ghost use Rattle.pbf_block.specs.Scale.{scale_of, table_of};
+ghost use Rattle.pbf_block.specs.Scale.{scale_of, stored_texts};
 ghost use Rattle.pbf_wire.specs.declared.limits.TheConstants.{OFFSET_LIMIT, RAW_LIMIT};
 
 use crate::counts::Counts;
@@ -58,19 +58,19 @@ pub(crate) fn bytes_in(field: Option<Field<'_>>) -> &[u8]
 fn read_table<'a>(alloc: Global, payload: Message<'a>) -> Result<Table<'a>, AllocError>
     requires short { length payload.bytes.now < RAW_LIMIT }
     requires structure { structure_faults payload.at payload.bytes.now ≡ [] }
-    ensures { IfOk result (λ table. table ≡ table_of (found_in payload.entry)) }
+    ensures { IfOk result (λ table. table ≡ stored_texts (found_in payload.entry)) }
 {
     Table::open(alloc, bytes_in(last_field(payload, STRINGTABLE)))
 }
 
 /// The first fault of the phases that read texts: of values, otherwise of weights.
 fn late_fault<'a>(payload: Message<'a>, table: &'a Table<'a>, scale: Scale) -> Option<Fault>
-    requires texts { table.now ≡ table_of (found_in payload) }
+    requires texts { table.now ≡ stored_texts (found_in payload) }
     requires scale { scale ≡ scale_of (found_in payload) }
     requires wire { wire_faults payload.at payload.bytes.now ≡ [] }
     requires structure { structure_faults payload.at payload.bytes.now ≡ [] }
     ensures { result ≡ option_or
-        (least (value_faults (length (table_of (found_in payload.entry)))
+        (least (value_faults (length (stored_texts (found_in payload.entry)))
         payload.entry.at payload.entry.bytes.now))
         (least (payload_weights payload.entry.at payload.entry.bytes.now)) }
 {
@@ -157,7 +157,7 @@ impl<'a> Block<'a> {
     /// How many bytes the block holds beside the payload: four for each text of its table, at most 4,194,304.
     pub fn held(&self) -> u64
         ensures value { result
-            ≡ 4 * length (table_of (fields_in self.now.at self.now.payload.now)) }
+            ≡ 4 * length (stored_texts (fields_in self.now.at self.now.payload.now)) }
         ensures bound { result ≤ 4194304 }
     {
         self.opened.held()

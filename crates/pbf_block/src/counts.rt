@@ -7,10 +7,10 @@ ghost use Rattle.pbf_wire.specs.Faults.{found_in};
 ghost use Rattle.osm_entity.specs.declared.scale.Scale.{Scale};
 ghost use Rattle.osm_entity.specs.Views.{entity_of};
 ghost use Rattle.pbf_block.specs.Group.{in_group, member_entities};
-ghost use Rattle.pbf_block.specs.Numbers.{counted_with, count_one, counts_of, by_ends};
+ghost use Rattle.pbf_block.specs.Numbers.{counted_with, count_one, counts_of, counting};
 
 use crate::group::{DENSE, NODES, RELATIONS, WAYS};
-use crate::members::Members;
+use crate::members::GroupFields;
 use crate::primitive_block::PRIMITIVEGROUP;
 use osm_entity::EntityRef;
 use pbf_dense::Dense;
@@ -60,7 +60,7 @@ impl Counts {
 /// Counts the entities of a field of a group. Of a dense message the ids are counted, and none is decoded.
 fn count_member(field: Field<'_>) -> Counts
     ensures { (table : List (List ℕ)) (scale : Scale)
-        → result ≡ counts_of (member_entities by_ends table scale (occurrence field.entry)) }
+        → result ≡ counts_of (member_entities counting table scale (occurrence field.entry)) }
 {
     let mut counts = Counts::none();
     if let Payload::Bytes(bytes, at) = field.payload {
@@ -80,10 +80,10 @@ fn count_member(field: Field<'_>) -> Counts
 pub(crate) fn count_entities(payload: Message<'_>) -> Counts
     ensures { (table : List (List ℕ)) (scale : Scale)
         → result ≡ counts_of
-        (flat_map (in_group (member_entities by_ends table scale)) (found_in payload.entry)) }
+        (flat_map (in_group (member_entities counting table scale)) (found_in payload.entry)) }
 {
     let mut counts = Counts::none();
-    for field in Members::over(payload) {
+    for field in GroupFields::over(payload) {
         counts.add(count_member(field));
     }
     counts

@@ -6,7 +6,7 @@ ghost use Rattle.pbf_wire.specs.Faults.{twice, found_in};
 ghost use Rattle.pbf_wire.specs.Least.{least};
 ghost use Rattle.pbf_wire.specs.Occurrence.{Occurrence};
 ghost use Rattle.pbf_block.specs.Entity.{AreCounts, AreOwnCounts, AreValues, entity_structure, entity_values};
-ghost use Rattle.pbf_block.specs.Passes.{AreApart, AreOwn};
+ghost use Rattle.pbf_block.specs.Passes.{HasRisingNumbers, AreOwn};
 ghost use Rattle.pbf_block.specs.declared.entity.TheConstants.{INFO};
 
 use crate::info::InfoRanges;
@@ -40,7 +40,7 @@ pub(crate) struct EntityCounts {
 pub(crate) fn entity_counts<const FIRST: u64, const SECOND: u64, const THIRD: u64>(
     message: Message<'_>,
 ) -> (EntityCounts, usize, usize, usize)
-    requires apart { AreApart (FIRST, SECOND, THIRD) }
+    requires apart { HasRisingNumbers (FIRST, SECOND, THIRD) }
     ensures alike { AreCounts result.0 (found_in message.entry) }
     ensures own { AreOwnCounts (FIRST, SECOND, THIRD) (result.1, result.2, result.3)
         (found_in message.entry) }
@@ -117,7 +117,7 @@ pub(crate) fn entity_values<const FIRST: u64, const SECOND: u64, const THIRD: u6
     message: Message<'_>,
     limit: u64,
 ) -> (EntityValues, Fields<'_>, Fields<'_>, Fields<'_>)
-    requires apart { AreApart (FIRST, SECOND, THIRD) }
+    requires apart { HasRisingNumbers (FIRST, SECOND, THIRD) }
     ensures alike { AreValues limit result.0 (found_in message.entry) }
     ensures own { AreOwn (FIRST, SECOND, THIRD) (result.1, result.2, result.3)
         (found_in message.entry) }

@@ -10,8 +10,8 @@ ghost use Rattle.osm_entity.specs.Sources.{tags_left};
 ghost use Rattle.osm_entity.specs.Views.{meta_of};
 ghost use Rattle.pbf_block.specs.Info.{info_in};
 ghost use Rattle.pbf_block.specs.Entity.{tags_in, values_in};
-ghost use Rattle.pbf_block.specs.PrimitiveBlock.{along};
-ghost use Rattle.pbf_block.specs.Passes.{AreApart, AreFields, AreOwn, only, only_left};
+ghost use Rattle.pbf_block.specs.PrimitiveBlock.{streaming};
+ghost use Rattle.pbf_block.specs.Passes.{HasRisingNumbers, AreFields, AreOwn, only, only_left};
 ghost use Rattle.pbf_block.specs.Scale.{number_or};
 
 use crate::entity::{ID, INFO, KEYS, VALS};
@@ -38,7 +38,7 @@ pub(crate) struct EntityFields<'a> {
 pub(crate) fn entity_fields<const FIRST: u64, const SECOND: u64, const THIRD: u64>(
     message: Message<'_>,
 ) -> (EntityFields<'_>, Fields<'_>, Fields<'_>, Fields<'_>)
-    requires apart { AreApart (FIRST, SECOND, THIRD) }
+    requires apart { HasRisingNumbers (FIRST, SECOND, THIRD) }
     ensures alike { AreFields result.0 (found_in message.entry) }
     ensures own { AreOwn (FIRST, SECOND, THIRD) (result.1, result.2, result.3)
         (found_in message.entry) }
@@ -121,7 +121,7 @@ pub(crate) fn column(fields: Fields<'_>, number: u64) -> Column<'_>
 /// The values of a column of differences that these fields hold under this number.
 pub(crate) fn values(fields: Fields<'_>, number: u64) -> Sums<'_>
     ensures { (os : List Occurrence) → only_left number fields.entry ≡ only number os
-        → sums_left result ≡ values_in along number os }
+        → sums_left result ≡ values_in streaming number os }
 {
     Sums::new(column(fields, number), STORED_LIMIT)
 }

@@ -7,7 +7,7 @@ ghost use Rattle.pbf_wire.specs.Faults.{found_in};
 ghost use Rattle.pbf_strings.specs.Texts.{longest as longest_of};
 ghost use Rattle.osm_entity.specs.Views.{entity_of};
 ghost use Rattle.pbf_block.specs.Group.{member_wire, is_member, first_member, is_other, entities_structure, member_structure, group_structure, member_values, weight_fault, member_weights};
-ghost use Rattle.pbf_block.specs.PrimitiveBlock.{along};
+ghost use Rattle.pbf_block.specs.PrimitiveBlock.{streaming};
 ghost use Rattle.pbf_wire.specs.declared.limits.TheConstants.{SUM_LIMIT};
 
 use crate::entity::INFO;
@@ -48,9 +48,9 @@ pub(crate) const GROUP_KINDS: [(u64, Kind); 5] = [
 
 /// The wire form of the entities that a field of a group holds.
 #[derive(Clone, Copy)]
-pub(crate) struct MemberForm;
+pub(crate) struct GroupFieldForm;
 
-impl Judge for MemberForm {
+impl Judge for GroupFieldForm {
     ghost faults = { λ _. member_wire };
 
     fn judge(&self, field: Field<'_>) -> Option<Fault> {
@@ -140,12 +140,12 @@ pub(crate) fn judge_structure(message: Message<'_>) -> Option<Fault>
 
 /// The values of the entities that a field of a group holds, whose table has `limit` texts.
 #[derive(Clone, Copy)]
-pub(crate) struct MemberValues {
+pub(crate) struct GroupFieldValues {
     pub(crate) limit: u64,
     ghost limited: { limit ≤ SUM_LIMIT },
 }
 
-impl Judge for MemberValues {
+impl Judge for GroupFieldValues {
     ghost faults = { λ members. member_values members.limit };
 
     fn judge(&self, field: Field<'_>) -> Option<Fault> {
@@ -184,7 +184,7 @@ fn are_light(parts: u64, longest: u64) -> bool
 #[tactic(auto, using(crate::proofs::LightLemmas::dense_member, crate::proofs::LightLemmas::other_member))]
 fn is_light(field: Field<'_>, longest: u64) -> bool
     ensures { (table : List (List ℕ)) (scale : Scale) → longest_of table ≤ longest → IsTrue result
-        → member_weights along table scale (occurrence field.entry) ≡ [] }
+        → member_weights streaming table scale (occurrence field.entry) ≡ [] }
 {
     let Payload::Bytes(bytes, at) = field.payload else {
         return false;
@@ -200,7 +200,7 @@ fn is_light(field: Field<'_>, longest: u64) -> bool
 
 /// `EntityLarge` at a field of a group, if one of its entities is too heavy.
 fn judge_members<'a>(field: Field<'a>, table: &'a Table<'a>, scale: Scale) -> Option<Fault>
-    ensures { result ≡ least (member_weights along table.now scale (occurrence field.entry)) }
+    ensures { result ≡ least (member_weights streaming table.now scale (occurrence field.entry)) }
 {
     match run_in(field, table, scale, Kinds::all()) {
         Run::Nothing => None,
@@ -213,15 +213,15 @@ fn judge_members<'a>(field: Field<'a>, table: &'a Table<'a>, scale: Scale) -> Op
 /// The weights of the entities that a field of a group holds, if no text is longer than `longest`: most fields are short enough
 /// to be skipped.
 #[derive(Clone, Copy)]
-pub(crate) struct MemberWeights<'a> {
+pub(crate) struct GroupFieldWeights<'a> {
     pub(crate) table: &'a Table<'a>,
     pub(crate) scale: Scale,
     pub(crate) longest: u64,
     ghost short: { longest_of table.now ≤ longest },
 }
 
-impl Judge for MemberWeights<'_> {
-    ghost faults = { λ members. member_weights along members.table.now members.scale };
+impl Judge for GroupFieldWeights<'_> {
+    ghost faults = { λ members. member_weights streaming members.table.now members.scale };
 
     fn judge(&self, field: Field<'_>) -> Option<Fault> {
         if is_light(field, self.longest) {

@@ -16,7 +16,7 @@ ghost use Rattle.pbf_block.specs.declared.way.TheConstants.{WAY_KINDS};
 ghost use Rattle.pbf_block.specs.declared.relation.TheConstants.{RELATION_KINDS};
 ghost use Rattle.pbf_block.specs.declared.entity.TheConstants.{INFO};
 ghost use Rattle.pbf_block.specs.declared.info.TheConstants.{INFO_KINDS};
-ghost use Rattle.pbf_block.specs.PrimitiveBlock.{block_fault, all_faults, by_index, entities};
+ghost use Rattle.pbf_block.specs.PrimitiveBlock.{block_fault, all_faults, indexed, entities};
 ghost use Rattle.pbf_block.specs.Way.{way_in, way_structure, way_values};
 ghost use Rattle.pbf_block.specs.Relation.{relation_in, relation_structure, relation_values};
 ghost use Rattle.pbf_block.specs.WrittenBlock.{is_block, block_message};
@@ -42,7 +42,7 @@ pub fn written_way_is_read()
     ensures read { (texts : List (List ℕ)) (w : WaySpec) → WayFits w → EntityTyped (way w)
         → AllByRecursion (λ text. has_text texts text ≡ true) (way_texts w)
         → length (table_of texts) ≤ MOST_TEXTS → (at : ℕ)
-        → way_in by_index (table_of texts) w.scale (fields_in at (way_message texts w)) ≡ w }
+        → way_in indexed (table_of texts) w.scale (fields_in at (way_message texts w)) ≡ w }
     ensures wire { (texts : List (List ℕ)) (w : WaySpec) → WayFits w → EntityTyped (way w)
         → AllByRecursion (λ text. has_text texts text ≡ true) (way_texts w)
         → length (table_of texts) ≤ MOST_TEXTS → (place at : ℕ)
@@ -62,7 +62,7 @@ pub fn written_relation_is_read()
     ensures read { (texts : List (List ℕ)) (r : RelationSpec) → RelationFits r
         → EntityTyped (relation r) → AllByRecursion (λ text. has_text texts text ≡ true)
         (relation_texts r) → length (table_of texts) ≤ MOST_TEXTS → (at : ℕ)
-        → relation_in by_index (table_of texts) r.scale (fields_in at (relation_message texts r))
+        → relation_in indexed (table_of texts) r.scale (fields_in at (relation_message texts r))
         ≡ r }
     ensures wire { (texts : List (List ℕ)) (r : RelationSpec) → RelationFits r
         → EntityTyped (relation r) → AllByRecursion (λ text. has_text texts text ≡ true)

@@ -5,40 +5,40 @@ use pbf_wire::{Field, Fields, FoundFields, Message, Payload};
 
 /// The fields of a block's groups that are still to come, in order: an iterator over the payload, which does not allocate.
 #[derive(Clone, Copy)]
-pub(crate) struct Members<'a> {
+pub(crate) struct GroupFields<'a> {
     /// What is left of the group that was begun.
     fields: FoundFields<'a>,
     groups: FoundFields<'a>,
 }
 
-impl<'a> Members<'a> {
+impl<'a> GroupFields<'a> {
     ghost use Rattle.std.specs.Prelude.{◌≡◌};
     ghost use Rattle.std.specs.List.{flat_map};
     ghost use Rattle.pbf_wire.specs.Faults.{found_in};
-    ghost use Rattle.pbf_block.specs.Runs.{group_members, members_left};
+    ghost use Rattle.pbf_block.specs.Runs.{group_members, group_fields_left};
 
     /// The fields of all groups of a payload, whatever is wrong with it.
     #[tactic(auto, unfolding(crate::proofs::Parts::items_past))]
-    pub(crate) fn over(payload: Message<'a>) -> Members<'a>
-        ensures { members_left result ≡ flat_map group_members (found_in payload.entry) }
+    pub(crate) fn over(payload: Message<'a>) -> GroupFields<'a>
+        ensures { group_fields_left result ≡ flat_map group_members (found_in payload.entry) }
     {
-        Members {
+        GroupFields {
             fields: Fields::new(&[], 0).found(),
             groups: payload.found(),
         }
     }
 }
 
-impl<'a> Iterator for Members<'a> {
+impl<'a> Iterator for GroupFields<'a> {
     ghost use Rattle.std.specs.Iterator.{YieldsFirstBy, item_count};
     ghost use Rattle.pbf_wire.specs.Fields.{occurrence};
-    ghost use Rattle.pbf_block.specs.Runs.{members_left};
+    ghost use Rattle.pbf_block.specs.Runs.{group_fields_left};
 
     type Item = Field<'a>;
 
-    ghost next_gives = { YieldsFirstBy occurrence members_left };
+    ghost next_gives = { YieldsFirstBy occurrence group_fields_left };
 
-    ghost remaining = { item_count members_left };
+    ghost remaining = { item_count group_fields_left };
 
     #[inline(always)]
     fn next(&mut self) -> Option<Field<'a>> {

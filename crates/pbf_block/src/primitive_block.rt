@@ -5,10 +5,10 @@ ghost use Rattle.std.specs.List.{flat_map};
 ghost use Rattle.pbf_wire.specs.Faults.{found_in};
 ghost use Rattle.pbf_wire.specs.Least.{least};
 ghost use Rattle.pbf_block.specs.Group.{member_weights, in_group};
-ghost use Rattle.pbf_block.specs.PrimitiveBlock.{along, part_wire, wire_faults, part_structure, structure_faults, value_faults};
+ghost use Rattle.pbf_block.specs.PrimitiveBlock.{streaming, part_wire, wire_faults, part_structure, structure_faults, value_faults};
 ghost use Rattle.pbf_wire.specs.declared.limits.TheConstants.{SUM_LIMIT};
 
-use crate::group::{self, GROUP_KINDS, MemberForm, MemberValues, MemberWeights};
+use crate::group::{self, GROUP_KINDS, GroupFieldForm, GroupFieldValues, GroupFieldWeights};
 use crate::ranges::judge_positive;
 use osm_entity::Scale;
 use pbf_strings::{TABLE_KINDS, Table};
@@ -50,7 +50,7 @@ impl Judge for PartForm {
         let message = field.message()?;
         match field.number {
             STRINGTABLE => judge_leaf(message, &TABLE_KINDS),
-            PRIMITIVEGROUP => judge_form(message, &GROUP_KINDS, &MemberForm),
+            PRIMITIVEGROUP => judge_form(message, &GROUP_KINDS, &GroupFieldForm),
             _ => None,
         }
     }
@@ -107,7 +107,7 @@ pub(crate) fn judge_values(payload: Message<'_>, limit: u64) -> Option<Fault>
             Reason::DateGranularity,
         ),
     );
-    let members = InField(PRIMITIVEGROUP, EachField(MemberValues { limit }));
+    let members = InField(PRIMITIVEGROUP, EachField(GroupFieldValues { limit }));
     lesser(scale, judge_fields(payload, &members))
 }
 
@@ -119,9 +119,9 @@ pub(crate) fn judge_weights<'a>(
     scale: Scale,
 ) -> Option<Fault>
     ensures { result ≡ least
-        (flat_map (in_group (member_weights along table.now scale)) (found_in payload.entry)) }
+        (flat_map (in_group (member_weights streaming table.now scale)) (found_in payload.entry)) }
 {
-    let members = MemberWeights {
+    let members = GroupFieldWeights {
         table,
         scale,
         longest: table.longest() as u64,

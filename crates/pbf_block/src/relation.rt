@@ -6,7 +6,7 @@ ghost use Rattle.pbf_wire.specs.Least.{least};
 ghost use Rattle.pbf_wire.specs.Occurrence.{Occurrence};
 ghost use Rattle.osm_entity.specs.Views.{relation_of};
 ghost use Rattle.pbf_block.specs.Entity.{AreOwnCounts};
-ghost use Rattle.pbf_block.specs.PrimitiveBlock.{along};
+ghost use Rattle.pbf_block.specs.PrimitiveBlock.{streaming};
 ghost use Rattle.pbf_block.specs.Relation.{are_members, relation_structure, relation_values, relation_in};
 
 use crate::entity::{ID, INFO, KEYS, VALS, entity_counts, entity_values};
@@ -78,7 +78,7 @@ pub(crate) fn relation_in<'a>(
     table: &'a Table<'a>,
     scale: Scale,
 ) -> RelationRef<'a>
-    ensures { relation_of result ≡ relation_in along table.now scale (found_in message.entry) }
+    ensures { relation_of result ≡ relation_in streaming table.now scale (found_in message.entry) }
 {
     let (fields, roles, ids, kinds) = entity_fields::<ROLES_SID, MEMIDS, TYPES>(message);
     let members = ColumnMembers::new(

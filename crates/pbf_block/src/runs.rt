@@ -3,12 +3,12 @@
 ghost use Rattle.std.specs.Prelude.{◌≡◌};
 ghost use Rattle.pbf_wire.specs.Fields.{occurrence};
 ghost use Rattle.pbf_block.specs.Kinds.{member_entities_among};
-ghost use Rattle.pbf_block.specs.PrimitiveBlock.{along};
+ghost use Rattle.pbf_block.specs.PrimitiveBlock.{streaming};
 ghost use Rattle.pbf_block.specs.Runs.{run_entities};
 
 use crate::group::{DENSE, NODES, RELATIONS, WAYS};
 use crate::kinds::Kinds;
-use crate::members::Members;
+use crate::members::GroupFields;
 use crate::node::node_in;
 use crate::relation::relation_in;
 use crate::way::UnmadeWay;
@@ -39,7 +39,7 @@ pub(crate) fn run_in<'a>(
     kinds: Kinds,
 ) -> Run<'a>
     ensures { run_entities result
-        ≡ member_entities_among kinds along table.now scale (occurrence field.entry) }
+        ≡ member_entities_among kinds streaming table.now scale (occurrence field.entry) }
 {
     if !kinds.are_in(field.number) {
         return Run::Nothing;
@@ -65,7 +65,7 @@ pub(crate) fn run_in<'a>(
 /// does not allocate.
 #[derive(Clone, Copy)]
 pub struct Runs<'a> {
-    members: Members<'a>,
+    members: GroupFields<'a>,
     table: &'a Table<'a>,
     scale: Scale,
     kinds: Kinds,
@@ -84,10 +84,10 @@ impl<'a> Runs<'a> {
         kinds: Kinds,
     ) -> Runs<'a>
         ensures { joined_runs (runs_left result)
-            ≡ entities_among kinds along table.now scale (found_in payload.entry) }
+            ≡ entities_among kinds streaming table.now scale (found_in payload.entry) }
     {
         Runs {
-            members: Members::over(payload),
+            members: GroupFields::over(payload),
             table,
             scale,
             kinds,

@@ -8,7 +8,7 @@ ghost use Rattle.pbf_block.specs.PrimitiveBlock.{block_fault, entities};
 ghost use Rattle.pbf_block.specs.Kinds.{is_among};
 ghost use Rattle.pbf_block.specs.Numbers.{counts_of};
 ghost use Rattle.pbf_block.specs.Runs.{joined_runs, runs_left};
-ghost use Rattle.pbf_block.specs.Scale.{scale_of, table_of};
+ghost use Rattle.pbf_block.specs.Scale.{scale_of, stored_texts};
 ghost use Rattle.pbf_wire.specs.declared.limits.TheConstants.{OFFSET_LIMIT, RAW_LIMIT};
 
 use crate::block::bytes_in;
@@ -31,7 +31,7 @@ pub struct UnjudgedBlock<'a> {
     table: Table<'a>,
     scale: Scale,
     ghost room: { at + length payload.now ≤ OFFSET_LIMIT },
-    ghost texts: { table ≡ table_of (fields_in at payload.now) },
+    ghost texts: { table ≡ stored_texts (fields_in at payload.now) },
     ghost scaled: { scale ≡ scale_of (fields_in at payload.now) },
 }
 
@@ -44,7 +44,7 @@ impl<'a> UnjudgedBlock<'a> {
         scale: Scale,
     ) -> UnjudgedBlock<'a>
         requires room { at + length payload.now ≤ OFFSET_LIMIT }
-        requires texts { table ≡ table_of (fields_in at payload.now) }
+        requires texts { table ≡ stored_texts (fields_in at payload.now) }
         requires scaled { scale ≡ scale_of (fields_in at payload.now) }
         ensures payload { result.payload.now ≡ payload.now }
         ensures at { result.at ≡ at }
@@ -113,7 +113,7 @@ impl<'a> UnjudgedBlock<'a> {
     /// How many bytes the table holds: four for each of its texts.
     pub(crate) fn held(&self) -> u64
         ensures value { result
-            ≡ 4 * length (table_of (fields_in self.now.at self.now.payload.now)) }
+            ≡ 4 * length (stored_texts (fields_in self.now.at self.now.payload.now)) }
         ensures bound { result ≤ 4194304 }
     {
         self.table.held()

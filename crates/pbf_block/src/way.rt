@@ -8,7 +8,7 @@ ghost use Rattle.pbf_block.specs.declared.way.TheConstants.{WAY_KINDS};
 ghost use Rattle.pbf_wire.specs.Least.{least};
 ghost use Rattle.osm_entity.specs.Sources.{refs_left};
 ghost use Rattle.osm_entity.specs.Views.{way_of};
-ghost use Rattle.pbf_block.specs.PrimitiveBlock.{along};
+ghost use Rattle.pbf_block.specs.PrimitiveBlock.{streaming};
 ghost use Rattle.pbf_block.specs.Runs.{way_from};
 ghost use Rattle.pbf_block.specs.Way.{are_located, way_structure, way_values, way_in};
 
@@ -97,7 +97,7 @@ pub(crate) fn judge_values(message: Message<'_>, limit: u64) -> Option<Fault>
 /// The way of a message. Reads the message's fields once and does not allocate.
 #[tactic(auto, unfolding(crate::specs::Way::way_in))]
 pub(crate) fn way_in<'a>(message: Message<'a>, table: &'a Table<'a>, scale: Scale) -> WayRef<'a>
-    ensures { way_of result ≡ way_in along table.now scale (found_in message.entry) }
+    ensures { way_of result ≡ way_in streaming table.now scale (found_in message.entry) }
 {
     let (fields, refs, lats, lons) = entity_fields::<REFS, WAY_LAT, WAY_LON>(message);
     let locations = SummedLocations::new(values(lats, WAY_LAT), values(lons, WAY_LON));

@@ -29,8 +29,8 @@ use Rattle.osm_entity.specs.Sources.{low_32}
 use Rattle.osm_entity.specs.declared.scale.Scale.{Scale}
 use Rattle.pbf_dense.specs.declared.dense_nodes.TheConstants.{DENSE_KINDS, ID, DENSEINFO, LAT, LON, KEYS_VALS}
 use Rattle.pbf_dense.specs.declared.dense_info.TheConstants.{DENSEINFO_KINDS}
-use Rattle.pbf_dense.specs.Judged.{dense_wire, dense_structure, dense_values, coordinate_counts, are_runs, are_tags, run_faults, info_counts, texts_named, info_values}
-use Rattle.pbf_dense.specs.WrittenDense.{bit_of, info_columns, info_slots, info_message, tag_numbers, run_of, DenseColumns, columns_of, dense_slots, dense_message, AreAlike, NodesHeld}
+use Rattle.pbf_dense.specs.Judged.{dense_wire, dense_structure, dense_values, coordinate_counts, are_runs, are_tags, run_faults, info_counts, texts_named, dense_info_values}
+use Rattle.pbf_dense.specs.WrittenDense.{bit_of, info_columns, dense_info_slots, dense_info_message, tag_numbers, run_of, DenseColumns, columns_of, dense_slots, dense_message, AreAlike, NodesHeld}
 use Rattle.pbf_dense.proofs.InfoLaw.{InfoFits, InfoCounts, no_faults_joined, wide_good, deltas_length, info_leaf, info_counted, info_valued}
 use Rattle.pbf_dense.proofs.MetaLaw.{all_or_none, mapped}
 
@@ -182,10 +182,10 @@ pub column_long : (f : NodeSpec → ℤ) (ns : List NodeSpec) → length (deltas
 column_long f ns = ap (λ (w : List ℕ). length w) (append-nil (deltas (map f ns))) ∙ deltas_length (map f ns) ∙ length-map ns f
 
 -- only the DenseInfo is a message
-pub infos_are : (c : DenseColumns) → flat_map (messages_at DENSEINFO) (dense_slots c) ≡ unless_empty (info_message c.info)
+pub infos_are : (c : DenseColumns) → flat_map (messages_at DENSEINFO) (dense_slots c) ≡ unless_empty (dense_info_message c.info)
 infos_are c =
     column_passed DENSEINFO ID (deltas c.ids) _ refl
-    ∙ ap (λ (w : List (List ℕ)). unless_empty (info_message c.info) ++ w)
+    ∙ ap (λ (w : List (List ℕ)). unless_empty (dense_info_message c.info) ++ w)
     (column_passed DENSEINFO LAT (deltas c.lats) _ refl ∙ column_passed DENSEINFO LON (deltas c.lons) _ refl ∙ column_passed DENSEINFO KEYS_VALS (written_runs c.tagged c.runs) [] refl)
     ∙ append-nil _
 
@@ -200,9 +200,9 @@ module _ (texts : List (List ℕ)) (scale : Scale) (ns : List NodeSpec) (h : Nod
   unfolding dense_message
   short = h.short
 
-  pub info_short : length (message (info_slots written.info)) < 2 ^ 64
-  unfolding info_message
-  info_short = unless_below (2 ^ 64) (info_message written.info) (omega arith) (embedded_below (2 ^ 64) (dense_slots written) short).1.0
+  pub info_short : length (message (dense_info_slots written.info)) < 2 ^ 64
+  unfolding dense_info_message
+  info_short = unless_below (2 ^ 64) (dense_info_message written.info) (omega arith) (embedded_below (2 ^ 64) (dense_slots written) short).1.0
 
   pub info_fit : InfoFits (length (table_of texts)) written.info
   info_fit = info_fits texts (map (λ n. n.meta) ns) (metas_good texts ns h.fit h.versions named)
@@ -229,11 +229,11 @@ module _ (texts : List (List ℕ)) (scale : Scale) (ns : List NodeSpec) (h : Nod
   dense_are = (refl, (refl, (refl, (refl, (refl, tt)))))
 
   -- what is required of DenseInfos is required of the written one
-  only_info : (g : ℕ → ℕ → List ℕ → List Fault) → ((place at : ℕ) → g place at (info_message written.info) ≡ []) → AllByRecursion (SlotQuiet (entered DENSEINFO g)) (dense_slots written)
+  only_info : (g : ℕ → ℕ → List ℕ → List Fault) → ((place at : ℕ) → g place at (dense_info_message written.info) ≡ []) → AllByRecursion (SlotQuiet (entered DENSEINFO g)) (dense_slots written)
   only_info g e = (
     column_quiet (entered DENSEINFO g) ID (deltas written.ids) (λ place at bytes. refl),
     (
-      unless_all (λ m. (place at : ℕ) → entered DENSEINFO g (field_at place DENSEINFO (Bytes m at)) ≡ []) (info_message written.info) e,
+      unless_all (λ m. (place at : ℕ) → entered DENSEINFO g (field_at place DENSEINFO (Bytes m at)) ≡ []) (dense_info_message written.info) e,
       (
         column_quiet (entered DENSEINFO g) LAT (deltas written.lats) (λ place at bytes. refl),
         (
@@ -244,8 +244,8 @@ module _ (texts : List (List ℕ)) (scale : Scale) (ns : List NodeSpec) (h : Nod
     ),
   )
 
-  info_wire : (place at : ℕ) → leaf_faults DENSEINFO_KINDS place at (info_message written.info) ≡ []
-  unfolding info_message
+  info_wire : (place at : ℕ) → leaf_faults DENSEINFO_KINDS place at (dense_info_message written.info) ≡ []
+  unfolding dense_info_message
   info_wire = info_leaf (length (table_of texts)) written.info info_fit h.few info_short
 
   pub wire_written : (place at : ℕ) → dense_wire place at (dense_message texts ns) ≡ []
@@ -287,10 +287,10 @@ module _ (texts : List (List ℕ)) (scale : Scale) (ns : List NodeSpec) (h : Nod
       ∙ ap (λ b. fault_where (not b) place KeysVals) (tags_are written.tagged (length ns) written.runs (runs_are texts ns))
 
   info_once : (at : ℕ) → twice DENSEINFO (fields_in at (message (dense_slots written))) ≡ []
-  info_once at = once_written DENSEINFO at (dense_slots written) dense_fits short (omega (arith, ap (λ (w : List (List ℕ)). length w) (infos_are written), unless_few (info_message written.info)))
+  info_once at = once_written DENSEINFO at (dense_slots written) dense_fits short (omega (arith, ap (λ (w : List (List ℕ)). length w) (infos_are written), unless_few (dense_info_message written.info)))
 
-  info_sound : (n place at : ℕ) → n ≡ length ns → info_counts n place at (info_message written.info) ≡ []
-  unfolding info_message
+  info_sound : (n place at : ℕ) → n ≡ length ns → info_counts n place at (dense_info_message written.info) ≡ []
+  unfolding dense_info_message
   info_sound n place at e =
       info_counted (length (table_of texts)) written.info info_fit h.few info_short n place at
       (subst (λ n. InfoCounts n written.info) (length-map ns (λ n. n.meta) ∙ sym e) (info_counts_are texts (map (λ n. n.meta) ns) h.alike))
@@ -307,12 +307,12 @@ module _ (texts : List (List ℕ)) (scale : Scale) (ns : List NodeSpec) (h : Nod
 
   -- ---- values
 
-  info_good : (place at : ℕ) → info_values (length (table_of texts)) place at (info_message written.info) ≡ []
-  unfolding info_message
+  info_good : (place at : ℕ) → dense_info_values (length (table_of texts)) place at (dense_info_message written.info) ≡ []
+  unfolding dense_info_message
   info_good = info_valued (length (table_of texts)) written.info info_fit h.few info_short
 
-  infos_good : (at : ℕ) → flat_map (entered DENSEINFO (info_values (length (table_of texts)))) (fields_in at (message (dense_slots written))) ≡ []
-  infos_good at = fields_quiet (entered DENSEINFO (info_values (length (table_of texts)))) at (dense_slots written) (only_info (info_values (length (table_of texts))) info_good) dense_fits short
+  infos_good : (at : ℕ) → flat_map (entered DENSEINFO (dense_info_values (length (table_of texts)))) (fields_in at (message (dense_slots written))) ≡ []
+  infos_good at = fields_quiet (entered DENSEINFO (dense_info_values (length (table_of texts)))) at (dense_slots written) (only_info (dense_info_values (length (table_of texts))) info_good) dense_fits short
 
   runs_good : (at : ℕ) → index_faults (length (table_of texts)) (texts_named false (joined KEYS_VALS (fields_in at (message (dense_slots written))))) ≡ []
   runs_good at =

@@ -14,7 +14,7 @@ use Rattle.pbf_strings.specs.TableOut.{with_text, texts_after, index_in}
 use Rattle.pbf_strings.proofs.UsedTexts.{index_stays, length_with, room_left, used_both, used_later}
 use Rattle.osm_entity.specs.Entity.{TagSpec, MetaSpec, NodeSpec}
 use Rattle.osm_entity.specs.EntityTexts.{tag_texts, node_texts}
-use Rattle.pbf_dense.specs.WrittenDense.{DenseColumns, tag_numbers, run_of, are_some, has_tag, bit_of, info_message, columns_of, dense_slots, dense_message}
+use Rattle.pbf_dense.specs.WrittenDense.{DenseColumns, tag_numbers, run_of, are_some, has_tag, bit_of, dense_info_message, columns_of, dense_slots, dense_message}
 
 -- of all tags these are left: the column goes on with the indexes of the others, which stay whatever texts are used later
 pub record RunPut (start : List (List ℕ)) (all : List TagSpec) (before : List ℕ) (texts : List (List ℕ)) (runs : List ℕ) (left : List TagSpec) : Type 0 where
@@ -141,7 +141,7 @@ parts_pushed start middle texts used ns n m tags old user id lat lon ids lats lo
     (r (named_user ++ used) ∙ (ap (λ (ts : List (List ℕ)). old.runs ++ run_of ts tags) later ∙ ap (λ (ts : List TagSpec). old.runs ++ run_of (texts_after texts used) ts) et))
     (eg ∙ ap (λ (ts : List TagSpec). old.tagged || are_some ts) et)
 
-pub finished : (texts : List (List ℕ)) (ns : List NodeSpec) (columns : DenseColumns) (bytes info : List ℕ) → columns ≡ columns_of texts ns → info ≡ info_message columns.info
+pub finished : (texts : List (List ℕ)) (ns : List NodeSpec) (columns : DenseColumns) (bytes info : List ℕ) → columns ≡ columns_of texts ns → info ≡ dense_info_message columns.info
     → bytes ≡ message (Column 1 (deltas columns.ids) ∷ Each 5 (unless_empty info) ∷ Column 8 (deltas columns.lats) ∷ Column 9 (deltas columns.lons) ∷ Column 10 (if columns.tagged then columns.runs else []) ∷ [])
     → bytes ≡ dense_message texts ns
 unfolding dense_message

@@ -10,9 +10,9 @@ use Rattle.osm_entity.specs.declared.scale.Scale.{Scale}
 use Rattle.osm_entity.specs.Entity.{TagSpec, MetaSpec, NodeSpec}
 use Rattle.osm_entity.specs.Sources.{tag_of, run}
 use Rattle.pbf_dense.specs.declared.dense_info.TheConstants.{VERSION, TIMESTAMP, CHANGESET, UID, USER_SID, VISIBLE}
-use Rattle.pbf_dense.specs.Info.{InfoSpec, meta_at, later}
+use Rattle.pbf_dense.specs.Info.{InfoSpec, meta_at, info_rest}
 use Rattle.pbf_dense.specs.Runs.{with_pair, runs_in, tags_at, after_run}
-use Rattle.pbf_dense.specs.Nodes.{moving}
+use Rattle.pbf_dense.specs.Nodes.{nodes_of_columns}
 
 -- ---- lists made from an index
 
@@ -31,11 +31,11 @@ same_map {X = X} f g a (suc n) h = ap₂ (λ (x : X) (xs : List X). x ∷ xs) (h
 
 first_with : (pair : ℕ × ℕ) (runs : List (List (ℕ × ℕ))) → get_or (with_pair pair runs) 0 [] ≡ pair ∷ get_or runs 0 []
 first_with pair [] = refl
-first_with pair (run ∷ later) = refl
+first_with pair (run ∷ info_rest) = refl
 
 later_with : (pair : ℕ × ℕ) (runs : List (List (ℕ × ℕ))) (i : ℕ) → get_or (with_pair pair runs) (suc i) [] ≡ get_or runs (suc i) []
 later_with pair [] i = refl
-later_with pair (run ∷ later) i = refl
+later_with pair (run ∷ info_rest) i = refl
 
 run_first : (column : List ℕ) → get_or (runs_in column) 0 [] ≡ run column
 run_first [] = refl
@@ -74,7 +74,7 @@ get_later : {X : Type 0} (xs : List X) (i : ℕ) → slice_get (drop 1 xs) i ≡
 get_later [] i = refl
 get_later (x ∷ xs) i = refl
 
-meta_later : (table : List (List ℕ)) (info : InfoSpec) (i : ℕ) → meta_at table (later info) i ≡ meta_at table info (i + 1)
+meta_later : (table : List (List ℕ)) (info : InfoSpec) (i : ℕ) → meta_at table (info_rest info) i ≡ meta_at table info (i + 1)
 meta_later table info i = rw (add-one i, get_later info.versions i, get_later info.timestamps i, get_later info.changesets i, get_later info.uids i, get_later info.users i, get_later info.visible i) refl
 
 -- ---- nodes
@@ -83,17 +83,17 @@ abbrev as_node : Scale → ℤ → ℤ → ℤ → MetaSpec → List TagSpec →
 as_node scale id lat lon meta tags = record { id = id; lat = lat; lon = lon; meta = meta; tags = tags; scale = scale }
 
 pub moving_same : (table : List (List ℕ)) (scale : Scale) (ks bs cs xs ys zs : List ℤ) (info info' : InfoSpec) (column : List ℕ) → ks ≡ xs → bs ≡ ys → cs ≡ zs → info ≡ info'
-    → moving table scale ks bs cs info column ≡ moving table scale xs ys zs info' column
+    → nodes_of_columns table scale ks bs cs info column ≡ nodes_of_columns table scale xs ys zs info' column
 moving_same table scale ks bs cs xs ys zs info info' column p q r s = cc
 
 pub moving_by_index : (table : List (List ℕ)) (scale : Scale) (f g h : ℕ → ℤ) (n : ℕ) (info : InfoSpec) (column : List ℕ)
-    → moving table scale (map f (range_with_len 0 n)) (map g (range_with_len 0 n)) (map h (range_with_len 0 n)) info column
+    → nodes_of_columns table scale (map f (range_with_len 0 n)) (map g (range_with_len 0 n)) (map h (range_with_len 0 n)) info column
     ≡ map (λ i. as_node scale (f i) (g i) (h i) (meta_at table info i) (tags_at table column i)) (range_with_len 0 n)
 moving_by_index table scale f g h zero info column = refl
 moving_by_index table scale f g h (suc n) info column =
     let first = ap (as_node scale (f 0) (g 0) (h 0) (meta_at table info 0)) (tags_at_first table column) in
-    let others = moving_by_index table scale (λ i. f (i + 1)) (λ i. g (i + 1)) (λ i. h (i + 1)) n (later info) (after_run column)
-    ∙ same_map (λ i. as_node scale (f (i + 1)) (g (i + 1)) (h (i + 1)) (meta_at table (later info) i) (tags_at table (after_run column) i))
+    let others = moving_by_index table scale (λ i. f (i + 1)) (λ i. g (i + 1)) (λ i. h (i + 1)) n (info_rest info) (after_run column)
+    ∙ same_map (λ i. as_node scale (f (i + 1)) (g (i + 1)) (h (i + 1)) (meta_at table (info_rest info) i) (tags_at table (after_run column) i))
     (λ i. as_node scale (f (i + 1)) (g (i + 1)) (h (i + 1)) (meta_at table info (i + 1)) (tags_at table column (i + 1))) 0 n
     (λ i. ap₂ (as_node scale (f (i + 1)) (g (i + 1)) (h (i + 1))) (meta_later table info i) (tags_at_later table column i)) in
     moving_same table scale _ _ _ _ _ _ info info column (from_index f n) (from_index g n) (from_index h n) refl

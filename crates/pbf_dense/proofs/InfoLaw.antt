@@ -20,8 +20,8 @@ use Rattle.pbf_wire.proofs.QuietLemmas.{leaf_quiet, counted_written, sums_good_w
 use Rattle.osm_entity.specs.Ranges.{IsStored, IsUid}
 use Rattle.pbf_dense.specs.declared.dense_info.TheConstants.{DENSEINFO_KINDS, VERSION, TIMESTAMP, CHANGESET, UID, USER_SID, VISIBLE}
 use Rattle.pbf_dense.specs.Info.{InfoSpec}
-use Rattle.pbf_dense.specs.Judged.{goes_with, info_counts, info_values}
-use Rattle.pbf_dense.specs.WrittenDense.{info_slots}
+use Rattle.pbf_dense.specs.Judged.{goes_with, info_counts, dense_info_values}
+use Rattle.pbf_dense.specs.WrittenDense.{dense_info_slots}
 use Rattle.pbf_dense.proofs.IndexLemmas.{info_of}
 use Rattle.pbf_dense.proofs.MetaLaw.{narrow_sums, info_same}
 
@@ -90,26 +90,26 @@ users_good : (limit : ℕ) (entries : List (ℕ × ℕ)) (values : List ℤ) →
 users_good limit entries values few e h =
     index_sums_good limit entries (subst (λ (zs : List ℤ). AllByRecursion (λ z. is_index limit z ≡ true) zs) (sym (ap (λ (ns : List ℕ). sums (map low_sint32 ns)) e ∙ narrow_sums values (indexes_narrow limit values few h))) h)
 
-module _ (limit : ℕ) (info : InfoSpec) (h : InfoFits limit info) (few : limit ≤ 1048576) (short : length (message (info_slots info)) < 2 ^ 64) where
-  pub info_slots_fit : AllByRecursion SlotFits (info_slots info)
+module _ (limit : ℕ) (info : InfoSpec) (h : InfoFits limit info) (few : limit ≤ 1048576) (short : length (message (dense_info_slots info)) < 2 ^ 64) where
+  pub info_slots_fit : AllByRecursion SlotFits (dense_info_slots info)
   info_slots_fit = ((omega arith, omega arith, h.versions), ((omega arith, omega arith, deltas_fit info.timestamps h.timestamps), ((omega arith, omega arith, deltas_fit info.changesets h.changesets), ((omega arith, omega arith, deltas_fit info.uids (uids_small info.uids h.uids)), ((omega arith, omega arith, deltas_fit info.users (uids_small info.users (indexes_narrow limit info.users few h.users))), ((omega arith, omega arith, h.visible), tt))))))
 
-  info_slots_are : AllByRecursion (SlotIs DENSEINFO_KINDS) (info_slots info)
+  info_slots_are : AllByRecursion (SlotIs DENSEINFO_KINDS) (dense_info_slots info)
   info_slots_are = (refl, (refl, (refl, (refl, (refl, (refl, tt))))))
 
-  pub info_leaf : (place at : ℕ) → leaf_faults DENSEINFO_KINDS place at (message (info_slots info)) ≡ []
-  info_leaf place at = leaf_quiet DENSEINFO_KINDS place at (info_slots info) info_slots_are info_slots_fit short
+  pub info_leaf : (place at : ℕ) → leaf_faults DENSEINFO_KINDS place at (message (dense_info_slots info)) ≡ []
+  info_leaf place at = leaf_quiet DENSEINFO_KINDS place at (dense_info_slots info) info_slots_are info_slots_fit short
 
-  info_count : (k at : ℕ) → kind_of DENSEINFO_KINDS k ≡ Some kind.Column → column_count k (fields_in at (message (info_slots info))) ≡ length (flat_map (numbers_at k) (info_slots info))
-  info_count k at known = counted_written DENSEINFO_KINDS k at (info_slots info) known info_slots_are info_slots_fit short
+  info_count : (k at : ℕ) → kind_of DENSEINFO_KINDS k ≡ Some kind.Column → column_count k (fields_in at (message (dense_info_slots info))) ≡ length (flat_map (numbers_at k) (dense_info_slots info))
+  info_count k at known = counted_written DENSEINFO_KINDS k at (dense_info_slots info) known info_slots_are info_slots_fit short
 
-  column_goes : (n k at : ℕ) (values : List ℕ) → column_count k (fields_in at (message (info_slots info))) ≡ length (values ++ []) → (length values ≡ 0) ⊎ (length values ≡ n) → goes_with n k (fields_in at (message (info_slots info))) ≡ true
+  column_goes : (n k at : ℕ) (values : List ℕ) → column_count k (fields_in at (message (dense_info_slots info))) ≡ length (values ++ []) → (length values ≡ 0) ⊎ (length values ≡ n) → goes_with n k (fields_in at (message (dense_info_slots info))) ≡ true
   column_goes n k at values e c = rw (e, append-nil values) (goes (length values) n c)
 
-  sums_go : (n k at : ℕ) (values : List ℤ) → column_count k (fields_in at (message (info_slots info))) ≡ length (deltas values ++ []) → (length values ≡ 0) ⊎ (length values ≡ n) → goes_with n k (fields_in at (message (info_slots info))) ≡ true
+  sums_go : (n k at : ℕ) (values : List ℤ) → column_count k (fields_in at (message (dense_info_slots info))) ≡ length (deltas values ++ []) → (length values ≡ 0) ⊎ (length values ≡ n) → goes_with n k (fields_in at (message (dense_info_slots info))) ≡ true
   sums_go n k at values e c = rw (e, append-nil (deltas values), deltas_length values) (goes (length values) n c)
 
-  pub info_counted : (n place at : ℕ) → InfoCounts n info → info_counts n place at (message (info_slots info)) ≡ []
+  pub info_counted : (n place at : ℕ) → InfoCounts n info → info_counts n place at (message (dense_info_slots info)) ≡ []
   info_counted n place at c =
       six_go _ _ _ _ _ _ place
       (column_goes n VERSION at info.versions (info_count VERSION at refl) c.versions)
@@ -119,10 +119,10 @@ module _ (limit : ℕ) (info : InfoSpec) (h : InfoFits limit info) (few : limit 
       (sums_go n USER_SID at info.users (info_count USER_SID at refl) c.users)
       (column_goes n VISIBLE at info.visible (info_count VISIBLE at refl) c.visible)
 
-  info_column : (k at : ℕ) → column k (fields_in at (message (info_slots info))) ≡ flat_map (numbers_at k) (info_slots info)
-  info_column k at = column_written k at (info_slots info) info_slots_fit short
+  info_column : (k at : ℕ) → column k (fields_in at (message (dense_info_slots info))) ≡ flat_map (numbers_at k) (dense_info_slots info)
+  info_column k at = column_written k at (dense_info_slots info) info_slots_fit short
 
-  pub info_valued : (place at : ℕ) → info_values limit place at (message (info_slots info)) ≡ []
+  pub info_valued : (place at : ℕ) → dense_info_values limit place at (message (dense_info_slots info)) ≡ []
   info_valued place at =
       no_faults_joined _ _ (wide_good (pos (2 ^ 62)) _ info.timestamps (info_column TIMESTAMP at ∙ append-nil _) h.timestamps)
       (no_faults_joined _ _ (wide_good (pos (2 ^ 62)) _ info.changesets (info_column CHANGESET at ∙ append-nil _) h.changesets)
@@ -130,7 +130,7 @@ module _ (limit : ℕ) (info : InfoSpec) (h : InfoFits limit info) (few : limit 
       (users_good limit _ info.users few (info_column USER_SID at ∙ append-nil _) h.users)))
 
   -- the columns are read back
-  pub info_read : (at : ℕ) → info_of (fields_in at (message (info_slots info))) ≡ info
+  pub info_read : (at : ℕ) → info_of (fields_in at (message (dense_info_slots info))) ≡ info
   unfolding info_of
   info_read at =
       info_same _ _ _ _ _ _ _ _ _ _ _ _

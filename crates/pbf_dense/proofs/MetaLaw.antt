@@ -11,7 +11,7 @@ use Rattle.pbf_strings.specs.TableOut.{has_text, index_in, table_of}
 use Rattle.pbf_strings.proofs.UsedTexts.{text_at_index}
 use Rattle.osm_entity.specs.Entity.{MetaSpec}
 use Rattle.osm_entity.specs.Ranges.{IfPresent, IsInt32}
-use Rattle.pbf_dense.specs.Info.{InfoSpec, user_text, meta_at, later}
+use Rattle.pbf_dense.specs.Info.{InfoSpec, user_text, meta_at, info_rest}
 use Rattle.pbf_dense.specs.WrittenDense.{bit_of, info_columns, InAllOrNone, AreAlike}
 
 -- ---- a field that is in all or in none
@@ -131,7 +131,7 @@ pub info_same : (a a' : List ℕ) (b b' c c' d d' e e' : List ℤ) (f f' : List 
 info_same a a' b b' c c' d d' e e' f f' p q r s t u = rw (p, q, r, s, t, u) refl
 
 -- the columns after it
-pub info_later : (texts : List (List ℕ)) (m : MetaSpec) (metas : List MetaSpec) → AreAlike (m ∷ metas) → later (info_columns texts (m ∷ metas)) ≡ info_columns texts metas
+pub info_later : (texts : List (List ℕ)) (m : MetaSpec) (metas : List MetaSpec) → AreAlike (m ∷ metas) → info_rest (info_columns texts (m ∷ metas)) ≡ info_columns texts metas
 info_later texts m metas h =
     info_same _ _ _ _ _ _ _ _ _ _ _ _
     (later_of (λ m. option_map sign_extended m.version) m metas (mapped (λ m. m.version) sign_extended (m ∷ metas) h.version))

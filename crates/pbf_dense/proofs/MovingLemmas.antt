@@ -1,15 +1,15 @@
 -- Columns that move together give what indices into whole columns give.
 use Rattle.std.proofs.Common.{◌≡◌, ◌<◌, ℕ, zero, suc, ℤ, List, [], ◌∷◌, drop, refl, ap, ◌∙◌, arith}
 use Rattle.osm_entity.specs.declared.scale.Scale.{Scale}
-use Rattle.pbf_dense.specs.Info.{InfoSpec, later, later_by}
+use Rattle.pbf_dense.specs.Info.{InfoSpec, info_rest, info_past}
 use Rattle.pbf_dense.specs.Runs.{after_run, after_runs}
-use Rattle.pbf_dense.specs.Nodes.{moving}
+use Rattle.pbf_dense.specs.Nodes.{nodes_of_columns}
 
-pub no_lats : (table : List (List ℕ)) (scale : Scale) (ids lons : List ℤ) (info : InfoSpec) (keys_vals : List ℕ) → moving table scale ids [] lons info keys_vals ≡ []
+pub no_lats : (table : List (List ℕ)) (scale : Scale) (ids lons : List ℤ) (info : InfoSpec) (keys_vals : List ℕ) → nodes_of_columns table scale ids [] lons info keys_vals ≡ []
 no_lats table scale [] lons info keys_vals = refl
 no_lats table scale (id ∷ ids) lons info keys_vals = refl
 
-pub no_lons : (table : List (List ℕ)) (scale : Scale) (ids lats : List ℤ) (info : InfoSpec) (keys_vals : List ℕ) → moving table scale ids lats [] info keys_vals ≡ []
+pub no_lons : (table : List (List ℕ)) (scale : Scale) (ids lats : List ℤ) (info : InfoSpec) (keys_vals : List ℕ) → nodes_of_columns table scale ids lats [] info keys_vals ≡ []
 no_lons table scale [] lats info keys_vals = refl
 no_lons table scale (id ∷ ids) [] info keys_vals = refl
 no_lons table scale (id ∷ ids) (lat ∷ lats) info keys_vals = refl
@@ -22,7 +22,7 @@ drop_one zero [] = refl
 drop_one (suc n) [] = refl
 drop_one n (x ∷ xs) = refl
 
-later_one : (n : ℕ) (info : InfoSpec) → later_by (suc n) info ≡ later_by n (later info)
+later_one : (n : ℕ) (info : InfoSpec) → info_past (suc n) info ≡ info_past n (info_rest info)
 later_one n info =
     simp drop_one
 
@@ -32,15 +32,15 @@ run_first (suc n) keys_vals = ap after_run (run_first n keys_vals)
 
 -- columns that are moved on by n each give what comes after the first n nodes
 pub moving_on : (table : List (List ℕ)) (scale : Scale) (n : ℕ) (ids lats lons : List ℤ) (info : InfoSpec) (keys_vals : List ℕ)
-    → moving table scale (drop n ids) (drop n lats) (drop n lons) (later_by n info) (after_runs n keys_vals) ≡ drop n (moving table scale ids lats lons info keys_vals)
+    → nodes_of_columns table scale (drop n ids) (drop n lats) (drop n lons) (info_past n info) (after_runs n keys_vals) ≡ drop n (nodes_of_columns table scale ids lats lons info keys_vals)
 moving_on table scale zero ids lats lons info keys_vals = refl
 moving_on table scale (suc n) [] lats lons info keys_vals = refl
-moving_on table scale (suc n) (id ∷ ids) [] lons info keys_vals = no_lats table scale (drop n ids) (drop (suc n) lons) (later_by (suc n) info) (after_runs (suc n) keys_vals)
-moving_on table scale (suc n) (id ∷ ids) (lat ∷ lats) [] info keys_vals = no_lons table scale (drop n ids) (drop n lats) (later_by (suc n) info) (after_runs (suc n) keys_vals)
+moving_on table scale (suc n) (id ∷ ids) [] lons info keys_vals = no_lats table scale (drop n ids) (drop (suc n) lons) (info_past (suc n) info) (after_runs (suc n) keys_vals)
+moving_on table scale (suc n) (id ∷ ids) (lat ∷ lats) [] info keys_vals = no_lons table scale (drop n ids) (drop n lats) (info_past (suc n) info) (after_runs (suc n) keys_vals)
 moving_on table scale (suc n) (id ∷ ids) (lat ∷ lats) (lon ∷ lons) info keys_vals =
-    ap (λ (i : InfoSpec). moving table scale (drop n ids) (drop n lats) (drop n lons) i (after_runs (suc n) keys_vals)) (later_one n info)
-    ∙ (ap (λ (k : List ℕ). moving table scale (drop n ids) (drop n lats) (drop n lons) (later_by n (later info)) k) (run_first n keys_vals)
-    ∙ moving_on table scale n ids lats lons (later info) (after_run keys_vals))
+    ap (λ (i : InfoSpec). nodes_of_columns table scale (drop n ids) (drop n lats) (drop n lons) i (after_runs (suc n) keys_vals)) (later_one n info)
+    ∙ (ap (λ (k : List ℕ). nodes_of_columns table scale (drop n ids) (drop n lats) (drop n lons) (info_past n (info_rest info)) k) (run_first n keys_vals)
+    ∙ moving_on table scale n ids lats lons (info_rest info) (after_run keys_vals))
 
 -- ---- runs, step by step
 

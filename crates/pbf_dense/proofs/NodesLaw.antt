@@ -1,7 +1,7 @@
 -- The nodes of a written dense message are those that it was written of.
 use Rattle.pbf_wire.specs.declared.fault.Reason.TheVariants.{EntityLarge}
 use Rattle.std.proofs.lemmas.Bool.{le-ltb}
-use Rattle.pbf_dense.specs.Judged.{weight_fault, dense_weights, as_stored, early_fault, dense_fault}
+use Rattle.pbf_dense.specs.Judged.{node_weight_fault, dense_weights, as_stored, early_fault, dense_fault}
 use Rattle.std.proofs.Common.{◌≡◌, ℕ, suc, ◌<◌, ◌||◌, ℤ, Bool, true, false, List, [], ◌∷◌, ◌++◌, length, map, Option, refl, sym, ap, ap₂, ◌∙◌, arith, true≢false, zero, None}
 use Rattle.std.specs.Prelude.{unwrap_or}
 use Rattle.std.specs.List.{flat_map, list_any, range_with_len, AllByRecursion}
@@ -24,8 +24,8 @@ use Rattle.osm_entity.specs.Sources.{low_32, tag_of, run}
 use Rattle.pbf_dense.specs.declared.dense_nodes.TheConstants.{ID, DENSEINFO, LAT, LON, KEYS_VALS}
 use Rattle.pbf_dense.specs.Info.{InfoSpec}
 use Rattle.pbf_dense.specs.Runs.{after_run}
-use Rattle.pbf_dense.specs.Nodes.{nodes, moving}
-use Rattle.pbf_dense.specs.WrittenDense.{info_columns, info_message, run_of, are_some, has_tag, columns_of, dense_slots, dense_message, AreAlike, NodesHeld}
+use Rattle.pbf_dense.specs.Nodes.{nodes, nodes_of_columns}
+use Rattle.pbf_dense.specs.WrittenDense.{info_columns, dense_info_message, run_of, are_some, has_tag, columns_of, dense_slots, dense_message, AreAlike, NodesHeld}
 use Rattle.pbf_dense.proofs.IndexLemmas.{info_of, moving_same, moving_by_index}
 use Rattle.pbf_dense.proofs.MovingLemmas.{run_on}
 use Rattle.pbf_dense.proofs.MetaLaw.{alike_later, meta_given, info_later}
@@ -35,7 +35,7 @@ use Rattle.pbf_dense.proofs.DenseLaw.{NamedNode, nodes_named, written_runs, info
 -- ---- by index is by columns that move together, whatever is in them
 
 nodes_moving : (table : List (List ℕ)) (scale : Scale) (os : List Occurrence) → length (column LAT os) ≡ length (column ID os) → length (column LON os) ≡ length (column ID os)
-    → nodes table scale os ≡ moving table scale (sums (map unzigzag (column ID os))) (sums (map unzigzag (column LAT os))) (sums (map unzigzag (column LON os))) (info_of (embedded DENSEINFO os)) (map low_32 (column KEYS_VALS os))
+    → nodes table scale os ≡ nodes_of_columns table scale (sums (map unzigzag (column ID os))) (sums (map unzigzag (column LAT os))) (sums (map unzigzag (column LON os))) (info_of (embedded DENSEINFO os)) (map low_32 (column KEYS_VALS os))
 unfolding nodes info_of
 nodes_moving table scale os lats lons =
     let n = length (column ID os) in
@@ -108,13 +108,13 @@ node_same : (n : NodeSpec) (meta : MetaSpec) (tags : List TagSpec) (scale : Scal
 node_same n meta tags scale p q = rw (p, q) refl
 
 columns_give : (texts : List (List ℕ)) (scale : Scale) (ns : List NodeSpec) (column : List ℕ) → AreAlike (map (λ n. n.meta) ns) → AllByRecursion (λ n. IfPresent IsInt32 n.meta.version) ns → AllByRecursion (NamedNode texts) ns
-    → GivesTags (table_of texts) column ns → moving (table_of texts) scale (map (λ n. n.id) ns) (map (λ n. n.lat) ns) (map (λ n. n.lon) ns) (info_columns texts (map (λ n. n.meta) ns)) column ≡ map (at_scale scale) ns
+    → GivesTags (table_of texts) column ns → nodes_of_columns (table_of texts) scale (map (λ n. n.id) ns) (map (λ n. n.lat) ns) (map (λ n. n.lon) ns) (info_columns texts (map (λ n. n.meta) ns)) column ≡ map (at_scale scale) ns
 columns_give texts scale [] column alike versions named given = refl
 columns_give texts scale (n ∷ ns) column alike versions named given =
     let metas = map (λ n. n.meta) ns in
     ap₂ (λ (x : NodeSpec) (xs : List NodeSpec). x ∷ xs)
     (node_same n _ _ scale (meta_given texts n.meta metas alike versions.0 named.0.1) given.0)
-    (ap (λ (info : InfoSpec). moving (table_of texts) scale (map (λ n. n.id) ns) (map (λ n. n.lat) ns) (map (λ n. n.lon) ns) info (after_run column)) (info_later texts n.meta metas alike)
+    (ap (λ (info : InfoSpec). nodes_of_columns (table_of texts) scale (map (λ n. n.id) ns) (map (λ n. n.lat) ns) (map (λ n. n.lon) ns) info (after_run column)) (info_later texts n.meta metas alike)
     ∙ columns_give texts scale ns (after_run column) (alike_later n.meta metas alike) versions.1 named.1 given.1)
 
 one_scaled : (scale : Scale) (n : NodeSpec) → n.scale ≡ scale → at_scale scale n ≡ n
@@ -124,21 +124,21 @@ all_scaled : (scale : Scale) (ns : List NodeSpec) → AllByRecursion (λ n. n.sc
 all_scaled scale [] h = refl
 all_scaled scale (n ∷ ns) h = ap₂ (λ (x : NodeSpec) (xs : List NodeSpec). x ∷ xs) (one_scaled scale n h.0) (all_scaled scale ns h.1)
 
-all_light : (place : ℕ) (scale : Scale) (ns : List NodeSpec) → AllByRecursion NodeFits ns → flat_map (weight_fault place) (map (at_scale scale) ns) ≡ []
+all_light : (place : ℕ) (scale : Scale) (ns : List NodeSpec) → AllByRecursion NodeFits ns → flat_map (node_weight_fault place) (map (at_scale scale) ns) ≡ []
 all_light place scale [] h = refl
 all_light place scale (n ∷ ns) h = no_faults_joined _ _ (ap (λ b. fault_where b place EntityLarge) (le-ltb _ _ h.0.light)) (all_light place scale ns h.1)
 
 -- ---- the message
 
 module _ (texts : List (List ℕ)) (scale : Scale) (ns : List NodeSpec) (h : NodesHeld texts scale ns) where
-  info_there : (at : ℕ) → info_of (fields_in at (info_message (info_columns texts (map (λ n. n.meta) ns)))) ≡ info_columns texts (map (λ n. n.meta) ns)
-  unfolding info_message
+  info_there : (at : ℕ) → info_of (fields_in at (dense_info_message (info_columns texts (map (λ n. n.meta) ns)))) ≡ info_columns texts (map (λ n. n.meta) ns)
+  unfolding dense_info_message
   info_there at = info_read (length (table_of texts)) (info_columns texts (map (λ n. n.meta) ns)) (info_fit texts scale ns h) h.few (info_short texts scale ns h) at
 
   info_held : (at : ℕ) → info_of (embedded DENSEINFO (fields_in at (message (dense_slots (columns_of texts ns))))) ≡ info_columns texts (map (λ n. n.meta) ns)
   info_held at =
       let c = columns_of texts ns in
-      let held = embedded_or_none DENSEINFO at (dense_slots c) (info_message c.info) (dense_fits texts scale ns h) (short texts scale ns h) (infos_are c) refl in
+      let held = embedded_or_none DENSEINFO at (dense_slots c) (dense_info_message c.info) (dense_fits texts scale ns h) (short texts scale ns h) (infos_are c) refl in
       ap info_of held.1 ∙ info_there held.0
 
   values_back : (k at : ℕ) (values : List ℤ) → column k (fields_in at (message (dense_slots (columns_of texts ns)))) ≡ deltas values ++ [] → sums (map unzigzag (column k (fields_in at (message (dense_slots (columns_of texts ns)))))) ≡ values
@@ -155,7 +155,7 @@ module _ (texts : List (List ℕ)) (scale : Scale) (ns : List NodeSpec) (h : Nod
       let named = nodes_named texts ns h.named in
       nodes_moving (table_of texts) other _ (long LAT at (λ n. n.lat) (at_column LAT) ∙ sym ids) (long LON at (λ n. n.lon) (at_column LON) ∙ sym ids)
       ∙ (moving_same (table_of texts) other _ _ _ _ _ _ _ _ _ (values_back ID at _ (at_column ID)) (values_back LAT at _ (at_column LAT)) (values_back LON at _ (at_column LON)) (info_held at)
-      ∙ (ap (moving (table_of texts) other (map (λ n. n.id) ns) (map (λ n. n.lat) ns) (map (λ n. n.lon) ns) (info_columns texts (map (λ n. n.meta) ns))) (low_runs texts scale ns h at)
+      ∙ (ap (nodes_of_columns (table_of texts) other (map (λ n. n.id) ns) (map (λ n. n.lat) ns) (map (λ n. n.lon) ns) (info_columns texts (map (λ n. n.meta) ns))) (low_runs texts scale ns h at)
       ∙ columns_give texts other ns _ h.alike h.versions named (tags_given texts ns named)))
 
   -- the nodes are read back
@@ -164,7 +164,7 @@ module _ (texts : List (List ℕ)) (scale : Scale) (ns : List NodeSpec) (h : Nod
 
   weights_written : (place at : ℕ) → dense_weights place (nodes (table_of texts) as_stored (fields_in at (dense_message texts ns))) ≡ []
   unfolding dense_weights
-  weights_written place at = ap (flat_map (weight_fault place)) (nodes_at_scale as_stored at) ∙ all_light place as_stored ns h.fit
+  weights_written place at = ap (flat_map (node_weight_fault place)) (nodes_at_scale as_stored at) ∙ all_light place as_stored ns h.fit
 
   -- and the message has no fault
   pub dense_sound : (place at : ℕ) → dense_fault place at (table_of texts) (dense_message texts ns) ≡ None

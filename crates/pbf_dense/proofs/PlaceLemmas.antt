@@ -2,24 +2,24 @@
 use Rattle.std.proofs.Common.{◌≡◌, ℕ, ℤ, List, [], ◌∷◌, map, refl, ap}
 use Rattle.osm_entity.specs.declared.scale.Scale.{Scale}
 use Rattle.osm_entity.specs.Scale.{nano_lat, nano_lon}
-use Rattle.pbf_dense.specs.Info.{InfoSpec, later}
+use Rattle.pbf_dense.specs.Info.{InfoSpec, info_rest}
 use Rattle.pbf_dense.specs.Runs.{after_run}
-use Rattle.pbf_dense.specs.Nodes.{moving}
+use Rattle.pbf_dense.specs.Nodes.{nodes_of_columns}
 use Rattle.pbf_dense.specs.declared.places.Place.{Place}
-use Rattle.pbf_dense.specs.Places.{place_of, BeginWithIds, places_along}
+use Rattle.pbf_dense.specs.Places.{node_place, BeginWithIds, places_along}
 
-pub places_are : (table : List (List ℕ)) (scale : Scale) (ids lats lons : List ℤ) (info : InfoSpec) (keys_vals : List ℕ) → places_along scale ids lats lons ≡ map place_of (moving table scale ids lats lons info keys_vals)
+pub places_are : (table : List (List ℕ)) (scale : Scale) (ids lats lons : List ℤ) (info : InfoSpec) (keys_vals : List ℕ) → places_along scale ids lats lons ≡ map node_place (nodes_of_columns table scale ids lats lons info keys_vals)
 places_are table scale [] lats lons info keys_vals = refl
 places_are table scale (id ∷ ids) [] lons info keys_vals = refl
 places_are table scale (id ∷ ids) (lat ∷ lats) [] info keys_vals = refl
-places_are table scale (id ∷ ids) (lat ∷ lats) (lon ∷ lons) info keys_vals = ap (λ (l : List Place). record { id = id; lat = nano_lat scale lat; lon = nano_lon scale lon } ∷ l) (places_are table scale ids lats lons (later info) (after_run keys_vals))
+places_are table scale (id ∷ ids) (lat ∷ lats) (lon ∷ lons) info keys_vals = ap (λ (l : List Place). record { id = id; lat = nano_lat scale lat; lon = nano_lon scale lon } ∷ l) (places_are table scale ids lats lons (info_rest info) (after_run keys_vals))
 
-pub ids_begin : (table : List (List ℕ)) (scale : Scale) (ids lats lons : List ℤ) (info : InfoSpec) (keys_vals : List ℕ) → BeginWithIds ids (moving table scale ids lats lons info keys_vals)
+pub ids_begin : (table : List (List ℕ)) (scale : Scale) (ids lats lons : List ℤ) (info : InfoSpec) (keys_vals : List ℕ) → BeginWithIds ids (nodes_of_columns table scale ids lats lons info keys_vals)
 ids_begin table scale [] lats lons info keys_vals = ([], refl)
 ids_begin table scale (id ∷ ids) [] lons info keys_vals = (id ∷ ids, refl)
 ids_begin table scale (id ∷ ids) (lat ∷ lats) [] info keys_vals = (id ∷ ids, refl)
 ids_begin table scale (id ∷ ids) (lat ∷ lats) (lon ∷ lons) info keys_vals =
-    let (more, e) = ids_begin table scale ids lats lons (later info) (after_run keys_vals) in (more, ap (λ (l : List ℤ). id ∷ l) e)
+    let (more, e) = ids_begin table scale ids lats lons (info_rest info) (after_run keys_vals) in (more, ap (λ (l : List ℤ). id ∷ l) e)
 
 -- ---- a column that has ended
 

@@ -19,7 +19,7 @@ use Rattle.osm_entity.specs.declared.scale.Scale.{Scale}
 use Rattle.pbf_dense.specs.declared.dense_nodes.TheConstants.{DENSE_KINDS, ID, DENSEINFO, LAT, LON, KEYS_VALS}
 use Rattle.pbf_dense.specs.declared.dense_info.TheConstants.{DENSEINFO_KINDS, TIMESTAMP, CHANGESET, UID, USER_SID}
 use Rattle.pbf_dense.specs.Nodes.{node_at, nodes, nodes_along}
-use Rattle.pbf_dense.specs.Judged.{id_count, dense_wire, dense_structure, dense_values, coordinate_counts, info_values, range_faults, texts_named, IsSound}
+use Rattle.pbf_dense.specs.Judged.{id_count, dense_wire, dense_structure, dense_values, coordinate_counts, dense_info_values, range_faults, texts_named, IsSound}
 use Rattle.pbf_dense.proofs.ReadableLemmas.{InRange, InfoReads, DenseReads, reads_same}
 
 -- ---- the last message that a field holds
@@ -57,7 +57,7 @@ indexes_small : (limit : ℕ) (zs : List ℤ) → limit ≤ 2 ^ 62 → AllByRecu
 indexes_small limit [] few h = tt
 indexes_small limit (z ∷ zs) few h = (index_small limit z few h.0, indexes_small limit zs few h.1)
 
-info_reads : (limit : ℕ) → limit ≤ 2 ^ 62 → (place at : ℕ) (bytes : List ℕ) → info_values limit place at bytes ≡ [] → InfoReads (fields_in at bytes)
+info_reads : (limit : ℕ) → limit ≤ 2 ^ 62 → (place at : ℕ) (bytes : List ℕ) → dense_info_values limit place at bytes ≡ [] → InfoReads (fields_in at bytes)
 info_reads limit few place at bytes e =
     let os = fields_in at bytes in
     let first = both_nil (range_faults TIMESTAMP os) _ e in
@@ -128,7 +128,7 @@ dense_reads table at m h =
       lons = in_range LON os lons.0;
       lats_long = as_long at m wire LAT refl long.0;
       lons_long = as_long at m wire LON refl long.1;
-      info = embedded_has DENSEINFO (info_values (length table)) InfoReads (info_reads (length table) h.few) no_info os infos.1;
+      info = embedded_has DENSEINFO (dense_info_values (length table)) InfoReads (info_reads (length table) h.few) no_info os infos.1;
     }
 
 -- what is read along the columns is what indices give

@@ -7,13 +7,13 @@ use Rattle.pbf_wire.specs.Columns.{column}
 use Rattle.osm_entity.specs.declared.scale.Scale.{Scale}
 use Rattle.pbf_dense.specs.declared.dense_nodes.TheConstants.{ID}
 use Rattle.pbf_dense.specs.Nodes.{node_at, nodes}
-use Rattle.pbf_dense.specs.Judged.{weight_fault, dense_weights}
+use Rattle.pbf_dense.specs.Judged.{node_weight_fault, dense_weights}
 
 module _ (place : ℕ) (table : List (List ℕ)) (s t : Scale) where
   by_index : (os : List Occurrence) (a n : ℕ) → dense_weights place (map (node_at table s os) (range_with_len a n)) ≡ dense_weights place (map (node_at table t os) (range_with_len a n))
   unfolding dense_weights
   by_index os a zero = refl
-  by_index os a (suc n) = ap (λ (fs : List Fault). weight_fault place (node_at table s os a) ++ fs) (by_index os (a + 1) n)
+  by_index os a (suc n) = ap (λ (fs : List Fault). node_weight_fault place (node_at table s os a) ++ fs) (by_index os (a + 1) n)
 
   pub weights_same : (os : List Occurrence) → dense_weights place (nodes table s os) ≡ dense_weights place (nodes table t os)
   unfolding nodes

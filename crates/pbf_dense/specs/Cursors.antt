@@ -4,7 +4,7 @@ use Rattle.pbf_wire.specs.Cursors.{numbers_left, sums_left}
 use Rattle.osm_entity.specs.Entity.{NodeSpec}
 use Rattle.osm_entity.specs.Sources.{low_32}
 use Rattle.pbf_dense.specs.Info.{InfoSpec}
-use Rattle.pbf_dense.specs.Nodes.{moving}
+use Rattle.pbf_dense.specs.Nodes.{nodes_of_columns}
 use Rattle.pbf_dense.specs.declared.info.InfoColumns.{InfoColumns}
 use Rattle.pbf_dense.specs.declared.dense.Dense.{Dense}
 
@@ -20,4 +20,4 @@ info_left columns = record {
 
 -- the nodes that are still to come
 unfoldable pub dense_left : Dense → List NodeSpec
-dense_left dense = moving dense.table.now dense.scale (sums_left dense.ids) (sums_left dense.lats) (sums_left dense.lons) (info_left dense.info) (map low_32 (numbers_left dense.keys_vals))
+dense_left dense = nodes_of_columns dense.table.now dense.scale (sums_left dense.ids) (sums_left dense.lats) (sums_left dense.lons) (info_left dense.info) (map low_32 (numbers_left dense.keys_vals))

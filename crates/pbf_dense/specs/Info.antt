@@ -62,8 +62,8 @@ info_along os = record {
 }
 
 -- the columns after their first n entries
-abbrev pub later_by : ℕ → InfoSpec → InfoSpec
-later_by n info = record {
+abbrev pub info_past : ℕ → InfoSpec → InfoSpec
+info_past n info = record {
   versions = drop n info.versions;
   timestamps = drop n info.timestamps;
   changesets = drop n info.changesets;
@@ -72,5 +72,5 @@ later_by n info = record {
   visible = drop n info.visible;
 }
 
-abbrev pub later : InfoSpec → InfoSpec
-later info = later_by 1 info
+abbrev pub info_rest : InfoSpec → InfoSpec
+info_rest info = info_past 1 info

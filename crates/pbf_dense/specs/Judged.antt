@@ -39,8 +39,8 @@ abbrev pub range_faults : ℕ → List Occurrence → List Fault
 range_faults k os = sum_faults (pos SUM_LIMIT) false (joined k os)
 
 -- the values of a DenseInfo that are out of range, and users that the table has no text for
-abbrev pub info_values : ℕ → ℕ → ℕ → List ℕ → List Fault
-info_values limit place at m =
+abbrev pub dense_info_values : ℕ → ℕ → ℕ → List ℕ → List Fault
+dense_info_values limit place at m =
     let os = fields_in at m in
     range_faults TIMESTAMP os ++ (range_faults CHANGESET os ++ (sum_faults (pos (2 ^ 30)) true (joined UID os) ++ index_sum_faults limit (joined USER_SID os)))
 
@@ -92,16 +92,16 @@ texts_named false (x ∷ xs) = if low_32 x.0 == 0 then texts_named false xs else
 unfoldable pub dense_values : ℕ → ℕ → ℕ → List ℕ → List Fault
 dense_values limit place at m =
     let os = fields_in at m in
-    range_faults ID os ++ (range_faults LAT os ++ (range_faults LON os ++ (index_faults limit (texts_named false (joined KEYS_VALS os)) ++ flat_map (entered DENSEINFO (info_values limit)) os)))
+    range_faults ID os ++ (range_faults LAT os ++ (range_faults LON os ++ (index_faults limit (texts_named false (joined KEYS_VALS os)) ++ flat_map (entered DENSEINFO (dense_info_values limit)) os)))
 
 -- ---- a DenseNodes: weights
 
-abbrev pub weight_fault : ℕ → NodeSpec → List Fault
-weight_fault place n = fault_where (nat_lt HIGHEST_WEIGHT (node_weight n)) place EntityLarge
+abbrev pub node_weight_fault : ℕ → NodeSpec → List Fault
+node_weight_fault place n = fault_where (nat_lt HIGHEST_WEIGHT (node_weight n)) place EntityLarge
 
 -- each node that is too heavy
 unfoldable pub dense_weights : ℕ → List NodeSpec → List Fault
-dense_weights place nodes = flat_map (weight_fault place) nodes
+dense_weights place nodes = flat_map (node_weight_fault place) nodes
 
 -- the scale of the stored numbers themselves; a weight is the same at every scale
 abbrev pub as_stored : Scale

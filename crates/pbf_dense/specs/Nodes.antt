@@ -10,7 +10,7 @@ use Rattle.osm_entity.specs.declared.scale.Scale.{Scale}
 use Rattle.osm_entity.specs.Entity.{NodeSpec}
 use Rattle.osm_entity.specs.Sources.{low_32, tag_of, run}
 use Rattle.pbf_dense.specs.declared.dense_nodes.TheConstants.{ID, DENSEINFO, LAT, LON, KEYS_VALS}
-use Rattle.pbf_dense.specs.Info.{dense_meta, InfoSpec, meta_at, info_along, later}
+use Rattle.pbf_dense.specs.Info.{dense_meta, InfoSpec, meta_at, info_along, info_rest}
 use Rattle.pbf_dense.specs.Runs.{tags_at, after_run}
 use Rattle.pbf_wire.specs.declared.limits.TheConstants.{SUM_LIMIT}
 
@@ -38,11 +38,11 @@ nodes table scale os = map (node_at table scale os) (range_with_len 0 (length (c
 -- ---- by columns that move together
 
 -- the nodes, as long as there are an id, a latitude and a longitude
-abbrev pub moving : List (List ℕ) → Scale → List ℤ → List ℤ → List ℤ → InfoSpec → List ℕ → List NodeSpec
-moving table scale (id ∷ ids) (lat ∷ lats) (lon ∷ lons) info keys_vals =
+abbrev pub nodes_of_columns : List (List ℕ) → Scale → List ℤ → List ℤ → List ℤ → InfoSpec → List ℕ → List NodeSpec
+nodes_of_columns table scale (id ∷ ids) (lat ∷ lats) (lon ∷ lons) info keys_vals =
     record { id = id; lat = lat; lon = lon; meta = meta_at table info 0; tags = map (tag_of table) (run keys_vals); scale = scale }
-    ∷ moving table scale ids lats lons (later info) (after_run keys_vals)
-moving _ _ _ _ _ _ _ = []
+    ∷ nodes_of_columns table scale ids lats lons (info_rest info) (after_run keys_vals)
+nodes_of_columns _ _ _ _ _ _ _ = []
 
 -- the values of the column k of differences, up to the first that is out of range
 abbrev pub values_along : ℕ → List Occurrence → List ℤ
@@ -51,4 +51,4 @@ values_along k os = sums_within (pos SUM_LIMIT) (pos 0) (map unzigzag (column k 
 -- the nodes of the message that has these occurrences
 unfoldable pub nodes_along : List (List ℕ) → Scale → List Occurrence → List NodeSpec
 nodes_along table scale os =
-    moving table scale (values_along ID os) (values_along LAT os) (values_along LON os) (info_along (embedded DENSEINFO os)) (map low_32 (column KEYS_VALS os))
+    nodes_of_columns table scale (values_along ID os) (values_along LAT os) (values_along LON os) (info_along (embedded DENSEINFO os)) (map low_32 (column KEYS_VALS os))

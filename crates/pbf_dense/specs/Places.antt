@@ -8,8 +8,8 @@ use Rattle.pbf_dense.specs.declared.places.Place.{Place}
 use Rattle.pbf_dense.specs.declared.places.Places.{Places}
 
 -- the id of a node, and its place in nanodegrees
-abbrev pub place_of : NodeSpec → Place
-place_of n = record { id = n.id; lat = nano_lat n.scale n.lat; lon = nano_lon n.scale n.lon }
+abbrev pub node_place : NodeSpec → Place
+node_place n = record { id = n.id; lat = nano_lat n.scale n.lat; lon = nano_lon n.scale n.lon }
 
 abbrev pub id_of : NodeSpec → ℤ
 id_of n = n.id

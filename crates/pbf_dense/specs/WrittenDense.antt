@@ -34,8 +34,8 @@ info_columns texts metas = record {
   visible = filter_map (λ m. option_map bit_of m.visible) metas;
 }
 
-abbrev pub info_slots : InfoSpec → List Slot
-info_slots info =
+abbrev pub dense_info_slots : InfoSpec → List Slot
+dense_info_slots info =
     Column VERSION info.versions
     ∷ Column TIMESTAMP (deltas info.timestamps)
     ∷ Column CHANGESET (deltas info.changesets)
@@ -44,8 +44,8 @@ info_slots info =
     ∷ Column VISIBLE info.visible
     ∷ []
 
-unfoldable pub info_message : InfoSpec → List ℕ
-info_message info = message (info_slots info)
+unfoldable pub dense_info_message : InfoSpec → List ℕ
+dense_info_message info = message (dense_info_slots info)
 
 -- ---- tags
 
@@ -88,7 +88,7 @@ columns_of texts ns = record {
 abbrev pub dense_slots : DenseColumns → List Slot
 dense_slots columns =
     Column ID (deltas columns.ids)
-    ∷ Each DENSEINFO (unless_empty (info_message columns.info))
+    ∷ Each DENSEINFO (unless_empty (dense_info_message columns.info))
     ∷ Column LAT (deltas columns.lats)
     ∷ Column LON (deltas columns.lons)
     ∷ Column KEYS_VALS (if columns.tagged then columns.runs else [])

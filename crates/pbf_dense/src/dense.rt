@@ -91,7 +91,7 @@ impl<'a> Dense<'a> {
     ghost use Rattle.pbf_dense.specs.Judged.{id_count, dense_wire};
     ghost use Rattle.pbf_dense.specs.Nodes.{nodes, nodes_along};
     ghost use Rattle.pbf_dense.specs.Cursors.{dense_left};
-    ghost use Rattle.pbf_dense.specs.Places.{place_of, places_left, BeginWithIds};
+    ghost use Rattle.pbf_dense.specs.Places.{node_place, places_left, BeginWithIds};
 
     /// The nodes of a dense message, whatever is wrong with it: as long as there are an id, a latitude and a longitude, up to a
     /// sum that is out of range. Goes through the message's fields once for each of its columns and does not allocate.
@@ -113,7 +113,7 @@ impl<'a> Dense<'a> {
     /// The places of the nodes that are still to come, in order, each with its id. Tags and metadata aren't read.
     #[tactic(auto, using(crate::proofs::PlaceLemmas::places_are), unfolding(crate::specs::Cursors::dense_left, crate::specs::Places::places_left))]
     pub fn places(&self) -> Places<'a>
-        ensures { places_left result ≡ map place_of (dense_left self.now) }
+        ensures { places_left result ≡ map node_place (dense_left self.now) }
     {
         Places {
             ids: self.ids,

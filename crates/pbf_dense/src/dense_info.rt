@@ -3,7 +3,7 @@
 ghost use Rattle.std.specs.Prelude.{◌≡◌, ◌≤◌, ◌^◌};
 ghost use Rattle.pbf_wire.specs.Least.{least};
 ghost use Rattle.pbf_wire.specs.Faults.{found_in};
-ghost use Rattle.pbf_dense.specs.Judged.{goes_with, info_counts, range_faults, info_values};
+ghost use Rattle.pbf_dense.specs.Judged.{goes_with, info_counts, range_faults, dense_info_values};
 ghost use Rattle.pbf_wire.specs.declared.limits.TheConstants.{SUM_LIMIT};
 
 use osm_entity::{STORED_LIMIT, UID_LIMIT};
@@ -82,7 +82,7 @@ pub(crate) struct InfoValues {
 }
 
 impl JudgeMessage for InfoValues {
-    ghost faults = { λ infos. info_values infos.limit };
+    ghost faults = { λ infos. dense_info_values infos.limit };
 
     #[tactic(auto, using(crate::proofs::Parts::lesser_parts))]
     fn judge_message(&self, info: Message<'_>, _place: u64) -> Option<Fault> {

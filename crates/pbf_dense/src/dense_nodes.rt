@@ -9,7 +9,7 @@ ghost use Rattle.osm_entity.specs.Sources.{low_32};
 ghost use Rattle.osm_entity.specs.Views.{node_of};
 ghost use Rattle.pbf_dense.specs.Cursors.{dense_left};
 ghost use Rattle.pbf_dense.specs.Nodes.{nodes_along};
-ghost use Rattle.pbf_dense.specs.Judged.{coordinate_counts, are_runs, are_tags, texts_named, weight_fault, dense_wire, dense_structure, dense_values, dense_weights, as_stored};
+ghost use Rattle.pbf_dense.specs.Judged.{coordinate_counts, are_runs, are_tags, texts_named, node_weight_fault, dense_wire, dense_structure, dense_values, dense_weights, as_stored};
 ghost use Rattle.pbf_wire.specs.declared.limits.TheConstants.{SUM_LIMIT};
 
 use crate::dense::Dense;
@@ -170,7 +170,7 @@ const AS_STORED: Scale = Scale {
 
 /// `EntityLarge` at `place`, if the node is too heavy.
 fn judge_node(node: NodeRef<'_>, place: u64) -> Option<Fault>
-    ensures { result ≡ least (weight_fault place (node_of node.entry)) }
+    ensures { result ≡ least (node_weight_fault place (node_of node.entry)) }
 {
     fault_where(node.weight() > HIGHEST_WEIGHT, place, Reason::EntityLarge)
 }

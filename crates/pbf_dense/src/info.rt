@@ -53,7 +53,7 @@ impl<'a> InfoColumns<'a> {
     ghost use Rattle.pbf_wire.specs.Faults.{embedded, fields_of, found_in};
     ghost use Rattle.pbf_wire.specs.Fields.{occurrence};
     ghost use Rattle.osm_entity.specs.Views.{meta_of};
-    ghost use Rattle.pbf_dense.specs.Info.{meta_at, later, later_by, info_along};
+    ghost use Rattle.pbf_dense.specs.Info.{meta_at, info_rest, info_past, info_along};
     ghost use Rattle.pbf_dense.specs.Cursors.{info_left};
 
     /// The columns of a DenseInfo.
@@ -95,7 +95,7 @@ impl<'a> InfoColumns<'a> {
     /// The metadata of the next node.
     pub(crate) fn take(&mut self, table: &'a Table<'a>) -> MetaRef<'a>
         ensures meta { meta_of result ≡ meta_at table.now (info_left self.old) 0 }
-        ensures rest { info_left self.new ≡ later (info_left self.old) }
+        ensures rest { info_left self.new ≡ info_rest (info_left self.old) }
     {
         MetaRef {
             version: next_number(&mut self.versions).map(|number| low_i32(number)),
@@ -110,7 +110,7 @@ impl<'a> InfoColumns<'a> {
     /// Skips the metadata of as many nodes.
     #[tactic(auto, using(crate::proofs::InfoLemmas::still_within))]
     pub(crate) fn pass(&mut self, count: usize)
-        ensures { info_left self.new ≡ later_by count (info_left self.old) }
+        ensures { info_left self.new ≡ info_past count (info_left self.old) }
     {
         pass_numbers(&mut self.versions, count);
         self.timestamps.pass(count);

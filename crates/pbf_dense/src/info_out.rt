@@ -5,7 +5,7 @@ ghost use Rattle.std.specs.Option.{option_map, option_to_list};
 ghost use Rattle.pbf_wire.specs.Signed.{sign_extended};
 ghost use Rattle.osm_entity.specs.Ranges.{IsStored, IfPresent, MetaFits};
 ghost use Rattle.osm_entity.specs.Views.{meta_of};
-ghost use Rattle.pbf_dense.specs.WrittenDense.{bit_of, info_columns, info_message, info_held, info_length};
+ghost use Rattle.pbf_dense.specs.WrittenDense.{bit_of, info_columns, dense_info_message, info_held, info_length};
 
 use crate::dense_info::{CHANGESET, TIMESTAMP, UID, USER_SID, VERSION, VISIBLE};
 use osm_entity::MetaRef;
@@ -85,9 +85,9 @@ impl InfoOut {
     }
 
     /// Appends the fields of the DenseInfo.
-    #[tactic(auto, using(crate::proofs::Parts::one_more, crate::proofs::Parts::last_slot), unfolding(crate::specs::WrittenDense::info_message))]
+    #[tactic(auto, using(crate::proofs::Parts::one_more, crate::proofs::Parts::last_slot), unfolding(crate::specs::WrittenDense::dense_info_message))]
     pub(crate) fn write(&self, out: &mut Vec<u8>) -> Result<(), AllocError>
-        ensures { OnOk result (out.new.items ≡ out.old.items ++ info_message (info_held self.now)) }
+        ensures { OnOk result (out.new.items ≡ out.old.items ++ dense_info_message (info_held self.now)) }
     {
         put_column(out, VERSION, self.versions.bytes())?;
         put_column(out, TIMESTAMP, self.timestamps.bytes())?;

@@ -2,7 +2,7 @@
 
 ghost use Rattle.std.specs.Prelude.{◌≡◌, ◌+◌, ◌≤◌, ◌^◌, length};
 ghost use Rattle.pbf_wire.specs.Least.{least};
-ghost use Rattle.pbf_wire.specs.Wire.{judged};
+ghost use Rattle.pbf_wire.specs.Wire.{ok_unless};
 ghost use Rattle.pbf_dense.specs.declared.phase.Phase.TheVariants as phase;
 ghost use Rattle.pbf_dense.specs.Judged.{early_fault, phase_faults, dense_fault};
 ghost use Rattle.pbf_wire.specs.declared.limits.TheConstants.{OFFSET_LIMIT, SUM_LIMIT};
@@ -71,7 +71,7 @@ impl<'a> Dense<'a> {
     ) -> Result<(), Fault>
         requires placed { at + length message.now ≤ OFFSET_LIMIT }
         requires tagged { place ≤ at }
-        ensures { result ≡ judged (least (phase_faults phase place at table.now message.now)) }
+        ensures { result ≡ ok_unless (least (phase_faults phase place at table.now message.now)) }
     {
         let message = Message { bytes: message, at };
         refuse(match phase {

@@ -19,8 +19,8 @@ use Rattle.pbf_frame.specs.declared.header.TheConstants.{HEADER_KINDS, HEADER_LI
 use Rattle.pbf_frame.specs.Blob.{blob_fault}
 use Rattle.pbf_frame.specs.Header.{head_says, header_faults}
 use Rattle.pbf_frame.specs.Frames.{FrameSpec, is_header, header_at, blob_at, frame_at, frame_kind, frame_bytes, frame_end, cut_faults, order_faults, phases_of_blob, frame_phases, next_within}
-use Rattle.pbf_frame.specs.Sound.{IsSound, IsFrameWithin, AreFramesWithin, had_after}
-use Rattle.pbf_frame.specs.Verdict.{with_first, judged_after, judged_fueled, judged_within, joined_frames}
+use Rattle.pbf_frame.specs.Sound.{IsSoundBlob, IsFrameWithin, AreFramesWithin, had_after}
+use Rattle.pbf_frame.specs.Verdict.{with_frame_first, judged_after, judged_fueled, judged_within, joined_frames}
 use Rattle.pbf_frame.proofs.BlobLemmas.{earlier_none}
 use Rattle.pbf_frame.proofs.Stepping.{given_or}
 
@@ -30,7 +30,7 @@ use Rattle.pbf_frame.proofs.Stepping.{given_or}
 none_at_all : (a b c d e : List Fault) (late : List (List Fault)) → least a ≡ None → least b ≡ None → least c ≡ None → least d ≡ None → least e ≡ None → first_fault late ≡ None → first_fault (a ∷ b ∷ c ∷ d ∷ e ∷ late) ≡ None
 none_at_all a b c d e late is_a is_b is_c is_d is_e none = rw (is_a, is_b, is_c, is_d, is_e) none
 
-blob_none : (k : FrameKind) (at : ℕ) (blob : List ℕ) → IsSound k at blob → first_fault (phases_of_blob k at blob) ≡ None
+blob_none : (k : FrameKind) (at : ℕ) (blob : List ℕ) → IsSoundBlob k at blob → first_fault (phases_of_blob k at blob) ≡ None
 unfolding blob_fault
 blob_none kind.Header at blob sound = sound
 blob_none kind.Data at blob sound = sound
@@ -109,7 +109,7 @@ judged_frames fs limit zero h p low are had = absurd (omega (arith, low))
 judged_frames [] limit (suc n) h p low are had = ap (judged_after (judged_fueled limit n) h) (nothing_next limit h p had)
 judged_frames (f ∷ fs) limit (suc n) h p low are had =
     ap (judged_after (judged_fueled limit n) h) (frame_is_next_within limit h p f (joined_frames fs) are.0)
-    ∙ ap (with_first f) (judged_frames fs limit n (h || is_header (frame_kind f)) (frame_end f) (omega (arith, low)) are.1 had)
+    ∙ ap (with_frame_first f) (judged_frames fs limit n (h || is_header (frame_kind f)) (frame_end f) (omega (arith, low)) are.1 had)
 
 few_frames : (fs : List FrameSpec) (limit : Option ℕ) (h : Bool) (p : ℕ) → AreFramesWithin limit h p fs → length fs ≤ length (joined_frames fs)
 few_frames [] limit h p are = omega arith
@@ -232,7 +232,7 @@ module _ (n limit : ℕ) (h : Bool) (p : ℕ) (bytes : List ℕ) (low : p + leng
   same_step (Ok (None, rest)) is none = ap (judged_after (judged_fueled (Some limit) n) h) (next_same limit h p bytes low (length bytes == 0) (None, rest) refl is).same
   same_step (Ok (Some f, rest)) is none =
       let next = next_same limit h p bytes low (length bytes == 0) (Some f, rest) refl is in
-      ap (judged_after (judged_fueled (Some limit) n) h) next.same ∙ ap (with_first f) (later (h || is_header (frame_kind f)) (frame_end f) rest next.room none)
+      ap (judged_after (judged_fueled (Some limit) n) h) next.same ∙ ap (with_frame_first f) (later (h || is_header (frame_kind f)) (frame_end f) rest next.room none)
 
 same_fueled : (n limit : ℕ) (h : Bool) (p : ℕ) (bytes : List ℕ) → p + length bytes ≤ limit → (judged_fueled None n h p bytes).1 ≡ None → judged_fueled (Some limit) n h p bytes ≡ judged_fueled None n h p bytes
 unfolding judged_fueled

@@ -12,7 +12,7 @@ use Rattle.pbf_wire.proofs.FaultLemmas.{leaf_is_wire}
 use Rattle.pbf_frame.specs.declared.blob.TheConstants.{RAW, BLOB_KINDS}
 use Rattle.pbf_wire.specs.declared.limits.TheConstants.{RAW_LIMIT}
 use Rattle.pbf_wire.specs.Faults.{fault_where}
-use Rattle.pbf_frame.specs.Blob.{compressed, raw_faults, blob_faults, blob_fault, raw_of}
+use Rattle.pbf_frame.specs.Blob.{compressed, raw_faults, blob_faults, blob_fault, raw_payload_of}
 
 -- only an empty list has no least
 pub least_none : (fs : List Fault) → least fs ≡ None → fs ≡ []
@@ -48,5 +48,5 @@ pub blob_steps : (at : ℕ) (blob : List ℕ) → blob_fault at blob ≡ option_
 unfolding blob_fault
 blob_steps at blob = ap₂ option_or (leaf_is_wire BLOB_KINDS (items at blob)) (option_last (least (blob_faults at blob)))
 
-pub payload_short : (at : ℕ) (blob : List ℕ) → blob_fault at blob ≡ None → length (raw_of at blob) < RAW_LIMIT
+pub payload_short : (at : ℕ) (blob : List ℕ) → blob_fault at blob ≡ None → length (raw_payload_of at blob) < RAW_LIMIT
 payload_short at blob e = raw_short at (last_of RAW (found (items at blob))) (compressed (found (items at blob))) (least_none (blob_faults at blob) (earlier_none (wire BLOB_KINDS (items at blob)) _ (sym (blob_steps at blob) ∙ e)).1)

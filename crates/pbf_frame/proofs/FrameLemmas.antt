@@ -4,7 +4,7 @@ use Rattle.std.specs.Prelude.{unwrap_or}
 use Rattle.pbf_wire.specs.declared.fault.Fault.{Fault}
 use Rattle.pbf_frame.specs.declared.frame.FrameKind.{FrameKind}
 use Rattle.pbf_frame.specs.declared.header.Head.{Head}
-use Rattle.pbf_frame.specs.declared.frame_parts.Seen.{Seen}
+use Rattle.pbf_frame.specs.declared.frame_parts.BufferedFrame.{BufferedFrame}
 use Rattle.pbf_frame.specs.Devices.{IsAtEnd, Passes}
 use Rattle.pbf_wire.specs.Least.{least}
 use Rattle.pbf_wire.specs.Occurrence.{items, found}
@@ -15,7 +15,7 @@ use Rattle.pbf_frame.specs.Header.{head_says, header_faults, name_of, kind_named
 use Rattle.pbf_frame.specs.Frames.{next_of}
 use Rattle.pbf_frame.specs.Reads.{Gives, GaveBlob, GaveFrame, GaveEnd, Holds}
 use Rattle.pbf_frame.specs.Sound.{IsFrame}
-use Rattle.pbf_frame.specs.Steps.{unless, ◌>>=◌, head_of, prefix_at, header_of, blob_of, after_prefix, steps_of}
+use Rattle.pbf_frame.specs.Steps.{unless, ◌>>=◌, head_of, prefix_at, header_after, blob_of, after_prefix, steps_of}
 use Rattle.pbf_frame.proofs.Passed.{passes_three}
 use Rattle.pbf_frame.proofs.Stepping.{after_blob, after_header, as_some, frame_steps, after_some, after_none, next_is_steps}
 
@@ -32,19 +32,19 @@ module _ (h : Bool) (p : ℕ) (bytes : List ℕ) where
   prefix_none : (rest : List ℕ) → prefix_at h p bytes ≡ Ok (None, rest) → next_of h p bytes ≡ Ok (None, rest)
   prefix_none rest is = next_steps h p bytes ∙ ap (λ r. r >>= after_prefix h p) is ∙ after_none h p rest
 
-  prefix_some : (prefix rest : List ℕ) → prefix_at h p bytes ≡ Ok (Some prefix, rest) → next_of h p bytes ≡ (header_of h p prefix rest >>= after_header p prefix >>= as_some)
+  prefix_some : (prefix rest : List ℕ) → prefix_at h p bytes ≡ Ok (Some prefix, rest) → next_of h p bytes ≡ (header_after h p prefix rest >>= after_header p prefix >>= as_some)
   prefix_some prefix rest is = next_steps h p bytes ∙ ap (λ r. r >>= after_prefix h p) is ∙ after_some h p prefix rest ∙ ap (λ r. r >>= as_some) (frame_steps h p prefix rest)
 
-  pub header_refused : (prefix rest : List ℕ) (e : Fault) → prefix_at h p bytes ≡ Ok (Some prefix, rest) → header_of h p prefix rest ≡ Err e → next_of h p bytes ≡ Err e
+  pub header_refused : (prefix rest : List ℕ) (e : Fault) → prefix_at h p bytes ≡ Ok (Some prefix, rest) → header_after h p prefix rest ≡ Err e → next_of h p bytes ≡ Err e
   header_refused prefix rest e is then = prefix_some prefix rest is ∙ ap (λ r. r >>= after_header p prefix >>= as_some) then
 
-  header_some : (prefix rest header left : List ℕ) (head : Head) → prefix_at h p bytes ≡ Ok (Some prefix, rest) → header_of h p prefix rest ≡ Ok ((header, head), left) → next_of h p bytes ≡ (blob_of head.kind head.size (p + 4 + length header) left >>= after_blob p prefix ((header, head), left) >>= as_some)
+  header_some : (prefix rest header left : List ℕ) (head : Head) → prefix_at h p bytes ≡ Ok (Some prefix, rest) → header_after h p prefix rest ≡ Ok ((header, head), left) → next_of h p bytes ≡ (blob_of head.kind head.size (p + 4 + length header) left >>= after_blob p prefix ((header, head), left) >>= as_some)
   header_some prefix rest header left head is then = prefix_some prefix rest is ∙ ap (λ r. r >>= after_header p prefix >>= as_some) then
 
-  pub blob_refused : (prefix rest header left : List ℕ) (head : Head) (e : Fault) → prefix_at h p bytes ≡ Ok (Some prefix, rest) → header_of h p prefix rest ≡ Ok ((header, head), left) → blob_of head.kind head.size (p + 4 + length header) left ≡ Err e → next_of h p bytes ≡ Err e
+  pub blob_refused : (prefix rest header left : List ℕ) (head : Head) (e : Fault) → prefix_at h p bytes ≡ Ok (Some prefix, rest) → header_after h p prefix rest ≡ Ok ((header, head), left) → blob_of head.kind head.size (p + 4 + length header) left ≡ Err e → next_of h p bytes ≡ Err e
   blob_refused prefix rest header left head e is then lastly = header_some prefix rest header left head is then ∙ ap (λ r. r >>= after_blob p prefix ((header, head), left) >>= as_some) lastly
 
-  pub blob_some : (prefix rest header left blob last : List ℕ) (head : Head) → prefix_at h p bytes ≡ Ok (Some prefix, rest) → header_of h p prefix rest ≡ Ok ((header, head), left) → blob_of head.kind head.size (p + 4 + length header) left ≡ Ok (blob, last)
+  pub blob_some : (prefix rest header left blob last : List ℕ) (head : Head) → prefix_at h p bytes ≡ Ok (Some prefix, rest) → header_after h p prefix rest ≡ Ok ((header, head), left) → blob_of head.kind head.size (p + 4 + length header) left ≡ Ok (blob, last)
       → next_of h p bytes ≡ Ok (Some (record { offset = p; prefix = prefix; header = header; blob = blob }), last)
   blob_some prefix rest header left blob last head is then lastly = header_some prefix rest header left head is then ∙ ap (λ r. r >>= after_blob p prefix ((header, head), left) >>= as_some) lastly
 
@@ -76,7 +76,7 @@ pub prefix_given : (h : Bool) (p : ℕ) (o to old new : Option (List ℕ)) → o
 prefix_given h p o to old new is given = subst (λ (x : Option (List ℕ)). GivesPrefix h p old new x) is given
 
 abbrev GivesHeader : Bool → ℕ → List ℕ → List ℕ → Option (List ℕ) → Option (List ℕ) → Head → Type 0
-GivesHeader h p prefix header old new head = Gives (header, head) old new (header_of h p prefix)
+GivesHeader h p prefix header old new head = Gives (header, head) old new (header_after h p prefix)
 
 module _ (h : Bool) (p : ℕ) where
   pub gave_end : (before now : ℕ → List ℕ → Type 0) (old new : Option (List ℕ)) → GivesPrefix h p old new None → (old ≡ None → new ≡ None) → IsAtEnd new → h ≡ true → ((log : ℕ) (b : List ℕ) → before log b → now log b) → GaveEnd h p before now old new
@@ -88,7 +88,7 @@ module _ (h : Bool) (p : ℕ) where
     passed = passed;
   }
 
-  pub gave_frame : (prefix header held : List ℕ) (head : Head) (seen : Seen) (q0 q1 q2 q3 : ℕ → List ℕ → Type 0) (old mid next new : Option (List ℕ)) → GivesPrefix h p old mid (Some prefix) → (old ≡ None → mid ≡ None) → GivesHeader h p prefix header mid next head → (mid ≡ None → next ≡ None)
+  pub gave_frame : (prefix header held : List ℕ) (head : Head) (seen : BufferedFrame) (q0 q1 q2 q3 : ℕ → List ℕ → Type 0) (old mid next new : Option (List ℕ)) → GivesPrefix h p old mid (Some prefix) → (old ≡ None → mid ≡ None) → GivesHeader h p prefix header mid next head → (mid ≡ None → next ≡ None)
       → head_of (p + 4) header ≡ Ok head → (blob : GaveBlob head.kind head.size (p + 4 + length header) held q2 q3 next new)
       → IsFrame h p (record { offset = p; prefix = prefix; header = header; blob = blob.blob }) → Passes q0 prefix q1 → Passes q1 header q2
       → seen.offset ≡ p → seen.kind ≡ head.kind → seen.size ≡ head.size → seen.blob_at ≡ p + 4 + length header → GaveFrame h p header held seen q0 q3 old new

@@ -4,7 +4,7 @@ use Rattle.pbf_wire.specs.declared.fault.Fault.{Fault}
 use Rattle.pbf_frame.specs.Devices.{prepend}
 use Rattle.pbf_frame.specs.declared.frame.TheConstants.{FILE_LIMIT}
 use Rattle.pbf_frame.specs.Frames.{FrameSpec, is_header, frame_kind, frame_bytes, frame_end, next_of}
-use Rattle.pbf_frame.specs.Verdict.{Verdict, with_first, judged_after, judged_fueled, judged_within, judged, judged_known, with_first_known, Says}
+use Rattle.pbf_frame.specs.Verdict.{Verdict, with_frame_first, judged_after, judged_fueled, judged_within, judged, judged_known, with_first_known, Says}
 use Rattle.pbf_frame.proofs.Parting.{next_split, next_none}
 
 -- enough fuel is enough
@@ -17,7 +17,7 @@ same_after f g h p bytes same = cases (next_of h p bytes) refl where
   cases (Ok (Some spec, rest)) is =
       let split = next_split h p bytes spec rest is in
       let shorter : length rest < length bytes = omega (arith, split.1, ap length split.0 ∙ length-append (frame_bytes spec) rest) in
-      ap (with_first spec) (same (h || is_header (frame_kind spec)) (frame_end spec) rest shorter)
+      ap (with_frame_first spec) (same (h || is_header (frame_kind spec)) (frame_end spec) rest shorter)
 
 more_fuel : (m n : ℕ) (h : Bool) (p : ℕ) (bytes : List ℕ) → length bytes < m → length bytes < n → judged_fueled (Some FILE_LIMIT) m h p bytes ≡ judged_fueled (Some FILE_LIMIT) n h p bytes
 unfolding judged_fueled
@@ -34,7 +34,7 @@ judged_step h p bytes =
     ap (λ n. judged_fueled (Some FILE_LIMIT) n h p bytes) fuel
     ∙ same_after (judged_fueled (Some FILE_LIMIT) (length bytes)) judged h p bytes (λ h' p' rest shorter. more_fuel (length bytes) (length rest + 1) h' p' rest shorter (omega arith))
 
-pub judged_some : (h : Bool) (p : ℕ) (bytes : List ℕ) (f : FrameSpec) (rest : List ℕ) → next_of h p bytes ≡ Ok (Some f, rest) → judged h p bytes ≡ with_first f (judged (h || is_header (frame_kind f)) (frame_end f) rest)
+pub judged_some : (h : Bool) (p : ℕ) (bytes : List ℕ) (f : FrameSpec) (rest : List ℕ) → next_of h p bytes ≡ Ok (Some f, rest) → judged h p bytes ≡ with_frame_first f (judged (h || is_header (frame_kind f)) (frame_end f) rest)
 judged_some h p bytes f rest e = judged_step h p bytes ∙ ap (judged_after judged h) e
 
 -- ---- what a reading call gives, as equations

@@ -15,8 +15,8 @@ use Rattle.pbf_frame.specs.declared.header.TheConstants.{TYPE, DATASIZE, HEADER_
 use Rattle.pbf_frame.specs.Header.{header_faults, int32_held, size_within, size_of, size_faults}
 use Rattle.pbf_frame.specs.declared.frame.TheConstants.{FILE_LIMIT}
 use Rattle.pbf_frame.specs.Frames.{FrameSpec, is_header, header_at, blob_at, frame_kind, frame_bytes, frame_end, order_faults, next_of}
-use Rattle.pbf_frame.specs.Verdict.{Verdict, with_first, with_all, judged_after, judged, joined_frames}
-use Rattle.pbf_frame.specs.Sound.{IsSound, IsFrame, AreFrames, had_after, place_after, EndsAs, IsLongestFront}
+use Rattle.pbf_frame.specs.Verdict.{Verdict, with_frame_first, with_all, judged_after, judged, joined_frames}
+use Rattle.pbf_frame.specs.Sound.{IsSoundBlob, IsFrame, AreFrames, had_after, place_after, EndsAs, IsLongestFront}
 use Rattle.pbf_frame.specs.Steps.{prefix_at}
 use Rattle.pbf_frame.proofs.AnyLength.{frame_is_next_within}
 use Rattle.pbf_frame.proofs.BlobLemmas.{least_none}
@@ -55,7 +55,7 @@ frame_at h bytes f rest parts =
       whole = says.1;
       sized = sized (header_at f) (fault_where (is_none (last_of TYPE (found (items (header_at f) f.header)))) (header_at f) (Missing TYPE)) last (least_none (header_faults (header_at f) f.header) says.1) ∙ ap Some (sym size);
       ordered = ap (λ (k : FrameKind). least (order_faults (Some FILE_LIMIT) h f.offset k (frame_end f))) (sym says.2) ∙ ap (λ (n : ℕ). least (order_faults (Some FILE_LIMIT) h f.offset parts.head.kind (blob_at f + n))) parts.blob_is.long ∙ parts.header_is.ordered;
-      sound = subst (λ (k : FrameKind). IsSound k (blob_at f) f.blob) says.2 parts.blob_is.sound;
+      sound = subst (λ (k : FrameKind). IsSoundBlob k (blob_at f) f.blob) says.2 parts.blob_is.sound;
     }
 
 pub next_is_frame : (h : Bool) (p : ℕ) (bytes : List ℕ) (f : FrameSpec) (rest : List ℕ) → next_of h p bytes ≡ Ok (Some f, rest) → IsFrame h p f
@@ -82,7 +82,7 @@ frames_then_rest h p [] rest are = refl
 frames_then_rest h p (f ∷ fs) rest are =
     ap (judged h p) (append_assoc (frame_bytes f) (joined_frames fs) rest)
     ∙ judged_some h p (frame_bytes f ++ (joined_frames fs ++ rest)) f (joined_frames fs ++ rest) (frame_is_next h p f (joined_frames fs ++ rest) are.0)
-    ∙ ap (with_first f) (frames_then_rest (h || is_header (frame_kind f)) (frame_end f) fs rest are.1)
+    ∙ ap (with_frame_first f) (frames_then_rest (h || is_header (frame_kind f)) (frame_end f) fs rest are.1)
 
 -- everything except that no list is longer
 pub record IsFrontOf (h : Bool) (p : ℕ) (bytes : List ℕ) (verdict : Verdict) : Type 0 where

@@ -14,8 +14,8 @@ use Rattle.pbf_wire.specs.Faults.{fault}
 use Rattle.pbf_frame.specs.Blob.{blob_fault}
 use Rattle.pbf_frame.specs.declared.frame.TheConstants.{FILE_LIMIT}
 use Rattle.pbf_frame.specs.Frames.{FrameSpec, frame_bytes, order_faults, next_of}
-use Rattle.pbf_frame.specs.Sound.{IsSound}
-use Rattle.pbf_frame.specs.Steps.{unless, ◌>>=◌, head_of, bytes_at, prefix_at, header_of, known_blob_of, blob_of, after_prefix}
+use Rattle.pbf_frame.specs.Sound.{IsSoundBlob}
+use Rattle.pbf_frame.specs.Steps.{unless, ◌>>=◌, head_of, bytes_at, prefix_at, header_after, known_blob_of, blob_of, after_prefix}
 use Rattle.pbf_frame.proofs.FrontLemmas.{bytes_at_front}
 use Rattle.pbf_frame.proofs.Stepping.{after_header, after_blob, as_some, frame_steps, after_some, after_none}
 use Rattle.pbf_frame.proofs.FrameLemmas.{err_ok, unless_ok, next_steps}
@@ -114,8 +114,8 @@ pub record HeaderParts (h : Bool) (p : ℕ) (prefix bytes header rest : List ℕ
   pub says : head_of (p + 4) header ≡ Ok head
   pub ordered : least (order_faults (Some FILE_LIMIT) h p head.kind (p + 4 + length header + head.size)) ≡ None
 
-pub header_parts : (h : Bool) (p : ℕ) (prefix bytes header rest : List ℕ) (head : Head) → header_of h p prefix bytes ≡ Ok ((header, head), rest) → HeaderParts h p prefix bytes header rest head
-unfolding header_of
+pub header_parts : (h : Bool) (p : ℕ) (prefix bytes header rest : List ℕ) (head : Head) → header_after h p prefix bytes ≡ Ok ((header, head), rest) → HeaderParts h p prefix bytes header rest head
+unfolding header_after
 header_parts h p prefix bytes header rest head e =
     let (front, is_front, e1) = bind_inverse (bytes_at (fault p HeaderCut) (big_number 4 prefix) bytes) (after_bytes h p) _ e in
     let (said, is_said, e2) = bind_inverse (head_of (p + 4) front.0) (after_head h p front) _ e1 in
@@ -131,8 +131,8 @@ header_parts h p prefix bytes header rest head e =
       ordered = subst (λ (x : List ℕ × Head). least (order_faults (Some FILE_LIMIT) h p x.1.kind (p + 4 + length x.0 + x.1.size)) ≡ None) parts.0 ordered;
     }
 
-pub header_whole : (h : Bool) (p : ℕ) (prefix bytes header rest : List ℕ) (head : Head) → HeaderParts h p prefix bytes header rest head → header_of h p prefix bytes ≡ Ok ((header, head), rest)
-unfolding header_of
+pub header_whole : (h : Bool) (p : ℕ) (prefix bytes header rest : List ℕ) (head : Head) → HeaderParts h p prefix bytes header rest head → header_after h p prefix bytes ≡ Ok ((header, head), rest)
+unfolding header_after
 header_whole h p prefix bytes header rest head parts =
     ap (λ l. bytes_at (fault p HeaderCut) (big_number 4 prefix) l >>= after_bytes h p) parts.split
     ∙ ap (λ r. r >>= after_bytes h p) (bytes_at_front (fault p HeaderCut) (big_number 4 prefix) header rest parts.long)
@@ -151,7 +151,7 @@ after_blob_bytes at blob = unless (blob_fault at blob.0) (Ok blob)
 pub record BlobParts (k : FrameKind) (size at : ℕ) (bytes blob rest : List ℕ) : Type 0 where
   pub split : bytes ≡ blob ++ rest
   pub long : length blob ≡ size
-  pub sound : IsSound k at blob
+  pub sound : IsSoundBlob k at blob
 
 known_parts : (size at : ℕ) (bytes blob rest : List ℕ) → known_blob_of size at bytes ≡ Ok (blob, rest) → (bytes ≡ blob ++ rest) × (length blob ≡ size) × (blob_fault at blob ≡ None)
 unfolding known_blob_of
@@ -181,9 +181,9 @@ pub record FrameParts (h : Bool) (p : ℕ) (bytes : List ℕ) (f : FrameSpec) (r
   pub header_is : HeaderParts h p f.prefix left f.header last head
   pub blob_is : BlobParts head.kind head.size (p + 4 + length f.header) last f.blob rest
 
-frame_parts_of : (h : Bool) (p : ℕ) (bytes prefix left : List ℕ) (f : FrameSpec) (rest : List ℕ) → (bytes ≡ prefix ++ left) × (length prefix ≡ 4) × (big_number 4 prefix < HEADER_LIMIT) → (header_of h p prefix left >>= after_header p prefix) ≡ Ok (f, rest) → FrameParts h p bytes f rest
+frame_parts_of : (h : Bool) (p : ℕ) (bytes prefix left : List ℕ) (f : FrameSpec) (rest : List ℕ) → (bytes ≡ prefix ++ left) × (length prefix ≡ 4) × (big_number 4 prefix < HEADER_LIMIT) → (header_after h p prefix left >>= after_header p prefix) ≡ Ok (f, rest) → FrameParts h p bytes f rest
 frame_parts_of h p bytes prefix left f rest is_prefix e =
-    let (front, is_front, e1) = bind_inverse (header_of h p prefix left) (after_header p prefix) _ e in
+    let (front, is_front, e1) = bind_inverse (header_after h p prefix left) (after_header p prefix) _ e in
     let (blob, is_blob, e2) = bind_inverse (blob_of front.0.1.kind front.0.1.size (p + 4 + length front.0.0) front.1) (after_blob p prefix front) _ e1 in
     let whole : FrameSpec = record { offset = p; prefix = prefix; header = front.0.0; blob = blob.0 } in
     let parts = ok_parts whole f blob.1 rest e2 in
@@ -205,7 +205,7 @@ next_parts h p bytes f rest e = (let (x, is, e1) = bind_inverse (prefix_at h p b
   after : (x : Option (List ℕ) × List ℕ) → prefix_at h p bytes ≡ Ok x → after_prefix h p x ≡ Ok (Some f, rest) → FrameParts h p bytes f rest
   after (None, b) is e = absurd (none_some None f refl (ok_parts None (Some f) b rest (sym (after_none h p b) ∙ e)).0)
   after (Some prefix, b) is e =
-      let (read, is_read, e1) = bind_inverse (header_of h p prefix b >>= after_header p prefix) as_some (Some f, rest) (ap (λ r. r >>= as_some) (sym (frame_steps h p prefix b)) ∙ sym (after_some h p prefix b) ∙ e) in
+      let (read, is_read, e1) = bind_inverse (header_after h p prefix b >>= after_header p prefix) as_some (Some f, rest) (ap (λ r. r >>= as_some) (sym (frame_steps h p prefix b)) ∙ sym (after_some h p prefix b) ∙ e) in
       let parts = ok_parts (Some read.0) (Some f) read.1 rest e1 in
       let same : read.0 ≡ f = some_same _ _ parts.0 in
       let built = frame_parts_of h p bytes prefix b read.0 read.1 (prefix_split h p bytes prefix b is) is_read in
@@ -229,7 +229,7 @@ next_none h p bytes rest e = (let (x, is, e1) = bind_inverse (prefix_at h p byte
       let same : b ≡ rest = (ok_parts _ _ _ _ (sym (after_none h p b) ∙ e)).1 in
       let nothing = prefix_none h p bytes b is in
       (nothing.0, sym same ∙ nothing.1)
-  after (Some prefix, b) is e = absurd (some (header_of h p prefix b >>= after_header p prefix) (ap (λ r. r >>= as_some) (sym (frame_steps h p prefix b)) ∙ sym (after_some h p prefix b) ∙ e)) where
+  after (Some prefix, b) is e = absurd (some (header_after h p prefix b >>= after_header p prefix) (ap (λ r. r >>= as_some) (sym (frame_steps h p prefix b)) ∙ sym (after_some h p prefix b) ∙ e)) where
     some : (r : Result (FrameSpec × List ℕ) Fault) → ◌>>=◌ {A = FrameSpec × List ℕ} {B = Option FrameSpec × List ℕ} r as_some ≡ Ok (None, rest) → ⊥
     some (Ok read) e = none_some _ _ refl (sym (ok_parts (Some read.0) None read.1 rest e).0)
     some (Err stop) e = cc

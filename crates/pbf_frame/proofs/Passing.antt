@@ -9,7 +9,7 @@ use Rattle.pbf_frame.specs.declared.header.TheConstants.{HEADER_LIMIT}
 use Rattle.pbf_frame.specs.declared.frame.TheConstants.{FILE_LIMIT}
 use Rattle.pbf_frame.specs.Frames.{FrameSpec, order_faults}
 use Rattle.pbf_frame.specs.Reads.{Holds, Skips}
-use Rattle.pbf_frame.specs.Sound.{IsFrame, IsSound}
+use Rattle.pbf_frame.specs.Sound.{IsFrame, IsSoundBlob}
 use Rattle.pbf_frame.specs.Steps.{head_of}
 use Rattle.pbf_frame.proofs.Parting.{FrameParts}
 use Rattle.pbf_frame.proofs.Longest.{frame_at}
@@ -20,7 +20,7 @@ pub skips_none : (now : ℕ → List ℕ → Type 0) (known : Option (List ℕ))
 skips_none now None = record { skipped = []; long = refl; gone = refl; passed = passes_none now }
 skips_none now (Some rest) = record { skipped = []; long = refl; gone = refl; passed = passes_none now }
 
-sound_held : (k : FrameKind) (at : ℕ) (blob held : List ℕ) → Holds k at blob held → IsSound k at blob
+sound_held : (k : FrameKind) (at : ℕ) (blob held : List ℕ) → Holds k at blob held → IsSoundBlob k at blob
 sound_held kind.Header at blob held holds = holds.1
 sound_held kind.Data at blob held holds = holds.1
 sound_held kind.Other at blob held holds = tt

@@ -26,9 +26,9 @@ use Rattle.pbf_frame.specs.declared.frame.FrameKind.TheVariants as kind
 use Rattle.pbf_frame.specs.declared.header.TheConstants.{TYPE, DATASIZE, HEADER_KINDS, LARGEST_SIZE}
 use Rattle.pbf_wire.specs.Faults.{fault_where}
 use Rattle.pbf_frame.specs.Header.{name_of, kind_named, size_within, size_of, size_faults, header_faults}
-use Rattle.pbf_frame.specs.Blob.{compressed, raw_faults, blob_faults, blob_fault, raw_of}
+use Rattle.pbf_frame.specs.Blob.{compressed, raw_faults, blob_faults, blob_fault, raw_payload_of}
 use Rattle.pbf_frame.specs.Frames.{order_faults, frame_kind, frame_end, frame_bytes, frame_payload, payload_in, blob_at}
-use Rattle.pbf_frame.specs.Sound.{IsSound, IsFrameWithin}
+use Rattle.pbf_frame.specs.Sound.{IsSoundBlob, IsFrameWithin}
 use Rattle.pbf_frame.proofs.BlobLemmas.{blob_steps}
 use Rattle.pbf_frame.specs.Writing.{written_name, written_header, written_blob, written_at, written_frame}
 
@@ -59,7 +59,7 @@ blob_fields at payload small =
     ap (λ l. found (items at l)) (blob_is payload)
     ∙ fields_written at (blob_slots payload) (blob_fits payload) (subst (λ l. length l < 2 ^ 64) (blob_is payload) (omega (arith, blob_short payload small, small)))
 
-blob_payload : (at : ℕ) (payload : List ℕ) → length payload < RAW_LIMIT → raw_of at (written_blob payload) ≡ payload
+blob_payload : (at : ℕ) (payload : List ℕ) → length payload < RAW_LIMIT → raw_payload_of at (written_blob payload) ≡ payload
 blob_payload at payload small = ap (λ os. occurrence_text (last_of RAW os)) (blob_fields at payload small)
 
 blob_wired : (at : ℕ) (payload : List ℕ) → length payload < RAW_LIMIT → wire BLOB_KINDS (items at (written_blob payload)) ≡ None
@@ -154,12 +154,12 @@ header_whole at k size small =
 
 -- ---- the frame
 
-sound_any : (k : FrameKind) (at : ℕ) (blob : List ℕ) → blob_fault at blob ≡ None → IsSound k at blob
+sound_any : (k : FrameKind) (at : ℕ) (blob : List ℕ) → blob_fault at blob ≡ None → IsSoundBlob k at blob
 sound_any kind.Header at blob sound = sound
 sound_any kind.Data at blob sound = sound
 sound_any kind.Other at blob sound = tt
 
-payload_any : (k : FrameKind) (at : ℕ) (blob : List ℕ) → (k ≡ kind.Other → ⊥) → payload_in k at blob ≡ raw_of at blob
+payload_any : (k : FrameKind) (at : ℕ) (blob : List ℕ) → (k ≡ kind.Other → ⊥) → payload_in k at blob ≡ raw_payload_of at blob
 payload_any kind.Header at blob known = refl
 payload_any kind.Data at blob known = refl
 payload_any kind.Other at blob known = absurd (known refl)

@@ -19,7 +19,7 @@ use Rattle.pbf_frame.specs.Devices.{prepend, Passes, IsAtEnd, given_prefix}
 use Rattle.pbf_frame.specs.declared.frame.TheConstants.{FILE_LIMIT}
 use Rattle.pbf_frame.specs.Frames.{order_faults, next_of}
 use Rattle.pbf_frame.specs.Refusals.{Refuses, RefusedBy}
-use Rattle.pbf_frame.specs.Steps.{bytes_at, prefix_at, header_of, known_blob_of, blob_of, head_of}
+use Rattle.pbf_frame.specs.Steps.{bytes_at, prefix_at, header_after, known_blob_of, blob_of, head_of}
 use Rattle.pbf_frame.proofs.FrontLemmas.{bytes_at_front}
 use Rattle.pbf_frame.proofs.FrameLemmas.{prefix_refused, header_refused, blob_refused}
 use Rattle.pbf_frame.proofs.KnownBytes.{prepend_more}
@@ -85,16 +85,16 @@ prefix_large h p prefix rest long large =
 -- ---- of a header
 
 module _ (h : Bool) (p : ℕ) (prefix : List ℕ) where
-  pub header_cut : (bytes : List ℕ) (e : Fault) → bytes_at (fault p HeaderCut) (big_number 4 prefix) bytes ≡ Err e → header_of h p prefix bytes ≡ Err e
-  unfolding header_of
+  pub header_cut : (bytes : List ℕ) (e : Fault) → bytes_at (fault p HeaderCut) (big_number 4 prefix) bytes ≡ Err e → header_after h p prefix bytes ≡ Err e
+  unfolding header_after
   header_cut bytes e is = rw (is) refl
 
-  pub header_unfit : (header rest : List ℕ) (e : Fault) → length header ≡ big_number 4 prefix → head_of (p + 4) header ≡ Err e → header_of h p prefix (header ++ rest) ≡ Err e
-  unfolding header_of
+  pub header_unfit : (header rest : List ℕ) (e : Fault) → length header ≡ big_number 4 prefix → head_of (p + 4) header ≡ Err e → header_after h p prefix (header ++ rest) ≡ Err e
+  unfolding header_after
   header_unfit header rest e long is = rw (bytes_at_front (fault p HeaderCut) (big_number 4 prefix) header rest long, is) refl
 
-  pub header_misplaced : (header rest : List ℕ) (head : Head) (e : Fault) → length header ≡ big_number 4 prefix → head_of (p + 4) header ≡ Ok head → least (order_faults (Some FILE_LIMIT) h p head.kind (p + 4 + length header + head.size)) ≡ Some e → header_of h p prefix (header ++ rest) ≡ Err e
-  unfolding header_of
+  pub header_misplaced : (header rest : List ℕ) (head : Head) (e : Fault) → length header ≡ big_number 4 prefix → head_of (p + 4) header ≡ Ok head → least (order_faults (Some FILE_LIMIT) h p head.kind (p + 4 + length header + head.size)) ≡ Some e → header_after h p prefix (header ++ rest) ≡ Err e
+  unfolding header_after
   header_misplaced header rest head e long says is = rw (bytes_at_front (fault p HeaderCut) (big_number 4 prefix) header rest long, says, is) refl
 
 -- ---- of a blob
@@ -162,8 +162,8 @@ module _ (h : Bool) (p : ℕ) (before : ℕ → List ℕ → Type 0) (old : Opti
   refused_prefix now new refused = refused_as (next_of h p) (prefix_at h p) before now old new stop (λ b e is. prefix_refused h p b e is) refused
 
   module _ (prefix : List ℕ) (mid : ℕ → List ℕ → Type 0) (between : Option (List ℕ)) (first : PrefixRead before mid old between prefix) where
-    pub refused_header : (now : ℕ → List ℕ → Type 0) (new : Option (List ℕ)) → RefusedBy (header_of h p prefix) mid now between new stop → RefusedBy (next_of h p) before now old new stop
-    refused_header now new refused = refused_more (next_of h p) (header_of h p prefix) before mid now old between new prefix stop first.told first.logged
+    pub refused_header : (now : ℕ → List ℕ → Type 0) (new : Option (List ℕ)) → RefusedBy (header_after h p prefix) mid now between new stop → RefusedBy (next_of h p) before now old new stop
+    refused_header now new refused = refused_more (next_of h p) (header_after h p prefix) before mid now old between new prefix stop first.told first.logged
         (λ b e is. header_refused h p (prefix ++ b) prefix b e (prefix_whole h p prefix b first.long first.small) is) refused
 
     pub refused_blob : (next now : ℕ → List ℕ → Type 0) (left new : Option (List ℕ)) (header : List ℕ) (head : Head) → between ≡ prepend header left → Passes mid header next → length header ≡ big_number 4 prefix → head_of (p + 4) header ≡ Ok head

@@ -15,8 +15,8 @@ use Rattle.pbf_frame.specs.Blob.{blob_fault}
 use Rattle.pbf_frame.specs.Ends.{comes_of_end}
 use Rattle.pbf_frame.specs.Frames.{FrameSpec, is_header, frame_kind, frame_end, frame_bytes, order_faults, next_of}
 use Rattle.pbf_frame.specs.declared.frame.TheConstants.{FILE_LIMIT}
-use Rattle.pbf_frame.specs.Verdict.{Verdict, with_first, with_all, judged_after, judged}
-use Rattle.pbf_frame.specs.Steps.{unless, ◌>>=◌, head_of, bytes_at, prefix_at, header_of, known_blob_of, blob_of, after_prefix}
+use Rattle.pbf_frame.specs.Verdict.{Verdict, with_frame_first, with_all, judged_after, judged}
+use Rattle.pbf_frame.specs.Steps.{unless, ◌>>=◌, head_of, bytes_at, prefix_at, header_after, known_blob_of, blob_of, after_prefix}
 use Rattle.pbf_frame.proofs.FrontLemmas.{bytes_at_front}
 use Rattle.pbf_frame.proofs.FrameLemmas.{err_ok, next_steps, prefix_refused, header_refused, blob_refused, blob_some}
 use Rattle.pbf_frame.proofs.Judging.{judged_step, judged_some}
@@ -105,22 +105,22 @@ module _ (h : Bool) (p : ℕ) (prefix : List ℕ) where
   abbrev after_bytes : List ℕ × List ℕ → Headed
   after_bytes header = head_of (p + 4) header.0 >>= after_head header
 
-  header_at_front : (header left : List ℕ) → length header ≡ big_number 4 prefix → header_of h p prefix (header ++ left) ≡ after_bytes (header, left)
-  unfolding header_of
+  header_at_front : (header left : List ℕ) → length header ≡ big_number 4 prefix → header_after h p prefix (header ++ left) ≡ after_bytes (header, left)
+  unfolding header_after
   header_at_front header left long = ap (λ (r : Blobbed). r >>= after_bytes) (bytes_at_front (fault p HeaderCut) (big_number 4 prefix) header left long)
 
-  header_fault : (bytes : List ℕ) (e : Fault) → header_of h p prefix bytes ≡ Err e → comes_of_end e.reason ≡ false → (header : List ℕ) × (left : List ℕ) × (bytes ≡ header ++ left) × (length header ≡ big_number 4 prefix)
-  unfolding header_of
+  header_fault : (bytes : List ℕ) (e : Fault) → header_after h p prefix bytes ≡ Err e → comes_of_end e.reason ≡ false → (header : List ℕ) × (left : List ℕ) × (bytes ≡ header ++ left) × (length header ≡ big_number 4 prefix)
+  unfolding header_after
   header_fault bytes e is stays = cases (bytes_at (fault p HeaderCut) (big_number 4 prefix) bytes) refl is where
     cases : (r : Blobbed) → bytes_at (fault p HeaderCut) (big_number 4 prefix) bytes ≡ r → (r >>= after_bytes) ≡ Err e → (header : List ℕ) × (left : List ℕ) × (bytes ≡ header ++ left) × (length header ≡ big_number 4 prefix)
     cases (Err x) at is = absurd (other_fault (fault p HeaderCut) e refl stays (bytes_cut (fault p HeaderCut) (big_number 4 prefix) bytes x at ∙ err_same _ _ is))
     cases (Ok (header, left)) at is = (let split = bytes_split (fault p HeaderCut) (big_number 4 prefix) bytes header left at in (header, left, split.0, split.1))
 
-  header_stays : (bytes rest : List ℕ) (e : Fault) → header_of h p prefix bytes ≡ Err e → comes_of_end e.reason ≡ false → header_of h p prefix (bytes ++ rest) ≡ Err e
+  header_stays : (bytes rest : List ℕ) (e : Fault) → header_after h p prefix bytes ≡ Err e → comes_of_end e.reason ≡ false → header_after h p prefix (bytes ++ rest) ≡ Err e
   header_stays bytes rest e is stays =
       let (header, left, split, long) = header_fault bytes e is stays in
-      let said : after_bytes (header, left) ≡ Err e = sym (header_at_front header left long) ∙ ap (header_of h p prefix) (sym split) ∙ is in
-      ap (λ (l : List ℕ). header_of h p prefix (l ++ rest)) split ∙ ap (header_of h p prefix) (append_assoc header left rest) ∙ header_at_front header (left ++ rest) long
+      let said : after_bytes (header, left) ≡ Err e = sym (header_at_front header left long) ∙ ap (header_after h p prefix) (sym split) ∙ is in
+      ap (λ (l : List ℕ). header_after h p prefix (l ++ rest)) split ∙ ap (header_after h p prefix) (append_assoc header left rest) ∙ header_at_front header (left ++ rest) long
       ∙ same header left (head_of (p + 4) header) said where
         same : (header left : List ℕ) (r : Result Head Fault) → (r >>= after_head (header, left)) ≡ Err e → (r >>= after_head (header, left ++ rest)) ≡ Err e
         same header left (Err x) is = is
@@ -167,12 +167,12 @@ module _ (h : Bool) (p : ℕ) (bytes rest : List ℕ) (e : Fault) (is : next_of 
         let parts = prefix_split h p bytes prefix left is_prefix in
         ap (λ (l : List ℕ). prefix_at h p (l ++ rest)) parts.0 ∙ ap (prefix_at h p) (append_assoc prefix left rest) ∙ prefix_whole h p prefix (left ++ rest) parts.1 parts.2
 
-    at_header : (x : Fault) → header_of h p prefix left ≡ Err x → next_of h p (bytes ++ rest) ≡ Err e
+    at_header : (x : Fault) → header_after h p prefix left ≡ Err x → next_of h p (bytes ++ rest) ≡ Err e
     at_header x at =
         let same = same_fault x (header_refused h p bytes prefix left x is_prefix at) in
         header_refused h p (bytes ++ rest) prefix (left ++ rest) e longer (header_stays h p prefix left rest e (at ∙ ap (λ (f : Fault). Err f) same) stays)
 
-    at_blob : (header last : List ℕ) (head : Head) → header_of h p prefix left ≡ Ok ((header, head), last) → next_of h p (bytes ++ rest) ≡ Err e
+    at_blob : (header last : List ℕ) (head : Head) → header_after h p prefix left ≡ Ok ((header, head), last) → next_of h p (bytes ++ rest) ≡ Err e
     at_blob header last head at = of (blob_of head.kind head.size (p + 4 + length header) last) refl where
       parts : HeaderParts h p prefix left header last head
       parts = header_parts h p prefix left header last head at
@@ -187,7 +187,7 @@ module _ (h : Bool) (p : ℕ) (bytes rest : List ℕ) (e : Fault) (is : next_of 
           (blob_stays head.kind head.size (p + 4 + length header) last rest e (lastly ∙ ap (λ (f : Fault). Err f) same) stays)
       of (Ok (blob, end)) lastly = absurd (never_ok _ (blob_some h p bytes prefix left header last blob end head is_prefix at lastly))
 
-    after_it : (r : Headed) → header_of h p prefix left ≡ r → next_of h p (bytes ++ rest) ≡ Err e
+    after_it : (r : Headed) → header_after h p prefix left ≡ r → next_of h p (bytes ++ rest) ≡ Err e
     after_it (Err x) at = at_header x at
     after_it (Ok ((header, head), last)) at = at_blob header last head at
 
@@ -196,7 +196,7 @@ module _ (h : Bool) (p : ℕ) (bytes rest : List ℕ) (e : Fault) (is : next_of 
       let same = same_fault x (prefix_refused h p bytes x at) in
       prefix_refused h p (bytes ++ rest) e (prefix_stays h p bytes rest e (at ∙ ap (λ (f : Fault). Err f) same) stays)
   next_from (Ok (None, left)) at = absurd (never_ok _ (next_steps h p bytes ∙ ap (λ (r : Prefixed). r >>= after_prefix h p) at ∙ after_none h p left))
-  next_from (Ok (Some prefix, left)) at = after_it prefix left at (header_of h p prefix left) refl
+  next_from (Ok (Some prefix, left)) at = after_it prefix left at (header_after h p prefix left) refl
 
   pub next_stays : next_of h p (bytes ++ rest) ≡ Err e
   next_stays = next_from (prefix_at h p bytes) refl
@@ -243,7 +243,7 @@ longer_none ending h p bytes rest says = of (next_of h p bytes) refl where
       record { later = judged h p (bytes ++ rest); is = refl; fault = λ e also stays. absurd (none_some ending e same also) }
   of (Ok (Some f, left)) is =
       let v = judged (h || is_header (frame_kind f)) (frame_end f) left in
-      absurd (none_more f v.0 (parts_same (with_first f v) ([], ending) (sym (judged_some h p bytes f left is) ∙ says)).0)
+      absurd (none_more f v.0 (parts_same (with_frame_first f v) ([], ending) (sym (judged_some h p bytes f left is) ∙ says)).0)
 
 longer_more : (f : FrameSpec) (fs : List FrameSpec) (ending : Option Fault) (h : Bool) (p : ℕ) (bytes rest : List ℕ) → judged h p bytes ≡ (f ∷ fs, ending) → ((h' : Bool) (p' : ℕ) (left : List ℕ) → judged h' p' left ≡ (fs, ending) → StaysSo fs ending (judged h' p' (left ++ rest))) → StaysSo (f ∷ fs) ending (judged h p (bytes ++ rest))
 longer_more f fs ending h p bytes rest says later = of (next_of h p bytes) refl where
@@ -253,14 +253,14 @@ longer_more f fs ending h p bytes rest says later = of (next_of h p bytes) refl 
   of (Ok (Some g, left)) is =
       let h2 = h || is_header (frame_kind g) in
       let v = judged h2 (frame_end g) left in
-      let both = parts_same (f ∷ fs, ending) (with_first g v) (sym says ∙ judged_some h p bytes g left is) in
+      let both = parts_same (f ∷ fs, ending) (with_frame_first g v) (sym says ∙ judged_some h p bytes g left is) in
       let tails = tail_same f g fs v.0 both.0 in
       let then = later h2 (frame_end g) left (pair_same v fs ending tails.1 both.1) in
       let next : next_of h p (bytes ++ rest) ≡ Ok (Some g, left ++ rest) =
       ap (λ (l : List ℕ). next_of h p (l ++ rest)) (next_split h p bytes g left is).0 ∙ ap (next_of h p) (append_assoc (frame_bytes g) left rest) ∙ frame_is_next h p g (left ++ rest) (next_is_frame h p bytes g left is) in
       record {
         later = then.later;
-        is = judged_some h p (bytes ++ rest) g (left ++ rest) next ∙ ap (with_first g) then.is ∙ ap (λ (k : FrameSpec). let w : Verdict = (k ∷ (fs ++ then.later.0), then.later.1) in w) (sym tails.0);
+        is = judged_some h p (bytes ++ rest) g (left ++ rest) next ∙ ap (with_frame_first g) then.is ∙ ap (λ (k : FrameSpec). let w : Verdict = (k ∷ (fs ++ then.later.0), then.later.1) in w) (sym tails.0);
         fault = then.fault;
       }
 

@@ -19,7 +19,7 @@ use Rattle.pbf_frame.specs.Header.{header_faults, head_says}
 use Rattle.pbf_frame.specs.Blob.{blob_fault}
 use Rattle.pbf_frame.specs.declared.frame.TheConstants.{FILE_LIMIT}
 use Rattle.pbf_frame.specs.Frames.{FrameSpec, header_at, blob_at, frame_bytes, frame_kind, frame_at, cut_faults, order_faults, phases_of_blob, next_within, next_of}
-use Rattle.pbf_frame.specs.Steps.{unless, ◌>>=◌, head_of, bytes_at, prefix_at, header_of, known_blob_of, blob_of, frame_of, after_prefix, steps_of}
+use Rattle.pbf_frame.specs.Steps.{unless, ◌>>=◌, head_of, bytes_at, prefix_at, header_after, known_blob_of, blob_of, frame_of, after_prefix, steps_of}
 
 -- ---- what follows each part
 
@@ -35,7 +35,7 @@ after_header p prefix front = blob_of front.0.1.kind front.0.1.size (p + 4 + len
 abbrev pub as_some : FrameSpec × List ℕ → Result (Option FrameSpec × List ℕ) Fault
 as_some read = Ok (Some read.0, read.1)
 
-pub frame_steps : (h : Bool) (p : ℕ) (prefix bytes : List ℕ) → frame_of h p prefix bytes ≡ (header_of h p prefix bytes >>= after_header p prefix)
+pub frame_steps : (h : Bool) (p : ℕ) (prefix bytes : List ℕ) → frame_of h p prefix bytes ≡ (header_after h p prefix bytes >>= after_header p prefix)
 unfolding frame_of
 frame_steps h p prefix bytes = refl
 
@@ -137,7 +137,7 @@ module _ (h : Bool) (p : ℕ) (bytes : List ℕ) (some : length bytes == 0 ≡ f
 
     by_options : (w a o : Option Fault) → wire HEADER_KINDS (items (p + 4) f.header) ≡ w → least (header_faults (p + 4) f.header) ≡ a → least (order_faults (Some FILE_LIMIT) h p head.kind (p + 4 + length f.header + head.size)) ≡ o
         → steps_of h p bytes ≡ unless (option_or w (option_or a (option_or o (first_fault (late head.kind head.size (blob_at f) f.blob))))) (Ok (Some f, drop (length (frame_bytes f)) bytes))
-    unfolding steps_of prefix_at after_prefix frame_of header_of bytes_at head_of
+    unfolding steps_of prefix_at after_prefix frame_of header_after bytes_at head_of
     by_options (Some e) a o ew ea eo = rw (some, long, small, whole, ew) refl
     by_options None (Some e) o ew ea eo = rw (some, long, small, whole, ew, ea) refl
     by_options None None (Some e) ew ea eo = rw (some, long, small, whole, ew, ea, eo) refl
@@ -164,7 +164,7 @@ module _ (h : Bool) (p : ℕ) (bytes : List ℕ) (some : length bytes == 0 ≡ f
   steps_large long is = rw (some, long, is) refl
 
   steps_cut : nat_lt (length (take 4 bytes)) 4 ≡ false → nat_le HEADER_LIMIT n ≡ false → nat_lt (length f.header) n ≡ true → steps_of h p bytes ≡ Err (fault p HeaderCut)
-  unfolding steps_of prefix_at after_prefix frame_of header_of bytes_at
+  unfolding steps_of prefix_at after_prefix frame_of header_after bytes_at
   steps_cut long small is = rw (some, long, small, is) refl
 
   going_on : next_of h p bytes ≡ steps_of h p bytes

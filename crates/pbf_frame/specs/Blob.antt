@@ -44,8 +44,8 @@ unfoldable pub blob_fault : ℕ → List ℕ → Option Fault
 blob_fault at blob = first_fault (blob_phases at blob)
 
 -- the payload
-abbrev pub raw_of : ℕ → List ℕ → List ℕ
-raw_of at blob = occurrence_text (last_of RAW (found (items at blob)))
+abbrev pub raw_payload_of : ℕ → List ℕ → List ℕ
+raw_payload_of at blob = occurrence_text (last_of RAW (found (items at blob)))
 
 -- where the bytes that an occurrence holds begin; for one without bytes, this place
 abbrev pub bytes_place : ℕ → Content → ℕ

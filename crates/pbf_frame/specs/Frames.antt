@@ -14,7 +14,7 @@ use Rattle.pbf_frame.specs.declared.frame.FrameKind.TheVariants as kind
 use Rattle.pbf_frame.specs.declared.header.TheConstants.{HEADER_KINDS, HEADER_LIMIT}
 use Rattle.pbf_wire.specs.Faults.{fault, fault_where, leaf_faults}
 use Rattle.pbf_frame.specs.Header.{name_of, kind_named, header_faults, head_says}
-use Rattle.pbf_frame.specs.Blob.{blob_phases, raw_of, raw_at}
+use Rattle.pbf_frame.specs.Blob.{blob_phases, raw_payload_of, raw_at}
 
 -- a frame of a file: where it begins, and its bytes in three parts
 pub record FrameSpec : Type 0 where
@@ -55,7 +55,7 @@ frame_kind f = kind_named (name_of (header_at f) f.header)
 -- the payload of a blob at this place, and where it begins; a blob of another type isn't read
 abbrev pub payload_in : FrameKind → ℕ → List ℕ → List ℕ
 payload_in kind.Other at blob = []
-payload_in _ at blob = raw_of at blob
+payload_in _ at blob = raw_payload_of at blob
 
 abbrev pub payload_place : FrameKind → ℕ → List ℕ → ℕ
 payload_place kind.Other at blob = at

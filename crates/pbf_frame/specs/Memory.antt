@@ -6,8 +6,8 @@ use Rattle.pbf_frame.specs.declared.std_device.FromRead.{FromRead}
 use Rattle.pbf_frame.specs.declared.std_device.ToWrite.{ToWrite}
 
 -- the bytes still to supply
-abbrev pub left_in : Pieces → List ℕ
-left_in pieces = pieces.bytes.now
+abbrev pub left_in_pieces : Pieces → List ℕ
+left_in_pieces pieces = pieces.bytes.now
 
 abbrev pub failures_of : Pieces → ℕ
 failures_of pieces = pieces.failures

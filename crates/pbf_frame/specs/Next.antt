@@ -2,7 +2,7 @@
 use Rattle.std.specs.Prelude.{◌≡◌, ℕ, ◌+◌, ◌<◌, ◌≤◌, List, [], Bool, ◌||◌, true, Option, Some, None, Result, Ok, Err, length}
 use Rattle.std.specs.Borrow.{GName}
 use Rattle.pbf_frame.specs.declared.frame.Frame.{Frame}
-use Rattle.pbf_frame.specs.declared.frame_parts.Seen.{Seen}
+use Rattle.pbf_frame.specs.declared.frame_parts.BufferedFrame.{BufferedFrame}
 use Rattle.pbf_frame.specs.declared.reader.FrameReader.{FrameReader}
 use Rattle.pbf_frame.specs.declared.reader.State.TheVariants.{Reading, Ended, Stopped}
 use Rattle.pbf_frame.specs.declared.stop.Stop.{Stop}
@@ -33,8 +33,8 @@ abbrev pub HasEnded : {F : Type 0} → FrameReader F → Type 0
 HasEnded reader = reader.state ≡ Ended
 
 -- it is spent, by this stop
-abbrev pub HasStopped : {F : Type 0} → FrameReader F → Stop → Type 0
-HasStopped reader stop = reader.state ≡ Stopped stop
+abbrev pub ReaderHasStopped : {F : Type 0} → FrameReader F → Stop → Type 0
+ReaderHasStopped reader stop = reader.state ≡ Stopped stop
 
 -- the bytes held
 abbrev pub held_by : {F : Type 0} → FrameReader F → ℕ
@@ -63,7 +63,7 @@ ShowsAnswer (Ok None) answer = answer ≡ Ok None
 ShowsAnswer (Err stop) answer = answer ≡ Err stop
 
 -- the same of what lies in the reader's buffers
-abbrev pub SeesAnswer : List ℕ → List ℕ → Result (Option Seen) Stop → Result (Option FrameSpec) Stop → Type 0
+abbrev pub SeesAnswer : List ℕ → List ℕ → Result (Option BufferedFrame) Stop → Result (Option FrameSpec) Stop → Type 0
 SeesAnswer header blob (Ok (Some seen)) (Ok (Some f)) = IsSeen header blob seen f
 SeesAnswer header blob (Ok (Some seen)) (Ok None) = ⊥
 SeesAnswer header blob (Ok (Some seen)) (Err stop) = ⊥
@@ -73,26 +73,26 @@ SeesAnswer header blob (Err stop) answer = answer ≡ Err stop
 -- ---- what was given
 
 -- the first frame of the old verdict was given, and the new verdict is on the rest; or there was none; or its fault was found
-abbrev pub Gave : Option Verdict → Result (Option FrameSpec) Stop → Option Verdict → Type 0
-Gave old (Ok (Some f)) new = old ≡ with_first_known f new
-Gave old (Ok None) new = Says old ([], None)
-Gave old (Err (Refused e)) new = Says old ([], Some e)
-Gave old (Err Read) new = Unit {0}
-Gave old (Err Write) new = Unit {0}
-Gave old (Err Memory) new = Unit {0}
-Gave old (Err (Changed pass)) new = Unit {0}
+abbrev pub VerdictGoesOn : Option Verdict → Result (Option FrameSpec) Stop → Option Verdict → Type 0
+VerdictGoesOn old (Ok (Some f)) new = old ≡ with_first_known f new
+VerdictGoesOn old (Ok None) new = Says old ([], None)
+VerdictGoesOn old (Err (Refused e)) new = Says old ([], Some e)
+VerdictGoesOn old (Err Read) new = Unit {0}
+VerdictGoesOn old (Err Write) new = Unit {0}
+VerdictGoesOn old (Err Memory) new = Unit {0}
+VerdictGoesOn old (Err (Changed pass)) new = Unit {0}
 
 -- the bytes of a frame given are those that are gone
-abbrev pub Went : Option (List ℕ) → Result (Option FrameSpec) Stop → Option (List ℕ) → Type 0
-Went old (Ok (Some f)) new = old ≡ prepend (frame_bytes f) new
-Went old (Ok None) new = old ≡ new
-Went old (Err stop) new = Unit {0}
+abbrev pub BytesGoOn : Option (List ℕ) → Result (Option FrameSpec) Stop → Option (List ℕ) → Type 0
+BytesGoOn old (Ok (Some f)) new = old ≡ prepend (frame_bytes f) new
+BytesGoOn old (Ok None) new = old ≡ new
+BytesGoOn old (Err stop) new = Unit {0}
 
 -- so it is with the bytes that passed
-abbrev pub GonePast : (ℕ → List ℕ → Type 0) → Result (Option FrameSpec) Stop → (ℕ → List ℕ → Type 0) → Type 0
-GonePast before (Ok (Some f)) now = Passes before (frame_bytes f) now
-GonePast before (Ok None) now = (log : ℕ) (b : List ℕ) → before log b → now log b
-GonePast before (Err stop) now = Unit {0}
+abbrev pub LogGoesOn : (ℕ → List ℕ → Type 0) → Result (Option FrameSpec) Stop → (ℕ → List ℕ → Type 0) → Type 0
+LogGoesOn before (Ok (Some f)) now = Passes before (frame_bytes f) now
+LogGoesOn before (Ok None) now = (log : ℕ) (b : List ℕ) → before log b → now log b
+LogGoesOn before (Err stop) now = Unit {0}
 
 -- a frame given has no fault
 abbrev pub IsFrameGiven : Bool → ℕ → Result (Option FrameSpec) Stop → Type 0
@@ -104,7 +104,7 @@ IsFrameGiven had_header place (Err stop) = Unit {0}
 abbrev pub Answers : {F : Type 0} → FrameReader F → Result (Option FrameSpec) Stop → FrameReader F → Type 0
 Answers old (Ok (Some f)) new = IsReading new × (f.offset ≡ old.place) × (new.place ≡ frame_end f) × (old.place < new.place) × (new.had_header ≡ (old.had_header || is_header (frame_kind f)))
 Answers old (Ok None) new = HasEnded new × (new.place ≡ old.place) × (old.had_header ≡ true)
-Answers old (Err stop) new = HasStopped new stop × (new.place ≡ old.place)
+Answers old (Err stop) new = ReaderHasStopped new stop × (new.place ≡ old.place)
 
 abbrev pub IfErrOf : {X : Type 0} → Result X Stop → (Stop → Type 0) → Type 0
 IfErrOf (Ok x) P = Unit {0}
@@ -118,12 +118,12 @@ IfEnded (Err stop) P = Unit {0}
 
 -- `next` of a reader that was reading
 pub record Advances {F : Type 0} (remaining : F → Option (List ℕ)) (failures : F → ℕ) (lender : F → List GName) (has_passed : F → ℕ → List ℕ → Type 0) (old : FrameReader F) (answer : Result (Option FrameSpec) Stop) (new : FrameReader F) : Type 0 where
-  pub gave : Gave (verdict remaining old) answer (verdict remaining new)
-  pub went : Went (remaining old.feed) answer (remaining new.feed)
+  pub gave : VerdictGoesOn (verdict remaining old) answer (verdict remaining new)
+  pub went : BytesGoOn (remaining old.feed) answer (remaining new.feed)
   pub answers : Answers old answer new
   pub ended : IfEnded answer (IsAtEnd (remaining new.feed))
   pub same_lender : lender new.feed ≡ lender old.feed
-  pub passed : GonePast (has_passed old.feed) answer (has_passed new.feed)
+  pub passed : LogGoesOn (has_passed old.feed) answer (has_passed new.feed)
   pub is_frame : IsFrameGiven old.had_header old.place answer
   pub counts : failures old.feed ≤ failures new.feed
   pub stops : IfErrOf answer (IsReaderStop (failures old.feed) (failures new.feed))
@@ -133,7 +133,7 @@ pub record Advances {F : Type 0} (remaining : F → Option (List ℕ)) (failures
 abbrev pub IsNext : {F : Type 0} → (F → Option (List ℕ)) → (F → ℕ) → (F → List GName) → (F → ℕ → List ℕ → Type 0) → FrameReader F → Result (Option FrameSpec) Stop → FrameReader F → Type 0
 IsNext remaining failures lender has_passed old answer new = (IsReading old → Advances remaining failures lender has_passed old answer new)
     × (HasEnded old → (answer ≡ Ok None) × (new ≡ old))
-    × ((stop : Stop) → HasStopped old stop → (answer ≡ Err stop) × (new ≡ old))
+    × ((stop : Stop) → ReaderHasStopped old stop → (answer ≡ Err stop) × (new ≡ old))
 
 -- the same, of the frame that is lent
 pub record IsLendingNext {F : Type 0} (remaining : F → Option (List ℕ)) (failures : F → ℕ) (lender : F → List GName) (has_passed : F → ℕ → List ℕ → Type 0) (old : FrameReader F) (result : Result (Option Frame) Stop) (new : FrameReader F) : Type 0 where
@@ -142,7 +142,7 @@ pub record IsLendingNext {F : Type 0} (remaining : F → Option (List ℕ)) (fai
   pub next : IsNext remaining failures lender has_passed old answer new
 
 -- the same, of the frame that lies in the buffers
-pub record IsSeeingNext {F : Type 0} (remaining : F → Option (List ℕ)) (failures : F → ℕ) (lender : F → List GName) (has_passed : F → ℕ → List ℕ → Type 0) (old : FrameReader F) (result : Result (Option Seen) Stop) (new : FrameReader F) : Type 0 where
+pub record IsSeeingNext {F : Type 0} (remaining : F → Option (List ℕ)) (failures : F → ℕ) (lender : F → List GName) (has_passed : F → ℕ → List ℕ → Type 0) (old : FrameReader F) (result : Result (Option BufferedFrame) Stop) (new : FrameReader F) : Type 0 where
   pub answer : Result (Option FrameSpec) Stop
   pub sees : SeesAnswer new.header.items new.blob.items result answer
   pub next : IsNext remaining failures lender has_passed old answer new

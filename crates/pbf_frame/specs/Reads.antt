@@ -4,7 +4,7 @@ use Rattle.pbf_wire.specs.declared.fault.Fault.{Fault}
 use Rattle.pbf_frame.specs.declared.device.Feed as feed
 use Rattle.pbf_frame.specs.declared.frame.FrameKind.{FrameKind}
 use Rattle.pbf_frame.specs.declared.frame.FrameKind.TheVariants as kind
-use Rattle.pbf_frame.specs.declared.frame_parts.Seen.{Seen}
+use Rattle.pbf_frame.specs.declared.frame_parts.BufferedFrame.{BufferedFrame}
 use Rattle.pbf_frame.specs.declared.stop.Stop.{Stop}
 use Rattle.pbf_frame.specs.declared.stop.Stop.TheVariants.{Refused, Read, Write, Memory}
 use Rattle.pbf_frame.specs.Devices.{HasRisen, IsAtEnd, Passes, prepend}
@@ -15,7 +15,7 @@ use Rattle.pbf_frame.specs.Steps.{blob_of}
 use Rattle.pbf_frame.specs.declared.frame.TheConstants.{FILE_LIMIT}
 
 -- what was read is the first n bytes, or all if there are fewer, and the others are left
-pub record Reads (old new : Option (List ℕ)) (n : ℕ) (read : List ℕ) : Type 0 where
+pub record ReadsBytes (old new : Option (List ℕ)) (n : ℕ) (read : List ℕ) : Type 0 where
   pub front : (bytes : List ℕ) → old ≡ Some bytes → (read ≡ take n bytes) × (new ≡ Some (drop n bytes))
   pub untold : old ≡ None → new ≡ None
 
@@ -70,7 +70,7 @@ pub record GaveBlob (kind : FrameKind) (size at : ℕ) (held : List ℕ) (before
   pub untold : old ≡ None → new ≡ None
 
 -- this frame of the file lies in the reader's buffers
-pub record IsSeen (header blob : List ℕ) (seen : Seen) (f : FrameSpec) : Type 0 where
+pub record IsSeen (header blob : List ℕ) (seen : BufferedFrame) (f : FrameSpec) : Type 0 where
   pub offset : seen.offset ≡ f.offset
   pub header_is : f.header ≡ header
   pub place : seen.blob_at ≡ blob_at f
@@ -79,11 +79,11 @@ pub record IsSeen (header blob : List ℕ) (seen : Seen) (f : FrameSpec) : Type 
   pub holds : Holds (frame_kind f) (blob_at f) f.blob blob
 
 -- it lies within the limit of a file
-abbrev pub IsPlaced : Seen → Type 0
-IsPlaced seen = (seen.offset ≤ FILE_LIMIT) × (seen.blob_at + seen.size ≤ FILE_LIMIT)
+abbrev pub IsWithinFile : BufferedFrame → Type 0
+IsWithinFile seen = (seen.offset ≤ FILE_LIMIT) × (seen.blob_at + seen.size ≤ FILE_LIMIT)
 
 -- a frame was read, whose bytes are gone
-pub record GaveFrame (had_header : Bool) (place : ℕ) (header blob : List ℕ) (seen : Seen) (before now : ℕ → List ℕ → Type 0) (old new : Option (List ℕ)) : Type 0 where
+pub record GaveFrame (had_header : Bool) (place : ℕ) (header blob : List ℕ) (seen : BufferedFrame) (before now : ℕ → List ℕ → Type 0) (old new : Option (List ℕ)) : Type 0 where
   pub frame : FrameSpec
   pub is_seen : IsSeen header blob seen frame
   pub offset : frame.offset ≡ place

@@ -16,10 +16,10 @@ use Rattle.pbf_frame.specs.Frames.{FrameSpec, is_header, header_at, blob_at, fra
 use Rattle.pbf_frame.specs.Verdict.{Verdict, joined_frames}
 
 -- a blob that is read has no fault
-abbrev pub IsSound : FrameKind → ℕ → List ℕ → Type 0
-IsSound kind.Header at blob = blob_fault at blob ≡ None
-IsSound kind.Data at blob = blob_fault at blob ≡ None
-IsSound kind.Other at blob = Unit {0}
+abbrev pub IsSoundBlob : FrameKind → ℕ → List ℕ → Type 0
+IsSoundBlob kind.Header at blob = blob_fault at blob ≡ None
+IsSoundBlob kind.Data at blob = blob_fault at blob ≡ None
+IsSoundBlob kind.Other at blob = Unit {0}
 
 -- a frame without a fault at this place, whether a header frame came before or not, with a limit of the length of all bytes or without one
 pub record IsFrameWithin (limit : Option ℕ) (had_header : Bool) (place : ℕ) (f : FrameSpec) : Type 0 where
@@ -31,7 +31,7 @@ pub record IsFrameWithin (limit : Option ℕ) (had_header : Bool) (place : ℕ) 
   pub whole : least (header_faults (header_at f) f.header) ≡ None
   pub sized : size_of (last_of DATASIZE (found (items (header_at f) f.header))) ≡ Some (length f.blob)
   pub ordered : least (order_faults limit had_header place (frame_kind f) (frame_end f)) ≡ None
-  pub sound : IsSound (frame_kind f) (blob_at f) f.blob
+  pub sound : IsSoundBlob (frame_kind f) (blob_at f) f.blob
 
 -- the same of a file's frame
 abbrev pub IsFrame : Bool → ℕ → FrameSpec → Type 0

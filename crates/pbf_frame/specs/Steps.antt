@@ -47,8 +47,8 @@ prefix_at had_header place bytes =
     else Ok (Some (take 4 bytes), drop 4 bytes)
 
 -- the header after this prefix, what it says, and the bytes after it
-unfoldable pub header_of : Bool → ℕ → List ℕ → List ℕ → Result ((List ℕ × Head) × List ℕ) Fault
-header_of had_header place prefix bytes = do
+unfoldable pub header_after : Bool → ℕ → List ℕ → List ℕ → Result ((List ℕ × Head) × List ℕ) Fault
+header_after had_header place prefix bytes = do
   header ← bytes_at (fault place HeaderCut) (big_number 4 prefix) bytes
   head ← head_of (place + 4) header.0
   unless (least (order_faults (Some FILE_LIMIT) had_header place head.kind (place + 4 + length header.0 + head.size))) (Ok ((header.0, head), header.1))
@@ -68,7 +68,7 @@ blob_of kind.Other size at bytes = bytes_at (fault at BlobCut) size bytes
 -- the frame after this prefix, and the bytes after it
 unfoldable pub frame_of : Bool → ℕ → List ℕ → List ℕ → Result (FrameSpec × List ℕ) Fault
 frame_of had_header place prefix bytes = do
-  front ← header_of had_header place prefix bytes
+  front ← header_after had_header place prefix bytes
   blob ← blob_of front.0.1.kind front.0.1.size (place + 4 + length front.0.0) front.1
   Ok (record { offset = place; prefix = prefix; header = front.0.0; blob = blob.0 }, blob.1)
 

@@ -4,6 +4,6 @@ use Rattle.pbf_wire.specs.declared.fault.ReadFault.TheVariants as read
 use Rattle.pbf_frame.specs.declared.stop.Stop.{Stop}
 use Rattle.pbf_frame.specs.declared.stop.Stop.TheVariants as stop
 
-abbrev pub stop_of : ReadFault → Stop
-stop_of (read.Refused f) = stop.Refused f
-stop_of read.Memory = stop.Memory
+abbrev pub stop_of_fault : ReadFault → Stop
+stop_of_fault (read.Refused f) = stop.Refused f
+stop_of_fault read.Memory = stop.Memory

@@ -9,14 +9,14 @@ abbrev pub Verdict : Type 0
 Verdict = List FrameSpec × Option Fault
 
 -- a frame before the others
-abbrev pub with_first : FrameSpec → Verdict → Verdict
-with_first f verdict = (f ∷ verdict.0, verdict.1)
+abbrev pub with_frame_first : FrameSpec → Verdict → Verdict
+with_frame_first f verdict = (f ∷ verdict.0, verdict.1)
 
 -- the verdict, if the next frame is known and these are the verdicts on what follows
 abbrev pub judged_after : (Bool → ℕ → List ℕ → Verdict) → Bool → Result (Option FrameSpec × List ℕ) Fault → Verdict
 judged_after later had_header (Err e) = ([], Some e)
 judged_after later had_header (Ok (None, rest)) = ([], None)
-judged_after later had_header (Ok (Some f, rest)) = with_first f (later (had_header || is_header (frame_kind f)) (frame_end f) rest)
+judged_after later had_header (Ok (Some f, rest)) = with_frame_first f (later (had_header || is_header (frame_kind f)) (frame_end f) rest)
 
 -- the frames from a place on, with fuel for each of them
 unfoldable pub judged_fueled : Option ℕ → ℕ → Bool → ℕ → List ℕ → Verdict
@@ -36,7 +36,7 @@ abbrev pub judged_known : Bool → ℕ → Option (List ℕ) → Option Verdict
 judged_known had_header place known = option_map (judged_within (Some FILE_LIMIT) had_header place) known
 
 abbrev pub with_first_known : FrameSpec → Option Verdict → Option Verdict
-with_first_known f known = option_map (with_first f) known
+with_first_known f known = option_map (with_frame_first f) known
 
 -- a verdict that is known is this one
 abbrev pub Says : Option Verdict → Verdict → Type 0
@@ -47,8 +47,8 @@ abbrev pub with_all : List FrameSpec → Verdict → Verdict
 with_all done verdict = (done ++ verdict.0, verdict.1)
 
 -- the first verdict is that the frames done come, and then those of the second
-abbrev pub Gone : Option Verdict → List FrameSpec → Option Verdict → Type 0
-Gone first done rest = first ≡ option_map (with_all done) rest
+abbrev pub VerdictAfter : Option Verdict → List FrameSpec → Option Verdict → Type 0
+VerdictAfter first done rest = first ≡ option_map (with_all done) rest
 
 -- the spellings of frames, joined
 abbrev pub joined_frames : List FrameSpec → List ℕ

@@ -8,7 +8,7 @@ ghost use Rattle.pbf_wire.specs.Fields.{occurrence};
 ghost use Rattle.pbf_wire.specs.Least.{least};
 ghost use Rattle.pbf_wire.specs.Occurrence.{items, found};
 ghost use Rattle.pbf_wire.specs.Reading.{occurrence_text, last_of};
-ghost use Rattle.pbf_frame.specs.Blob.{compression_of, compressed, raw_faults, blob_fault, raw_of, raw_at};
+ghost use Rattle.pbf_frame.specs.Blob.{compression_of, compressed, raw_faults, blob_fault, raw_payload_of, raw_at};
 ghost use Rattle.pbf_wire.specs.declared.limits.TheConstants.{OFFSET_LIMIT, RAW_LIMIT};
 
 use crate::header::occurrence_text;
@@ -130,7 +130,7 @@ fn text_place(field: Option<Field<'_>>, at: u64) -> u64
 #[tactic(auto, using(crate::proofs::BlobLemmas::payload_short))]
 pub(crate) fn payload_in(blob: &[u8], at: u64) -> (&[u8], u64)
     requires { at + length blob.now ≤ OFFSET_LIMIT }
-    ensures bytes { result.0.now ≡ raw_of at blob.now }
+    ensures bytes { result.0.now ≡ raw_payload_of at blob.now }
     ensures place { result.1 ≡ raw_at at (last_of RAW (found (items at blob.now))) }
     ensures fits { result.1 + length result.0.now ≤ OFFSET_LIMIT }
     ensures short { blob_fault at blob.now ≡ None → length result.0.now < RAW_LIMIT }

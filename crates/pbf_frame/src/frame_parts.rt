@@ -8,11 +8,11 @@ ghost use Rattle.pbf_wire.specs.Faults.{fault};
 ghost use Rattle.pbf_frame.specs.declared.frame.TheConstants.{FILE_LIMIT};
 ghost use Rattle.pbf_frame.specs.Frames.{order_faults, next_of};
 ghost use Rattle.pbf_frame.specs.declared.header.TheConstants.{LARGEST_SIZE};
-ghost use Rattle.pbf_frame.specs.Reads.{Gives, UsesFeed, IsFillStop, Reads, Skips, GaveBlob, GaveFrame, GaveEnd, IsPlaced};
+ghost use Rattle.pbf_frame.specs.Reads.{Gives, UsesFeed, IsFillStop, ReadsBytes, Skips, GaveBlob, GaveFrame, GaveEnd, IsWithinFile};
 ghost use Rattle.pbf_frame.specs.Refusals.{RefusedFrom};
-ghost use Rattle.pbf_frame.specs.Sound.{IsSound};
+ghost use Rattle.pbf_frame.specs.Sound.{IsSoundBlob};
 ghost use Rattle.pbf_frame.specs.Blob.{blob_fault};
-ghost use Rattle.pbf_frame.specs.Steps.{prefix_at, bytes_at, header_of, known_blob_of, blob_of, head_of};
+ghost use Rattle.pbf_frame.specs.Steps.{prefix_at, bytes_at, header_after, known_blob_of, blob_of, head_of};
 ghost use Rattle.pbf_wire.specs.declared.limits.TheConstants.{OFFSET_LIMIT};
 
 use crate::blob::judge_blob;
@@ -44,7 +44,7 @@ fn refused(offset: u64, reason: Reason) -> Stop
 /// `Memory` that the vector could not grow.
 pub fn fill_vec<F: Feed>(feed: &mut F, buf: &mut Vec<u8>, count: usize) -> Result<(), Stop>
     ensures reads { OnOk result
-        (Reads (F.remaining feed.old) (F.remaining feed.new) count buf.new.items) }
+        (ReadsBytes (F.remaining feed.old) (F.remaining feed.new) count buf.new.items) }
     ensures bytes { OnOk result (F.remaining feed.old
         ≡ prepend buf.new.items (F.remaining feed.new)) }
     ensures bound { OnOk result (vec_len buf.new ≤ count) }
@@ -138,7 +138,7 @@ fn judge_order(start: FrameStart, kind: FrameKind, end: u64) -> Option<Fault>
 }
 
 // The header after a prefix, and what it says.
-#[tactic(auto, unfolding(crate::specs::Steps::header_of))]
+#[tactic(auto, unfolding(crate::specs::Steps::header_after))]
 fn read_header<F: Feed>(
     feed: &mut F,
     header: &mut Vec<u8>,
@@ -150,9 +150,10 @@ fn read_header<F: Feed>(
     requires small { big_number 4 prefix.now < HEADER_LIMIT }
     ensures given { IfOk result (λ head.
         Gives (header.new.items, head) (F.remaining feed.old) (F.remaining feed.new)
-        (header_of start.had_header start.place prefix.now)) }
+        (header_after start.had_header start.place prefix.now)) }
     ensures refused { IfErr result
-        (RefusedFrom F.Feed (header_of start.had_header start.place prefix.now) feed.old feed.new) }
+        (RefusedFrom F.Feed (header_after start.had_header start.place prefix.now)
+        feed.old feed.new) }
     ensures head { IfOk result (λ head. head_of (start.place + 4) header.new.items ≡ Ok head) }
     ensures small { IfOk result (λ head. head.size ≤ LARGEST_SIZE) }
     ensures end { IfOk result (λ head.
@@ -241,7 +242,7 @@ fn read_blob<F: Feed>(feed: &mut F, blob: &mut Vec<u8>, head: Head, at: u64) -> 
     ensures gave { OnOk result
         (GaveBlob head.kind head.size at blob.new.items (F.has_passed feed.old)
         (F.has_passed feed.new) (F.remaining feed.old) (F.remaining feed.new)) }
-    ensures sound { OnOk result (IsSound head.kind at blob.new.items) }
+    ensures sound { OnOk result (IsSoundBlob head.kind at blob.new.items) }
     ensures refused { IfErr result
         (RefusedFrom F.Feed (blob_of head.kind head.size at) feed.old feed.new) }
     ensures held { vec_len blob.new ≤ max head.size (vec_len blob.old) }
@@ -263,7 +264,7 @@ fn read_blob<F: Feed>(feed: &mut F, blob: &mut Vec<u8>, head: Head, at: u64) -> 
 
 /// A frame whose bytes lie in the reader's buffers.
 #[derive(Clone, Copy, PartialEq, Eq)]
-pub(crate) struct Seen {
+pub(crate) struct BufferedFrame {
     pub(crate) offset: u64,
     pub(crate) kind: FrameKind,
     pub(crate) size: u32,
@@ -276,7 +277,7 @@ pub(crate) fn read_frame<F: Feed>(
     header: &mut Vec<u8>,
     blob: &mut Vec<u8>,
     start: FrameStart,
-) -> Result<Option<Seen>, Stop>
+) -> Result<Option<BufferedFrame>, Stop>
     requires in_range { start.place ≤ FILE_LIMIT }
     ensures gave { IfOk result (λ o.
         IfSome o (λ seen. GaveFrame start.had_header start.place header.new.items blob.new.items
@@ -288,9 +289,9 @@ pub(crate) fn read_frame<F: Feed>(
     ensures refused { IfErr result
         (RefusedFrom F.Feed (next_of start.had_header start.place) feed.old feed.new) }
     ensures later { IfOk result (λ o.
-        IfSome o (λ seen. (start.place < seen.blob_at) × IsPlaced seen)) }
+        IfSome o (λ seen. (start.place < seen.blob_at) × IsWithinFile seen)) }
     ensures sound { IfOk result (λ o.
-        IfSome o (λ seen. IsSound seen.kind seen.blob_at blob.new.items)) }
+        IfSome o (λ seen. IsSoundBlob seen.kind seen.blob_at blob.new.items)) }
     ensures header_held { vec_len header.new ≤ max 65535 (vec_len header.old) }
     ensures blob_held { vec_len blob.new ≤ max LARGEST_SIZE (vec_len blob.old) }
     ensures feed { UsesFeed F.Feed feed.old feed.new result }
@@ -301,7 +302,7 @@ pub(crate) fn read_frame<F: Feed>(
     let head = read_header(feed, header, start, &prefix)?;
     let blob_at = start.place + 4 + header.len() as u64;
     read_blob(feed, blob, head, blob_at)?;
-    Ok(Some(Seen {
+    Ok(Some(BufferedFrame {
         offset: start.place,
         kind: head.kind,
         size: head.size,

@@ -111,7 +111,7 @@ fn judge_size(datasize: Option<Field<'_>>) -> Option<Fault>
 }
 
 /// Whether a required field, of which this is the last, is absent.
-fn judge_missing(at: u64, number: u64, last: Option<Field<'_>>) -> Option<Fault>
+fn judge_presence(at: u64, number: u64, last: Option<Field<'_>>) -> Option<Fault>
     ensures { result ≡ least (fault_where (is_none (option_map occurrence last.entry)) at (Missing number)) }
 {
     fault_where(last.is_none(), at, Reason::Missing(number))
@@ -119,14 +119,14 @@ fn judge_missing(at: u64, number: u64, last: Option<Field<'_>>) -> Option<Fault>
 
 /// The least fault of the fields of a header without wire faults.
 #[tactic(auto, using(crate::proofs::Parts::lesser_parts))]
-fn judge_fields(header: Message<'_>) -> Option<Fault>
+fn judge_head(header: Message<'_>) -> Option<Fault>
     ensures { result ≡ least (header_faults header.entry.at header.entry.bytes.now) }
 {
     let name = last_field(header, TYPE);
     let datasize = last_field(header, DATASIZE);
     let absent = lesser(
-        judge_missing(header.at, TYPE, name),
-        judge_missing(header.at, DATASIZE, datasize),
+        judge_presence(header.at, TYPE, name),
+        judge_presence(header.at, DATASIZE, datasize),
     );
     lesser(absent, judge_size(datasize))
 }
@@ -140,7 +140,7 @@ pub fn read_head(header: &[u8], at: u64) -> Result<Head, Fault>
 {
     judge_wire(header, at, &HEADER_KINDS)?;
     let header = Message { bytes: header, at };
-    if let Some(fault) = judge_fields(header) {
+    if let Some(fault) = judge_head(header) {
         return Err(fault);
     }
     let kind = kind_named(occurrence_text(last_field(header, TYPE)));

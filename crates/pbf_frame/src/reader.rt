@@ -8,7 +8,7 @@ ghost use Rattle.pbf_frame.specs.declared.reader.TheConstants.{MOST_BUFFERED};
 use crate::blob::payload_in;
 use crate::device::Feed;
 use crate::frame::{Frame, FrameKind};
-use crate::frame_parts::{FrameStart, Seen, read_frame};
+use crate::frame_parts::{BufferedFrame, FrameStart, read_frame};
 use crate::header::{TYPE, occurrence_text};
 use crate::stop::Stop;
 use pbf_wire::{Message, last_field};
@@ -49,8 +49,8 @@ impl<F: Feed> FrameReader<F> {
     ghost use Rattle.pbf_frame.specs.contracts.reader.FrameReader.{the_row};
     ghost use Rattle.pbf_frame.specs.Frames.{FrameSpec};
     ghost use Rattle.pbf_frame.specs.Verdict.{judged_known};
-    ghost use Rattle.pbf_frame.specs.Reads.{IsSeen, IsPlaced};
-    ghost use Rattle.pbf_frame.specs.Sound.{IsSound};
+    ghost use Rattle.pbf_frame.specs.Reads.{IsSeen, IsWithinFile};
+    ghost use Rattle.pbf_frame.specs.Sound.{IsSoundBlob};
     ghost use Rattle.pbf_frame.specs.Next.{IsSeeingNext, IsLendingNext, IsReading, Shows, place_of, had_header_of, held_by, verdict};
 
     /// A reader at the start of a file: the verdict on it is that on the feed's bytes. It allocates nothing before the first frame.
@@ -74,12 +74,12 @@ impl<F: Feed> FrameReader<F> {
     }
 
     // The next frame, whose bytes are left in the buffers.
-    fn advance(&mut self) -> Result<Option<Seen>, Stop>
+    fn advance(&mut self) -> Result<Option<BufferedFrame>, Stop>
         ensures next { IsSeeingNext F.remaining F.failures F.lender F.has_passed self.old result
             self.new }
-        ensures placed { IfOk result (λ o. IfSome o IsPlaced) }
+        ensures placed { IfOk result (λ o. IfSome o IsWithinFile) }
         ensures sound { IfOk result (λ o.
-            IfSome o (λ seen. IsSound seen.kind seen.blob_at self.new.blob.items)) }
+            IfSome o (λ seen. IsSoundBlob seen.kind seen.blob_at self.new.blob.items)) }
     {
         match self.state {
             State::Ended => return Ok(None),
@@ -124,9 +124,9 @@ impl<F: Feed> FrameReader<F> {
     }
 
     // The frame whose bytes are left in the buffers.
-    fn lend(&self, seen: Seen) -> Frame<'_>
-        requires placed { IsPlaced seen }
-        requires sound { IsSound seen.kind seen.blob_at self.now.blob.items }
+    fn lend(&self, seen: BufferedFrame) -> Frame<'_>
+        requires placed { IsWithinFile seen }
+        requires sound { IsSoundBlob seen.kind seen.blob_at self.now.blob.items }
         ensures { (f : FrameSpec) → IsSeen self.now.header.items self.now.blob.items seen f
             → Shows result f }
     {

@@ -2,7 +2,7 @@
 
 ghost use Rattle.std.specs.Prelude.{◌≡◌};
 ghost use Rattle.pbf_frame.specs.declared.stop.Stop.TheVariants as stop;
-ghost use Rattle.pbf_frame.specs.Stops.{stop_of};
+ghost use Rattle.pbf_frame.specs.Stops.{stop_of_fault};
 
 use pbf_wire::{Fault, ReadFault};
 use std::alloc::{AllocError, AllocFailed};
@@ -47,7 +47,7 @@ impl From<Fault> for Stop {
 }
 
 impl From<ReadFault> for Stop {
-    ghost from_gives = { λ fault e. e ≡ stop_of fault };
+    ghost from_gives = { λ fault e. e ≡ stop_of_fault fault };
 
     fn from(fault: ReadFault) -> Stop {
         match fault {

@@ -3,7 +3,7 @@
 ghost use Rattle.std.specs.Prelude.{◌≡◌};
 ghost use Rattle.pbf_wire.specs.Faults.{found_in};
 ghost use Rattle.pbf_wire.specs.Least.{least};
-ghost use Rattle.pbf_wire.specs.Wire.{judged};
+ghost use Rattle.pbf_wire.specs.Wire.{ok_unless};
 ghost use Rattle.pbf_header.specs.HeaderFaults.{edge_faults, header_structure, feature_faults, header_fault};
 
 use crate::header::{DENSE_NODES, OSM_SCHEMA};
@@ -102,7 +102,7 @@ impl JudgeMessage for FeatureValue {
 /// The first fault of a HeaderBlock. Does not allocate.
 #[tactic(auto, unfolding(crate::specs::HeaderFaults::header_fault))]
 pub(crate) fn judge_header(payload: Message<'_>) -> Result<(), Fault>
-    ensures { result ≡ judged (header_fault payload.entry.at payload.entry.bytes.now) }
+    ensures { result ≡ ok_unless (header_fault payload.entry.at payload.entry.bytes.now) }
 {
     refuse(judge_nested(payload, &HEADER_KINDS, BBOX, &BBOX_KINDS))?;
     refuse(judge_structure(payload))?;

@@ -6,7 +6,7 @@ use Rattle.std.proofs.lemmas.List.Sums.{fold-append}
 use Rattle.osm_entity.specs.Entity.{NodeSpec, EntitySpec, node}
 use Rattle.osm_ways.specs.Phases.{NodeSets, WaySets, RelationSets}
 use Rattle.osm_ways.specs.First.{FirstSets}
-use Rattle.pbf_dense.specs.Places.{place_of}
+use Rattle.pbf_dense.specs.Places.{node_place}
 use Rattle.pbf_block.specs.declared.kinds.Kinds.{Kinds}
 use Rattle.pbf_block.specs.Kinds.{is_among}
 use Rattle.pbf_block.specs.Runs.{joined_runs}
@@ -45,11 +45,11 @@ gathered_run gathered before now all run left rest is step so_far =
 -- ---- nodes of a dense message
 
 -- by their places
-pub places_gathered : (sets : NodeSets) (ns : List NodeSpec) → fold with_place sets (map place_of ns) ≡ fold with_node sets (map node ns)
+pub places_gathered : (sets : NodeSets) (ns : List NodeSpec) → fold with_place sets (map node_place ns) ≡ fold with_node sets (map node ns)
 places_gathered sets [] = refl
 places_gathered sets (n ∷ ns) = places_gathered (with_node sets (node n)) ns
 
-pub first_places : (sets : FirstSets) (ns : List NodeSpec) → fold with_first_place sets (map place_of ns) ≡ fold with_first sets (map node ns)
+pub first_places : (sets : FirstSets) (ns : List NodeSpec) → fold with_first_place sets (map node_place ns) ≡ fold with_first sets (map node ns)
 first_places sets [] = refl
 first_places sets (n ∷ ns) = first_places (with_first sets (node n)) ns
 

@@ -12,7 +12,7 @@ use Rattle.pbf_frame.specs.Frames.{FrameSpec, is_header, frame_kind, frame_end, 
 use Rattle.pbf_frame.specs.Next.{place_of, had_header_of}
 use Rattle.pbf_frame.specs.Refusals.{Refuses}
 use Rattle.pbf_frame.specs.Sound.{IsFrame}
-use Rattle.pbf_frame.specs.Verdict.{Verdict, judged, judged_after, judged_known, with_first_known, with_all, joined_frames, Gone}
+use Rattle.pbf_frame.specs.Verdict.{Verdict, judged, judged_after, judged_known, with_first_known, with_all, joined_frames, VerdictAfter}
 use Rattle.pbf_frame.proofs.Judging.{judged_some, judged_step, gave_fault}
 use Rattle.pbf_frame.proofs.KnownBytes.{prepend_none, prepend_more}
 use Rattle.pbf_frame.proofs.Longest.{frame_is_next}
@@ -44,13 +44,13 @@ pub record HasPassed {F : Type 0} (g : feed.Ghosts F) (first : FrameReader F) (f
   pub told : g.remaining first.feed ≡ prepend (joined_frames frames) (g.remaining now.feed)
   pub logged : Passes (g.has_passed first.feed) (joined_frames frames) (g.has_passed now.feed)
   -- whatever follows them
-  pub gone : (rest : List ℕ) → Gone (judged_known (had_header_of first) (place_of first) (Some (joined_frames frames ++ rest))) frames (judged_known (had_header_of now) (place_of now) (Some rest))
+  pub gone : (rest : List ℕ) → VerdictAfter (judged_known (had_header_of first) (place_of first) (Some (joined_frames frames ++ rest))) frames (judged_known (had_header_of now) (place_of now) (Some rest))
 
-gone_none : (h : Bool) (p : ℕ) (rest : List ℕ) → Gone (judged_known h p (Some rest)) [] (judged_known h p (Some rest))
+gone_none : (h : Bool) (p : ℕ) (rest : List ℕ) → VerdictAfter (judged_known h p (Some rest)) [] (judged_known h p (Some rest))
 gone_none h p rest = refl
 
-gone_one : (h : Bool) (p : ℕ) (h2 : Bool) (p2 : ℕ) (first : Option Verdict) (frames : List FrameSpec) (f : FrameSpec) (rest : List ℕ) → Gone first frames (judged_known h p (Some (frame_bytes f ++ rest))) → IsFrame h p f
-    → h2 ≡ (h || is_header (frame_kind f)) → p2 ≡ frame_end f → Gone first (frames ++ f ∷ []) (judged_known h2 p2 (Some rest))
+gone_one : (h : Bool) (p : ℕ) (h2 : Bool) (p2 : ℕ) (first : Option Verdict) (frames : List FrameSpec) (f : FrameSpec) (rest : List ℕ) → VerdictAfter first frames (judged_known h p (Some (frame_bytes f ++ rest))) → IsFrame h p f
+    → h2 ≡ (h || is_header (frame_kind f)) → p2 ≡ frame_end f → VerdictAfter first (frames ++ f ∷ []) (judged_known h2 p2 (Some rest))
 gone_one h p h2 p2 first frames f rest so_far is had place =
     let known : judged_known h p (Some (frame_bytes f ++ rest)) ≡ with_first_known f (judged_known h2 p2 (Some rest)) =
     ap Some (judged_some h p (frame_bytes f ++ rest) f rest (frame_is_next h p f rest is))
@@ -74,7 +74,7 @@ module _ {F : Type 0} (g : feed.Ghosts F) where
         logged = passes_same (g.has_passed first.feed) (g.has_passed now.feed) _ _ (sym one) (passes_more (g.has_passed first.feed) (g.has_passed mid.feed) (g.has_passed now.feed) (joined_frames frames) (frame_bytes f) so_far.logged gave.logged);
         gone = λ rest.
             let split : joined_frames (frames ++ f ∷ []) ++ rest ≡ joined_frames frames ++ (frame_bytes f ++ rest) = ap (λ (l : List ℕ). l ++ rest) one ∙ append_assoc (joined_frames frames) (frame_bytes f) rest in
-            subst (λ (l : List ℕ). Gone (judged_known (had_header_of first) (place_of first) (Some l)) (frames ++ f ∷ []) (judged_known (had_header_of now) (place_of now) (Some rest))) (sym split)
+            subst (λ (l : List ℕ). VerdictAfter (judged_known (had_header_of first) (place_of first) (Some l)) (frames ++ f ∷ []) (judged_known (had_header_of now) (place_of now) (Some rest))) (sym split)
             (gone_one (had_header_of mid) (place_of mid) (had_header_of now) (place_of now) _ frames f rest (so_far.gone (frame_bytes f ++ rest)) gave.is_frame gave.had_header gave.place);
       }
 
@@ -115,7 +115,7 @@ module _ {F : Type 0} (g : feed.Ghosts F) where
       frames = frames;
       frame = f;
       rest = judged_known (had_header_of at || is_header (frame_kind f)) (frame_end f) (Some rest);
-      gone = subst (λ (k : Option Verdict). Gone (judged_from first (joined_frames frames ++ (frame_bytes f ++ rest))) frames k)
+      gone = subst (λ (k : Option Verdict). VerdictAfter (judged_from first (joined_frames frames ++ (frame_bytes f ++ rest))) frames k)
           (ap Some (judged_some (had_header_of at) (place_of at) (frame_bytes f ++ rest) f rest (frame_is_next (had_header_of at) (place_of at) f rest gave.is_frame))) (so_far.gone (frame_bytes f ++ rest));
       mid = mid;
       visited = visited;

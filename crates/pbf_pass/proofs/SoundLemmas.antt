@@ -4,7 +4,7 @@ use Rattle.std.specs.List.{AllByRecursion}
 use Rattle.std.specs.Option.{option_map}
 use Rattle.pbf_wire.specs.declared.fault.Fault.{Fault}
 use Rattle.pbf_frame.specs.Frames.{FrameSpec}
-use Rattle.pbf_frame.specs.Verdict.{Verdict, with_first, with_first_known, with_all, Gone, Says}
+use Rattle.pbf_frame.specs.Verdict.{Verdict, with_frame_first, with_first_known, with_all, VerdictAfter, Says}
 use Rattle.pbf_frame.proofs.Parting.{none_some, some_same}
 use Rattle.pbf_frame.proofs.VerdictLemmas.{gone_more, gone_split}
 use Rattle.pbf_pass.specs.Again.{IsSound, IsFaulty}
@@ -25,14 +25,14 @@ sound_last (g ∷ fs) f sound = sound_last fs f sound.1
 -- on such frames it is the verdict of frames
 pub front_of_sound : (fs : List FrameSpec) (e : Option Fault) → AllByRecursion IsSound fs → sound_front fs e ≡ (fs, e)
 front_of_sound [] e sound = refl
-front_of_sound (f ∷ fs) e sound = ap (λ (o : Option Fault). sound_first o f (sound_front fs e)) sound.0 ∙ ap (with_first f) (front_of_sound fs e sound.1)
+front_of_sound (f ∷ fs) e sound = ap (λ (o : Option Fault). sound_first o f (sound_front fs e)) sound.0 ∙ ap (with_frame_first f) (front_of_sound fs e sound.1)
 
 front_over : (fs gs : List FrameSpec) (e : Option Fault) → AllByRecursion IsSound fs → sound_front (fs ++ gs) e ≡ with_all fs (sound_front gs e)
 front_over [] gs e sound = refl
-front_over (f ∷ fs) gs e sound = ap (λ (o : Option Fault). sound_first o f (sound_front (fs ++ gs) e)) sound.0 ∙ ap (with_first f) (front_over fs gs e sound.1)
+front_over (f ∷ fs) gs e sound = ap (λ (o : Option Fault). sound_first o f (sound_front (fs ++ gs) e)) sound.0 ∙ ap (with_frame_first f) (front_over fs gs e sound.1)
 
 -- such frames are gone by both verdicts
-pub fully_gone : (first rest : Option Verdict) (fs : List FrameSpec) → AllByRecursion IsSound fs → Gone first fs rest → Gone (fully_known first) fs (fully_known rest)
+pub fully_gone : (first rest : Option Verdict) (fs : List FrameSpec) → AllByRecursion IsSound fs → VerdictAfter first fs rest → VerdictAfter (fully_known first) fs (fully_known rest)
 fully_gone first rest fs sound gone = ap fully_known gone ∙ of rest where
   of : (rest : Option Verdict) → fully_known (option_map (with_all fs) rest) ≡ option_map (with_all fs) (fully_known rest)
   of None = refl
@@ -57,7 +57,7 @@ all_sound fs all is =
     let sound = sound_frames fs None (ap (λ (v : Verdict). v.1) whole) in (ap (λ (v : Verdict). v.0) (sym (front_of_sound fs None sound) ∙ whole), sound)
 
 -- what follows the frames done, in such a file
-pub rest_sound : (first mid : Option Verdict) (fs all : List FrameSpec) → Gone first fs mid → fully_known first ≡ Some (all, None) → (rest : Verdict) × (mid ≡ Some rest) × (all ≡ fs ++ rest.0) × AllByRecursion IsSound all
+pub rest_sound : (first mid : Option Verdict) (fs all : List FrameSpec) → VerdictAfter first fs mid → fully_known first ≡ Some (all, None) → (rest : Verdict) × (mid ≡ Some rest) × (all ≡ fs ++ rest.0) × AllByRecursion IsSound all
 rest_sound None mid fs all gone is = absurd (none_some _ _ refl is)
 rest_sound (Some v) mid fs all gone is =
     let whole : fully v ≡ (all, None) = some_same _ _ is in
@@ -72,7 +72,7 @@ faulty_known None wrong frames is = none_some _ _ refl is
 faulty_known (Some v) wrong frames is = wrong v refl (ap (λ (v : Verdict). v.1) (some_same _ _ is))
 
 -- in the frames after these
-pub faulty_rest : (first rest : Option Verdict) (fs : List FrameSpec) (e : Fault) → Gone first fs rest → Says rest ([], Some e) → IsFaulty (fully_known first)
+pub faulty_rest : (first rest : Option Verdict) (fs : List FrameSpec) (e : Fault) → VerdictAfter first fs rest → Says rest ([], Some e) → IsFaulty (fully_known first)
 faulty_rest first rest fs e gone says = faulty_known first wrong where
   wrong : (v : Verdict) → first ≡ Some v → (fully v).1 ≡ None → ⊥
   wrong v is well =
@@ -82,7 +82,7 @@ faulty_rest first rest fs e gone says = faulty_known first wrong where
       none_some _ _ (ends_well v.0 v.1 well) (ap (λ (k : Verdict). k.1) whole ∙ ends)
 
 -- in the payload of the frame after these
-pub faulty_frame : (first mid rest : Option Verdict) (fs : List FrameSpec) (f : FrameSpec) → Gone first fs mid → mid ≡ with_first_known f rest → (IsSound f → ⊥) → IsFaulty (fully_known first)
+pub faulty_frame : (first mid rest : Option Verdict) (fs : List FrameSpec) (f : FrameSpec) → VerdictAfter first fs mid → mid ≡ with_first_known f rest → (IsSound f → ⊥) → IsFaulty (fully_known first)
 faulty_frame first mid rest fs f gone is unsound = faulty_known first wrong where
   wrong : (v : Verdict) → first ≡ Some v → (fully v).1 ≡ None → ⊥
   wrong v known well =

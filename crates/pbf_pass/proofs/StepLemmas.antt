@@ -15,10 +15,10 @@ use Rattle.pbf_frame.specs.declared.stop.Stop.TheVariants as why
 use Rattle.pbf_frame.specs.Devices.{IsAtEnd, Passes, prepend}
 use Rattle.pbf_frame.specs.Frames.{FrameSpec, is_header, frame_kind, frame_end, frame_bytes, next_of}
 use Rattle.pbf_frame.specs.Refusals.{Refuses, RefusedBy}
-use Rattle.pbf_frame.specs.Next.{Advances, Gave, IsReading, place_of, had_header_of, verdict}
+use Rattle.pbf_frame.specs.Next.{Advances, VerdictGoesOn, IsReading, place_of, had_header_of, verdict}
 use Rattle.pbf_frame.specs.Sound.{IsFrame}
 use Rattle.pbf_frame.specs.Reads.{IsReaderStop}
-use Rattle.pbf_frame.specs.Verdict.{Verdict, with_first_known, with_all, Gone, Says}
+use Rattle.pbf_frame.specs.Verdict.{Verdict, with_first_known, with_all, VerdictAfter, Says}
 use Rattle.pbf_block.specs.declared.counts.Counts.{Counts}
 use Rattle.pbf_pass.specs.declared.pass.Pass.{Pass}
 use Rattle.pbf_pass.specs.Judged.{payload_fault, sound_first, fully, fully_known}
@@ -91,7 +91,7 @@ pub record MetEnd {F : Type 0} (g : feed.Ghosts F) (old new : FrameReader F) (sa
 -- it stopped: the reader did, or at a frame
 pub record StoppedStep {F : Type 0} (g : feed.Ghosts F) (old new : FrameReader F) (failed : FrameSpec → Stop → Type 0) (same : Type 0) (stop : Stop) : Type 0 where
   pub keeps : KeepsFeed g old.feed new.feed
-  pub where_it_stopped : (Gave (verdict g.remaining old) (Err stop) (verdict g.remaining new) × IsReaderStop (g.failures old.feed) (g.failures new.feed) stop × same)
+  pub where_it_stopped : (VerdictGoesOn (verdict g.remaining old) (Err stop) (verdict g.remaining new) × IsReaderStop (g.failures old.feed) (g.failures new.feed) stop × same)
       ⊎ ((f : FrameSpec) × (verdict g.remaining old ≡ with_first_known f (verdict g.remaining new)) × failed f stop)
 
 -- a refusal came from the reader, or at the frame that it gave; `Changed` came at that frame
@@ -114,13 +114,13 @@ same_stop : (s t : Stop) (r : Result Bool Stop) → r ≡ Err s → r ≡ Err t 
 same_stop s t r e f = cc
 
 -- the fault that comes after the frames that are done
-pub gone_fault : (first : Option Verdict) (frames : List FrameSpec) (known : Option Verdict) (e : Fault) → Gone first frames (fully_known known) → Says known ([], Some e) → Says first (frames, Some e)
+pub gone_fault : (first : Option Verdict) (frames : List FrameSpec) (known : Option Verdict) (e : Fault) → VerdictAfter first frames (fully_known known) → Says known ([], Some e) → Says first (frames, Some e)
 gone_fault first frames None e gone says = subst (λ (k : Option Verdict). Says k (frames, Some e)) (sym gone) tt
 gone_fault first frames (Some v) e gone says =
     subst (λ (k : Option Verdict). Says k (frames, Some e)) (sym gone) (ap (λ (v : Verdict). with_all frames (fully v)) says ∙ ap (λ (l : List FrameSpec). (l, Some e)) (append-nil frames))
 
 -- the fault of the payload of the next frame
-pub gone_payload : (first : Option Verdict) (frames : List FrameSpec) (known rest : Option Verdict) (f : FrameSpec) (e : Fault) → Gone first frames (fully_known known) → known ≡ with_first_known f rest → payload_fault f ≡ Some e → Says first (frames, Some e)
+pub gone_payload : (first : Option Verdict) (frames : List FrameSpec) (known rest : Option Verdict) (f : FrameSpec) (e : Fault) → VerdictAfter first frames (fully_known known) → known ≡ with_first_known f rest → payload_fault f ≡ Some e → Says first (frames, Some e)
 gone_payload first frames known rest f e gone is fault = subst (λ (k : Option Verdict). Says k (frames, Some e)) (sym (gone ∙ ap (λ (k : Option Verdict). option_map (with_all frames) (fully_known k)) is)) (of rest) where
   of : (rest : Option Verdict) → Says (option_map (with_all frames) (fully_known (with_first_known f rest))) (frames, Some e)
   of None = tt
@@ -178,7 +178,7 @@ module _ {F : Type 0} (g : feed.Ghosts F) (old new : FrameReader F) (took : Fram
       record {
         keeps = record { counts = a.counts; lender = a.same_lender };
         where_it_stopped = inl (
-          subst (λ (x : Stop). Gave (verdict g.remaining old) (Err x) (verdict g.remaining new)) e a.gave,
+          subst (λ (x : Stop). VerdictGoesOn (verdict g.remaining old) (Err x) (verdict g.remaining new)) e a.gave,
           subst (λ (x : Stop). IsReaderStop (g.failures old.feed) (g.failures new.feed) x) e a.stops,
           t.1,
         );

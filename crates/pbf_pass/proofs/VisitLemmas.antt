@@ -7,9 +7,9 @@ use Rattle.pbf_frame.specs.declared.stop.Stop.{Stop}
 use Rattle.pbf_frame.specs.declared.stop.Stop.TheVariants as why
 use Rattle.pbf_frame.specs.Devices.{HasRisen}
 use Rattle.pbf_frame.specs.Frames.{FrameSpec}
-use Rattle.pbf_frame.specs.Next.{Gave, verdict}
+use Rattle.pbf_frame.specs.Next.{VerdictGoesOn, verdict}
 use Rattle.pbf_frame.specs.Reads.{IsReaderStop}
-use Rattle.pbf_frame.specs.Verdict.{Verdict, with_first_known, Gone, Says}
+use Rattle.pbf_frame.specs.Verdict.{Verdict, with_first_known, VerdictAfter, Says}
 use Rattle.pbf_pass.specs.Stops.{Caused, unchanged}
 use Rattle.pbf_pass.specs.Visit.{Takes, Fails, Visited, StopsVisit}
 use Rattle.pbf_pass.proofs.StepLemmas.{StoppedStep}
@@ -30,17 +30,17 @@ visited_rises took m rises [] before now visited = omega (arith, ap m visited)
 visited_rises took m rises (f ∷ fs) before now visited = omega (arith, rises before visited.0 f visited.1, visited_rises took m rises fs visited.0 now visited.2)
 
 -- a loop of steps stops, of which some are done
-pub stops_visit : {F V : Type 0} (g : feed.Ghosts F) (old new : FrameReader F) (took : Takes V) (failed : Fails V) (first : Option Verdict) (frames : List FrameSpec) (count : ℕ) (before mid now : V) (stop : Stop) → Gone first frames (verdict g.remaining old) → count ≤ g.failures old.feed
+pub stops_visit : {F V : Type 0} (g : feed.Ghosts F) (old new : FrameReader F) (took : Takes V) (failed : Fails V) (first : Option Verdict) (frames : List FrameSpec) (count : ℕ) (before mid now : V) (stop : Stop) → VerdictAfter first frames (verdict g.remaining old) → count ≤ g.failures old.feed
     → Visited took before frames mid → StoppedStep g old new (λ f s. failed mid f now s) (now ≡ mid) stop → StopsVisit took failed first (HasRisen count (g.failures new.feed)) before now stop
 stops_visit g old new took failed first frames count before mid now stop gone counted visited s = of s.where_it_stopped where
-  by_reader : (t : Stop) → Gave (verdict g.remaining old) (Err t) (verdict g.remaining new) → IsReaderStop (g.failures old.feed) (g.failures new.feed) t → Caused (λ e. Says (verdict g.remaining old) ([], Some e)) (HasRisen count (g.failures new.feed)) ⊥ unchanged t
+  by_reader : (t : Stop) → VerdictGoesOn (verdict g.remaining old) (Err t) (verdict g.remaining new) → IsReaderStop (g.failures old.feed) (g.failures new.feed) t → Caused (λ e. Says (verdict g.remaining old) ([], Some e)) (HasRisen count (g.failures new.feed)) ⊥ unchanged t
   by_reader (why.Refused e) gave is = gave
   by_reader why.Read gave is = omega (arith, is, counted)
   by_reader why.Write gave is = absurd is
   by_reader why.Memory gave is = tt
   by_reader (why.Changed n) gave is = absurd is
 
-  of : ((Gave (verdict g.remaining old) (Err stop) (verdict g.remaining new) × IsReaderStop (g.failures old.feed) (g.failures new.feed) stop × (now ≡ mid))
+  of : ((VerdictGoesOn (verdict g.remaining old) (Err stop) (verdict g.remaining new) × IsReaderStop (g.failures old.feed) (g.failures new.feed) stop × (now ≡ mid))
       ⊎ ((f : FrameSpec) × (verdict g.remaining old ≡ with_first_known f (verdict g.remaining new)) × failed mid f now stop)) → StopsVisit took failed first (HasRisen count (g.failures new.feed)) before now stop
   of (inl (gave, is, kept)) = inl record {
     frames = frames;
@@ -53,7 +53,7 @@ stops_visit g old new took failed first frames count before mid now stop gone co
     frames = frames;
     frame = f;
     rest = verdict g.remaining new;
-    gone = subst (λ (k : Option Verdict). Gone first frames k) is gone;
+    gone = subst (λ (k : Option Verdict). VerdictAfter first frames k) is gone;
     mid = mid;
     visited = visited;
     failing = failing;

@@ -16,17 +16,17 @@ use Rattle.pbf_pass.specs.Pass.{file_header}
 -- ---- a header
 
 -- its source and its base URL aren't too long to be written
-abbrev pub is_short : HeaderSpec → Bool
-is_short h = nat_le (text_weight h.source + text_weight h.url) MOST_HEADER_TEXT
+abbrev pub has_short_texts : HeaderSpec → Bool
+has_short_texts h = nat_le (text_weight h.source + text_weight h.url) MOST_HEADER_TEXT
 
 -- a header that isn't too long to be written
-abbrev pub IsShort : HeaderSpec → Type 0
-IsShort h = text_weight h.source + text_weight h.url ≤ MOST_HEADER_TEXT
+abbrev pub HasShortTexts : HeaderSpec → Type 0
+HasShortTexts h = text_weight h.source + text_weight h.url ≤ MOST_HEADER_TEXT
 
 -- the fault of a header that can't be written, at its place; if there is none, which a file without a fault has
 abbrev pub header_limit : Option (ℕ × HeaderSpec) → Option Fault
 header_limit None = Some (fault 0 NoHeader)
-header_limit (Some header) = if is_short header.1 then None else Some (fault header.0 EntityLarge)
+header_limit (Some header) = if has_short_texts header.1 then None else Some (fault header.0 EntityLarge)
 
 abbrev pub with_limit : Option Fault → List FrameSpec → Verdict
 with_limit None frames = (frames, None)

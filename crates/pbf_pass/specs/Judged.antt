@@ -3,7 +3,7 @@ use Rattle.std.specs.Prelude.{ℕ, List, [], ◌∷◌, false, Option, Some, Non
 use Rattle.std.specs.Option.{option_map}
 use Rattle.pbf_wire.specs.declared.fault.Fault.{Fault}
 use Rattle.pbf_frame.specs.Frames.{FrameSpec}
-use Rattle.pbf_frame.specs.Verdict.{Verdict, with_first, judged_known}
+use Rattle.pbf_frame.specs.Verdict.{Verdict, with_frame_first, judged_known}
 use Rattle.pbf_header.specs.HeaderFaults.{header_fault}
 use Rattle.pbf_block.specs.PrimitiveBlock.{block_fault}
 use Rattle.pbf_pass.specs.Payload.{Payload, header_block, primitive_block, unknown, payload_of}
@@ -19,7 +19,7 @@ payload_fault f = fault_in (payload_of f)
 
 -- a frame before the others, if its payload has no fault
 abbrev pub sound_first : Option Fault → FrameSpec → Verdict → Verdict
-sound_first None f verdict = with_first f verdict
+sound_first None f verdict = with_frame_first f verdict
 sound_first (Some e) f verdict = ([], Some e)
 
 -- the frames before the first one whose payload has a fault, and that fault; if none has one, all of them and what follows them

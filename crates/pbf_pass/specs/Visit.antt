@@ -2,7 +2,7 @@
 use Rattle.std.specs.Prelude.{◌≡◌, ◌⊎◌, ℕ, List, [], ◌∷◌, Option, None, Some, length}
 use Rattle.pbf_frame.specs.declared.stop.Stop.{Stop}
 use Rattle.pbf_frame.specs.Frames.{FrameSpec}
-use Rattle.pbf_frame.specs.Verdict.{Verdict, with_first_known, Gone, Says}
+use Rattle.pbf_frame.specs.Verdict.{Verdict, with_first_known, VerdictAfter, Says}
 use Rattle.pbf_pass.specs.Stops.{Caused, unchanged}
 
 -- what a visitor does with a frame, by what it was before and what it is then
@@ -29,7 +29,7 @@ pub record VisitsAll {V : Type 0} (took : Takes V) (known : Option Verdict) (cou
 pub record StopsBehind {V : Type 0} (took : Takes V) (known : Option Verdict) (read : Type 0) (before now : V) (stop : Stop) : Type 0 where
   pub frames : List FrameSpec
   pub rest : Option Verdict
-  pub gone : Gone known frames rest
+  pub gone : VerdictAfter known frames rest
   pub visited : Visited took before frames now
   pub caused : Caused (λ e. Says rest ([], Some e)) read ⊥ unchanged stop
 
@@ -38,7 +38,7 @@ pub record StopsWithin {V : Type 0} (took : Takes V) (failed : Fails V) (known :
   pub frames : List FrameSpec
   pub frame : FrameSpec
   pub rest : Option Verdict
-  pub gone : Gone known frames (with_first_known frame rest)
+  pub gone : VerdictAfter known frames (with_first_known frame rest)
   pub mid : V
   pub visited : Visited took before frames mid
   pub failing : failed mid frame now stop

@@ -4,10 +4,10 @@ ghost use Rattle.std.specs.Prelude.{◌≡◌, Some, None, IfOk, IfErr};
 ghost use Rattle.std.specs.Option.{option_map};
 ghost use Rattle.osm_entity.specs.Weight.{text_weight};
 ghost use Rattle.pbf_header.specs.Header.{header_of, text_of};
-ghost use Rattle.pbf_pass.specs.HeaderLimit.{IsShort};
+ghost use Rattle.pbf_pass.specs.HeaderLimit.{HasShortTexts};
 ghost use Rattle.pbf_frame.specs.declared.stop.Stop.TheVariants.{Refused};
 ghost use Rattle.pbf_wire.specs.Faults.{fault};
-ghost use Rattle.pbf_pass.specs.HeaderLimit.{is_short, held_header, header_limit};
+ghost use Rattle.pbf_pass.specs.HeaderLimit.{has_short_texts, held_header, header_limit};
 ghost use Rattle.pbf_pass.specs.Refused.{halted, IsLimitRefused};
 
 use crate::pass::Judged;
@@ -22,14 +22,14 @@ pub fn writable_header(told: &Judged) -> Result<&Header, Halt>
     ensures header { IfOk result (λ header. held_header told.now.pass
         ≡ Some (told.now.pass.header_at, header_of header.now)) }
     ensures within { IfOk result (λ header. header_limit (held_header told.now.pass) ≡ None) }
-    ensures short { IfOk result (λ header. IsShort (header_of header.now)) }
+    ensures short { IfOk result (λ header. HasShortTexts (header_of header.now)) }
     ensures refused { IfErr result (IsLimitRefused told.now) }
 {
     let Some(header) = &told.pass.header else {
         // A file without a fault has a header.
         return Err(told.refuse(0, Reason::NoHeader));
     };
-    if !is_short(header) {
+    if !has_short_texts(header) {
         return Err(told.refuse(told.pass.header_at, Reason::EntityLarge));
     }
     Ok(header)
@@ -49,8 +49,8 @@ impl Judged {
 }
 
 /// Whether a header's source and base URL are not too long together to be written.
-fn is_short(header: &Header) -> bool
-    ensures value { result ≡ is_short (header_of header.now) }
+fn has_short_texts(header: &Header) -> bool
+    ensures value { result ≡ has_short_texts (header_of header.now) }
 {
     text_len(&header.source).saturating_add(text_len(&header.url)) <= MOST_HEADER_TEXT
 }

@@ -6,7 +6,7 @@ ghost use Rattle.pbf_wire.specs.declared.fault.Fault.{Fault};
 ghost use Rattle.pbf_wire.specs.declared.fault.ReadFault.TheVariants.{Refused};
 ghost use Rattle.pbf_wire.specs.Occurrence.{items};
 ghost use Rattle.pbf_strings.specs.Texts.{text, texts, longest, first_text, text_at, count_fault, table_fault};
-ghost use Rattle.pbf_wire.specs.Wire.{judged};
+ghost use Rattle.pbf_wire.specs.Wire.{ok_unless};
 ghost use Rattle.pbf_wire.specs.declared.limits.TheConstants.{OFFSET_LIMIT, RAW_LIMIT};
 
 use pbf_wire::{Fault, Fields, Kind, Payload, ReadFault, Reason, judge_wire};
@@ -148,7 +148,7 @@ impl<'a> Table<'a> {
     /// are more than [`MOST_TEXTS`]. Does not allocate.
     pub fn judge_count(message: &[u8], place: u64) -> Result<(), Fault>
         requires { length message.now ≤ OFFSET_LIMIT }
-        ensures { result ≡ judged (count_fault place message.now) }
+        ensures { result ≡ ok_unless (count_fault place message.now) }
     {
         if are_too_many(message) {
             return Err(Fault {

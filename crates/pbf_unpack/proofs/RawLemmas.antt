@@ -19,7 +19,7 @@ use Rattle.pbf_frame.specs.Blob.{blob_fault, blob_faults, raw_faults}
 use Rattle.pbf_frame.specs.declared.frame.TheConstants.{FILE_LIMIT}
 use Rattle.pbf_frame.specs.Frames.{FrameSpec, is_header, header_at, blob_at, frame_end, frame_kind, frame_bytes, frame_at, order_faults, next_of}
 use Rattle.pbf_frame.specs.Header.{head_says}
-use Rattle.pbf_frame.specs.Sound.{IsSound, IsFrame, AreFrames, EndsAs, had_after, place_after}
+use Rattle.pbf_frame.specs.Sound.{IsSoundBlob, IsFrame, AreFrames, EndsAs, had_after, place_after}
 use Rattle.pbf_frame.specs.Steps.{head_of}
 use Rattle.pbf_frame.specs.Verdict.{joined_frames, judged}
 use Rattle.pbf_frame.proofs.BlobLemmas.{least_none, earlier_none, blob_steps}
@@ -51,7 +51,7 @@ raw_not_packed at blob sound =
     let test = second_of_six (is_none (wire BLOB_KINDS (items at blob))) (is_none (last_of RAW os)) (is_none (last_of LZMA_DATA os)) (is_none (last_of BZIP2_DATA os)) (is_none (last_of LZ4_DATA os)) (is_none (last_of ZSTD_DATA os)) raw in
     ap (λ (b : Bool). cond b (last_of ZLIB_DATA os) None) test
 
-stands : (k : FrameKind) (at : ℕ) (frame blob : List ℕ) → IsSound k at blob → unpacked_frame k at frame blob ≡ as_they_stand frame
+stands : (k : FrameKind) (at : ℕ) (frame blob : List ℕ) → IsSoundBlob k at blob → unpacked_frame k at frame blob ≡ as_they_stand frame
 stands kind.Header at frame blob sound = ap (λ (s : Option Occurrence). with_data kind.Header frame s (last_of RAW_SIZE (found (items at blob)))) (raw_not_packed at blob sound)
 stands kind.Data at frame blob sound = ap (λ (s : Option Occurrence). with_data kind.Data frame s (last_of RAW_SIZE (found (items at blob)))) (raw_not_packed at blob sound)
 stands kind.Other at frame blob sound = refl

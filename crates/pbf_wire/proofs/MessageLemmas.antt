@@ -13,7 +13,7 @@ use Rattle.pbf_wire.specs.Occurrence.{Number, Bytes, Occurrence, Item, items, fo
 use Rattle.pbf_wire.specs.Columns.{Entry, entries, read_entries, entry_fault, packed, placed, column_of, joined, column}
 use Rattle.pbf_wire.specs.Reading.{values, last_number, each}
 use Rattle.pbf_wire.specs.Wire.{reason_in, kind_of, or_at, wire}
-use Rattle.pbf_wire.specs.Writing.{Part, Single, Whole, spelling, written, IsWritable, occurrence_of, occurrences_of}
+use Rattle.pbf_wire.specs.Writing.{Part, Single, Whole, spelling, written, IsWritablePart, occurrence_of, occurrences_of}
 use Rattle.pbf_wire.specs.Message.{Slot, Scalar, Column, Each, parts_of, message, SlotFits, SlotIs, SlotBelow, numbers_at, scalars_at, messages_at}
 use Rattle.pbf_wire.proofs.Written.{reads_back, column_reads_back}
 use Rattle.pbf_wire.proofs.PackedLemmas.{column_read}
@@ -43,11 +43,11 @@ parts_fit : (slots : List Slot) → AllByRecursion SlotFits slots → AllByRecur
 parts_fit [] h = tt
 parts_fit (s ∷ slots) h = all_append PartFits (parts_of s) (flat_map parts_of slots) (slot_parts_fit s h.0) (parts_fit slots h.1)
 
-one_writable : (p : Part) → PartFits p → length (spelling p) < 2 ^ 64 → IsWritable p
+one_writable : (p : Part) → PartFits p → length (spelling p) < 2 ^ 64 → IsWritablePart p
 one_writable (Single number value) h lt = h
 one_writable (Whole number bytes) h lt = (h.0, h.1, omega (arith, length-append (shortest (number * 8 + 2)) (shortest (length bytes) ++ bytes), length-append (shortest (length bytes)) bytes))
 
-writable : (ps : List Part) → AllByRecursion PartFits ps → length (written ps) < 2 ^ 64 → AllByRecursion IsWritable ps
+writable : (ps : List Part) → AllByRecursion PartFits ps → length (written ps) < 2 ^ 64 → AllByRecursion IsWritablePart ps
 writable [] h lt = tt
 writable (p ∷ ps) h lt =
     let len = length-append (spelling p) (written ps) in

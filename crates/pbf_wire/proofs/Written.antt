@@ -6,14 +6,14 @@ use Rattle.std.proofs.lemmas.List.{append-nil, drop_at}
 use Rattle.pbf_wire.specs.Varint.{IsVarint, shortest}
 use Rattle.pbf_wire.specs.Occurrence.{IsSpelled, Joins, Item, items}
 use Rattle.pbf_wire.specs.Columns.{Entry, entries}
-use Rattle.pbf_wire.specs.Writing.{Part, Single, Whole, spelling, written, IsWritable, occurrence_of, occurrences_of}
+use Rattle.pbf_wire.specs.Writing.{Part, Single, Whole, spelling, written, IsWritablePart, occurrence_of, occurrences_of}
 use Rattle.pbf_wire.proofs.Shortest.{shortest_spells}
 use Rattle.pbf_wire.proofs.Spellings.{again, varint_ok, prefix_free}
 use Rattle.pbf_wire.proofs.Items.{items_none}
 use Rattle.pbf_wire.proofs.Cutting.{all_ok, walks}
 use Rattle.pbf_wire.proofs.Columns.{entries_none, entries_ok}
 
-spelled : (at : ℕ) (p : Part) → IsWritable p → IsSpelled (occurrence_of at p) (spelling p)
+spelled : (at : ℕ) (p : Part) → IsWritablePart p → IsSpelled (occurrence_of at p) (spelling p)
 spelled at (Single number value) h =
     let same : number * 8 ≡ number * 8 + 0 = sym (add-zero (number * 8)) in
     record {
@@ -42,11 +42,11 @@ place_is : (at : ℕ) (p : Part) → (occurrence_of at p).place ≡ at
 place_is at (Single number value) = refl
 place_is at (Whole number bytes) = refl
 
-pub joins : (at : ℕ) (ps : List Part) → AllByRecursion IsWritable ps → Joins at (written ps) (occurrences_of at ps)
+pub joins : (at : ℕ) (ps : List Part) → AllByRecursion IsWritablePart ps → Joins at (written ps) (occurrences_of at ps)
 joins at [] h = refl
 joins at (p ∷ ps) h = (spelling p, written ps, refl, place_is at p, spelled at p h.0, joins (at + length (spelling p)) ps h.1)
 
-pub reads_back : (at : ℕ) (ps : List Part) → AllByRecursion IsWritable ps → items at (written ps) ≡ map Ok (occurrences_of at ps)
+pub reads_back : (at : ℕ) (ps : List Part) → AllByRecursion IsWritablePart ps → items at (written ps) ≡ map Ok (occurrences_of at ps)
 reads_back at ps h =
     ap (items at) (sym (append-nil (written ps))) ∙ walks at (written ps) [] (occurrences_of at ps) (joins at ps h)
     ∙ ap (λ (w : List Item). all_ok (occurrences_of at ps) ++ w) (items_none (at + length (written ps)) [] refl) ∙ append-nil (all_ok (occurrences_of at ps))

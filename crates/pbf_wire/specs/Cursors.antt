@@ -26,8 +26,8 @@ abbrev pub numbers_left : Column → List ℕ
 numbers_left column = map (λ p. p.0) (column_left column)
 
 -- the place of the occurrence that held the last number given
-abbrev pub place_of : Column → ℕ
-place_of column = column.place
+abbrev pub place_of_number : Column → ℕ
+place_of_number column = column.place
 
 -- the values of a delta column that are left
 abbrev pub sums_left : Sums → List ℤ

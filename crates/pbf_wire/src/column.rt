@@ -6,7 +6,7 @@ ghost use Rattle.pbf_wire.specs.declared.limits.TheConstants.{OFFSET_LIMIT};
 
 use crate::field::Payload;
 use crate::fields::{Fields, FoundFields};
-use crate::short::{MOST_BYTES, count_small_left};
+use crate::short::{MOST_BYTES, count_left_if_small};
 use crate::varint::{first_varint, short_varint};
 
 /// The first number of a packed column, and the bytes after it; `None` if the bytes don't begin with a varint.
@@ -48,14 +48,14 @@ impl<'a> Column<'a> {
     ghost use Rattle.std.specs.List.{AllByRecursion};
     ghost use Rattle.pbf_wire.specs.Occurrence.{items, found};
     ghost use Rattle.pbf_wire.specs.Columns.{joined};
-    ghost use Rattle.pbf_wire.specs.Cursors.{fields_left, column_left, numbers_left, place_of};
+    ghost use Rattle.pbf_wire.specs.Cursors.{fields_left, column_left, numbers_left, place_of_number};
 
     /// The column that the field of this number is, in a message whose first byte is at `at` in the file.
     #[tactic(auto, unfolding(crate::specs::Cursors::column_left))]
     pub fn new(message: &'a [u8], at: u64, number: u64) -> Self
         requires { at + length message.now ≤ OFFSET_LIMIT }
         ensures left { column_left result ≡ joined number (found (items at message.now)) }
-        ensures place { place_of result ≡ at }
+        ensures place { place_of_number result ≡ at }
     {
         Column {
             fields: Fields::new(message, at).found(),
@@ -71,7 +71,7 @@ impl<'a> Column<'a> {
     #[tactic(auto, unfolding(crate::specs::Cursors::column_left))]
     pub fn over(fields: Fields<'a>, number: u64) -> Self
         ensures left { column_left result ≡ joined number (found (fields_left fields.entry)) }
-        ensures place { place_of result ≡ 0 }
+        ensures place { place_of_number result ≡ 0 }
     {
         Column {
             fields: fields.found(),
@@ -85,7 +85,7 @@ impl<'a> Column<'a> {
     /// Where the occurrence of the last number given is in the file. Before the first it is where the message is, or 0 for
     /// a column over fields.
     pub fn place(&self) -> u64
-        ensures { result ≡ place_of self.now }
+        ensures { result ≡ place_of_number self.now }
     {
         self.place
     }
@@ -93,7 +93,7 @@ impl<'a> Column<'a> {
     /// How many numbers are still to come, if a quick test shows that they are few and small: at most 2^26, each below 2^35. None is
     /// decoded.
     #[inline(always)]
-    pub(crate) fn count_small(&self) -> Option<usize>
+    pub(crate) fn count_if_small(&self) -> Option<usize>
         ensures counted { MatchOption result ⊤
             (λ count. (count ≡ length (column_left self.now)) × (count ≤ 2 ^ 26)) }
         ensures small { MatchOption result ⊤
@@ -103,7 +103,7 @@ impl<'a> Column<'a> {
         if !self.packed.is_empty() || self.fields.0.len() > MOST_BYTES {
             return None;
         }
-        count_small_left(self.fields.0, self.number)
+        count_left_if_small(self.fields.0, self.number)
     }
 
     /// The next number of the packed occurrence that was begun. If it has none nothing changes.
@@ -112,7 +112,7 @@ impl<'a> Column<'a> {
     fn advance_packed(&mut self) -> Option<u64>
         ensures { MatchOption result
             ((read_entries (entries self.old.packed.now) ≡ []) × (self.new ≡ self.old))
-            (λ value. column_left self.old ≡ (value, place_of self.new) ∷ column_left self.new) }
+            (λ value. column_left self.old ≡ (value, place_of_number self.new) ∷ column_left self.new) }
     {
         let (value, rest) = first_number(self.packed)?;
         self.packed = rest;
@@ -138,7 +138,7 @@ impl<'a> Column<'a> {
     #[tactic(auto, unfolding(crate::specs::Cursors::column_left))]
     pub fn pass_zero(&mut self) -> bool
         ensures passed { IsTrue result
-            → column_left self.old ≡ (0, place_of self.new) ∷ column_left self.new }
+            → column_left self.old ≡ (0, place_of_number self.new) ∷ column_left self.new }
         ensures kept { result ≡ false → self.new ≡ self.old }
     {
         let [first, rest @ ..] = self.packed else {
@@ -156,8 +156,8 @@ impl<'a> Column<'a> {
     #[tactic(auto, unfolding(crate::specs::Cursors::column_left))]
     fn advance(&mut self) -> Option<u64>
         ensures { MatchOption result ((column_left self.old ≡ []) × (column_left self.new ≡ [])
-            × (place_of self.new ≡ place_of self.old))
-            (λ value. column_left self.old ≡ (value, place_of self.new) ∷ column_left self.new) }
+            × (place_of_number self.new ≡ place_of_number self.old))
+            (λ value. column_left self.old ≡ (value, place_of_number self.new) ∷ column_left self.new) }
     {
         loop {
             if let Some(value) = self.advance_packed() {
@@ -183,7 +183,7 @@ impl<'a> Column<'a> {
 
 impl<'a> Iterator for Column<'a> {
     ghost use Rattle.std.specs.Iterator.{YieldsFirst, item_count, MakesProgress};
-    ghost use Rattle.pbf_wire.specs.Cursors.{column_left, numbers_left, place_of};
+    ghost use Rattle.pbf_wire.specs.Cursors.{column_left, numbers_left, place_of_number};
 
     type Item = u64;
 
@@ -199,8 +199,8 @@ impl<'a> Iterator for Column<'a> {
         ensures goes { MakesProgress (λ _. ⊤) (item_count numbers_left) self.old result self.new }
         ensures placed { MatchOption result
             ((column_left self.old ≡ []) × (column_left self.new ≡ [])
-            × (place_of self.new ≡ place_of self.old))
-            (λ value. column_left self.old ≡ (value, place_of self.new) ∷ column_left self.new) }
+            × (place_of_number self.new ≡ place_of_number self.old))
+            (λ value. column_left self.old ≡ (value, place_of_number self.new) ∷ column_left self.new) }
     {
         // Most numbers are in the packed occurrence that was begun, and mostly nothing follows it.
         if let Some(value) = self.advance_packed() {

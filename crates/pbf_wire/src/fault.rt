@@ -100,7 +100,7 @@ pub enum Reason {
 
 impl Reason {
     /// The reason's number and its name.
-    fn row(&self) -> (u32, &'static str)
+    fn number_and_name(&self) -> (u32, &'static str)
         ensures number { result.0 ≡ reason_number self.now }
         ensures name { result.1.now ≡ reason_name self.now }
     {
@@ -154,14 +154,14 @@ impl Reason {
     pub fn number(&self) -> u32
         ensures { result ≡ reason_number self.now }
     {
-        self.row().0
+        self.number_and_name().0
     }
 
     /// The reason's name, without the field of `Missing`.
     pub fn name(&self) -> &'static str
         ensures { result.now ≡ reason_name self.now }
     {
-        self.row().1
+        self.number_and_name().1
     }
 
     /// The field that `Missing` names, and 0 for every other reason.
@@ -178,7 +178,7 @@ impl Reason {
 /// The number and the name, as `22 NoHeader` or `25 Missing(1)`.
 impl fmt::Display for Reason {
     fn fmt<W: fmt::Write>(&self, f: &mut fmt::Formatter<W>) -> fmt::Result {
-        let (number, name) = self.row();
+        let (number, name) = self.number_and_name();
         match self {
             Reason::Missing(field) => write!(f, "{number} {name}({field})"),
             _ => write!(f, "{number} {name}"),

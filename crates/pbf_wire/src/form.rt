@@ -5,7 +5,7 @@ ghost use Rattle.pbf_wire.specs.Occurrence.{items};
 ghost use Rattle.pbf_wire.specs.Payload.{content};
 ghost use Rattle.pbf_wire.specs.Columns.{entries, entry_fault};
 ghost use Rattle.pbf_wire.specs.Least.{least};
-ghost use Rattle.pbf_wire.specs.Wire.{kind_of, reason_in, wire, judged};
+ghost use Rattle.pbf_wire.specs.Wire.{kind_of, reason_in, wire, ok_unless};
 ghost use Rattle.pbf_wire.specs.Faults.{message_faults, leaf_faults, nested_faults};
 ghost use Rattle.pbf_wire.specs.declared.limits.TheConstants.{OFFSET_LIMIT};
 
@@ -36,7 +36,7 @@ fn are_whole(packed: &[u8]) -> bool
 
 /// Whether the bytes are whole varints.
 fn judge_packed(packed: &[u8]) -> Result<(), Reason>
-    ensures { result ≡ judged (entry_fault (entries packed.now)) }
+    ensures { result ≡ ok_unless (entry_fault (entries packed.now)) }
 {
     if are_whole(packed) {
         return Ok(());
@@ -62,7 +62,7 @@ pub fn kind_of(kinds: &[(u64, Kind)], number: u64) -> Option<Kind>
 /// and for a packed column `VarintCut` or `VarintLong`, that of its first varint that fails.
 #[inline(always)]
 pub fn judge_payload(payload: Payload<'_>, kind: Option<Kind>) -> Result<(), Reason>
-    ensures { result ≡ judged (reason_in kind (content payload.entry)) }
+    ensures { result ≡ ok_unless (reason_in kind (content payload.entry)) }
 {
     match (kind, payload) {
         (None, _) => Ok(()),
@@ -125,7 +125,7 @@ pub fn judge_leaf(message: Message<'_>, kinds: &[(u64, Kind)]) -> Option<Fault>
 #[inline(always)]
 pub fn judge_wire(message: &[u8], at: u64, kinds: &[(u64, Kind)]) -> Result<(), Fault>
     requires { at + length message.now ≤ OFFSET_LIMIT }
-    ensures { result ≡ judged (wire kinds.now (items at message.now)) }
+    ensures { result ≡ ok_unless (wire kinds.now (items at message.now)) }
 {
     let message = Message { bytes: message, at };
     refuse(judge_leaf(message, kinds))

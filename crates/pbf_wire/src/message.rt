@@ -19,7 +19,7 @@ pub struct Message<'a> {
 impl<'a> Message<'a> {
     ghost use Rattle.std.specs.Prelude.{◌≡◌};
     ghost use Rattle.pbf_wire.specs.Columns.{joined};
-    ghost use Rattle.pbf_wire.specs.Cursors.{column_left, fields_left, found_left, place_of};
+    ghost use Rattle.pbf_wire.specs.Cursors.{column_left, fields_left, found_left, place_of_number};
     ghost use Rattle.pbf_wire.specs.Faults.{found_in};
     ghost use Rattle.pbf_wire.specs.Occurrence.{items};
 
@@ -43,7 +43,7 @@ impl<'a> Message<'a> {
     #[inline(always)]
     pub fn column(self, number: u64) -> Column<'a>
         ensures left { column_left result ≡ joined number (found_in self.entry) }
-        ensures place { place_of result ≡ self.entry.at }
+        ensures place { place_of_number result ≡ self.entry.at }
     {
         Column::new(self.bytes, self.at, number)
     }

@@ -111,7 +111,7 @@ fn count_short(bytes: &[u8]) -> Option<usize>
 
 /// How many numbers an occurrence of a column has, if a quick test shows that they are below 2^35.
 #[inline(always)]
-fn count_small(payload: Payload<'_>) -> Option<usize>
+fn count_if_small(payload: Payload<'_>) -> Option<usize>
     ensures counted { MatchOption result ⊤
         (λ count. count ≡ length (numbers_in (content payload.entry))) }
     ensures small { MatchOption result ⊤
@@ -127,7 +127,7 @@ fn count_small(payload: Payload<'_>) -> Option<usize>
 
 /// How many numbers a column has in the fields that are still to come, if a quick test shows that they are below 2^35. No number of a
 /// packed occurrence is decoded.
-pub(crate) fn count_small_left(fields: Fields<'_>, number: u64) -> Option<usize>
+pub(crate) fn count_left_if_small(fields: Fields<'_>, number: u64) -> Option<usize>
     ensures counted { MatchOption result ⊤
         (λ count. count ≡ length (joined number (found (fields_left fields.entry)))) }
     ensures small { MatchOption result ⊤ (λ _. AllByRecursion (λ x. x.0 < 2 ^ 35)
@@ -136,7 +136,7 @@ pub(crate) fn count_small_left(fields: Fields<'_>, number: u64) -> Option<usize>
     let mut count = 0;
     for field in fields.found() {
         if field.number == number {
-            count += count_small(field.payload)?;
+            count += count_if_small(field.payload)?;
         }
     }
     Some(count)

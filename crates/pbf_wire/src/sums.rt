@@ -205,7 +205,7 @@ impl<'a> Sums<'a> {
 
     /// How many values are still to come, if a quick test shows that each is strictly between -2^62 and 2^62; `None` says nothing. The
     /// test is for columns of `sint64` of which no value was taken yet, and passes if the entries are few and small. No entry is decoded.
-    pub fn count_small(&self) -> Option<usize>
+    pub fn count_if_small(&self) -> Option<usize>
         ensures counted { MatchOption result ⊤ (λ count. count ≡ length (sums_left self.now)) }
         ensures within { MatchOption result ⊤
             (λ _. AllByRecursion (IsWithin (pos SUM_LIMIT)) (sums_left self.now)) }
@@ -213,7 +213,7 @@ impl<'a> Sums<'a> {
         if self.narrow || self.total != 0 || self.limit != STORED_LIMIT {
             return None;
         }
-        self.entries.count_small()
+        self.entries.count_if_small()
     }
 }
 

@@ -20,7 +20,7 @@ use crate::judge::fault_where;
 use crate::least::lesser;
 use crate::limits::{STORED_LIMIT, SUM_LIMIT};
 use crate::message::Message;
-use crate::short::{MOST_BYTES, count_small_left};
+use crate::short::{MOST_BYTES, count_left_if_small};
 use crate::signed::low_u32;
 use crate::sum::Sum;
 use crate::sums::delta_in;
@@ -72,7 +72,7 @@ fn has_small_sums(fields: Fields<'_>, number: u64) -> bool
     ensures { IsTrue result → sum_faults (pos SUM_LIMIT) false
         (joined number (found (fields_left fields.entry))) ≡ [] }
 {
-    fields.len() <= MOST_BYTES && count_small_left(fields, number).is_some()
+    fields.len() <= MOST_BYTES && count_left_if_small(fields, number).is_some()
 }
 
 /// Adds the entry that a number of a column means to the sum of those before it, and returns whether that is a good value: strictly

@@ -1,7 +1,7 @@
 //! Varints: numbers of 64 bits, seven bits a byte, the lowest first. The top bit is set on every byte but the last.
 
 ghost use Rattle.std.specs.Prelude.{◌≡◌, ◌≤◌, ◌<◌, ◌^◌, ℕ, IfOk, MatchOption, OnOk, OnErr, ⊤, Result, Ok, Err, ◌↔◌, ◌++◌, length, take, drop, slice_range};
-ghost use Rattle.pbf_wire.specs.Varint.{IsVarint, IsCut, IsLong, told, varint_at, moved_by, shortest};
+ghost use Rattle.pbf_wire.specs.Varint.{IsVarint, IsCut, IsLong, number_or_reason, varint_at, moved_by, shortest};
 
 use crate::fault::Reason;
 use std::alloc::AllocError;
@@ -9,7 +9,7 @@ use std::alloc::AllocError;
 /// The number that the bytes begin with, and how many bytes it takes, byte by byte. A length of 0 says that there is none: so two plain
 /// numbers are returned, for which no room in memory is cleared if it is called.
 fn any_varint(bytes: &[u8]) -> (u64, usize)
-    ensures exact { told bytes.now result ≡ varint_at bytes.now }
+    ensures exact { number_or_reason bytes.now result ≡ varint_at bytes.now }
     ensures taken { result.1 ≤ length bytes.now }
 {
     let mut value = 0;
@@ -28,7 +28,7 @@ fn any_varint(bytes: &[u8]) -> (u64, usize)
 /// Like [`any_varint`], for numbers that take four bytes or more: most of them take four or five.
 #[inline(never)]
 fn longer_varint(bytes: &[u8]) -> (u64, usize)
-    ensures exact { told bytes.now result ≡ varint_at bytes.now }
+    ensures exact { number_or_reason bytes.now result ≡ varint_at bytes.now }
     ensures taken { result.1 ≤ length bytes.now }
 {
     let [first, second, third, fourth, ..] = bytes else {

@@ -13,14 +13,14 @@ use Rattle.pbf_pass.specs.Hashing.{IsDigestOf, digest_if}
 use Rattle.pbf_pass.specs.Judged.{judged_file}
 use Rattle.pbf_pass.specs.Stops.{Caused, unchanged, ReadFailed}
 use Rattle.pbf_pass.proofs.AgainLemmas.{refuses_less}
-use Rattle.pbfcut.specs.declared.repeat.Repeat.{Repeat}
+use Rattle.pbfcut.specs.declared.repeat.LaterPass.{LaterPass}
 use Rattle.pbfcut.specs.Changes.{ChangedAt, IfChanged}
 use Rattle.pbfcut.specs.Repeat.{IsUnlike, StopsAgain, as_change, digest_of}
 use Rattle.pbfcut.proofs.ConvertingLemmas.{known_says}
 
 -- ---- of one later pass
 
-module _ {F : Type 0} (f : feed.Ghosts F) (repeat : Repeat) (old new : F) (wrote : Type 0) where
+module _ {F : Type 0} (f : feed.Ghosts F) (repeat : LaterPass) (old new : F) (wrote : Type 0) where
   -- it is no refusal
   pub no_refusal : (s : Stop) → StopsAgain f repeat old new wrote s → (e : Fault) → s ≡ stop.Refused e → ⊥
   no_refusal s stops e is = subst (λ (x : Stop). StopsAgain f repeat old new wrote x) is stops
@@ -46,14 +46,14 @@ module _ {F : Type 0} (f : feed.Ghosts F) (repeat : Repeat) (old new : F) (wrote
   hashed_is hashes digest bytes is same = subst (λ (b : Bool). IsDigestOf (digest_if b digest) bytes) is same
 
   -- all was read, and the digest is another
-  pub digest_as_change : (hashes : Bool) (digest : List ℕ) (holds : List ℕ → Type 0) (s : Stop) → hashes ≡ repeat.hashes → GaveFile f old new (digest_if hashes digest) holds → (s ≡ stop.Changed repeat.number) × (repeat.hashes ≡ true) × (digest ≡ repeat.digest → ⊥) → StopsAgain f repeat old new wrote s
+  pub digest_as_change : (hashes : Bool) (digest : List ℕ) (holds : List ℕ → Type 0) (s : Stop) → hashes ≡ repeat.passes.hashes → GaveFile f old new (digest_if hashes digest) holds → (s ≡ stop.Changed repeat.number) × (repeat.passes.hashes ≡ true) × (digest ≡ repeat.digest → ⊥) → StopsAgain f repeat old new wrote s
   digest_as_change hashes digest holds s same given (is, hashed, other) = subst (λ (x : Stop). StopsAgain f repeat old new wrote x) (sym is) (
     refl,
     record {
       read = given.file;
       told = given.supplied.told;
       logged = given.supplied.logged;
-      faulty = inr (given.supplied.end, λ alike. absurd (other (hashed_is hashes digest given.file (same ∙ hashed) given.digest_is ∙ sym (hashed_is repeat.hashes repeat.digest given.file hashed alike))));
+      faulty = inr (given.supplied.end, λ alike. absurd (other (hashed_is hashes digest given.file (same ∙ hashed) given.digest_is ∙ sym (hashed_is repeat.passes.hashes repeat.digest given.file hashed alike))));
     },
   )
 
@@ -76,7 +76,7 @@ changed_before changed also stop.Memory step stops = tt
 changed_before changed also (stop.Changed pass) step stops = step pass stops
 
 -- in a later one
-pub changed_later : {F G : Type 0} (f : feed.Ghosts F) (first now : F) (g : feed.Ghosts G) (old new : G) (repeat : Repeat) (digest : Option (List ℕ)) (holds : List ℕ → Type 0) (wrote : Type 0) (changed : ℕ → Type 0) (s : Stop)
+pub changed_later : {F G : Type 0} (f : feed.Ghosts F) (first now : F) (g : feed.Ghosts G) (old new : G) (repeat : LaterPass) (digest : Option (List ℕ)) (holds : List ℕ → Type 0) (wrote : Type 0) (changed : ℕ → Type 0) (s : Stop)
     → (given : GaveFile f first now digest holds) → (frames : List FrameSpec) → Says (judged_file (Some given.file)) (frames, None) → digest_of repeat ≡ digest → ((pass : ℕ) → ChangedAt repeat.number f first now g old new pass → changed pass) → StopsAgain g repeat old new wrote s → IfChanged changed s
 changed_later f first now g old new repeat digest holds wrote changed (stop.Refused e) given frames says is step stops = tt
 changed_later f first now g old new repeat digest holds wrote changed stop.Read given frames says is step stops = tt

@@ -33,7 +33,7 @@ use Rattle.pbf_frame.proofs.Parting.{none_some}
 use Rattle.pbf_frame.proofs.Refusing.{refused_told}
 use Rattle.pbf_block.specs.declared.counts.Counts.{Counts}
 use Rattle.pbf_pass.specs.declared.pass.Pass.{Pass}
-use Rattle.pbf_pass.specs.HeaderLimit.{IsShort, header_limit, judged_writable, held_header}
+use Rattle.pbf_pass.specs.HeaderLimit.{HasShortTexts, header_limit, judged_writable, held_header}
 use Rattle.pbf_pass.specs.Counting.{counts_of, stored_entities}
 use Rattle.pbfcut.specs.Calls.{GaveOrNot, Differ, ChangedIn, ChangedBefore, RefusedFirst, ConvertStops, ExtractStops, ParentsStops}
 use Rattle.pbfcut.specs.Theorem.{IsExtraction}
@@ -44,7 +44,8 @@ use Rattle.pbf_pass.specs.Given.{GaveFile, Took}
 use Rattle.pbfcut.proofs.KeptLaw.{IsSelection, IsKeptExtract, complete_ways_select, all_parents_select, same_verdict, extract_kept}
 use Rattle.pbfcut.proofs.TheoremLemmas.{took_weaker}
 use Rattle.pbf_pass.specs.Pass.{with_node, with_first, with_way, with_relation, TakesFile, file_header}
-use Rattle.pbfcut.specs.declared.repeat.Repeat.{Repeat}
+use Rattle.pbf_pass.specs.declared.receipt.Passes.{Passes}
+use Rattle.pbfcut.specs.declared.repeat.LaterPass.{LaterPass}
 use Rattle.pbfcut.specs.Repeat.{IsUnlike, GathersRest, StopsAgain, digest_of}
 use Rattle.pbf_pass.specs.Hashing.{IsDigestOf, digest_if}
 use Rattle.pbf_pass.specs.Stops.{Caused, ReadFailed}
@@ -180,7 +181,7 @@ later_differs f old new first digest frames same says unlike b c is too e =
 
 -- the stops of a later pass, as those of the call
 module _ {F : Type 0} (f : feed.Ghosts F) (old new : F) (first : Option (List ℕ)) (frames : List FrameSpec) (says : Says (judged_file first) (frames, None)) where
-  pub stops_later : (again : Repeat) (digest : Option (List ℕ)) (refused : Fault → Type 0) (read wrote : Type 0) (changed : ℕ → Type 0) (s : Stop) → IsDigest first digest → digest_of again ≡ digest
+  pub stops_later : (again : LaterPass) (digest : Option (List ℕ)) (refused : Fault → Type 0) (read wrote : Type 0) (changed : ℕ → Type 0) (s : Stop) → IsDigest first digest → digest_of again ≡ digest
       → (ReadFailed f old new → read) → ((pass : ℕ) → ChangedIn again.number first (f.remaining old) pass → changed pass) → StopsAgain f again old new wrote s → Caused refused read wrote changed s
   stops_later again digest refused read wrote changed (stop.Refused e) same is r d h = absurd h
   stops_later again digest refused read wrote changed stop.Read same is r d h = r h
@@ -189,16 +190,16 @@ module _ {F : Type 0} (f : feed.Ghosts F) (old new : F) (first : Option (List �
   stops_later again digest refused read wrote changed (stop.Changed n) same is r d h = d n (h.0, later_differs f old new first (digest_of again) frames (subst (λ (d : Option (List ℕ)). IsDigest first d) (sym is) same) says h.1)
 
   -- those of the pass that writes, in each call
-  module _ (hashes : Bool) (digest : List ℕ) (before now : Option (List ℕ)) (read wrote : Type 0) (s : Stop) (same : IsDigest first (digest_if hashes digest)) (failed : ReadFailed f old new → read) where
-    pub convert_stops : StopsAgain f (record { number = 2; digest = digest; hashes = hashes }) old new wrote s → ConvertStops first (f.remaining old) before now read wrote s
-    convert_stops h = stops_later (record { number = 2; digest = digest; hashes = hashes }) (digest_if hashes digest) (RefusedFirst (judged_writable first) before now) read wrote (ChangedIn 2 first (f.remaining old)) s same refl failed (λ pass is. is) h
+  module _ (passes : Passes) (digest : List ℕ) (before now : Option (List ℕ)) (read wrote : Type 0) (s : Stop) (same : IsDigest first (digest_if passes.hashes digest)) (failed : ReadFailed f old new → read) where
+    pub convert_stops : StopsAgain f (record { number = 2; digest = digest; passes = passes }) old new wrote s → ConvertStops first (f.remaining old) before now read wrote s
+    convert_stops h = stops_later (record { number = 2; digest = digest; passes = passes }) (digest_if passes.hashes digest) (RefusedFirst (judged_writable first) before now) read wrote (ChangedIn 2 first (f.remaining old)) s same refl failed (λ pass is. is) h
 
-    pub extract_stops : (second : Option (List ℕ)) → StopsAgain f (record { number = 3; digest = digest; hashes = hashes }) old new wrote s → ExtractStops first second (f.remaining old) before now read wrote s
-    extract_stops second h = stops_later (record { number = 3; digest = digest; hashes = hashes }) (digest_if hashes digest) (RefusedFirst (judged_writable first) before now) read wrote (λ pass. ChangedBefore 2 first second before now pass ⊎ ChangedIn 3 first (f.remaining old) pass) s same refl failed (λ pass is. inr is) h
+    pub extract_stops : (second : Option (List ℕ)) → StopsAgain f (record { number = 3; digest = digest; passes = passes }) old new wrote s → ExtractStops first second (f.remaining old) before now read wrote s
+    extract_stops second h = stops_later (record { number = 3; digest = digest; passes = passes }) (digest_if passes.hashes digest) (RefusedFirst (judged_writable first) before now) read wrote (λ pass. ChangedBefore 2 first second before now pass ⊎ ChangedIn 3 first (f.remaining old) pass) s same refl failed (λ pass is. inr is) h
 
-    pub parents_stops : (second third : Option (List ℕ)) → StopsAgain f (record { number = 4; digest = digest; hashes = hashes }) old new wrote s → ParentsStops first second third (f.remaining old) before now read wrote s
+    pub parents_stops : (second third : Option (List ℕ)) → StopsAgain f (record { number = 4; digest = digest; passes = passes }) old new wrote s → ParentsStops first second third (f.remaining old) before now read wrote s
     parents_stops second third h =
-        stops_later (record { number = 4; digest = digest; hashes = hashes }) (digest_if hashes digest) (RefusedFirst (judged_writable first) before now) read wrote
+        stops_later (record { number = 4; digest = digest; passes = passes }) (digest_if passes.hashes digest) (RefusedFirst (judged_writable first) before now) read wrote
         (λ pass. (ChangedBefore 2 first second before now pass ⊎ ChangedBefore 3 first third before now pass) ⊎ ChangedIn 4 first (f.remaining old) pass) s same refl failed (λ pass is. inr is) h
 
 -- the stops of earlier passes, in a call with more of them
@@ -293,7 +294,7 @@ same_frames b one two e f = let same : ◌≡◌ {A = Option Verdict} (Some (one
 
 -- what the first pass took, and a second one if the order was broken
 module _ {G : Type 0} (f : feed.Ghosts G) (old new : G) (digest : Option (List ℕ)) (area : BoundingBox) (b : List ℕ) (pass : Pass) (header h : HeaderSpec) (begun phase : FirstSets) (started ways : WaySets) (sets : KeptSets) where
-  pub chooses_first : (in_order : Bool) → TakesFile with_first (judged_file (Some b)) begun phase pass → begun ≡ start_first area → held_header pass ≡ Some (pass.header_at, header) → header_limit (held_header pass) ≡ None → h ≡ header_out_for_box area header → IsShort h
+  pub chooses_first : (in_order : Bool) → TakesFile with_first (judged_file (Some b)) begun phase pass → begun ≡ start_first area → held_header pass ≡ Some (pass.header_at, header) → header_limit (held_header pass) ≡ None → h ≡ header_out_for_box area header → HasShortTexts h
       → in_order ≡ phase.in_order → started ≡ phase.ways → GathersRest f with_way in_order old new digest started ways → sets ≡ without_parents ways → GaveOrNot f old new digest b (λ c. IsChoice area b c sets h)
   chooses_first true p fresh held within is short order starts rest ends =
       let told = held_is (file_header p.frames) pass p.header in

@@ -16,7 +16,7 @@ use Rattle.pbf_frame.specs.declared.frame.FrameKind.{FrameKind}
 use Rattle.pbf_frame.specs.declared.frame.FrameKind.TheVariants as kind
 use Rattle.pbf_frame.specs.Frames.{FrameSpec, frame_end, frame_kind, frame_payload, frame_payload_at, is_header}
 use Rattle.pbf_frame.specs.Sound.{IsFrameWithin, AreFramesWithin, had_after}
-use Rattle.pbf_frame.specs.Verdict.{Verdict, judged_within, with_first, joined_frames}
+use Rattle.pbf_frame.specs.Verdict.{Verdict, judged_within, with_frame_first, joined_frames}
 use Rattle.pbf_frame.specs.Writing.{written_at}
 use Rattle.pbf_frame.proofs.AnyLength.{whole_file}
 use Rattle.pbf_frame.proofs.ReadBack.{written_is_frame, written_kind, written_payload, written_bytes}
@@ -117,7 +117,7 @@ blocks_sound place [] are = refl
 blocks_sound place (block ∷ blocks) are =
     let f = block_at place block in
     let later = blocks_at (frame_end f) blocks in
-    ap (λ (o : Option Fault). sound_first o f (sound_front later None)) (block_sound place block are.0) ∙ ap (λ (v : Verdict). with_first f v) (blocks_sound (frame_end f) blocks are.1)
+    ap (λ (o : Option Fault). sound_first o f (sound_front later None)) (block_sound place block are.0) ∙ ap (λ (v : Verdict). with_frame_first f v) (blocks_sound (frame_end f) blocks are.1)
 
 blocks_stored : (place : ℕ) (blocks : List (List EntitySpec)) → AllByRecursion IsWritten blocks → stored_entities (blocks_at place blocks) ≡ flat_map (λ block. block) blocks
 blocks_stored place [] are = refl
@@ -216,7 +216,7 @@ module _ (h : HeaderSpec) (es : List EntitySpec) (fits : HeaderFits (header_out_
   file_judged = ap (judged_within None false 0) (sym joined_all) ∙ whole_file None false 0 file_frames are_frames had_header
 
   file_sound : fully (file_frames, None) ≡ (file_frames, None)
-  file_sound = ap (λ (o : Option Fault). sound_first o first (sound_front later None)) first_sound ∙ ap (λ (v : Verdict). with_first first v) (blocks_sound (frame_end first) (cuts es) written)
+  file_sound = ap (λ (o : Option Fault). sound_first o first (sound_front later None)) first_sound ∙ ap (λ (v : Verdict). with_frame_first first v) (blocks_sound (frame_end first) (cuts es) written)
 
   pub file_stored : stored_entities file_frames ≡ es
   file_stored = ap (λ (l : List EntitySpec). l ++ stored_entities later) first_entities ∙ (blocks_stored (frame_end first) (cuts es) written ∙ cuts_joined es)

@@ -33,7 +33,7 @@ use Rattle.pbf_header.proofs.HeaderLemmas.{header_again}
 use Rattle.pbf_header.proofs.ReadHeaderLaw.{header_fits}
 use Rattle.osm_pack.specs.Cuts.{written_entities, written_file}
 use Rattle.pbfcut.specs.Converting.{conversion, answer_bytes}
-use Rattle.pbf_pass.specs.HeaderLimit.{header_limit, is_short, with_limit, limited, judged_writable}
+use Rattle.pbf_pass.specs.HeaderLimit.{header_limit, has_short_texts, with_limit, limited, judged_writable}
 use Rattle.pbf_pass.specs.Counting.{entities_in, frame_entities, stored_entities}
 use Rattle.pbfcut.specs.Extracting.{Choice, complete_ways, all_parents, extraction, extract_bytes}
 use Rattle.pbf_pass.specs.Judged.{fault_in, payload_fault, sound_first, sound_front, fully}
@@ -112,7 +112,7 @@ has_header : (found : Option Placed) → header_limit found ≡ None → IfSome 
 has_header None e h = absurd (cc)
 has_header (Some p) e h =
     let weight = text_weight p.1.source + text_weight p.1.url in
-    record { place = p.0; header = p.1; is = refl; short = leb-true weight MOST_HEADER_TEXT (within (is_short p.1) p.0 e); fits = h }
+    record { place = p.0; header = p.1; is = refl; short = leb-true weight MOST_HEADER_TEXT (within (has_short_texts p.1) p.0 e); fits = h }
 
 -- ---- the limit of the header
 

@@ -10,7 +10,7 @@ use Rattle.pbf_frame.specs.declared.stop.Stop.TheVariants as why
 use Rattle.pbf_frame.specs.Devices.{append, IsFront}
 use Rattle.pbf_frame.specs.Transfers.{Added}
 use Rattle.pbf_frame.specs.Frames.{FrameSpec}
-use Rattle.pbf_frame.specs.Verdict.{Verdict, judged_known, Gone, Says, with_all, with_first_known}
+use Rattle.pbf_frame.specs.Verdict.{Verdict, judged_known, VerdictAfter, Says, with_all, with_first_known}
 use Rattle.pbf_frame.proofs.KnownBytes.{append_append}
 use Rattle.pbf_frame.proofs.Passed.{added_none, added_more, added_same}
 use Rattle.pbf_frame.proofs.Beginnings.{front_whole, front_longer, front_then}
@@ -42,7 +42,7 @@ abbrev pub StoppedWithin : (FrameSpec → List ℕ) → Option Verdict → Optio
 StoppedWithin text known old new = (new ≡ old) ⊎ ((f : FrameSpec) × (rest : Option Verdict) × (known ≡ with_first_known f rest) × IsFront old new (text f))
 
 -- whatever a step that stopped wrote, a prefix of all texts went out
-pub texts_front : (text : FrameSpec → List ℕ) (first mid : Option Verdict) (fs : List FrameSpec) (before now after : Option (List ℕ)) → Gone first fs mid → now ≡ append before (flat_map text fs) → StoppedWithin text mid now after
+pub texts_front : (text : FrameSpec → List ℕ) (first mid : Option Verdict) (fs : List FrameSpec) (before now after : Option (List ℕ)) → VerdictAfter first fs mid → now ≡ append before (flat_map text fs) → StoppedWithin text mid now after
     → (all : Verdict) → first ≡ Some all → IsFront before after (flat_map text all.0)
 texts_front text first mid fs before now after gone went (inl same) all known =
     let (rest, is, split) = gone_split first mid fs all gone known in
@@ -55,7 +55,7 @@ texts_front text first mid fs before now after gone went (inr (f, rest, is, fron
 -- ---- a listing
 
 -- what follows the frames done ends the file
-pub gone_ending : (first known : Option Verdict) (frames : List FrameSpec) (ending : Option Fault) → Gone first frames known → Says known ([], ending) → Says first (frames, ending)
+pub gone_ending : (first known : Option Verdict) (frames : List FrameSpec) (ending : Option Fault) → VerdictAfter first frames known → Says known ([], ending) → Says first (frames, ending)
 gone_ending first None frames ending gone says = subst (λ (k : Option Verdict). Says k (frames, ending)) (sym gone) tt
 gone_ending first (Some v) frames ending gone says =
     subst (λ (k : Option Verdict). Says k (frames, ending)) (sym gone) (ap (λ (v : Verdict). with_all frames v) says ∙ ap (λ (l : List FrameSpec). (l, ending)) (append-nil frames))

@@ -8,7 +8,7 @@ use Rattle.pbf_wire.specs.declared.fault.ReadFault.{ReadFault}
 use Rattle.pbf_wire.specs.declared.fault.ReadFault.TheVariants as read
 use Rattle.pbf_frame.specs.Devices.{append, HasRisen, IsFront}
 use Rattle.pbf_frame.specs.Frames.{FrameSpec}
-use Rattle.pbf_frame.specs.Stops.{stop_of}
+use Rattle.pbf_frame.specs.Stops.{stop_of_fault}
 use Rattle.pbf_frame.specs.Verdict.{Verdict, judged_known, with_first_known, Says}
 use Rattle.pbf_frame.specs.declared.device.Drain as drain
 use Rattle.pbf_frame.specs.declared.device.Feed as feed
@@ -37,7 +37,7 @@ use Rattle.pbf_pass.proofs.JudgingLemmas.{sound_visited, says_visited, stops_jud
 use Rattle.pbf_pass.proofs.VisitLemmas.{visited_to}
 
 -- why the reading of a payload stops
-pub read_stops : (fault : Option Fault) (e : ReadFault) (before now : ℕ) → ((x : Fault) → e ≡ read.Refused x → fault ≡ Some x) → Caused (Only fault) ⊥ (HasRisen before now) unchanged (stop_of e)
+pub read_stops : (fault : Option Fault) (e : ReadFault) (before now : ℕ) → ((x : Fault) → e ≡ read.Refused x → fault ≡ Some x) → Caused (Only fault) ⊥ (HasRisen before now) unchanged (stop_of_fault e)
 read_stops fault (read.Refused x) before now refused = refused x refl
 read_stops fault read.Memory before now refused = tt
 

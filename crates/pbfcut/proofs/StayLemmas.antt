@@ -7,10 +7,10 @@ use Rattle.pbf_header.specs.Header.{HeaderSpec}
 use Rattle.pbf_frame.specs.Devices.{IsAtEnd}
 use Rattle.pbf_frame.specs.Ends.{comes_of_end}
 use Rattle.pbf_frame.specs.Frames.{FrameSpec}
-use Rattle.pbf_frame.specs.Verdict.{Verdict, with_first, judged}
+use Rattle.pbf_frame.specs.Verdict.{Verdict, with_frame_first, judged}
 use Rattle.pbf_frame.proofs.Parting.{none_some, some_same}
 use Rattle.pbf_frame.proofs.Staying.{judged_longer}
-use Rattle.pbf_pass.specs.HeaderLimit.{is_short, header_limit, with_limit, limited, judged_writable}
+use Rattle.pbf_pass.specs.HeaderLimit.{has_short_texts, header_limit, with_limit, limited, judged_writable}
 use Rattle.pbf_pass.specs.Judged.{payload_fault, sound_first, sound_front, fully, judged_file}
 use Rattle.pbf_pass.specs.Pass.{file_header}
 use Rattle.pbf_pass.specs.Stops.{FaultOf}
@@ -31,8 +31,8 @@ front_stays (f ∷ frames) ending later fs e is ends = of (payload_fault f) is (
   of (Some y) is more = is
   of None is more =
       let v = sound_front frames ending in
-      let said : v ≡ (v.0, Some e) = ap (λ (o : Option Fault). let w : Verdict = (v.0, o) in w) (fault_of_both (with_first f v) (fs, Some e) is) in
-      ap (with_first f) (more v.0 said) ∙ ap (λ (l : List FrameSpec). let w : Verdict = (l, Some e) in w) (ap (λ (w : Verdict). w.0) is)
+      let said : v ≡ (v.0, Some e) = ap (λ (o : Option Fault). let w : Verdict = (v.0, o) in w) (fault_of_both (with_frame_first f v) (fs, Some e) is) in
+      ap (with_frame_first f) (more v.0 said) ∙ ap (λ (l : List FrameSpec). let w : Verdict = (l, Some e) in w) (ap (λ (w : Verdict). w.0) is)
 
 stays_fully : (file rest : List ℕ) (fs : List FrameSpec) (e : Fault) → fully (judged false 0 file) ≡ (fs, Some e) → comes_of_end e.reason ≡ false → fully (judged false 0 (file ++ rest)) ≡ (fs, Some e)
 stays_fully file rest fs e is stays =
@@ -50,7 +50,7 @@ limit_reason : (o : Option (ℕ × HeaderSpec)) (e : Fault) → header_limit o �
 limit_reason None e is stays = (let ends : comes_of_end e.reason ≡ true = ap (λ (f : Fault). comes_of_end f.reason) (sym (some_same (fault 0 NoHeader) e is)) in absurd (both (comes_of_end e.reason) ends stays)) where
   both : (b : Bool) → b ≡ true → b ≡ false → ⊥
   both b t f = cc
-limit_reason (Some header) e is stays = of (is_short header.1) is where
+limit_reason (Some header) e is stays = of (has_short_texts header.1) is where
   of : (b : Bool) → (if b then None else Some (fault header.0 EntityLarge)) ≡ Some e → e.reason ≡ EntityLarge
   of true is = absurd (none_some _ _ refl is)
   of false is = ap (λ (f : Fault). f.reason) (sym (some_same (fault header.0 EntityLarge) e is))

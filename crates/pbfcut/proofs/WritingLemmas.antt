@@ -16,7 +16,7 @@ use Rattle.pbf_frame.specs.declared.stop.Stop.{Stop}
 use Rattle.pbf_frame.specs.declared.stop.Stop.TheVariants as stop
 use Rattle.pbf_frame.specs.Devices.{HasRisen, append, IsFront}
 use Rattle.pbf_frame.specs.Frames.{FrameSpec}
-use Rattle.pbf_frame.specs.Verdict.{Verdict, judged_known, with_first_known, Gone}
+use Rattle.pbf_frame.specs.Verdict.{Verdict, judged_known, with_first_known, VerdictAfter}
 use Rattle.pbf_frame.proofs.Beginnings.{front_whole}
 use Rattle.pbf_frame.proofs.Parting.{none_some}
 use Rattle.pbf_frame.proofs.VerdictLemmas.{gone_more}
@@ -100,7 +100,7 @@ pub record PackedFrames {D S H : Type 0} (d : drain.Ghosts D) (pick : Pick) (sta
   pub counted : counts ≡ counts_of es
 
 -- what went out, if frames follow that aren't packed
-front_before : {D : Type 0} (d : drain.Ghosts D) (pick : Pick) (start : D) (first mid : Option Verdict) (fs all : List FrameSpec) (es : List EntitySpec) (taken : Option (List ℕ)) → Gone first fs mid → (AllByRecursion IsSound fs → es ≡ filter pick (stored_entities fs)) → (AllByRecursion IsSound fs → BeginsAll (d.taken start) es taken) → fully_known first ≡ Some (all, None)
+front_before : {D : Type 0} (d : drain.Ghosts D) (pick : Pick) (start : D) (first mid : Option Verdict) (fs all : List FrameSpec) (es : List EntitySpec) (taken : Option (List ℕ)) → VerdictAfter first fs mid → (AllByRecursion IsSound fs → es ≡ filter pick (stored_entities fs)) → (AllByRecursion IsSound fs → BeginsAll (d.taken start) es taken) → fully_known first ≡ Some (all, None)
     → IsFront (d.taken start) taken (written_entities (filter pick (stored_entities all)))
 front_before d pick start first mid fs all es taken gone are begins is =
     let (rest, follows, split, sound) = rest_sound first mid fs all gone is in

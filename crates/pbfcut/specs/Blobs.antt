@@ -19,15 +19,15 @@ shown_length kind.Data n = decimal n
 shown_length kind.Other n = codes "skipped"
 
 -- the place, the type, the blob's size and the payload's length
-abbrev pub line_of : ℕ → FrameKind → List ℕ → ℕ → ℕ → List ℕ
-line_of offset kind name size n = decimal offset ++ 32 ∷ [] ++ shown_name kind name ++ 32 ∷ [] ++ decimal size ++ 32 ∷ [] ++ shown_length kind n ++ 10 ∷ []
+abbrev pub blob_line : ℕ → FrameKind → List ℕ → ℕ → ℕ → List ℕ
+blob_line offset kind name size n = decimal offset ++ 32 ∷ [] ++ shown_name kind name ++ 32 ∷ [] ++ decimal size ++ 32 ∷ [] ++ shown_length kind n ++ 10 ∷ []
 
 abbrev pub line : FrameSpec → List ℕ
-line f = line_of f.offset (frame_kind f) (frame_name f) (length f.blob) (length (frame_payload f))
+line f = blob_line f.offset (frame_kind f) (frame_name f) (length f.blob) (length (frame_payload f))
 
 -- the same of a frame that is lent
 abbrev pub lent_line : Frame → List ℕ
-lent_line frame = line_of frame.offset frame.kind frame.name.now frame.size (length frame.payload.now)
+lent_line frame = blob_line frame.offset frame.kind frame.name.now frame.size (length frame.payload.now)
 
 abbrev pub lines : List FrameSpec → List ℕ
 lines frames = flat_map line frames

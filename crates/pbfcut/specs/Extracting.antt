@@ -19,7 +19,7 @@ use Rattle.pbf_pass.specs.Again.{GathersFile}
 use Rattle.pbf_pass.specs.HeaderLimit.{header_limit}
 use Rattle.pbf_pass.specs.Counting.{stored_entities}
 use Rattle.pbf_pass.specs.Judged.{judged_file}
-use Rattle.pbf_pass.specs.HeaderLimit.{IsShort}
+use Rattle.pbf_pass.specs.HeaderLimit.{HasShortTexts}
 use Rattle.pbf_pass.specs.Pass.{with_node, with_way, with_relation, file_header}
 
 abbrev pub Choice : Type 0
@@ -68,8 +68,8 @@ pub record IsChoice (area : BoundingBox) (first second : List ℕ) (sets : KeptS
   pub ways : WaySets
   pub chosen : Chooses area (judged_file (Some first)) (judged_file (Some second)) ways h
   pub kept : sets ≡ without_parents ways
-  pub short : IsShort h
+  pub short : HasShortTexts h
 
 pub record IsChoiceWithParents (area : BoundingBox) (first second third : List ℕ) (sets : KeptSets) (h : HeaderSpec) : Type 0 where
   pub chosen : ChoosesParents area (judged_file (Some first)) (judged_file (Some second)) (judged_file (Some third)) sets h
-  pub short : IsShort h
+  pub short : HasShortTexts h

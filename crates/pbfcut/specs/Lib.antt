@@ -11,3 +11,4 @@ pub mod Kept
 pub mod Theorem
 pub mod Calls
 pub mod Changes
+pub mod Choosing

@@ -117,8 +117,8 @@ pub record PacksEach {D S H X : Type 0} (d : drain.Ghosts D) (pick : Pick) (es :
   pub same : (now.picker ≡ before.picker) × (now.number ≡ before.number)
 
 -- a packer that has its header, and goes on
-abbrev pub IsReady : {D S H : Type 0} → Packing D S H → Type 0
-IsReady packer = (has_header packer ≡ true) × IsPacking packer
+abbrev pub IsReadyToPack : {D S H : Type 0} → Packing D S H → Type 0
+IsReadyToPack packer = (has_header packer ≡ true) × IsPacking packer
 
 -- a packer that was just made
 pub record IsFreshPacker {D S H : Type 0} (packer : Packing D S H) : Type 0 where

@@ -6,7 +6,7 @@ use Rattle.pbf_frame.specs.declared.device.Feed as feed
 use Rattle.pbf_frame.specs.declared.stop.Stop.{Stop}
 use Rattle.pbf_frame.specs.declared.stop.Stop.TheVariants.{Refused, Read, Write, Memory, Changed}
 use Rattle.pbf_frame.specs.Refusals.{Refuses}
-use Rattle.pbfcut.specs.declared.repeat.Repeat.{Repeat}
+use Rattle.pbfcut.specs.declared.repeat.LaterPass.{LaterPass}
 use Rattle.pbf_pass.specs.Again.{GathersFile, IsFaulty}
 use Rattle.pbf_pass.specs.Given.{GaveFile}
 use Rattle.pbf_pass.specs.Hashing.{IsDigestOf, digest_if}
@@ -14,15 +14,15 @@ use Rattle.pbf_pass.specs.Judged.{judged_file}
 use Rattle.pbf_pass.specs.Stops.{Caused, ReadFailed}
 
 -- the digest of the first pass, if it was hashed
-abbrev pub digest_of : Repeat → Option (List ℕ)
-digest_of again = digest_if again.hashes again.digest
+abbrev pub digest_of : LaterPass → Option (List ℕ)
+digest_of again = digest_if again.passes.hashes again.digest
 
 -- these aren't bytes without a fault that have this digest, if there is one
 abbrev pub IsUnlike : Option (List ℕ) → List ℕ → Type 0
 IsUnlike digest bytes = IsDigestOf digest bytes → IsFaulty (judged_file (Some bytes))
 
 -- nothing is refused; and if the stop is `Changed`, the feed gave other bytes than those of the digest
-abbrev pub StopsAgain : {F : Type 0} → feed.Ghosts F → Repeat → (old new : F) → (wrote : Type 0) → Stop → Type 0
+abbrev pub StopsAgain : {F : Type 0} → feed.Ghosts F → LaterPass → (old new : F) → (wrote : Type 0) → Stop → Type 0
 StopsAgain f again old new wrote stop =
     Caused (λ e. ⊥) (ReadFailed f old new) wrote (λ pass. (pass ≡ again.number) × Refuses (IsUnlike (digest_of again)) (f.has_passed old) (f.has_passed new) (f.remaining old) (f.remaining new)) stop
 

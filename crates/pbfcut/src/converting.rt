@@ -14,8 +14,8 @@ ghost use Rattle.pbf_pass.specs.Refused.{HaltsFile, stop_of};
 ghost use Rattle.pbfcut.specs.Repeat.{SameDigest};
 ghost use Rattle.pbf_pass.specs.Stops.{KeepsDrain, KeepsFeed, ReadFailed, WriteFailed};
 
-use crate::repeat::Repeat;
-use crate::write::Writing;
+use crate::repeat::LaterPass;
+use crate::write::OutputPlan;
 use pbf_block::Counts;
 use pbf_frame::{Drain, Feed, Stop};
 use pbf_pass::{Halt, InputReceipt, Nothing, Passes, judge, writable_header};
@@ -105,18 +105,18 @@ pub fn convert_with_receipt<F: Feed, G: Feed, D: Drain, S: BuildHasher + Drop>(
     // The drain keeps its references, and its count of failures doesn't fall.
     ensures drain { KeepsDrain D.Drain drain.old drain.new }
 {
-    let told = judge(passes, first, &mut Nothing)?;
-    let writing = Writing {
-        header: writable_header(&told)?,
+    let judged = judge(passes, first, &mut Nothing)?;
+    let plan = OutputPlan {
+        header: writable_header(&judged)?,
         chosen: None,
     };
-    let digest = told.digest;
-    let last = Repeat {
+    let digest = judged.digest;
+    let last = LaterPass {
         number: 2,
         digest,
-        hashes: passes.hashes,
+        passes,
     };
-    let counts = last.write(passes.alloc, second, drain, hasher, writing)?;
+    let counts = last.write(second, drain, hasher, plan)?;
     Ok(InputReceipt {
         counts,
         input: digest,

@@ -7,20 +7,22 @@ ghost use Rattle.osm_ways.specs.Selection.{extract};
 ghost use Rattle.pbf_header.specs.Header.{header_of};
 ghost use Rattle.pbf_frame.specs.Devices.{IsFront};
 ghost use Rattle.pbf_frame.specs.Transfers.{Added};
-ghost use Rattle.pbfcut.specs.Calls.{AllSupply, FourSupply, ExtractStops, ParentsStops, ChangedIn};
+ghost use Rattle.pbfcut.specs.Calls.{AllSupply, FourSupply, ExtractStops, ParentsStops};
+ghost use Rattle.pbfcut.specs.Choosing.{StopsChoosing, StopsChoosingParents};
 ghost use Rattle.pbfcut.specs.Changes.{ChangedAt, IfChanged};
 ghost use Rattle.pbfcut.specs.Theorem.{Extracted, IsExtraction, Promised, Canonical};
 ghost use Rattle.pbfcut.specs.Converting.{CanBeWritten};
 ghost use Rattle.pbf_pass.specs.HeaderLimit.{judged_writable};
 ghost use Rattle.pbfcut.specs.Extracting.{complete_ways, all_parents, extract_bytes, IsChoice, IsChoiceWithParents};
 ghost use Rattle.pbf_pass.specs.Given.{GaveFile, Took};
+ghost use Rattle.pbf_pass.specs.Hashing.{digest_if};
 ghost use Rattle.pbfcut.specs.Kept.{IsWritable, extract_of};
-ghost use Rattle.pbf_pass.specs.Refused.{RefusesFile, Halts, HaltsFile, stop_of};
+ghost use Rattle.pbf_pass.specs.Refused.{HaltsFile, stop_of};
 ghost use Rattle.pbfcut.specs.Repeat.{SameDigest};
-ghost use Rattle.pbf_pass.specs.Stops.{Caused, FaultOf, KeepsDrain, KeepsFeed, ReadFailed, WriteFailed};
+ghost use Rattle.pbf_pass.specs.Stops.{KeepsDrain, KeepsFeed, ReadFailed, WriteFailed};
 
-use crate::repeat::Repeat;
-use crate::write::Writing;
+use crate::repeat::LaterPass;
+use crate::write::OutputPlan;
 use osm_entity::BoundingBox;
 use osm_ways::{Chosen, NodePhase};
 use pbf_block::Counts;
@@ -29,6 +31,13 @@ use pbf_header::Header;
 use pbf_pass::{Halt, InputReceipt, Passes, judge, writable_header};
 use std::alloc::Global;
 use std::hash::BuildHasher;
+
+/// What is cut out of a file, and how its passes are made.
+#[derive(Clone, Copy)]
+pub(crate) struct Cutting {
+    pub(crate) passes: Passes,
+    pub(crate) area: BoundingBox,
+}
 
 /// What the passes before the one that writes report.
 #[derive(Drop)]
@@ -42,40 +51,28 @@ pub(crate) struct Choice {
 }
 
 /// The passes before the one that writes: the first judges the file and takes the nodes of the box, the second takes the ways.
-fn choose<F: Feed, G: Feed>(
-    alloc: Global,
-    first: &mut F,
-    second: &mut G,
-    area: BoundingBox,
-) -> Result<Choice, Halt>
-    ensures chosen { IfOk result (λ choice. GaveFile F.Feed first.old first.new (Some choice.digest) (λ b.
-        GaveFile G.Feed second.old second.new (Some choice.digest)
-        (λ c. IsChoice area b c choice.chosen (header_of choice.header)))) }
-    ensures refused { IfErr result
-        (Halts (RefusesFile F.Feed first.old first.new true (λ b. judged_writable (Some b)))) }
-    ensures stops { IfErr result (λ h. Caused (FaultOf (judged_writable (F.remaining first.old)))
-        (ReadFailed F.Feed first.old first.new ⊎ ReadFailed G.Feed second.old second.new) ⊥
-        (ChangedIn 2 (F.remaining first.old) (G.remaining second.old)) (stop_of h)) }
-    ensures changed { IfErr result (λ h. IfChanged
-        (ChangedAt 2 F.Feed first.old first.new G.Feed second.old second.new) (stop_of h)) }
+fn choose<F: Feed, G: Feed>(cutting: Cutting, first: &mut F, second: &mut G) -> Result<Choice, Halt>
+    ensures chosen { IfOk result (λ choice. GaveFile F.Feed first.old first.new
+        (digest_if cutting.passes.hashes choice.digest) (λ b. GaveFile G.Feed second.old second.new
+        (digest_if cutting.passes.hashes choice.digest)
+        (λ c. IsChoice cutting.area b c choice.chosen (header_of choice.header)))) }
+    ensures halts { IfErr result (StopsChoosing F.Feed first.old first.new
+        G.Feed second.old second.new cutting.passes.hashes) }
     ensures feeds { KeepsFeed F.Feed first.old first.new
         × KeepsFeed G.Feed second.old second.new }
 {
-    let passes = Passes {
-        alloc,
-        hashes: true,
-    };
-    let mut nodes = NodePhase::new(alloc, area);
-    let told = judge(passes, first, &mut nodes)?;
-    let header = writable_header(&told)?.for_box(alloc, area)?;
-    let digest = told.digest;
+    let Cutting { passes, area } = cutting;
+    let mut nodes = NodePhase::new(passes.alloc, area);
+    let judged = judge(passes, first, &mut nodes)?;
+    let header = writable_header(&judged)?.for_box(passes.alloc, area)?;
+    let digest = judged.digest;
     let mut ways = nodes.end_nodes()?;
-    let last = Repeat {
+    let last = LaterPass {
         number: 2,
         digest,
-        hashes: true,
+        passes,
     };
-    last.gather(alloc, second, &mut ways)?;
+    last.gather(second, &mut ways)?;
     let chosen = ways.end_ways()?;
     Ok(Choice {
         chosen,
@@ -182,18 +179,22 @@ pub fn extract_with_receipt<F: Feed, G: Feed, H: Feed, D: Drain, S: BuildHasher 
     // The drain keeps its references, and its count of failures doesn't fall.
     ensures drain { KeepsDrain D.Drain drain.old drain.new }
 {
-    let choice = choose(alloc, first, second, area)?;
+    let passes = Passes {
+        alloc,
+        hashes: true,
+    };
+    let choice = choose(Cutting { passes, area }, first, second)?;
     let digest = choice.digest;
-    let writing = Writing {
+    let plan = OutputPlan {
         header: &choice.header,
         chosen: Some(&choice.chosen),
     };
-    let last = Repeat {
+    let last = LaterPass {
         number: 3,
         digest,
-        hashes: true,
+        passes,
     };
-    let counts = last.write(alloc, third, drain, hasher, writing)?;
+    let counts = last.write(third, drain, hasher, plan)?;
     Ok(InputReceipt {
         counts,
         input: digest,
@@ -202,39 +203,31 @@ pub fn extract_with_receipt<F: Feed, G: Feed, H: Feed, D: Drain, S: BuildHasher 
 
 /// The passes before the one that writes: over nodes and ways as without parents, and a third that takes the relations.
 fn choose_parents<F: Feed, G: Feed, H: Feed>(
-    alloc: Global,
+    cutting: Cutting,
     first: &mut F,
     second: &mut G,
     third: &mut H,
-    area: BoundingBox,
 ) -> Result<Choice, Halt>
-    ensures chosen { IfOk result (λ choice. GaveFile F.Feed first.old first.new (Some choice.digest) (λ b.
-        GaveFile G.Feed second.old second.new (Some choice.digest)
-        (λ c. GaveFile H.Feed third.old third.new (Some choice.digest)
-        (λ d. IsChoiceWithParents area b c d choice.chosen (header_of choice.header))))) }
-    ensures refused { IfErr result
-        (Halts (RefusesFile F.Feed first.old first.new true (λ b. judged_writable (Some b)))) }
-    ensures stops { IfErr result (λ h. Caused (FaultOf (judged_writable (F.remaining first.old)))
-        (ReadFailed F.Feed first.old first.new
-        ⊎ (ReadFailed G.Feed second.old second.new ⊎ ReadFailed H.Feed third.old third.new)) ⊥
-        (λ pass. ChangedIn 2 (F.remaining first.old) (G.remaining second.old) pass
-        ⊎ ChangedIn 3 (F.remaining first.old) (H.remaining third.old) pass) (stop_of h)) }
-    ensures changed { IfErr result (λ h. IfChanged (λ pass.
-        ChangedAt 2 F.Feed first.old first.new G.Feed second.old second.new pass
-        ⊎ ChangedAt 3 F.Feed first.old first.new H.Feed third.old third.new pass) (stop_of h)) }
+    ensures chosen { IfOk result (λ choice. GaveFile F.Feed first.old first.new
+        (digest_if cutting.passes.hashes choice.digest) (λ b. GaveFile G.Feed second.old second.new
+        (digest_if cutting.passes.hashes choice.digest) (λ c. GaveFile H.Feed third.old third.new
+        (digest_if cutting.passes.hashes choice.digest) (λ d. IsChoiceWithParents cutting.area b c d
+        choice.chosen (header_of choice.header))))) }
+    ensures halts { IfErr result (StopsChoosingParents F.Feed first.old first.new
+        G.Feed second.old second.new H.Feed third.old third.new cutting.passes.hashes) }
     ensures feeds { KeepsFeed F.Feed first.old first.new
         × KeepsFeed G.Feed second.old second.new
         × KeepsFeed H.Feed third.old third.new }
 {
-    let choice = choose(alloc, first, second, area)?;
+    let choice = choose(cutting, first, second)?;
     let digest = choice.digest;
     let mut relations = choice.chosen.with_parents();
-    let last = Repeat {
+    let last = LaterPass {
         number: 3,
         digest,
-        hashes: true,
+        passes: cutting.passes,
     };
-    last.gather(alloc, third, &mut relations)?;
+    last.gather(third, &mut relations)?;
     let chosen = relations.end_relations()?.into_chosen();
     Ok(Choice {
         chosen,
@@ -356,18 +349,22 @@ pub fn extract_parents_with_receipt<
     // The drain keeps its references, and its count of failures doesn't fall.
     ensures drain { KeepsDrain D.Drain drain.old drain.new }
 {
-    let choice = choose_parents(alloc, first, second, third, area)?;
+    let passes = Passes {
+        alloc,
+        hashes: true,
+    };
+    let choice = choose_parents(Cutting { passes, area }, first, second, third)?;
     let digest = choice.digest;
-    let writing = Writing {
+    let plan = OutputPlan {
         header: &choice.header,
         chosen: Some(&choice.chosen),
     };
-    let last = Repeat {
+    let last = LaterPass {
         number: 4,
         digest,
-        hashes: true,
+        passes,
     };
-    let counts = last.write(alloc, fourth, drain, hasher, writing)?;
+    let counts = last.write(fourth, drain, hasher, plan)?;
     Ok(InputReceipt {
         counts,
         input: digest,

@@ -16,7 +16,7 @@ ghost use Rattle.pbf_pass.specs.Counting.{counts_of};
 ghost use Rattle.pbf_pass.specs.Judged.{fault_in};
 ghost use Rattle.pbf_pass.specs.Pass.{IsStep};
 ghost use Rattle.pbf_pass.specs.Payload.{primitive_block, lent_by};
-ghost use Rattle.pbfcut.specs.Pick.{everything, pick_of, picks_of, picked_in, picks_id, picked_by, picked_by_some, IsReady, PacksAll, PacksEach, KeepsPacker, PacksPayload, FailsToPackPayload, PacksFrame, FailsToPack};
+ghost use Rattle.pbfcut.specs.Pick.{everything, pick_of, picks_of, picked_in, picks_id, picked_by, picked_by_some, IsReadyToPack, PacksAll, PacksEach, KeepsPacker, PacksPayload, FailsToPackPayload, PacksFrame, FailsToPack};
 ghost use Rattle.pbf_frame.specs.declared.frame.TheConstants.{FILE_LIMIT};
 
 use osm_entity::EntityRef;
@@ -143,7 +143,7 @@ impl<'a> EntityPacker<'a> {
         entity: &EntityRef<'_>,
         packer: &mut Packer<D, S>,
     ) -> Result<(), Stop>
-        requires { IsReady packer.old }
+        requires { IsReadyToPack packer.old }
         ensures { PacksEach D.Drain everything (entity_of entity.now ∷ [])
             self.old self.new packer.old packer.new result }
     {
@@ -161,7 +161,7 @@ impl<'a> EntityPacker<'a> {
         entity: &EntityRef<'_>,
         packer: &mut Packer<D, S>,
     ) -> Result<(), Stop>
-        requires { IsReady packer.old }
+        requires { IsReadyToPack packer.old }
         ensures { PacksEach D.Drain (picks_of self.old.picker) (entity_of entity.now ∷ [])
             self.old self.new packer.old packer.new result }
     {
@@ -179,7 +179,7 @@ impl<'a> EntityPacker<'a> {
         unmade: &UnmadeWay<'_>,
         packer: &mut Packer<D, S>,
     ) -> Result<(), Stop>
-        requires { IsReady packer.old }
+        requires { IsReadyToPack packer.old }
         ensures { PacksEach D.Drain (picks_of self.old.picker) (way (way_from unmade.now) ∷ [])
             self.old self.new packer.old packer.new result }
     {
@@ -198,7 +198,7 @@ impl<'a> EntityPacker<'a> {
         dense: &Dense<'_>,
         packer: &mut Packer<D, S>,
     ) -> Result<(), Stop>
-        requires { IsReady packer.old }
+        requires { IsReadyToPack packer.old }
         ensures { PacksEach D.Drain (picks_of self.old.picker) (map node (dense_left dense.now))
             self.old self.new packer.old packer.new result }
     {
@@ -222,7 +222,7 @@ impl<'a> EntityPacker<'a> {
         run: &Run<'_>,
         packer: &mut Packer<D, S>,
     ) -> Result<(), Stop>
-        requires { IsReady packer.old }
+        requires { IsReadyToPack packer.old }
         ensures { PacksEach D.Drain (picks_of self.old.picker) (run_entities run.now)
             self.old self.new packer.old packer.new result }
     {
@@ -240,7 +240,7 @@ impl<'a> EntityPacker<'a> {
         runs: Runs<'_>,
         packer: &mut Packer<D, S>,
     ) -> Result<(), Stop>
-        requires { IsReady packer.old }
+        requires { IsReadyToPack packer.old }
         ensures { PacksEach D.Drain (picks_of self.old.picker) (joined_runs (runs_left runs.entry))
             self.old self.new packer.old packer.new result }
     {
@@ -258,7 +258,7 @@ impl<'a> EntityPacker<'a> {
         packer: &mut Packer<D, S>,
     ) -> Result<(), Stop>
         requires none { self.old.counts ≡ counts_of [] }
-        requires ready { IsReady packer.old }
+        requires ready { IsReadyToPack packer.old }
         ensures packed { let p = primitive_block frame.now.payload_at frame.now.payload.now in
             OnOk result (PacksAll D.Drain (fault_in p) (picked_in (picks_of self.old.picker) p)
             packer.old packer.new) }
@@ -282,7 +282,7 @@ impl<'a> EntityPacker<'a> {
         packer: &mut Packer<D, S>,
     ) -> Result<(), Stop>
         requires none { self.old.counts ≡ counts_of [] }
-        requires ready { IsReady packer.old }
+        requires ready { IsReadyToPack packer.old }
         ensures packed { OnOk result (PacksPayload D.Drain (picks_of self.old.picker)
             (lent_by frame.now) packer.old packer.new pass.old pass.new) }
         ensures stopped { IfErr result (FailsToPackPayload D.Drain (picks_of self.old.picker)

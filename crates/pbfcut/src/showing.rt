@@ -18,7 +18,7 @@ ghost use Rattle.pbfcut.specs.Repeat.{SameDigest};
 ghost use Rattle.pbfcut.specs.Showing.{Shown, ShowsFront, WritesFront, WritesLines, WritesPayload, ShowsNext, FailsToShowNext};
 ghost use Rattle.pbf_pass.specs.Stops.{Caused, FaultOf, unchanged, KeepsDrain, KeepsFeed, ReadFailed, WriteFailed};
 
-use crate::repeat::Repeat;
+use crate::repeat::LaterPass;
 use osm_entity::EntityRef;
 use osm_text::{put_entity, put_header};
 use pbf_block::{Block, Counts, Entities};
@@ -242,18 +242,18 @@ pub fn show_with_receipt<F: Feed, G: Feed, D: Drain>(
     // The drain keeps its references, and its count of failures doesn't fall.
     ensures drain { KeepsDrain D.Drain drain.old drain.new }
 {
-    let told = judge(passes, first, &mut Nothing)?;
-    let input = told.digest;
-    let last = Repeat {
+    let judged = judge(passes, first, &mut Nothing)?;
+    let input = judged.digest;
+    let last = LaterPass {
         number: 2,
         digest: input,
-        hashes: passes.hashes,
+        passes,
     };
     match write_text(passes, second, drain, dates) {
         Ok(digest) => {
             last.compare(digest)?;
             Ok(InputReceipt {
-                counts: told.pass.counts,
+                counts: judged.pass.counts,
                 input,
             })
         }

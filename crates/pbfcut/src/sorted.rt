@@ -7,7 +7,8 @@ ghost use Rattle.osm_ways.specs.Selection.{extract};
 ghost use Rattle.pbf_header.specs.Header.{header_of};
 ghost use Rattle.pbf_frame.specs.Devices.{IsFront};
 ghost use Rattle.pbf_frame.specs.Transfers.{Added};
-ghost use Rattle.pbfcut.specs.Calls.{AllSupply, FourSupply, GaveOrNot, ExtractStops, ParentsStops, ChangedIn};
+ghost use Rattle.pbfcut.specs.Calls.{AllSupply, FourSupply, GaveOrNot, ExtractStops, ParentsStops};
+ghost use Rattle.pbfcut.specs.Choosing.{StopsChoosing, StopsChoosingParents};
 ghost use Rattle.pbfcut.specs.Changes.{ChangedAt, IfChanged};
 ghost use Rattle.pbfcut.specs.Theorem.{Extracted, IsExtraction, Promised, Canonical};
 ghost use Rattle.pbfcut.specs.Converting.{CanBeWritten};
@@ -16,13 +17,13 @@ ghost use Rattle.pbfcut.specs.Extracting.{complete_ways, all_parents, extract_by
 ghost use Rattle.pbf_pass.specs.Given.{GaveFile, Took};
 ghost use Rattle.pbf_pass.specs.Hashing.{digest_if};
 ghost use Rattle.pbfcut.specs.Kept.{IsWritable, extract_of};
-ghost use Rattle.pbf_pass.specs.Refused.{RefusesFile, Halts, HaltsFile, stop_of};
+ghost use Rattle.pbf_pass.specs.Refused.{HaltsFile, stop_of};
 ghost use Rattle.pbfcut.specs.Repeat.{SameDigest};
-ghost use Rattle.pbf_pass.specs.Stops.{Caused, FaultOf, KeepsDrain, KeepsFeed, ReadFailed, WriteFailed};
+ghost use Rattle.pbf_pass.specs.Stops.{KeepsDrain, KeepsFeed, ReadFailed, WriteFailed};
 
-use crate::extracting::Choice;
-use crate::repeat::Repeat;
-use crate::write::Writing;
+use crate::extracting::{Choice, Cutting};
+use crate::repeat::LaterPass;
+use crate::write::OutputPlan;
 use osm_entity::BoundingBox;
 use osm_ways::FirstPhase;
 use pbf_block::Counts;
@@ -34,38 +35,32 @@ use std::hash::BuildHasher;
 /// The passes before the one that writes: the first judges the file and takes the nodes of the box, and the ways as long as no node
 /// comes after one. If one did, the second takes the ways; otherwise it isn't made.
 pub(crate) fn choose_sorted<F: Feed, G: Feed>(
-    passes: Passes,
+    cutting: Cutting,
     first: &mut F,
     second: &mut G,
-    area: BoundingBox,
 ) -> Result<Choice, Halt>
     ensures chosen { IfOk result (λ choice. GaveFile F.Feed first.old first.new
-        (digest_if passes.hashes choice.digest) (λ b. GaveOrNot G.Feed second.old second.new
-        (digest_if passes.hashes choice.digest) b (λ c. IsChoice area b c choice.chosen (header_of choice.header)))) }
-    ensures refused { IfErr result
-        (Halts (RefusesFile F.Feed first.old first.new passes.hashes
-        (λ b. judged_writable (Some b)))) }
-    ensures stops { IfErr result (λ h. Caused (FaultOf (judged_writable (F.remaining first.old)))
-        (ReadFailed F.Feed first.old first.new ⊎ ReadFailed G.Feed second.old second.new) ⊥
-        (ChangedIn 2 (F.remaining first.old) (G.remaining second.old)) (stop_of h)) }
-    ensures changed { IfErr result (λ h. IfChanged
-        (ChangedAt 2 F.Feed first.old first.new G.Feed second.old second.new) (stop_of h)) }
+        (digest_if cutting.passes.hashes choice.digest) (λ b. GaveOrNot G.Feed second.old second.new
+        (digest_if cutting.passes.hashes choice.digest) b
+        (λ c. IsChoice cutting.area b c choice.chosen (header_of choice.header)))) }
+    ensures halts { IfErr result (StopsChoosing F.Feed first.old first.new
+        G.Feed second.old second.new cutting.passes.hashes) }
     ensures feeds { KeepsFeed F.Feed first.old first.new
         × KeepsFeed G.Feed second.old second.new }
 {
-    let Passes { alloc, hashes } = passes;
-    let mut phase = FirstPhase::new(alloc, area);
-    let told = judge(passes, first, &mut phase)?;
-    let header = writable_header(&told)?.for_box(alloc, area)?;
-    let digest = told.digest;
+    let Cutting { passes, area } = cutting;
+    let mut phase = FirstPhase::new(passes.alloc, area);
+    let judged = judge(passes, first, &mut phase)?;
+    let header = writable_header(&judged)?.for_box(passes.alloc, area)?;
+    let digest = judged.digest;
     let in_order = phase.is_in_order();
     let mut ways = phase.end()?;
-    let again = Repeat {
+    let again = LaterPass {
         number: 2,
         digest,
-        hashes,
+        passes,
     };
-    again.gather_rest(alloc, second, &mut ways, in_order)?;
+    again.gather_rest(second, &mut ways, in_order)?;
     let chosen = ways.end_ways()?;
     Ok(Choice {
         chosen,
@@ -169,18 +164,18 @@ pub fn extract_sorted_with_receipt<F: Feed, G: Feed, H: Feed, D: Drain, S: Build
     // The drain keeps its references, and its count of failures doesn't fall.
     ensures drain { KeepsDrain D.Drain drain.old drain.new }
 {
-    let choice = choose_sorted(passes, first, second, area)?;
+    let choice = choose_sorted(Cutting { passes, area }, first, second)?;
     let digest = choice.digest;
-    let writing = Writing {
+    let plan = OutputPlan {
         header: &choice.header,
         chosen: Some(&choice.chosen),
     };
-    let last = Repeat {
+    let last = LaterPass {
         number: 3,
         digest,
-        hashes: passes.hashes,
+        passes,
     };
-    let counts = last.write(passes.alloc, third, drain, hasher, writing)?;
+    let counts = last.write(third, drain, hasher, plan)?;
     Ok(InputReceipt {
         counts,
         input: digest,
@@ -189,41 +184,31 @@ pub fn extract_sorted_with_receipt<F: Feed, G: Feed, H: Feed, D: Drain, S: Build
 
 /// The passes before the one that writes: over nodes and ways as without parents, and one that takes the relations.
 fn choose_parents_sorted<F: Feed, G: Feed, H: Feed>(
-    passes: Passes,
+    cutting: Cutting,
     first: &mut F,
     second: &mut G,
     third: &mut H,
-    area: BoundingBox,
 ) -> Result<Choice, Halt>
     ensures chosen { IfOk result (λ choice. GaveFile F.Feed first.old first.new
-        (digest_if passes.hashes choice.digest) (λ b. GaveOrNot G.Feed second.old second.new
-        (digest_if passes.hashes choice.digest) b
-        (λ c. GaveFile H.Feed third.old third.new (digest_if passes.hashes choice.digest)
-        (λ d. IsChoiceWithParents area b c d choice.chosen (header_of choice.header))))) }
-    ensures refused { IfErr result
-        (Halts (RefusesFile F.Feed first.old first.new passes.hashes
-        (λ b. judged_writable (Some b)))) }
-    ensures stops { IfErr result (λ h. Caused (FaultOf (judged_writable (F.remaining first.old)))
-        (ReadFailed F.Feed first.old first.new
-        ⊎ (ReadFailed G.Feed second.old second.new ⊎ ReadFailed H.Feed third.old third.new)) ⊥
-        (λ pass. ChangedIn 2 (F.remaining first.old) (G.remaining second.old) pass
-        ⊎ ChangedIn 3 (F.remaining first.old) (H.remaining third.old) pass) (stop_of h)) }
-    ensures changed { IfErr result (λ h. IfChanged (λ pass.
-        ChangedAt 2 F.Feed first.old first.new G.Feed second.old second.new pass
-        ⊎ ChangedAt 3 F.Feed first.old first.new H.Feed third.old third.new pass) (stop_of h)) }
+        (digest_if cutting.passes.hashes choice.digest) (λ b. GaveOrNot G.Feed second.old second.new
+        (digest_if cutting.passes.hashes choice.digest) b
+        (λ c. GaveFile H.Feed third.old third.new (digest_if cutting.passes.hashes choice.digest)
+        (λ d. IsChoiceWithParents cutting.area b c d choice.chosen (header_of choice.header))))) }
+    ensures halts { IfErr result (StopsChoosingParents F.Feed first.old first.new
+        G.Feed second.old second.new H.Feed third.old third.new cutting.passes.hashes) }
     ensures feeds { KeepsFeed F.Feed first.old first.new
         × KeepsFeed G.Feed second.old second.new
         × KeepsFeed H.Feed third.old third.new }
 {
-    let choice = choose_sorted(passes, first, second, area)?;
+    let choice = choose_sorted(cutting, first, second)?;
     let digest = choice.digest;
     let mut relations = choice.chosen.with_parents();
-    let again = Repeat {
+    let again = LaterPass {
         number: 3,
         digest,
-        hashes: passes.hashes,
+        passes: cutting.passes,
     };
-    again.gather(passes.alloc, third, &mut relations)?;
+    again.gather(third, &mut relations)?;
     let chosen = relations.end_relations()?.into_chosen();
     Ok(Choice {
         chosen,
@@ -292,18 +277,18 @@ pub fn extract_parents_sorted_with_receipt<
     // The drain keeps its references, and its count of failures doesn't fall.
     ensures drain { KeepsDrain D.Drain drain.old drain.new }
 {
-    let choice = choose_parents_sorted(passes, first, second, third, area)?;
+    let choice = choose_parents_sorted(Cutting { passes, area }, first, second, third)?;
     let digest = choice.digest;
-    let writing = Writing {
+    let plan = OutputPlan {
         header: &choice.header,
         chosen: Some(&choice.chosen),
     };
-    let last = Repeat {
+    let last = LaterPass {
         number: 4,
         digest,
-        hashes: passes.hashes,
+        passes,
     };
-    let counts = last.write(passes.alloc, fourth, drain, hasher, writing)?;
+    let counts = last.write(fourth, drain, hasher, plan)?;
     Ok(InputReceipt {
         counts,
         input: digest,

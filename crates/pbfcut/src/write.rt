@@ -6,20 +6,22 @@ ghost use Rattle.pbf_header.specs.Header.{header_of};
 ghost use Rattle.pbf_pass.specs.Again.{StopsUnjudged, ReadsFaulty};
 ghost use Rattle.pbf_pass.specs.Given.{GaveFile, Took};
 ghost use Rattle.pbf_pass.specs.Hashing.{digest_if};
-ghost use Rattle.pbf_pass.specs.HeaderLimit.{IsShort};
+ghost use Rattle.pbf_pass.specs.HeaderLimit.{HasShortTexts};
 ghost use Rattle.pbf_pass.specs.Judged.{judged_file};
 ghost use Rattle.pbf_pass.specs.Payload.{primitive_block, lent_by};
 ghost use Rattle.pbf_pass.specs.Stops.{KeepsDrain, KeepsFeed, ReadFailed, WriteFailed};
-ghost use Rattle.pbfcut.specs.Pick.{pick_of, IsFreshPacker, IsReady};
+ghost use Rattle.pbfcut.specs.Pick.{pick_of, IsFreshPacker, IsReadyToPack};
+ghost use Rattle.pbfcut.specs.Repeat.{StopsAgain, digest_of};
 ghost use Rattle.pbfcut.specs.Write.{PacksUnjudged, PacksNext, FailsAtNext, Packed, PacksFront};
 
 use crate::pick::EntityPacker;
+use crate::repeat::LaterPass;
 use osm_pack::Packer;
 use osm_ways::Chosen;
 use pbf_block::{Counts, Kinds, UnjudgedBlock};
 use pbf_frame::{Drain, Feed, Frame, FrameKind, Stop};
 use pbf_header::Header;
-use pbf_pass::{InputReceipt, Passes, Visit, pass_over};
+use pbf_pass::{InputReceipt, Visit, pass_over};
 use std::alloc::Global;
 use std::hash::BuildHasher;
 
@@ -30,7 +32,7 @@ fn pack_block<D: Drain, S: BuildHasher>(
     entities: &mut EntityPacker<'_>,
     packer: &mut Packer<D, S>,
 ) -> Result<(), Stop>
-    requires { IsReady packer.old }
+    requires { IsReadyToPack packer.old }
     ensures { PacksUnjudged D.Drain (primitive_block frame.now.payload_at frame.now.payload.now)
         entities.old entities.new packer.old packer.new result }
 {
@@ -48,7 +50,7 @@ fn pack_payload<D: Drain, S: BuildHasher>(
     entities: &mut EntityPacker<'_>,
     packer: &mut Packer<D, S>,
 ) -> Result<(), Stop>
-    requires { IsReady packer.old }
+    requires { IsReadyToPack packer.old }
     ensures { PacksUnjudged D.Drain (lent_by frame.now)
         entities.old entities.new packer.old packer.new result }
 {
@@ -80,7 +82,7 @@ impl<D: Drain, S: BuildHasher> Visit for Writer<'_, D, S> {
     ghost failed = { λ old f new stop. FailsAtNext D.Drain old.number (pick_of old.chosen)
         old.packer.now new.packer.now f stop };
 
-    ghost ready = { λ v. IsReady v.packer.now };
+    ghost ready = { λ v. IsReadyToPack v.packer.now };
 
     ghost lender = { λ v. v.packer.ghost_name ∷ D.lender v.packer.now.drain };
 
@@ -94,79 +96,110 @@ impl<D: Drain, S: BuildHasher> Visit for Writer<'_, D, S> {
 
 /// What is written of a file.
 #[derive(Clone, Copy)]
-pub(crate) struct Writing<'a> {
+pub(crate) struct OutputPlan<'a> {
     /// The header.
     pub(crate) header: &'a Header,
     /// Which of the entities; all of them if nothing was chosen.
     pub(crate) chosen: Option<&'a Chosen>,
 }
 
-/// Puts a header, what is picked of a whole file, in a pass of this number, and the last block through a packer.
-fn pack_file<'a, F: Feed, D: Drain, S: BuildHasher>(
-    passes: Passes,
-    feed: &mut F,
-    packer: &'a mut Packer<D, S>,
-    writing: Writing<'a>,
-    number: u8,
-) -> Result<InputReceipt, Stop>
-    requires fresh { IsFreshPacker packer.old }
-    requires short { IsShort (header_of writing.header.now) }
-    ensures packed { IfOk result (λ wrote. GaveFile F.Feed feed.old feed.new
-        (digest_if passes.hashes wrote.input) (λ file. Took D.Drain packer.old.drain packer.new.drain
-        (Packed (pick_of writing.entry.chosen) (header_of writing.entry.header.now)
-        wrote.counts (judged_file (Some file))))) }
-    ensures beginning { OnErr result (PacksFront (pick_of writing.entry.chosen)
-        (header_of writing.entry.header.now) (judged_file (F.remaining feed.old))
-        (D.taken packer.old.drain) (D.taken packer.new.drain)) }
-    ensures faulty { IfErr result (ReadsFaulty F.Feed feed.old feed.new) }
-    ensures stops { IfErr result (StopsUnjudged number (judged_file (F.remaining feed.old))
-        (ReadFailed F.Feed feed.old feed.new)
-        (WriteFailed D.Drain packer.old.drain packer.new.drain)) }
-    ensures keeps { KeepsFeed F.Feed feed.old feed.new }
-    ensures drain { KeepsDrain D.Drain packer.old.drain packer.new.drain }
-{
-    packer.put_header(writing.header)?;
-    let mut writer = Writer {
-        packer,
-        counts: Counts::none(),
-        chosen: writing.chosen,
-        number,
-    };
-    let outcome = pass_over(passes, feed, &mut writer);
-    // What is known of the packer comes back with the reference itself.
-    let Writer { packer, counts, .. } = writer;
-    let input = outcome?.digest;
-    packer.finish()?;
-    Ok(InputReceipt { counts, input })
-}
+impl LaterPass {
+    /// Puts a header, what is picked of a whole file, and the last block through a packer.
+    fn pack_file<'a, F: Feed, D: Drain, S: BuildHasher>(
+        self,
+        feed: &mut F,
+        packer: &'a mut Packer<D, S>,
+        plan: OutputPlan<'a>,
+    ) -> Result<InputReceipt, Stop>
+        requires fresh { IsFreshPacker packer.old }
+        requires short { HasShortTexts (header_of plan.header.now) }
+        ensures packed { IfOk result (λ wrote. GaveFile F.Feed feed.old feed.new
+            (digest_if self.passes.hashes wrote.input)
+            (λ file. Took D.Drain packer.old.drain packer.new.drain
+            (Packed (pick_of plan.entry.chosen) (header_of plan.entry.header.now)
+            wrote.counts (judged_file (Some file))))) }
+        ensures beginning { OnErr result (PacksFront (pick_of plan.entry.chosen)
+            (header_of plan.entry.header.now) (judged_file (F.remaining feed.old))
+            (D.taken packer.old.drain) (D.taken packer.new.drain)) }
+        ensures faulty { IfErr result (ReadsFaulty F.Feed feed.old feed.new) }
+        ensures stops { IfErr result (StopsUnjudged self.number (judged_file (F.remaining feed.old))
+            (ReadFailed F.Feed feed.old feed.new)
+            (WriteFailed D.Drain packer.old.drain packer.new.drain)) }
+        ensures keeps { KeepsFeed F.Feed feed.old feed.new }
+        ensures drain { KeepsDrain D.Drain packer.old.drain packer.new.drain }
+    {
+        packer.put_header(plan.header)?;
+        let mut writer = Writer {
+            packer,
+            counts: Counts::none(),
+            chosen: plan.chosen,
+            number: self.number,
+        };
+        let outcome = pass_over(self.passes, feed, &mut writer);
+        // What is known of the packer comes back with the reference itself.
+        let Writer { packer, counts, .. } = writer;
+        let input = outcome?.digest;
+        packer.finish()?;
+        Ok(InputReceipt { counts, input })
+    }
 
-/// Writes a header and what is picked of a whole file, in a pass of this number, after the one that judged it. What was written is
-/// specified if the digest is that of the bytes which were judged.
-pub(crate) fn write<F: Feed, D: Drain, S: BuildHasher + Drop>(
-    passes: Passes,
-    feed: &mut F,
-    drain: &mut D,
-    hasher: S,
-    writing: Writing<'_>,
-    number: u8,
-) -> Result<InputReceipt, Stop>
-    requires { IsShort (header_of writing.header.now) }
-    ensures packed { IfOk result (λ wrote. GaveFile F.Feed feed.old feed.new
-        (digest_if passes.hashes wrote.input) (λ file. Took D.Drain drain.old drain.new
-        (Packed (pick_of writing.entry.chosen) (header_of writing.entry.header.now)
-        wrote.counts (judged_file (Some file))))) }
-    ensures beginning { OnErr result (PacksFront (pick_of writing.entry.chosen)
-        (header_of writing.entry.header.now) (judged_file (F.remaining feed.old))
-        (D.taken drain.old) (D.taken drain.new)) }
-    ensures faulty { IfErr result (ReadsFaulty F.Feed feed.old feed.new) }
-    ensures stops { IfErr result (StopsUnjudged number (judged_file (F.remaining feed.old))
-        (ReadFailed F.Feed feed.old feed.new) (WriteFailed D.Drain drain.old drain.new)) }
-    ensures keeps { KeepsFeed F.Feed feed.old feed.new }
-    ensures drain { KeepsDrain D.Drain drain.old drain.new }
-{
-    let mut packer = Packer::new(passes.alloc, &mut *drain, hasher);
-    let outcome = pack_file(passes, feed, &mut packer, writing, number);
-    // What is known of the drain comes back with the reference itself.
-    let _drain = packer.into_drain();
-    outcome
+    /// Writes a header and what is picked of a whole file. What was written is specified if the digest is that of the bytes which were
+    /// judged.
+    fn write_unjudged<F: Feed, D: Drain, S: BuildHasher + Drop>(
+        self,
+        feed: &mut F,
+        drain: &mut D,
+        hasher: S,
+        plan: OutputPlan<'_>,
+    ) -> Result<InputReceipt, Stop>
+        requires { HasShortTexts (header_of plan.header.now) }
+        ensures packed { IfOk result (λ wrote. GaveFile F.Feed feed.old feed.new
+            (digest_if self.passes.hashes wrote.input) (λ file. Took D.Drain drain.old drain.new
+            (Packed (pick_of plan.entry.chosen) (header_of plan.entry.header.now)
+            wrote.counts (judged_file (Some file))))) }
+        ensures beginning { OnErr result (PacksFront (pick_of plan.entry.chosen)
+            (header_of plan.entry.header.now) (judged_file (F.remaining feed.old))
+            (D.taken drain.old) (D.taken drain.new)) }
+        ensures faulty { IfErr result (ReadsFaulty F.Feed feed.old feed.new) }
+        ensures stops { IfErr result (StopsUnjudged self.number (judged_file (F.remaining feed.old))
+            (ReadFailed F.Feed feed.old feed.new) (WriteFailed D.Drain drain.old drain.new)) }
+        ensures keeps { KeepsFeed F.Feed feed.old feed.new }
+        ensures drain { KeepsDrain D.Drain drain.old drain.new }
+    {
+        let mut packer = Packer::new(self.passes.alloc, &mut *drain, hasher);
+        let outcome = self.pack_file(feed, &mut packer, plan);
+        // What is known of the drain comes back with the reference itself.
+        let _drain = packer.into_drain();
+        outcome
+    }
+
+    /// Writes a header and what is picked of a whole file, which has to be the one that was judged.
+    pub(crate) fn write<F: Feed, D: Drain, S: BuildHasher + Drop>(
+        self,
+        feed: &mut F,
+        drain: &mut D,
+        hasher: S,
+        plan: OutputPlan<'_>,
+    ) -> Result<Counts, Stop>
+        requires { HasShortTexts (header_of plan.header.now) }
+        ensures packed { IfOk result (λ counts. GaveFile F.Feed feed.old feed.new (digest_of self)
+            (λ file. Took D.Drain drain.old drain.new
+            (Packed (pick_of plan.entry.chosen) (header_of plan.entry.header.now)
+            counts (judged_file (Some file))))) }
+        ensures beginning { OnErr result (PacksFront (pick_of plan.entry.chosen)
+            (header_of plan.entry.header.now) (judged_file (F.remaining feed.old))
+            (D.taken drain.old) (D.taken drain.new)) }
+        ensures stops { IfErr result (StopsAgain F.Feed self feed.old feed.new
+            (WriteFailed D.Drain drain.old drain.new)) }
+        ensures keeps { KeepsFeed F.Feed feed.old feed.new }
+        ensures drain { KeepsDrain D.Drain drain.old drain.new }
+    {
+        match self.write_unjudged(feed, drain, hasher, plan) {
+            Ok(wrote) => {
+                self.compare(wrote.input)?;
+                Ok(wrote.counts)
+            }
+            Err(stop) => Err(self.changed(stop)),
+        }
+    }
 }

@@ -45,12 +45,12 @@ abbrev pub refused_text : (program : List ℕ) → ℕ → (reason : List ℕ) �
 refused_text program offset reason = program ++ codes ": refused at " ++ decimal offset ++ codes ": " ++ reason
 
 -- the line of a program, without its end
-abbrev pub line_of : (program : List ℕ) → Stop → List ℕ
-line_of program (stop.Refused f) = refused_text program f.offset (reason_text f.reason)
-line_of program stop.Read = program ++ codes ": read failed"
-line_of program stop.Write = program ++ codes ": write failed"
-line_of program stop.Memory = program ++ codes ": out of memory"
-line_of program (stop.Changed pass) = program ++ codes ": input changed in pass " ++ decimal pass
+abbrev pub ending_line : (program : List ℕ) → Stop → List ℕ
+ending_line program (stop.Refused f) = refused_text program f.offset (reason_text f.reason)
+ending_line program stop.Read = program ++ codes ": read failed"
+ending_line program stop.Write = program ++ codes ": write failed"
+ending_line program stop.Memory = program ++ codes ": out of memory"
+ending_line program (stop.Changed pass) = program ++ codes ": input changed in pass " ++ decimal pass
 
 -- ---- a refusal of a published file
 
@@ -104,7 +104,7 @@ message_of program (ending.Box f) = program ++ codes ": box: " ++ box_fault_name
 message_of program ending.CannotOpen = program ++ codes ": cannot open\n"
 message_of program ending.IsPipe = program ++ codes ": IN must be a file, not a pipe\n"
 message_of program ending.OutExists = program ++ codes ": OUT exists\n"
-message_of program (ending.Stopped s) = line_of program s ++ codes "\n"
+message_of program (ending.Stopped s) = ending_line program s ++ codes "\n"
 message_of program (ending.RefusedPacked r) = packed_text program r ++ codes "\n"
 
 -- ---- the programs

@@ -91,8 +91,8 @@ program_app = with_subcommand (with_subcommand (with_subcommand writers_app chec
 -- ---- what the words mean
 
 -- the value of an argument, empty if it has none
-abbrev pub value_of : Text → List Row → Text
-value_of id rows = unwrap_or (first_of id rows) []
+abbrev pub argument_value : Text → List Row → Text
+argument_value id rows = unwrap_or (first_of id rows) []
 
 abbrev pub ReadsFlag : Bool → Text → List Row → Type 0
 ReadsFlag flag id rows = (one_of id rows ≡ None → flag ≡ false)
@@ -101,19 +101,19 @@ ReadsFlag flag id rows = (one_of id rows ≡ None → flag ≡ false)
 
 -- the command has this name, and its values are those of the rows
 abbrev pub ReadsAs : Text → List Row → Command → Type 0
-ReadsAs name rows (Blobs input) = (name ≡ codes "blobs") × (input.now ≡ value_of (codes "IN") rows)
+ReadsAs name rows (Blobs input) = (name ≡ codes "blobs") × (input.now ≡ argument_value (codes "IN") rows)
 ReadsAs name rows (Show input dates progress) = (name ≡ codes "show")
-    × (input.now ≡ value_of (codes "IN") rows) × ReadsFlag dates (codes "dates") rows
+    × (input.now ≡ argument_value (codes "IN") rows) × ReadsFlag dates (codes "dates") rows
     × ReadsFlag progress (codes "progress") rows
 ReadsAs name rows (Check input progress digests) = (name ≡ codes "check")
-    × (input.now ≡ value_of (codes "IN") rows) × ReadsFlag progress (codes "progress") rows
+    × (input.now ≡ argument_value (codes "IN") rows) × ReadsFlag progress (codes "progress") rows
     × ReadsFlag digests (codes "digests") rows
 ReadsAs name rows (Convert input output progress digests) = (name ≡ codes "convert")
-    × (input.now ≡ value_of (codes "IN") rows) × (output.now ≡ value_of (codes "OUT") rows)
+    × (input.now ≡ argument_value (codes "IN") rows) × (output.now ≡ argument_value (codes "OUT") rows)
     × ReadsFlag progress (codes "progress") rows × ReadsFlag digests (codes "digests") rows
 ReadsAs name rows (Extract area parents input output progress digests) = (name ≡ codes "extract")
-    × (box_of_text (value_of (codes "box") rows) ≡ Ok area) × ReadsFlag parents (codes "parents") rows
-    × (input.now ≡ value_of (codes "IN") rows) × (output.now ≡ value_of (codes "OUT") rows)
+    × (box_of_text (argument_value (codes "box") rows) ≡ Ok area) × ReadsFlag parents (codes "parents") rows
+    × (input.now ≡ argument_value (codes "IN") rows) × (output.now ≡ argument_value (codes "OUT") rows)
     × ReadsFlag progress (codes "progress") rows × ReadsFlag digests (codes "digests") rows
 ReadsAs name rows (Help text) = ⊥
 
@@ -125,7 +125,7 @@ IsRead (Some p) c = ReadsAs p.0 p.1 c
 abbrev pub HasBoxFault : Option (Text × List Row) → BoxFault → Type 0
 HasBoxFault None fault = ⊥
 HasBoxFault (Some p) fault =
-    (p.0 ≡ codes "extract") × (box_of_text (value_of (codes "box") p.1) ≡ Err fault)
+    (p.0 ≡ codes "extract") × (box_of_text (argument_value (codes "box") p.1) ≡ Err fault)
 
 -- the name is that of a command
 abbrev pub IsOffered : Option (Text × List Row) → Type 0
@@ -155,9 +155,9 @@ FitsFault stop (Box fault) = HasBoxFault stop fault
 FitsFault stop _ = Unit {0}
 
 -- the texts of the words
-abbrev pub texts : List (Bor Text) → List Text
-texts = map (λ w. w.now)
+abbrev pub word_texts : List (Bor Text) → List Text
+word_texts = map (λ w. w.now)
 
 -- the subcommand that the words name, with its matches, as `clap` defines them
-abbrev pub words_of : List (Bor Text) → Option (Text × List Row)
-words_of words = subcommand_of program_app (texts words)
+abbrev pub command_words : List (Bor Text) → Option (Text × List Row)
+command_words words = subcommand_of program_app (word_texts words)

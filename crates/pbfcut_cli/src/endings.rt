@@ -3,7 +3,7 @@
 ghost use Rattle.std.specs.Prelude.{◌≡◌, ◌++◌, IfOk, codes, string_bytes};
 ghost use Rattle.pbf_frame.specs.declared.stop.Stop.TheVariants as stop;
 ghost use Rattle.pbfcut_cli.specs.declared.endings.Ending.TheVariants as ending;
-ghost use Rattle.pbfcut_cli.specs.Endings.{box_fault_name, ending_of, ending_status, field_text, line_of, message_of, not_text, plain_text, program_name, reason_text, refused_text, status_of};
+ghost use Rattle.pbfcut_cli.specs.Endings.{box_fault_name, ending_of, ending_status, field_text, ending_line, message_of, not_text, plain_text, program_name, reason_text, refused_text, status_of};
 
 use crate::packed::{PackedRefusal, packed_line};
 use crate::programs::Program;
@@ -73,7 +73,7 @@ fn refused_line(
 
 /// The line of a stop of this program, without its end.
 fn line_by(alloc: Global, program: &str, stop: &Stop) -> Result<String, AllocError>
-    ensures { IfOk result (λ text. string_bytes text ≡ line_of program.now stop.now) }
+    ensures { IfOk result (λ text. string_bytes text ≡ ending_line program.now stop.now) }
 {
     match stop {
         Stop::Refused(fault) => {
@@ -93,7 +93,7 @@ fn line_by(alloc: Global, program: &str, stop: &Stop) -> Result<String, AllocErr
 ///
 /// If a request for memory was refused.
 pub fn line(alloc: Global, stop: &Stop) -> Result<String, AllocError>
-    ensures { IfOk result (λ text. string_bytes text ≡ line_of (codes "pbfcut") stop.now) }
+    ensures { IfOk result (λ text. string_bytes text ≡ ending_line (codes "pbfcut") stop.now) }
 {
     line_by(alloc, "pbfcut", stop)
 }

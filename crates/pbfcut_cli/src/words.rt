@@ -11,10 +11,10 @@ ghost use Rattle.pbfcut_cli.specs.Words.{
   IsRead,
   IsTaken,
   ReadsFlag,
+  argument_value,
+  command_words,
   program_app,
-  texts,
-  value_of,
-  words_of,
+  word_texts,
 };
 ghost use Rattle.pbfcut_cli.specs.declared.words.CliFault.TheVariants as fault;
 
@@ -86,7 +86,7 @@ impl From<AllocError> for CliFault {
 
 /// The value of an argument, or the empty text if it has none.
 fn value<'a>(matches: &ArgMatches<'a>, id: &str) -> &'a str
-    ensures { result.now ≡ value_of id.now (rows_of (found_of matches.now)) }
+    ensures { result.now ≡ argument_value id.now (rows_of (found_of matches.now)) }
 {
     matches.get_str(id).unwrap_or("")
 }
@@ -204,11 +204,11 @@ pub fn read_words<'a>(
     words: &'a [&'a str],
 ) -> Result<Command<'a>, CliFault>
     // A command is help, or what `clap` reads in the words.
-    ensures read { IfOk result (λ c. IsHelp c ⊎ IsRead (words_of words.now) c) }
+    ensures read { IfOk result (λ c. IsHelp c ⊎ IsRead (command_words words.now) c) }
     // The fault of a box comes only for a box that has it.
-    ensures fault { IfErr result (FitsFault (words_of words.now)) }
+    ensures fault { IfErr result (FitsFault (command_words words.now)) }
     // Words that `clap` takes give a command that is not help, or a fault other than `Line`.
-    ensures taken { takes program_app (texts words.now) ≡ true → IsTaken result }
+    ensures taken { takes program_app (word_texts words.now) ≡ true → IsTaken result }
 {
     let command_line = command_line(alloc, program.help())?;
     match command_line.try_get_matches_from(words) {

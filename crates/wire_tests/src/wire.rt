@@ -293,7 +293,7 @@ fn has_small_sums(alloc: Global, column: &[u8]) -> Result<bool, AllocError> {
         at: 0,
     };
     let sums = Sums::new(message.column(8), 1 << 62);
-    Ok(sums.count_small().is_some() && judge_sums(message, 8, 1 << 62, false).is_none())
+    Ok(sums.count_if_small().is_some() && judge_sums(message, 8, 1 << 62, false).is_none())
 }
 
 /// Whether the quick tests say yes to short numbers.
@@ -425,12 +425,12 @@ fn values_counted_without_decoding(rt: HostRuntime) {
     let first = begun.next();
     let long = Column::new(&[0x08, 0x80, 0x80, 0x80, 0x80, 0x80, 0x01], 0, 1);
     assert!(rt;
-        Sums::new(ids, 1 << 62).count_small() == Some(3)
+        Sums::new(ids, 1 << 62).count_if_small() == Some(3)
             && first == Some(10)
-            && begun.count_small().is_none()
-            && Sums::new(ids, 11).count_small().is_none()
-            && Sums::narrow(ids, 1 << 62).count_small().is_none()
-            && Sums::new(long, 1 << 62).count_small().is_none()
+            && begun.count_if_small().is_none()
+            && Sums::new(ids, 11).count_if_small().is_none()
+            && Sums::narrow(ids, 1 << 62).count_if_small().is_none()
+            && Sums::new(long, 1 << 62).count_if_small().is_none()
     );
 }
 

@@ -5,20 +5,20 @@ use Rattle.pbf_wire.specs.Least.{least}
 use Rattle.pbf_wire.specs.Faults.{fields_in}
 use Rattle.pbf_wire.proofs.SoundLemmas.{no_least}
 use Rattle.pbf_block.specs.Group.{in_group, member_weights}
-use Rattle.pbf_block.specs.PrimitiveBlock.{payload_weights, value_faults, by_index}
+use Rattle.pbf_block.specs.PrimitiveBlock.{payload_weights, value_faults, indexed}
 use Rattle.osm_entity.specs.declared.scale.Scale.{Scale}
-use Rattle.pbf_block.specs.Scale.{scale_of, table_of}
+use Rattle.pbf_block.specs.Scale.{scale_of, stored_texts}
 use Rattle.pbf_block.proofs.ByIndexLemmas.{weights_same}
 use Rattle.pbf_block.proofs.MemberLemmas.{payload_clean}
 use Rattle.pbf_block.proofs.block.late_fault.Goals as goal
 
-module _ (table : List (List ℕ)) (at : ℕ) (m : List ℕ) (texts : table ≡ table_of (fields_in at m)) where
-  values_are : value_faults (length table) at m ≡ value_faults (length (table_of (fields_in at m))) at m
+module _ (table : List (List ℕ)) (at : ℕ) (m : List ℕ) (texts : table ≡ stored_texts (fields_in at m)) where
+  values_are : value_faults (length table) at m ≡ value_faults (length (stored_texts (fields_in at m))) at m
   values_are = ap (λ (t : List (List ℕ)). value_faults (length t) at m) texts
 
-  weights_are : (scale : Scale) → scale ≡ scale_of (fields_in at m) → flat_map (in_group (member_weights by_index table scale)) (fields_in at m) ≡ payload_weights at m
+  weights_are : (scale : Scale) → scale ≡ scale_of (fields_in at m) → flat_map (in_group (member_weights indexed table scale)) (fields_in at m) ≡ payload_weights at m
   unfolding payload_weights
-  weights_are scale scaled = ap₂ (λ (t : List (List ℕ)) (s : Scale). flat_map (in_group (member_weights by_index t s)) (fields_in at m)) texts scaled
+  weights_are scale scaled = ap₂ (λ (t : List (List ℕ)) (s : Scale). flat_map (in_group (member_weights indexed t s)) (fields_in at m)) texts scaled
 
 pub returns-in-Some : goal.returns-in-Some
 returns-in-Some c =

@@ -10,7 +10,7 @@ use Rattle.osm_entity.specs.Views.{entity_of}
 use Rattle.pbf_dense.specs.Cursors.{dense_left}
 use Rattle.pbf_dense.specs.Judged.{dense_weights}
 use Rattle.pbf_block.specs.Group.{weight_fault}
-use Rattle.pbf_block.specs.PrimitiveBlock.{along}
+use Rattle.pbf_block.specs.PrimitiveBlock.{streaming}
 use Rattle.pbf_block.specs.Runs.{way_from, run_entities}
 use Rattle.pbf_block.proofs.KindLemmas.{member_of_all}
 use Rattle.pbf_block.proofs.group.judge_members.Goals as goal
@@ -18,19 +18,19 @@ use Rattle.pbf_block.proofs.group.judge_members.Goals as goal
 pub returns-in-Nothing : goal.returns-in-Nothing
 returns-in-Nothing c =
     let o = occurrence c.args.field in
-    let held = ap run_entities (sym c.in-Nothing.is) ∙ c.run_in.ensures ∙ member_of_all c.all.result along c.args.table.now c.args.scale c.all.ensures o in
+    let held = ap run_entities (sym c.in-Nothing.is) ∙ c.run_in.ensures ∙ member_of_all c.all.result streaming c.args.table.now c.args.scale c.all.ensures o in
     ap (λ (es : List EntitySpec). least (flat_map (weight_fault o.place) es)) held
 
 pub returns-in-One : goal.returns-in-One
 returns-in-One c =
     let o = occurrence c.args.field in
-    let held = ap run_entities (sym c.in-One.is) ∙ c.run_in.ensures ∙ member_of_all c.all.result along c.args.table.now c.args.scale c.all.ensures o in
+    let held = ap run_entities (sym c.in-One.is) ∙ c.run_in.ensures ∙ member_of_all c.all.result streaming c.args.table.now c.args.scale c.all.ensures o in
     c.judge_weight.ensures ∙ ap (λ (faults : List Fault). least faults) (sym (append-nil (weight_fault o.place (entity_of c.in-One.entity)))) ∙ ap (λ (es : List EntitySpec). least (flat_map (weight_fault o.place) es)) held
 
 pub returns-in-Way : goal.returns-in-Way
 returns-in-Way c =
     let o = occurrence c.args.field in
-    let held = ap run_entities (sym c.in-Way.is) ∙ c.run_in.ensures ∙ member_of_all c.all.result along c.args.table.now c.args.scale c.all.ensures o in
+    let held = ap run_entities (sym c.in-Way.is) ∙ c.run_in.ensures ∙ member_of_all c.all.result streaming c.args.table.now c.args.scale c.all.ensures o in
     c.judge_weight-in-Way.ensures
     ∙ ap (λ (w : WaySpec). least (weight_fault o.place (way w))) c.make.ensures
     ∙ ap (λ (faults : List Fault). least faults) (sym (append-nil (weight_fault o.place (way (way_from c.in-Way.way)))))
@@ -40,6 +40,6 @@ pub returns-in-Dense : goal.returns-in-Dense
 unfolding dense_weights
 returns-in-Dense c =
     let o = occurrence c.args.field in
-    let held = ap run_entities (sym c.in-Dense.is) ∙ c.run_in.ensures ∙ member_of_all c.all.result along c.args.table.now c.args.scale c.all.ensures o in
+    let held = ap run_entities (sym c.in-Dense.is) ∙ c.run_in.ensures ∙ member_of_all c.all.result streaming c.args.table.now c.args.scale c.all.ensures o in
     c.judge_nodes.ensures ∙ ap (λ (faults : List Fault). least faults) (sym (flat_map-map (weight_fault o.place) node (dense_left c.in-Dense.dense)))
     ∙ ap (λ (es : List EntitySpec). least (flat_map (weight_fault o.place) es)) held

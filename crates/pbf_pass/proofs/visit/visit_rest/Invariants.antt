@@ -1,6 +1,6 @@
 use Rattle.std.proofs.Common.{◌≡◌, ◌≤◌, ◌-◌, ◌^◌, List, length}
 use Rattle.pbf_frame.specs.Frames.{FrameSpec}
-use Rattle.pbf_frame.specs.Verdict.{Gone}
+use Rattle.pbf_frame.specs.Verdict.{VerdictAfter}
 use Rattle.pbf_frame.specs.Next.{verdict, place_of, IsReading}
 use Rattle.pbf_pass.specs.Visit.{Visited}
 use Rattle.pbf_pass.proofs.ReadingLemmas.{HasPassed}
@@ -12,7 +12,7 @@ invariant-frames g l =
     let remaining = g.F.Feed.remaining in
     let first = l.initial.reader in
     record {
-      done : (frames : List FrameSpec) × Gone (verdict remaining first) frames (verdict remaining l.reader) × Visited g.V.Visit.took l.initial.visitor frames l.visitor × HasPassed g.F.Feed first frames l.reader × (l.count ≡ length frames);
+      done : (frames : List FrameSpec) × VerdictAfter (verdict remaining first) frames (verdict remaining l.reader) × Visited g.V.Visit.took l.initial.visitor frames l.visitor × HasPassed g.F.Feed first frames l.reader × (l.count ≡ length frames);
       few : l.count ≤ place_of l.reader;
       limited : place_of l.reader ≤ 2 ^ 62;
       reading : IsReading l.reader;

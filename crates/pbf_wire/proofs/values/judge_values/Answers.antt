@@ -2,7 +2,7 @@ use Rattle.std.proofs.Common.{refl, ◌∙◌, sym, ap, arith, length}
 use Rattle.pbf_wire.specs.Least.{least}
 use Rattle.pbf_wire.specs.Columns.{joined}
 use Rattle.pbf_wire.specs.Occurrence.{found}
-use Rattle.pbf_wire.specs.Cursors.{fields_left, column_left, place_of}
+use Rattle.pbf_wire.specs.Cursors.{fields_left, column_left, place_of_number}
 use Rattle.pbf_wire.specs.Faults.{is_allowed}
 use Rattle.pbf_wire.proofs.RisingLemmas.{left_rises, not_good, running, running_is, rises, zero_keeps}
 use Rattle.pbf_wire.proofs.values.judge_values.Goals as goal
@@ -20,7 +20,7 @@ returns-then-not-add_entry c =
     let left = c.in-Some.ensures.placed in
     let good = is_allowed c.args.signed c.args.limit in
     rw c.place.ensures (
-    sym (not_good good c.args.reason c.args.narrow so_far.sum.total c.in-Some.entry (place_of c.next.new.self) (column_left c.next.new.self)
+    sym (not_good good c.args.reason c.args.narrow so_far.sum.total c.in-Some.entry (place_of_number c.next.new.self) (column_left c.next.new.self)
     (rw left at so_far.invariant.rising)
     (sym c.add_entry.ensures.good ∙ c.if-not-add_entry.true))
     ∙ ap (λ w. least (running good c.args.reason c.args.narrow so_far.sum.total w)) (sym left) ∙ so_far.invariant.faults)
@@ -30,7 +30,7 @@ zeros-preserved c =
     let good = is_allowed c.args.signed c.args.limit in
     let so_far = c.zeros.invariant in
     let total = c.add_entry.new.sum.total in
-    let place = place_of c.pass_zero.new.self in
+    let place = place_of_number c.pass_zero.new.self in
     let rest = column_left c.pass_zero.new.self in
     let left = c.zeros-test.ensures.passed refl in
     record {

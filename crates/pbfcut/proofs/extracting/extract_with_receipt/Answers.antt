@@ -10,7 +10,7 @@ use Rattle.pbfcut.proofs.ExtractingLemmas.{chosen_sound, edges_typed, selects_ch
 use Rattle.pbf_pass.proofs.GivenLemmas.{tells_file, told_digest, told_says}
 use Rattle.pbfcut.proofs.KeptLaw.{complete_ways_select}
 use Rattle.pbf_pass.proofs.HaltingLemmas.{halts_first}
-use Rattle.pbfcut.specs.declared.repeat.Repeat.{Repeat}
+use Rattle.pbfcut.specs.declared.repeat.LaterPass.{LaterPass}
 use Rattle.pbf_pass.specs.Refused.{stop_of}
 use Rattle.pbfcut.proofs.ChangedLemmas.{no_refusal, changed_before, changed_later}
 use Rattle.pbf_frame.proofs.Passed.{added_none}
@@ -19,12 +19,12 @@ use Rattle.pbfcut.proofs.extracting.extract_with_receipt.Goals as goal
 pub returns-in_err-choice-clause-refused : goal.returns-in_err-choice-clause-refused
 returns-in_err-choice-clause-refused g c =
     let p = err_from_is_err_and c.from_residual.result c.from_residual.ensures.1 in
-    rw (p.1, p.2) (halts_first g.F.Feed _ _ _ g.D.Drain _ _ _ c.in_err-choice.ensures.refused)
+    rw (p.1, p.2) (halts_first g.F.Feed _ _ _ g.D.Drain _ _ _ c.in_err-choice.ensures.halts.refused)
 
 pub returns-in_err-counts-clause-refused : goal.returns-in_err-counts-clause-refused
 returns-in_err-counts-clause-refused g c =
     let p = err_from_is_err_and c.from_residual-in_err-counts.result c.from_residual-in_err-counts.ensures.1 in
-    rw (p.1, p.2) (no_refusal g.H.Feed (record { number = 3; digest = c.in_ok-choice.choice.digest; hashes = true }) _ _ _ _ c.in_err-counts.ensures.stops)
+    rw (p.1, p.2) (no_refusal g.H.Feed (record { number = 3; digest = c.in_ok-choice.choice.digest; passes = record { alloc = c.args.alloc; hashes = true } }) _ _ _ _ c.in_err-counts.ensures.stops)
 
 pub returns-in_err-counts-clause-stops : goal.returns-in_err-counts-clause-stops
 returns-in_err-counts-clause-stops g c =
@@ -38,19 +38,19 @@ returns-in_err-counts-clause-stops g c =
     let new = g.D.Drain.taken c.write.new.drain in
     let read = ReadFailed g.F.Feed c.args.first.now c.choose.new.first ⊎ (ReadFailed g.G.Feed c.args.second.now c.choose.new.second ⊎ ReadFailed g.H.Feed c.args.third.now c.write.new.feed) in
     let wrote = WriteFailed g.D.Drain c.args.drain.now c.write.new.drain in
-    rw (p.1, p.2) (extract_stops g.H.Feed c.args.third.now c.write.new.feed first choice.chosen.frames (told_says g.F.Feed _ _ _ _ _ one choice.chosen.judged) true c.in_ok-choice.choice.digest old new read wrote _ (told_digest g.F.Feed _ _ _ _ one) (λ r. inr (inr r)) second c.in_err-counts.ensures.stops)
+    rw (p.1, p.2) (extract_stops g.H.Feed c.args.third.now c.write.new.feed first choice.chosen.frames (told_says g.F.Feed _ _ _ _ _ one choice.chosen.judged) (record { alloc = c.args.alloc; hashes = true }) c.in_ok-choice.choice.digest old new read wrote _ (told_digest g.F.Feed _ _ _ _ one) (λ r. inr (inr r)) second c.in_err-counts.ensures.stops)
 
 pub returns-in_err-choice-clause-changed : goal.returns-in_err-choice-clause-changed
 returns-in_err-choice-clause-changed g c =
     let p = err_from_is_err_and c.from_residual.result c.from_residual.ensures.1 in
-    rw (p.1, p.2) (changed_before _ _ (stop_of c.in_err-choice.field-0.0) (λ pass is. inl (is, added_none g.D.Drain c.args.drain.now)) c.in_err-choice.ensures.changed)
+    rw (p.1, p.2) (changed_before _ _ (stop_of c.in_err-choice.field-0.0) (λ pass is. inl (is, added_none g.D.Drain c.args.drain.now)) c.in_err-choice.ensures.halts.changed)
 
 pub returns-in_err-counts-clause-changed : goal.returns-in_err-counts-clause-changed
 returns-in_err-counts-clause-changed g c =
     let p = err_from_is_err_and c.from_residual-in_err-counts.result c.from_residual-in_err-counts.ensures.1 in
     let one = c.in_ok-choice.ensures.chosen in
     let choice = one.holding.holding.chosen in
-    let last : Repeat = record { number = 3; digest = c.in_ok-choice.choice.digest; hashes = true } in
+    let last : LaterPass = record { number = 3; digest = c.in_ok-choice.choice.digest; passes = record { alloc = c.args.alloc; hashes = true } } in
     rw (p.1, p.2) (changed_later g.F.Feed _ _ g.H.Feed _ _ last _ _ _ _ c.in_err-counts.field-0.0 one choice.frames choice.judged refl (λ pass is. inr is) c.in_err-counts.ensures.stops)
 
 pub returns-in_err-counts-clause-beginning : goal.returns-in_err-counts-clause-beginning

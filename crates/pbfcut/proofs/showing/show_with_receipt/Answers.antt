@@ -4,7 +4,7 @@ use Rattle.pbf_pass.specs.Judged.{judged_file}
 use Rattle.pbfcut.specs.Showing.{ShowsFront}
 use Rattle.pbf_pass.proofs.GivenLemmas.{tells_file}
 use Rattle.pbfcut.proofs.ShowingLemmas.{shown_front, shown_told}
-use Rattle.pbfcut.specs.declared.repeat.Repeat.{Repeat}
+use Rattle.pbfcut.specs.declared.repeat.LaterPass.{LaterPass}
 use Rattle.pbf_pass.specs.Refused.{stop_of}
 use Rattle.pbfcut.specs.Repeat.{as_change}
 use Rattle.pbfcut.proofs.ChangedLemmas.{never_changed, changed_later, digest_as_change, fault_as_change}
@@ -18,22 +18,22 @@ returns-in_err-compare-in-Ok-clause-beginning g c =
     rw p.1 (λ alike. subst (λ (o : Option (List ℕ)). ShowsFront c.args.dates (judged_file o) (g.D.Drain.taken c.args.drain.now) (g.D.Drain.taken c.write_text.new.drain)) (sym alike)
     (shown_front c.args.dates _ _ _ took.written (shown_told c.args.dates _ given.file took.written (tells_file g.G.Feed _ _ _ _ given) took.holding) took.added.told))
 
-pub returns-in_err-told-clause-changed : goal.returns-in_err-told-clause-changed
-returns-in_err-told-clause-changed g c =
+pub returns-in_err-judged-clause-changed : goal.returns-in_err-judged-clause-changed
+returns-in_err-judged-clause-changed g c =
     let p = err_from_is_err_and c.from_residual.result c.from_residual.ensures.1 in
-    rw (p.1, p.2) (never_changed _ _ _ _ (stop_of c.in_err-told.field-0.0) c.in_err-told.ensures.stops)
+    rw (p.1, p.2) (never_changed _ _ _ _ (stop_of c.in_err-judged.field-0.0) c.in_err-judged.ensures.stops)
 
 pub returns-in_err-compare-in-Ok-clause-changed : goal.returns-in_err-compare-in-Ok-clause-changed
 returns-in_err-compare-in-Ok-clause-changed g c =
     let p = err_from_is_err_and c.from_residual-in_err-compare-in-Ok.result c.from_residual-in_err-compare-in-Ok.ensures.1 in
-    let one = c.in_ok-told.ensures.judged in
-    let last : Repeat = record { number = 2; digest = c.in_ok-told.told.digest; hashes = c.args.passes.hashes } in
+    let one = c.in_ok-judged.ensures.judged in
+    let last : LaterPass = record { number = 2; digest = c.in_ok-judged.judged.digest; passes = c.args.passes } in
     let stops = digest_as_change g.G.Feed last c.args.second.now c.write_text.new.feed ⊥ c.args.passes.hashes c.in-Ok.digest _ _ refl c.in-Ok.ensures.shown c.in_err-compare-in-Ok.ensures.other in
     rw (p.1, p.2) (changed_later g.F.Feed _ _ g.G.Feed _ _ last _ _ _ _ c.in_err-compare-in-Ok.field-0.0 one one.holding.1.frames one.holding.1.says refl (λ pass is. is) stops)
 
 pub returns-clause-changed : goal.returns-clause-changed
 returns-clause-changed g c =
-    let one = c.in_ok-told.ensures.judged in
-    let last : Repeat = record { number = 2; digest = c.in_ok-told.told.digest; hashes = c.args.passes.hashes } in
+    let one = c.in_ok-judged.ensures.judged in
+    let last : LaterPass = record { number = 2; digest = c.in_ok-judged.judged.digest; passes = c.args.passes } in
     let stops = fault_as_change g.G.Feed last c.args.second.now c.write_text.new.feed _ _ c.in-Err.stop c.in-Err.ensures.stops c.in-Err.ensures.faulty in
     rw (c.from.ensures, c.changed.ensures) (changed_later g.F.Feed _ _ g.G.Feed _ _ last _ _ _ _ (as_change 2 c.in-Err.stop) one one.holding.1.frames one.holding.1.says refl (λ pass is. is) stops)

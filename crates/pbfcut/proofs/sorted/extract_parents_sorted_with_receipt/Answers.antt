@@ -14,7 +14,7 @@ use Rattle.pbf_frame.specs.Verdict.{Says}
 use Rattle.pbf_pass.proofs.GivenLemmas.{tells_file, told_digest, told_says}
 use Rattle.pbfcut.proofs.KeptLaw.{all_parents_select}
 use Rattle.pbf_pass.proofs.HaltingLemmas.{halts_first}
-use Rattle.pbfcut.specs.declared.repeat.Repeat.{Repeat}
+use Rattle.pbfcut.specs.declared.repeat.LaterPass.{LaterPass}
 use Rattle.pbf_pass.specs.Refused.{stop_of}
 use Rattle.pbfcut.proofs.ChangedLemmas.{no_refusal, changed_before, changed_later}
 use Rattle.pbf_frame.proofs.Passed.{added_none}
@@ -23,7 +23,7 @@ use Rattle.pbfcut.proofs.sorted.extract_parents_sorted_with_receipt.Goals as goa
 pub returns-in_err-choice-clause-refused : goal.returns-in_err-choice-clause-refused
 returns-in_err-choice-clause-refused g c =
     let p = err_from_is_err_and c.from_residual.result c.from_residual.ensures.1 in
-    rw (p.1, p.2) (halts_first g.F.Feed _ _ _ g.D.Drain _ _ _ c.in_err-choice.ensures.refused)
+    rw (p.1, p.2) (halts_first g.F.Feed _ _ _ g.D.Drain _ _ _ c.in_err-choice.ensures.halts.refused)
 
 pub returns-in_err-counts-clause-refused : goal.returns-in_err-counts-clause-refused
 returns-in_err-counts-clause-refused g c =
@@ -44,12 +44,12 @@ returns-in_err-counts-clause-stops g c =
     let earlier = ReadFailed g.F.Feed c.args.first.now c.choose_parents_sorted.new.first ⊎ (ReadFailed g.G.Feed c.args.second.now c.choose_parents_sorted.new.second ⊎ ReadFailed g.H.Feed c.args.third.now c.choose_parents_sorted.new.third) in
     let read = earlier ⊎ ReadFailed g.I.Feed c.args.fourth.now c.write.new.feed in
     let wrote = WriteFailed g.D.Drain c.args.drain.now c.write.new.drain in
-    rw (p.1, p.2) (parents_stops g.I.Feed c.args.fourth.now c.write.new.feed first said.0 (told_says g.F.Feed _ _ _ _ _ one said.1) c.args.passes.hashes c.in_ok-choice.choice.digest old new read wrote _ (told_digest g.F.Feed _ _ _ _ one) (λ r. inr r) second third c.in_err-counts.ensures.stops)
+    rw (p.1, p.2) (parents_stops g.I.Feed c.args.fourth.now c.write.new.feed first said.0 (told_says g.F.Feed _ _ _ _ _ one said.1) c.args.passes c.in_ok-choice.choice.digest old new read wrote _ (told_digest g.F.Feed _ _ _ _ one) (λ r. inr r) second third c.in_err-counts.ensures.stops)
 
 pub returns-in_err-choice-clause-changed : goal.returns-in_err-choice-clause-changed
 returns-in_err-choice-clause-changed g c =
     let p = err_from_is_err_and c.from_residual.result c.from_residual.ensures.1 in
-    rw (p.1, p.2) (changed_before _ _ (stop_of c.in_err-choice.field-0.0) (λ pass is. inl (is, added_none g.D.Drain c.args.drain.now)) c.in_err-choice.ensures.changed)
+    rw (p.1, p.2) (changed_before _ _ (stop_of c.in_err-choice.field-0.0) (λ pass is. inl (is, added_none g.D.Drain c.args.drain.now)) c.in_err-choice.ensures.halts.changed)
 
 pub returns-in_err-counts-clause-changed : goal.returns-in_err-counts-clause-changed
 returns-in_err-counts-clause-changed g c =
@@ -57,7 +57,7 @@ returns-in_err-counts-clause-changed g c =
     let one = c.in_ok-choice.ensures.chosen in
     let said : (frames : List FrameSpec) × Says (judged_file (Some one.file)) (frames, None) =
     gave_or_not g.G.Feed _ _ _ one.file _ _ (λ file three. (three.holding.chosen.chosen.frames, three.holding.chosen.chosen.judged)) one.holding in
-    let last : Repeat = record { number = 4; digest = c.in_ok-choice.choice.digest; hashes = c.args.passes.hashes } in
+    let last : LaterPass = record { number = 4; digest = c.in_ok-choice.choice.digest; passes = c.args.passes } in
     rw (p.1, p.2) (changed_later g.F.Feed _ _ g.I.Feed _ _ last _ _ _ _ c.in_err-counts.field-0.0 one said.0 said.1 refl (λ pass is. inr is) c.in_err-counts.ensures.stops)
 
 pub returns-in_err-counts-clause-beginning : goal.returns-in_err-counts-clause-beginning

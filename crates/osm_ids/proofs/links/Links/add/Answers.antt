@@ -3,7 +3,7 @@ use Rattle.std.specs.BTreeSet.{insert_key}
 use Rattle.std.specs.FinSet as set
 use Rattle.std.proofs.lemmas.Int.{to_z-of_z}
 use Rattle.osm_ids.specs.declared.links.Link.{Link}
-use Rattle.osm_ids.specs.Links.{link_cmp, is_among, ParentsFit}
+use Rattle.osm_ids.specs.Links.{link_cmp, is_link_among, ParentsFit}
 use Rattle.osm_ids.proofs.LinkOrder.{contains-links, links-insert_key, fit_more}
 use Rattle.osm_ids.proofs.links.Links.add.Goals as goal
 use Rattle.osm_ids.proofs.links.Links.add.Goals.{In_ok-insert}
@@ -22,7 +22,7 @@ returns-clause-new c =
     let keys = c.self.inside.links.keys in
     let new : Link = record { member = c.args.member; parent = c.args.parent } in
     c.in_ok-insert.ensures.added
-    ∙ ap (λ l. not (is_among keys l)) (link_is c)
+    ∙ ap (λ l. not (is_link_among keys l)) (link_is c)
     ∙ ap (λ (test : Link → Bool). not (test new)) (sym (contains-links keys))
     ∙ ap (λ s. not (set.contains s new)) c.self.view_is
 

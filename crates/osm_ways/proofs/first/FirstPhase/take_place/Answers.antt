@@ -3,7 +3,7 @@ use Rattle.std.specs.Int.{w128}
 use Rattle.std.specs.FinSet as set
 use Rattle.std.proofs.lemmas.Int.{to_z-of_z}
 use Rattle.osm_box.specs.BoundingBox.{is_inside}
-use Rattle.osm_ways.specs.Phases.{Ids, with_node}
+use Rattle.osm_ways.specs.Phases.{Ids, ids_with_node}
 use Rattle.osm_ways.specs.First.{FirstSets}
 use Rattle.osm_ways.proofs.FirstLemmas.{placed}
 use Rattle.osm_ways.proofs.first.FirstPhase.take_place.Goals as goal
@@ -16,7 +16,7 @@ returns-in_ok-add c =
     let same = c.self.view_is ∙ c.begin_node.ensures in
     let inside : is_inside now.area c.args.lat c.args.lon ≡ true =
     sym (c.contains.ensures ∙ ap₂ (λ y x. is_inside s.area y x) (to_z-of_z w128 c.args.lat c.ranges.lat) (to_z-of_z w128 c.args.lon c.ranges.lon) ∙ ap (λ (s : FirstSets). is_inside s.area c.args.lat c.args.lon) same) ∙ c.if-contains.true in
-    let added : c.add.new.self ≡ with_node now.ways.box_ids id (is_inside now.area c.args.lat c.args.lon) =
+    let added : c.add.new.self ≡ ids_with_node now.ways.box_ids id (is_inside now.area c.args.lat c.args.lon) =
     c.in_ok-add.ensures.ok ∙ ap₂ (λ (ids : Ids) z. set.insert ids z) (ap (λ (s : FirstSets). s.ways.box_ids) same) (to_z-of_z w64 id c.ranges.id) ∙ ap (λ b. cond b (set.insert now.ways.box_ids id) now.ways.box_ids) (sym inside) in
     placed now s.area s.has_ways s.in_order s.box_ids s.refs s.way_ids _ _ same c.self.invariant.0 added
 
@@ -28,7 +28,7 @@ returns-else-contains c =
     let same = c.self.view_is ∙ c.begin_node.ensures in
     let outside : is_inside now.area c.args.lat c.args.lon ≡ false =
     sym (c.contains.ensures ∙ ap₂ (λ y x. is_inside s.area y x) (to_z-of_z w128 c.args.lat c.ranges.lat) (to_z-of_z w128 c.args.lon c.ranges.lon) ∙ ap (λ (s : FirstSets). is_inside s.area c.args.lat c.args.lon) same) ∙ c.if-contains.false in
-    let kept : s.box_ids ≡ with_node now.ways.box_ids id (is_inside now.area c.args.lat c.args.lon) =
+    let kept : s.box_ids ≡ ids_with_node now.ways.box_ids id (is_inside now.area c.args.lat c.args.lon) =
     ap (λ (s : FirstSets). s.ways.box_ids) same ∙ ap (λ b. cond b (set.insert now.ways.box_ids id) now.ways.box_ids) (sym outside) in
     sym c.self.view_is ∙ placed now s.area s.has_ways s.in_order s.box_ids s.refs s.way_ids _ _ same c.self.invariant.0 kept
 

@@ -1,7 +1,7 @@
 use Rattle.std.proofs.Common.{List, ℕ, length, ap, sym, ◌∙◌, arith}
 use Rattle.std.specs.Result.{is_err}
 use Rattle.pbf_wire.specs.Reading.{occurrence_text}
-use Rattle.pbf_wire.specs.Wire.{judged}
+use Rattle.pbf_wire.specs.Wire.{ok_unless}
 use Rattle.pbf_strings.specs.Texts.{count_fault}
 use Rattle.pbf_block.proofs.PhaseLemmas.{no_fault}
 use Rattle.pbf_block.proofs.TableLemmas.{table_short, many_texts}
@@ -10,7 +10,7 @@ use Rattle.pbf_block.proofs.unjudged.UnjudgedBlock.open.Goals as goal
 pub returns-then-is_err-clause-faulty : goal.returns-then-is_err-clause-faulty
 returns-then-is_err-clause-faulty c = λ is sound.
     let bytes = c.bytes_in-texts.ensures ∙ ap occurrence_text c.last_field.ensures in
-    let counted = c.judge_count.ensures ∙ ap (λ (w : List ℕ). judged (count_fault c.args.at w)) bytes in
+    let counted = c.judge_count.ensures ∙ ap (λ (w : List ℕ). ok_unless (count_fault c.args.at w)) bytes in
     many_texts c.args.at c.args.at c.args.payload.now (ap is_err (sym counted) ∙ sym c.is_err.ensures.value ∙ c.if-is_err.true) (no_fault c.args.at c.args.payload.now sound).1
 
 pub open-requires-clause-short : goal.open-requires-clause-short

@@ -3,7 +3,7 @@ use Rattle.pbf_wire.specs.Occurrence.{found}
 use Rattle.pbf_wire.specs.Columns.{joined}
 use Rattle.pbf_wire.specs.Cursors.{fields_left, found_left}
 use Rattle.pbf_wire.proofs.ShortLemmas.{AllSmallPlaced}
-use Rattle.pbf_wire.proofs.short.count_small_left.Given as goal
+use Rattle.pbf_wire.proofs.short.count_left_if_small.Given as goal
 
 abbrev pub invariant-loop-field : goal.invariant-loop-field
 invariant-loop-field l = record {

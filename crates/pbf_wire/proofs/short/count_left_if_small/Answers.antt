@@ -3,7 +3,7 @@ use Rattle.pbf_wire.specs.Columns.{joined}
 use Rattle.pbf_wire.specs.Cursors.{found_left}
 use Rattle.pbf_wire.specs.Fields.{occurrence}
 use Rattle.pbf_wire.proofs.ShortLemmas.{AllSmallPlaced, column_more, count_more, left_short}
-use Rattle.pbf_wire.proofs.short.count_small_left.Goals as goal
+use Rattle.pbf_wire.proofs.short.count_left_if_small.Goals as goal
 
 pub loop-field-init : goal.loop-field-init
 loop-field-init c =

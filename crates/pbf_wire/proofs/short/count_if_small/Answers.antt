@@ -5,7 +5,7 @@ use Rattle.pbf_wire.specs.declared.field.Payload.{Payload}
 use Rattle.pbf_wire.specs.Payload.{content}
 use Rattle.pbf_wire.specs.Columns.{numbers_in}
 use Rattle.pbf_wire.proofs.ShortLemmas.{short_counted, short_below}
-use Rattle.pbf_wire.proofs.short.count_small.Goals as goal
+use Rattle.pbf_wire.proofs.short.count_if_small.Goals as goal
 
 pub returns-in-Bytes : goal.returns-in-Bytes
 returns-in-Bytes c =
