@@ -6,7 +6,7 @@ ghost use Rattle.pbf_wire.specs.declared.limits.TheConstants.{OFFSET_LIMIT};
 
 use crate::field::Payload;
 use crate::fields::{Fields, FoundFields};
-use crate::short::{MOST_BYTES, count_small_left};
+use crate::short::{MOST_BYTES, count_short, count_small_left};
 use crate::varint::{first_varint, short_varint};
 
 /// The first number of a packed column, and the bytes after it; `None` if the bytes don't begin with a varint.
@@ -73,12 +73,40 @@ impl<'a> Column<'a> {
         ensures left { column_left result ≡ joined number (found (fields_left fields.entry)) }
         ensures place { place_of result ≡ 0 }
     {
-        Column {
+        let column = Column {
             fields: fields.found(),
             number,
             packed: &[],
             packed_place: 0,
             place: 0,
+        };
+        column.begun()
+    }
+
+    /// The same column, of which no occurrence was begun: its first one is, if that is the next field and packed. Each copy of the
+    /// column goes on from there.
+    #[inline(always)]
+    #[tactic(auto, unfolding(crate::specs::Cursors::column_left))]
+    fn begun(self) -> Self
+        requires { read_entries (entries self.packed.now) ≡ [] }
+        ensures left { column_left result ≡ column_left self.entry }
+        ensures place { place_of result ≡ place_of self.entry }
+    {
+        let mut fields = self.fields;
+        let Some(field) = fields.next() else {
+            return self;
+        };
+        if field.number != self.number {
+            return self;
+        }
+        let Payload::Bytes(packed, _) = field.payload else {
+            return self;
+        };
+        Column {
+            fields,
+            packed,
+            packed_place: field.offset,
+            ..self
         }
     }
 
@@ -99,11 +127,12 @@ impl<'a> Column<'a> {
         ensures small { MatchOption result ⊤
             (λ _. AllByRecursion (λ x. x.0 < 2 ^ 35) (column_left self.now)) }
     {
-        // Of a packed occurrence that was begun the numbers that were given are no longer to come.
-        if !self.packed.is_empty() || self.fields.0.len() > MOST_BYTES {
+        if self.packed.len() > MOST_BYTES || self.fields.0.len() > MOST_BYTES {
             return None;
         }
-        count_small_left(self.fields.0, self.number)
+        let begun = count_short(self.packed)?;
+        let left = count_small_left(self.fields.0, self.number)?;
+        Some(begun + left)
     }
 
     /// The next number of the packed occurrence that was begun. If it has none nothing changes.
@@ -132,13 +161,12 @@ impl<'a> Column<'a> {
         Some(value)
     }
 
-    /// Skips the next number, if it is a 0 of one byte in the packed occurrence that was begun, as most of many columns are. Otherwise
-    /// nothing changes, and `false` says nothing of the number.
+    /// Like [`Column::pass_zero`]. The place is left as it is.
     #[inline(always)]
     #[tactic(auto, unfolding(crate::specs::Cursors::column_left))]
-    pub fn pass_zero(&mut self) -> bool
+    pub(crate) fn pass_short_zero(&mut self) -> bool
         ensures passed { IsTrue result
-            → column_left self.old ≡ (0, place_of self.new) ∷ column_left self.new }
+            → (column_left self.old ≡ (0, self.new.packed_place) ∷ column_left self.new) }
         ensures kept { result ≡ false → self.new ≡ self.old }
     {
         let [first, rest @ ..] = self.packed else {
@@ -148,6 +176,21 @@ impl<'a> Column<'a> {
             return false;
         }
         self.packed = rest;
+        true
+    }
+
+    /// Skips the next number, if it is a 0 of one byte in the packed occurrence that was begun, as most of many columns are. Otherwise
+    /// nothing changes, and `false` says nothing of the number.
+    #[inline(always)]
+    #[tactic(auto, unfolding(crate::specs::Cursors::column_left))]
+    pub fn pass_zero(&mut self) -> bool
+        ensures passed { IsTrue result
+            → column_left self.old ≡ (0, place_of self.new) ∷ column_left self.new }
+        ensures kept { result ≡ false → self.new ≡ self.old }
+    {
+        if !self.pass_short_zero() {
+            return false;
+        }
         self.place = self.packed_place;
         true
     }

@@ -142,7 +142,7 @@ impl<'a> Sums<'a> {
         ensures passed { IsTrue result → sums_left self.old ≡ self.new.total ∷ sums_left self.new }
         ensures kept { result ≡ false → sums_left self.new ≡ sums_left self.old }
     {
-        self.entries.pass_zero()
+        self.entries.pass_short_zero()
     }
 
     /// Skips the next value, if it is the last one again or its entry is short.

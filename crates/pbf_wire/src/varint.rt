@@ -151,6 +151,35 @@ pub fn shortest_spelling(value: u64) -> ([u8; 10], usize)
     (spelling, length + 1)
 }
 
+/// Like [`put_longer`], of a number that takes four bytes or more: most of them take four or five.
+#[inline(never)]
+fn put_longest(out: &mut Vec<u8>, value: u64) -> Result<(), AllocError>
+    requires { 2 ^ 21 ≤ value }
+    ensures ok { OnOk result (out.new.items ≡ out.old.items ++ shortest value) }
+    ensures err { OnErr result (out.new.items ≡ out.old.items) }
+{
+    if value < 1 << 28 {
+        out.extend_from_slice(&[
+            (value % 128 + 128) as u8,
+            (value / 128 % 128 + 128) as u8,
+            (value / 128 / 128 % 128 + 128) as u8,
+            (value / 128 / 128 / 128) as u8,
+        ])?;
+    } else if value < 1 << 35 {
+        out.extend_from_slice(&[
+            (value % 128 + 128) as u8,
+            (value / 128 % 128 + 128) as u8,
+            (value / 128 / 128 % 128 + 128) as u8,
+            (value / 128 / 128 / 128 % 128 + 128) as u8,
+            (value / 128 / 128 / 128 / 128) as u8,
+        ])?;
+    } else {
+        let (spelling, length) = shortest_spelling(value);
+        out.extend_from_slice(&spelling[..length])?;
+    }
+    Ok(())
+}
+
 /// Like [`put_varint`], of a number that takes two bytes or more: most of them take two or three, which are spelled at once.
 #[inline(never)]
 fn put_longer(out: &mut Vec<u8>, value: u64) -> Result<(), AllocError>
@@ -167,8 +196,7 @@ fn put_longer(out: &mut Vec<u8>, value: u64) -> Result<(), AllocError>
             (value / 128 / 128) as u8,
         ])?;
     } else {
-        let (spelling, length) = shortest_spelling(value);
-        out.extend_from_slice(&spelling[..length])?;
+        put_longest(out, value)?;
     }
     Ok(())
 }
