@@ -83,6 +83,21 @@ impl<'a> Column<'a> {
         column.begun()
     }
 
+    /// The column whose only occurrence is packed and has these bytes.
+    #[inline(always)]
+    #[tactic(auto, unfolding(crate::specs::Cursors::column_left))]
+    pub fn packed(bytes: &'a [u8]) -> Self
+        ensures { numbers_left result ≡ read_entries (entries bytes.now) }
+    {
+        Column {
+            fields: Fields::new(&[], 0).found(),
+            number: 0,
+            packed: bytes,
+            packed_place: 0,
+            place: 0,
+        }
+    }
+
     /// The same column, of which no occurrence was begun: its first one is, if that is the next field and packed. Each copy of the
     /// column goes on from there.
     #[inline(always)]
