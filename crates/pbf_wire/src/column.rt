@@ -1,6 +1,6 @@
 //! A column: the numbers of all occurrences of one field, packed or single, joined.
 
-ghost use Rattle.std.specs.Prelude.{◌≡◌, ◌<◌, ◌^◌, ◌∷◌, [], MatchOption, ⊤, IsTrue, false};
+ghost use Rattle.std.specs.Prelude.{◌≡◌, ◌<◌, ◌≤◌, ◌^◌, ◌∷◌, [], MatchOption, ⊤, IsTrue, false, length, take};
 ghost use Rattle.pbf_wire.specs.Columns.{entries, read_entries};
 ghost use Rattle.pbf_wire.specs.declared.limits.TheConstants.{OFFSET_LIMIT};
 
@@ -31,6 +31,19 @@ fn first_short(packed: &[u8]) -> Option<(u64, &[u8])>
     Some((value, &packed[length..]))
 }
 
+/// Whether the first eight bytes are there and are all 0.
+#[inline(always)]
+fn begins_with_zeros(bytes: &[u8]) -> bool
+    ensures zeros { IsTrue result
+        → take 8 bytes.now ≡ 0 ∷ 0 ∷ 0 ∷ 0 ∷ 0 ∷ 0 ∷ 0 ∷ 0 ∷ [] }
+    ensures there { IsTrue result → 8 ≤ length bytes.now }
+{
+    let Some(front) = bytes.first_chunk::<8>() else {
+        return false;
+    };
+    u64::from_le_bytes(*front) == 0
+}
+
 /// A cursor over a column: it returns the numbers of all occurrences of one field in order, and says where the occurrence
 /// of the last one is. It does not allocate, and a copy of it continues by itself.
 #[derive(Clone, Copy)]
@@ -44,7 +57,7 @@ pub struct Column<'a> {
 }
 
 impl<'a> Column<'a> {
-    ghost use Rattle.std.specs.Prelude.{◌+◌, ◌≤◌, length};
+    ghost use Rattle.std.specs.Prelude.{◌+◌};
     ghost use Rattle.std.specs.List.{AllByRecursion};
     ghost use Rattle.pbf_wire.specs.Occurrence.{items, found};
     ghost use Rattle.pbf_wire.specs.Columns.{joined};
@@ -207,6 +220,22 @@ impl<'a> Column<'a> {
             return false;
         }
         self.place = self.packed_place;
+        true
+    }
+
+    /// Skips the next eight numbers, if each is a 0 of one byte in the packed occurrence that was begun. Otherwise nothing changes. The
+    /// place is left as it is.
+    #[inline(always)]
+    #[tactic(auto, unfolding(crate::specs::Cursors::column_left))]
+    pub fn pass_zeros(&mut self) -> bool
+        ensures passed { IsTrue result → numbers_left self.old
+            ≡ 0 ∷ 0 ∷ 0 ∷ 0 ∷ 0 ∷ 0 ∷ 0 ∷ 0 ∷ numbers_left self.new }
+        ensures kept { result ≡ false → self.new ≡ self.old }
+    {
+        if !begins_with_zeros(self.packed) {
+            return false;
+        }
+        self.packed = &self.packed[8..];
         true
     }
 

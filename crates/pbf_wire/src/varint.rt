@@ -114,6 +114,9 @@ pub(crate) fn first_varint(bytes: &[u8]) -> Result<(u64, usize), Reason>
 ///
 /// Spellings that are longer than needed are read. The errors are `VarintCut`, if the bytes end inside the varint, and
 /// `VarintLong`, if ten bytes have the top bit set or the tenth is above 1, so that the number would not fit 64 bits.
+///
+/// It is inlined, so that a number of one to three bytes takes no call.
+#[inline(always)]
 pub fn get_varint(bytes: &[u8], at: usize) -> Result<(u64, usize), Reason>
     requires { at ≤ length bytes.now }
 
