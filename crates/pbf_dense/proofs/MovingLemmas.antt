@@ -1,5 +1,5 @@
 -- Columns that move together give what indices into whole columns give.
-use Rattle.std.proofs.Common.{◌≡◌, ◌<◌, ℕ, zero, suc, ℤ, List, [], ◌∷◌, drop, refl, ap, ◌∙◌, arith}
+use Rattle.std.proofs.Common.{◌≡◌, ◌-◌, ◌<◌, ◌≤◌, ℕ, zero, suc, ℤ, List, [], ◌∷◌, drop, refl, sym, ap, ◌∙◌, arith}
 use Rattle.osm_entity.specs.declared.scale.Scale.{Scale}
 use Rattle.pbf_dense.specs.Info.{InfoSpec, later, later_by}
 use Rattle.pbf_dense.specs.Runs.{after_run, after_runs}
@@ -26,7 +26,7 @@ later_one : (n : ℕ) (info : InfoSpec) → later_by (suc n) info ≡ later_by n
 later_one n info =
     simp drop_one
 
-run_first : (n : ℕ) (keys_vals : List ℕ) → after_runs (suc n) keys_vals ≡ after_runs n (after_run keys_vals)
+pub run_first : (n : ℕ) (keys_vals : List ℕ) → after_runs (suc n) keys_vals ≡ after_runs n (after_run keys_vals)
 run_first zero keys_vals = refl
 run_first (suc n) keys_vals = ap after_run (run_first n keys_vals)
 
@@ -41,6 +41,26 @@ moving_on table scale (suc n) (id ∷ ids) (lat ∷ lats) (lon ∷ lons) info ke
     ap (λ (i : InfoSpec). moving table scale (drop n ids) (drop n lats) (drop n lons) i (after_runs (suc n) keys_vals)) (later_one n info)
     ∙ (ap (λ (k : List ℕ). moving table scale (drop n ids) (drop n lats) (drop n lons) (later_by n (later info)) k) (run_first n keys_vals)
     ∙ moving_on table scale n ids lats lons (later info) (after_run keys_vals))
+
+-- one run less
+pub one_run : (left : ℕ) (keys_vals : List ℕ) → 0 < left → after_runs (left - 1) (after_run keys_vals) ≡ after_runs left keys_vals
+one_run zero keys_vals some = absurd (omega arith)
+one_run (suc n) keys_vals some =
+    let less : suc n - 1 ≡ n = omega arith in
+    ap (λ k. after_runs k (after_run keys_vals)) less ∙ sym (run_first n keys_vals)
+
+-- each of eight zeros ends a run
+two_runs : (n : ℕ) (rest : List ℕ) → after_runs (suc (suc n)) (0 ∷ 0 ∷ rest) ≡ after_runs n rest
+two_runs n rest = run_first (suc n) (0 ∷ 0 ∷ rest) ∙ run_first n (0 ∷ rest)
+
+four_runs : (n : ℕ) (rest : List ℕ) → after_runs (suc (suc (suc (suc n)))) (0 ∷ 0 ∷ 0 ∷ 0 ∷ rest) ≡ after_runs n rest
+four_runs n rest = two_runs (suc (suc n)) (0 ∷ 0 ∷ rest) ∙ two_runs n rest
+
+pub eight_runs : (left : ℕ) (keys_vals rest : List ℕ) → 8 ≤ left → keys_vals ≡ 0 ∷ 0 ∷ 0 ∷ 0 ∷ 0 ∷ 0 ∷ 0 ∷ 0 ∷ rest → after_runs (left - 8) rest ≡ after_runs left keys_vals
+eight_runs left keys_vals rest enough e =
+    let n = left - 8 in
+    let count : left ≡ suc (suc (suc (suc (suc (suc (suc (suc n))))))) = omega (arith, enough) in
+    sym (ap (after_runs left) e ∙ ap (λ k. after_runs k (0 ∷ 0 ∷ 0 ∷ 0 ∷ 0 ∷ 0 ∷ 0 ∷ 0 ∷ rest)) count ∙ four_runs (suc (suc (suc (suc n)))) (0 ∷ 0 ∷ 0 ∷ 0 ∷ rest) ∙ four_runs n rest)
 
 -- ---- runs, step by step
 
