@@ -1,7 +1,9 @@
 -- Columns that move together give what indices into whole columns give.
-use Rattle.std.proofs.Common.{◌≡◌, ◌-◌, ◌<◌, ◌≤◌, ℕ, zero, suc, ℤ, List, [], ◌∷◌, drop, refl, sym, ap, ◌∙◌, arith}
+use Rattle.std.proofs.Common.{◌≡◌, ◌-◌, ◌<◌, ◌≤◌, ℕ, zero, suc, ℤ, List, [], ◌∷◌, drop, map, refl, sym, ap, ◌∙◌, arith}
 use Rattle.osm_entity.specs.declared.scale.Scale.{Scale}
-use Rattle.pbf_dense.specs.Info.{InfoSpec, later, later_by}
+use Rattle.osm_entity.specs.Entity.{TagSpec, MetaSpec, NodeSpec}
+use Rattle.osm_entity.specs.Sources.{tag_of, run}
+use Rattle.pbf_dense.specs.Info.{InfoSpec, meta_at, later, later_by}
 use Rattle.pbf_dense.specs.Runs.{after_run, after_runs}
 use Rattle.pbf_dense.specs.Nodes.{moving}
 
@@ -77,3 +79,16 @@ run_on zero value rest h = absurd (omega arith)
 run_on (suc key) value rest h = refl
 
 pub ruleset run_steps = (run_over, run_cut, run_on)
+
+-- ---- one node
+
+abbrev pub node_made : ℤ → ℤ → ℤ → MetaSpec → List TagSpec → Scale → NodeSpec
+node_made id lat lon meta tags scale = record { id = id; lat = lat; lon = lon; meta = meta; tags = tags; scale = scale }
+
+-- a node is made of the first of each column, and the others of what is left
+pub one_node : (table : List (List ℕ)) (scale : Scale) (ids more_ids lats more_lats lons more_lons : List ℤ) (id i lat a lon o : ℤ) (info more : InfoSpec) (keys_vals rest : List ℕ) (meta : MetaSpec) (tags : List TagSpec) (node : NodeSpec)
+    → ids ≡ id ∷ more_ids → lats ≡ lat ∷ more_lats → lons ≡ lon ∷ more_lons → i ≡ id → a ≡ lat → o ≡ lon
+    → meta ≡ meta_at table info 0 → more ≡ later info → tags ≡ map (tag_of table) (run keys_vals) → rest ≡ after_run keys_vals → node ≡ node_made i a o meta tags scale
+    → moving table scale ids lats lons info keys_vals ≡ node ∷ moving table scale more_ids more_lats more_lons more rest
+one_node table scale ids more_ids lats more_lats lons more_lons id i lat a lon o info more keys_vals rest meta tags node e f g same_id same_lat same_lon metas infos all_tags runs is =
+    rw (e, f, g, is, same_id, same_lat, same_lon, metas, infos, all_tags, runs) refl

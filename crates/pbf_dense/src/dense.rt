@@ -79,20 +79,6 @@ fn take_run<'a>(numbers: &mut Column<'a>, table: &'a Table<'a>) -> Tags<'a>
     }
 }
 
-/// Like [`take_run`]. Most nodes have no tag, which is seen at once.
-#[inline(always)]
-#[tactic(auto, using(crate::proofs::MovingLemmas::run_steps))]
-fn take_tags<'a>(keys_vals: &mut Column<'a>, table: &'a Table<'a>) -> Tags<'a>
-    ensures tags { tags_left result ≡ run_tags table.now (numbers_left keys_vals.old) }
-    ensures rest { map low_32 (numbers_left keys_vals.new)
-        ≡ after_run (map low_32 (numbers_left keys_vals.old)) }
-{
-    if keys_vals.pass_zero() {
-        return Tags::Owned(OwnedTags::new(&[]));
-    }
-    take_run(keys_vals, table)
-}
-
 /// The nodes of a dense message that are still to come: an iterator over its columns, which does not allocate.
 #[derive(Clone, Copy)]
 pub struct Dense<'a> {
@@ -204,7 +190,12 @@ impl<'a> Iterator for Dense<'a> {
         let lat = self.lats.next()?;
         let lon = self.lons.next()?;
         let meta = self.info.take(self.table);
-        let tags = take_tags(&mut self.keys_vals, self.table);
+        // Most nodes have no tag, which is seen at once.
+        if self.keys_vals.pass_zero() {
+            let none = Tags::Owned(OwnedTags::new(&[]));
+            return Some(NodeRef::new(id, lat, lon, meta, none, self.scale));
+        }
+        let tags = take_run(&mut self.keys_vals, self.table);
         Some(NodeRef::new(id, lat, lon, meta, tags, self.scale))
     }
 }
