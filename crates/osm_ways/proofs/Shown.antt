@@ -1,12 +1,12 @@
 -- What the phases' fields show: of the nodes that are kept, those of the box and the other refs apart.
 use Rattle.std.proofs.Common.{◌≡◌, ℤ, Bool, true, false, ◌||◌, List, [], ◌∷◌, map, refl, sym, ap, ◌∙◌}
-use Rattle.std.specs.List.{list_any}
+use Rattle.std.specs.List.{fold, list_any}
 use Rattle.std.specs.Ordering.{int_eq, int_cmp}
 use Rattle.std.specs.Cmp.{int_cmp_total}
 use Rattle.std.specs.FinSet as set
 use Rattle.osm_ids.proofs.Closing.{insert_same}
 use Rattle.osm_ids.proofs.Sets.{or_swap}
-use Rattle.osm_ways.specs.Phases.{Ids, sets_of, start_ways}
+use Rattle.osm_ways.specs.Phases.{Ids, sets_of, start_ways, sets_with_way}
 
 or_none : (b : Bool) → (b || false) ≡ b
 or_none true = refl
@@ -49,3 +49,11 @@ shown_start in_box sealed refs ways e f g =
 pub list_any-map : {X Y : Type 0} (test : Y → Bool) (view : X → Y) (xs : List X) → list_any (λ x. test (view x)) xs ≡ list_any test (map view xs)
 list_any-map test view [] = refl
 list_any-map test view (x ∷ xs) = ap (λ b. test (view x) || b) (list_any-map test view xs)
+
+-- ---- a way that is kept
+
+pub kept_way_added : (known refs ways more_refs more_ways : Ids) (id first : ℤ) (all rest : List ℤ) → all ≡ first ∷ rest → list_any (set.contains known) (first ∷ rest) ≡ true
+    → set.union known more_refs ≡ fold set.insert (set.union known refs) (first ∷ rest) → more_ways ≡ set.insert ways id
+    → sets_of known more_refs more_ways ≡ sets_with_way (sets_of known refs ways) id all
+kept_way_added known refs ways more_refs more_ways id first all rest turn any added kept =
+    rw (turn, any) (λ i. record { box_ids = known; node_ids = added i; way_ids = kept i })

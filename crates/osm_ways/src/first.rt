@@ -100,6 +100,7 @@ impl FirstPhase {
     }
 
     /// A node comes: the ways that were taken before it are dropped.
+    #[inline(always)]
     fn begin_node(&mut self)
         ensures { self.new ≡ before_node self.old }
     {

@@ -248,10 +248,19 @@ pub(crate) fn add_way<I: IdLookup>(
         ≡ way_step (sets_of (I.ids known.old) refs.old way_ids.old) (seen_refs way.entry)) }
     ensures same { OnOk result (known.new ≡ known.old) }
 {
-    if is_kept_by(known, way.refs) {
-        add_refs(known, refs, way.refs)?;
-        way_ids.add(way.id)?;
+    // Of most kept ways the first ref is known: then no ref is read twice.
+    let mut rest = way.refs;
+    let Some(first) = rest.next() else {
+        return Ok(());
+    };
+    if !known.has(first) {
+        if !is_kept_by(known, rest) {
+            return Ok(());
+        }
+        refs.add(first)?;
     }
+    add_refs(known, refs, rest)?;
+    way_ids.add(way.id)?;
     Ok(())
 }
 

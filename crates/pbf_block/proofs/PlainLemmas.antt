@@ -1,7 +1,7 @@
 -- Messages whose fields come once each, in the order of their numbers: what they begin with, and that they have no faults.
-use Rattle.std.proofs.Common.{◌≡◌, ℕ, ◌+◌, ◌-◌, ◌/◌, ◌%◌, ◌^◌, ◌<◌, ◌≤◌, ltb, eqb, Bool, true, false, pos, List, [], ◌∷◌, ◌++◌, length, map, take, drop, get_or, refl, sym, ap, subst, ◌∙◌, arith, append-nil, eq-eqb}
+use Rattle.std.proofs.Common.{◌≡◌, ℕ, ℤ, ◌+◌, ◌-◌, ◌/◌, ◌%◌, ◌^◌, ◌<◌, ◌≤◌, ltb, eqb, Bool, true, false, pos, List, [], ◌∷◌, ◌++◌, length, map, take, drop, get_or, refl, sym, ap, subst, ◌∙◌, arith, append-nil, eq-eqb}
 use Rattle.std.specs.Prelude.{Ok, Option, None, Some, nat_lt, not, if◌then◌else◌}
-use Rattle.std.specs.List.{AllByRecursion}
+use Rattle.std.specs.List.{AllByRecursion, zip}
 use Rattle.std.proofs.lemmas.Bool.{lt-ltb, le-ltb}
 use Rattle.std.proofs.lemmas.List.{take_rest, drop-drop, length-drop, get_or-drop}
 use Rattle.pbf_wire.specs.declared.fault.Fault.{Fault}
@@ -13,19 +13,23 @@ use Rattle.pbf_wire.specs.Cursors.{fields_left}
 use Rattle.pbf_wire.specs.Varint.{varint_at}
 use Rattle.pbf_wire.specs.Columns.{entries, entry_fault, read_entries, placed, joined, column}
 use Rattle.pbf_wire.specs.Occurrence.{Number, Bytes, Item, body_at, occurrence_at, items, found}
-use Rattle.pbf_wire.specs.Faults.{fault_where, index_faults, nested_faults, sum_faults, ends_in, fields_in, found_in}
+use Rattle.pbf_wire.specs.Faults.{embedded, fault_where, index_faults, nested_faults, sum_faults, ends_in, fields_in, found_in}
 use Rattle.pbf_wire.specs.Least.{lesser, least, rank, is_less}
 use Rattle.pbf_wire.specs.Short.{IsShort}
-use Rattle.pbf_wire.specs.Signed.{low_i64, is_within}
+use Rattle.pbf_wire.specs.Signed.{low_i32, low_i64, is_within}
+use Rattle.pbf_wire.proofs.Columns.{placed_numbers}
 use Rattle.pbf_wire.proofs.Items.{items_none, items_ok}
 use Rattle.pbf_wire.proofs.Varints.{one_byte}
 use Rattle.pbf_wire.proofs.ShortLemmas.{short_numbers, small_sums}
+use Rattle.osm_entity.specs.declared.scale.Scale.{Scale}
+use Rattle.osm_entity.specs.Entity.{TagSpec, MetaSpec, LocationSpec, WaySpec}
+use Rattle.osm_entity.specs.Sources.{named}
 use Rattle.pbf_block.specs.declared.plain.PlainWay.{PlainWay}
 use Rattle.pbf_block.specs.declared.plain.PlainInfo.{PlainInfo}
-use Rattle.pbf_block.specs.declared.entity.TheConstants.{ID, INFO}
-use Rattle.pbf_block.specs.declared.way.TheConstants.{WAY_KINDS, REFS}
+use Rattle.pbf_block.specs.declared.entity.TheConstants.{ID, KEYS, VALS, INFO}
+use Rattle.pbf_block.specs.declared.way.TheConstants.{WAY_KINDS, REFS, WAY_LAT}
 use Rattle.pbf_block.specs.declared.info.TheConstants.{INFO_KINDS}
-use Rattle.pbf_block.specs.Info.{info_values, out_of_range}
+use Rattle.pbf_block.specs.Info.{info_in, info_values, out_of_range}
 use Rattle.pbf_block.specs.Plain.{IsTag, number_field, bytes_field, BeginsWithNumber, BeginsWithBytes, IsPlainWay, IsPlainInfo}
 use Rattle.pbf_block.specs.Scale.{number_or}
 use Rattle.pbf_block.specs.Way.{way_structure, way_values}
@@ -72,16 +76,15 @@ bytes_begins at tag v after m is some first read lt le room =
 
 -- ---- fields one after another
 
-pub way_fields : (at : ℕ) (m m1 m2 m3 m5 : List ℕ) (way : PlainWay)
+pub way_fields : (at : ℕ) (m m1 m2 m3 m4 m5 : List ℕ) (way : PlainWay)
     → ((at : ℕ) → BeginsWithNumber at m 1 way.id m1) → ((at : ℕ) → BeginsWithBytes at m1 2 way.keys.now m2) → ((at : ℕ) → BeginsWithBytes at m2 3 way.vals.now m3)
-    → ((at : ℕ) → BeginsWithBytes at m3 4 way.info.now way.last.now) → ((at : ℕ) → BeginsWithBytes at way.last.now 8 way.refs.now m5) → length m5 ≡ 0 → IsPlainWay way at m
-way_fields at m m1 m2 m3 m5 way a b c d e none =
+    → ((at : ℕ) → BeginsWithBytes at m3 4 way.info.now m4) → ((at : ℕ) → BeginsWithBytes at m4 8 way.refs.now m5) → length m5 ≡ 0 → IsPlainWay way at m
+way_fields at m m1 m2 m3 m4 m5 way a b c d e none =
     let one = a at in
     let two = b one.next in
     let three = c two.next in
     let four = d three.next in
     let five = e four.next in
-    let tail = e 0 in
     record {
       keys = one.next;
       keys_at = two.held_at;
@@ -92,8 +95,6 @@ way_fields at m m1 m2 m3 m5 way a b c d e none =
       refs = four.next;
       refs_at = five.held_at;
       is = one.is ∙ ap (λ r. number_field at ID way.id ∷ r) (two.is ∙ ap (λ r. bytes_field one.next 2 two.held_at way.keys.now ∷ r) (three.is ∙ ap (λ r. bytes_field two.next 3 three.held_at way.vals.now ∷ r) (four.is ∙ ap (λ r. bytes_field three.next 4 four.held_at way.info.now ∷ r) (five.is ∙ ap (λ r. bytes_field four.next 8 five.held_at way.refs.now ∷ r) (items_none five.next m5 none)))));
-      last_at = tail.held_at;
-      last = tail.is ∙ ap (λ r. bytes_field 0 8 tail.held_at way.refs.now ∷ r) (items_none tail.next m5 none);
     }
 
 pub info_fields : (at : ℕ) (m m1 m2 m3 m4 m5 : List ℕ) (info : PlainInfo)
@@ -168,15 +169,45 @@ valued message way limit p id keys vals info few short =
 
 -- ---- what is read
 
-numbers_of : (p q : ℕ) (ns : List ℕ) → map (λ (x : ℕ × ℕ). x.0) (placed p ns ++ []) ≡ map (λ (x : ℕ × ℕ). x.0) (placed q ns ++ [])
-numbers_of p q [] = refl
-numbers_of p q (n ∷ ns) = ap (λ (xs : List ℕ). n ∷ xs) (numbers_of p q ns)
+abbrev pub info_said : List (List ℕ) → PlainInfo → MetaSpec
+info_said table info = record {
+  version = Some (low_i32 info.version);
+  timestamp = Some (low_i64 info.timestamp);
+  changeset = Some (low_i64 info.changeset);
+  uid = Some (low_i32 info.uid);
+  user = Some (named table info.user);
+  visible = None;
+}
 
 pub plain_id : (way : PlainWay) (at : ℕ) (m : List ℕ) → IsPlainWay way at m → number_or (pos 0) low_i64 ID (fields_in at m) ≡ low_i64 way.id
 plain_id way at m p = rw p.is refl
 
-pub plain_refs : (way : PlainWay) (at : ℕ) (m : List ℕ) → IsPlainWay way at m → column REFS (fields_in 0 way.last.now) ≡ column REFS (fields_in at m)
-plain_refs way at m p = rw (p.is, p.last) (numbers_of 0 p.refs (read_entries (entries way.refs.now)))
+pub plain_refs : (way : PlainWay) (at : ℕ) (m : List ℕ) → IsPlainWay way at m → read_entries (entries way.refs.now) ≡ column REFS (fields_in at m)
+plain_refs way at m p = rw p.is (sym (placed_numbers p.refs (read_entries (entries way.refs.now))))
+
+pub plain_keys : (way : PlainWay) (at : ℕ) (m : List ℕ) → IsPlainWay way at m → read_entries (entries way.keys.now) ≡ column KEYS (fields_in at m)
+plain_keys way at m p = rw p.is (sym (placed_numbers p.keys (read_entries (entries way.keys.now))))
+
+pub plain_vals : (way : PlainWay) (at : ℕ) (m : List ℕ) → IsPlainWay way at m → read_entries (entries way.vals.now) ≡ column VALS (fields_in at m)
+plain_vals way at m p = rw p.is (sym (placed_numbers p.vals (read_entries (entries way.vals.now))))
+
+-- no locations
+pub plain_lats : (way : PlainWay) (at : ℕ) (m : List ℕ) → IsPlainWay way at m → column WAY_LAT (fields_in at m) ≡ []
+plain_lats way at m p = rw p.is refl
+
+-- what an Info says of which each number is there once
+pub plain_meta : (way : PlainWay) (info : PlainInfo) (table : List (List ℕ)) (at : ℕ) (m : List ℕ) → IsPlainWay way at m → ((at : ℕ) → IsPlainInfo info at way.info.now)
+    → info_said table info ≡ info_in table (embedded INFO (fields_in at m))
+plain_meta way info table at m p q = rw (p.is, (q p.info_at).is) refl
+
+abbrev pub way_made : ℤ → MetaSpec → List TagSpec → List ℤ → List LocationSpec → Scale → WaySpec
+way_made id meta tags refs locations scale = record { id = id; meta = meta; tags = tags; refs = refs; locations = locations; scale = scale }
+
+-- ways of the same parts
+pub same_way : (scale : Scale) (id i : ℤ) (meta m : MetaSpec) (tags t : List TagSpec) (refs r lats a lons o : List ℤ) (locations : List LocationSpec)
+    → id ≡ i → meta ≡ m → tags ≡ t → refs ≡ r → lats ≡ a → lons ≡ o → locations ≡ zip lats lons
+    → way_made id meta tags refs locations scale ≡ way_made i m t r (zip a o) scale
+same_way scale id i meta m tags t refs r lats a lons o locations same_id same_meta same_tags same_refs same_lats same_lons both = cc
 
 -- the second byte is a whole varint
 pub short_after : (m : List ℕ) → 1 < length m → get_or m 1 0 < 128 → varint_at (drop 1 m) ≡ Ok (get_or m 1 0, 1)

@@ -28,7 +28,7 @@ pub record BeginsWithBytes (at : ℕ) (m : List ℕ) (number : ℕ) (bytes rest 
   pub next : ℕ
   pub is : items at m ≡ bytes_field at number held_at bytes ∷ items next rest
 
--- where the fields of a way are, and where the bytes of each begin; the last field is also a message by itself
+-- where the fields of a way are, and where the bytes of each begin
 pub record IsPlainWay (way : PlainWay) (at : ℕ) (m : List ℕ) : Type 0 where
   pub keys : ℕ
   pub keys_at : ℕ
@@ -39,8 +39,6 @@ pub record IsPlainWay (way : PlainWay) (at : ℕ) (m : List ℕ) : Type 0 where
   pub refs : ℕ
   pub refs_at : ℕ
   pub is : items at m ≡ number_field at ID way.id ∷ bytes_field keys KEYS keys_at way.keys.now ∷ bytes_field vals VALS vals_at way.vals.now ∷ bytes_field info INFO info_at way.info.now ∷ bytes_field refs REFS refs_at way.refs.now ∷ []
-  pub last_at : ℕ
-  pub last : items 0 way.last.now ≡ bytes_field 0 REFS last_at way.refs.now ∷ []
 
 -- where the numbers of an Info are
 pub record IsPlainInfo (info : PlainInfo) (at : ℕ) (m : List ℕ) : Type 0 where

@@ -4,16 +4,25 @@
 ghost use Rattle.std.specs.Prelude.{◌≡◌, ◌-◌, ◌/◌, ◌<◌, ◌≤◌, ◌++◌, [], ℕ, List, None, Ok, IfSome, IsTrue, drop, length, slice_index};
 ghost use Rattle.pbf_wire.specs.Varint.{varint_at};
 ghost use Rattle.pbf_wire.specs.Columns.{entries, entry_fault, placed, read_entries};
-ghost use Rattle.pbf_wire.specs.Faults.{index_faults, nested_faults};
-ghost use Rattle.pbf_block.specs.Info.{info_values};
+ghost use Rattle.pbf_wire.specs.Faults.{embedded, fields_in, index_faults, nested_faults};
+ghost use Rattle.osm_entity.specs.Sources.{refs_left, tags_left};
+ghost use Rattle.osm_entity.specs.Views.{meta_of};
+ghost use Rattle.pbf_block.specs.Entity.{tags_in, values_in};
+ghost use Rattle.pbf_block.specs.Info.{info_in, info_values};
 ghost use Rattle.pbf_block.specs.Plain.{IsTag, BeginsWithNumber, BeginsWithBytes, IsPlainWay, IsPlainInfo};
+ghost use Rattle.pbf_block.specs.PrimitiveBlock.{streaming};
 ghost use Rattle.pbf_block.specs.Way.{way_structure, way_values};
 ghost use Rattle.pbf_block.specs.declared.entity.TheConstants.{INFO};
-ghost use Rattle.pbf_block.specs.declared.way.TheConstants.{WAY_KINDS};
+ghost use Rattle.pbf_block.specs.declared.way.TheConstants.{REFS, WAY_KINDS};
 ghost use Rattle.pbf_block.specs.declared.info.TheConstants.{INFO_KINDS};
 
 use crate::ranges::{judge_packed, judge_uid, judge_user, judge_wide};
-use pbf_wire::{Kind, Message, Payload, get_varint, is_short, judge_payload, lesser};
+use osm_entity::{MetaRef, PairedTags, Refs, STORED_LIMIT, Tags};
+use pbf_strings::Table;
+use pbf_wire::{
+    Column, Kind, Message, Payload, Sums, get_varint, is_short, judge_payload, lesser, low_i32,
+    low_i64, low_u32,
+};
 
 // Tags of one byte: eight times the field's number, and 2 if it holds bytes. First those of a way, then those of an Info.
 const ID_TAG: u8 = 8;
@@ -93,8 +102,6 @@ pub(crate) struct PlainWay<'a> {
     vals: &'a [u8],
     info: &'a [u8],
     refs: &'a [u8],
-    /// The last field, which holds the refs, from its tag on.
-    pub(crate) last: &'a [u8],
 }
 
 /// The fields of a way, if it is plain.
@@ -105,8 +112,8 @@ pub(crate) fn plain_way(bytes: &[u8]) -> Option<PlainWay<'_>>
     let (id, rest) = number_front(bytes, ID_TAG)?;
     let (keys, rest) = bytes_front(rest, KEYS_TAG)?;
     let (vals, rest) = bytes_front(rest, VALS_TAG)?;
-    let (info, last) = bytes_front(rest, INFO_TAG)?;
-    let (refs, rest) = bytes_front(last, REFS_TAG)?;
+    let (info, rest) = bytes_front(rest, INFO_TAG)?;
+    let (refs, rest) = bytes_front(rest, REFS_TAG)?;
     if !rest.is_empty() {
         return None;
     }
@@ -116,7 +123,6 @@ pub(crate) fn plain_way(bytes: &[u8]) -> Option<PlainWay<'_>>
         vals,
         info,
         refs,
-        last,
     })
 }
 
@@ -150,6 +156,45 @@ fn plain_info(bytes: &[u8]) -> Option<PlainInfo>
         uid,
         user,
     })
+}
+
+impl<'a> PlainWay<'a> {
+    /// Its refs.
+    #[inline(always)]
+    pub(crate) fn refs(&self) -> Refs<'a>
+        ensures { (at : ℕ) (m : List ℕ) → IsPlainWay self.now at m
+            → refs_left result ≡ values_in streaming REFS (fields_in at m) }
+    {
+        Refs::Summed(Sums::new(Column::packed(self.refs), STORED_LIMIT))
+    }
+
+    /// Its tags.
+    #[inline(always)]
+    pub(crate) fn tags(&self, table: &'a Table<'a>) -> Tags<'a>
+        ensures { (at : ℕ) (m : List ℕ) → IsPlainWay self.now at m
+            → tags_left result ≡ tags_in table.now (fields_in at m) }
+    {
+        let keys = Column::packed(self.keys);
+        let vals = Column::packed(self.vals);
+        Tags::Paired(PairedTags::new(keys, vals, table))
+    }
+
+    /// Its metadata, if its Info is plain too.
+    #[inline(always)]
+    pub(crate) fn meta(&self, table: &'a Table<'a>) -> Option<MetaRef<'a>>
+        ensures { IfSome result (λ meta. (at : ℕ) (m : List ℕ) → IsPlainWay self.now at m
+            → meta_of meta ≡ info_in table.now (embedded INFO (fields_in at m))) }
+    {
+        let info = plain_info(self.info)?;
+        Some(MetaRef {
+            version: Some(low_i32(info.version)),
+            timestamp: Some(low_i64(info.timestamp)),
+            changeset: Some(low_i64(info.changeset)),
+            uid: Some(low_i32(info.uid)),
+            user: Some(table.text(low_u32(info.user) as usize)),
+            visible: None,
+        })
+    }
 }
 
 /// Whether the bytes are whole varints.

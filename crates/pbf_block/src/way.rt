@@ -1,6 +1,6 @@
 //! A Way: its fields, its rules phase by phase, and how it is read. Its rule of wire form is [`WAY_KINDS`].
 
-ghost use Rattle.std.specs.Prelude.{◌≡◌};
+ghost use Rattle.std.specs.Prelude.{◌≡◌, IfSome};
 ghost use Rattle.pbf_wire.specs.Faults.{column_count, found_in, nested_faults};
 ghost use Rattle.pbf_block.specs.declared.info.TheConstants.{INFO_KINDS};
 ghost use Rattle.pbf_block.specs.declared.entity.TheConstants.{INFO};
@@ -17,10 +17,10 @@ use crate::entity_fields::{entity_fields, last_wide, values};
 use crate::info::INFO_KINDS;
 use crate::plain::{is_built, is_formed, is_valued, plain_way};
 use crate::ranges::{judge_sums, judge_wide};
-use osm_entity::{Locations, Refs, Scale, SummedLocations, WayRef};
+use osm_entity::{Locations, OwnedLocations, Refs, Scale, SummedLocations, WayRef};
 use pbf_strings::Table;
 use pbf_wire::{
-    Fault, Fields, Kind, Message, Reason, column_count, fault_where, judge_nested, lesser, low_i64,
+    Fault, Kind, Message, Reason, column_count, fault_where, judge_nested, lesser, low_i64,
 };
 
 // The fields of a Way beside those that all entities have: its refs, and their locations.
@@ -138,17 +138,37 @@ impl<'a> UnmadeWay<'a> {
     pub fn refs(&self) -> Refs<'a>
         ensures { refs_left result ≡ (way_from self.now).refs }
     {
-        // If the last field has all refs, the others needn't be passed to find it.
         match plain_way(self.message.bytes) {
-            Some(way) => Refs::Summed(values(Fields::new(way.last, 0), REFS)),
+            Some(way) => way.refs(),
             None => Refs::Summed(values(self.message.fields(), REFS)),
         }
     }
 
-    /// The way.
+    /// The way, if it is plain and so is its Info.
+    #[inline(always)]
+    #[tactic(auto, unfolding(crate::specs::Way::way_in))]
+    fn make_plain(&self) -> Option<WayRef<'a>>
+        ensures { IfSome result (λ way. way_of way ≡ way_from self.now) }
+    {
+        let way = plain_way(self.message.bytes)?;
+        let meta = way.meta(self.table)?;
+        Some(WayRef::new(
+            low_i64(way.id),
+            meta,
+            way.tags(self.table),
+            way.refs(),
+            Locations::Owned(OwnedLocations::new(&[])),
+            self.scale,
+        ))
+    }
+
+    /// The way. Most are plain.
     pub fn make(&self) -> WayRef<'a>
         ensures { way_of result ≡ way_from self.now }
     {
-        way_in(self.message, self.table, self.scale)
+        match self.make_plain() {
+            Some(way) => way,
+            None => way_in(self.message, self.table, self.scale),
+        }
     }
 }

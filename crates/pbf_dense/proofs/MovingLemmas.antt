@@ -1,7 +1,9 @@
 -- Columns that move together give what indices into whole columns give.
-use Rattle.std.proofs.Common.{◌≡◌, ◌<◌, ℕ, zero, suc, ℤ, List, [], ◌∷◌, drop, refl, ap, ◌∙◌, arith}
+use Rattle.std.proofs.Common.{◌≡◌, ◌-◌, ◌<◌, ◌≤◌, ℕ, zero, suc, ℤ, List, [], ◌∷◌, drop, map, refl, sym, ap, ◌∙◌, arith}
 use Rattle.osm_entity.specs.declared.scale.Scale.{Scale}
-use Rattle.pbf_dense.specs.Info.{InfoSpec, info_rest, info_past}
+use Rattle.osm_entity.specs.Entity.{TagSpec, MetaSpec, NodeSpec}
+use Rattle.osm_entity.specs.Sources.{tag_of, run}
+use Rattle.pbf_dense.specs.Info.{InfoSpec, meta_at, info_rest, info_past}
 use Rattle.pbf_dense.specs.Runs.{after_run, after_runs}
 use Rattle.pbf_dense.specs.Nodes.{nodes_of_columns}
 
@@ -26,7 +28,7 @@ later_one : (n : ℕ) (info : InfoSpec) → info_past (suc n) info ≡ info_past
 later_one n info =
     simp drop_one
 
-run_first : (n : ℕ) (keys_vals : List ℕ) → after_runs (suc n) keys_vals ≡ after_runs n (after_run keys_vals)
+pub run_first : (n : ℕ) (keys_vals : List ℕ) → after_runs (suc n) keys_vals ≡ after_runs n (after_run keys_vals)
 run_first zero keys_vals = refl
 run_first (suc n) keys_vals = ap after_run (run_first n keys_vals)
 
@@ -41,6 +43,26 @@ moving_on table scale (suc n) (id ∷ ids) (lat ∷ lats) (lon ∷ lons) info ke
     ap (λ (i : InfoSpec). nodes_of_columns table scale (drop n ids) (drop n lats) (drop n lons) i (after_runs (suc n) keys_vals)) (later_one n info)
     ∙ (ap (λ (k : List ℕ). nodes_of_columns table scale (drop n ids) (drop n lats) (drop n lons) (info_past n (info_rest info)) k) (run_first n keys_vals)
     ∙ moving_on table scale n ids lats lons (info_rest info) (after_run keys_vals))
+
+-- one run less
+pub one_run : (left : ℕ) (keys_vals : List ℕ) → 0 < left → after_runs (left - 1) (after_run keys_vals) ≡ after_runs left keys_vals
+one_run zero keys_vals some = absurd (omega arith)
+one_run (suc n) keys_vals some =
+    let less : suc n - 1 ≡ n = omega arith in
+    ap (λ k. after_runs k (after_run keys_vals)) less ∙ sym (run_first n keys_vals)
+
+-- each of eight zeros ends a run
+two_runs : (n : ℕ) (rest : List ℕ) → after_runs (suc (suc n)) (0 ∷ 0 ∷ rest) ≡ after_runs n rest
+two_runs n rest = run_first (suc n) (0 ∷ 0 ∷ rest) ∙ run_first n (0 ∷ rest)
+
+four_runs : (n : ℕ) (rest : List ℕ) → after_runs (suc (suc (suc (suc n)))) (0 ∷ 0 ∷ 0 ∷ 0 ∷ rest) ≡ after_runs n rest
+four_runs n rest = two_runs (suc (suc n)) (0 ∷ 0 ∷ rest) ∙ two_runs n rest
+
+pub eight_runs : (left : ℕ) (keys_vals rest : List ℕ) → 8 ≤ left → keys_vals ≡ 0 ∷ 0 ∷ 0 ∷ 0 ∷ 0 ∷ 0 ∷ 0 ∷ 0 ∷ rest → after_runs (left - 8) rest ≡ after_runs left keys_vals
+eight_runs left keys_vals rest enough e =
+    let n = left - 8 in
+    let count : left ≡ suc (suc (suc (suc (suc (suc (suc (suc n))))))) = omega (arith, enough) in
+    sym (ap (after_runs left) e ∙ ap (λ k. after_runs k (0 ∷ 0 ∷ 0 ∷ 0 ∷ 0 ∷ 0 ∷ 0 ∷ 0 ∷ rest)) count ∙ four_runs (suc (suc (suc (suc n)))) (0 ∷ 0 ∷ 0 ∷ 0 ∷ rest) ∙ four_runs n rest)
 
 -- ---- runs, step by step
 
@@ -57,3 +79,16 @@ run_on zero value rest h = absurd (omega arith)
 run_on (suc key) value rest h = refl
 
 pub ruleset run_steps = (run_over, run_cut, run_on)
+
+-- ---- one node
+
+abbrev pub node_made : ℤ → ℤ → ℤ → MetaSpec → List TagSpec → Scale → NodeSpec
+node_made id lat lon meta tags scale = record { id = id; lat = lat; lon = lon; meta = meta; tags = tags; scale = scale }
+
+-- a node is made of the first of each column, and the others of what is left
+pub one_node : (table : List (List ℕ)) (scale : Scale) (ids more_ids lats more_lats lons more_lons : List ℤ) (id i lat a lon o : ℤ) (info more : InfoSpec) (keys_vals rest : List ℕ) (meta : MetaSpec) (tags : List TagSpec) (node : NodeSpec)
+    → ids ≡ id ∷ more_ids → lats ≡ lat ∷ more_lats → lons ≡ lon ∷ more_lons → i ≡ id → a ≡ lat → o ≡ lon
+    → meta ≡ meta_at table info 0 → more ≡ info_rest info → tags ≡ map (tag_of table) (run keys_vals) → rest ≡ after_run keys_vals → node ≡ node_made i a o meta tags scale
+    → nodes_of_columns table scale ids lats lons info keys_vals ≡ node ∷ nodes_of_columns table scale more_ids more_lats more_lons more rest
+one_node table scale ids more_ids lats more_lats lons more_lons id i lat a lon o info more keys_vals rest meta tags node e f g same_id same_lat same_lon metas infos all_tags runs is =
+    rw (e, f, g, is, same_id, same_lat, same_lon, metas, infos, all_tags, runs) refl

@@ -43,20 +43,27 @@ fn pass_run(numbers: &mut Column<'_>)
     *numbers = rest;
 }
 
-/// Moves past as many zeros in key place.
+/// Moves past as many zeros in key place: past eight at once, if eight come in a row.
 fn skip_runs(numbers: &mut Column<'_>, count: usize)
     ensures { map low_32 (numbers_left numbers.new)
         ≡ after_runs count (map low_32 (numbers_left numbers.old)) }
 {
     let mut rest = *numbers;
-    for _passed in 0..count {
+    let mut left = count;
+    'runs: while left > 0 {
+        if left >= 8 && rest.pass_zeros() {
+            left -= 8;
+            continue;
+        }
         pass_run(&mut rest);
+        left -= 1;
     }
     *numbers = rest;
 }
 
-/// The tags of the next node, whose run is skipped. Most nodes have none, and cost no copy of the column.
-fn take_tags<'a>(numbers: &mut Column<'a>, table: &'a Table<'a>) -> Tags<'a>
+/// The tags of the next node, whose run is skipped. It is a call, so that its copy of the column takes no room where nodes are made.
+#[inline(never)]
+fn take_run<'a>(numbers: &mut Column<'a>, table: &'a Table<'a>) -> Tags<'a>
     ensures tags { tags_left result ≡ run_tags table.now (numbers_left numbers.old) }
     ensures rest { map low_32 (numbers_left numbers.new)
         ≡ after_run (map low_32 (numbers_left numbers.old)) }
@@ -183,7 +190,12 @@ impl<'a> Iterator for Dense<'a> {
         let lat = self.lats.next()?;
         let lon = self.lons.next()?;
         let meta = self.info.take(self.table);
-        let tags = take_tags(&mut self.keys_vals, self.table);
+        // Most nodes have no tag, which is seen at once.
+        if self.keys_vals.pass_zero() {
+            let none = Tags::Owned(OwnedTags::new(&[]));
+            return Some(NodeRef::new(id, lat, lon, meta, none, self.scale));
+        }
+        let tags = take_run(&mut self.keys_vals, self.table);
         Some(NodeRef::new(id, lat, lon, meta, tags, self.scale))
     }
 }

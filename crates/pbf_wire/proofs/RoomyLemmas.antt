@@ -1,5 +1,5 @@
 -- Sums that have room for entries of at most three bytes.
-use Rattle.std.proofs.Common.{◌≡◌, Bool, true, false, cond, ℕ, ◌-◌, ◌/◌, ◌%◌, ◌^◌, ◌<◌, eqb, ℤ, pos, negsuc, ◌+ℤ◌, List, ◌∷◌, map, refl, ap, ◌∙◌, arith, to_z, of_z, w64}
+use Rattle.std.proofs.Common.{◌≡◌, Bool, true, false, cond, ℕ, suc, ◌+◌, ◌-◌, ◌/◌, ◌%◌, ◌^◌, ◌<◌, eqb, ℤ, pos, negsuc, ◌+ℤ◌, List, ◌∷◌, drop, map, refl, ap, ◌∙◌, arith, to_z, of_z, w64}
 use Rattle.std.specs.Prelude.{◌≤ℤ◌, neg_ℤ}
 use Rattle.std.proofs.lemmas.Int.{ints, to_z-of_z}
 use mir.Val.{SFits}
@@ -73,3 +73,27 @@ same_again sums entries numbers =
     let within : IsWithin sums.limit (sums.total +ℤ pos 0) = rw still (room_within sums.limit sums.total sums.room sums.roomy) in
     let ds = map (delta_in sums.narrow) (numbers_left entries) in
     rw numbers (ap (λ (d : ℤ). sums_within sums.limit sums.total (d ∷ ds)) (none sums.narrow) ∙ ap (then_more sums.limit ds) (added_within sums.limit sums.total (pos 0) within) ∙ ap (λ (t : ℤ). t ∷ sums_within sums.limit t ds) still)
+
+-- eight entries 0 give it eight times
+module _ (limit total : ℤ) (room : ℕ) (narrow : Bool) (roomy : HasRoom limit total room) where
+  abbrev pub values : List ℕ → List ℤ
+  values ns = sums_within limit total (map (delta_in narrow) ns)
+
+  again : (n : ℕ) (ns : List ℕ) → drop (suc n) (values (0 ∷ ns)) ≡ drop n (values ns)
+  again n ns =
+      let still : total +ℤ pos 0 ≡ total = omega (arith, ints) in
+      let within : IsWithin limit (total +ℤ pos 0) = rw still (room_within limit total room roomy) in
+      let ds = map (delta_in narrow) ns in
+      ap (drop (suc n)) (ap (λ (d : ℤ). sums_within limit total (d ∷ ds)) (delta_short narrow 0 (omega arith)) ∙ ap (then_more limit ds) (added_within limit total (pos 0) within) ∙ ap (λ (t : ℤ). t ∷ sums_within limit t ds) still)
+
+  twice : (n : ℕ) (ns : List ℕ) → drop (suc (suc n)) (values (0 ∷ 0 ∷ ns)) ≡ drop n (values ns)
+  twice n ns = again (suc n) (0 ∷ ns) ∙ again n ns
+
+  four_times : (n : ℕ) (ns : List ℕ) → drop (suc (suc (suc (suc n)))) (values (0 ∷ 0 ∷ 0 ∷ 0 ∷ ns)) ≡ drop n (values ns)
+  four_times n ns = twice (suc (suc n)) (0 ∷ 0 ∷ ns) ∙ twice n ns
+
+  pub eight_times : (n : ℕ) (ns : List ℕ) → drop (n + 8) (values (0 ∷ 0 ∷ 0 ∷ 0 ∷ 0 ∷ 0 ∷ 0 ∷ 0 ∷ ns)) ≡ drop n (values ns)
+  eight_times n ns =
+      let all = values (0 ∷ 0 ∷ 0 ∷ 0 ∷ 0 ∷ 0 ∷ 0 ∷ 0 ∷ ns) in
+      let count : n + 8 ≡ suc (suc (suc (suc (suc (suc (suc (suc n))))))) = omega arith in
+      ap (λ k. drop k all) count ∙ four_times (suc (suc (suc (suc n)))) (0 ∷ 0 ∷ 0 ∷ 0 ∷ ns) ∙ four_times n ns

@@ -263,16 +263,17 @@ count_more k os rest o is same =
     ∙ ap (λ (b : Bool). length (if b then placed o.place (numbers_in o.content) else []) + length (joined k rest)) (eq-eqb _ _ same)
     ∙ ap (λ n. n + length (joined k rest)) (length-map {B = ℕ × ℕ} (numbers_in o.content) (λ v. (v, o.place)))
 
--- if no packed occurrence is begun, the column is that of the fields
-pub nothing_begun : (column : Column) → length column.packed.now ≡ 0 → column_left column ≡ joined column.number (found_left column.fields)
+-- the numbers of the occurrence that was begun, and those of the fields after it
+pub begun_counted : (column : Column) (begun left : ℕ) → begun ≡ count_by (λ b. nat_lt b 128) column.packed.now → IsShort column.packed.now → left ≡ length (joined column.number (found_left column.fields)) → begun + left ≡ length (column_left column)
 unfolding column_left
-nothing_begun column none =
-    ap (λ es. placed column.packed_place (read_entries es) ++ joined column.number (found_left column.fields)) (entries_none column.packed.now none)
+begun_counted column begun left few short more =
+    let ns = read_entries (entries column.packed.now) in
+    omega (arith, short_counted (Some begun) column.packed.now short few, more, length-append (placed column.packed_place ns) (joined column.number (found_left column.fields)), length-map {B = ℕ × ℕ} ns (λ v. (v, column.packed_place)))
 
--- a count of few
-pub count_few : (r : Option ℕ) (xs ys : List (ℕ × ℕ)) → xs ≡ ys → length ys ≤ 2 ^ 26 → MatchOption r ⊤ (λ n. n ≡ length ys) → MatchOption r ⊤ (λ n. (n ≡ length xs) × (n ≤ 2 ^ 26))
-count_few None xs ys is few h = tt
-count_few (Some n) xs ys is few h = (h ∙ sym (ap (λ (zs : List (ℕ × ℕ)). length zs) is), omega (arith, h, few))
+pub begun_small : (column : Column) → IsShort column.packed.now → AllSmallPlaced (joined column.number (found_left column.fields)) → AllSmallPlaced (column_left column)
+unfolding column_left
+begun_small column short more =
+    all_append _ (placed column.packed_place (read_entries (entries column.packed.now))) (joined column.number (found_left column.fields)) (placed_small column.packed_place _ (short_numbers column.packed.now short)) more
 
 -- they are no more than the bytes that are left
 pub left_short : (k : ℕ) (fields : Fields) → length (joined k (found (fields_left fields))) ≤ length fields.rest.now

@@ -1,12 +1,12 @@
 //! A column: the numbers of all occurrences of one field, packed or single, joined.
 
-ghost use Rattle.std.specs.Prelude.{◌≡◌, ◌<◌, ◌^◌, ◌∷◌, [], MatchOption, ⊤, IsTrue, false};
+ghost use Rattle.std.specs.Prelude.{◌≡◌, ◌<◌, ◌≤◌, ◌^◌, ◌∷◌, [], MatchOption, ⊤, IsTrue, false, length, take};
 ghost use Rattle.pbf_wire.specs.Columns.{entries, read_entries};
 ghost use Rattle.pbf_wire.specs.declared.limits.TheConstants.{OFFSET_LIMIT};
 
 use crate::field::Payload;
 use crate::fields::{Fields, FoundFields};
-use crate::short::{MOST_BYTES, count_left_if_small};
+use crate::short::{MOST_BYTES, count_short, count_left_if_small};
 use crate::varint::{first_varint, short_varint};
 
 /// The first number of a packed column, and the bytes after it; `None` if the bytes don't begin with a varint.
@@ -31,6 +31,19 @@ fn first_short(packed: &[u8]) -> Option<(u64, &[u8])>
     Some((value, &packed[length..]))
 }
 
+/// Whether the first eight bytes are there and are all 0.
+#[inline(always)]
+fn begins_with_zeros(bytes: &[u8]) -> bool
+    ensures zeros { IsTrue result
+        → take 8 bytes.now ≡ 0 ∷ 0 ∷ 0 ∷ 0 ∷ 0 ∷ 0 ∷ 0 ∷ 0 ∷ [] }
+    ensures there { IsTrue result → 8 ≤ length bytes.now }
+{
+    let Some(front) = bytes.first_chunk::<8>() else {
+        return false;
+    };
+    u64::from_le_bytes(*front) == 0
+}
+
 /// A cursor over a column: it returns the numbers of all occurrences of one field in order, and says where the occurrence
 /// of the last one is. It does not allocate, and a copy of it continues by itself.
 #[derive(Clone, Copy)]
@@ -44,7 +57,7 @@ pub struct Column<'a> {
 }
 
 impl<'a> Column<'a> {
-    ghost use Rattle.std.specs.Prelude.{◌+◌, ◌≤◌, length};
+    ghost use Rattle.std.specs.Prelude.{◌+◌};
     ghost use Rattle.std.specs.List.{AllByRecursion};
     ghost use Rattle.pbf_wire.specs.Occurrence.{items, found};
     ghost use Rattle.pbf_wire.specs.Columns.{joined};
@@ -73,12 +86,55 @@ impl<'a> Column<'a> {
         ensures left { column_left result ≡ joined number (found (fields_left fields.entry)) }
         ensures place { place_of_number result ≡ 0 }
     {
-        Column {
+        let column = Column {
             fields: fields.found(),
             number,
             packed: &[],
             packed_place: 0,
             place: 0,
+        };
+        column.begun()
+    }
+
+    /// The column whose only occurrence is packed and has these bytes.
+    #[inline(always)]
+    #[tactic(auto, unfolding(crate::specs::Cursors::column_left))]
+    pub fn packed(bytes: &'a [u8]) -> Self
+        ensures { numbers_left result ≡ read_entries (entries bytes.now) }
+    {
+        Column {
+            fields: Fields::new(&[], 0).found(),
+            number: 0,
+            packed: bytes,
+            packed_place: 0,
+            place: 0,
+        }
+    }
+
+    /// The same column, of which no occurrence was begun: its first one is, if that is the next field and packed. Each copy of the
+    /// column goes on from there.
+    #[inline(always)]
+    #[tactic(auto, unfolding(crate::specs::Cursors::column_left))]
+    fn begun(self) -> Self
+        requires { read_entries (entries self.packed.now) ≡ [] }
+        ensures left { column_left result ≡ column_left self.entry }
+        ensures place { place_of_number result ≡ place_of_number self.entry }
+    {
+        let mut fields = self.fields;
+        let Some(field) = fields.next() else {
+            return self;
+        };
+        if field.number != self.number {
+            return self;
+        }
+        let Payload::Bytes(packed, _) = field.payload else {
+            return self;
+        };
+        Column {
+            fields,
+            packed,
+            packed_place: field.offset,
+            ..self
         }
     }
 
@@ -99,11 +155,12 @@ impl<'a> Column<'a> {
         ensures small { MatchOption result ⊤
             (λ _. AllByRecursion (λ x. x.0 < 2 ^ 35) (column_left self.now)) }
     {
-        // Of a packed occurrence that was begun the numbers that were given are no longer to come.
-        if !self.packed.is_empty() || self.fields.0.len() > MOST_BYTES {
+        if self.packed.len() > MOST_BYTES || self.fields.0.len() > MOST_BYTES {
             return None;
         }
-        count_left_if_small(self.fields.0, self.number)
+        let begun = count_short(self.packed)?;
+        let left = count_left_if_small(self.fields.0, self.number)?;
+        Some(begun + left)
     }
 
     /// The next number of the packed occurrence that was begun. If it has none nothing changes.
@@ -132,13 +189,12 @@ impl<'a> Column<'a> {
         Some(value)
     }
 
-    /// Skips the next number, if it is a 0 of one byte in the packed occurrence that was begun, as most of many columns are. Otherwise
-    /// nothing changes, and `false` says nothing of the number.
+    /// Like [`Column::pass_zero`]. The place is left as it is.
     #[inline(always)]
     #[tactic(auto, unfolding(crate::specs::Cursors::column_left))]
-    pub fn pass_zero(&mut self) -> bool
+    pub(crate) fn pass_short_zero(&mut self) -> bool
         ensures passed { IsTrue result
-            → column_left self.old ≡ (0, place_of_number self.new) ∷ column_left self.new }
+            → (column_left self.old ≡ (0, self.new.packed_place) ∷ column_left self.new) }
         ensures kept { result ≡ false → self.new ≡ self.old }
     {
         let [first, rest @ ..] = self.packed else {
@@ -148,7 +204,38 @@ impl<'a> Column<'a> {
             return false;
         }
         self.packed = rest;
+        true
+    }
+
+    /// Skips the next number, if it is a 0 of one byte in the packed occurrence that was begun, as most of many columns are. Otherwise
+    /// nothing changes, and `false` says nothing of the number.
+    #[inline(always)]
+    #[tactic(auto, unfolding(crate::specs::Cursors::column_left))]
+    pub fn pass_zero(&mut self) -> bool
+        ensures passed { IsTrue result
+            → column_left self.old ≡ (0, place_of_number self.new) ∷ column_left self.new }
+        ensures kept { result ≡ false → self.new ≡ self.old }
+    {
+        if !self.pass_short_zero() {
+            return false;
+        }
         self.place = self.packed_place;
+        true
+    }
+
+    /// Skips the next eight numbers, if each is a 0 of one byte in the packed occurrence that was begun. Otherwise nothing changes. The
+    /// place is left as it is.
+    #[inline(always)]
+    #[tactic(auto, unfolding(crate::specs::Cursors::column_left))]
+    pub fn pass_zeros(&mut self) -> bool
+        ensures passed { IsTrue result → numbers_left self.old
+            ≡ 0 ∷ 0 ∷ 0 ∷ 0 ∷ 0 ∷ 0 ∷ 0 ∷ 0 ∷ numbers_left self.new }
+        ensures kept { result ≡ false → self.new ≡ self.old }
+    {
+        if !begins_with_zeros(self.packed) {
+            return false;
+        }
+        self.packed = &self.packed[8..];
         true
     }
 

@@ -15,9 +15,9 @@ use crate::fields::Fields;
 /// How many bytes are tested at once. A varint that begins in the last four of them may end after them, so only the others are judged.
 const WINDOW: usize = 64;
 
-/// Fields of at most so many bytes have no more than 2^26 numbers in a column. If no entry is further than 2^34 from 0, their
-/// sums are no further than 2^60.
-pub(crate) const MOST_BYTES: usize = 1 << 26;
+/// Twice as many bytes have no more than 2^26 numbers in a column. If no entry is further than 2^34 from 0, their sums are no
+/// further than 2^60.
+pub(crate) const MOST_BYTES: usize = 1 << 25;
 
 /// The first 60 bits of a mask.
 const FIRST_SIXTY: u64 = (1 << 60) - 1;
@@ -95,7 +95,7 @@ pub fn is_short(bytes: &[u8]) -> bool
 }
 
 /// How many bytes end a varint, if [`is_short`] holds of the bytes.
-fn count_short(bytes: &[u8]) -> Option<usize>
+pub(crate) fn count_short(bytes: &[u8]) -> Option<usize>
     ensures short { MatchOption result ⊤ (λ _. IsShort bytes.now) }
     ensures counted { MatchOption result ⊤
         (λ count. count ≡ count_by (λ b. nat_lt b 128) bytes.now) }

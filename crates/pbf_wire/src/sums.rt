@@ -142,20 +142,33 @@ impl<'a> Sums<'a> {
         ensures passed { IsTrue result → sums_left self.old ≡ self.new.total ∷ sums_left self.new }
         ensures kept { result ≡ false → sums_left self.new ≡ sums_left self.old }
     {
-        self.entries.pass_zero()
+        self.entries.pass_short_zero()
     }
 
-    /// Skips the next value, if it is the last one again or its entry is short.
+    /// Skips the next eight values, if each is the last one again by a 0 of one byte.
     #[inline(always)]
-    fn pass_one(&mut self) -> bool
+    fn pass_eight(&mut self) -> bool
         ensures passed { IsTrue result
-            → (n : ℕ) → drop (n + 1) (sums_left self.old) ≡ drop n (sums_left self.new) }
+            → (n : ℕ) → drop (n + 8) (sums_left self.old) ≡ drop n (sums_left self.new) }
         ensures kept { result ≡ false → sums_left self.new ≡ sums_left self.old }
     {
-        if self.pass_same() {
-            return true;
+        self.entries.pass_zeros()
+    }
+
+    /// Skips values, eight at a time, as long as they are the last one again, and returns how many of `count` are still to be skipped.
+    #[inline(always)]
+    fn pass_equal(&mut self, count: usize) -> usize
+        ensures passed { drop result (sums_left self.new) ≡ drop count (sums_left self.old) }
+        ensures fewer { result ≤ count }
+    {
+        let mut left = count;
+        'values: while left >= 8 {
+            if !self.pass_eight() {
+                break;
+            }
+            left -= 8;
         }
-        self.next_short().is_some()
+        left
     }
 
     /// Skips values as long as that is quick, and returns how many of `count` are still to be skipped. They are read from a copy,
@@ -167,7 +180,11 @@ impl<'a> Sums<'a> {
         let mut rest = *self;
         let mut left = count;
         'entries: while left > 0 {
-            if !rest.pass_one() {
+            if rest.pass_same() {
+                left = rest.pass_equal(left - 1);
+                continue;
+            }
+            if rest.next_short().is_none() {
                 break;
             }
             left -= 1;

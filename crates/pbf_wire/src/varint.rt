@@ -114,6 +114,9 @@ pub(crate) fn first_varint(bytes: &[u8]) -> Result<(u64, usize), Reason>
 ///
 /// Spellings that are longer than needed are read. The errors are `VarintCut`, if the bytes end inside the varint, and
 /// `VarintLong`, if ten bytes have the top bit set or the tenth is above 1, so that the number would not fit 64 bits.
+///
+/// It is inlined, so that a number of one to three bytes takes no call.
+#[inline(always)]
 pub fn get_varint(bytes: &[u8], at: usize) -> Result<(u64, usize), Reason>
     requires { at ≤ length bytes.now }
 
@@ -151,6 +154,35 @@ pub fn shortest_spelling(value: u64) -> ([u8; 10], usize)
     (spelling, length + 1)
 }
 
+/// Like [`put_longer`], of a number that takes four bytes or more: most of them take four or five.
+#[inline(never)]
+fn put_longest(out: &mut Vec<u8>, value: u64) -> Result<(), AllocError>
+    requires { 2 ^ 21 ≤ value }
+    ensures ok { OnOk result (out.new.items ≡ out.old.items ++ shortest value) }
+    ensures err { OnErr result (out.new.items ≡ out.old.items) }
+{
+    if value < 1 << 28 {
+        out.extend_from_slice(&[
+            (value % 128 + 128) as u8,
+            (value / 128 % 128 + 128) as u8,
+            (value / 128 / 128 % 128 + 128) as u8,
+            (value / 128 / 128 / 128) as u8,
+        ])?;
+    } else if value < 1 << 35 {
+        out.extend_from_slice(&[
+            (value % 128 + 128) as u8,
+            (value / 128 % 128 + 128) as u8,
+            (value / 128 / 128 % 128 + 128) as u8,
+            (value / 128 / 128 / 128 % 128 + 128) as u8,
+            (value / 128 / 128 / 128 / 128) as u8,
+        ])?;
+    } else {
+        let (spelling, length) = shortest_spelling(value);
+        out.extend_from_slice(&spelling[..length])?;
+    }
+    Ok(())
+}
+
 /// Like [`put_varint`], of a number that takes two bytes or more: most of them take two or three, which are spelled at once.
 #[inline(never)]
 fn put_longer(out: &mut Vec<u8>, value: u64) -> Result<(), AllocError>
@@ -167,8 +199,7 @@ fn put_longer(out: &mut Vec<u8>, value: u64) -> Result<(), AllocError>
             (value / 128 / 128) as u8,
         ])?;
     } else {
-        let (spelling, length) = shortest_spelling(value);
-        out.extend_from_slice(&spelling[..length])?;
+        put_longest(out, value)?;
     }
     Ok(())
 }

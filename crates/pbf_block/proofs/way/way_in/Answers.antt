@@ -1,19 +1,8 @@
-use Rattle.std.proofs.Common.{◌≡◌, ℤ, List, SFits, w64, to_z-of_z, rules, ◌∙◌}
-use Rattle.std.specs.List.{zip}
+use Rattle.std.proofs.Common.{SFits, w64, to_z-of_z, rules, ◌∙◌}
 use Rattle.pbf_wire.specs.Faults.{found_in}
-use Rattle.osm_entity.specs.declared.scale.Scale.{Scale}
-use Rattle.osm_entity.specs.Entity.{TagSpec, MetaSpec, LocationSpec, WaySpec}
 use Rattle.pbf_block.specs.Way.{way_in}
+use Rattle.pbf_block.proofs.PlainLemmas.{same_way}
 use Rattle.pbf_block.proofs.way.way_in.Goals as goal
-
-abbrev made : ℤ → MetaSpec → List TagSpec → List ℤ → List LocationSpec → Scale → WaySpec
-made id meta tags refs locations scale = record { id = id; meta = meta; tags = tags; refs = refs; locations = locations; scale = scale }
-
--- ways of the same parts
-same_way : (scale : Scale) (id i : ℤ) (meta m : MetaSpec) (tags t : List TagSpec) (refs r lats a lons o : List ℤ) (locations : List LocationSpec)
-    → id ≡ i → meta ≡ m → tags ≡ t → refs ≡ r → lats ≡ a → lons ≡ o → locations ≡ zip lats lons
-    → made id meta tags refs locations scale ≡ made i m t r (zip a o) scale
-same_way scale id i meta m tags t refs r lats a lons o locations same_id same_meta same_tags same_refs same_lats same_lons both = cc
 
 pub returns : goal.returns
 unfolding way_in

@@ -3,7 +3,7 @@ use Rattle.std.proofs.lemmas.List.{take_rest}
 use Rattle.pbf_wire.specs.Columns.{placed, joined}
 use Rattle.pbf_wire.specs.Cursors.{column_left, found_left}
 use Rattle.pbf_wire.proofs.Columns.{zero_read}
-use Rattle.pbf_wire.proofs.column.Column.pass_zero.Goals as goal
+use Rattle.pbf_wire.proofs.column.Column.pass_short_zero.Goals as goal
 
 pub returns-clause-passed : goal.returns-clause-passed
 unfolding column_left
