@@ -7,9 +7,10 @@ Those of crates/NAME/must-fail/ are tried, where no other set is named. The edit
 to fit the files that it changes.
 
 The prover judges each function by the contracts of those that it calls, and names each function that it refuses. So one check of a
-crate tries many bugs, one in a function, and asks for the proofs of these functions alone: the others have a hole in place of one. A
-bug counts as refused where the prover leaves open a goal of the function that it stands in. One that it does not refuse so is tried
-by itself, and then has to be refused in some place. That a proof cites a name which the bug took away is no refusal.
+crate tries many bugs, one in a function, and asks for the proofs of these functions alone: the others have a hole in place of one, and
+an endless loop as their body. A bug counts as refused where the prover leaves open a goal of the function that it stands in. One that
+it does not refuse so is tried by itself, and then has to be refused in some place. That a proof cites a name which the bug took away is
+no refusal.
 
 FOLDER has the built libraries, FOLDER/NAME/out/rlib/NAME.rlib; with none they are those of this tree, built where they lack. With
 --beside each crate waits for the libraries that it depends on, until `rt ci`, the process PID, says in FILE that they are proved, or ends.
@@ -93,6 +94,12 @@ def text_of(crate, file):
         return it.read()
 
 
+def write(path, text):
+    os.makedirs(os.path.dirname(path), exist_ok=True)
+    with open(path, "w", encoding="utf-8") as made:
+        made.write(text)
+
+
 class Unusable(Exception):
     """An edit that cannot be tried, or a check that gave no verdict."""
 
@@ -135,9 +142,9 @@ def contract_of(crate, text, place):
 
 
 def functions_of(file, text):
-    """The functions of a file of src/ with the folders of their proofs: those of the module itself, and the methods of the types that it
-    declares. The methods of traits are not among them."""
-    module, owner = module_of(file), ""
+    """The functions of a file of src/, each with the folder of its proof and the place of its first line: those of the module itself, and
+    the methods of the types that it declares. The methods of traits are not among them."""
+    module, owner, place = module_of(file), "", 0
     for line in text.split("\n"):
         if line.startswith("impl"):
             name = re.match(r"impl\b(?:<.*>)? ?(\w+)", line)[1]
@@ -147,7 +154,19 @@ def functions_of(file, text):
             owner = ""
         found = re.match(r"( *)(?:pub(?:\([a-z]+\))? )?(?:const )?fn (\w+)", line)
         if found and owner is not None and len(found[1]) == (4 if owner else 0):
-            yield found[2], "/".join(it for it in (module, owner, found[2]) if it)
+            yield found[2], "/".join(it for it in (module, owner, found[2]) if it), place
+        place += len(line) + 1
+
+
+def without_body(text, place):
+    """A file's text with an endless loop as the body of the function whose first line is at this place, by the layout of `rt fmt`: a body
+    begins with the first brace that ends a line which is indented as the first is."""
+    indent = re.compile(" *").match(text, place)[0]
+    begin = re.compile(rf"^{indent}(?:\S.* )?\{{(\}}?)$", re.M).search(text, place)
+    if begin[1]:
+        return text
+    end = re.compile(rf"^{indent}\}}$", re.M).search(text, begin.end())
+    return f"{text[: begin.end()]}\n{indent}    loop {{}}\n{text[end.start() :]}"
 
 
 def homes_of(file, text):
@@ -255,8 +274,8 @@ def goal_in(line):
     return found[1] if found else "its proof"
 
 
-def read_verdict(crate, status, said, texts):
-    """Reads the lines of a check of a crate that has these texts in place of its own."""
+def read_verdict(room, status, said, texts):
+    """Reads the lines of a check of a copy of a crate, in which these texts are edited."""
     functions = {(path.replace("::", "/"), name) for path, name in re.findall(r"^fn \w+::(?:(\S+)::)?(\w+): ", said, re.M)}
     refused, elsewhere, unread = {}, "", ""
 
@@ -276,8 +295,7 @@ def read_verdict(crate, status, said, texts):
         open_goal = re.match(r"note: (src/\S+):(\d+):\d+: it is not proved that .*\((`.*)", line)
         if open_goal:
             elsewhere = elsewhere or line
-            text = texts.get(open_goal[1]) or text_of(crate, open_goal[1])
-            name = function_below(text, int(open_goal[2]))
+            name = function_below(text_of(room, open_goal[1]), int(open_goal[2]))
             if name:
                 refuse(module_of(open_goal[1]), name, open_goal[3])
         searched = re.match(r"fn \S+: no proof: expected answers in \./proofs/(?:(\S+)/)?(\w+)/Answers\.antt; (`search` did not prove .*)", line)
@@ -362,20 +380,22 @@ class Crate:
         else by the folders of their proofs, or else the module."""
         named = [(path, name) for path, name in self.functions if name == change.function and change.is_in(path)]
         folders = functions_of(change.home, text_of(self.folder, change.home))
-        known = [f"{path}/{name}".lstrip("/") for path, name in named] or [folder for name, folder in folders if name == change.function]
+        known = [f"{path}/{name}".lstrip("/") for path, name in named] or [folder for name, folder, _ in folders if name == change.function]
         return {path.replace("/", "::") for path in known or [module_of(change.home)]}
 
     def leave_out(self, room, asked):
-        """Puts a hole in place of the proof of each function of a copy of the crate that is not asked for, in these files by these names."""
+        """Puts a hole in place of the proof of each function of a copy of the crate that is not asked for, in these files by these names, and
+        an endless loop in place of its body: the prover reads a body and all that it calls, even where the proof is a hole."""
         for file in [file for file in files_in(room) if file.startswith("src/")]:
-            for name, folder in functions_of(file, text_of(room, file)):
-                if (file, name) not in asked and (file, "") not in asked:
-                    proof = os.path.join(room, "proofs", folder)
-                    shutil.rmtree(proof, ignore_errors=True)
-                    os.makedirs(proof)
-                    module = f"Rattle.{self.name}.proofs.{folder.replace('/', '.')}"
-                    with open(os.path.join(proof, "Proof.antt"), "w", encoding="utf-8") as made:
-                        made.write(HOLE.format(module=module, name=name))
+            text = text_of(room, file)
+            others = [it for it in functions_of(file, text) if (file, it[0]) not in asked and (file, "") not in asked]
+            for name, folder, place in reversed(others):
+                text = without_body(text, place)
+                proof = os.path.join(room, "proofs", folder)
+                shutil.rmtree(proof, ignore_errors=True)
+                module = f"Rattle.{self.name}.proofs.{folder.replace('/', '.')}"
+                write(os.path.join(proof, "Proof.antt"), HOLE.format(module=module, name=name))
+            write(os.path.join(room, file), text)
 
     def check(self, bugs, kept, is_whole=False):
         """Checks a copy of the crate that has these bugs, over what the checks before it proved: the functions that they stand in, and what has
@@ -392,16 +412,15 @@ class Crate:
                 if os.path.isdir(os.path.join(self.folder, part)):
                     shutil.copytree(os.path.join(self.folder, part), os.path.join(room, part))
             for file, text in texts.items():
-                with open(os.path.join(room, file), "w", encoding="utf-8") as made:
-                    made.write(text)
+                write(os.path.join(room, file), text)
             if not is_whole:
                 self.leave_out(room, homes)
             how = {"cwd": room, "stdin": subprocess.DEVNULL, "stdout": subprocess.PIPE, "stderr": subprocess.STDOUT, "errors": "replace"}
             ran = subprocess.run(self.words() + only + ["--incremental", kept], **how)
             if ran.returncode == -signal.SIGKILL:  # most often memory ran out: once more
                 ran = subprocess.run(self.words() + only + ["--incremental", kept], **how)
+            verdict = read_verdict(room, ran.returncode, ran.stdout, texts)
         self.checks += 1
-        verdict = read_verdict(self.folder, ran.returncode, ran.stdout, texts)
         self.functions |= verdict.functions
         return verdict
 

@@ -108,24 +108,34 @@ fn chosen(alloc: Global, nodes: &[NodeRow], ways: &[WayRow<'_>]) -> Result<Chose
     phase.end_ways()
 }
 
-/// What one phase of nodes and ways takes: these nodes, these ways, and then these nodes. Whether they came in order, and what was
-/// chosen; if they didn't, the ways are taken again.
-fn chosen_first(
+fn take_first_nodes(
+    phase: &mut FirstPhase,
     alloc: Global,
-    nodes: &[NodeRow],
-    ways: &[WayRow<'_>],
-    late: &[NodeRow],
-) -> Result<(bool, Chosen), AllocError> {
-    let mut phase = FirstPhase::new(alloc, AREA);
-    for row in nodes {
+    rows: &[NodeRow],
+) -> Result<(), AllocError> {
+    for row in rows {
         phase.take_node(&node(alloc, *row).view())?;
     }
-    for row in ways {
+    Ok(())
+}
+
+fn take_first_ways(
+    phase: &mut FirstPhase,
+    alloc: Global,
+    rows: &[WayRow<'_>],
+) -> Result<(), AllocError> {
+    for row in rows {
         phase.take_way(&way(alloc, *row)?.view())?;
     }
-    for row in late {
-        phase.take_node(&node(alloc, *row).view())?;
-    }
+    Ok(())
+}
+
+/// What is chosen once the phase of nodes and ways has ended; if they didn't come in order, these ways are taken again.
+fn chosen_after(
+    phase: FirstPhase,
+    alloc: Global,
+    ways: &[WayRow<'_>],
+) -> Result<Chosen, AllocError> {
     let in_order = phase.is_in_order();
     let mut phase = phase.end()?;
     if !in_order {
@@ -133,7 +143,23 @@ fn chosen_first(
             take_way(&mut phase, alloc, *row)?;
         }
     }
-    Ok((in_order, phase.end_ways()?))
+    phase.end_ways()
+}
+
+/// What one phase of nodes and ways takes: these nodes, these ways, and then these nodes. Whether they came in order, and what was
+/// chosen.
+fn chosen_first(
+    alloc: Global,
+    nodes: &[NodeRow],
+    ways: &[WayRow<'_>],
+    late: &[NodeRow],
+) -> Result<(bool, Chosen), AllocError> {
+    let mut phase = FirstPhase::new(alloc, AREA);
+    take_first_nodes(&mut phase, alloc, nodes)?;
+    take_first_ways(&mut phase, alloc, ways)?;
+    take_first_nodes(&mut phase, alloc, late)?;
+    let in_order = phase.is_in_order();
+    Ok((in_order, chosen_after(phase, alloc, ways)?))
 }
 
 /// With all parents, of a list with node 1 in the box and these relations.
