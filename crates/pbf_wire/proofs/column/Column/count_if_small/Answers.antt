@@ -2,7 +2,7 @@ use Rattle.std.proofs.Common.{◌+◌, ◌≤◌, ◌^◌, arith}
 use Rattle.std.specs.Prelude.{nat_lt}
 use Rattle.std.proofs.lemmas.List.Sums.{count_by-le-length}
 use Rattle.pbf_wire.proofs.ShortLemmas.{begun_counted, begun_small, left_short}
-use Rattle.pbf_wire.proofs.column.Column.count_small.Goals as goal
+use Rattle.pbf_wire.proofs.column.Column.count_if_small.Goals as goal
 
 -- each of both has at most 2^25
 few : (c : goal.In_ok-left) → (c.in_ok-begun.begun + c.in_ok-left.left) ≤ 2 ^ 26
