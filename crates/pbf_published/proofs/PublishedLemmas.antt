@@ -1,24 +1,28 @@
 -- What a feed gave, unpacked, is the raw file that packed bytes mean.
-use Rattle.std.proofs.Common.{◌≡◌, ◌≤◌, ◌||◌, ◌⊎◌, inl, inr, ℕ, suc, Bool, true, false, List, [], Option, Some, Result, Ok, Err, IfOk, IfErr, IfSome, OnErr, refl, sym, ap, ◌∙◌, subst}
+use Rattle.std.proofs.Common.{◌≡◌, ◌||◌, ◌⊎◌, inl, inr, ℕ, suc, Bool, true, false, List, [], Option, Some, None, Result, Ok, Err, IfOk, IfErr, IfSome, OnErr, refl, sym, ap, ◌∙◌, subst}
 use Rattle.std.proofs.lemmas.Option.{same_Some}
+use Rattle.sha2.specs.declared.Sha256.{Sha256}
 use Rattle.sha2.specs.Sha256.{sha256}
 use Rattle.pbf_wire.specs.declared.fault.Fault.{Fault}
 use Rattle.pbf_frame.specs.declared.device.Feed as feed
 use Rattle.pbf_frame.specs.declared.stop.Stop.{Stop}
 use Rattle.pbf_frame.specs.declared.stop.Stop.TheVariants as stop
 use Rattle.pbf_frame.specs.Devices.{IsAtEnd, IsFront, HasRisen, prepend}
+use Rattle.pbf_frame.specs.Verdict.{Verdict}
 use Rattle.pbf_pass.specs.Given.{GaveFile}
 use Rattle.pbf_pass.specs.Hashing.{HasCounted, IsDigestOf, digest_if}
 use Rattle.pbf_pass.specs.declared.receipt.Halt.{Halt}
 use Rattle.pbf_pass.specs.declared.receipt.InputReceipt.{InputReceipt}
 use Rattle.pbf_pass.specs.Refused.{stop_of}
-use Rattle.pbf_pass.specs.HeaderLimit.{judged_writable}
 use Rattle.pbf_pass.specs.Stops.{Caused, FaultOf, ReadFailed}
+use Rattle.pbf_pass.specs.declared.hashed.PassFeed.{PassFeed}
+use Rattle.pbf_unpack.specs.declared.feed.UnpackedFeed.{UnpackedFeed}
 use Rattle.pbf_unpack.specs.Unpacked.{unpacked}
 use Rattle.pbfcut.specs.Calls.{Differ, GaveOrNot, RefusedFirst}
 use Rattle.pbfcut.proofs.ConvertingLemmas.{nothing_out}
 use Rattle.pbf_published.specs.declared.input.PublishedHalt.{PublishedHalt}
-use Rattle.pbf_published.specs.Published.{Closed, GavePublished, GaveOrNone, Opened, PassedAs, ReportsOutcome, UnlessChanged, log_number, log_of, raw_of, told_by}
+use Rattle.pbf_published.specs.declared.traced.TracedFeed.{TracedFeed}
+use Rattle.pbf_published.specs.Published.{Closed, GavePublished, GaveOrNone, IsUnread, Opened, ReportsOutcome, UnlessChanged, log_number, log_of, raw_of, told_by}
 
 -- a feed of a pass that was opened, in the log that says most
 pub opened_by : {D H : Type 0} (holds : H → List ℕ → Type 0) (below : D → ℕ → List ℕ → Type 0) (device : D) (flag hashes : Bool) (hasher : H) (count : ℕ) → flag ≡ hashes → holds hasher [] → count ≡ 0 → HasCounted holds below device flag hasher count (log_of hashes) []
@@ -48,15 +52,13 @@ nothing_left old None file all told end is = (let bad : ⊥ = (let none = sym to
 abbrev pub DigestIsOf : (known digest : Option (List ℕ)) → Type 0
 DigestIsOf known digest = (all : List ℕ) → known ≡ Some all → digest ≡ Some (sha256 all)
 
-module _ {F U : Type 0} (f : feed.Ghosts F) (u : feed.Ghosts U) (first last : F) (old new : U) (raw_digest : Option (List ℕ)) (holds : List ℕ → Type 0) (hashes : Bool) (o : Option (List ℕ))
-  (remaining : u.remaining old ≡ raw_of (f.remaining first)) (opened : Opened (f.remaining first) (f.has_passed first) hashes (u.has_passed old)) (closed : Closed (f.has_passed last) (u.has_passed new) (u.remaining new) o)
-where
-  ended : GaveFile u old new raw_digest holds → (all : List ℕ) → f.remaining first ≡ Some all → u.remaining new ≡ Some []
-  ended given all is = nothing_left (u.remaining old) (u.remaining new) given.file (unpacked all) given.supplied.told given.supplied.end (remaining ∙ ap raw_of is)
+module _ {F U : Type 0} (f : feed.Ghosts F) (first last : F) {u : feed.Ghosts U} {old new : U} {raw_digest : Option (List ℕ)} {holds : List ℕ → Type 0} (given : GaveFile u old new raw_digest holds) (hashes : Bool) (o : Option (List ℕ)) (remaining : u.remaining old ≡ raw_of (f.remaining first)) (opened : Opened (f.remaining first) (f.has_passed first) hashes (u.has_passed old)) (closed : Closed (f.has_passed last) (u.has_passed new) (u.remaining new) o) where
+  ended : (all : List ℕ) → f.remaining first ≡ Some all → u.remaining new ≡ Some []
+  ended all is = nothing_left (u.remaining old) (u.remaining new) given.file (unpacked all) given.supplied.told given.supplied.end (remaining ∙ ap raw_of is)
 
   -- what is said of the file that an unpacking feed gave is said of the raw file that packed bytes mean
-  pub published_of : (keeps : List ℕ → Type 0) → ((file : List ℕ) → holds file → keeps file) → (digest : List ℕ) → o ≡ Some digest → GaveFile u old new raw_digest holds → GavePublished f first last (digest_if hashes digest) raw_digest keeps
-  published_of keeps step digest is given =
+  pub published_of : (digest : List ℕ) → o ≡ Some digest → (keeps : List ℕ → Type 0) → ((file : List ℕ) → holds file → keeps file) → GavePublished f first last (digest_if hashes digest) raw_digest keeps
+  published_of digest is keeps step =
       let file = given.file in
       let known = f.remaining first in
       let m = if_digest o digest _ is (closed.means hashes known file (given.supplied.logged (log_number (log_of hashes) known) [] opened.hashed)) in
@@ -64,7 +66,7 @@ where
         packed = m.packed;
         digest_is = m.digest_is;
         raw_digest_is = subst (λ (l : List ℕ). IsDigestOf raw_digest l) (sym m.means) given.digest_is;
-        told = λ all all_is. same_Some _ _ (sym all_is ∙ m.told (ended given all all_is));
+        told = λ all all_is. same_Some _ _ (sym all_is ∙ m.told (ended all all_is));
         logged = λ log start.
             let p = if_digest o digest _ is (closed.logged log known file (given.supplied.logged (log_number (suc (suc log)) known) [] (opened.logged log start))) in
             record { packed = p.packed; passed = p.passed; means = p.means ∙ sym m.means };
@@ -72,23 +74,22 @@ where
       }
 
   -- the digest is that of what the feed had to give
-  pub digest_told : hashes ≡ true → GaveFile u old new raw_digest holds → DigestIsOf (f.remaining first) o
-  digest_told hashed given all is = of o refl where
+  pub digest_told : hashes ≡ true → DigestIsOf (f.remaining first) o
+  digest_told hashed all is = of o refl where
     of : (x : Option (List ℕ)) → o ≡ x → o ≡ Some (sha256 all)
-    of None none = absurd (closed.there (ended given all is) none)
+    of None none = absurd (closed.there (ended all is) none)
     of (Some digest) some =
-        let p = published_of holds (λ file h. h) digest some given in
+        let p = published_of digest some holds (λ file h. h) in
         let digest_is : digest ≡ sha256 p.packed = subst (λ (h : Bool). IsDigestOf (digest_if h digest) p.packed) hashed p.digest_is in
         some ∙ ap (λ (l : List ℕ). Some l) digest_is ∙ ap (λ (l : List ℕ). Some (sha256 l)) (sym (p.told all is))
 
 -- the same of a feed of which perhaps nothing was read
-pub published_or_none : {F U : Type 0} (f : feed.Ghosts F) (u : feed.Ghosts U) (first last : F) (old new : U) (raw_digest : Option (List ℕ)) (holds keeps : List ℕ → Type 0) (o : Option (List ℕ)) (remaining : u.remaining old ≡ raw_of (f.remaining first))
-    (opened : Opened (f.remaining first) (f.has_passed first) true (u.has_passed old)) (closed : Closed (f.has_passed last) (u.has_passed new) (u.remaining new) o) → ((file : List ℕ) → holds file → keeps file) → (digest file : List ℕ)
-    → (o ≡ Some digest) ⊎ (o ≡ Some (sha256 [])) → (new ≡ old → last ≡ first) → GaveOrNot u old new raw_digest file holds → GaveOrNone f first last digest raw_digest file keeps
-published_or_none f u first last old new raw_digest holds keeps o remaining opened closed step digest file (inl is) same (inl given) = inl (inl (published_of f u first last old new raw_digest holds true o remaining opened closed keeps step digest is given))
-published_or_none f u first last old new raw_digest holds keeps o remaining opened closed step digest file (inr is) same (inl given) =
-    inl (inr (published_of f u first last old new raw_digest holds true o remaining opened closed keeps step (sha256 []) is given))
-published_or_none f u first last old new raw_digest holds keeps o remaining opened closed step digest file is same (inr (unchanged, holding)) = inr (same unchanged, step file holding)
+pub published_or_none : {F U : Type 0} (f : feed.Ghosts F) (first last : F) {u : feed.Ghosts U} {old new : U} {raw_digest : Option (List ℕ)} (holds : List ℕ → Type 0) (file : List ℕ) → GaveOrNot u old new raw_digest file holds → (o : Option (List ℕ)) → u.remaining old ≡ raw_of (f.remaining first)
+    → Opened (f.remaining first) (f.has_passed first) true (u.has_passed old) → Closed (f.has_passed last) (u.has_passed new) (u.remaining new) o → (digest : List ℕ) → (o ≡ Some digest) ⊎ (o ≡ Some (sha256 [])) → (new ≡ old → last ≡ first)
+    → (keeps : List ℕ → Type 0) → ((file : List ℕ) → holds file → keeps file) → GaveOrNone f first last digest raw_digest file keeps
+published_or_none f first last holds file (inl given) o remaining opened closed digest (inl is) same keeps step = inl (inl (published_of f first last given true o remaining opened closed digest is keeps step))
+published_or_none f first last holds file (inl given) o remaining opened closed digest (inr is) same keeps step = inl (inr (published_of f first last given true o remaining opened closed (sha256 []) is keeps step))
+published_or_none f first last holds file (inr (unchanged, holding)) o remaining opened closed digest is same keeps step = inr (same unchanged, step file holding)
 
 -- a feed that was closed is one that a reference goes to
 pub closed_below : {F : Type 0} (has_passed : F → ℕ → List ℕ → Type 0) (mid last : F) (supplied : ℕ → List ℕ → Type 0) (left o : Option (List ℕ)) → mid ≡ last → Closed (has_passed mid) supplied left o → Closed (has_passed last) supplied left o
@@ -124,15 +125,15 @@ stops_reported refused at_fault below above wrote changed numbers lacks s report
 pub read_below : {F : Type 0} (f : feed.Ghosts F) (first last : F) (old new : ℕ) → old ≡ f.failures first → new ≡ f.failures last → HasRisen old new → ReadFailed f first last
 read_below f first last old new before after risen = subst (λ (n : ℕ). HasRisen n (f.failures last)) before (subst (λ (n : ℕ). HasRisen old n) after risen)
 
-module _ (lacks : Bool) (o : Result InputReceipt Halt) (r : Result InputReceipt PublishedHalt) (tells : ReportsOutcome lacks o r) where
-  -- what a call over raw files returned, if it is reported as a receipt
-  pub outcome_receipt : (holds : InputReceipt → Type 0) (receipt : InputReceipt) → r ≡ Ok receipt → IfOk o holds → holds receipt
-  outcome_receipt holds receipt is held = of o (subst (λ (x : Result InputReceipt PublishedHalt). ReportsOutcome lacks o x) is tells) held where
-    of : (x : Result InputReceipt Halt) → ReportsOutcome lacks x (Ok receipt) → IfOk x holds → holds receipt
-    of (Ok known) same held = subst holds (sym same) held
-    of (Err halt) same held = absurd same
+-- what a call over raw files returned, if it is reported as a receipt
+pub outcome_receipt : (o : Result InputReceipt Halt) (holds : InputReceipt → Type 0) → IfOk o holds → (r : Result InputReceipt PublishedHalt) (receipt : InputReceipt) → r ≡ Ok receipt → (lacks : Bool) → ReportsOutcome lacks o r → holds receipt
+outcome_receipt o holds held r receipt is lacks tells = of o (subst (λ (x : Result InputReceipt PublishedHalt). ReportsOutcome lacks o x) is tells) held where
+  of : (x : Result InputReceipt Halt) → ReportsOutcome lacks x (Ok receipt) → IfOk x holds → holds receipt
+  of (Ok known) same held = subst holds (sym same) held
+  of (Err halt) same held = absurd same
 
-  -- and if it is reported as a stop
+-- and if it is reported as a stop
+module _ (lacks : Bool) (o : Result InputReceipt Halt) (r : Result InputReceipt PublishedHalt) (tells : ReportsOutcome lacks o r) where
   pub outcome_stops : (refused at_fault : Fault → Type 0) (below above wrote : Type 0) (changed numbers : ℕ → Type 0) (reported : PublishedHalt) → r ≡ Err reported → ((e : Fault) → refused e → at_fault e) → (lacks ≡ false → below → above) → ((pass : ℕ) → changed pass → numbers pass)
       → IfErr o (λ h. Caused refused below wrote changed (stop_of h)) → Caused at_fault above wrote numbers reported.stop
   outcome_stops refused at_fault below above wrote changed numbers reported is faults reads passes caused = of o (subst (λ (x : Result InputReceipt PublishedHalt). ReportsOutcome lacks o x) is tells) caused where
@@ -147,8 +148,8 @@ module _ (lacks : Bool) (o : Result InputReceipt Halt) (r : Result InputReceipt 
     of (Err halt) same held = unless_changed above reported.stop (step held)
 
 -- a raw file that is refused, by what is known of it
-pub refused_as : (known raw old new : Option (List ℕ)) (e : Fault) → known ≡ raw → RefusedFirst (judged_writable known) old new e → RefusedFirst (judged_writable raw) old new e
-refused_as known raw old new e same refused = (subst (λ (k : Option (List ℕ)). FaultOf (judged_writable k) e) same refused.0, refused.1)
+pub refused_as : (judge : Option (List ℕ) → Option Verdict) (known raw old new : Option (List ℕ)) (e : Fault) → known ≡ raw → RefusedFirst (judge known) old new e → RefusedFirst (judge raw) old new e
+refused_as judge known raw old new e same refused = (subst (λ (k : Option (List ℕ)). FaultOf (judge k) e) same refused.0, refused.1)
 
 -- each of two cases gives one
 pub either_of : {A B C D : Type 0} → (A → C) → (B → D) → A ⊎ B → C ⊎ D
@@ -160,6 +161,10 @@ pub none_lacks : (a b : Bool) → (a || b) ≡ false → (a ≡ false) × (b ≡
 none_lacks false false none = (refl, refl)
 none_lacks true b none = (let bad : ⊥ = cc in absurd bad)
 none_lacks false true none = (let bad : ⊥ = cc in absurd bad)
+
+pub not_both : (b : Bool) → b ≡ true → b ≡ false → ⊥
+not_both true is isnt = (let bad : ⊥ = cc in bad)
+not_both false is isnt = (let bad : ⊥ = cc in bad)
 
 -- ---- why a pass is reported as changed
 
@@ -177,18 +182,22 @@ first_unknown known o of none b c is_b is_c same = (let bad : ⊥ = (let some : 
 
 -- a later feed hasn't the digest of the first: so its bytes differ
 pub later_differ : (first other o p : Option (List ℕ)) (digest : List ℕ) → DigestIsOf first o → o ≡ Some digest → DigestIsOf other p → (p ≡ Some digest → ⊥) → Differ first other
-later_differ first other o p digest of is other_of no b c is_b is_c same = no (other_of c is_c ∙ ap (λ (l : List ℕ). Some (sha256 l)) (sym same) ∙ sym (of b is_b) ∙ is)
+later_differ first other o p digest of is other_of unlike b c is_b is_c same = unlike (other_of c is_c ∙ ap (λ (l : List ℕ). Some (sha256 l)) (sym same) ∙ sym (of b is_b) ∙ is)
+
+-- a feed that is as it was opened
+pub unread_still : {F : Type 0} (holds : Sha256 → List ℕ → Type 0) (old new : UnpackedFeed (TracedFeed (PassFeed F))) (below : F) → new ≡ old → IsUnread holds old below → IsUnread holds new below
+unread_still holds old new below same unread = subst (λ u. IsUnread holds u below) (sym same) unread
 
 -- the second feed hasn't the digest of the first nor that of nothing: it was read, and its bytes differ
-pub second_differs : {U : Type 0} (u : feed.Ghosts U) (old new : U) (raw_digest : Option (List ℕ)) (file : List ℕ) {holds : List ℕ → Type 0} → GaveOrNot u old new raw_digest file holds → {first other o p : Option (List ℕ)} {digest : List ℕ} → DigestIsOf first o → o ≡ Some digest
+pub second_differs : {U : Type 0} {u : feed.Ghosts U} {old new : U} {raw_digest : Option (List ℕ)} (file : List ℕ) (holds : List ℕ → Type 0) → GaveOrNot u old new raw_digest file holds → {first other o p : Option (List ℕ)} {digest : List ℕ} → DigestIsOf first o → o ≡ Some digest
     → (GaveFile u old new raw_digest holds → DigestIsOf other p) → (new ≡ old → p ≡ Some (sha256 [])) → (p ≡ Some digest → ⊥) × (p ≡ Some (sha256 []) → ⊥) → Differ first other
-second_differs u old new raw_digest file (inl given) of is read unread no = later_differ _ _ _ _ _ of is (read given) no.0
-second_differs u old new raw_digest file (inr (same, holding)) of is read unread no = absurd (no.1 (unread same))
+second_differs file holds (inl given) of is read unread unlike = later_differ _ _ _ _ _ of is (read given) unlike.0
+second_differs file holds (inr (same, holding)) of is read unread unlike = absurd (unlike.1 (unread same))
 
 -- what is said of the next feed, whether the one before was read or not
-pub rest_of : {U : Type 0} {u : feed.Ghosts U} {old new : U} {raw_digest : Option (List ℕ)} {file : List ℕ} {holds : List ℕ → Type 0} → GaveOrNot u old new raw_digest file holds → (c : List ℕ) × holds c
-rest_of (inl given) = (given.file, given.holding)
-rest_of {file = file} (inr (same, holding)) = (file, holding)
+pub rest_of : {U : Type 0} {u : feed.Ghosts U} {old new : U} {raw_digest : Option (List ℕ)} (file : List ℕ) (holds : List ℕ → Type 0) → GaveOrNot u old new raw_digest file holds → (c : List ℕ) × holds c
+rest_of file holds (inl given) = (given.file, given.holding)
+rest_of file holds (inr (same, holding)) = (file, holding)
 
 -- before a drain was used, whatever is said
 pub nothing_went_out : {A : Type 0} (r : Result A PublishedHalt) (old new : Option (List ℕ)) (whole : List ℕ → List ℕ) (supplies : List ℕ → Type 0) → new ≡ old

@@ -84,8 +84,10 @@ pub record HasTraced {F : Type 0} (f : feed.Ghosts F) (feed : F) (log : ℕ) (by
 -- ---- feeds that are opened and closed
 
 -- nothing was read of an unpacking feed over this one
-abbrev pub IsUnread : {F : Type 0} → (Sha256 → List ℕ → Type 0) → UnpackedFeed (TracedFeed (PassFeed F)) → F → Type 0
-IsUnread holds u below = (has_all u ≡ true) × holds u.feed.feed.hasher [] × (u.feed.feed.feed ≡ below)
+pub record IsUnread {F : Type 0} (holds : Sha256 → List ℕ → Type 0) (u : UnpackedFeed (TracedFeed (PassFeed F))) (below : F) : Type 0 where
+  pub all : has_all u ≡ true
+  pub none : holds u.feed.feed.hasher []
+  pub over : u.feed.feed.feed ≡ below
 
 -- an unpacking feed, by its logs, has supplied nothing of what the feed below reports and logs
 pub record Opened (known : Option (List ℕ)) (passed : ℕ → List ℕ → Type 0) (hashes : Bool) (supplied : ℕ → List ℕ → Type 0) : Type 0 where

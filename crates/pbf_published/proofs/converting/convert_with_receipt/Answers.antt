@@ -1,17 +1,17 @@
-use Rattle.std.proofs.Common.{true, Some, inl, inr, arith, refl, rules, subst, sym, ap, ◌∙◌}
+use Rattle.std.proofs.Common.{true, inl, inr, refl, rules, sym, ap, ◌∙◌}
 use Rattle.std.proofs.lemmas.Result.{err_from_is_err_and}
-use Rattle.pbf_pass.specs.Hashing.{digest_if}
+use Rattle.pbf_pass.specs.HeaderLimit.{judged_writable}
 use Rattle.pbf_published.proofs.PublishedLemmas.{published_of, digest_told, closed_below, outcome_receipt, outcome_stops, outcome_beginning, read_below, either_of, refused_as, none_lacks, packed_differ, changed_stop, first_unknown, later_differ}
 use Rattle.pbf_published.proofs.converting.convert_with_receipt.Goals as goal
 
 pub returns-clause-receipt : goal.returns-clause-receipt
 returns-clause-receipt g c =
     let digest = c.in_ok-input.input in
-    let raw_digest = digest_if c.args.passes.hashes c.in_ok-receipt.receipt.input in
-    published_of g.F.Feed _ c.args.first.now _ _ _ raw_digest _ true _ c.open-one.ensures.remaining c.open-one.ensures.opened (closed_below g.F.Feed.has_passed c.close-one.result.1.now _ _ _ _ (search rules) c.close-one.ensures.closed) _ (λ b holds. (
+    let from_first = outcome_receipt _ _ c.convert_with_receipt-outcome.ensures.receipt _ _ c.in_ok-receipt.was _ c.published_outcome-outcome.ensures in
+    published_of g.F.Feed c.args.first.now _ from_first true _ c.open-one.ensures.remaining c.open-one.ensures.opened (closed_below g.F.Feed.has_passed c.close-one.result.1.now _ _ _ _ (search rules) c.close-one.ensures.closed) digest c.in_ok-input.ensures.there _ (λ b holds. (
       holds.0,
-      published_of g.G.Feed _ c.args.second.now _ _ _ raw_digest _ true _ c.open-two.ensures.remaining c.open-two.ensures.opened (closed_below g.G.Feed.has_passed c.close-two.result.1.now _ _ _ _ (search rules) c.close-two.ensures.closed) _ (λ d took. took) digest c.in_ok-compare.ensures.same (holds.1),
-    )) digest c.in_ok-input.ensures.there (outcome_receipt _ _ _ c.published_outcome-outcome.ensures _ _ c.in_ok-receipt.was c.convert_with_receipt-outcome.ensures.receipt)
+      published_of g.G.Feed c.args.second.now _ holds.1 true _ c.open-two.ensures.remaining c.open-two.ensures.opened (closed_below g.G.Feed.has_passed c.close-two.result.1.now _ _ _ _ (search rules) c.close-two.ensures.closed) digest c.in_ok-compare.ensures.same _ (λ d took. took),
+    ))
 
 pub returns-in_err-receipt-clause-beginning : goal.returns-in_err-receipt-clause-beginning
 returns-in_err-receipt-clause-beginning g c =
@@ -22,7 +22,7 @@ pub returns-in_err-receipt-clause-stops : goal.returns-in_err-receipt-clause-sto
 returns-in_err-receipt-clause-stops g c =
     let p = err_from_is_err_and c.from_residual-in_err-receipt.result c.from_residual-in_err-receipt.ensures.1 in
     rw (p.1, p.2) (outcome_stops _ _ _ c.published_outcome-outcome.ensures _ _ _ _ _ _ _ _ c.in_err-receipt.was
-    (λ e refused. refused_as _ _ _ _ e c.open-one.ensures.remaining refused)
+    (λ e refused. refused_as judged_writable _ _ _ _ e c.open-one.ensures.remaining refused)
     (λ none.
     let two = none_lacks _ _ none in
     either_of (read_below g.F.Feed _ _ _ _ c.open-one.ensures.failures (c.lacks_memory.ensures two.0 ∙ ap (λ r. g.F.Feed.failures r.now) (sym c.close-one.ensures.feed) ∙ ap (λ (x : g.row.F.Denot). g.F.Feed.failures x) (search rules))) (read_below g.G.Feed _ _ _ _ c.open-two.ensures.failures (c.lacks_memory-2.ensures two.1 ∙ ap (λ r. g.G.Feed.failures r.now) (sym c.close-two.ensures.feed) ∙ ap (λ (x : g.row.G.Denot). g.G.Feed.failures x) (search rules))))
@@ -32,11 +32,11 @@ returns-in_err-receipt-clause-stops g c =
 pub returns-in_err-input-clause-stops : goal.returns-in_err-input-clause-stops
 returns-in_err-input-clause-stops g c =
     let p = err_from_is_err_and c.from_residual-in_err-input.result c.from_residual-in_err-input.ensures.1 in
-    let from_first = outcome_receipt _ _ _ c.published_outcome-outcome.ensures _ _ c.in_ok-receipt.was c.convert_with_receipt-outcome.ensures.receipt in
-    rw p.1 (changed_stop _ _ _ _ _ _ 1 p.2 c.in_err-input.ensures.stops.0 (inl (refl, first_unknown _ _ (digest_told g.F.Feed _ c.args.first.now _ _ _ _ _ true _ c.open-one.ensures.remaining c.open-one.ensures.opened (closed_below g.F.Feed.has_passed c.close-one.result.1.now _ _ _ _ (search rules) c.close-one.ensures.closed) refl (from_first)) c.in_err-input.ensures.stops.1)))
+    let from_first = outcome_receipt _ _ c.convert_with_receipt-outcome.ensures.receipt _ _ c.in_ok-receipt.was _ c.published_outcome-outcome.ensures in
+    rw p.1 (changed_stop _ _ _ _ _ _ 1 p.2 c.in_err-input.ensures.stops.0 (inl (refl, first_unknown _ _ (digest_told g.F.Feed c.args.first.now c.close-one.result.1.now from_first true _ c.open-one.ensures.remaining c.open-one.ensures.opened c.close-one.ensures.closed refl) c.in_err-input.ensures.stops.1)))
 
 pub returns-in_err-compare-clause-stops : goal.returns-in_err-compare-clause-stops
 returns-in_err-compare-clause-stops g c =
     let p = err_from_is_err_and c.from_residual-in_err-compare.result c.from_residual-in_err-compare.ensures.1 in
-    let from_first = outcome_receipt _ _ _ c.published_outcome-outcome.ensures _ _ c.in_ok-receipt.was c.convert_with_receipt-outcome.ensures.receipt in
-    rw p.1 (changed_stop _ _ _ _ _ _ 2 p.2 c.in_err-compare.ensures.stops.0 (inr (refl, later_differ _ _ _ _ _ (digest_told g.F.Feed _ c.args.first.now _ _ _ _ _ true _ c.open-one.ensures.remaining c.open-one.ensures.opened (closed_below g.F.Feed.has_passed c.close-one.result.1.now _ _ _ _ (search rules) c.close-one.ensures.closed) refl (from_first)) c.in_ok-input.ensures.there (digest_told g.G.Feed _ c.args.second.now _ _ _ _ _ true _ c.open-two.ensures.remaining c.open-two.ensures.opened (closed_below g.G.Feed.has_passed c.close-two.result.1.now _ _ _ _ (search rules) c.close-two.ensures.closed) refl (from_first.holding.1)) c.in_err-compare.ensures.stops.1)))
+    let from_first = outcome_receipt _ _ c.convert_with_receipt-outcome.ensures.receipt _ _ c.in_ok-receipt.was _ c.published_outcome-outcome.ensures in
+    rw p.1 (changed_stop _ _ _ _ _ _ 2 p.2 c.in_err-compare.ensures.stops.0 (inr (refl, later_differ _ _ _ _ _ (digest_told g.F.Feed c.args.first.now c.close-one.result.1.now from_first true _ c.open-one.ensures.remaining c.open-one.ensures.opened c.close-one.ensures.closed refl) c.in_ok-input.ensures.there (digest_told g.G.Feed c.args.second.now c.close-two.result.1.now from_first.holding.1 true _ c.open-two.ensures.remaining c.open-two.ensures.opened c.close-two.ensures.closed refl) c.in_err-compare.ensures.stops.1)))

@@ -1,45 +1,48 @@
-use Rattle.std.proofs.Common.{ℕ, suc, List, [], ap, ◌∙◌}
+use Rattle.std.proofs.Common.{ℕ, suc, List, [], Some, ap, sym, ◌∙◌}
+use Rattle.std.proofs.lemmas.Option.{none-some}
 use Rattle.sha2.specs.declared.Sha256.{Sha256}
 use Rattle.sha2.specs.Sha256.{Holds, initial_hash_256}
 use Rattle.pbf_unpack.specs.Unpacked.{Unpacked}
 use Rattle.pbf_unpack.proofs.ReportLemmas.{all_supplied}
 use Rattle.pbf_published.specs.Published.{log_number, log_of}
-use Rattle.pbf_published.proofs.PublishedLemmas.{digest_by}
+use Rattle.pbf_published.proofs.PublishedLemmas.{digest_by, not_both}
 use Rattle.pbf_published.proofs.TracedLemmas.{traced_all, traced_below}
 use Rattle.pbf_published.proofs.input.close.Goals.{then-all, else-all}
 use Rattle.pbf_published.proofs.input.close.Goals as goal
 
 pub returns-clause-closed : goal.returns-clause-closed
 returns-clause-closed g c = elim c.if-all.branch [
-  | then-all w ↦ rw w.result-is record {
-    means = λ hashes start raw has.
-        let gave = c.has_given_all-all.ensures.gave (log_number (log_of hashes) start) raw w.if-all.true has in
-        let hashed = c.into_feed-traced.result.feed in
-        let passed = traced_below _ _ (log_of hashes) start gave.packed gave.passed in
-        record {
-          packed = gave.packed;
-          digest_is = digest_by (λ (s : Sha256) (b : List ℕ). Holds initial_hash_256 s.core b) g.F.Feed.has_passed hashed.feed hashed.hashes hashes hashed.hasher hashed.count c.digest-digest.result gave.packed (rw c.into_feed-traced.ensures.feed passed) c.digest-digest.ensures.digest;
-          means = ap (λ (u : Unpacked). u.0) gave.means;
-          told = λ ended. traced_all _ _ (log_of hashes) start gave.packed (gave.end ended) gave.passed;
-        };
-    logged = λ log start raw has.
-        let gave = c.has_given_all-all.ensures.gave (log_number (suc (suc log)) start) raw w.if-all.true has in
-        record {
-          packed = gave.packed;
-          passed = rw (c.into_inner.ensures.feed ∙ c.digest-digest.ensures.feed ∙ ap (λ t. t.feed.feed) c.into_feed-traced.ensures.feed) (traced_below _ _ (suc (suc log)) start gave.packed gave.passed);
-          means = ap (λ (u : Unpacked). u.0) gave.means;
-        };
-    there = λ ended none. cc;
-  }
-  | else-all w ↦ rw w.result-is record {
-    means = λ hashes start raw has. tt;
-    logged = λ log start raw has. tt;
-    there = λ ended none. (let all = all_supplied _ _ ended in let value = c.has_given_all-all.ensures.value in let no = w.if-all.false in cc);
-  }
+  | then-all w ↦
+      rw w.result-is record {
+        means = λ hashes start raw has.
+            let gave = c.has_given_all-all.ensures.gave (log_number (log_of hashes) start) raw w.if-all.true has in
+            let hashed = c.into_feed-traced.result.feed in
+            let passed = traced_below _ _ (log_of hashes) start gave.packed gave.passed in
+            record {
+              packed = gave.packed;
+              digest_is = digest_by (λ (s : Sha256) (b : List ℕ). Holds initial_hash_256 s.core b) g.F.Feed.has_passed hashed.feed hashed.hashes hashes hashed.hasher hashed.count c.digest-digest.result gave.packed (rw c.into_feed-traced.ensures.feed passed) c.digest-digest.ensures.digest;
+              means = ap (λ (u : Unpacked). u.0) gave.means;
+              told = λ ended. traced_all _ _ (log_of hashes) start gave.packed (gave.end ended) gave.passed;
+            };
+        logged = λ log start raw has.
+            let gave = c.has_given_all-all.ensures.gave (log_number (suc (suc log)) start) raw w.if-all.true has in
+            record {
+              packed = gave.packed;
+              passed = rw (c.into_inner.ensures.feed ∙ c.digest-digest.ensures.feed ∙ ap (λ t. t.feed.feed) c.into_feed-traced.ensures.feed) (traced_below _ _ (suc (suc log)) start gave.packed gave.passed);
+              means = ap (λ (u : Unpacked). u.0) gave.means;
+            };
+        there = λ ended none. none-some _ (sym none);
+      }
+  | else-all w ↦
+      rw w.result-is record {
+        means = λ hashes start raw has. tt;
+        logged = λ log start raw has. tt;
+        there = λ ended none. not_both _ (c.has_given_all-all.ensures.value ∙ all_supplied (λ t. g.F.Feed.remaining t.feed.feed) c.args.feed ended) w.if-all.false;
+      }
 ]
 
 pub returns-clause-unread : goal.returns-clause-unread
 returns-clause-unread g c below fresh = elim c.if-all.branch [
-  | then-all w ↦ rw w.result-is (ap (λ (l : List ℕ). Some l) (c.digest-digest.ensures.digest [] (rw c.into_feed-traced.ensures.feed fresh.1)))
-  | else-all w ↦ (let bad : ⊥ = (let value = c.has_given_all-all.ensures.value in let no = w.if-all.false in let all = fresh.0 in cc) in absurd bad)
+  | then-all w ↦ rw w.result-is (ap (λ (l : List ℕ). Some l) (c.digest-digest.ensures.digest [] (rw c.into_feed-traced.ensures.feed fresh.none)))
+  | else-all w ↦ absurd (not_both _ (c.has_given_all-all.ensures.value ∙ fresh.all) w.if-all.false)
 ]

@@ -1,4 +1,4 @@
-use Rattle.std.proofs.Common.{ℕ, suc, List, [], sym, subst}
+use Rattle.std.proofs.Common.{ℕ, suc, List, sym}
 use Rattle.sha2.specs.declared.Sha256.{Sha256}
 use Rattle.sha2.specs.Sha256.{Holds, initial_hash_256}
 use Rattle.pbf_published.specs.Published.{log_of}
@@ -14,3 +14,6 @@ returns-clause-opened g c =
       hashed = c.new-2.ensures.supplied _ (rw (sym c.new.ensures.feed) (traced_from _ fresh (log_of c.args.hashes) counted));
       logged = λ log start. c.new-2.ensures.supplied _ (rw (sym c.new.ensures.feed) (traced_from _ fresh (suc (suc log)) (rw c.new.ensures.feed start)));
     }
+
+pub returns-clause-unread : goal.returns-clause-unread
+returns-clause-unread g c = record { all = c.new-2.ensures.all; none = rw c.new-2.ensures.feed c.new.ensures.hasher; over = rw c.new-2.ensures.feed c.new.ensures.feed }
