@@ -6,7 +6,7 @@ ghost use Rattle.pbf_wire.specs.declared.limits.TheConstants.{OFFSET_LIMIT};
 
 use crate::field::Payload;
 use crate::fields::{Fields, FoundFields};
-use crate::short::{MOST_BYTES, count_short, count_left_if_small};
+use crate::short::{MOST_BYTES, count_left_if_small, count_short};
 use crate::varint::{first_varint, short_varint};
 
 /// The first number of a packed column, and the bytes after it; `None` if the bytes don't begin with a varint.
