@@ -7,7 +7,7 @@ Those of crates/NAME/must-fail/ are tried, where no other set is named. The edit
 to fit the files that it changes.
 
 The prover judges each function by the contracts of those that it calls, and names each function that it refuses. So one check of a
-crate tries many bugs, one in a function, and asks for the proofs of these functions alone: the others have a hole in place of one, and
+crate tries many bugs, one in a function, and asks for the proofs of these functions alone: the others have a hole instead of one, and
 an endless loop as their body. A bug counts as refused where the prover leaves open a goal of the function that it stands in. One that
 it does not refuse so is tried by itself, and then has to be refused in some place. That a proof cites a name which the bug took away is
 no refusal.
@@ -384,8 +384,8 @@ class Crate:
         return {path.replace("/", "::") for path in known or [module_of(change.home)]}
 
     def leave_out(self, room, asked):
-        """Puts a hole in place of the proof of each function of a copy of the crate that is not asked for, in these files by these names, and
-        an endless loop in place of its body: the prover reads a body and all that it calls, even where the proof is a hole."""
+        """Replaces the proof of each function of a copy of the crate by a hole and its body by an endless loop, unless it is asked for, in
+        these files by these names: the prover reads a body and all that it calls, even where the proof is a hole."""
         for file in [file for file in files_in(room) if file.startswith("src/")]:
             text = text_of(room, file)
             others = [it for it in functions_of(file, text) if (file, it[0]) not in asked and (file, "") not in asked]
