@@ -1,7 +1,14 @@
-use Rattle.std.proofs.Common.{rules, w64}
+use Rattle.std.proofs.Common.{rules, ◌∙◌, ap, ◌+ℤ◌, w64}
 use mir.Val.{SFits}
-use Rattle.pbf_wire.proofs.RoomyLemmas.{room_stored}
+use Rattle.pbf_wire.proofs.RoomyLemmas.{room_stored, total_after}
 use Rattle.pbf_wire.proofs.sums.Sums.add_short.Goals as goal
+
+pub returns-clause-total : goal.returns-clause-total
+returns-clause-total c =
+    let sums = c.args.self.now in
+    let limit_fits : SFits w64 sums.limit = search rules in
+    let total_fits : SFits w64 sums.total = search rules in
+    total_after sums.limit sums.total c.unzigzag.result sums.room c.args.number limit_fits total_fits sums.roomy c.requires.0 c.requires.1 c.unzigzag.ensures ∙ ap (λ entry. sums.total +ℤ entry) c.unzigzag.ensures
 
 pub invariant_of-self : goal.invariant_of-self
 invariant_of-self c =
