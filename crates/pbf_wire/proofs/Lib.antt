@@ -7,6 +7,7 @@ pub mod Columns
 pub mod Written
 pub mod SumLemmas
 pub mod RoomyLemmas
+pub mod SpanLemmas
 pub mod PackedLemmas
 pub mod WritingLemmas
 pub mod CountLemmas

@@ -11,6 +11,7 @@ pub mod Cursors
 pub mod Wire
 pub mod Signed
 pub mod Sums
+pub mod Spans
 pub mod Packed
 pub mod Writing
 pub mod Message

@@ -9,6 +9,7 @@ use crate::column::Column;
 use crate::fields::Fields;
 use crate::limits::STORED_LIMIT;
 use crate::signed::{low_sint32, unzigzag};
+use crate::span::Span;
 use crate::sum::added;
 
 /// The entry that a number of the column means.
@@ -54,12 +55,13 @@ pub struct Sums<'a> {
 }
 
 impl<'a> Sums<'a> {
-    ghost use Rattle.std.specs.Prelude.{◌+◌, ◌≤◌, ◌∷◌, ℕ, ⊤, false, IsTrue, MatchOption, drop, length, map};
+    ghost use Rattle.std.specs.Prelude.{◌+◌, ◌≤◌, ◌∷◌, ℕ, ⊤, true, false, IsTrue, MatchOption, drop, take, length, map};
     ghost use Rattle.std.specs.Iterator.{YieldsFirst};
     ghost use Rattle.std.specs.List.{AllByRecursion};
     ghost use Rattle.pbf_wire.specs.Signed.{unzigzag, low_sint32};
     ghost use Rattle.pbf_wire.specs.Sums.{sums_within};
     ghost use Rattle.pbf_wire.specs.Cursors.{numbers_left, sums_left};
+    ghost use Rattle.pbf_wire.specs.Spans.{AreAlike};
 
     /// The values of a column of `sint64`.
     pub fn new(entries: Column<'a>, limit: i64) -> Self
@@ -207,6 +209,53 @@ impl<'a> Sums<'a> {
                 left -= 1;
             }
         }
+    }
+
+    /// Skips values as long as a span has them, or lacks them, and that is quick, but at most so many. They are read from a copy, which
+    /// stays in registers.
+    #[inline(always)]
+    fn pass_alike(&mut self, span: Span, is_there: bool, most: usize) -> usize
+        ensures passed { sums_left self.new ≡ drop result (sums_left self.old) }
+        ensures alike { AreAlike span is_there (take result (sums_left self.old)) }
+        ensures fewer { result ≤ most }
+    {
+        let mut rest = *self;
+        let mut left = most;
+        'alike: while left > 0 {
+            let mut next = rest;
+            let Some(value) = next.next_short() else {
+                break;
+            };
+            if span.has(value) != is_there {
+                break;
+            }
+            rest = next;
+            left -= 1;
+        }
+        *self = rest;
+        most - left
+    }
+
+    /// Skips values that a span has, at most so many, and returns how many. It stops at the first that the span lacks, or before that
+    /// at one that isn't read quickly.
+    #[inline(never)]
+    pub fn pass_inside(&mut self, span: Span, most: usize) -> usize
+        ensures passed { sums_left self.new ≡ drop result (sums_left self.old) }
+        ensures inside { AreAlike span true (take result (sums_left self.old)) }
+        ensures fewer { result ≤ most }
+    {
+        self.pass_alike(span, true, most)
+    }
+
+    /// Skips values that a span lacks, at most so many, and returns how many. It stops at the first that the span has, or before that
+    /// at one that isn't read quickly.
+    #[inline(never)]
+    pub fn pass_outside(&mut self, span: Span, most: usize) -> usize
+        ensures passed { sums_left self.new ≡ drop result (sums_left self.old) }
+        ensures outside { AreAlike span false (take result (sums_left self.old)) }
+        ensures fewer { result ≤ most }
+    {
+        self.pass_alike(span, false, most)
     }
 
     /// The next value, as [`Sums::next`] gives it: quicker in a column of which many values are the same as the one before.
