@@ -44,9 +44,9 @@ if_digest : (o : Option (List ℕ)) (digest : List ℕ) (holds : List ℕ → Ty
 if_digest o digest holds is has = subst (λ (x : Option (List ℕ)). IfSome x holds) is has
 
 -- a feed that gave a file, and of which it is known what it was to give, has nothing left
-nothing_left : (old new : Option (List ℕ)) (file all : List ℕ) → old ≡ prepend file new → IsAtEnd new → old ≡ Some all → new ≡ Some []
-nothing_left old (Some rest) file all told end is = ap (λ (l : List ℕ). Some l) end
-nothing_left old None file all told end is = (let bad : ⊥ = (let none = sym told ∙ is in cc) in absurd bad)
+none_left_of_all : (old new : Option (List ℕ)) (file all : List ℕ) → old ≡ prepend file new → IsAtEnd new → old ≡ Some all → new ≡ Some []
+none_left_of_all old (Some rest) file all told end is = ap (λ (l : List ℕ). Some l) end
+none_left_of_all old None file all told end is = (let bad : ⊥ = (let none = sym told ∙ is in cc) in absurd bad)
 
 -- a feed of which all was read has the digest of what it had to give, as far as that is known
 abbrev pub DigestIsOf : (known digest : Option (List ℕ)) → Type 0
@@ -54,7 +54,7 @@ DigestIsOf known digest = (all : List ℕ) → known ≡ Some all → digest ≡
 
 module _ {F U : Type 0} (f : feed.Ghosts F) (first last : F) {u : feed.Ghosts U} {old new : U} {raw_digest : Option (List ℕ)} {holds : List ℕ → Type 0} (given : GaveFile u old new raw_digest holds) (hashes : Bool) (o : Option (List ℕ)) (remaining : u.remaining old ≡ raw_of (f.remaining first)) (opened : Opened (f.remaining first) (f.has_passed first) hashes (u.has_passed old)) (closed : Closed (f.has_passed last) (u.has_passed new) (u.remaining new) o) where
   ended : (all : List ℕ) → f.remaining first ≡ Some all → u.remaining new ≡ Some []
-  ended all is = nothing_left (u.remaining old) (u.remaining new) given.file (unpacked all) given.supplied.told given.supplied.end (remaining ∙ ap raw_of is)
+  ended all is = none_left_of_all (u.remaining old) (u.remaining new) given.file (unpacked all) given.supplied.told given.supplied.end (remaining ∙ ap raw_of is)
 
   -- what is said of the file that an unpacking feed gave is said of the raw file that packed bytes mean
   pub published_of : (digest : List ℕ) → o ≡ Some digest → (keeps : List ℕ → Type 0) → ((file : List ℕ) → holds file → keeps file) → GavePublished f first last (digest_if hashes digest) raw_digest keeps

@@ -3,7 +3,7 @@ use Rattle.std.proofs.Common.{◌≡◌, ◌<◌, ℕ, zero, suc, List, [], ◌�
 use Rattle.std.proofs.lemmas.List.{append-nil}
 use Rattle.pbf_frame.specs.declared.device.Feed as feed
 use Rattle.pbf_frame.specs.Devices.{prepend, Passes}
-use Rattle.pbf_frame.proofs.KnownBytes.{prepend_more}
+use Rattle.pbf_frame.proofs.KnownBytes.{prepend_more, prepend_none}
 use Rattle.pbf_published.specs.Published.{HasTraced, list_number, log_number, pair_number}
 
 -- ---- no two pairs, lists or logs have one number
@@ -38,13 +38,9 @@ same_log a b (Some xs) (Some ys) is =
 
 -- ---- what the logs say
 
-prepend_nothing : (known : Option (List ℕ)) → known ≡ prepend [] known
-prepend_nothing None = refl
-prepend_nothing (Some rest) = refl
-
 -- at its start a feed has a log for each one below
 pub traced_from : {F : Type 0} (f : feed.Ghosts F) (start : F) (below : ℕ) → f.has_passed start below [] → HasTraced f start (log_number below (f.remaining start)) []
-traced_from f start below passed = record { below = below; start = f.remaining start; number = refl; passed = passed; told = prepend_nothing (f.remaining start) }
+traced_from f start below passed = record { below = below; start = f.remaining start; number = refl; passed = passed; told = sym (prepend_none (f.remaining start)) }
 
 -- a read of the feed below goes on with it
 pub traced_more : {F : Type 0} (f : feed.Ghosts F) (old new : F) (read : List ℕ) → f.remaining old ≡ prepend read (f.remaining new) → Passes (f.has_passed old) read (f.has_passed new) → Passes (HasTraced f old) read (HasTraced f new)

@@ -29,8 +29,7 @@ pub fn check_with_receipt<F: Feed>(
         (digest_if passes.hashes receipt.raw)
         (λ file. CountsFile (judged_file (Some file)) receipt.counts)) }
     // Each stop has its cause. What is refused is the raw file that the feed's bytes mean, by its first fault. `Read` comes only if the
-    // feed's count of failures rose; `Write` never comes. `Changed(1)` comes only if the feed doesn't
-    // report its bytes.
+    // feed's count of failures rose; `Write` never comes. `Changed(1)` comes only if the feed doesn't report its bytes.
     ensures stops { IfErr result (λ h. Caused (FaultOf (judged_file (raw_of (F.remaining feed.old))))
         (ReadFailed F.Feed feed.old feed.new) ⊥
         (ChangedOfOne (F.remaining feed.old)) h.stop) }

@@ -67,14 +67,14 @@ pub fn open<F: Feed>(
     inflater: Inflater,
     feed: F,
     hashes: bool,
-) -> UnpackedFeed<TracedFeed<PassFeed<F>>>
-    ensures remaining { ⟦<UnpackedFeed<TracedFeed<PassFeed<F>>> as Feed>⟧.remaining result
+) -> PublishedFeed<F>
+    ensures remaining { ⟦<PublishedFeed<F> as Feed>⟧.remaining result
         ≡ raw_of (F.remaining feed) }
     ensures opened { Opened (F.remaining feed) (F.has_passed feed) hashes
-        (⟦<UnpackedFeed<TracedFeed<PassFeed<F>>> as Feed>⟧.has_passed result) }
+        (⟦<PublishedFeed<F> as Feed>⟧.has_passed result) }
     ensures unread { IsUnread ⟦<Sha256 as Digest>⟧.holds result feed }
-    ensures lender { ⟦<UnpackedFeed<TracedFeed<PassFeed<F>>> as Feed>⟧.lender result ≡ F.lender feed }
-    ensures failures { ⟦<UnpackedFeed<TracedFeed<PassFeed<F>>> as Feed>⟧.failures result
+    ensures lender { ⟦<PublishedFeed<F> as Feed>⟧.lender result ≡ F.lender feed }
+    ensures failures { ⟦<PublishedFeed<F> as Feed>⟧.failures result
         ≡ F.failures feed }
 {
     let traced = TracedFeed {
@@ -84,15 +84,15 @@ pub fn open<F: Feed>(
 }
 
 /// The digest of the packed bytes that were read, if all that they mean was supplied, and the feed below.
-pub fn close<F: Feed>(feed: UnpackedFeed<TracedFeed<PassFeed<F>>>) -> (Option<[u8; 32]>, F)
+pub fn close<F: Feed>(feed: PublishedFeed<F>) -> (Option<[u8; 32]>, F)
     ensures closed { Closed (F.has_passed result.1)
-        (⟦<UnpackedFeed<TracedFeed<PassFeed<F>>> as Feed>⟧.has_passed feed)
-        (⟦<UnpackedFeed<TracedFeed<PassFeed<F>>> as Feed>⟧.remaining feed) result.0 }
+        (⟦<PublishedFeed<F> as Feed>⟧.has_passed feed)
+        (⟦<PublishedFeed<F> as Feed>⟧.remaining feed) result.0 }
     ensures unread { (below : _) → IsUnread ⟦<Sha256 as Digest>⟧.holds feed below
         → result.0 ≡ Some (sha256 []) }
     ensures feed { result.1 ≡ feed.feed.feed.feed }
     ensures lender { F.lender result.1
-        ≡ ⟦<UnpackedFeed<TracedFeed<PassFeed<F>>> as Feed>⟧.lender feed }
+        ≡ ⟦<PublishedFeed<F> as Feed>⟧.lender feed }
 {
     let all = feed.has_given_all();
     let traced = feed.into_feed();

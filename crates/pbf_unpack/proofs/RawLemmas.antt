@@ -28,7 +28,7 @@ use Rattle.pbf_frame.proofs.Longest.{frame_is_next, longest_front}
 use Rattle.pbf_frame.proofs.Parting.{FrameParts, next_none, next_parts}
 use Rattle.pbf_unpack.specs.Laws.{RawMeansItself}
 use Rattle.pbf_unpack.specs.Packed.{packed_in}
-use Rattle.pbf_unpack.specs.Unpacked.{Unpacked, joined, as_they_stand, with_data, unpacked_frame, is_whole, unpacked_from}
+use Rattle.pbf_unpack.specs.Unpacked.{Unpacked, then_unpacked, as_they_stand, with_data, unpacked_frame, is_whole, unpacked_from}
 use Rattle.pbf_unpack.proofs.UnpackedLemmas.{whole_parts, whole_then, nothing_more}
 use Rattle.pbf_unpack.proofs.WholeLemmas.{at_header}
 
@@ -92,19 +92,19 @@ module _ (had : Bool) (place : ℕ) (f : FrameSpec) (is : IsFrame had place f) w
       ∙ at_header f.offset f.prefix f.header (f.blob ++ rest) is.prefix_long (sym is.spelled)
       ∙ ap (λ (b : List ℕ). record { offset = f.offset; prefix = f.prefix; header = f.header; blob = b }) (take_at f.blob rest (head_says (header_at f) f.header).size size_is)
 
-  stands_then : (rest : List ℕ) → unpacked_from place (frame_bytes f ++ rest) ≡ joined (as_they_stand (frame_bytes f)) (unpacked_from (frame_end f) rest)
+  stands_then : (rest : List ℕ) → unpacked_from place (frame_bytes f ++ rest) ≡ then_unpacked (as_they_stand (frame_bytes f)) (unpacked_from (frame_end f) rest)
   stands_then rest =
       let all = frame_bytes f ++ rest in
       let at : frame_at place all ≡ f = ap (λ (p : ℕ). frame_at p all) (sym is.offset) ∙ at_frame rest in
       whole_then place all (ap is_whole at ∙ whole)
-      ∙ ap (λ (g : FrameSpec). joined (unpacked_frame (frame_kind g) (blob_at g) (frame_bytes g) g.blob) (unpacked_from (frame_end g) (drop (length (frame_bytes g)) all))) at
-      ∙ ap (λ (u : Unpacked). joined u (unpacked_from (frame_end f) (drop (length (frame_bytes f)) all))) (stands (frame_kind f) (blob_at f) (frame_bytes f) f.blob is.sound)
-      ∙ ap (λ (l : List ℕ). joined (as_they_stand (frame_bytes f)) (unpacked_from (frame_end f) l)) (drop_at (frame_bytes f) rest (length (frame_bytes f)) refl)
+      ∙ ap (λ (g : FrameSpec). then_unpacked (unpacked_frame (frame_kind g) (blob_at g) (frame_bytes g) g.blob) (unpacked_from (frame_end g) (drop (length (frame_bytes g)) all))) at
+      ∙ ap (λ (u : Unpacked). then_unpacked u (unpacked_from (frame_end f) (drop (length (frame_bytes f)) all))) (stands (frame_kind f) (blob_at f) (frame_bytes f) f.blob is.sound)
+      ∙ ap (λ (l : List ℕ). then_unpacked (as_they_stand (frame_bytes f)) (unpacked_from (frame_end f) l)) (drop_at (frame_bytes f) rest (length (frame_bytes f)) refl)
 
 frames_stand : (had : Bool) (place : ℕ) (fs : List FrameSpec) → AreFrames had place fs → unpacked_from place (joined_frames fs) ≡ as_they_stand (joined_frames fs)
 frames_stand had place [] are = nothing_more place
 frames_stand had place (f ∷ fs) are =
-    stands_then had place f are.0 (joined_frames fs) ∙ ap (joined (as_they_stand (frame_bytes f))) (frames_stand (had || is_header (frame_kind f)) (frame_end f) fs are.1)
+    stands_then had place f are.0 (joined_frames fs) ∙ ap (then_unpacked (as_they_stand (frame_bytes f))) (frames_stand (had || is_header (frame_kind f)) (frame_end f) fs are.1)
 
 -- ---- a file
 

@@ -9,7 +9,7 @@ use Rattle.pbf_unpack.specs.declared.feed.State.TheVariants.{Reading, PassingOn,
 use Rattle.pbf_unpack.specs.declared.feed.UnpackedFeed.{UnpackedFeed}
 use Rattle.pbf_unpack.specs.Reports.{stop_in, has_all, GavePacked}
 use Rattle.pbf_unpack.specs.Supplying.{more, unless_failed, IsEndBelow, CanFollow, left_in, remaining_in, HasSupplied}
-use Rattle.pbf_unpack.specs.Unpacked.{Unpacked, joined, as_they_stand, is_whole, unpacked_frame, unpacked_from}
+use Rattle.pbf_unpack.specs.Unpacked.{Unpacked, then_unpacked, as_they_stand, is_whole, unpacked_frame, unpacked_from}
 use Rattle.pbf_unpack.proofs.SupplyLemmas.{frame_some}
 use Rattle.pbf_unpack.proofs.UnpackedLemmas.{joined_end, nothing_more, unfit, whole_long, whole_then}
 
@@ -81,7 +81,7 @@ gave_packed remaining has_passed u log raw none spent has =
       means =
           ap (unpacked_from 0) (sym (append-nil has.packed))
           ∙ has.carries [] end.0
-          ∙ ap (joined supplied) end.1
+          ∙ ap (then_unpacked supplied) end.1
           ∙ joined_end supplied
           ∙ ap (λ (l : List ℕ). (l, u.fault)) (ap (λ (l : List ℕ). raw ++ l) spent ∙ append-nil raw);
       end = λ nothing. ended_below u.state u.place (left_in u) (remaining u.feed) has.ended nothing;

@@ -10,7 +10,7 @@ use Rattle.pbf_frame.specs.declared.frame.FrameKind.{FrameKind}
 use Rattle.pbf_frame.specs.declared.frame.FrameKind.TheVariants as kind
 use Rattle.pbf_frame.specs.Writing.{written_at, written_frame}
 use Rattle.pbf_unpack.specs.declared.fault.UnpackFault.{UnpackFault}
-use Rattle.pbf_unpack.specs.Packed.{packed_in, payload_of}
+use Rattle.pbf_unpack.specs.Packed.{packed_in, unpacked_payload}
 use Rattle.pbf_unpack.specs.Unpacked.{rewritten, with_data, unpacked_frame}
 
 -- two joined lists without more than the first: the second without the rest
@@ -33,7 +33,7 @@ rewritten_some k frame (Err e) some = some
 
 data_some : (k : FrameKind) (frame : List ℕ) (stream raw_size : Option Occurrence) → 0 < length frame → 0 < length (with_data k frame stream raw_size).0
 data_some k frame None raw_size some = some
-data_some k frame (Some stream) raw_size some = rewritten_some k frame (payload_of stream raw_size) some
+data_some k frame (Some stream) raw_size some = rewritten_some k frame (unpacked_payload stream raw_size) some
 
 pub frame_some : (k : FrameKind) (at : ℕ) (frame blob : List ℕ) → 0 < length frame → 0 < length (unpacked_frame k at frame blob).0
 frame_some kind.Header at frame blob some = data_some kind.Header frame (packed_in at blob) (last_of RAW_SIZE (found (items at blob))) some

@@ -9,18 +9,18 @@ use Rattle.pbf_frame.specs.declared.header.TheConstants.{HEADER_LIMIT}
 use Rattle.pbf_frame.specs.Frames.{FrameSpec, header_at, blob_at, frame_end, frame_kind, frame_bytes, frame_at, cut_faults}
 use Rattle.pbf_frame.specs.Header.{head_says}
 use Rattle.pbf_frame.specs.Steps.{head_of}
-use Rattle.pbf_unpack.specs.Unpacked.{Unpacked, joined, as_they_stand, unpacked_frame, is_whole, unpacked_within, unpacked_from}
+use Rattle.pbf_unpack.specs.Unpacked.{Unpacked, then_unpacked, as_they_stand, unpacked_frame, is_whole, unpacked_within, unpacked_from}
 
 -- ---- joining
 
-pub joined_assoc : (a b c : Unpacked) → joined (joined a b) c ≡ joined a (joined b c)
+pub joined_assoc : (a b c : Unpacked) → then_unpacked (then_unpacked a b) c ≡ then_unpacked a (then_unpacked b c)
 joined_assoc (xs, None) (ys, e) (zs, f) = ap (λ (l : List ℕ). (l, option_or e f)) (append_assoc xs ys zs)
 joined_assoc (xs, Some d) (ys, e) (zs, f) = ap (λ (l : List ℕ). (l, Some d)) (append_assoc xs ys zs)
 
-pub joined_nothing : (a : Unpacked) → joined (as_they_stand []) a ≡ a
+pub joined_nothing : (a : Unpacked) → then_unpacked (as_they_stand []) a ≡ a
 joined_nothing (xs, e) = refl
 
-pub joined_end : (a : Unpacked) → joined a (as_they_stand []) ≡ a
+pub joined_end : (a : Unpacked) → then_unpacked a (as_they_stand []) ≡ a
 joined_end (xs, None) = ap (λ (l : List ℕ). (l, None)) (append-nil xs)
 joined_end (xs, Some e) = ap (λ (l : List ℕ). (l, Some e)) (append-nil xs)
 
@@ -113,7 +113,7 @@ unfit place bytes is = unfit_within (length bytes) place bytes is
 -- ---- a whole frame
 
 abbrev then_others : (ℕ → List ℕ → Unpacked) → FrameSpec → List ℕ → Unpacked
-then_others others f bytes = joined (unpacked_frame (frame_kind f) (blob_at f) (frame_bytes f) f.blob) (others (frame_end f) (drop (length (frame_bytes f)) bytes))
+then_others others f bytes = then_unpacked (unpacked_frame (frame_kind f) (blob_at f) (frame_bytes f) f.blob) (others (frame_end f) (drop (length (frame_bytes f)) bytes))
 
 whole_within : (n place : ℕ) (bytes : List ℕ) → is_whole (frame_at place bytes) ≡ true → unpacked_within (suc n) place bytes ≡ then_others (unpacked_within n) (frame_at place bytes) bytes
 unfolding unpacked_within
@@ -131,7 +131,7 @@ same_fuel (suc m) (suc n) place (b ∷ bs) low high = elim (is_whole (frame_at p
       let rest = drop (length (frame_bytes f)) (b ∷ bs) in
       let shorter : length rest ≤ length bs = omega (arith, long, length-drop (length (frame_bytes f)) (b ∷ bs)) in
       whole_within m place (b ∷ bs) is
-      ∙ ap (joined (unpacked_frame (frame_kind f) (blob_at f) (frame_bytes f) f.blob)) (same_fuel m n (frame_end f) rest (omega (arith, shorter, low)) (omega (arith, shorter, high)))
+      ∙ ap (then_unpacked (unpacked_frame (frame_kind f) (blob_at f) (frame_bytes f) f.blob)) (same_fuel m n (frame_end f) rest (omega (arith, shorter, low)) (omega (arith, shorter, high)))
       ∙ sym (whole_within n place (b ∷ bs) is)
   | false ↦ λ is. unfit_within (suc m) place (b ∷ bs) is ∙ sym (unfit_within (suc n) place (b ∷ bs) is)
 ] refl
@@ -144,4 +144,4 @@ whole_then place bytes is =
     let rest = drop (length (frame_bytes f)) bytes in
     same_fuel (length bytes) (suc (length bytes)) place bytes (omega arith) (omega arith)
     ∙ whole_within (length bytes) place bytes is
-    ∙ ap (joined (unpacked_frame (frame_kind f) (blob_at f) (frame_bytes f) f.blob)) (same_fuel (length bytes) (length rest) (frame_end f) rest (omega (arith, length-drop (length (frame_bytes f)) bytes)) (omega arith))
+    ∙ ap (then_unpacked (unpacked_frame (frame_kind f) (blob_at f) (frame_bytes f) f.blob)) (same_fuel (length bytes) (length rest) (frame_end f) rest (omega (arith, length-drop (length (frame_bytes f)) bytes)) (omega arith))

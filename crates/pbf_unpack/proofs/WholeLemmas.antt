@@ -15,13 +15,13 @@ use Rattle.pbf_frame.specs.Steps.{head_of}
 use Rattle.pbf_frame.proofs.FrameLemmas.{head_parts}
 use Rattle.pbf_frame.proofs.KnownBytes.{prepend_more}
 use Rattle.pbf_frame.proofs.Passed.{passes_more}
-use Rattle.pbf_unpack.specs.Unpacked.{joined, as_they_stand, unpacked_frame, is_whole, unpacked_from}
-use Rattle.pbf_unpack.specs.Whole.{Took, IsUnfit, IsCut, HasHead}
+use Rattle.pbf_unpack.specs.Unpacked.{then_unpacked, as_they_stand, unpacked_frame, is_whole, unpacked_from}
+use Rattle.pbf_unpack.specs.Whole.{TookBytes, IsUnfit, IsCut, HasHead}
 use Rattle.pbf_unpack.proofs.UnpackedLemmas.{without_prefix, with_long_header, without_header, without_head, too_far, without_blob, whole_parts, unfit, whole_then}
 
 -- these bytes were read in two parts
-pub took_two : (before mid now : ℕ → List ℕ → Type 0) (old between new : Option (List ℕ)) (xs ys read : List ℕ) → read ≡ xs ++ ys → old ≡ prepend xs between → Passes before xs mid → between ≡ prepend ys new → Passes mid ys now → Took read before now old new
-took_two before mid now old between new xs ys read e first first_logged then then_logged = subst (λ (l : List ℕ). Took l before now old new) (sym e) record {
+pub took_two : (before mid now : ℕ → List ℕ → Type 0) (old between new : Option (List ℕ)) (xs ys read : List ℕ) → read ≡ xs ++ ys → old ≡ prepend xs between → Passes before xs mid → between ≡ prepend ys new → Passes mid ys now → TookBytes read before now old new
+took_two before mid now old between new xs ys read e first first_logged then then_logged = subst (λ (l : List ℕ). TookBytes l before now old new) (sym e) record {
   told = prepend_more old between new xs ys first then;
   logged = passes_more before mid now xs ys first_logged then_logged;
 }
@@ -125,7 +125,7 @@ module _ (place : ℕ) (read header : List ℕ) (head : Head) (has : HasHead pla
       (unfit place (read ++ blob) (ap is_whole (begins blob) ∙ without_blob f is), ended)
 
   whole_frame : (blob : List ℕ) → length blob ≡ head.size → place + length read + head.size ≤ 2 ^ 62 → (rest : List ℕ)
-      → unpacked_from place ((read ++ blob) ++ rest) ≡ joined (unpacked_frame head.kind (place + length read) (read ++ blob) blob) (unpacked_from (place + length read + head.size) rest)
+      → unpacked_from place ((read ++ blob) ++ rest) ≡ then_unpacked (unpacked_frame head.kind (place + length read) (read ++ blob) blob) (unpacked_from (place + length read + head.size) rest)
   whole_frame blob sized fits rest =
       let f : FrameSpec = record { offset = place; prefix = has.prefix; header = header; blob = blob } in
       let front : take (head_says (place + 4) header).size (blob ++ rest) ≡ blob = take_at blob rest (head_says (place + 4) header).size (sized ∙ size_is) in
@@ -138,20 +138,20 @@ module _ (place : ℕ) (read header : List ℕ) (head : Head) (has : HasHead pla
       ap (λ (l : List ℕ). drop (length l) (read ++ (blob ++ rest))) bytes_are ∙ ap (drop (length (read ++ blob))) (sym (append_assoc read blob rest)) ∙ drop_at (read ++ blob) rest (length (read ++ blob)) refl in
       ap (unpacked_from place) (append_assoc read blob rest)
       ∙ whole_then place (read ++ (blob ++ rest)) (ap is_whole at ∙ whole)
-      ∙ ap (λ (g : FrameSpec). joined (unpacked_frame (frame_kind g) (blob_at g) (frame_bytes g) g.blob) (unpacked_from (frame_end g) (drop (length (frame_bytes g)) (read ++ (blob ++ rest))))) at
-      ∙ ap (λ (l : List ℕ). joined (unpacked_frame (frame_kind f) (blob_at f) (frame_bytes f) blob) (unpacked_from (frame_end f) l)) after
-      ∙ ap (λ (n : ℕ). joined (unpacked_frame (frame_kind f) (blob_at f) (frame_bytes f) blob) (unpacked_from n rest)) end_is
-      ∙ ap (λ (n : ℕ). joined (unpacked_frame (frame_kind f) n (frame_bytes f) blob) (unpacked_from (place + length read + head.size) rest)) blob_place
-      ∙ ap (λ (l : List ℕ). joined (unpacked_frame (frame_kind f) (place + length read) l blob) (unpacked_from (place + length read + head.size) rest)) bytes_are
-      ∙ ap (λ (k : FrameKind). joined (unpacked_frame k (place + length read) (read ++ blob) blob) (unpacked_from (place + length read + head.size) rest)) (sym kind_is)
+      ∙ ap (λ (g : FrameSpec). then_unpacked (unpacked_frame (frame_kind g) (blob_at g) (frame_bytes g) g.blob) (unpacked_from (frame_end g) (drop (length (frame_bytes g)) (read ++ (blob ++ rest))))) at
+      ∙ ap (λ (l : List ℕ). then_unpacked (unpacked_frame (frame_kind f) (blob_at f) (frame_bytes f) blob) (unpacked_from (frame_end f) l)) after
+      ∙ ap (λ (n : ℕ). then_unpacked (unpacked_frame (frame_kind f) (blob_at f) (frame_bytes f) blob) (unpacked_from n rest)) end_is
+      ∙ ap (λ (n : ℕ). then_unpacked (unpacked_frame (frame_kind f) n (frame_bytes f) blob) (unpacked_from (place + length read + head.size) rest)) blob_place
+      ∙ ap (λ (l : List ℕ). then_unpacked (unpacked_frame (frame_kind f) (place + length read) l blob) (unpacked_from (place + length read + head.size) rest)) bytes_are
+      ∙ ap (λ (k : FrameKind). then_unpacked (unpacked_frame k (place + length read) (read ++ blob) blob) (unpacked_from (place + length read + head.size) rest)) (sym kind_is)
 
   -- the same, as the code has the numbers
   pub whole_means : (blob : List ℕ) → length blob ≡ head.size → (at end : ℕ) → at ≡ place + length read → end ≡ place + length read + head.size → end ≤ 2 ^ 62
-      → (0 < length (read ++ blob)) × ((rest : List ℕ) → unpacked_from place ((read ++ blob) ++ rest) ≡ joined (unpacked_frame head.kind at (read ++ blob) blob) (unpacked_from end rest))
+      → (0 < length (read ++ blob)) × ((rest : List ℕ) → unpacked_from place ((read ++ blob) ++ rest) ≡ then_unpacked (unpacked_frame head.kind at (read ++ blob) blob) (unpacked_from end rest))
   whole_means blob sized at end at_is end_is fits = (
     omega (arith, long, length-append read blob),
     λ rest.
         whole_frame blob sized (omega (arith, end_is, fits)) rest
-        ∙ ap (λ (n : ℕ). joined (unpacked_frame head.kind n (read ++ blob) blob) (unpacked_from (place + length read + head.size) rest)) (sym at_is)
-        ∙ ap (λ (n : ℕ). joined (unpacked_frame head.kind at (read ++ blob) blob) (unpacked_from n rest)) (sym end_is),
+        ∙ ap (λ (n : ℕ). then_unpacked (unpacked_frame head.kind n (read ++ blob) blob) (unpacked_from (place + length read + head.size) rest)) (sym at_is)
+        ∙ ap (λ (n : ℕ). then_unpacked (unpacked_frame head.kind at (read ++ blob) blob) (unpacked_from n rest)) (sym end_is),
   )

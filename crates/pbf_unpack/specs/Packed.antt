@@ -45,5 +45,5 @@ sized place raw_size (Ok payload) = if fits_size raw_size (length payload) then 
 sized place raw_size (Err e) = Err (fault_at place (Inflate e))
 
 -- the payload of zlib data beside this raw_size, shorter than the limit of raw data, or why there is none; the fault is where the data is
-abbrev pub payload_of : Occurrence → Option Occurrence → Result (List ℕ) UnpackFault
-payload_of stream raw_size = sized stream.place raw_size (inflated (RAW_LIMIT - 1) (bytes_held stream.content))
+abbrev pub unpacked_payload : Occurrence → Option Occurrence → Result (List ℕ) UnpackFault
+unpacked_payload stream raw_size = sized stream.place raw_size (inflated (RAW_LIMIT - 1) (bytes_held stream.content))

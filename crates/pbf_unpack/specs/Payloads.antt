@@ -10,7 +10,7 @@ IsMeaning meaning None held = meaning ≡ Ok held
 IsMeaning meaning (Some e) held = meaning ≡ Err e
 
 -- the fault of a frame's zlib data
-abbrev pub fault_in : Outcome → Option UnpackFault
-fault_in Kept = None
-fault_in Unpacked = None
-fault_in (Faulty e) = Some e
+abbrev pub fault_of_outcome : Outcome → Option UnpackFault
+fault_of_outcome Kept = None
+fault_of_outcome Unpacked = None
+fault_of_outcome (Faulty e) = Some e

@@ -21,9 +21,9 @@ stop_in PassingOn = None
 stop_in Ended = None
 
 -- what a fault of zlib data is called
-abbrev pub reason_name : UnpackReason → List ℕ
-reason_name (Inflate fault) = fault_name fault
-reason_name RawSize = codes "RawSize"
+abbrev pub unpack_reason_name : UnpackReason → List ℕ
+unpack_reason_name (Inflate fault) = fault_name fault
+unpack_reason_name RawSize = codes "RawSize"
 
 -- no read failed, and nothing is left in the buffers
 abbrev pub has_all : {F : Type 0} → UnpackedFeed F → Bool
@@ -38,5 +38,5 @@ pub record GavePacked {F : Type 0} (remaining : F → Option (List ℕ)) (has_pa
   pub end : remaining_in remaining u ≡ Some [] → remaining u.feed ≡ Some []
 
 -- the bytes held
-abbrev pub held_by : {F : Type 0} → UnpackedFeed F → ℕ
-held_by u = length u.buffers.front.items + length u.buffers.header.items + length u.buffers.packed.items + length u.buffers.raw.items
+abbrev pub held_by_feed : {F : Type 0} → UnpackedFeed F → ℕ
+held_by_feed u = length u.buffers.front.items + length u.buffers.header.items + length u.buffers.packed.items + length u.buffers.raw.items

@@ -7,7 +7,7 @@ use Rattle.pbf_frame.specs.Devices.{HasRisen, IsAtEnd}
 use Rattle.pbf_unpack.specs.declared.feed.State.{State}
 use Rattle.pbf_unpack.specs.declared.feed.State.TheVariants.{Reading, PassingOn, Ended, Failed, Refused}
 use Rattle.pbf_unpack.specs.declared.feed.UnpackedFeed.{UnpackedFeed}
-use Rattle.pbf_unpack.specs.Unpacked.{Unpacked, joined, as_they_stand, unpacked_from}
+use Rattle.pbf_unpack.specs.Unpacked.{Unpacked, then_unpacked, as_they_stand, unpacked_from}
 
 -- what the bytes that follow at this place mean: frames, or bytes as they are, or nothing more
 abbrev pub more : State → ℕ → List ℕ → Unpacked
@@ -27,7 +27,7 @@ CanFollow Refused rest = ⊥
 
 -- bytes that were read from one place up to another mean this, and then what those that follow mean
 abbrev pub Carries : (start : ℕ) → State → (place : ℕ) → List ℕ → Unpacked → Type 0
-Carries start state place read meaning = (rest : List ℕ) → CanFollow state rest → unpacked_from start (read ++ rest) ≡ joined meaning (more state place rest)
+Carries start state place read meaning = (rest : List ℕ) → CanFollow state rest → unpacked_from start (read ++ rest) ≡ then_unpacked meaning (more state place rest)
 
 -- the bytes in the buffers that are still to supply
 abbrev pub left_in : {F : Type 0} → UnpackedFeed F → List ℕ
@@ -87,12 +87,12 @@ pub record GoesOn {F : Type 0} (remaining : F → Option (List ℕ)) (has_passed
   pub supplied_same : (log : ℕ) (bytes : List ℕ) → HasSupplied remaining has_passed old log bytes → HasSupplied remaining has_passed new log bytes
 
 -- there are bytes in the buffers, or the end was reached
-abbrev pub IsReady : State → List ℕ → Type 0
-IsReady Reading left = 0 < length left
-IsReady PassingOn left = Unit {0}
-IsReady Ended left = Unit {0}
-IsReady Failed left = Unit {0}
-IsReady Refused left = ⊥
+abbrev pub HasSupply : State → List ℕ → Type 0
+HasSupply Reading left = 0 < length left
+HasSupply PassingOn left = Unit {0}
+HasSupply Ended left = Unit {0}
+HasSupply Failed left = Unit {0}
+HasSupply Refused left = ⊥
 
 -- a feed is the same, except for where frames come from
 pub record IsSameBut {F : Type 0} (old new : UnpackedFeed F) : Type 0 where

@@ -11,7 +11,7 @@ use Rattle.pbf_frame.specs.Header.{head_says}
 use Rattle.pbf_frame.specs.Steps.{head_of}
 use Rattle.pbf_frame.specs.Writing.{written_frame}
 use Rattle.pbf_unpack.specs.declared.fault.UnpackFault.{UnpackFault}
-use Rattle.pbf_unpack.specs.Packed.{packed_in, payload_of}
+use Rattle.pbf_unpack.specs.Packed.{packed_in, unpacked_payload}
 use Rattle.pbf_frame.specs.declared.frame.TheConstants.{FILE_LIMIT}
 
 -- raw bytes, and the first fault of the zlib data that they stand for, if it has one
@@ -19,8 +19,8 @@ abbrev pub Unpacked : Type 0
 Unpacked = List ℕ × Option UnpackFault
 
 -- these, and then those
-abbrev pub joined : Unpacked → Unpacked → Unpacked
-joined first rest = (first.0 ++ rest.0, option_or first.1 rest.1)
+abbrev pub then_unpacked : Unpacked → Unpacked → Unpacked
+then_unpacked first rest = (first.0 ++ rest.0, option_or first.1 rest.1)
 
 -- bytes as they are
 abbrev pub as_they_stand : List ℕ → Unpacked
@@ -36,7 +36,7 @@ rewritten kind frame (Err e) = (frame, Some e)
 -- a frame without zlib data stays as it is
 abbrev pub with_data : FrameKind → List ℕ → Option Occurrence → Option Occurrence → Unpacked
 with_data kind frame None raw_size = as_they_stand frame
-with_data kind frame (Some stream) raw_size = rewritten kind frame (payload_of stream raw_size)
+with_data kind frame (Some stream) raw_size = rewritten kind frame (unpacked_payload stream raw_size)
 
 -- what a frame of this kind means whose blob is at this place; the blob of another type isn't read
 abbrev pub unpacked_frame : FrameKind → ℕ → (frame blob : List ℕ) → Unpacked
@@ -56,7 +56,7 @@ unfoldable pub unpacked_within : ℕ → ℕ → List ℕ → Unpacked
 unpacked_within zero place bytes = as_they_stand bytes
 unpacked_within (suc fuel) place bytes =
     let f = frame_at place bytes in
-    if is_whole f then joined (unpacked_frame (frame_kind f) (blob_at f) (frame_bytes f) f.blob) (unpacked_within fuel (frame_end f) (drop (length (frame_bytes f)) bytes))
+    if is_whole f then then_unpacked (unpacked_frame (frame_kind f) (blob_at f) (frame_bytes f) f.blob) (unpacked_within fuel (frame_end f) (drop (length (frame_bytes f)) bytes))
     else as_they_stand bytes
 
 -- what bytes at this place mean; each frame has a byte at least

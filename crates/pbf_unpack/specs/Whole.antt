@@ -9,11 +9,11 @@ use Rattle.pbf_unpack.specs.declared.whole.Found.{Found}
 use Rattle.pbf_unpack.specs.declared.whole.Found.TheVariants as found
 use Rattle.pbf_unpack.specs.declared.whole.Front.{Front}
 use Rattle.pbf_unpack.specs.declared.whole.Front.TheVariants as front
-use Rattle.pbf_unpack.specs.Unpacked.{joined, as_they_stand, unpacked_frame, unpacked_from}
+use Rattle.pbf_unpack.specs.Unpacked.{then_unpacked, as_they_stand, unpacked_frame, unpacked_from}
 use Rattle.pbf_frame.specs.declared.frame.TheConstants.{FILE_LIMIT}
 
 -- these bytes were read
-pub record Took (read : List ℕ) (before now : ℕ → List ℕ → Type 0) (old new : Option (List ℕ)) : Type 0 where
+pub record TookBytes (read : List ℕ) (before now : ℕ → List ℕ → Type 0) (old new : Option (List ℕ)) : Type 0 where
   pub told : old ≡ prepend read new
   pub logged : Passes before read now
 
@@ -42,7 +42,7 @@ BeginsWith place read header left front.Cut = IsCut place read left
 
 -- these are a whole frame, whatever follows; or bytes that begin none; or all that there was
 abbrev pub Means : ℕ → (read blob : List ℕ) → Option (List ℕ) → Found → Type 0
-Means place read blob left (found.Whole w) = (0 < length read) × ((rest : List ℕ) → unpacked_from place (read ++ rest) ≡ joined (unpacked_frame w.kind w.blob_at read blob) (unpacked_from w.end rest))
+Means place read blob left (found.Whole w) = (0 < length read) × ((rest : List ℕ) → unpacked_from place (read ++ rest) ≡ then_unpacked (unpacked_frame w.kind w.blob_at read blob) (unpacked_from w.end rest))
 Means place read blob left found.Unfit = IsUnfit place read
 Means place read blob left found.Cut = IsCut place read left
 

@@ -1,7 +1,7 @@
 //! Why the zlib data of a blob is not unpacked.
 
 ghost use Rattle.std.specs.Prelude.{◌≡◌};
-ghost use Rattle.pbf_unpack.specs.Reports.{reason_name};
+ghost use Rattle.pbf_unpack.specs.Reports.{unpack_reason_name};
 
 use zlib::InflateFault;
 
@@ -17,7 +17,7 @@ pub enum UnpackReason {
 impl UnpackReason {
     /// The name of the fault.
     pub fn name(self) -> &'static str
-        ensures { result.now ≡ reason_name self }
+        ensures { result.now ≡ unpack_reason_name self }
     {
         match self {
             UnpackReason::Inflate(fault) => fault.name(),

@@ -7,7 +7,7 @@ ghost use Rattle.pbf_wire.specs.Payload.{content};
 ghost use Rattle.pbf_wire.specs.declared.limits.TheConstants.{RAW_LIMIT};
 ghost use Rattle.pbf_frame.specs.Header.{int32_held};
 ghost use Rattle.zlib.specs.Stream.{inflated};
-ghost use Rattle.pbf_unpack.specs.Packed.{is_length, fits_size, payload_of};
+ghost use Rattle.pbf_unpack.specs.Packed.{is_length, fits_size, unpacked_payload};
 ghost use Rattle.pbf_unpack.specs.Payloads.{IsMeaning};
 
 use crate::fault::{UnpackFault, UnpackReason};
@@ -103,7 +103,7 @@ pub(crate) fn unpack_payload(
     payload: &mut Vec<u8>,
 ) -> Result<Option<UnpackFault>, AllocError>
     ensures exact { IfOk result (λ fault.
-        IsMeaning (payload_of (occurrence stream.entry) (option_map occurrence raw_size.entry))
+        IsMeaning (unpacked_payload (occurrence stream.entry) (option_map occurrence raw_size.entry))
         fault payload.new.items) }
     ensures within { IfOk result (λ fault. IfNone fault (vec_len payload.new < RAW_LIMIT)) }
     ensures held { vec_len payload.new ≤ max (RAW_LIMIT - 1) (vec_len payload.old) }

@@ -3,7 +3,7 @@
 ghost use Rattle.std.specs.Prelude.{◌≡◌, ◌+◌, ◌*◌, ◌≤◌, ℕ, List, [], None, true};
 ghost use Rattle.std.specs.Option.{option_map};
 ghost use Rattle.pbf_frame.specs.declared.header.TheConstants.{HEADER_LIMIT, LARGEST_SIZE};
-ghost use Rattle.pbf_unpack.specs.Reports.{stop_in, has_all, GavePacked, held_by};
+ghost use Rattle.pbf_unpack.specs.Reports.{stop_in, has_all, GavePacked, held_by_feed};
 ghost use Rattle.pbf_unpack.specs.Supplying.{remaining_in, refusals, HasSupplied};
 ghost use Rattle.pbf_unpack.specs.Unpacked.{unpacked};
 
@@ -85,7 +85,7 @@ impl<F: Feed> UnpackedFeed<F> {
 
     /// The bytes held, beside the tables of the [`Inflater`], 256 KiB: one packed frame and a raw one, at most 67,241,984.
     pub fn held(&self) -> u64
-        ensures value { result ≡ held_by self.now }
+        ensures value { result ≡ held_by_feed self.now }
         ensures bound { result ≤ 2 * (LARGEST_SIZE + HEADER_LIMIT + 1) }
     {
         self.buffers.held()

@@ -4,7 +4,7 @@ ghost use Rattle.std.specs.Prelude.{◌≡◌, ◌+◌, ◌-◌, ◌<◌, ◌≤
 ghost use Rattle.pbf_frame.specs.Devices.{prepend, Passes, IsAtEnd};
 ghost use Rattle.pbf_frame.specs.Reads.{IsFillStop};
 ghost use Rattle.pbf_unpack.specs.declared.feed.State.TheVariants as states;
-ghost use Rattle.pbf_unpack.specs.Supplying.{left_in, remaining_in, refusals, HasSupplied, GoesOn, IsReady, IsSameBut, IsSupplyStop};
+ghost use Rattle.pbf_unpack.specs.Supplying.{left_in, remaining_in, refusals, HasSupplied, GoesOn, HasSupply, IsSameBut, IsSupplyStop};
 
 use crate::buffers::Buffers;
 use crate::feed::{Origin, State, UnpackedFeed};
@@ -80,7 +80,7 @@ impl<F: Feed> UnpackedFeed<F> {
         requires reading { self.old.state ≡ states.Reading }
         requires spent { left_in self.old ≡ [] }
         ensures goes_on { OnOk result (GoesOn F.remaining F.has_passed self.old self.new) }
-        ensures ready { OnOk result (IsReady self.new.state (left_in self.new)) }
+        ensures ready { OnOk result (HasSupply self.new.state (left_in self.new)) }
         ensures lender { F.lender self.new.feed ≡ F.lender self.old.feed }
         ensures counts { F.failures self.old.feed ≤ F.failures self.new.feed }
         ensures stops { IfErr result
@@ -113,7 +113,7 @@ impl<F: Feed> UnpackedFeed<F> {
     /// Makes sure that there are bytes in the buffers, if there are any left.
     fn make_ready(&mut self) -> Result<(), Stop>
         ensures goes_on { OnOk result (GoesOn F.remaining F.has_passed self.old self.new) }
-        ensures ready { OnOk result (IsReady self.new.state (left_in self.new)) }
+        ensures ready { OnOk result (HasSupply self.new.state (left_in self.new)) }
         ensures lender { F.lender self.new.feed ≡ F.lender self.old.feed }
         ensures counts { F.failures self.old.feed ≤ F.failures self.new.feed }
         ensures goes { OnOk result (refusals self.old.state ≡ 0) }

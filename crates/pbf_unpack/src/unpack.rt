@@ -4,7 +4,7 @@ ghost use Rattle.std.specs.Prelude.{◌≡◌, ◌+◌, ◌<◌, ◌≤◌, ◌^
 ghost use Rattle.pbf_wire.specs.declared.limits.TheConstants.{OFFSET_LIMIT, RAW_LIMIT};
 ghost use Rattle.pbf_frame.specs.declared.frame.FrameKind.TheVariants as kinds;
 ghost use Rattle.pbf_frame.specs.Writing.{written_frame};
-ghost use Rattle.pbf_unpack.specs.Payloads.{fault_in};
+ghost use Rattle.pbf_unpack.specs.Payloads.{fault_of_outcome};
 ghost use Rattle.pbf_unpack.specs.Unpacked.{unpacked_frame};
 
 use crate::blob::packed_field;
@@ -31,7 +31,7 @@ pub(crate) enum Outcome {
 impl Outcome {
     /// The fault of its zlib data, if it has one.
     pub(crate) fn fault(self) -> Option<UnpackFault>
-        ensures { result ≡ fault_in self }
+        ensures { result ≡ fault_of_outcome self }
     {
         match self {
             Outcome::Faulty(fault) => Some(fault),
@@ -62,7 +62,7 @@ pub(crate) fn unpack(
     requires { frame.blob_at + vec_len buffers.old.packed ≤ OFFSET_LIMIT }
     ensures { IfOk result (λ outcome. unpacked_frame frame.kind frame.blob_at
         (buffers.old.front.items ++ buffers.old.packed.items) buffers.old.packed.items
-        ≡ (buffers.new.front.items ++ buffers.new.raw.items, fault_in outcome)) }
+        ≡ (buffers.new.front.items ++ buffers.new.raw.items, fault_of_outcome outcome)) }
 {
     if frame.kind == FrameKind::Other {
         buffers.stand();

@@ -4,7 +4,7 @@ ghost use Rattle.std.specs.Prelude.{◌≡◌, ◌+◌, ◌-◌, ◌<◌, ◌≤
 ghost use Rattle.pbf_frame.specs.declared.header.Head.{Head};
 ghost use Rattle.pbf_frame.specs.declared.header.TheConstants.{HEADER_LIMIT};
 ghost use Rattle.pbf_frame.specs.Reads.{IsFillStop};
-ghost use Rattle.pbf_unpack.specs.Whole.{Took, BeginsWith, Means, IsPlaced};
+ghost use Rattle.pbf_unpack.specs.Whole.{TookBytes, BeginsWith, Means, IsPlaced};
 ghost use Rattle.pbf_frame.specs.declared.frame.TheConstants.{FILE_LIMIT};
 
 use crate::buffers::Buffers;
@@ -49,7 +49,7 @@ fn read_front<F: Feed>(
     place: u64,
 ) -> Result<Front, Stop>
     requires { place ≤ FILE_LIMIT }
-    ensures took { OnOk result (Took front.new.items (F.has_passed feed.old)
+    ensures took { OnOk result (TookBytes front.new.items (F.has_passed feed.old)
         (F.has_passed feed.new) (F.remaining feed.old) (F.remaining feed.new)) }
     ensures means { IfOk result
         (BeginsWith place front.new.items header.new.items (F.remaining feed.new)) }
@@ -85,7 +85,7 @@ pub(crate) fn read_whole<F: Feed>(
     place: u64,
 ) -> Result<Found, Stop>
     requires { place ≤ FILE_LIMIT }
-    ensures took { OnOk result (Took (buffers.new.front.items ++ buffers.new.packed.items)
+    ensures took { OnOk result (TookBytes (buffers.new.front.items ++ buffers.new.packed.items)
         (F.has_passed feed.old) (F.has_passed feed.new) (F.remaining feed.old) (F.remaining feed.new)) }
     ensures means { IfOk result (Means place (buffers.new.front.items ++ buffers.new.packed.items)
         buffers.new.packed.items (F.remaining feed.new)) }

@@ -11,7 +11,7 @@ use Rattle.osm_box.specs.declared.bounding_box.BoxFault.TheVariants as box
 use Rattle.pbf_unpack.specs.declared.fault.UnpackReason.{UnpackReason}
 use Rattle.pbf_unpack.specs.declared.reports.Place.{Place}
 use Rattle.pbf_unpack.specs.declared.reports.Place.TheVariants as place
-use Rattle.pbf_unpack.specs.Reports.{reason_name}
+use Rattle.pbf_unpack.specs.Reports.{unpack_reason_name}
 use Rattle.pbfcut_cli.specs.declared.packed.PackedRefusal.{PackedRefusal}
 use Rattle.pbfcut_cli.specs.declared.programs.Program.{Program}
 use Rattle.pbfcut_cli.specs.declared.programs.Program.TheVariants as program
@@ -61,7 +61,7 @@ place_text (place.InPayload frame byte) = codes "refused in the blob at " ++ dec
 
 -- as `: Checksum`, if the zlib data has a fault
 abbrev pub detail_text : Option UnpackReason → List ℕ
-detail_text (Some reason) = codes ": " ++ reason_name reason
+detail_text (Some reason) = codes ": " ++ unpack_reason_name reason
 detail_text None = codes ""
 
 -- the line, without its end

@@ -1,7 +1,7 @@
 use Rattle.std.proofs.Common.{◌<◌, ◌++◌, length, subst, sym, ◌∙◌, rules}
 use Rattle.pbf_unpack.specs.declared.feed.State.{State}
 use Rattle.pbf_unpack.specs.declared.whole.Found.{Found}
-use Rattle.pbf_unpack.specs.Supplying.{IsReady, left_in}
+use Rattle.pbf_unpack.specs.Supplying.{HasSupply, left_in}
 use Rattle.pbf_unpack.specs.Whole.{Means}
 use Rattle.pbf_unpack.proofs.SupplyLemmas.{frame_some}
 use Rattle.pbf_unpack.proofs.feed.UnpackedFeed.next_frame.Goals as goal
@@ -15,4 +15,4 @@ returns-in_ok-outcome-in-Whole-clause-ready g c =
     let given : 0 < length (c.unpack.new.buffers.front.items ++ c.unpack.new.buffers.raw.items) = search (rules, some) in
     let same = c.come_from.ensures.same in
     let left : 0 < length (left_in c.come_from.new.self) = rw (same.buffers, same.done) given in
-    subst (λ (s : State). IsReady s (left_in c.come_from.new.self)) (sym (same.state ∙ c.requires.reading)) left
+    subst (λ (s : State). HasSupply s (left_in c.come_from.new.self)) (sym (same.state ∙ c.requires.reading)) left
