@@ -1,9 +1,10 @@
 -- A packer, as contracts see it.
-use Rattle.std.specs.Prelude.{◌≡◌, ◌≤◌, ℕ, Bool, true, List, Option, Some, None, Result, Err, OnOk, IfErr}
+use Rattle.std.specs.Prelude.{◌≡◌, ℕ, Bool, true, List, Option, Some, None, Result, Err, OnOk, IfErr}
 use Rattle.osm_entity.specs.Entity.{EntitySpec}
 use Rattle.pbf_frame.specs.declared.device.Drain as drain
 use Rattle.pbf_frame.specs.declared.stop.Stop.{Stop}
 use Rattle.pbf_frame.specs.Devices.{IsFront}
+use Rattle.pbf_frame.specs.Keeps.{KeepsDrain}
 use Rattle.pbf_frame.specs.Transfers.{Added}
 use Rattle.osm_pack.specs.Cuts.{then_pending, then_written}
 use Rattle.osm_pack.specs.Open.{Holds, block_held}
@@ -42,8 +43,7 @@ packer_held packer = block_held packer.block
 pub record UsesPacker {D S H X : Type 0} (d : drain.Ghosts D) (old new : Packing D S H) (result : Result X Stop) : Type 0 where
   pub stopped : IfErr result (HasStopped new)
   pub stops : IsPacking old → IfErr result (IsPackStop (d.failures old.drain) (d.failures new.drain))
-  pub counts : d.failures old.drain ≤ d.failures new.drain
-  pub lender : d.lender new.drain ≡ d.lender old.drain
+  pub keeps : KeepsDrain d old.drain new.drain
   pub spent : (stop : Stop) → HasStopped old stop → (result ≡ Err stop) × (new.drain ≡ old.drain)
 
 -- what `push` promises, of a call to which the weight is given

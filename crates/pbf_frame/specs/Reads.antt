@@ -8,6 +8,7 @@ use Rattle.pbf_frame.specs.declared.frame_parts.BufferedFrame.{BufferedFrame}
 use Rattle.pbf_frame.specs.declared.stop.Stop.{Stop}
 use Rattle.pbf_frame.specs.declared.stop.Stop.TheVariants.{Refused, Read, Write, Memory}
 use Rattle.pbf_frame.specs.Devices.{HasRisen, IsAtEnd, Passes, prepend}
+use Rattle.pbf_frame.specs.Keeps.{KeepsFeed}
 use Rattle.pbf_frame.specs.Blob.{blob_fault}
 use Rattle.pbf_frame.specs.Frames.{FrameSpec, blob_at, frame_kind, frame_bytes, next_of}
 use Rattle.pbf_frame.specs.Sound.{IsFrame}
@@ -41,11 +42,10 @@ IsReaderStop old new Read = HasRisen old new
 IsReaderStop old new Memory = Unit {0}
 IsReaderStop _ _ _ = ⊥
 
--- a call that reads frames stops for such a cause; the feed's count of failures doesn't fall, and it keeps its references
+-- a call that reads frames stops for such a cause
 pub record UsesFeed {F X : Type 0} (f : feed.Ghosts F) (old new : F) (result : Result X Stop) : Type 0 where
   pub stops : IfErr result (IsReaderStop (f.failures old) (f.failures new))
-  pub counts : f.failures old ≤ f.failures new
-  pub lender : f.lender new ≡ f.lender old
+  pub keeps : KeepsFeed f old new
 
 -- this many bytes are gone
 pub record Skips (before now : ℕ → List ℕ → Type 0) (old new : Option (List ℕ)) (count : ℕ) : Type 0 where

@@ -21,7 +21,8 @@ use Rattle.pbf_pass.specs.Hashing.{IsLength, IsDigestOf, digest_if}
 use Rattle.pbf_pass.specs.Judged.{judged_file}
 use Rattle.pbf_pass.specs.Pass.{TakesFile}
 use Rattle.pbf_pass.specs.Refused.{RefusesRest, RefusesBytes, RefusesFile, Halts, HaltsFile, IsLimitRefused, halted, stop_of}
-use Rattle.pbf_pass.specs.Stops.{FaultOf, Caused, Only, unchanged, KeepsFeed}
+use Rattle.pbf_pass.specs.Stops.{FaultOf, Caused, Only, unchanged}
+use Rattle.pbf_frame.specs.Keeps.{KeepsFeed}
 use Rattle.pbf_pass.proofs.LimitLemmas.{limited_fault, limit_refused}
 
 -- ---- a header that can't be written is refused

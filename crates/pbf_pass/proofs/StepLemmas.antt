@@ -25,7 +25,7 @@ use Rattle.pbf_pass.specs.Judged.{payload_fault, sound_first, fully, fully_known
 use Rattle.pbf_pass.specs.Counting.{counted_with, counts_of, entities_in, stored_entities}
 use Rattle.pbf_pass.specs.Pass.{TakesSome, TakesPayload, Follows, IsStep, HoldsHeader, headers_in, frame_headers, file_header}
 use Rattle.pbf_pass.specs.Payload.{Payload, header_block, primitive_block, unknown, payload_of}
-use Rattle.pbf_pass.specs.Stops.{KeepsFeed}
+use Rattle.pbf_frame.specs.Keeps.{KeepsFeed}
 use Rattle.pbf_pass.proofs.CountLemmas.{counts_together, stored_one}
 
 -- ---- the verdict of all phases

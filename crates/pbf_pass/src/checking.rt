@@ -6,7 +6,8 @@ ghost use Rattle.pbf_pass.specs.Hashing.{digest_if};
 ghost use Rattle.pbf_pass.specs.Judged.{judged_file};
 ghost use Rattle.pbf_pass.specs.Pass.{CountsFile};
 ghost use Rattle.pbf_pass.specs.Refused.{RefusesFile, Halts, stop_of};
-ghost use Rattle.pbf_pass.specs.Stops.{KeepsFeed, Caused, FaultOf, unchanged, ReadFailed};
+ghost use Rattle.pbf_pass.specs.Stops.{Caused, FaultOf, unchanged, ReadFailed};
+ghost use Rattle.pbf_frame.specs.Keeps.{KeepsFeed};
 
 use crate::pass::{Nothing, judge};
 use crate::receipt::{Halt, InputReceipt, Passes};

@@ -18,7 +18,8 @@ ghost use Rattle.pbf_pass.specs.Pass.{IsFresh, TakesPayload, TakesAll, TakesFram
 ghost use Rattle.pbf_pass.specs.Given.{GaveFile};
 ghost use Rattle.pbf_pass.specs.Hashing.{IsLength, digest_if};
 ghost use Rattle.pbf_pass.specs.Refused.{RefusesFile, Halts, stop_of};
-ghost use Rattle.pbf_pass.specs.Stops.{KeepsFeed, Caused, FaultOf, unchanged, ReadFailed};
+ghost use Rattle.pbf_pass.specs.Stops.{Caused, FaultOf, unchanged, ReadFailed};
+ghost use Rattle.pbf_frame.specs.Keeps.{KeepsFeed};
 ghost use Rattle.pbf_frame.specs.declared.frame.TheConstants.{FILE_LIMIT};
 ghost use Rattle.pbf_frame.specs.declared.reader.TheConstants.{MOST_BUFFERED};
 ghost use Rattle.pbf_wire.specs.declared.limits.TheConstants.{OFFSET_LIMIT, RAW_LIMIT};

@@ -25,7 +25,8 @@ use Rattle.pbf_pass.specs.Counting.{entities_in, counts_of}
 use Rattle.pbf_pass.specs.Judged.{fault_in}
 use Rattle.pbf_pass.specs.Pass.{TakesSome}
 use Rattle.pbf_pass.specs.Payload.{Payload, payload_of}
-use Rattle.pbf_pass.specs.Stops.{Caused, Only, unchanged, KeepsDrain, WriteFailed}
+use Rattle.pbf_pass.specs.Stops.{Caused, Only, unchanged, WriteFailed}
+use Rattle.pbf_frame.specs.Keeps.{KeepsDrain}
 
 -- ---- which are picked
 

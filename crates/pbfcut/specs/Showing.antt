@@ -15,7 +15,8 @@ use Rattle.osm_text.specs.HeaderText.{header_text}
 use Rattle.pbfcut.specs.declared.showing.LineWriter.{LineWriter}
 use Rattle.pbf_pass.specs.Judged.{fault_in, payload_fault}
 use Rattle.pbf_pass.specs.Payload.{Payload, header_block, primitive_block, unknown, payload_of}
-use Rattle.pbf_pass.specs.Stops.{Caused, Only, unchanged, KeepsDrain, WriteFailed}
+use Rattle.pbf_pass.specs.Stops.{Caused, Only, unchanged, WriteFailed}
+use Rattle.pbf_frame.specs.Keeps.{KeepsDrain}
 
 -- ---- the text
 

@@ -6,7 +6,8 @@ ghost use Rattle.pbf_frame.specs.Transfers.{Added};
 ghost use Rattle.pbf_frame.specs.Verdict.{judged_known};
 ghost use Rattle.pbfcut.specs.Blobs.{lent_line, shown_name, shown_length};
 ghost use Rattle.pbfcut.specs.Listing.{Lists, ListsFront, ListsToFault, ListsNext, StopsListing};
-ghost use Rattle.pbf_pass.specs.Stops.{Caused, Only, unchanged, KeepsDrain, KeepsFeed, ReadFailed, WriteFailed};
+ghost use Rattle.pbf_pass.specs.Stops.{Caused, Only, unchanged, ReadFailed, WriteFailed};
+ghost use Rattle.pbf_frame.specs.Keeps.{KeepsDrain, KeepsFeed};
 
 use osm_text::{put_number, put_quoted};
 use pbf_frame::{Drain, Feed, Frame, FrameKind, FrameReader, Stop, write_all};

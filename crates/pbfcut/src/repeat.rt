@@ -6,7 +6,7 @@ ghost use Rattle.pbf_pass.specs.Again.{GathersFile};
 ghost use Rattle.pbf_pass.specs.Judged.{judged_file};
 ghost use Rattle.pbf_pass.specs.Given.{GaveFile};
 ghost use Rattle.pbf_pass.specs.Hashing.{digest_if};
-ghost use Rattle.pbf_pass.specs.Stops.{KeepsFeed};
+ghost use Rattle.pbf_frame.specs.Keeps.{KeepsFeed};
 ghost use Rattle.pbfcut.specs.Repeat.{GathersRest, StopsAgain, as_change, digest_of};
 
 use pbf_frame::{Feed, Stop};

@@ -16,7 +16,8 @@ ghost use Rattle.pbf_pass.specs.Payload.{header_block, primitive_block, lent_by}
 ghost use Rattle.pbf_pass.specs.Refused.{HaltsFile, stop_of};
 ghost use Rattle.pbfcut.specs.Repeat.{SameDigest};
 ghost use Rattle.pbfcut.specs.Showing.{Shown, ShowsFront, WritesFront, WritesLines, WritesPayload, ShowsNext, FailsToShowNext};
-ghost use Rattle.pbf_pass.specs.Stops.{Caused, FaultOf, unchanged, KeepsDrain, KeepsFeed, ReadFailed, WriteFailed};
+ghost use Rattle.pbf_pass.specs.Stops.{Caused, FaultOf, unchanged, ReadFailed, WriteFailed};
+ghost use Rattle.pbf_frame.specs.Keeps.{KeepsDrain, KeepsFeed};
 
 use crate::repeat::LaterPass;
 use osm_entity::EntityRef;

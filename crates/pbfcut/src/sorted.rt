@@ -19,7 +19,8 @@ ghost use Rattle.pbf_pass.specs.Hashing.{digest_if};
 ghost use Rattle.pbfcut.specs.Kept.{IsWritable, extract_of};
 ghost use Rattle.pbf_pass.specs.Refused.{HaltsFile, stop_of};
 ghost use Rattle.pbfcut.specs.Repeat.{SameDigest};
-ghost use Rattle.pbf_pass.specs.Stops.{KeepsDrain, KeepsFeed, ReadFailed, WriteFailed};
+ghost use Rattle.pbf_pass.specs.Stops.{ReadFailed, WriteFailed};
+ghost use Rattle.pbf_frame.specs.Keeps.{KeepsDrain, KeepsFeed};
 
 use crate::extracting::{Choice, Cutting};
 use crate::repeat::LaterPass;

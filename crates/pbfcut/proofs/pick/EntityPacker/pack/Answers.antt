@@ -19,7 +19,7 @@ returns-in_err-push_weighed g c =
     rw (p.1, p.2) (record {
       packed = tt;
       stopped = stops_one g.D.Drain c.args.self.now.number (entity_of c.args.entity.now) c.args.packer.now _ _ c.in-Some.ensures.0 (push.front c.requires.1) (push.uses.stops c.requires.1);
-      keeps = record { header = push.header; drain_kept = record { counts = push.uses.counts; lender = push.uses.lender } };
+      keeps = record { header = push.header; drain_kept = push.uses.keeps };
       same = (refl, refl);
     })
 
@@ -29,6 +29,6 @@ returns g c =
     record {
       packed = packs_one g.D.Drain (entity_of c.args.entity.now) c.args.packer.now _ c.args.self.now.counts _ c.in-Some.ensures.0 push.pending push.written push.packing.1 c.take.ensures;
       stopped = tt;
-      keeps = record { header = push.header; drain_kept = record { counts = push.uses.counts; lender = push.uses.lender } };
+      keeps = record { header = push.header; drain_kept = push.uses.keeps };
       same = (refl, refl);
     }

@@ -32,7 +32,7 @@ pub returns-in_err-input-clause-stops : goal.returns-in_err-input-clause-stops
 returns-in_err-input-clause-stops g c =
     let p = err_from_is_err_and c.from_residual-in_err-input.result c.from_residual-in_err-input.ensures.1 in
     let none = none_packed g.D.Drain c.put_header.new.self (c.in_ok-put_header.ensures.pending [] c.requires.fresh.none) in
-    let said = stops_written g.D.Drain (λ v. v.packer.now) (λ v. v.counts) (λ v. pick_of v.chosen) (λ v. v.number) _ (λ old new f one. one) _ _ _ _ c.pass_over-outcome.new.visitor _ (λ mid f s failing. failing) c.in_err-input.ensures.stops none c.none.ensures (g.D.Drain.failures c.args.packer.now.drain) c.put_header.ensures.uses.counts in
+    let said = stops_written g.D.Drain (λ v. v.packer.now) (λ v. v.counts) (λ v. pick_of v.chosen) (λ v. v.number) _ (λ old new f one. one) _ _ _ _ c.pass_over-outcome.new.visitor _ (λ mid f s failing. failing) c.in_err-input.ensures.stops none c.none.ensures (g.D.Drain.failures c.args.packer.now.drain) c.put_header.ensures.uses.keeps.counts in
     rw (p.1, p.2) (search (rules, said))
 
 pub returns-in_err-put_header-clause-faulty : goal.returns-in_err-put_header-clause-faulty
@@ -55,7 +55,7 @@ pub returns-in_err-input-clause-drain : goal.returns-in_err-input-clause-drain
 returns-in_err-input-clause-drain g c =
     let none = none_packed g.D.Drain c.put_header.new.self (c.in_ok-put_header.ensures.pending [] c.requires.fresh.none) in
     let more = counts_written g.D.Drain (λ v. v.packer.now) (λ v. v.counts) (λ v. pick_of v.chosen) (λ v. v.number) _ (λ old new f one. one) _ _ _ _ c.pass_over-outcome.new.visitor _ (λ mid f s failing. failing) c.in_err-input.ensures.stops none c.none.ensures in
-    let counts : g.D.Drain.failures c.args.packer.now.drain ≤ g.D.Drain.failures c.pass_over-outcome.new.visitor.packer.now.drain = omega (arith, c.put_header.ensures.uses.counts, more) in
+    let counts : g.D.Drain.failures c.args.packer.now.drain ≤ g.D.Drain.failures c.pass_over-outcome.new.visitor.packer.now.drain = omega (arith, c.put_header.ensures.uses.keeps.counts, more) in
     search (rules, counts)
 
 pub returns-in_err-finish-clause-beginning : goal.returns-in_err-finish-clause-beginning
@@ -78,7 +78,7 @@ returns-in_err-finish-clause-stops g c =
     let none = none_packed g.D.Drain c.put_header.new.self (c.in_ok-put_header.ensures.pending [] c.requires.fresh.none) in
     let all = c.in_ok-input.ensures.visited.holding.1 in
     let w = has_written g.D.Drain (λ v. v.packer.now) (λ v. v.counts) (λ v. pick_of v.chosen) (λ v. v.number) _ (λ old new f one. one) _ all.frames c.pass_over-outcome.new.visitor all.visited none c.none.ensures in
-    let counts : g.D.Drain.failures c.args.packer.now.drain ≤ g.D.Drain.failures c.pass_over-outcome.new.visitor.packer.now.drain = omega (arith, c.put_header.ensures.uses.counts, w.drain_counts) in
+    let counts : g.D.Drain.failures c.args.packer.now.drain ≤ g.D.Drain.failures c.pass_over-outcome.new.visitor.packer.now.drain = omega (arith, c.put_header.ensures.uses.keeps.counts, w.drain_counts) in
     let read = ReadFailed g.F.Feed c.args.feed.now c.pass_over-outcome.new.feed in
     let said : StopsUnjudged c.args.self.number (judged_file (g.F.Feed.remaining c.args.feed.now)) read (WriteFailed g.D.Drain c.args.packer.now.drain c.finish.new.self.drain) c.in_err-finish.field-0.0 = stops_last c.args.self.number _ _ _ (judged_file (g.F.Feed.remaining c.args.feed.now)) read _ counts (c.in_err-finish.ensures.uses.stops c.in_ok-input.ensures.ready.1) in
     rw (p.1, p.2) (search (rules, said))
@@ -88,7 +88,7 @@ returns-in_err-finish-clause-drain g c =
     let none = none_packed g.D.Drain c.put_header.new.self (c.in_ok-put_header.ensures.pending [] c.requires.fresh.none) in
     let all = c.in_ok-input.ensures.visited.holding.1 in
     let w = has_written g.D.Drain (λ v. v.packer.now) (λ v. v.counts) (λ v. pick_of v.chosen) (λ v. v.number) _ (λ old new f one. one) _ all.frames c.pass_over-outcome.new.visitor all.visited none c.none.ensures in
-    let counts : g.D.Drain.failures c.args.packer.now.drain ≤ g.D.Drain.failures c.finish.new.self.drain = omega (arith, c.put_header.ensures.uses.counts, w.drain_counts, c.finish.ensures.uses.counts) in
+    let counts : g.D.Drain.failures c.args.packer.now.drain ≤ g.D.Drain.failures c.finish.new.self.drain = omega (arith, c.put_header.ensures.uses.keeps.counts, w.drain_counts, c.finish.ensures.uses.keeps.counts) in
     search (rules, counts)
 
 pub returns-clause-drain : goal.returns-clause-drain
@@ -96,7 +96,7 @@ returns-clause-drain g c =
     let none = none_packed g.D.Drain c.put_header.new.self (c.in_ok-put_header.ensures.pending [] c.requires.fresh.none) in
     let all = c.in_ok-input.ensures.visited.holding.1 in
     let w = has_written g.D.Drain (λ v. v.packer.now) (λ v. v.counts) (λ v. pick_of v.chosen) (λ v. v.number) _ (λ old new f one. one) _ all.frames c.pass_over-outcome.new.visitor all.visited none c.none.ensures in
-    let counts : g.D.Drain.failures c.args.packer.now.drain ≤ g.D.Drain.failures c.finish.new.self.drain = omega (arith, c.put_header.ensures.uses.counts, w.drain_counts, c.finish.ensures.uses.counts) in
+    let counts : g.D.Drain.failures c.args.packer.now.drain ≤ g.D.Drain.failures c.finish.new.self.drain = omega (arith, c.put_header.ensures.uses.keeps.counts, w.drain_counts, c.finish.ensures.uses.keeps.counts) in
     search (rules, counts)
 
 pub returns-clause-packed : goal.returns-clause-packed

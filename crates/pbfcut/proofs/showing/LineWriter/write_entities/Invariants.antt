@@ -4,7 +4,7 @@ use Rattle.osm_entity.specs.Entity.{EntitySpec}
 use Rattle.pbf_block.specs.Runs.{entities_left}
 use Rattle.pbf_frame.specs.Transfers.{Added}
 use Rattle.osm_text.specs.EntityText.{entity_line}
-use Rattle.pbf_pass.specs.Stops.{KeepsDrain}
+use Rattle.pbf_frame.specs.Keeps.{KeepsDrain}
 use Rattle.pbfcut.proofs.showing.LineWriter.write_entities.Given as goal
 
 -- the lines of the entities that are gone went out
