@@ -46,9 +46,9 @@ impl<'a> Iterator for Entities<'a> {
             }
             match self.runs.next()? {
                 Run::Nothing => {}
-                Run::One(entity) => return Some(entity),
+                Run::One(unmade) => return Some(unmade.make()),
                 Run::Way(way) => return Some(EntityRef::Way(way.make())),
-                Run::Dense(dense) => self.dense = Some(dense),
+                Run::Dense(dense) => self.dense = Some(dense.nodes()),
             }
         }
     }

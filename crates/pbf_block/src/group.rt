@@ -204,9 +204,9 @@ fn judge_members<'a>(field: Field<'a>, table: &'a Table<'a>, scale: Scale) -> Op
 {
     match run_in(field, table, scale, Kinds::all()) {
         Run::Nothing => None,
-        Run::One(entity) => judge_weight(entity, field.offset),
+        Run::One(unmade) => judge_weight(unmade.make(), field.offset),
         Run::Way(way) => judge_weight(EntityRef::Way(way.make()), field.offset),
-        Run::Dense(dense) => dense.judge_nodes(field.offset),
+        Run::Dense(dense) => dense.nodes().judge_nodes(field.offset),
     }
 }
 

@@ -22,6 +22,7 @@ mod relation;
 mod runs;
 mod scale;
 mod unjudged;
+mod unmade;
 mod way;
 
 pub use block::Block;
@@ -34,4 +35,5 @@ pub use pbf_header::{Header, HeaderBox, MOST_HEADER_TEXT};
 pub use runs::{Run, Runs};
 pub use scale::DEFAULT_SCALE;
 pub use unjudged::UnjudgedBlock;
+pub use unmade::{UnmadeDense, UnmadeEntity};
 pub use way::UnmadeWay;

@@ -9,11 +9,9 @@ ghost use Rattle.pbf_block.specs.Runs.{run_entities};
 use crate::group::{DENSE, NODES, RELATIONS, WAYS};
 use crate::kinds::Kinds;
 use crate::members::GroupFields;
-use crate::node::node_in;
-use crate::relation::relation_in;
+use crate::unmade::{UnmadeDense, UnmadeEntity};
 use crate::way::UnmadeWay;
-use osm_entity::{EntityRef, Scale};
-use pbf_dense::Dense;
+use osm_entity::Scale;
 use pbf_strings::Table;
 use pbf_wire::{Field, Message, Payload};
 
@@ -22,12 +20,12 @@ use pbf_wire::{Field, Message, Payload};
 pub enum Run<'a> {
     /// None, or none of the wanted kinds.
     Nothing,
-    /// A node or a relation, with a message of its own.
-    One(EntityRef<'a>),
+    /// A node or a relation, which is not made yet.
+    One(UnmadeEntity<'a>),
     /// A way, which is not made yet.
     Way(UnmadeWay<'a>),
     /// The nodes of a dense message, of which none is made yet.
-    Dense(Dense<'a>),
+    Dense(UnmadeDense<'a>),
 }
 
 /// What a field of a group holds, if it is of these kinds.
@@ -49,14 +47,28 @@ pub(crate) fn run_in<'a>(
     };
     let message = Message { bytes, at };
     match field.number {
-        NODES => Run::One(EntityRef::Node(node_in(message, table, scale))),
-        DENSE => Run::Dense(Dense::over(message, table, scale)),
+        NODES => Run::One(UnmadeEntity {
+            message,
+            table,
+            scale,
+            is_node: true,
+        }),
+        DENSE => Run::Dense(UnmadeDense {
+            message,
+            table,
+            scale,
+        }),
         WAYS => Run::Way(UnmadeWay {
             message,
             table,
             scale,
         }),
-        RELATIONS => Run::One(EntityRef::Relation(relation_in(message, table, scale))),
+        RELATIONS => Run::One(UnmadeEntity {
+            message,
+            table,
+            scale,
+            is_node: false,
+        }),
         _ => Run::Nothing,
     }
 }

@@ -198,9 +198,9 @@ fn gather_run<G: Gather>(run: &Run<'_>, gathering: &mut G) -> Result<(), AllocEr
 {
     match run {
         Run::Nothing => Ok(()),
-        Run::One(entity) => gathering.gather(entity),
+        Run::One(unmade) => gathering.gather(&unmade.make()),
         Run::Way(way) => gathering.gather_way(way),
-        Run::Dense(dense) => gathering.gather_dense(dense),
+        Run::Dense(dense) => gathering.gather_dense(&dense.nodes()),
     }
 }
 

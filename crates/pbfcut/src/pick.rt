@@ -228,9 +228,9 @@ impl<'a> EntityPacker<'a> {
     {
         match run {
             Run::Nothing => Ok(()),
-            Run::One(entity) => self.pack_entity(entity, packer),
+            Run::One(unmade) => self.pack_entity(&unmade.make(), packer),
             Run::Way(unmade) => self.pack_way(unmade, packer),
-            Run::Dense(dense) => self.pack_nodes(dense, packer),
+            Run::Dense(dense) => self.pack_nodes(&dense.nodes(), packer),
         }
     }
 
