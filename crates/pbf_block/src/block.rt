@@ -33,8 +33,8 @@ use pbf_wire::{Fault, Field, Message, ReadFault, last_field};
 use std::alloc::{AllocError, Global};
 use std::marker::Model;
 
-/// Whether the phases before the weights find no fault in a payload: found in one walk, before memory is requested, for which the
-/// texts are counted. `false` says nothing.
+/// Whether the phases before the weights find no fault in a payload. It takes no memory: the texts are only counted. `false` says
+/// nothing.
 fn is_clean(payload: Message<'_>) -> bool
     ensures { IsTrue result → IsCleanBlock (length (stored_texts (found_in payload.entry)))
         payload.entry.at payload.entry.bytes.now }
@@ -43,8 +43,8 @@ fn is_clean(payload: Message<'_>) -> bool
     texts <= MOST_TEXTS && primitive_block::is_clean(payload, texts as u64)
 }
 
-/// The first fault of the phases that need no table: of the wire form, otherwise of structure. There is none if the payload is
-/// known to be clean.
+/// The first fault of the phases that need no table: of the wire form, otherwise of structure. A payload that is known to be clean has
+/// none, and isn't read.
 fn early_fault(payload: Message<'_>, clean: bool) -> Option<Fault>
     requires clean { IsTrue clean → IsCleanBlock (length (stored_texts (found_in payload)))
         payload.at payload.bytes.now }
@@ -80,7 +80,7 @@ fn read_table<'a>(alloc: Global, payload: Message<'a>) -> Result<Table<'a>, Allo
     Table::open(alloc, bytes_in(last_field(payload, STRINGTABLE)))
 }
 
-/// The least fault of values. There is none if the payload is known to be clean.
+/// The least fault of values. A payload that is known to be clean has none, and isn't read.
 fn value_fault(payload: Message<'_>, clean: bool, limit: u64) -> Option<Fault>
     requires few { limit ≤ SUM_LIMIT }
     requires clean { IsTrue clean → IsCleanBlock limit payload.at payload.bytes.now }
@@ -139,7 +139,8 @@ impl<'a> Block<'a> {
     /// Judges and reads a PrimitiveBlock whose first byte is at `at` in the file.
     ///
     /// Refuses its first fault: the least of the first phase that has one. The phases are the wire form, the structure, the
-    /// values and the weights, each over the whole payload and all messages in it. Memory is requested only for the places of the
+    /// values and the weights, each over the whole payload and all messages in it. Whether the first three have any fault is found in one
+    /// walk; they are gone through one by one only if there may be one. Memory is requested only for the places of the
     /// table's texts, once the first two phases are passed; if it is refused, `Memory` is returned, and no later fault.
     pub fn read(alloc: Global, payload: &'a [u8], at: u64) -> Result<Block<'a>, ReadFault>
         requires placed { at + length payload.now ≤ OFFSET_LIMIT }

@@ -149,6 +149,22 @@ impl<'a> UnmadeWay<'a> {
         }
     }
 
+    /// Its id and its refs, both from one reading if it is plain, as most are. Nothing else of the message is read.
+    #[inline(always)]
+    #[tactic(auto, unfolding(crate::specs::Way::way_in))]
+    pub fn id_and_refs(&self) -> (i64, Refs<'a>)
+        ensures id { result.0 ≡ (way_from self.now).id }
+        ensures refs { refs_left result.1 ≡ (way_from self.now).refs }
+    {
+        match plain_way(self.message.bytes) {
+            Some(way) => (low_i64(way.id), way.refs()),
+            None => {
+                let fields = self.message.fields();
+                (last_wide(fields, ID), Refs::Summed(values(fields, REFS)))
+            }
+        }
+    }
+
     /// The way, if it is plain and so is its Info.
     #[inline(always)]
     #[tactic(auto, unfolding(crate::specs::Way::way_in))]
