@@ -13,3 +13,4 @@ pub mod Runs
 pub mod Plain
 pub mod WrittenEntity
 pub mod WrittenBlock
+pub mod Clean

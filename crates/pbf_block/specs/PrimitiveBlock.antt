@@ -1,5 +1,5 @@
 -- A PrimitiveBlock: the entities in it, its faults phase by phase, and the first of them.
-use Rattle.std.specs.Prelude.{ℕ, pos, ◌^◌, nat_lt, int_lt, List, [], ◌∷◌, ◌++◌, length, Option}
+use Rattle.std.specs.Prelude.{ℕ, pos, nat_lt, int_lt, List, [], ◌∷◌, ◌++◌, length, Option}
 use Rattle.std.specs.List.{flat_map}
 use Rattle.pbf_wire.specs.declared.fault.Fault.{Fault}
 use Rattle.pbf_wire.specs.declared.fault.Reason.{Reason}

@@ -1,6 +1,6 @@
 //! A PrimitiveBlock that is judged and read.
 
-ghost use Rattle.std.specs.Prelude.{◌≡◌, ◌+◌, ◌*◌, ◌≤◌, ◌<◌, ◌^◌, [], None, Some, Err, IfOk, OnOk, length};
+ghost use Rattle.std.specs.Prelude.{◌≡◌, ◌+◌, ◌*◌, ◌≤◌, ◌<◌, ◌^◌, [], None, Some, Err, IfOk, IsTrue, OnOk, length};
 ghost use Rattle.std.specs.List.{AllByRecursion, filter};
 ghost use Rattle.std.specs.Option.{option_or, option_map};
 ghost use Rattle.pbf_wire.specs.declared.fault.Fault.{Fault};
@@ -10,34 +10,51 @@ ghost use Rattle.pbf_wire.specs.Least.{least};
 ghost use Rattle.pbf_wire.specs.Reading.{occurrence_text};
 ghost use Rattle.osm_entity.specs.Ranges.{EntityFits};
 ghost use Rattle.pbf_block.specs.PrimitiveBlock.{wire_faults, structure_faults, value_faults, payload_weights, block_fault, entities};
+ghost use Rattle.pbf_block.specs.Clean.{IsCleanBlock};
 ghost use Rattle.pbf_block.specs.Kinds.{is_among};
 ghost use Rattle.pbf_block.specs.Numbers.{counts_of};
 ghost use Rattle.pbf_block.specs.Runs.{entities_left, joined_runs, runs_left};
 ghost use Rattle.pbf_wire.specs.Fields.{occurrence};
 ghost use Rattle.pbf_block.specs.Scale.{scale_of, stored_texts};
-ghost use Rattle.pbf_wire.specs.declared.limits.TheConstants.{OFFSET_LIMIT, RAW_LIMIT};
+ghost use Rattle.pbf_wire.specs.declared.limits.TheConstants.{OFFSET_LIMIT, RAW_LIMIT, SUM_LIMIT};
 
 use crate::counts::Counts;
 use crate::entities::Entities;
 use crate::kinds::Kinds;
 use crate::primitive_block::{
-    STRINGTABLE, judge_structure, judge_values, judge_weights, judge_wire,
+    self, STRINGTABLE, judge_structure, judge_values, judge_weights, judge_wire,
 };
 use crate::runs::Runs;
 use crate::scale::scale_in;
 use crate::unjudged::UnjudgedBlock;
 use osm_entity::Scale;
-use pbf_strings::Table;
+use pbf_strings::{MOST_TEXTS, Table, text_count};
 use pbf_wire::{Fault, Field, Message, ReadFault, last_field};
 use std::alloc::{AllocError, Global};
 use std::marker::Model;
 
-/// The first fault of the phases that need no table: of the wire form, otherwise of structure.
-fn early_fault(payload: Message<'_>) -> Option<Fault>
+/// Whether the phases before the weights find no fault in a payload. It takes no memory: the texts are only counted. `false` says
+/// nothing.
+fn is_clean(payload: Message<'_>) -> bool
+    ensures { IsTrue result → IsCleanBlock (length (stored_texts (found_in payload.entry)))
+        payload.entry.at payload.entry.bytes.now }
+{
+    let texts = text_count(bytes_in(last_field(payload, STRINGTABLE)));
+    texts <= MOST_TEXTS && primitive_block::is_clean(payload, texts as u64)
+}
+
+/// The first fault of the phases that need no table: of the wire form, otherwise of structure. A payload that is known to be clean has
+/// none, and isn't read.
+fn early_fault(payload: Message<'_>, clean: bool) -> Option<Fault>
+    requires clean { IsTrue clean → IsCleanBlock (length (stored_texts (found_in payload)))
+        payload.at payload.bytes.now }
     ensures { result
         ≡ option_or (least (wire_faults payload.entry.at payload.entry.bytes.now))
         (least (structure_faults payload.entry.at payload.entry.bytes.now)) }
 {
+    if clean {
+        return None;
+    }
     if let Some(fault) = judge_wire(payload) {
         return Some(fault);
     }
@@ -63,8 +80,27 @@ fn read_table<'a>(alloc: Global, payload: Message<'a>) -> Result<Table<'a>, Allo
     Table::open(alloc, bytes_in(last_field(payload, STRINGTABLE)))
 }
 
+/// The least fault of values. A payload that is known to be clean has none, and isn't read.
+fn value_fault(payload: Message<'_>, clean: bool, limit: u64) -> Option<Fault>
+    requires few { limit ≤ SUM_LIMIT }
+    requires clean { IsTrue clean → IsCleanBlock limit payload.at payload.bytes.now }
+    ensures { result ≡ least (value_faults limit payload.entry.at payload.entry.bytes.now) }
+{
+    if clean {
+        return None;
+    }
+    judge_values(payload, limit)
+}
+
 /// The first fault of the phases that read texts: of values, otherwise of weights.
-fn late_fault<'a>(payload: Message<'a>, table: &'a Table<'a>, scale: Scale) -> Option<Fault>
+fn late_fault<'a>(
+    payload: Message<'a>,
+    clean: bool,
+    table: &'a Table<'a>,
+    scale: Scale,
+) -> Option<Fault>
+    requires clean { IsTrue clean → IsCleanBlock (length (stored_texts (found_in payload)))
+        payload.at payload.bytes.now }
     requires texts { table.now ≡ stored_texts (found_in payload) }
     requires scale { scale ≡ scale_of (found_in payload) }
     requires wire { wire_faults payload.at payload.bytes.now ≡ [] }
@@ -74,7 +110,7 @@ fn late_fault<'a>(payload: Message<'a>, table: &'a Table<'a>, scale: Scale) -> O
         payload.entry.at payload.entry.bytes.now))
         (least (payload_weights payload.entry.at payload.entry.bytes.now)) }
 {
-    if let Some(fault) = judge_values(payload, table.len() as u64) {
+    if let Some(fault) = value_fault(payload, clean, table.len() as u64) {
         return Some(fault);
     }
     judge_weights(payload, table, scale)
@@ -103,7 +139,8 @@ impl<'a> Block<'a> {
     /// Judges and reads a PrimitiveBlock whose first byte is at `at` in the file.
     ///
     /// Refuses its first fault: the least of the first phase that has one. The phases are the wire form, the structure, the
-    /// values and the weights, each over the whole payload and all messages in it. Memory is requested only for the places of the
+    /// values and the weights, each over the whole payload and all messages in it. Whether the first three have any fault is found in one
+    /// walk; they are gone through one by one only if there may be one. Memory is requested only for the places of the
     /// table's texts, once the first two phases are passed; if it is refused, `Memory` is returned, and no later fault.
     pub fn read(alloc: Global, payload: &'a [u8], at: u64) -> Result<Block<'a>, ReadFault>
         requires placed { at + length payload.now ≤ OFFSET_LIMIT }
@@ -115,12 +152,13 @@ impl<'a> Block<'a> {
             → block_fault at payload.now ≡ Some fault }
     {
         let message = Message { bytes: payload, at };
-        if let Some(fault) = early_fault(message) {
+        let clean = is_clean(message);
+        if let Some(fault) = early_fault(message, clean) {
             return Err(ReadFault::Refused(fault));
         }
         let table = read_table(alloc, message)?;
         let scale = scale_in(message);
-        if let Some(fault) = late_fault(message, &table, scale) {
+        if let Some(fault) = late_fault(message, clean, &table, scale) {
             return Err(ReadFault::Refused(fault));
         }
         Ok(Block {

@@ -1,11 +1,12 @@
 //! A PrimitiveGroup: its fields, and its rules phase by phase.
 
-ghost use Rattle.std.specs.Prelude.{◌≡◌, ◌+◌, ◌*◌, ◌≤◌, ℕ, List, [], IsTrue, length};
+ghost use Rattle.std.specs.Prelude.{◌≡◌, ◌+◌, ◌*◌, ◌≤◌, ℕ, List, [], IsTrue, Ok, length};
 ghost use Rattle.pbf_wire.specs.Least.{least};
 ghost use Rattle.pbf_wire.specs.Fields.{occurrence};
 ghost use Rattle.pbf_wire.specs.Faults.{found_in};
 ghost use Rattle.pbf_strings.specs.Texts.{longest as longest_of};
 ghost use Rattle.osm_entity.specs.Views.{entity_of};
+ghost use Rattle.pbf_block.specs.Clean.{AreCleanWays, IsCleanMember};
 ghost use Rattle.pbf_block.specs.Group.{member_wire, is_member, first_member, is_other, entities_structure, member_structure, group_structure, member_values, weight_fault, member_weights};
 ghost use Rattle.pbf_block.specs.PrimitiveBlock.{streaming};
 ghost use Rattle.pbf_wire.specs.declared.limits.TheConstants.{SUM_LIMIT};
@@ -158,6 +159,39 @@ impl Judge for GroupFieldValues {
             _ => None,
         }
     }
+}
+
+// Wire form, structure and values in one walk.
+
+/// Whether a field holds a way in which no phase before the weights finds a fault, if the table has `limit` texts.
+#[inline(always)]
+fn is_clean_way(field: Field<'_>, limit: u64) -> bool
+    ensures { IsTrue result → IsCleanMember limit (Ok (occurrence field.entry)) }
+{
+    if field.number != WAYS {
+        return false;
+    }
+    let Some(message) = field.message() else {
+        return false;
+    };
+    way::is_clean(message, field.offset, limit)
+}
+
+/// Whether a group holds only ways, and no phase before the weights finds a fault in it, if the table has `limit` texts: found in
+/// one walk. `false` says nothing.
+pub(crate) fn has_clean_ways(message: Message<'_>, limit: u64) -> bool
+    ensures { IsTrue result
+        → AreCleanWays limit message.entry.at message.entry.bytes.now }
+{
+    for item in message.fields() {
+        let Ok(field) = item else {
+            return false;
+        };
+        if !is_clean_way(field, limit) {
+            return false;
+        }
+    }
+    true
 }
 
 // Weights of the entities.

@@ -1,27 +1,24 @@
 //! Ways and Infos as most are: each field once, in the order of their numbers, and none that is unknown. They are read straight on,
 //! without a loop over fields. A quick test that says nothing of other messages, which are judged field by field.
 
-ghost use Rattle.std.specs.Prelude.{◌≡◌, ◌-◌, ◌/◌, ◌<◌, ◌≤◌, ◌++◌, [], ℕ, List, None, Ok, IfSome, IsTrue, drop, length, slice_index};
+ghost use Rattle.std.specs.Prelude.{◌≡◌, ◌-◌, ◌/◌, ◌<◌, ◌≤◌, [], ℕ, List, Ok, IfSome, IsTrue, drop, length, slice_index};
 ghost use Rattle.pbf_wire.specs.Varint.{varint_at};
-ghost use Rattle.pbf_wire.specs.Columns.{entries, entry_fault, placed, read_entries};
-ghost use Rattle.pbf_wire.specs.Faults.{embedded, fields_in, index_faults, nested_faults};
+ghost use Rattle.pbf_wire.specs.Faults.{embedded, fields_in};
 ghost use Rattle.osm_entity.specs.Sources.{refs_left, tags_left};
 ghost use Rattle.osm_entity.specs.Views.{meta_of};
 ghost use Rattle.pbf_block.specs.Entity.{tags_in, values_in};
 ghost use Rattle.pbf_block.specs.Info.{info_in, info_values};
 ghost use Rattle.pbf_block.specs.Plain.{IsTag, BeginsWithNumber, BeginsWithBytes, IsPlainWay, IsPlainInfo};
 ghost use Rattle.pbf_block.specs.PrimitiveBlock.{streaming};
-ghost use Rattle.pbf_block.specs.Way.{way_structure, way_values};
+ghost use Rattle.pbf_block.specs.Clean.{AreTags, IsCleanWay, IsNamed};
 ghost use Rattle.pbf_block.specs.declared.entity.TheConstants.{INFO};
-ghost use Rattle.pbf_block.specs.declared.way.TheConstants.{REFS, WAY_KINDS};
-ghost use Rattle.pbf_block.specs.declared.info.TheConstants.{INFO_KINDS};
+ghost use Rattle.pbf_block.specs.declared.way.TheConstants.{REFS};
 
-use crate::ranges::{judge_packed, judge_uid, judge_user, judge_wide};
+use crate::ranges::{judge_uid, judge_user, judge_wide};
 use osm_entity::{MetaRef, PairedTags, Refs, STORED_LIMIT, Tags};
 use pbf_strings::Table;
 use pbf_wire::{
-    Column, Kind, Message, Payload, Sums, get_varint, is_short, judge_payload, lesser, low_i32,
-    low_i64, low_u32,
+    Column, Message, Sums, get_varint, is_short, judge_index, lesser, low_i32, low_i64, low_u32,
 };
 
 // Tags of one byte: eight times the field's number, and 2 if it holds bytes. First those of a way, then those of an Info.
@@ -197,43 +194,6 @@ impl<'a> PlainWay<'a> {
     }
 }
 
-/// Whether the bytes are whole varints.
-#[inline(always)]
-fn is_column(packed: &[u8]) -> bool
-    ensures { IsTrue result → entry_fault (entries packed.now) ≡ None }
-{
-    judge_payload(Payload::Bytes(packed, 0), Some(Kind::Column)).is_ok()
-}
-
-/// Whether a way is plain and so is its Info, and the columns are whole varints: then it has no wire fault.
-#[inline(never)]
-pub(crate) fn is_formed(message: Message<'_>) -> bool
-    ensures { IsTrue result
-        → nested_faults WAY_KINDS INFO INFO_KINDS 0 message.entry.at message.entry.bytes.now ≡ [] }
-{
-    let Some(way) = plain_way(message.bytes) else {
-        return false;
-    };
-    let Some(_info) = plain_info(way.info) else {
-        return false;
-    };
-    if !is_column(way.keys) || !is_column(way.vals) {
-        return false;
-    }
-    is_column(way.refs)
-}
-
-/// Whether a way is plain and has as many keys as values: then it has no fault of structure.
-#[inline(never)]
-pub(crate) fn is_built(message: Message<'_>, place: u64) -> bool
-    ensures { IsTrue result → way_structure place message.entry.at message.entry.bytes.now ≡ [] }
-{
-    let Some(way) = plain_way(message.bytes) else {
-        return false;
-    };
-    Payload::Bytes(way.keys, 0).count() == Payload::Bytes(way.vals, 0).count()
-}
-
 /// Messages of at most so many bytes have no more than 2^26 refs.
 const MOST_BYTES: usize = 1 << 26;
 
@@ -251,19 +211,42 @@ fn is_info_valued(info: PlainInfo, limit: u64) -> bool
     lesser(signed, judge_user(Some((0, info.user)), limit)).is_none()
 }
 
-/// Whether a table of `limit` texts has one for each number of a packed column.
-fn are_named(packed: &[u8], limit: u64) -> bool
-    ensures { IsTrue result → (place : ℕ)
-        → index_faults limit (placed place (read_entries (entries packed.now)) ++ []) ≡ [] }
+/// How many numbers a packed column has, if its bytes are whole varints and a table of `limit` texts has one for each number.
+fn named_count(packed: &[u8], limit: u64) -> Option<usize>
+    ensures { IfSome result (λ count. IsNamed limit count packed.now) }
 {
-    judge_packed(packed, 0, limit).is_none()
+    let mut count = 0;
+    let mut rest = packed;
+    'numbers: while !rest.is_empty() {
+        let Ok((number, after)) = get_varint(rest, 0) else {
+            return None;
+        };
+        if judge_index(0, number, limit).is_some() {
+            return None;
+        }
+        rest = &rest[after..];
+        count += 1;
+    }
+    Some(count)
 }
 
-/// Whether a way is plain and so is its Info, its values are in range, and the table of `limit` texts has one for each of its
-/// numbers: then it has no fault of values.
+/// Whether keys and values are whole varints, there are as many of them, and a table of `limit` texts has one for each.
+#[inline(always)]
+fn are_tags(keys: &[u8], vals: &[u8], limit: u64) -> bool
+    ensures { IsTrue result → AreTags limit keys.now vals.now }
+{
+    let (Some(keys), Some(vals)) = (named_count(keys, limit), named_count(vals, limit)) else {
+        return false;
+    };
+    keys == vals
+}
+
+/// Whether a way is plain and so is its Info, its columns are whole varints, it has as many keys as values, its values are in range,
+/// and the table of `limit` texts has one for each of its numbers: then no phase before the weights finds a fault.
 #[inline(never)]
-pub(crate) fn is_valued(message: Message<'_>, limit: u64) -> bool
-    ensures { IsTrue result → way_values limit 0 message.entry.at message.entry.bytes.now ≡ [] }
+pub(crate) fn is_clean(message: Message<'_>, limit: u64) -> bool
+    ensures { IsTrue result → (place : ℕ)
+        → IsCleanWay limit place message.entry.at message.entry.bytes.now }
 {
     let Some(way) = plain_way(message.bytes) else {
         return false;
@@ -274,7 +257,7 @@ pub(crate) fn is_valued(message: Message<'_>, limit: u64) -> bool
     if judge_wide(Some((0, way.id))).is_some() || !is_info_valued(info, limit) {
         return false;
     }
-    if !are_named(way.keys, limit) || !are_named(way.vals, limit) {
+    if !are_tags(way.keys, way.vals, limit) {
         return false;
     }
     message.bytes.len() <= MOST_BYTES && is_short(way.refs)

@@ -1,6 +1,6 @@
 //! A Way: its fields, its rules phase by phase, and how it is read. Its rule of wire form is [`WAY_KINDS`].
 
-ghost use Rattle.std.specs.Prelude.{◌≡◌, IfSome};
+ghost use Rattle.std.specs.Prelude.{◌≡◌, IfSome, IsTrue};
 ghost use Rattle.pbf_wire.specs.Faults.{column_count, found_in, nested_faults};
 ghost use Rattle.pbf_block.specs.declared.info.TheConstants.{INFO_KINDS};
 ghost use Rattle.pbf_block.specs.declared.entity.TheConstants.{INFO};
@@ -10,12 +10,13 @@ ghost use Rattle.osm_entity.specs.Sources.{refs_left};
 ghost use Rattle.osm_entity.specs.Views.{way_of};
 ghost use Rattle.pbf_block.specs.PrimitiveBlock.{streaming};
 ghost use Rattle.pbf_block.specs.Runs.{way_from};
+ghost use Rattle.pbf_block.specs.Clean.{IsCleanWay};
 ghost use Rattle.pbf_block.specs.Way.{are_located, way_structure, way_values, way_in};
 
 use crate::entity::{ID, INFO, KEYS, NO_FIELD, VALS, entity_counts, entity_values};
 use crate::entity_fields::{entity_fields, last_wide, values};
 use crate::info::INFO_KINDS;
-use crate::plain::{is_built, is_formed, is_valued, plain_way};
+use crate::plain::{self, plain_way};
 use crate::ranges::{judge_sums, judge_wide};
 use osm_entity::{Locations, OwnedLocations, Refs, Scale, SummedLocations, WayRef};
 use pbf_strings::Table;
@@ -50,26 +51,20 @@ fn are_located(message: Message<'_>, lats: usize, lons: usize) -> bool
     lats == lons && (lats == 0 || lats == column_count(message, REFS))
 }
 
-/// The least wire fault of a way and of its Infos. Most ways are plain.
+/// The least wire fault of a way and of its Infos.
 pub(crate) fn judge_wire(message: Message<'_>) -> Option<Fault>
     ensures { result ≡ least (nested_faults WAY_KINDS INFO INFO_KINDS 0
         message.entry.at message.entry.bytes.now) }
 {
-    if is_formed(message) {
-        return None;
-    }
     judge_nested(message, &WAY_KINDS, INFO, &INFO_KINDS)
 }
 
-/// The least fault of structure: what all entities have, and locations. Most ways are plain.
+/// The least fault of structure: what all entities have, and locations.
 #[inline(never)]
 #[tactic(auto, using(crate::proofs::Parts::lesser_parts))]
 pub(crate) fn judge_structure(message: Message<'_>, place: u64) -> Option<Fault>
     ensures { result ≡ least (way_structure place message.entry.at message.entry.bytes.now) }
 {
-    if is_built(message, place) {
-        return None;
-    }
     let (counts, lats, lons, _) = entity_counts::<WAY_LAT, WAY_LON, NO_FIELD>(message);
     let located = are_located(message, lats, lons);
     lesser(
@@ -78,20 +73,30 @@ pub(crate) fn judge_structure(message: Message<'_>, place: u64) -> Option<Fault>
     )
 }
 
-/// The least fault of values, if the table has `limit` texts. Most ways are plain.
+/// The least fault of values, if the table has `limit` texts.
 #[inline(never)]
 #[tactic(auto, using(crate::proofs::Parts::lesser_parts))]
 pub(crate) fn judge_values(message: Message<'_>, limit: u64) -> Option<Fault>
     ensures { result ≡ least (way_values limit 0 message.entry.at message.entry.bytes.now) }
 {
-    if is_valued(message, limit) {
-        return None;
-    }
     let (values, refs, lats, lons) = entity_values::<REFS, WAY_LAT, WAY_LON>(message, limit);
     let alike = lesser(judge_wide(values.id), values.judge());
     let refs = lesser(alike, judge_sums(refs, REFS));
     let lats = lesser(refs, judge_sums(lats, WAY_LAT));
     lesser(lats, judge_sums(lons, WAY_LON))
+}
+
+/// Whether no phase before the weights finds a fault, if the table has `limit` texts. Most ways are plain, and read once.
+pub(crate) fn is_clean(message: Message<'_>, place: u64, limit: u64) -> bool
+    ensures { IsTrue result → IsCleanWay limit place message.entry.at message.entry.bytes.now }
+{
+    if plain::is_clean(message, limit) {
+        return true;
+    }
+    if judge_wire(message).is_some() || judge_structure(message, place).is_some() {
+        return false;
+    }
+    judge_values(message, limit).is_none()
 }
 
 /// The way of a message. Reads the message's fields once and does not allocate.
@@ -141,6 +146,22 @@ impl<'a> UnmadeWay<'a> {
         match plain_way(self.message.bytes) {
             Some(way) => way.refs(),
             None => Refs::Summed(values(self.message.fields(), REFS)),
+        }
+    }
+
+    /// Its id and its refs, both from one reading if it is plain, as most are. Nothing else of the message is read.
+    #[inline(always)]
+    #[tactic(auto, unfolding(crate::specs::Way::way_in))]
+    pub fn id_and_refs(&self) -> (i64, Refs<'a>)
+        ensures id { result.0 ≡ (way_from self.now).id }
+        ensures refs { refs_left result.1 ≡ (way_from self.now).refs }
+    {
+        match plain_way(self.message.bytes) {
+            Some(way) => (low_i64(way.id), way.refs()),
+            None => {
+                let fields = self.message.fields();
+                (last_wide(fields, ID), Refs::Summed(values(fields, REFS)))
+            }
         }
     }
 

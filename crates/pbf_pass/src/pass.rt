@@ -175,10 +175,8 @@ impl Gather for RelationPhase {
 pub(crate) fn seen<'a>(unmade: &UnmadeWay<'a>) -> SeenWay<'a>
     ensures { seen_refs result ≡ seen_way (way_from unmade.now) }
 {
-    SeenWay {
-        id: unmade.id(),
-        refs: unmade.refs(),
-    }
+    let (id, refs) = unmade.id_and_refs();
+    SeenWay { id, refs }
 }
 
 /// Takes the nodes of a dense message, each by only its id and its place.

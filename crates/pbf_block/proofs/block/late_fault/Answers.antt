@@ -24,7 +24,7 @@ pub returns-in-Some : goal.returns-in-Some
 returns-in-Some c =
     let at = c.args.payload.at in
     let m = c.args.payload.bytes.now in
-    let values = sym c.in-Some.is ∙ c.judge_values.ensures ∙ ap (λ n. least (value_faults n at m)) c.len.ensures.exact ∙ ap least (values_are c.args.table.now at m c.requires.texts) in
+    let values = sym c.in-Some.is ∙ c.value_fault.ensures ∙ ap (λ n. least (value_faults n at m)) c.len.ensures.exact ∙ ap least (values_are c.args.table.now at m c.requires.texts) in
     ap (λ f. option_or f (least (payload_weights at m))) values
 
 pub returns : goal.returns
@@ -32,7 +32,7 @@ returns c =
     let at = c.args.payload.at in
     let m = c.args.payload.bytes.now in
     let table = c.args.table.now in
-    let none : value_faults (length table) at m ≡ [] = no_least _ (sym (c.judge_values.ensures ∙ ap (λ n. least (value_faults n at m)) c.len.ensures.exact) ∙ c.in_default.is) in
+    let none : value_faults (length table) at m ≡ [] = no_least _ (sym (c.value_fault.ensures ∙ ap (λ n. least (value_faults n at m)) c.len.ensures.exact) ∙ c.in_default.is) in
     let few : length table ≤ 2 ^ 62 = omega (arith, c.len.ensures.exact, c.len.ensures.few) in
     let same = weights_same table few c.args.scale (fields_in at m) (payload_clean (length table) at m c.requires.wire c.requires.structure none) in
     c.judge_weights.ensures ∙ ap least same ∙ ap least (weights_are table at m c.requires.texts c.args.scale c.requires.scale)
