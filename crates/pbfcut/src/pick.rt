@@ -116,15 +116,17 @@ fn unpicked(dense: &Dense<'_>, picker: &mut Picker<'_>) -> Option<usize>
     ensures same { picker.new ≡ picker.old }
 {
     let mut ids = dense.ids();
-    let mut count = ids.pass_inside(picker.absent(), MOST_PASSED);
-    'ids: while let Some(id) = ids.next() {
+    let mut count = 0;
+    'ids: loop {
+        count += ids.pass_inside(picker.absent(), MOST_PASSED - count);
+        let Some(id) = ids.next() else {
+            return None;
+        };
         if count == MOST_PASSED || picker.picks_id(id) {
             return Some(count);
         }
         count += 1;
-        count += ids.pass_inside(picker.absent(), MOST_PASSED - count);
     }
-    None
 }
 
 /// Packs those entities of a payload that are picked, one after another, and counts them.
