@@ -3,7 +3,7 @@
 ghost use Rattle.std.specs.Prelude.{◌≡◌, IfOk};
 ghost use Rattle.osm_entity.specs.Sources.{refs_left};
 
-use pbf_wire::Sums;
+use pbf_wire::{Span, Sums};
 use std::alloc::{AllocError, Global};
 
 /// The refs of an owned way that are still to come.
@@ -48,8 +48,9 @@ pub enum Refs<'a> {
 }
 
 impl<'a> Refs<'a> {
-    ghost use Rattle.std.specs.Prelude.{⊤, MatchOption, length};
+    ghost use Rattle.std.specs.Prelude.{⊤, true, MatchOption, drop, length, take};
     ghost use Rattle.std.specs.List.{AllByRecursion};
+    ghost use Rattle.pbf_wire.specs.Spans.{AreAlike};
     ghost use Rattle.osm_entity.specs.Ranges.{IsStored};
 
     /// How many refs are still to come, if a quick test shows that each is in its range; `None` says nothing.
@@ -62,6 +63,19 @@ impl<'a> Refs<'a> {
         match self {
             Refs::Owned(_) => None,
             Refs::Summed(refs) => refs.count_if_small(),
+        }
+    }
+
+    /// Skips refs that a span has, and returns how many. It stops at the first that the span lacks, or before that at one that isn't
+    /// read quickly.
+    #[inline(always)]
+    pub fn pass_inside(&mut self, span: Span) -> usize
+        ensures passed { refs_left self.new ≡ drop result (refs_left self.old) }
+        ensures inside { AreAlike span true (take result (refs_left self.old)) }
+    {
+        match self {
+            Refs::Owned(_) => 0,
+            Refs::Summed(refs) => refs.pass_inside(span, usize::MAX),
         }
     }
 }

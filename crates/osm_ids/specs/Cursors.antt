@@ -4,6 +4,8 @@ use Rattle.std.specs.List.{list_any}
 use Rattle.std.specs.List.Sorted.{IsPartitionPoint}
 use Rattle.std.specs.Ordering.{int_eq, int_cmp}
 use Rattle.std.specs.FinSet as set
+use Rattle.pbf_wire.specs.declared.span.Span.{Span}
+use Rattle.pbf_wire.specs.Spans.{is_in}
 use Rattle.osm_ids.specs.declared.lookup.Known.{Known}
 use Rattle.osm_ids.specs.declared.lookup.Place.{Place}
 use Rattle.osm_ids.specs.declared.page.Cursor.{Cursor}
@@ -45,6 +47,10 @@ AreKnown index bytes known = (id : ℤ) → known.above <ℤ id → id <ℤ know
 -- of the ids between the two, a set has all, or none
 abbrev pub IsKnown : set.FinSet int_cmp → Known → Type 0
 IsKnown ids known = (id : ℤ) → known.above <ℤ id → id <ℤ known.below → set.contains ids id ≡ known.there
+
+-- a set has none of these ids
+abbrev pub Lacks : set.FinSet int_cmp → Span → Type 0
+Lacks ids span = (id : ℤ) → is_in span id ≡ true → set.contains ids id ≡ false
 
 -- a page can be read on from here, if any is begun, and the ids round the last one are known
 pub record IsPlace (index : List PageStart) (bytes : List ℕ) (place : Place) : Type 0 where

@@ -6,11 +6,12 @@ ghost use Rattle.std.specs.List.Sorted.{IsPartitionedBy};
 ghost use Rattle.std.specs.Ordering.{int_eq};
 ghost use Rattle.std.specs.FinSet as set;
 ghost use Rattle.osm_ids.specs.Pages.{Page, IsSealed, ids_in};
-ghost use Rattle.osm_ids.specs.Cursors.{IsAt, IsPassedAt, IsReadTo, IsPlace, Stands, AreKnown, IsKnown, BeginFrom};
+ghost use Rattle.osm_ids.specs.Cursors.{IsAt, IsPassedAt, IsReadTo, IsPlace, Stands, AreKnown, IsKnown, Lacks, BeginFrom};
 ghost use Rattle.std.specs.Ordering.{int_cmp};
 
 use crate::page::{Cursor, read_up_to, short_step};
 use crate::pages::{PAGE, PageStart, SealedIds};
+use pbf_wire::Span;
 use std::marker::Model;
 
 /// What is known of the ids above one number and below another: the set has all of them, or none. A look-up learns it, and another
@@ -29,7 +30,25 @@ const NOTHING: Known = Known {
     there: false,
 };
 
+/// No id is one of these.
+pub(crate) const NO_IDS: Span = Span { above: 0, below: 0 };
+
 impl Known {
+    /// The ids that the set lacks, as far as this says: none if it has them.
+    #[inline(always)]
+    fn absent(self) -> Span
+        ensures { (ids : set.FinSet int_cmp) → IsKnown ids self → Lacks ids result }
+    {
+        if self.there {
+            NO_IDS
+        } else {
+            Span {
+                above: self.above,
+                below: self.below,
+            }
+        }
+    }
+
     /// Nothing is known, of whatever set.
     pub fn nothing() -> Known
         ensures { (ids : set.FinSet int_cmp) → IsKnown ids result }
@@ -120,6 +139,14 @@ impl<'a> Lookup<'a> {
     {
         let Place { known, .. } = self.here;
         known
+    }
+
+    /// Ids round the last one that was looked up, if the set lacks that one; none if nothing is known.
+    #[inline(always)]
+    pub fn absent(&self) -> Span
+        ensures { Lacks self.now result }
+    {
+        self.known().absent()
     }
 
     /// Whether the set has the id, in whatever order ids come; the set stays the same. An id that is known to be absent takes two

@@ -3,9 +3,10 @@
 ghost use Rattle.std.specs.Prelude.{◌≡◌};
 ghost use Rattle.std.specs.FinSet as set;
 ghost use Rattle.std.specs.Ordering.{int_cmp};
-ghost use Rattle.osm_ids.specs.Cursors.{IsKnown};
+ghost use Rattle.osm_ids.specs.Cursors.{IsKnown, Lacks};
 
-use crate::lookup::{Known, Lookup};
+use crate::lookup::{Known, Lookup, NO_IDS};
+use pbf_wire::Span;
 use std::collections::BTreeSet;
 use std::marker::Model;
 
@@ -18,10 +19,19 @@ pub trait IdLookup {
     fn has(&mut self, id: i64) -> bool
         ensures found { result ≡ set.contains (ids self.old) id }
         ensures same { self.new ≡ self.old };
+
+    /// Ids that aren't among them, as far as the last look-up showed: none if it showed nothing.
+    fn absent(&self) -> Span
+        ensures { Lacks (ids self.now) result };
 }
 
 impl IdLookup for Lookup<'_> {
     ghost ids = { λ a. a };
+
+    #[inline(always)]
+    fn absent(&self) -> Span {
+        Lookup::absent(self)
+    }
 
     fn has(&mut self, id: i64) -> bool {
         Lookup::has(self, id)
@@ -67,5 +77,15 @@ impl IdLookup for OpenLookup<'_> {
     #[inline(always)]
     fn has(&mut self, id: i64) -> bool {
         self.laid.has(id) || self.late.contains(&id)
+    }
+
+    /// None, if some ids came out of order.
+    #[inline(always)]
+    fn absent(&self) -> Span {
+        if self.late.is_empty() {
+            self.laid.absent()
+        } else {
+            NO_IDS
+        }
     }
 }

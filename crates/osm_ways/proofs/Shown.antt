@@ -1,9 +1,12 @@
 -- What the phases' fields show: of the nodes that are kept, those of the box and the other refs apart.
-use Rattle.std.proofs.Common.{◌≡◌, ℤ, Bool, true, false, ◌||◌, List, [], ◌∷◌, map, refl, sym, ap, ◌∙◌}
+use Rattle.std.proofs.Common.{◌≡◌, ℕ, zero, suc, ℤ, Bool, true, false, ◌||◌, List, [], ◌∷◌, map, drop, take, refl, sym, ap, ◌∙◌}
 use Rattle.std.specs.List.{fold, list_any}
 use Rattle.std.specs.Ordering.{int_eq, int_cmp}
 use Rattle.std.specs.Cmp.{int_cmp_total}
 use Rattle.std.specs.FinSet as set
+use Rattle.pbf_wire.specs.declared.span.Span.{Span}
+use Rattle.pbf_wire.specs.Spans.{AreAlike}
+use Rattle.osm_ids.specs.Cursors.{Lacks}
 use Rattle.osm_ids.proofs.Closing.{insert_same}
 use Rattle.osm_ids.proofs.Sets.{or_swap}
 use Rattle.osm_ways.specs.Phases.{Ids, sets_of, start_ways, sets_with_way}
@@ -38,6 +41,9 @@ in_union s t id r e is = is ∙ sym (set.contains-union int_cmp_total s t id ∙
 pub or_in_union : (s t : Ids) (id : ℤ) (r q : Bool) → r ≡ set.contains s id → r ≡ false → q ≡ set.contains t id → q ≡ set.contains (set.union s t) id
 or_in_union s t id r q e is f = f ∙ sym (set.contains-union int_cmp_total s t id ∙ ap (λ b. b || set.contains t id) (sym e ∙ is))
 
+pub in_neither : (s t : Ids) (id : ℤ) → set.contains s id ≡ false → set.contains t id ≡ false → set.contains (set.union s t) id ≡ false
+in_neither s t id e f = sym (or_in_union s t id false false (sym e) refl (sym f))
+
 -- ---- the phase of ways
 
 pub shown_start : (in_box sealed refs ways : Ids) → sealed ≡ in_box → refs ≡ set.empty → ways ≡ set.empty → sets_of sealed refs ways ≡ start_ways in_box
@@ -57,3 +63,12 @@ pub kept_way_added : (known refs ways more_refs more_ways : Ids) (id first : ℤ
     → sets_of known more_refs more_ways ≡ sets_with_way (sets_of known refs ways) id all
 kept_way_added known refs ways more_refs more_ways id first all rest turn any added kept =
     rw (turn, any) (λ i. record { box_ids = known; node_ids = added i; way_ids = kept i })
+
+-- ---- refs that are skipped
+
+-- it doesn't depend on refs that the set lacks
+pub passed_absent : (refs : List ℤ) (ids : Ids) (span : Span) (n : ℕ) → Lacks ids span → AreAlike span true (take n refs) → list_any (set.contains ids) (drop n refs) ≡ list_any (set.contains ids) refs
+passed_absent [] ids span zero lacks there = refl
+passed_absent [] ids span (suc n) lacks there = refl
+passed_absent (ref ∷ refs) ids span zero lacks there = refl
+passed_absent (ref ∷ refs) ids span (suc n) lacks there = passed_absent refs ids span n lacks there.1 ∙ ap (λ b. b || list_any (set.contains ids) refs) (sym (lacks ref there.0))

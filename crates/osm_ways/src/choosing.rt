@@ -4,6 +4,7 @@ ghost use Rattle.std.specs.Prelude.{◌≡◌};
 ghost use Rattle.std.specs.FinSet as set;
 ghost use Rattle.osm_entity.specs.Sources.{lent_member, refs_left};
 ghost use Rattle.osm_entity.specs.Views.{way_of, relation_of};
+ghost use Rattle.osm_ids.specs.Cursors.{Lacks};
 ghost use Rattle.osm_ways.specs.Selection.{is_selecting, is_kept_way};
 ghost use Rattle.osm_ways.specs.Seen.{seen_way, seen_member, seen_relation};
 ghost use Rattle.osm_ways.specs.Phases.{is_chosen, ids_or_none};
@@ -12,6 +13,7 @@ use crate::parents::ChosenParents;
 use crate::phases::{Chosen, is_kept_by};
 use osm_entity::{MemberKind, MemberRef, Refs, RelationRef, WayRef};
 use osm_ids::Lookup;
+use pbf_wire::Span;
 use std::marker::Model;
 
 /// What was chosen, to test many entities one after another: each look-up begins where the last one ended, so ids that
@@ -62,6 +64,14 @@ impl<'a> Chooser<'a> {
         ensures same { self.new ≡ self.old }
     {
         self.box_ids.has(id) || self.refs.has(id)
+    }
+
+    /// Ids of which no node is kept, as far as the last look-ups showed: none if they showed nothing.
+    #[inline(always)]
+    pub fn absent(&self) -> Span
+        ensures { Lacks self.now.ways.node_ids result }
+    {
+        self.box_ids.absent().common(self.refs.absent())
     }
 
     /// Whether the way is kept: one of its refs is a node in the box. Of two ways of one id each is judged by itself.

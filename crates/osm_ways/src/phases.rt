@@ -214,10 +214,12 @@ pub(crate) fn is_kept_by<I: IdLookup>(ids: &mut I, refs: Refs<'_>) -> bool
     ensures kept { result ≡ is_kept_way (set.contains (I.ids ids.old)) (refs_left refs.entry) }
     ensures same { ids.new ≡ ids.old }
 {
-    for id in refs {
+    let mut rest = refs;
+    'refs: while let Some(id) = rest.next() {
         if ids.has(id) {
             return true;
         }
+        rest.pass_inside(ids.absent());
     }
     false
 }

@@ -1,7 +1,11 @@
 -- The nodes of a dense message, if their ids decide which are picked.
-use Rattle.std.proofs.Common.{◌≡◌, ℕ, zero, suc, ◌+◌, ℤ, Bool, true, false, cond, Ok, Err, List, [], ◌∷◌, ◌++◌, map, append_assoc, append-nil, take-append-drop, take, drop, add-one, Option, Some, None, subst, refl, sym, ap, ◌∙◌}
+use Rattle.std.proofs.Common.{◌≡◌, ℕ, zero, suc, ◌+◌, ◌-◌, ◌<◌, length, arith, ℤ, Bool, true, false, cond, Ok, Err, List, [], ◌∷◌, ◌++◌, map, append_assoc, append-nil, take-append-drop, take, drop, add-one, Option, Some, None, subst, refl, sym, ap, ap₂, ◌∙◌}
 use Rattle.std.specs.List.{filter}
-use Rattle.std.proofs.lemmas.List.{map-append}
+use Rattle.std.proofs.Math.Seq.{take-add}
+use Rattle.std.proofs.lemmas.List.{map-append, drop-drop, length-drop}
+use Rattle.std.proofs.lemmas.List.Elements.{filter-append}
+use Rattle.pbf_wire.specs.declared.span.Span.{Span}
+use Rattle.pbf_wire.specs.Spans.{is_in, AreAlike}
 use Rattle.osm_entity.specs.Entity.{NodeSpec, EntitySpec, node}
 use Rattle.pbf_dense.specs.Places.{BeginWithIds}
 use Rattle.pbf_frame.specs.declared.device.Drain as drain
@@ -31,6 +35,15 @@ no_node : (ids : List ℤ) (ns : List NodeSpec) → ids ≡ [] → BeginWithIds 
 no_node ids [] ended begin = refl
 no_node ids (n ∷ ns) ended (more, is) = absurd cc
 
+-- fewer ids are left after one that comes behind some that are skipped
+pub fewer_left : (all left : List ℤ) (id : ℤ) (m : ℕ) → drop m all ≡ id ∷ left → length left < length all
+fewer_left all left id m turn =
+    let counts : length all - m ≡ suc (length left) = sym (length-drop m all) ∙ ap length turn in
+    omega (arith, counts)
+
+no_first : (n : NodeSpec) (ns : List NodeSpec) → n ∷ ns ≡ [] → ⊥
+no_first n ns e = absurd cc
+
 not_picked : (b : Bool) (e : EntitySpec) (rest : List EntitySpec) → cond b (e ∷ rest) rest ≡ [] → (b ≡ false) × (rest ≡ [])
 not_picked true e rest h = absurd cc
 not_picked false e rest h = (refl, h)
@@ -54,6 +67,29 @@ module _ (p : Picker) where
 
   pub one_more : (id : ℤ) (ids : List ℤ) (n : ℕ) (ns : List NodeSpec) → picks_id p id ≡ false → BeginWithIds (id ∷ ids) (drop n ns) → NonePicked n ns → NonePicked (n + 1) ns × BeginWithIds ids (drop (n + 1) ns)
   one_more id ids n ns is begin none = rw add-one (one_on id ids n ns is begin none)
+
+  -- of the nodes whose ids a span has none is picked
+  abbrev pub NoneInside : Span → Type 0
+  NoneInside span = (id : ℤ) → is_in span id ≡ true → picks_id p id ≡ false
+
+  none_inside : (ns : List NodeSpec) (ids : List ℤ) (m : ℕ) (span : Span) → NoneInside span → BeginWithIds ids ns → AreAlike span true (take m ids) → NonePicked m ns × BeginWithIds (drop m ids) (drop m ns)
+  none_inside [] ids zero span absent begin inside = (refl, begin)
+  none_inside [] ids (suc m) span absent begin inside = (refl, (drop (suc m) ids, refl))
+  none_inside (x ∷ xs) ids zero span absent begin inside = (refl, begin)
+  none_inside (x ∷ xs) [] (suc m) span absent begin inside = absurd (no_first x xs (no_node [] (x ∷ xs) refl begin))
+  none_inside (x ∷ xs) (id ∷ ids) (suc m) span absent begin inside =
+      let at = first_id id ids x xs begin in
+      let rest = none_inside xs ids m span absent at.1 inside.1 in
+      let all = filter (picks_of p) (map node (take m xs)) in
+      (ap (λ (b : Bool). cond b (node x ∷ all) all) (picked_by_id p x ∙ (ap (picks_id p) (sym at.0) ∙ absent id inside.0)) ∙ rest.0, rest.1)
+
+  pub more_inside : (n m : ℕ) (ids : List ℤ) (ns : List NodeSpec) (span : Span) → NoneInside span → AreAlike span true (take m ids) → BeginWithIds ids (drop n ns) → NonePicked n ns → NonePicked (n + m) ns × BeginWithIds (drop m ids) (drop (n + m) ns)
+  more_inside n m ids ns span absent inside begin none =
+      let others = none_inside (drop n ns) ids m span absent begin inside in
+      let both : filter (picks_of p) (map node (take n ns ++ take m (drop n ns))) ≡ [] =
+      ap (filter (picks_of p)) (map-append node (take n ns) (take m (drop n ns))) ∙ filter-append (picks_of p) (map node (take n ns)) (map node (take m (drop n ns)))
+      ∙ ap₂ (λ (a b : List EntitySpec). a ++ b) none others.0 in
+      (ap (λ (l : List NodeSpec). filter (picks_of p) (map node l)) (take-add n m ns) ∙ both, subst (λ (l : List NodeSpec). BeginWithIds (drop m ids) l) (drop-drop m n ns) others.1)
 
   -- if no node follows them, none at all is picked
   pub none_more : (n : ℕ) (ids : List ℤ) (ns : List NodeSpec) → ids ≡ [] → BeginWithIds ids (drop n ns) → NonePicked n ns → filter (picks_of p) (map node ns) ≡ []

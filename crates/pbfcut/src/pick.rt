@@ -1,11 +1,12 @@
 //! Entities that are picked, on their way into the drain, and the steps that judge them.
 
-ghost use Rattle.std.specs.Prelude.{true, [], ◌∷◌, ◌≡◌, ◌≤◌, ◌+◌, None, Err, IfErr, OnOk, MatchOption, map, filter, take};
+ghost use Rattle.std.specs.Prelude.{true, false, ℤ, [], ◌∷◌, ◌≡◌, ◌≤◌, ◌+◌, None, Err, IfErr, OnOk, MatchOption, map, filter, take};
 ghost use Rattle.std.specs.Option.{option_map};
 ghost use Rattle.osm_entity.specs.Entity.{node, way};
 ghost use Rattle.osm_entity.specs.Views.{entity_of};
 ghost use Rattle.osm_pack.specs.Packing.{IsPacking, has_header, packer_held};
 ghost use Rattle.osm_pack.specs.Packing as packing;
+ghost use Rattle.pbf_wire.specs.Spans.{is_in};
 ghost use Rattle.pbf_dense.specs.Cursors.{dense_left};
 ghost use Rattle.pbf_block.specs.Runs.{way_from, joined_runs, run_entities, runs_left};
 ghost use Rattle.pbf_frame.specs.declared.stop.Stop.{Stop};
@@ -26,6 +27,7 @@ use pbf_block::{Block, Counts, Kinds, Run, Runs, UnmadeWay};
 use pbf_dense::Dense;
 use pbf_frame::{Drain, Feed, Frame, FrameKind, FrameReader, Stop};
 use pbf_pass::Pass;
+use pbf_wire::Span;
 use std::alloc::Global;
 use std::hash::BuildHasher;
 
@@ -89,6 +91,17 @@ impl<'a> Picker<'a> {
             Some(chooser) => chooser.keeps_node(id),
         }
     }
+
+    /// Ids of which no node is written, as far as the last look-ups showed: none if they showed nothing.
+    #[tactic(auto, unfolding(crate::specs::Pick::picks_id))]
+    fn absent(&self) -> Span
+        ensures { (id : ℤ) → is_in result id ≡ true → picks_id self.now id ≡ false }
+    {
+        match &self.chooser {
+            None => Span { above: 0, below: 0 },
+            Some(chooser) => chooser.absent(),
+        }
+    }
 }
 
 /// At most this many nodes are skipped at a time.
@@ -102,14 +115,18 @@ fn unpicked(dense: &Dense<'_>, picker: &mut Picker<'_>) -> Option<usize>
         (λ count. filter (picks_of picker.old) (map node (take count (dense_left dense.now))) ≡ []) }
     ensures same { picker.new ≡ picker.old }
 {
+    let mut ids = dense.ids();
     let mut count = 0;
-    for id in dense.ids() {
+    'ids: loop {
+        count += ids.pass_inside(picker.absent(), MOST_PASSED - count);
+        let Some(id) = ids.next() else {
+            return None;
+        };
         if count == MOST_PASSED || picker.picks_id(id) {
             return Some(count);
         }
         count += 1;
     }
-    None
 }
 
 /// Packs those entities of a payload that are picked, one after another, and counts them.

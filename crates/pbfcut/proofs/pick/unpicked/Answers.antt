@@ -1,4 +1,4 @@
-use Rattle.std.proofs.Common.{ℤ, List, drop, arith, rules, sym, ap, ◌∙◌, subst}
+use Rattle.std.proofs.Common.{◌+◌, ℤ, List, drop, arith, rules, sym, ap, ◌∙◌, subst}
 use Rattle.std.proofs.lemmas.Int.{to_z-of_z}
 use mir.Syntax.{w64}
 use mir.Val.{SFits, to_z, of_z}
@@ -7,28 +7,46 @@ use Rattle.pbf_dense.specs.Cursors.{dense_left}
 use Rattle.pbf_dense.specs.Places.{BeginWithIds}
 use Rattle.pbfcut.specs.declared.pick.Picker.{Picker}
 use Rattle.pbfcut.specs.Pick.{picks_id}
-use Rattle.pbfcut.proofs.NodeLemmas.{one_more, none_more}
+use Rattle.pbfcut.proofs.NodeLemmas.{NoneInside, one_more, more_inside, none_more, fewer_left}
 use Rattle.pbfcut.proofs.pick.unpicked.Goals as goal
 
-pub loop-id-preserved : goal.loop-id-preserved
-loop-id-preserved c =
-    let so_far = c.loop-id.invariant in
+pub ids-smaller : goal.ids-smaller
+ids-smaller c =
+    fewer_left (sums_left c.ids.ids) (sums_left c.next.new.self) c.in-Some.id c.pass_inside-count.result (sym c.pass_inside-count.ensures.passed ∙ c.in-Some.ensures.steps)
+
+pub ids-preserved : goal.ids-preserved
+ids-preserved c =
+    let so_far = c.ids.invariant in
     let nodes = dense_left c.args.dense.now in
+    let picker = c.args.picker.now in
     let id = c.in-Some.id in
-    let fits : SFits w64 c.in-Some.id = search rules in
-    let not_picked = ap (λ (z : ℤ). picks_id c.args.picker.now z) (sym (to_z-of_z w64 id fits)) ∙ (ap (λ (p : Picker). picks_id p (to_z w64 (of_z w64 id))) (sym so_far.picker) ∙ sym c.picks_id.ensures.picked ∙ c.if-picks_id.false) in
-    let begin = subst (λ (l : List ℤ). BeginWithIds l (drop c.loop-id.count nodes)) c.in-Some.ensures.steps so_far.ids_are in
-    let more = one_more c.args.picker.now id (sums_left c.next.new.self) c.loop-id.count nodes not_picked begin so_far.none in
+    let m = c.pass_inside-count.result in
+    let fits : SFits w64 id = search rules in
+    let absent = subst (λ (p : Picker). NoneInside p c.absent.result) so_far.picker c.absent.ensures in
+    let inside = more_inside picker c.ids.count m (sums_left c.ids.ids) nodes c.absent.result absent c.pass_inside-count.ensures.inside so_far.ids_are so_far.none in
+    let turn = sym c.pass_inside-count.ensures.passed ∙ c.in-Some.ensures.steps in
+    let begin = subst (λ (l : List ℤ). BeginWithIds l (drop (c.ids.count + m) nodes)) turn inside.1 in
+    let not_picked = ap (λ (z : ℤ). picks_id picker z) (sym (to_z-of_z w64 id fits)) ∙ (ap (λ (p : Picker). picks_id p (to_z w64 (of_z w64 id))) (sym so_far.picker) ∙ sym c.picks_id.ensures.picked ∙ c.if-picks_id.false) in
+    let more = one_more picker id (sums_left c.next.new.self) (c.ids.count + m) nodes not_picked begin inside.0 in
     record {
-      can = search rules;
-      ends = search rules;
       picker = c.picks_id.ensures.same ∙ so_far.picker;
-      few = omega (arith, so_far.few, c.if-count-eq-MOST_PASSED.false);
+      few = omega (arith, so_far.few, c.pass_inside-count.ensures.fewer, c.if-count-eq-MOST_PASSED.false);
       ids_are = more.1;
       none = more.0;
     }
 
-pub returns-clause-none : goal.returns-clause-none
-returns-clause-none c =
-    let so_far = c.loop-id.invariant in
-    none_more c.args.picker.now c.loop-id.count (sums_left c.loop-id.id-iterator) (dense_left c.args.dense.now) c.in-None.ensures.steps.0 so_far.ids_are so_far.none
+pub returns-in_default-clause-none : goal.returns-in_default-clause-none
+returns-in_default-clause-none c =
+    let so_far = c.ids.invariant in
+    let nodes = dense_left c.args.dense.now in
+    let picker = c.args.picker.now in
+    let m = c.pass_inside-count.result in
+    let absent = subst (λ (p : Picker). NoneInside p c.absent.result) so_far.picker c.absent.ensures in
+    let inside = more_inside picker c.ids.count m (sums_left c.ids.ids) nodes c.absent.result absent c.pass_inside-count.ensures.inside so_far.ids_are so_far.none in
+    none_more picker (c.ids.count + m) (drop m (sums_left c.ids.ids)) nodes (sym c.pass_inside-count.ensures.passed ∙ c.in_default.ensures.steps.0) inside.1 inside.0
+
+pub returns-then-count-eq-MOST_PASSED-clause-none : goal.returns-then-count-eq-MOST_PASSED-clause-none
+returns-then-count-eq-MOST_PASSED-clause-none c =
+    let so_far = c.ids.invariant in
+    let absent = subst (λ (p : Picker). NoneInside p c.absent.result) so_far.picker c.absent.ensures in
+    (more_inside c.args.picker.now c.ids.count c.pass_inside-count.result (sums_left c.ids.ids) (dense_left c.args.dense.now) c.absent.result absent c.pass_inside-count.ensures.inside so_far.ids_are so_far.none).0

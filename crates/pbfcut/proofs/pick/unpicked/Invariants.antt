@@ -1,4 +1,4 @@
-use Rattle.std.proofs.Common.{◌≡◌, ◌≤◌, drop}
+use Rattle.std.proofs.Common.{◌≡◌, ◌≤◌, drop, length}
 use Rattle.pbf_wire.specs.Cursors.{sums_left}
 use Rattle.pbf_dense.specs.Cursors.{dense_left}
 use Rattle.pbf_dense.specs.Places.{BeginWithIds}
@@ -6,12 +6,13 @@ use Rattle.pbfcut.proofs.NodeLemmas.{NonePicked}
 use Rattle.pbfcut.proofs.pick.unpicked.Given as goal
 
 -- the ids that are left are those of the nodes after so many, of which none is picked
-abbrev pub invariant-loop-id : goal.invariant-loop-id
-invariant-loop-id l = record {
-  can : (goal.iterator-loop-id).can_next l.id-iterator;
-  ends : (goal.iterator-loop-id).is_finite l.id-iterator;
+abbrev pub invariant-ids : goal.invariant-ids
+invariant-ids l = record {
   picker : l.picker ≡ l.fn.picker;
   few : l.count ≤ 8000;
-  ids_are : BeginWithIds (sums_left l.id-iterator) (drop l.count (dense_left l.dense));
+  ids_are : BeginWithIds (sums_left l.ids) (drop l.count (dense_left l.dense));
   none : NonePicked l.fn.picker l.count (dense_left l.dense);
 }
+
+abbrev pub decreases-ids : goal.decreases-ids
+decreases-ids l = length (sums_left l.ids)
