@@ -6,7 +6,7 @@ use osm_entity::{
     Scale, SummedLocations, Tags, WayRef,
 };
 use pbf_strings::Table;
-use pbf_wire::{Column, Sums};
+use pbf_wire::{Column, Span, Sums};
 use std::alloc::{AllocError, Global};
 use std::process::Abort;
 use std::test::Fail;
@@ -239,6 +239,20 @@ fn way_column<'a>(number: u64) -> Column<'a> {
 
 fn way_sums<'a>(number: u64) -> Sums<'a> {
     Sums::new(way_column(number), 1 << 62)
+}
+
+/// How many refs of [`WAY`], which are 1, 2 and 3, come after the first and are below a number.
+fn passed_below(below: i64) -> usize {
+    let mut refs = Refs::Summed(way_sums(8));
+    let _first = refs.next();
+    refs.pass_inside(Span { above: 0, below })
+}
+
+#[test]
+fn refs_below_a_number(rt: HostRuntime) {
+    assert_eq!(rt; passed_below(2), 0);
+    assert_eq!(rt; passed_below(3), 1);
+    assert_eq!(rt; passed_below(9), 2);
 }
 
 /// A way whose refs, latitudes and longitudes are in these fields of [`WAY`].

@@ -2,7 +2,7 @@
 //!
 //! Sets are held by functions that return a `bool`: a test that holds one while it asserts takes far longer to prove.
 
-use osm_ids::{IdSet, Links, SealedIds};
+use osm_ids::{IdLookup, IdSet, Links, SealedIds};
 use std::alloc::{AllocError, Global};
 
 /// Strictly between -2^62 and 2^62, as OpenStreetMap's ids are here.
@@ -164,6 +164,34 @@ fn lookup_in_the_empty_set(rt: HostRuntime) -> Result<(), AllocError> {
     let ids = sealed(IdSet::new(rt.alloc()))?;
     let mut lookup = ids.lookup();
     assert!(rt; !lookup.has(0) && !lookup.has(i64::MIN) && !lookup.has(0));
+    Ok(())
+}
+
+/// What a look-up of an id shows to be absent: the ids above one number and below another.
+fn absent_near(ids: &SealedIds, id: i64) -> (i64, i64) {
+    let mut lookup = ids.lookup();
+    let _is_there = lookup.has(id);
+    let absent = lookup.absent();
+    (absent.above, absent.below)
+}
+
+/// The same of a set that may still grow.
+fn absent_so_far(alloc: Global, ids: &[i64], id: i64) -> Result<(i64, i64), AllocError> {
+    let set = gathered(alloc, ids)?;
+    let mut lookup = set.lookup();
+    let _is_there = lookup.has(id);
+    let absent = lookup.absent();
+    Ok((absent.above, absent.below))
+}
+
+#[test]
+fn absent_ids_between_neighbours(rt: HostRuntime) -> Result<(), AllocError> {
+    let ids = threes(rt.alloc())?;
+    assert_eq!(rt; absent_near(&ids, 382), (381, 384));
+    assert_eq!(rt; absent_near(&ids, -7), (i64::MIN, 0));
+    assert_eq!(rt; absent_near(&ids, 1198), (1197, i64::MAX));
+    assert_eq!(rt; absent_so_far(rt.alloc(), &[1, 5], 3)?, (1, 5));
+    assert_eq!(rt; absent_so_far(rt.alloc(), &[5, 1], 3)?, (0, 0));
     Ok(())
 }
 

@@ -141,7 +141,7 @@ impl<'a> Lookup<'a> {
         known
     }
 
-    /// Ids round the last one that was looked up, if the set lacks that one; none if nothing is known.
+    /// Ids that the set lacks, as far as the last look-up showed: none if it showed nothing.
     #[inline(always)]
     pub fn absent(&self) -> Span
         ensures { Lacks self.now result }

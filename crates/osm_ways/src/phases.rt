@@ -219,6 +219,7 @@ pub(crate) fn is_kept_by<I: IdLookup>(ids: &mut I, refs: Refs<'_>) -> bool
         if ids.has(id) {
             return true;
         }
+        // Refs near an absent one are mostly absent too: they needn't be looked up.
         rest.pass_inside(ids.absent());
     }
     false

@@ -35,7 +35,7 @@ no_node : (ids : List ℤ) (ns : List NodeSpec) → ids ≡ [] → BeginWithIds 
 no_node ids [] ended begin = refl
 no_node ids (n ∷ ns) ended (more, is) = absurd cc
 
--- fewer ids are left after one that comes behind some that are skipped
+-- an id that is read after some were skipped leaves fewer
 pub fewer_left : (all left : List ℤ) (id : ℤ) (m : ℕ) → drop m all ≡ id ∷ left → length left < length all
 fewer_left all left id m turn =
     let counts : length all - m ≡ suc (length left) = sym (length-drop m all) ∙ ap length turn in

@@ -1,5 +1,4 @@
 use Rattle.std.proofs.Common.{◌≡◌, length, sym, subst, ◌∙◌, rules}
-use Rattle.std.specs.FinSet as set
 use Rattle.osm_ids.specs.Cursors.{IsKnown}
 use Rattle.osm_ids.proofs.Sets.{Ids}
 use Rattle.osm_ids.proofs.OrderLemmas.{empty_late}
