@@ -1,7 +1,7 @@
 use Rattle.std.proofs.Common.{◌≡◌, true, false, OnOk, subst, ap, ap₂, ◌∙◌, rules}
 use Rattle.std.specs.Prelude.{is_none}
 use Rattle.std.specs.List.{fold}
-use Rattle.osm_ways.specs.First.{FirstSets, before_node}
+use Rattle.osm_ways.specs.First.{FirstSets}
 use Rattle.pbf_dense.specs.Cursors.{dense_left}
 use Rattle.pbf_dense.specs.Within.{ids_within, ids_within_left}
 use Rattle.pbf_pass.specs.Pass.{with_first_inside}
