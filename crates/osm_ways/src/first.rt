@@ -1,6 +1,6 @@
 //! The phase of nodes that takes ways too, as long as no node comes after one.
 
-ghost use Rattle.std.specs.Prelude.{◌≡◌, IfOk, OnOk};
+ghost use Rattle.std.specs.Prelude.{◌≡◌, true, IfOk, OnOk};
 ghost use Rattle.osm_box.specs.BoundingBox.{is_inside};
 ghost use Rattle.osm_entity.specs.Views.{node_of, way_of};
 ghost use Rattle.osm_ways.specs.First.{start_first, before_node, first_step};
@@ -69,6 +69,13 @@ impl FirstPhase {
         }
     }
 
+    /// The box.
+    pub fn area(&self) -> BoundingBox
+        ensures { result ≡ self.now.area }
+    {
+        self.area
+    }
+
     /// Adds the id of a node that is in the box or on one of its edges. Ways that were taken before it are dropped.
     ///
     /// # Errors
@@ -91,17 +98,32 @@ impl FirstPhase {
         ensures { OnOk result
             (self.new ≡ first_step self.old (a_node id (is_inside self.old.area lat lon))) }
     {
-        self.begin_node();
         if self.area.contains(lat, lon) {
-            self.known = Known::nothing();
-            self.box_ids.add(id)?;
+            return self.take_inside(id);
         }
+        self.begin_node();
         Ok(())
     }
 
-    /// A node comes: the ways that were taken before it are dropped.
+    /// The same of a node by its id, if it is known to be in the box or on one of its edges.
+    ///
+    /// # Errors
+    ///
+    /// If memory is refused, the phase may only be dropped.
     #[inline(always)]
-    fn begin_node(&mut self)
+    pub fn take_inside(&mut self, id: i64) -> Result<(), AllocError>
+        ensures { OnOk result (self.new ≡ first_step self.old (a_node id true)) }
+    {
+        self.begin_node();
+        self.known = Known::nothing();
+        self.box_ids.add(id)?;
+        Ok(())
+    }
+
+    /// A node comes, wherever it lies: the ways that were taken before it are dropped. Of a node outside the box that is all that
+    /// counts.
+    #[inline(always)]
+    pub fn begin_node(&mut self)
         ensures { self.new ≡ before_node self.old }
     {
         if !self.has_ways {

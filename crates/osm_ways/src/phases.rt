@@ -1,6 +1,6 @@
 //! The phases of a selection, each of its own type: first all nodes are taken, then all ways, then the entities are chosen.
 
-ghost use Rattle.std.specs.Prelude.{◌≡◌, IfOk, OnOk, OnErr};
+ghost use Rattle.std.specs.Prelude.{◌≡◌, true, IfOk, OnOk, OnErr};
 ghost use Rattle.std.specs.List.{fold};
 ghost use Rattle.std.specs.FinSet as set;
 ghost use Rattle.osm_entity.specs.Sources.{refs_left};
@@ -45,6 +45,13 @@ impl NodePhase {
         }
     }
 
+    /// The box.
+    pub fn area(&self) -> BoundingBox
+        ensures { result ≡ self.now.area }
+    {
+        self.area
+    }
+
     /// Adds the id of a node that is in the box or on one of its edges. Another node changes nothing.
     ///
     /// # Errors
@@ -77,8 +84,26 @@ impl NodePhase {
         ensures err { OnErr result (self.new ≡ self.old) }
     {
         if self.area.contains(lat, lon) {
-            self.box_ids.add(id)?;
+            self.take_inside(id)?;
         }
+        Ok(())
+    }
+
+    /// The same of a node by its id, if it is known to be in the box or on one of its edges.
+    ///
+    /// # Errors
+    ///
+    /// If memory is refused, the phase is as it was.
+    #[inline(always)]
+    pub fn take_inside(&mut self, id: i64) -> Result<(), AllocError>
+        ensures ok { OnOk result (self.new
+            ≡ record {
+              area = self.old.area;
+              box_ids = node_step self.old.box_ids (a_node id true);
+            }) }
+        ensures err { OnErr result (self.new ≡ self.old) }
+    {
+        self.box_ids.add(id)?;
         Ok(())
     }
 

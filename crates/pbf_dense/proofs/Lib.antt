@@ -15,3 +15,4 @@ pub mod NodesLaw
 pub mod FitsLemmas
 pub mod PlaceLemmas
 pub mod EntryLemmas
+pub mod WithinLemmas

@@ -5,3 +5,4 @@ pub mod Cursors
 pub mod Judged
 pub mod WrittenDense
 pub mod Places
+pub mod Within

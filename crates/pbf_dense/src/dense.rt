@@ -9,7 +9,8 @@ use crate::dense_nodes::{ID, KEYS_VALS, LAT, LON};
 use crate::entries::next_number;
 use crate::info::InfoColumns;
 use crate::places::Places;
-use osm_entity::{NodeRef, OwnedTags, RunTags, STORED_LIMIT, Scale, Tags};
+use crate::within::IdsWithin;
+use osm_entity::{BoundingBox, NodeRef, OwnedTags, RunTags, STORED_LIMIT, Scale, Tags};
 use pbf_strings::Table;
 use pbf_wire::{Column, Message, Sums, column_count, low_u32};
 
@@ -92,13 +93,14 @@ pub struct Dense<'a> {
 }
 
 impl<'a> Dense<'a> {
-    ghost use Rattle.std.specs.Prelude.{[], ℕ, List, length, drop};
+    ghost use Rattle.std.specs.Prelude.{[], ℕ, List, ⊤, MatchOption, length, drop};
     ghost use Rattle.pbf_wire.specs.Cursors.{sums_left};
     ghost use Rattle.pbf_wire.specs.Faults.{found_in};
     ghost use Rattle.pbf_dense.specs.Judged.{id_count, dense_wire};
     ghost use Rattle.pbf_dense.specs.Nodes.{nodes, nodes_along};
     ghost use Rattle.pbf_dense.specs.Cursors.{dense_left};
     ghost use Rattle.pbf_dense.specs.Places.{node_place, places_left, BeginWithIds};
+    ghost use Rattle.pbf_dense.specs.Within.{ids_within, ids_within_left};
 
     /// The nodes of a dense message, whatever is wrong with it: as long as there are an id, a latitude and a longitude, up to a
     /// sum that is out of range. Goes through the message's fields once for each of its columns and does not allocate.
@@ -128,6 +130,30 @@ impl<'a> Dense<'a> {
             lons: self.lons,
             scale: self.scale,
         }
+    }
+
+    /// The ids of those nodes still to come that lie in a box, edges included. `None` says nothing: [`Dense::places`] tells then too.
+    #[tactic(auto, using(crate::proofs::WithinLemmas::within_are), unfolding(crate::specs::Cursors::dense_left, crate::specs::Within::ids_within_left))]
+    pub fn ids_within(&self, area: &BoundingBox) -> Option<IdsWithin<'a>>
+        ensures { MatchOption result ⊤
+            (λ it. ids_within_left it ≡ ids_within area.now (dense_left self.now)) }
+    {
+        let Dense {
+            ids,
+            lats,
+            lons,
+            scale,
+            ..
+        } = *self;
+        let lat_span = scale.lat_span(area.bottom, area.top)?;
+        let lon_span = scale.lon_span(area.left, area.right)?;
+        Some(IdsWithin {
+            ids,
+            lats,
+            lons,
+            lat_span,
+            lon_span,
+        })
     }
 
     /// The ids of the nodes that are still to come, and then maybe more ids, which have no place. Nothing else is read.

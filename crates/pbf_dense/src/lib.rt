@@ -12,9 +12,11 @@ mod judge;
 pub mod laws;
 mod phase;
 mod places;
+mod within;
 
 pub use dense::Dense;
 pub use dense_nodes::KEYS_VALS;
 pub use dense_out::DenseOut;
 pub use phase::Phase;
 pub use places::{Place, Places};
+pub use within::IdsWithin;

@@ -1,5 +1,5 @@
 -- What one frame does to a pass, and what a pass is after all frames.
-use Rattle.std.specs.Prelude.{◌≡◌, ℕ, List, [], ◌∷◌, Bool, true, false, Option, Some, None, Result, Ok, Err}
+use Rattle.std.specs.Prelude.{◌≡◌, ℕ, ℤ, List, [], ◌∷◌, Bool, true, false, Option, Some, None, Result, Ok, Err}
 use Rattle.std.specs.List.{flat_map, fold, last_or}
 use Rattle.std.specs.Option.{option_map}
 use Rattle.osm_entity.specs.Entity.{EntitySpec, node, way, relation}
@@ -75,6 +75,10 @@ with_node sets _ = sets
 abbrev pub with_place : NodeSets → Place → NodeSets
 with_place sets p = record { area = sets.area; box_ids = node_step sets.box_ids (a_node p.id (is_inside sets.area p.lat p.lon)) }
 
+-- the same of only the id of a node in the box
+abbrev pub with_inside : NodeSets → ℤ → NodeSets
+with_inside sets id = record { area = sets.area; box_ids = node_step sets.box_ids (a_node id true) }
+
 -- and the ways that are kept besides, as long as no node comes after a way
 abbrev pub with_first : FirstSets → EntitySpec → FirstSets
 with_first sets (node n) = first_step sets (seen_node sets.area n)
@@ -83,6 +87,9 @@ with_first sets (relation r) = sets
 
 abbrev pub with_first_place : FirstSets → Place → FirstSets
 with_first_place sets p = first_step sets (a_node p.id (is_inside sets.area p.lat p.lon))
+
+abbrev pub with_first_inside : FirstSets → ℤ → FirstSets
+with_first_inside sets id = first_step sets (a_node id true)
 
 -- the ways that are kept, and their refs
 abbrev pub with_way : WaySets → EntitySpec → WaySets

@@ -4,13 +4,14 @@ ghost use Rattle.std.specs.Prelude.{◌≡◌, OnOk, map};
 ghost use Rattle.std.specs.List.{fold};
 ghost use Rattle.osm_entity.specs.Entity.{node};
 ghost use Rattle.pbf_dense.specs.Cursors.{dense_left};
-ghost use Rattle.pbf_pass.specs.Pass.{with_first};
+ghost use Rattle.pbf_dense.specs.Within.{ids_within_left};
+ghost use Rattle.pbf_pass.specs.Pass.{with_first, with_first_inside};
 
 use crate::pass::{Gather, seen};
 use osm_entity::EntityRef;
 use osm_ways::FirstPhase;
 use pbf_block::{Kinds, UnmadeWay};
-use pbf_dense::Dense;
+use pbf_dense::{Dense, IdsWithin};
 use std::alloc::AllocError;
 
 impl Gather for FirstPhase {
@@ -41,8 +42,19 @@ impl Gather for FirstPhase {
     }
 }
 
+/// Takes the nodes of a dense message that lie in the box, each by only its id.
+fn take_first_ids(phase: &mut FirstPhase, ids: IdsWithin<'_>) -> Result<(), AllocError>
+    ensures { OnOk result
+        (phase.new ≡ fold with_first_inside phase.old (ids_within_left ids.entry)) }
+{
+    for id in ids {
+        phase.take_inside(id)?;
+    }
+    Ok(())
+}
+
 /// Takes the nodes of a dense message, each by only its id and its place.
-fn take_first_places(phase: &mut FirstPhase, dense: &Dense<'_>) -> Result<(), AllocError>
+fn take_each_first(phase: &mut FirstPhase, dense: &Dense<'_>) -> Result<(), AllocError>
     ensures { OnOk result
         (phase.new ≡ fold with_first phase.old (map node (dense_left dense.now))) }
 {
@@ -50,4 +62,21 @@ fn take_first_places(phase: &mut FirstPhase, dense: &Dense<'_>) -> Result<(), Al
         phase.take_place(place.id, place.lat, place.lon)?;
     }
     Ok(())
+}
+
+/// Takes the nodes of a dense message. If there is one, wherever it lies, the ways that came before it are dropped. Otherwise those
+/// outside the box change nothing, so that of most only the longitude is read.
+fn take_first_places(phase: &mut FirstPhase, dense: &Dense<'_>) -> Result<(), AllocError>
+    ensures { OnOk result
+        (phase.new ≡ fold with_first phase.old (map node (dense_left dense.now))) }
+{
+    let Some(ids) = dense.ids_within(&phase.area()) else {
+        return take_each_first(phase, dense);
+    };
+    let first = dense.places().next();
+    if first.is_none() {
+        return Ok(());
+    }
+    phase.begin_node();
+    take_first_ids(phase, ids)
 }

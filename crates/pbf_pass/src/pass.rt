@@ -9,12 +9,13 @@ ghost use Rattle.pbf_block.specs.Kinds.{is_among};
 ghost use Rattle.pbf_block.specs.PrimitiveBlock.{entities};
 ghost use Rattle.pbf_block.specs.Runs.{way_from, joined_runs, run_entities, runs_left};
 ghost use Rattle.pbf_dense.specs.Cursors.{dense_left};
+ghost use Rattle.pbf_dense.specs.Within.{ids_within_left};
 ghost use Rattle.pbf_frame.specs.Next.{place_of, held_by};
 ghost use Rattle.pbf_wire.specs.declared.fault.Fault.{Fault};
 ghost use Rattle.pbf_wire.specs.declared.fault.ReadFault.TheVariants.{Refused};
 ghost use Rattle.pbf_pass.specs.Judged.{fault_in, judged_file};
 ghost use Rattle.pbf_pass.specs.Payload.{header_block, primitive_block, lent_by};
-ghost use Rattle.pbf_pass.specs.Pass.{IsFresh, TakesPayload, TakesAll, TakesFrame, CountsFrame, TakesFile, IsStep, FailsToJudge, as_it_was, with_node, with_way, with_relation};
+ghost use Rattle.pbf_pass.specs.Pass.{IsFresh, TakesPayload, TakesAll, TakesFrame, CountsFrame, TakesFile, IsStep, FailsToJudge, as_it_was, with_node, with_inside, with_way, with_relation};
 ghost use Rattle.pbf_pass.specs.Given.{GaveFile};
 ghost use Rattle.pbf_pass.specs.Hashing.{IsLength, digest_if};
 ghost use Rattle.pbf_pass.specs.Refused.{RefusesFile, Halts, stop_of};
@@ -29,7 +30,7 @@ use crate::visit::{FileRead, Visit, pass_over, step};
 use osm_entity::EntityRef;
 use osm_ways::{NodePhase, RelationPhase, SeenWay, WayPhase};
 use pbf_block::{Block, Counts, Kinds, Run, Runs, UnmadeWay};
-use pbf_dense::Dense;
+use pbf_dense::{Dense, IdsWithin};
 use pbf_frame::{Feed, Frame, FrameKind, FrameReader, Stop};
 use pbf_header::Header;
 use pbf_wire::ReadFault;
@@ -179,14 +180,34 @@ pub(crate) fn seen<'a>(unmade: &UnmadeWay<'a>) -> SeenWay<'a>
     SeenWay { id, refs }
 }
 
+/// Takes the nodes of a dense message that lie in the box, each by only its id.
+fn take_ids(phase: &mut NodePhase, ids: IdsWithin<'_>) -> Result<(), AllocError>
+    ensures { OnOk result (phase.new ≡ fold with_inside phase.old (ids_within_left ids.entry)) }
+{
+    for id in ids {
+        phase.take_inside(id)?;
+    }
+    Ok(())
+}
+
 /// Takes the nodes of a dense message, each by only its id and its place.
-fn take_places(phase: &mut NodePhase, dense: &Dense<'_>) -> Result<(), AllocError>
+fn take_each_place(phase: &mut NodePhase, dense: &Dense<'_>) -> Result<(), AllocError>
     ensures { OnOk result (phase.new ≡ fold with_node phase.old (map node (dense_left dense.now))) }
 {
     for place in dense.places() {
         phase.take_place(place.id, place.lat, place.lon)?;
     }
     Ok(())
+}
+
+/// Takes the nodes of a dense message. Those outside the box change nothing, so that of most only the longitude is read.
+fn take_places(phase: &mut NodePhase, dense: &Dense<'_>) -> Result<(), AllocError>
+    ensures { OnOk result (phase.new ≡ fold with_node phase.old (map node (dense_left dense.now))) }
+{
+    match dense.ids_within(&phase.area()) {
+        Some(ids) => take_ids(phase, ids),
+        None => take_each_place(phase, dense),
+    }
 }
 
 /// Gathers the entities of a run.

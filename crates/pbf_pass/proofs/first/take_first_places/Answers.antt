@@ -1,20 +1,24 @@
-use Rattle.std.proofs.Common.{◌≡◌, List, sym, ap, ◌∙◌, rules}
+use Rattle.std.proofs.Common.{◌≡◌, true, false, OnOk, subst, ap, ap₂, ◌∙◌, rules}
+use Rattle.std.specs.Prelude.{is_none}
 use Rattle.std.specs.List.{fold}
-use Rattle.pbf_dense.specs.declared.places.Place.{Place}
-use Rattle.pbf_dense.specs.Places.{places_left}
-use Rattle.pbf_pass.specs.Pass.{with_first_place}
+use Rattle.osm_ways.specs.First.{FirstSets}
+use Rattle.pbf_dense.specs.Cursors.{dense_left}
+use Rattle.pbf_dense.specs.Within.{ids_within, ids_within_left}
+use Rattle.pbf_pass.specs.Pass.{with_first_inside}
+use Rattle.pbf_pass.proofs.GatherLemmas.{first_if_none, first_if_some}
 use Rattle.pbf_pass.proofs.first.take_first_places.Goals as goal
 
-pub loop-place-preserved : goal.loop-place-preserved
-loop-place-preserved c =
-    let so_far = c.loop-place.invariant in
-    let rest = places_left c.next.new.self in
-    let step : c.take_place.new.self ≡ with_first_place c.loop-place.phase c.in-Some.place = search rules in
-    record {
-      can = so_far.can;
-      ends = so_far.ends;
-      taken =
-          ap (λ p. fold with_first_place p rest) step
-          ∙ ap (λ (ps : List Place). fold with_first_place c.loop-place.phase ps) (sym c.in-Some.ensures.steps)
-          ∙ so_far.taken;
-    }
+pub returns-then-is_none : goal.returns-then-is_none
+returns-then-is_none c =
+    let ns = dense_left c.args.dense.now in
+    let none : is_none c.next-first.result ≡ true = search rules in
+    first_if_none c.places.result c.next-first.new.self c.next-first.result c.args.phase.now ns c.next-first.ensures.steps none c.places.ensures
+
+pub returns : goal.returns
+returns c =
+    let sets = c.args.phase.now in
+    let ns = dense_left c.args.dense.now in
+    let ids : ids_within_left c.in-Some.ids ≡ ids_within sets.area ns = c.in-Some.ensures ∙ ap (λ area. ids_within area ns) c.area.ensures in
+    let some : is_none c.next-first.result ≡ false = search rules in
+    let all = ap₂ (fold with_first_inside) c.begin_node.ensures ids ∙ first_if_some c.places.result c.next-first.new.self c.next-first.result sets ns c.next-first.ensures.steps some c.places.ensures in
+    subst (λ (s : FirstSets). OnOk c.take_first_ids.result (c.take_first_ids.new.phase ≡ s)) all c.take_first_ids.ensures

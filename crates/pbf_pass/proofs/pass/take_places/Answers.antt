@@ -1,20 +1,15 @@
-use Rattle.std.proofs.Common.{◌≡◌, List, sym, ap, ◌∙◌, rules}
+use Rattle.std.proofs.Common.{◌≡◌, OnOk, subst, ap, ◌∙◌}
 use Rattle.std.specs.List.{fold}
-use Rattle.pbf_dense.specs.declared.places.Place.{Place}
-use Rattle.pbf_dense.specs.Places.{places_left}
-use Rattle.pbf_pass.specs.Pass.{with_place}
+use Rattle.osm_ways.specs.Phases.{NodeSets}
+use Rattle.pbf_dense.specs.Cursors.{dense_left}
+use Rattle.pbf_dense.specs.Within.{ids_within}
+use Rattle.pbf_pass.specs.Pass.{with_inside}
+use Rattle.pbf_pass.proofs.GatherLemmas.{inside_gathered}
 use Rattle.pbf_pass.proofs.pass.take_places.Goals as goal
 
-pub loop-place-preserved : goal.loop-place-preserved
-loop-place-preserved c =
-    let so_far = c.loop-place.invariant in
-    let rest = places_left c.next.new.self in
-    let step : c.take_place.new.self ≡ with_place c.loop-place.phase c.in-Some.place = search rules in
-    record {
-      can = so_far.can;
-      ends = so_far.ends;
-      taken =
-          ap (λ p. fold with_place p rest) step
-          ∙ ap (λ (ps : List Place). fold with_place c.loop-place.phase ps) (sym c.in-Some.ensures.steps)
-          ∙ so_far.taken;
-    }
+pub returns-in-Some : goal.returns-in-Some
+returns-in-Some c =
+    let sets = c.args.phase.now in
+    let ns = dense_left c.args.dense.now in
+    let all = ap (fold with_inside sets) (c.in-Some.ensures ∙ ap (λ area. ids_within area ns) c.area.ensures) ∙ inside_gathered sets ns in
+    subst (λ (s : NodeSets). OnOk c.take_ids.result (c.take_ids.new.phase ≡ s)) all c.take_ids.ensures

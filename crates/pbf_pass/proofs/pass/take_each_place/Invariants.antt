@@ -3,7 +3,7 @@ use Rattle.std.specs.List.{fold}
 use Rattle.pbf_dense.specs.Cursors.{dense_left}
 use Rattle.pbf_dense.specs.Places.{node_place, places_left}
 use Rattle.pbf_pass.specs.Pass.{with_place}
-use Rattle.pbf_pass.proofs.pass.take_places.Given as goal
+use Rattle.pbf_pass.proofs.pass.take_each_place.Given as goal
 
 -- the places that are left give what all of the message give
 abbrev pub invariant-loop-place : goal.invariant-loop-place

@@ -1,0 +1,100 @@
+-- Ids by spans of stored places are those of the nodes in the box.
+use Rattle.std.proofs.Common.{◌≡◌, ◌+◌, ◌<◌, length, ℕ, zero, suc, ℤ, Bool, true, false, ◌&&◌, cond, List, [], ◌∷◌, map, drop, take, refl, sym, ap, ap₂, ◌∙◌, arith}
+use Rattle.std.proofs.Math.Seq.{drop-nil}
+use Rattle.pbf_wire.specs.Spans.{is_in, AreAlike}
+use Rattle.pbf_wire.specs.declared.span.Span.{Span}
+use Rattle.osm_box.specs.declared.bounding_box.BoundingBox.{BoundingBox}
+use Rattle.osm_entity.specs.declared.scale.Scale.{Scale}
+use Rattle.osm_entity.specs.Entity.{NodeSpec}
+use Rattle.osm_entity.specs.Sources.{tag_of, run}
+use Rattle.osm_entity.specs.Scale.{nano_lat, nano_lon, is_between}
+use Rattle.pbf_dense.specs.Info.{InfoSpec, meta_at, info_rest}
+use Rattle.pbf_dense.specs.Runs.{after_run}
+use Rattle.pbf_dense.specs.Nodes.{nodes_of_columns}
+use Rattle.pbf_dense.specs.Within.{lies_in, ids_within, ids_along}
+
+-- ---- a column that has ended
+
+pub no_lats : (lat_span lon_span : Span) (ids lons : List ℤ) → ids_along lat_span lon_span ids [] lons ≡ []
+no_lats lat_span lon_span [] lons = refl
+no_lats lat_span lon_span (id ∷ ids) lons = refl
+
+pub no_lons : (lat_span lon_span : Span) (ids lats : List ℤ) → ids_along lat_span lon_span ids lats [] ≡ []
+no_lons lat_span lon_span [] lats = refl
+no_lons lat_span lon_span (id ∷ ids) [] = refl
+no_lons lat_span lon_span (id ∷ ids) (lat ∷ lats) = refl
+
+-- ---- the nodes of the message
+
+one_more : (area : BoundingBox) (there : Bool) (n : NodeSpec) (ids : List ℤ) (ns : List NodeSpec) → there ≡ lies_in area n → ids ≡ ids_within area ns
+    → (cond there (n.id ∷ ids) ids) ≡ ids_within area (n ∷ ns)
+one_more area true n ids ns h e = rw (sym h) (ap (λ (l : List ℤ). n.id ∷ l) e)
+one_more area false n ids ns h e = rw (sym h) e
+
+pub within_are : (table : List (List ℕ)) (scale : Scale) (ids lats lons : List ℤ) (info : InfoSpec) (keys_vals : List ℕ) (area : BoundingBox) (lat_span lon_span : Span)
+    → ((lat : ℤ) → is_in lat_span lat ≡ is_between area.bottom area.top (nano_lat scale lat))
+    → ((lon : ℤ) → is_in lon_span lon ≡ is_between area.left area.right (nano_lon scale lon))
+    → ids_along lat_span lon_span ids lats lons ≡ ids_within area (nodes_of_columns table scale ids lats lons info keys_vals)
+within_are table scale [] lats lons info keys_vals area lat_span lon_span by_lat by_lon = refl
+within_are table scale (id ∷ ids) [] lons info keys_vals area lat_span lon_span by_lat by_lon = refl
+within_are table scale (id ∷ ids) (lat ∷ lats) [] info keys_vals area lat_span lon_span by_lat by_lon = refl
+within_are table scale (id ∷ ids) (lat ∷ lats) (lon ∷ lons) info keys_vals area lat_span lon_span by_lat by_lon =
+    let n : NodeSpec = record { id = id; lat = lat; lon = lon; meta = meta_at table info 0; tags = map (tag_of table) (run keys_vals); scale = scale } in
+    one_more area (is_in lat_span lat && is_in lon_span lon) n (ids_along lat_span lon_span ids lats lons) (nodes_of_columns table scale ids lats lons (info_rest info) (after_run keys_vals)) (ap₂ (λ (a b : Bool). a && b) (by_lat lat) (by_lon lon))
+    (within_are table scale ids lats lons (info_rest info) (after_run keys_vals) area lat_span lon_span by_lat by_lon)
+
+-- ---- nodes that are skipped
+
+and_false : (b : Bool) → (b && false) ≡ false
+and_false true = refl
+and_false false = refl
+
+-- a node outside gives nothing
+pub one_outside : (lat_span lon_span : Span) (ids lats lons : List ℤ) (lon : ℤ) → is_in lon_span lon ≡ false
+    → ids_along lat_span lon_span ids lats (lon ∷ lons) ≡ ids_along lat_span lon_span (drop 1 ids) (drop 1 lats) lons
+one_outside lat_span lon_span [] lats lons lon h = refl
+one_outside lat_span lon_span (id ∷ ids) [] lons lon h = sym (no_lats lat_span lon_span ids lons)
+one_outside lat_span lon_span (id ∷ ids) (lat ∷ lats) lons lon h = rw (h, and_false (is_in lat_span lat)) refl
+
+drop_one : {A : Type 0} (n : ℕ) (xs : List A) → drop (suc n) xs ≡ drop n (drop 1 xs)
+drop_one n [] = sym (drop-nil n)
+drop_one n (x ∷ xs) = refl
+
+-- nor do so many
+pub some_outside : (lat_span lon_span : Span) (n : ℕ) (ids lats lons : List ℤ) → AreAlike lon_span false (take n lons)
+    → ids_along lat_span lon_span ids lats lons ≡ ids_along lat_span lon_span (drop n ids) (drop n lats) (drop n lons)
+some_outside lat_span lon_span zero ids lats lons outside = refl
+some_outside lat_span lon_span (suc n) ids lats [] outside = no_lons lat_span lon_span ids lats ∙ sym (no_lons lat_span lon_span (drop (suc n) ids) (drop (suc n) lats))
+some_outside lat_span lon_span (suc n) ids lats (lon ∷ lons) outside =
+    one_outside lat_span lon_span ids lats lons lon outside.0
+    ∙ some_outside lat_span lon_span n (drop 1 ids) (drop 1 lats) lons outside.1
+    ∙ ap₂ (λ (a b : List ℤ). ids_along lat_span lon_span a b (drop n lons)) (sym (drop_one n ids)) (sym (drop_one n lats))
+
+drop_after : {A : Type 0} (n : ℕ) (xs : List A) → drop n (drop 1 xs) ≡ drop (n + 1) xs
+drop_after n xs =
+    let more : n + 1 ≡ suc n = omega arith in
+    sym (drop_one n xs) ∙ ap (λ m. drop m xs) (sym more)
+
+-- a node, and so many after it
+pub skipped : (lat_span lon_span : Span) (n : ℕ) (ids lats lons more_ids more_lats more_lons : List ℤ) → AreAlike lon_span false (take n lons)
+    → more_ids ≡ drop (n + 1) ids → more_lats ≡ drop (n + 1) lats → more_lons ≡ drop n lons
+    → ids_along lat_span lon_span (drop 1 ids) (drop 1 lats) lons ≡ ids_along lat_span lon_span more_ids more_lats more_lons
+skipped lat_span lon_span n ids lats lons more_ids more_lats more_lons outside e f g =
+    rw (e, f, g, sym (drop_after n ids), sym (drop_after n lats)) (some_outside lat_span lon_span n (drop 1 ids) (drop 1 lats) lons outside)
+
+pub none_left : (lat_span lon_span : Span) (n : ℕ) (ids lats lons more_lons : List ℤ) → AreAlike lon_span false (take n lons)
+    → more_lons ≡ drop n lons → more_lons ≡ []
+    → ids_along lat_span lon_span (drop 1 ids) (drop 1 lats) lons ≡ []
+none_left lat_span lon_span n ids lats lons more_lons outside g none =
+    some_outside lat_span lon_span n (drop 1 ids) (drop 1 lats) lons outside
+    ∙ ap (λ (l : List ℤ). ids_along lat_span lon_span (drop n (drop 1 ids)) (drop n (drop 1 lats)) l) (sym g ∙ none)
+    ∙ no_lons lat_span lon_span (drop n (drop 1 ids)) (drop n (drop 1 lats))
+
+-- ---- a node that is read
+
+pub one_read : (lat_span lon_span : Span) (ids lats lons more_ids more_lats : List ℤ) (id lat lon : ℤ) (there : Bool) → ids ≡ id ∷ more_ids → lats ≡ lat ∷ more_lats → there ≡ (is_in lat_span lat && is_in lon_span lon)
+    → ids_along lat_span lon_span ids lats (lon ∷ lons) ≡ cond there (id ∷ ids_along lat_span lon_span more_ids more_lats lons) (ids_along lat_span lon_span more_ids more_lats lons)
+one_read lat_span lon_span ids lats lons more_ids more_lats id lat lon there e f h = rw (e, f, h) refl
+
+pub fewer : (s t : List ℤ) (x : ℤ) → s ≡ x ∷ t → length t < length s
+fewer s t x e = omega (arith, ap length e)

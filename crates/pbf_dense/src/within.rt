@@ -1,0 +1,89 @@
+//! The ids of the nodes that lie in a box.
+
+use pbf_wire::{Span, Sums};
+
+/// The ids of those nodes of a dense message that lie in a box and are still to come: an iterator over three of its columns, which
+/// does not allocate. Of most nodes that lie elsewhere only the longitude is decoded.
+#[derive(Clone, Copy)]
+pub struct IdsWithin<'a> {
+    pub(crate) ids: Sums<'a>,
+    pub(crate) lats: Sums<'a>,
+    pub(crate) lons: Sums<'a>,
+    /// The stored latitudes of the box.
+    pub(crate) lat_span: Span,
+    /// The stored longitudes of the box.
+    pub(crate) lon_span: Span,
+}
+
+impl<'a> IdsWithin<'a> {
+    ghost use Rattle.std.specs.Prelude.{◌≡◌, ◌<◌, ◌&&◌, [], ⊤, MatchOption, length};
+    ghost use Rattle.pbf_wire.specs.Cursors.{sums_left};
+    ghost use Rattle.pbf_wire.specs.Spans.{is_in};
+    ghost use Rattle.pbf_dense.specs.Within.{ids_within_left, after_one, after_lon};
+
+    /// Skips a node whose longitude was taken, and as many after it as lie outside by their longitude, while that is quick. Returns
+    /// the longitude of the node that comes then. If there is none, the ids and latitudes are left where they are.
+    #[inline(never)]
+    #[tactic(auto, unfolding(crate::specs::Within::ids_within_left))]
+    fn skip_outside(&mut self) -> Option<i64>
+        ensures left { MatchOption result (after_one self.old ≡ [])
+            (λ lon. after_one self.old ≡ after_lon lon self.new) }
+        ensures ended { MatchOption result (ids_within_left self.new ≡ []) (λ _. ⊤) }
+        ensures fewer { MatchOption result ⊤
+            (λ _. length (sums_left self.new.lons) < length (sums_left self.old.lons)) }
+    {
+        let count = self.lons.pass_outside(self.lon_span, usize::MAX - 1);
+        let lon = self.lons.next()?;
+        self.ids.pass(count + 1);
+        self.lats.pass(count + 1);
+        Some(lon)
+    }
+
+    /// Whether a node of this stored place lies in the box.
+    #[inline(always)]
+    fn has_place(&self, lat: i64, lon: i64) -> bool
+        ensures { result ≡ (is_in self.now.lat_span lat && is_in self.now.lon_span lon) }
+    {
+        self.lat_span.has(lat) && self.lon_span.has(lon)
+    }
+
+    /// The longitude of the next node that may lie in the box, if there is one. Its id and latitude are the next ones.
+    #[inline(always)]
+    #[tactic(auto, unfolding(crate::specs::Within::ids_within_left))]
+    fn next_lon(&mut self) -> Option<i64>
+        ensures left { MatchOption result (ids_within_left self.old ≡ [])
+            (λ lon. ids_within_left self.old ≡ after_lon lon self.new) }
+        ensures ended { MatchOption result (ids_within_left self.new ≡ []) (λ _. ⊤) }
+        ensures fewer { MatchOption result ⊤
+            (λ _. length (sums_left self.new.lons) < length (sums_left self.old.lons)) }
+    {
+        let lon = self.lons.next()?;
+        if self.lon_span.has(lon) {
+            return Some(lon);
+        }
+        self.skip_outside()
+    }
+}
+
+impl<'a> Iterator for IdsWithin<'a> {
+    ghost use Rattle.std.specs.Iterator.{YieldsFirst, item_count};
+    ghost use Rattle.pbf_dense.specs.Within.{ids_within_left};
+
+    type Item = i64;
+
+    ghost next_gives = { YieldsFirst ids_within_left };
+
+    ghost remaining = { item_count ids_within_left };
+
+    #[inline(always)]
+    fn next(&mut self) -> Option<i64> {
+        'nodes: while let Some(lon) = self.next_lon() {
+            let id = self.ids.next()?;
+            let lat = self.lats.next()?;
+            if self.has_place(lat, lon) {
+                return Some(id);
+            }
+        }
+        None
+    }
+}
