@@ -33,7 +33,7 @@ use pbf_wire::{Fault, Field, Message, ReadFault, last_field};
 use std::alloc::{AllocError, Global};
 use std::marker::Model;
 
-/// Whether the phases before the weights find no fault in a payload. It takes no memory: the texts are only counted. `false` says
+/// Whether the phases before the weights find no fault in a payload. It allocates nothing: the texts are only counted. `false` says
 /// nothing.
 fn is_clean(payload: Message<'_>) -> bool
     ensures { IsTrue result → IsCleanBlock (length (stored_texts (found_in payload.entry)))

@@ -1,4 +1,4 @@
-//! Entities that aren't made yet: what a run holds of them is as small as a message, so it is cheap to hand on.
+//! Entities that aren't made yet: what a run holds of them is as small as a message, so it is cheap to pass.
 
 ghost use Rattle.std.specs.Prelude.{◌≡◌};
 ghost use Rattle.osm_entity.specs.Views.{entity_of};

@@ -102,7 +102,7 @@ nothing_more p ps e = search rules
 first_gathered : (sets : FirstSets) (n : NodeSpec) (ns : List NodeSpec) → fold with_first_inside (before_node sets) (ids_within sets.area (n ∷ ns)) ≡ fold with_first sets (map node (n ∷ ns))
 first_gathered sets n ns = first_inside (before_node sets) (n ∷ ns) (again sets) ∙ begun sets n ns
 
--- where a first place was asked for: there is no node
+-- if there is no first place, there is no node
 pub first_if_none : (it more : Places) (first : Option Place) (sets : FirstSets) (ns : List NodeSpec) → YieldsFirst places_left it first more → is_none first ≡ true → places_left it ≡ map node_place ns
     → sets ≡ fold with_first sets (map node ns)
 first_if_none it more None sets [] steps none are = refl
