@@ -16,7 +16,8 @@ struct Reached {
     value: i64,
 }
 
-/// Skips values that a span lacks, and takes the next one. It has that one, unless there are more values than a message has.
+/// Skips values that a span lacks, and takes the next one, which it has: unless it lacks more in a row than a message has, where the
+/// skipping stops.
 fn reach(values: &mut Sums<'_>, span: Span) -> Option<Reached>
     ensures outside { MatchOption result (AreAlike span false (sums_left values.old))
         (λ r. AreAlike span false (take r.skipped (sums_left values.old))) }
