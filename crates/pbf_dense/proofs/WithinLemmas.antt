@@ -1,8 +1,10 @@
 -- Ids by spans of stored places are those of the nodes in the box.
-use Rattle.std.proofs.Common.{◌≡◌, ◌+◌, ◌<◌, length, ℕ, zero, suc, ℤ, Bool, true, false, ◌&&◌, cond, List, [], ◌∷◌, map, drop, take, refl, sym, ap, ap₂, ◌∙◌, arith}
+use Rattle.std.proofs.Common.{◌≡◌, ◌+◌, ◌<◌, length, ℕ, zero, suc, ℤ, Bool, true, false, ◌&&◌, cond, List, [], ◌∷◌, map, drop, take, refl, sym, ap, ap₂, ◌∙◌, arith, rules, subst}
 use Rattle.std.proofs.Math.Seq.{drop-nil}
+use Rattle.std.proofs.lemmas.List.{length-drop}
 use Rattle.pbf_wire.specs.Spans.{is_in, AreAlike}
 use Rattle.pbf_wire.specs.declared.span.Span.{Span}
+use Rattle.pbf_wire.proofs.SpanLemmas.{IsPast, one_past}
 use Rattle.osm_box.specs.declared.bounding_box.BoundingBox.{BoundingBox}
 use Rattle.osm_entity.specs.declared.scale.Scale.{Scale}
 use Rattle.osm_entity.specs.Entity.{NodeSpec}
@@ -82,13 +84,40 @@ pub skipped : (lat_span lon_span : Span) (n : ℕ) (ids lats lons more_ids more_
 skipped lat_span lon_span n ids lats lons more_ids more_lats more_lons outside e f g =
     rw (e, f, g, sym (drop_after n ids), sym (drop_after n lats)) (some_outside lat_span lon_span n (drop 1 ids) (drop 1 lats) lons outside)
 
-pub none_left : (lat_span lon_span : Span) (n : ℕ) (ids lats lons more_lons : List ℤ) → AreAlike lon_span false (take n lons)
-    → more_lons ≡ drop n lons → more_lons ≡ []
-    → ids_along lat_span lon_span (drop 1 ids) (drop 1 lats) lons ≡ []
-none_left lat_span lon_span n ids lats lons more_lons outside g none =
-    some_outside lat_span lon_span n (drop 1 ids) (drop 1 lats) lons outside
-    ∙ ap (λ (l : List ℤ). ids_along lat_span lon_span (drop n (drop 1 ids)) (drop n (drop 1 lats)) l) (sym g ∙ none)
-    ∙ no_lons lat_span lon_span (drop n (drop 1 ids)) (drop n (drop 1 lats))
+pub none_inside : (lat_span lon_span : Span) (ids lats lons : List ℤ) → AreAlike lon_span false lons → ids_along lat_span lon_span ids lats lons ≡ []
+none_inside lat_span lon_span ids lats [] outside = no_lons lat_span lon_span ids lats
+none_inside lat_span lon_span ids lats (lon ∷ lons) outside =
+    one_outside lat_span lon_span ids lats lons lon outside.0 ∙ none_inside lat_span lon_span (drop 1 ids) (drop 1 lats) lons outside.1
+
+-- ---- values that are skipped
+
+-- so many more
+pub more_past : (values left more : List ℤ) (span : Span) (m n : ℕ) → IsPast span false values left m → more ≡ drop n left → AreAlike span false (take n left) → IsPast span false values more (m + n)
+more_past values left more span zero n past e outside =
+    let same : zero + n ≡ n = omega arith in
+    rw same (record { passed = e ∙ ap (drop n) past.passed; alike = subst (λ (l : List ℤ). AreAlike span false (take n l)) past.passed outside })
+more_past [] left more span (suc m) n past e outside =
+    let next : suc m + n ≡ suc (m + n) = omega arith in
+    rw next (record { passed = e ∙ ap (drop n) past.passed ∙ drop-nil n; alike = search rules })
+more_past (v ∷ vs) left more span (suc m) n past e outside =
+    let rest = more_past vs left more span m n (record { passed = past.passed; alike = past.alike.1 }) e outside in
+    let next : suc m + n ≡ suc (m + n) = omega arith in
+    rw next (record { passed = rest.passed; alike = (past.alike.0, rest.alike) })
+
+-- and one more
+pub one_more_past : (values left next : List ℤ) (span : Span) (n : ℕ) (value : ℤ) → IsPast span false values left n → left ≡ value ∷ next → is_in span value ≡ false → IsPast span false values next (n + 1)
+one_more_past values left next span n value past e there =
+    let more : n + 1 ≡ suc n = omega arith in
+    rw more (one_past span false values next value n (subst (λ (l : List ℤ). IsPast span false values l n) e past) there)
+
+-- then all are, if none is left
+pub all_past : (values left : List ℤ) (span : Span) (n : ℕ) → IsPast span false values left n → left ≡ [] → AreAlike span false values
+all_past values left span zero past none = subst (λ (l : List ℤ). AreAlike span false l) (sym none ∙ past.passed) tt
+all_past [] left span (suc n) past none = tt
+all_past (v ∷ vs) left span (suc n) past none = (past.alike.0, all_past vs left span n (record { passed = past.passed; alike = past.alike.1 }) none)
+
+pub shorter : (values next : List ℤ) (n : ℕ) (value : ℤ) → drop n values ≡ value ∷ next → length next < length values
+shorter values next n value e = omega (arith, ap length e, length-drop n values)
 
 -- ---- a node that is read
 

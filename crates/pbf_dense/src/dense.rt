@@ -132,7 +132,8 @@ impl<'a> Dense<'a> {
         }
     }
 
-    /// The ids of those nodes still to come that lie in a box, edges included. `None` says nothing: then [`Dense::places`] has to be read.
+    /// The ids of those nodes still to come that lie in a box or on one of its edges, in order. `None` says nothing: the places have
+    /// to be read then.
     #[tactic(auto, using(crate::proofs::WithinLemmas::within_are), unfolding(crate::specs::Cursors::dense_left, crate::specs::Within::ids_within_left))]
     pub fn ids_within(&self, area: &BoundingBox) -> Option<IdsWithin<'a>>
         ensures { MatchOption result ⊤

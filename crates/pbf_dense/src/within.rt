@@ -1,6 +1,42 @@
 //! The ids of the nodes that lie in a box.
 
+ghost use Rattle.std.specs.Prelude.{◌≡◌, ◌≤◌, ◌∷◌, ◌^◌, [], false, ⊤, MatchOption, drop, take};
+ghost use Rattle.pbf_wire.specs.Cursors.{sums_left};
+ghost use Rattle.pbf_wire.specs.Spans.{AreAlike};
+
 use pbf_wire::{Span, Sums};
+
+/// More values than a message has.
+const MANY: usize = 1 << 60;
+
+/// A value, and how many were skipped before it.
+#[derive(Clone, Copy)]
+struct Reached {
+    skipped: usize,
+    value: i64,
+}
+
+/// Skips values that a span lacks, and takes the next one, which it has: unless it lacks more in a row than a message has, where the
+/// skipping stops.
+fn reach(values: &mut Sums<'_>, span: Span) -> Option<Reached>
+    ensures outside { MatchOption result (AreAlike span false (sums_left values.old))
+        (λ r. AreAlike span false (take r.skipped (sums_left values.old))) }
+    ensures left { MatchOption result (sums_left values.new ≡ [])
+        (λ r. drop r.skipped (sums_left values.old) ≡ r.value ∷ sums_left values.new) }
+    ensures few { MatchOption result ⊤ (λ r. r.skipped ≤ 2 ^ 61) }
+{
+    let mut skipped = 0;
+    'values: while skipped < MANY {
+        skipped += values.pass_outside(span, MANY);
+        let value = values.next()?;
+        if span.has(value) {
+            return Some(Reached { skipped, value });
+        }
+        skipped += 1;
+    }
+    let value = values.next()?;
+    Some(Reached { skipped, value })
+}
 
 /// The ids of those nodes of a dense message that lie in a box and are still to come: an iterator over three of its columns, which
 /// does not allocate. Of most nodes that lie elsewhere only the longitude is decoded.
@@ -21,8 +57,8 @@ impl<'a> IdsWithin<'a> {
     ghost use Rattle.pbf_wire.specs.Spans.{is_in};
     ghost use Rattle.pbf_dense.specs.Within.{ids_within_left, after_one, after_lon};
 
-    /// Skips a node whose longitude was taken, and as many after it as lie outside by their longitude, while that is quick. Returns
-    /// the longitude of the node that comes then. If there is none, the ids and latitudes are left where they are.
+    /// Skips a node whose longitude was taken, and those after it that lie outside by their longitude. Returns the longitude of the
+    /// node that comes then. If there is none, the ids and latitudes are left where they are.
     #[inline(never)]
     #[tactic(auto, unfolding(crate::specs::Within::ids_within_left))]
     fn skip_outside(&mut self) -> Option<i64>
@@ -32,11 +68,10 @@ impl<'a> IdsWithin<'a> {
         ensures fewer { MatchOption result ⊤
             (λ _. length (sums_left self.new.lons) < length (sums_left self.old.lons)) }
     {
-        let count = self.lons.pass_outside(self.lon_span, usize::MAX - 1);
-        let lon = self.lons.next()?;
-        self.ids.pass(count + 1);
-        self.lats.pass(count + 1);
-        Some(lon)
+        let reached = reach(&mut self.lons, self.lon_span)?;
+        self.ids.pass(reached.skipped + 1);
+        self.lats.pass(reached.skipped + 1);
+        Some(reached.value)
     }
 
     /// Whether a node of this stored place lies in the box.

@@ -74,7 +74,8 @@ fn take_first_places(phase: &mut FirstPhase, dense: &Dense<'_>) -> Result<(), Al
         return take_each_first(phase, dense);
     };
     let first = dense.places().next();
-    if first.is_none() {
+    let is_empty = first.is_none();
+    if is_empty {
         return Ok(());
     }
     phase.begin_node();

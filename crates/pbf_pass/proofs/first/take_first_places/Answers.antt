@@ -8,8 +8,8 @@ use Rattle.pbf_pass.specs.Pass.{with_first_inside}
 use Rattle.pbf_pass.proofs.GatherLemmas.{first_if_none, first_if_some}
 use Rattle.pbf_pass.proofs.first.take_first_places.Goals as goal
 
-pub returns-then-is_none : goal.returns-then-is_none
-returns-then-is_none c =
+pub returns-then-is_empty : goal.returns-then-is_empty
+returns-then-is_empty c =
     let ns = dense_left c.args.dense.now in
     let none : is_none c.next-first.result ≡ true = search rules in
     first_if_none c.places.result c.next-first.new.self c.next-first.result c.args.phase.now ns c.next-first.ensures.steps none c.places.ensures
