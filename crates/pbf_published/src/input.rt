@@ -62,12 +62,7 @@ impl From<AllocError> for PublishedHalt {
 pub type PublishedFeed<F> = UnpackedFeed<TracedFeed<PassFeed<F>>>;
 
 /// A published file from its start.
-pub fn open<F: Feed>(
-    alloc: Global,
-    inflater: Inflater,
-    feed: F,
-    hashes: bool,
-) -> PublishedFeed<F>
+pub fn open<F: Feed>(alloc: Global, inflater: Inflater, feed: F, hashes: bool) -> PublishedFeed<F>
     ensures remaining { ⟦<PublishedFeed<F> as Feed>⟧.remaining result
         ≡ raw_of (F.remaining feed) }
     ensures opened { Opened (F.remaining feed) (F.has_passed feed) hashes
