@@ -1,4 +1,4 @@
-use Rattle.std.proofs.Common.{◌≡◌, ℤ, List, ◌∷◌, rules, sym, ap, ◌∙◌}
+use Rattle.std.proofs.Common.{ℤ, List, ◌∷◌, rules, sym, ap, ◌∙◌}
 use Rattle.std.proofs.lemmas.Int.{to_z-of_z}
 use mir.Syntax.{w64, w128}
 use mir.Val.{SFits, to_z, of_z}
