@@ -1,5 +1,5 @@
 -- What a halt says of the bytes that were read.
-use Rattle.std.proofs.Common.{◌≡◌, inr, ℕ, Bool, List, [], Option, Some, refl, sym, subst}
+use Rattle.std.proofs.Common.{◌≡◌, inr, ℕ, Bool, List, Option, Some, refl, sym, subst}
 use Rattle.osm_entity.specs.Entity.{EntitySpec}
 use Rattle.pbf_wire.specs.declared.fault.Fault.{Fault}
 use Rattle.pbf_frame.specs.declared.device.Feed as feed
@@ -7,7 +7,6 @@ use Rattle.pbf_frame.specs.declared.device.Drain as drain
 use Rattle.pbf_frame.specs.declared.stop.Stop.{Stop}
 use Rattle.pbf_frame.specs.declared.stop.Stop.TheVariants as stop
 use Rattle.pbf_frame.specs.Refusals.{Refuses}
-use Rattle.pbf_frame.specs.Transfers.{Added}
 use Rattle.pbf_frame.specs.Verdict.{Verdict}
 use Rattle.pbf_frame.proofs.Passed.{added_none}
 use Rattle.pbf_frame.proofs.Refusing.{faulty_as}
