@@ -1,6 +1,6 @@
 //! What no clause says: values from the format's examples, places in a file, and that each call can succeed.
 
-use osm_entity::{MetaRef, NodeRef, Scale};
+use osm_entity::{BoundingBox, MetaRef, NodeRef, Scale};
 use pbf_dense::{Dense, Phase};
 use pbf_strings::Table;
 use pbf_wire::{Fault, Message, Reason};
@@ -119,6 +119,23 @@ fn three_nodes(rt: HostRuntime) -> Result<(), Fail> {
 fn three_nodes_without_metadata(rt: HostRuntime) {
     let table = table_of(&rt, rt.alloc(), &FOUR_TEXTS);
     assert_eq!(rt; meta(&rt, read(&rt, &THREE_NODES, &table)).version, None);
+}
+
+#[test]
+fn ids_in_a_box(rt: HostRuntime) {
+    let table = table_of(&rt, rt.alloc(), &FOUR_TEXTS);
+    let area = BoundingBox {
+        left: 100,
+        bottom: 0,
+        right: 100,
+        top: 100,
+    };
+    let Some(mut ids) = read(&rt, &THREE_NODES, &table).ids_within(&area) else {
+        panic!(rt; "the box has no stored edges");
+    };
+    assert_eq!(rt; ids.next(), Some(10));
+    assert_eq!(rt; ids.next(), Some(15));
+    assert_eq!(rt; ids.next(), None);
 }
 
 #[test]

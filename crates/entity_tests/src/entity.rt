@@ -255,6 +255,37 @@ fn refs_below_a_number(rt: HostRuntime) {
     assert_eq!(rt; passed_below(9), 2);
 }
 
+/// Whether there are numbers, and they are those above one number and below another.
+fn is_span(numbers: Option<Span>, above: i64, below: i64) -> bool {
+    match numbers {
+        Some(span) => span.above == above && span.below == below,
+        None => false,
+    }
+}
+
+#[test]
+fn edges_in_stored_units(rt: HostRuntime) {
+    let lats = SCALE.lat_span(47_050_000_050, 47_270_000_000);
+    assert!(rt; is_span(lats, 470_500_000, 472_700_001));
+    let lons = SCALE.lon_span(-180_000_000_000, 180_000_000_000);
+    assert!(rt; is_span(lons, -1_800_000_001, 1_800_000_001));
+}
+
+#[test]
+fn edges_in_units_of_no_usual_size(rt: HostRuntime) {
+    let farthest = Scale {
+        granularity: i32::MAX,
+        lat_offset: 1 << 60,
+        ..SCALE
+    };
+    assert!(rt; is_span(farthest.lat_span(1 << 60, 1 << 60), -1, 1));
+    let beyond = Scale {
+        lat_offset: (1 << 60) + 1,
+        ..SCALE
+    };
+    assert!(rt; beyond.lat_span(0, 0).is_none());
+}
+
 /// A way whose refs, latitudes and longitudes are in these fields of [`WAY`].
 fn way_in<'a>(table: &'a Table<'a>, refs: u64, lats: u64, lons: u64) -> WayRef<'a> {
     let tags = Tags::Paired(PairedTags::new(way_column(2), way_column(3), table));

@@ -22,6 +22,10 @@ box_of_edges left bottom right top =
     else (if not (is_up_to (pos 90000000000) bottom && is_up_to (pos 90000000000) top) then Err Range
     else box_of_ordered left bottom right top)
 
+-- a number is from low to high
+abbrev pub is_between : ℤ → ℤ → ℤ → Bool
+is_between low high number = int_le low number && int_le number high
+
 -- a place in nanodegrees is in the box, edges included
 abbrev pub is_inside : BoundingBox → ℤ → ℤ → Bool
-is_inside area lat lon = (int_le area.bottom lat && int_le lat area.top) && (int_le area.left lon && int_le lon area.right)
+is_inside area lat lon = is_between area.bottom area.top lat && is_between area.left area.right lon

@@ -6,7 +6,8 @@ use Rattle.std.specs.Int.{int_div_euclid}
 use Rattle.pbf_wire.specs.Spans.{is_in}
 use Rattle.pbf_wire.specs.declared.span.Span.{Span}
 use Rattle.pbf_wire.proofs.SpanLemmas.{in_span, span_has}
-use Rattle.osm_entity.specs.Scale.{nano, is_between}
+use Rattle.osm_box.specs.BoundingBox.{is_between}
+use Rattle.osm_entity.specs.Scale.{nano}
 use Rattle.std.specs.Int.{Width, w32, w64, w128}
 use Rattle.std.proofs.lemmas.Int.{ints, by_lt_z, unsigned_abs-mul}
 use Rattle.std.proofs.Math.Nat.{mul-le-mul}

@@ -1,5 +1,5 @@
 -- What stored numbers mean.
-use Rattle.std.specs.Prelude.{ℤ, pos, Bool, ◌&&◌, ◌+ℤ◌, ◌*ℤ◌, ◌≤ℤ◌, int_le}
+use Rattle.std.specs.Prelude.{ℤ, pos, ◌+ℤ◌, ◌*ℤ◌, ◌≤ℤ◌}
 use Rattle.osm_entity.specs.declared.scale.Scale.{Scale}
 
 -- an offset and a number of units
@@ -16,10 +16,6 @@ nano_lon scale lon = nano scale.lon_offset scale.granularity lon
 -- milliseconds
 abbrev pub millis : Scale → ℤ → ℤ
 millis scale timestamp = scale.date_granularity *ℤ timestamp
-
--- a number is from low to high
-abbrev pub is_between : ℤ → ℤ → ℤ → Bool
-is_between low high number = int_le low number && int_le number high
 
 -- both granularities are at least 1
 pub record ScaleFits (scale : Scale) : Type 0 where

@@ -3,7 +3,8 @@
 ghost use Rattle.std.specs.Prelude.{◌≡◌, ◌↔◌, ◌≤◌, ◌≤ℤ◌, ◌^◌, ◌*ℤ◌, ⊤, ℤ, pos, IsTrue, MatchOption, nat_abs};
 ghost use Rattle.std.specs.Int.{int_div_euclid};
 ghost use Rattle.pbf_wire.specs.Spans.{is_in};
-ghost use Rattle.osm_entity.specs.Scale.{nano, nano_lat, nano_lon, millis, is_between, ScaleFits};
+ghost use Rattle.osm_box.specs.BoundingBox.{is_between};
+ghost use Rattle.osm_entity.specs.Scale.{nano, nano_lat, nano_lon, millis, ScaleFits};
 
 use pbf_wire::Span;
 

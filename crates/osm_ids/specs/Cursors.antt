@@ -40,13 +40,13 @@ pub record Stands (index : List PageStart) (bytes : List ℕ) (begun : ℕ) (pag
   pub inside : (id : ℤ) → list_any (int_eq id) ids ≡ true → IsPassedAt index id begun
   pub answer : (id : ℤ) → IsPassedAt index id begun → list_any (int_eq id) ids ≡ list_any (int_eq id) (ids_in index bytes)
 
--- of the ids between the two, the set that an index and bytes stand for has all, or none
+-- of the ids of a span, the set that an index and bytes stand for has all, or none
 abbrev pub AreKnown : List PageStart → List ℕ → Known → Type 0
-AreKnown index bytes known = (id : ℤ) → known.above <ℤ id → id <ℤ known.below → list_any (int_eq id) (ids_in index bytes) ≡ known.there
+AreKnown index bytes known = (id : ℤ) → known.span.above <ℤ id → id <ℤ known.span.below → list_any (int_eq id) (ids_in index bytes) ≡ known.there
 
--- of the ids between the two, a set has all, or none
+-- of the ids of a span, a set has all, or none
 abbrev pub IsKnown : set.FinSet int_cmp → Known → Type 0
-IsKnown ids known = (id : ℤ) → known.above <ℤ id → id <ℤ known.below → set.contains ids id ≡ known.there
+IsKnown ids known = (id : ℤ) → known.span.above <ℤ id → id <ℤ known.span.below → set.contains ids id ≡ known.there
 
 -- a set has none of these ids
 abbrev pub Lacks : set.FinSet int_cmp → Span → Type 0

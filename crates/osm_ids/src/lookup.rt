@@ -11,27 +11,22 @@ ghost use Rattle.std.specs.Ordering.{int_cmp};
 
 use crate::page::{Cursor, read_up_to, short_step};
 use crate::pages::{PAGE, PageStart, SealedIds};
-use pbf_wire::Span;
+use pbf_wire::{EMPTY_SPAN, Span};
 use std::marker::Model;
 
-/// What is known of the ids above one number and below another: the set has all of them, or none. A look-up learns it, and another
-/// one in the same set can begin with it.
+/// What is known of the ids of a span: the set has all of them, or none. A look-up learns it, and another one in the same set can begin
+/// with it.
 #[derive(Clone, Copy)]
 pub struct Known {
-    pub(crate) above: i64,
-    pub(crate) below: i64,
+    pub(crate) span: Span,
     pub(crate) there: bool,
 }
 
-/// No id is between these.
+/// What says nothing.
 const NOTHING: Known = Known {
-    above: 0,
-    below: 0,
+    span: EMPTY_SPAN,
     there: false,
 };
-
-/// No id is one of these.
-pub(crate) const NO_IDS: Span = Span { above: 0, below: 0 };
 
 impl Known {
     /// The ids that the set lacks, as far as this says: none if it has them.
@@ -39,14 +34,7 @@ impl Known {
     fn absent(self) -> Span
         ensures { (ids : set.FinSet int_cmp) → IsKnown ids self → Lacks ids result }
     {
-        if self.there {
-            NO_IDS
-        } else {
-            Span {
-                above: self.above,
-                below: self.below,
-            }
-        }
+        if self.there { EMPTY_SPAN } else { self.span }
     }
 
     /// Nothing is known, of whatever set.
@@ -241,9 +229,9 @@ fn short_step_to(page: &[u8], from: Cursor, id: i64) -> Option<Cursor>
 
 /// Whether the id is one of these.
 fn is_within(known: Known, id: i64) -> bool
-    ensures { IsTrue result → (known.above <ℤ id) × (id <ℤ known.below) }
+    ensures { IsTrue result → (known.span.above <ℤ id) × (id <ℤ known.span.below) }
 {
-    known.above < id && id < known.below
+    known.span.has(id)
 }
 
 /// The ids round one that was read up to: those between two of the set of which one follows the other.
@@ -253,17 +241,17 @@ fn known_near(index: &[PageStart], begun: usize, cursor: Cursor, id: i64) -> Kno
         → AreKnown index.now bytes result }
 {
     if id <= cursor.last {
-        return Known {
+        let span = Span {
             above: cursor.passed,
             below: cursor.last,
-            there: false,
         };
+        return Known { span, there: false };
     }
-    Known {
+    let span = Span {
         above: cursor.last,
         below: first_from(index, begun),
-        there: false,
-    }
+    };
+    Known { span, there: false }
 }
 
 /// The ids below the first page's.
@@ -271,11 +259,11 @@ fn known_first(index: &[PageStart]) -> Known
     ensures { (bytes : List ℕ) (pages : List Page) → IsSealed index.now bytes pages
         → AreKnown index.now bytes result }
 {
-    Known {
+    let span = Span {
         above: i64::MIN,
         below: first_from(index, 0),
-        there: false,
-    }
+    };
+    Known { span, there: false }
 }
 
 /// The ids of a page, if the next page begins 128 above its first: it has 128, so the set has all between. None is read then.
@@ -293,11 +281,11 @@ fn known_whole(index: &[PageStart], begun: usize) -> Option<Known>
     if next.first.abs_diff(first) != PAGE {
         return None;
     }
-    Some(Known {
+    let span = Span {
         above: first,
         below: next.first,
-        there: true,
-    })
+    };
+    Some(Known { span, there: true })
 }
 
 /// The first id of the page at a place of the index, and after the last page the greatest number.

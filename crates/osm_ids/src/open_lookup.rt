@@ -5,8 +5,8 @@ ghost use Rattle.std.specs.FinSet as set;
 ghost use Rattle.std.specs.Ordering.{int_cmp};
 ghost use Rattle.osm_ids.specs.Cursors.{IsKnown, Lacks};
 
-use crate::lookup::{Known, Lookup, NO_IDS};
-use pbf_wire::Span;
+use crate::lookup::{Known, Lookup};
+use pbf_wire::{EMPTY_SPAN, Span};
 use std::collections::BTreeSet;
 use std::marker::Model;
 
@@ -85,7 +85,7 @@ impl IdLookup for OpenLookup<'_> {
         if self.late.is_empty() {
             self.laid.absent()
         } else {
-            NO_IDS
+            EMPTY_SPAN
         }
     }
 }

@@ -125,18 +125,6 @@ pub struct UnmadeWay<'a> {
 }
 
 impl<'a> UnmadeWay<'a> {
-    /// Its id. Nothing else of the message is read.
-    #[inline(always)]
-    #[tactic(auto, unfolding(crate::specs::Way::way_in))]
-    pub fn id(&self) -> i64
-        ensures { result ≡ (way_from self.now).id }
-    {
-        match plain_way(self.message.bytes) {
-            Some(way) => low_i64(way.id),
-            None => last_wide(self.message.fields(), ID),
-        }
-    }
-
     /// Its refs. Nothing else of the message is read.
     #[inline(always)]
     #[tactic(auto, unfolding(crate::specs::Way::way_in))]

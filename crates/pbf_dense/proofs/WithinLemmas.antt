@@ -5,11 +5,12 @@ use Rattle.std.proofs.lemmas.List.{length-drop}
 use Rattle.pbf_wire.specs.Spans.{is_in, AreAlike}
 use Rattle.pbf_wire.specs.declared.span.Span.{Span}
 use Rattle.pbf_wire.proofs.SpanLemmas.{IsPast, one_past}
+use Rattle.osm_box.specs.BoundingBox.{is_between}
 use Rattle.osm_box.specs.declared.bounding_box.BoundingBox.{BoundingBox}
 use Rattle.osm_entity.specs.declared.scale.Scale.{Scale}
 use Rattle.osm_entity.specs.Entity.{NodeSpec}
 use Rattle.osm_entity.specs.Sources.{tag_of, run}
-use Rattle.osm_entity.specs.Scale.{nano_lat, nano_lon, is_between}
+use Rattle.osm_entity.specs.Scale.{nano_lat, nano_lon}
 use Rattle.pbf_dense.specs.Info.{InfoSpec, meta_at, info_rest}
 use Rattle.pbf_dense.specs.Runs.{after_run}
 use Rattle.pbf_dense.specs.Nodes.{nodes_of_columns}

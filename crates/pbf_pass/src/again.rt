@@ -1,7 +1,7 @@
 //! A pass after the one that judged the file. It reads frames and gathers their entities, and judges no payload: that its bytes are
 //! those of the first pass is seen by their digest, at the end.
 
-ghost use Rattle.std.specs.Prelude.{◌≡◌, ◌≤◌, ◌<◌, ◌+◌, [], ◌∷◌, Some, IfOk, IfErr, OnOk, length};
+ghost use Rattle.std.specs.Prelude.{◌≡◌, ◌≤◌, [], ◌∷◌, Some, IfOk, IfErr, OnOk};
 ghost use Rattle.pbf_frame.specs.Next.{place_of, held_by};
 ghost use Rattle.pbf_pass.specs.Again.{GathersPayload, GathersFrame, GathersFile, StopsAtPayload, StopsAtFrame, StopsUnjudged, ReadsFaulty};
 ghost use Rattle.pbf_pass.specs.Given.{GaveFile};
@@ -13,7 +13,6 @@ ghost use Rattle.pbf_pass.specs.Stops.{ReadFailed};
 ghost use Rattle.pbf_frame.specs.Keeps.{KeepsFeed};
 ghost use Rattle.pbf_frame.specs.declared.frame.TheConstants.{FILE_LIMIT};
 ghost use Rattle.pbf_frame.specs.declared.reader.TheConstants.{MOST_BUFFERED};
-ghost use Rattle.pbf_wire.specs.declared.limits.TheConstants.{OFFSET_LIMIT, RAW_LIMIT};
 
 use crate::pass::{Gather, gather_runs};
 use crate::receipt::Passes;
@@ -25,18 +24,16 @@ use std::alloc::Global;
 /// Gathers those entities of a PrimitiveBlock that matter, if it has no fault, in a pass of this number.
 fn gather_block<G: Gather>(
     alloc: Global,
-    payload: &[u8],
-    at: u64,
+    frame: &Frame<'_>,
     gathering: &mut G,
     number: u8,
 ) -> Result<(), Stop>
-    requires placed { at + length payload.now ≤ OFFSET_LIMIT }
-    requires short { length payload.now < RAW_LIMIT }
     ensures gathered { OnOk result (GathersPayload G.gathered gathering.old gathering.new
-        (primitive_block at payload.now)) }
-    ensures stopped { IfErr result (StopsAtPayload number ⊥ (primitive_block at payload.now)) }
+        (primitive_block frame.now.payload_at frame.now.payload.now)) }
+    ensures stopped { IfErr result (StopsAtPayload number ⊥
+        (primitive_block frame.now.payload_at frame.now.payload.now)) }
 {
-    let Some(block) = UnjudgedBlock::open(alloc, payload, at)? else {
+    let Some(block) = UnjudgedBlock::open(alloc, frame.payload, frame.payload_at)? else {
         return Err(Stop::Changed(number));
     };
     gather_runs(block.runs_among(G::kinds()), gathering)?;
@@ -55,9 +52,7 @@ fn gather_payload<G: Gather>(
     ensures stopped { IfErr result (StopsAtPayload number ⊥ (lent_by frame.now)) }
 {
     match frame.kind {
-        FrameKind::Data => {
-            gather_block(alloc, frame.payload, frame.payload_at, gathering, number)
-        }
+        FrameKind::Data => gather_block(alloc, frame, gathering, number),
         FrameKind::Header | FrameKind::Other => Ok(()),
     }
 }

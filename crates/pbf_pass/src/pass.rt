@@ -1,6 +1,6 @@
 //! A pass over a file: what it takes and gathers frame by frame, and the loop that judges the whole file.
 
-ghost use Rattle.std.specs.Prelude.{◌≡◌, ◌≤◌, ◌<◌, ◌+◌, [], ◌∷◌, false, None, Some, Err, IfOk, IfErr, OnOk, length, map};
+ghost use Rattle.std.specs.Prelude.{◌≡◌, ◌≤◌, ◌+◌, [], ◌∷◌, false, None, Some, Err, IfOk, IfErr, OnOk, length, map};
 ghost use Rattle.std.specs.List.{fold};
 ghost use Rattle.osm_entity.specs.Entity.{EntitySpec, node, way};
 ghost use Rattle.osm_entity.specs.Views.{entity_of};
@@ -23,7 +23,7 @@ ghost use Rattle.pbf_pass.specs.Stops.{Caused, FaultOf, unchanged, ReadFailed};
 ghost use Rattle.pbf_frame.specs.Keeps.{KeepsFeed};
 ghost use Rattle.pbf_frame.specs.declared.frame.TheConstants.{FILE_LIMIT};
 ghost use Rattle.pbf_frame.specs.declared.reader.TheConstants.{MOST_BUFFERED};
-ghost use Rattle.pbf_wire.specs.declared.limits.TheConstants.{OFFSET_LIMIT, RAW_LIMIT};
+ghost use Rattle.pbf_wire.specs.declared.limits.TheConstants.{OFFSET_LIMIT};
 
 use crate::receipt::{Halt, Passes};
 use crate::visit::{FileRead, Visit, pass_over, step};
@@ -280,9 +280,7 @@ impl Pass {
     {
         match frame.kind {
             FrameKind::Header => self.take_header(alloc, frame.payload, frame.payload_at)?,
-            FrameKind::Data => {
-                self.take_block(alloc, frame.payload, frame.payload_at, gathering)?;
-            }
+            FrameKind::Data => self.take_block(alloc, frame, gathering)?,
             FrameKind::Other => {}
         }
         Ok(())
@@ -306,18 +304,15 @@ impl Pass {
     fn take_block<G: Gather>(
         &mut self,
         alloc: Global,
-        payload: &[u8],
-        at: u64,
+        frame: &Frame<'_>,
         gathering: &mut G,
     ) -> Result<(), ReadFault>
-        requires placed { at + length payload.now ≤ OFFSET_LIMIT }
-        requires short { length payload.now < RAW_LIMIT }
-        ensures taken { OnOk result (TakesAll G.gathered (primitive_block at payload.now)
-            self.old self.new gathering.old gathering.new) }
-        ensures refused { (fault : Fault) → result ≡ Err (Refused fault)
-            → fault_in (primitive_block at payload.now) ≡ Some fault }
+        ensures taken { let p = primitive_block frame.now.payload_at frame.now.payload.now in
+            OnOk result (TakesAll G.gathered p self.old self.new gathering.old gathering.new) }
+        ensures refused { (fault : Fault) → result ≡ Err (Refused fault) → fault_in
+            (primitive_block frame.now.payload_at frame.now.payload.now) ≡ Some fault }
     {
-        let block = Block::read(alloc, payload, at)?;
+        let block = Block::read(alloc, frame.payload, frame.payload_at)?;
         gather_entities(&block, gathering)?;
         self.counts.add(block.counts());
         Ok(())

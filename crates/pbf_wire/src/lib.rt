@@ -46,7 +46,7 @@ pub use message::Message;
 pub use reading::{last_field, last_number, last_value_left};
 pub use short::is_short;
 pub use signed::{low_i32, low_i64, low_sint32, low_u32, sign_extended, unzigzag, zigzag};
-pub use span::Span;
+pub use span::{EMPTY_SPAN, Span};
 pub use structure::{column_count, judge_missing, judge_twice};
 pub use sum::Sum;
 pub use sums::Sums;

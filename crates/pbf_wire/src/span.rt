@@ -10,6 +10,9 @@ pub struct Span {
     pub below: i64,
 }
 
+/// The span without a number.
+pub const EMPTY_SPAN: Span = Span { above: 0, below: 0 };
+
 impl Span {
     /// Whether a number is one of these.
     #[inline(always)]

@@ -27,7 +27,7 @@ use pbf_block::{Block, Counts, Kinds, Run, Runs, UnmadeWay};
 use pbf_dense::Dense;
 use pbf_frame::{Drain, Feed, Frame, FrameKind, FrameReader, Stop};
 use pbf_pass::Pass;
-use pbf_wire::Span;
+use pbf_wire::{EMPTY_SPAN, Span};
 use std::alloc::Global;
 use std::hash::BuildHasher;
 
@@ -98,7 +98,7 @@ impl<'a> Picker<'a> {
         ensures { (id : ℤ) → is_in result id ≡ true → picks_id self.now id ≡ false }
     {
         match &self.chooser {
-            None => Span { above: 0, below: 0 },
+            None => EMPTY_SPAN,
             Some(chooser) => chooser.absent(),
         }
     }

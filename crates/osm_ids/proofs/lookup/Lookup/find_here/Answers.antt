@@ -19,7 +19,7 @@ returns-then-is_within-clause-found c =
     let known = c.self.inside.here.known in
     let within = c.if-is_within.ensures refl in
     let same = to_z-of_z w64 id c.ranges.id in
-    sym (c.self.invariant.1.known id (subst (λ z. known.above <ℤ z) same within.0) (subst (λ z. z <ℤ known.below) same within.1))
+    sym (c.self.invariant.1.known id (subst (λ z. known.span.above <ℤ z) same within.0) (subst (λ z. z <ℤ known.span.below) same within.1))
     ∙ sym (contains-ids_of (ids_in c.self.inside.index.now c.self.inside.bytes.now) id)
     ∙ ap (λ s. set.contains s id) c.self.view_is
 

@@ -2,8 +2,9 @@ use Rattle.std.proofs.Common.{ℤ, map, ap₂, ◌∙◌, rules, w64}
 use mir.Val.{SFits}
 use Rattle.std.proofs.lemmas.Int.{to_z-of_z}
 use Rattle.pbf_wire.specs.Cursors.{numbers_left, sums_left}
+use Rattle.osm_box.specs.BoundingBox.{is_between}
 use Rattle.osm_entity.specs.Sources.{low_32}
-use Rattle.osm_entity.specs.Scale.{nano_lat, nano_lon, is_between}
+use Rattle.osm_entity.specs.Scale.{nano_lat, nano_lon}
 use Rattle.pbf_dense.specs.Cursors.{dense_left, info_left}
 use Rattle.pbf_dense.specs.Within.{ids_within_left}
 use Rattle.pbf_dense.proofs.WithinLemmas.{within_are}
