@@ -37,7 +37,7 @@ use Rattle.pbf_pass.specs.HeaderLimit.{HasShortTexts, header_limit, judged_writa
 use Rattle.pbf_pass.specs.Counting.{counts_of, stored_entities}
 use Rattle.pbfcut.specs.Calls.{GaveOrNot, Differ, ChangedIn, ChangedBefore, RefusedFirst, ConvertStops, ExtractStops, ParentsStops}
 use Rattle.pbfcut.specs.Theorem.{IsExtraction}
-use Rattle.pbfcut.specs.Extracting.{Choice, complete_ways, all_parents, extraction, extract_bytes, Chooses, ChoosesParents, IsChoice, IsChoiceWithParents}
+use Rattle.pbfcut.specs.Extracting.{Choice, complete_ways, all_parents, extraction, extract_bytes, Begins, Chooses, ChoosesParents, IsChoice, IsChoiceWithParents}
 use Rattle.pbfcut.specs.Kept.{verdict_on, extract_of, IsWritable}
 use Rattle.pbf_pass.proofs.GivenLemmas.{IsDigest, gave_file_less}
 use Rattle.pbf_pass.specs.Given.{GaveFile, Took}
@@ -48,7 +48,11 @@ use Rattle.pbf_pass.specs.declared.receipt.Passes.{Passes}
 use Rattle.pbfcut.specs.declared.repeat.LaterPass.{LaterPass}
 use Rattle.pbfcut.specs.Repeat.{IsUnlike, GathersRest, StopsAgain, digest_of}
 use Rattle.pbf_pass.specs.Hashing.{IsDigestOf, digest_if}
-use Rattle.pbf_pass.specs.Stops.{Caused, ReadFailed}
+use Rattle.pbf_pass.specs.Stops.{Caused, FaultOf, ReadFailed, unchanged}
+use Rattle.pbf_pass.specs.declared.receipt.Halt.{Halt}
+use Rattle.pbf_pass.specs.Refused.{stop_of}
+use Rattle.pbfcut.specs.Choosing.{StopsFirst, StopsChoosing}
+use Rattle.pbfcut.proofs.ChangedLemmas.{never_changed}
 use Rattle.pbf_pass.specs.Again.{GathersFile}
 use Rattle.pbf_pass.specs.Judged.{judged_file}
 use Rattle.pbfcut.specs.Pick.{Pick, picked_by, pick_of}
@@ -155,17 +159,29 @@ module _ (choose : Choice) (select : List Decoded → List Decoded) (selection :
 
 -- ---- the passes that choose
 
-pub chooses : (area : BoundingBox) (first second : Option Verdict) (pass : Pass) (header h : HeaderSpec) (begun nodes : NodeSets) (started ways : WaySets) → TakesFile with_node first begun nodes pass → begun ≡ start_nodes area
-    → held_header pass ≡ Some (pass.header_at, header) → header_limit (held_header pass) ≡ None → h ≡ header_out_for_box area header → started ≡ start_ways nodes.box_ids → GathersFile with_way second started ways → Chooses area first second ways h
-chooses area first second pass header h begun nodes started ways p new held within is starts more =
+-- what the first pass reports, from what it took
+pub begins : {S : Type 0} (gathered : S → EntitySpec → S) (area : BoundingBox) (b : List ℕ) (pass : Pass) (header h : HeaderSpec) (before now : S) → TakesFile gathered (judged_file (Some b)) before now pass → held_header pass ≡ Some (pass.header_at, header)
+    → header_limit (held_header pass) ≡ None → h ≡ header_out_for_box area header → HasShortTexts h → Begins gathered area b before now h
+begins gathered area b pass header h before now p held within is short =
     let told = held_is (file_header p.frames) pass p.header in
     record {
       frames = p.frames;
       judged = p.says;
       within = ap header_limit (sym told) ∙ within;
       header = ap (λ (o : Option (ℕ × HeaderSpec)). option_map (λ p. header_out_for_box area p.1) o) (sym told ∙ held) ∙ ap (λ (g : HeaderSpec). Some g) (sym is);
-      chosen = λ frames known. more frames known ∙ ap (λ (s : WaySets). fold with_way s (stored_entities frames)) (starts ∙ ap (λ (s : NodeSets). start_ways s.box_ids) (p.gathered_all ∙ ap (λ (s : NodeSets). fold with_node s (stored_entities p.frames)) new));
+      short = short;
+      gathered_all = p.gathered_all;
     }
+
+pub chooses : (area : BoundingBox) (b : List ℕ) (second : Option Verdict) (h : HeaderSpec) (begun nodes : NodeSets) (started ways : WaySets) → Begins with_node area b begun nodes h → begun ≡ start_nodes area → started ≡ start_ways nodes.box_ids → GathersFile with_way second started ways
+    → Chooses area (judged_file (Some b)) second ways h
+chooses area b second h begun nodes started ways p new starts more = record {
+  frames = p.frames;
+  judged = p.judged;
+  within = p.within;
+  header = p.header;
+  chosen = λ frames known. more frames known ∙ ap (λ (s : WaySets). fold with_way s (stored_entities frames)) (starts ∙ ap (λ (s : NodeSets). start_ways s.box_ids) (p.gathered_all ∙ ap (λ (s : NodeSets). fold with_node s (stored_entities p.frames)) new));
+}
 
 -- the first file can be written
 pub chosen_sound : (area : BoundingBox) (b : List ℕ) (second : Option Verdict) (sets : WaySets) (h : HeaderSpec) → Chooses area (judged_file (Some b)) second sets h → IsWritable b
@@ -209,6 +225,14 @@ stops_earlier refused also read more wrote changed too stop.Read f r d h = r h
 stops_earlier refused also read more wrote changed too stop.Write f r d h = absurd h
 stops_earlier refused also read more wrote changed too stop.Memory f r d h = tt
 stops_earlier refused also read more wrote changed too (stop.Changed n) f r d h = d n h
+
+-- the stops of the first pass, in a call with two before the one that writes
+pub stops_choosing : {F G : Type 0} (f : feed.Ghosts F) (first now : F) (g : feed.Ghosts G) (second later : G) (hashes : Bool) (h : Halt) → StopsFirst f first now hashes h → StopsChoosing f first now g second later hashes h
+stops_choosing f first now g second later hashes h s = record {
+  refused = s.refused;
+  stops = stops_earlier (FaultOf (judged_writable (f.remaining first))) (FaultOf (judged_writable (f.remaining first))) (ReadFailed f first now) (ReadFailed f first now ⊎ ReadFailed g second later) ⊥ unchanged (ChangedIn 2 (f.remaining first) (g.remaining second)) (stop_of h) (λ e is. is) (λ r. inl r) (λ pass h. absurd h) s.stops;
+  changed = never_changed _ _ _ _ (stop_of h) s.stops;
+}
 
 -- a selection by what was chosen
 pub selects_chosen : (chosen : Bor Chosen) (area : BoundingBox) (b first second : List ℕ) (h : HeaderSpec) → first ≡ b → second ≡ b → IsChoice area first second chosen.now h → Selects b (complete_ways area) area (pick_of (Some chosen)) h
@@ -293,11 +317,9 @@ same_frames b one two e f = let same : ◌≡◌ {A = Option Verdict} (Some (one
   parted same = let pair : ◌≡◌ {A = Verdict} (one, None) (two, None) = cc in ap (λ (v : Verdict). v.0) pair
 
 -- what the first pass took, and a second one if the order was broken
-module _ {G : Type 0} (f : feed.Ghosts G) (old new : G) (digest : Option (List ℕ)) (area : BoundingBox) (b : List ℕ) (pass : Pass) (header h : HeaderSpec) (begun phase : FirstSets) (started ways : WaySets) (sets : KeptSets) where
-  pub chooses_first : (in_order : Bool) → TakesFile with_first (judged_file (Some b)) begun phase pass → begun ≡ start_first area → held_header pass ≡ Some (pass.header_at, header) → header_limit (held_header pass) ≡ None → h ≡ header_out_for_box area header → HasShortTexts h
-      → in_order ≡ phase.in_order → started ≡ phase.ways → GathersRest f with_way in_order old new digest started ways → sets ≡ without_parents ways → GaveOrNot f old new digest b (λ c. IsChoice area b c sets h)
-  chooses_first true p fresh held within is short order starts rest ends =
-      let told = held_is (file_header p.frames) pass p.header in
+module _ {G : Type 0} (f : feed.Ghosts G) (old new : G) (digest : Option (List ℕ)) (area : BoundingBox) (b : List ℕ) (h : HeaderSpec) (begun phase : FirstSets) (started ways : WaySets) (sets : KeptSets) where
+  pub chooses_first : (in_order : Bool) → Begins with_first area b begun phase h → begun ≡ start_first area → in_order ≡ phase.in_order → started ≡ phase.ways → GathersRest f with_way in_order old new digest started ways → sets ≡ without_parents ways → GaveOrNot f old new digest b (λ c. IsChoice area b c sets h)
+  chooses_first true p fresh order starts rest ends =
       let es = stored_entities p.frames in
       let taken : phase ≡ fold with_first (start_first area) es = p.gathered_all ∙ ap (λ (s : FirstSets). fold with_first s es) fresh in
       let came = ways_came area es (ap (λ (s : FirstSets). s.in_order) (sym taken) ∙ sym order) in
@@ -308,16 +330,15 @@ module _ {G : Type 0} (f : feed.Ghosts G) (old new : G) (digest : Option (List �
           kept = ends;
           chosen = record {
             frames = p.frames;
-            judged = p.says;
-            within = ap header_limit (sym told) ∙ within;
-            header = ap (λ (o : Option (ℕ × HeaderSpec)). option_map (λ p. header_out_for_box area p.1) o) (sym told ∙ held) ∙ ap (λ (g : HeaderSpec). Some g) (sym is);
-            chosen = λ frames known. rest.1 ∙ starts ∙ ap (λ (s : FirstSets). s.ways) taken ∙ came ∙ ap (λ (l : List FrameSpec). fold with_way (nodes_of area es) (stored_entities l)) (same_frames b p.frames frames (known_says b (p.frames, None) p.says) known);
+            judged = p.judged;
+            within = p.within;
+            header = p.header;
+            chosen = λ frames known. rest.1 ∙ starts ∙ ap (λ (s : FirstSets). s.ways) taken ∙ came ∙ ap (λ (l : List FrameSpec). fold with_way (nodes_of area es) (stored_entities l)) (same_frames b p.frames frames (known_says b (p.frames, None) p.judged) known);
           };
-          short = short;
+          short = p.short;
         },
       )
-  chooses_first false p fresh held within is short order starts rest ends =
-      let told = held_is (file_header p.frames) pass p.header in
+  chooses_first false p fresh order starts rest ends =
       let es = stored_entities p.frames in
       let taken : phase ≡ fold with_first (start_first area) es = p.gathered_all ∙ ap (λ (s : FirstSets). fold with_first s es) fresh in
       let wait = ways_wait area es (ap (λ (s : FirstSets). s.in_order) (sym taken) ∙ sym order) in
@@ -326,12 +347,12 @@ module _ {G : Type 0} (f : feed.Ghosts G) (old new : G) (digest : Option (List �
         kept = ends;
         chosen = record {
           frames = p.frames;
-          judged = p.says;
-          within = ap header_limit (sym told) ∙ within;
-          header = ap (λ (o : Option (ℕ × HeaderSpec)). option_map (λ p. header_out_for_box area p.1) o) (sym told ∙ held) ∙ ap (λ (g : HeaderSpec). Some g) (sym is);
+          judged = p.judged;
+          within = p.within;
+          header = p.header;
           chosen = λ frames known. more frames known ∙ ap (λ (s : WaySets). fold with_way s (stored_entities frames)) (starts ∙ ap (λ (s : FirstSets). s.ways) taken ∙ wait);
         };
-        short = short;
+        short = p.short;
       }) rest)
 
 -- the pass that writes, after passes that chose

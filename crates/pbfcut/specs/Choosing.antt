@@ -4,9 +4,14 @@ use Rattle.pbf_frame.specs.declared.device.Feed as feed
 use Rattle.pbf_pass.specs.declared.receipt.Halt.{Halt}
 use Rattle.pbf_pass.specs.HeaderLimit.{judged_writable}
 use Rattle.pbf_pass.specs.Refused.{RefusesFile, Halts, stop_of}
-use Rattle.pbf_pass.specs.Stops.{Caused, FaultOf, ReadFailed}
+use Rattle.pbf_pass.specs.Stops.{Caused, FaultOf, ReadFailed, unchanged}
 use Rattle.pbfcut.specs.Calls.{ChangedIn}
 use Rattle.pbfcut.specs.Changes.{ChangedAt, IfChanged}
+
+-- the first pass stops: its feed's file is refused, or a read failed
+pub record StopsFirst {F : Type 0} (f : feed.Ghosts F) (first now : F) (hashes : Bool) (h : Halt) : Type 0 where
+  pub refused : Halts (RefusesFile f first now hashes (λ b. judged_writable (Some b))) h
+  pub stops : Caused (FaultOf (judged_writable (f.remaining first))) (ReadFailed f first now) ⊥ unchanged (stop_of h)
 
 -- the first feed's file is refused, whether its bytes are reported or not; a read failed; or the second feed gave other bytes
 pub record StopsChoosing {F G : Type 0} (f : feed.Ghosts F) (first now : F) (g : feed.Ghosts G) (second later : G) (hashes : Bool) (h : Halt) : Type 0 where

@@ -45,6 +45,16 @@ extract_bytes choose area (frames, Some e) = []
 
 -- ---- the passes that choose
 
+-- what the first pass reports of a file: it has no fault and a header that can be written, its entities were gathered, and the header is its
+-- with the box
+pub record Begins {S : Type 0} (gathered : S → EntitySpec → S) (area : BoundingBox) (file : List ℕ) (before now : S) (h : HeaderSpec) : Type 0 where
+  pub frames : List FrameSpec
+  pub judged : Says (judged_file (Some file)) (frames, None)
+  pub within : header_limit (file_header frames) ≡ None
+  pub header : option_map (λ p. header_out_for_box area p.1) (file_header frames) ≡ Some h
+  pub short : HasShortTexts h
+  pub gathered_all : now ≡ fold gathered before (stored_entities frames)
+
 -- the first file has no fault, and the header is its with the box; the sets are those of its nodes and of the other's ways, if that has no
 -- fault
 pub record Chooses (area : BoundingBox) (first second : Option Verdict) (sets : WaySets) (h : HeaderSpec) : Type 0 where

@@ -8,12 +8,12 @@ ghost use Rattle.pbf_header.specs.Header.{header_of};
 ghost use Rattle.pbf_frame.specs.Devices.{IsFront};
 ghost use Rattle.pbf_frame.specs.Transfers.{Added};
 ghost use Rattle.pbfcut.specs.Calls.{AllSupply, FourSupply, ExtractStops, ParentsStops};
-ghost use Rattle.pbfcut.specs.Choosing.{StopsChoosing, StopsChoosingParents};
+ghost use Rattle.pbfcut.specs.Choosing.{StopsFirst, StopsChoosing, StopsChoosingParents};
 ghost use Rattle.pbfcut.specs.Changes.{ChangedAt, IfChanged};
 ghost use Rattle.pbfcut.specs.Theorem.{Extracted, IsExtraction, Promised, Canonical};
 ghost use Rattle.pbfcut.specs.Converting.{CanBeWritten};
 ghost use Rattle.pbf_pass.specs.HeaderLimit.{judged_writable};
-ghost use Rattle.pbfcut.specs.Extracting.{complete_ways, all_parents, extract_bytes, IsChoice, IsChoiceWithParents};
+ghost use Rattle.pbfcut.specs.Extracting.{complete_ways, all_parents, extract_bytes, Begins, IsChoice, IsChoiceWithParents};
 ghost use Rattle.pbf_pass.specs.Given.{GaveFile, Took};
 ghost use Rattle.pbf_pass.specs.Hashing.{digest_if};
 ghost use Rattle.pbfcut.specs.Kept.{IsWritable, extract_of};
@@ -29,7 +29,7 @@ use osm_ways::{Chosen, NodePhase};
 use pbf_block::Counts;
 use pbf_frame::{Drain, Feed, Stop};
 use pbf_header::Header;
-use pbf_pass::{Halt, InputReceipt, Passes, judge, writable_header};
+use pbf_pass::{Gather, Halt, InputReceipt, Passes, judge, writable_header};
 use std::alloc::Global;
 use std::hash::BuildHasher;
 
@@ -38,6 +38,15 @@ use std::hash::BuildHasher;
 pub(crate) struct Cutting {
     pub(crate) passes: Passes,
     pub(crate) area: BoundingBox,
+}
+
+/// What the first pass reports.
+#[derive(Drop)]
+pub(crate) struct Begun {
+    /// The header that is written.
+    pub(crate) header: Header,
+    /// The digest of the bytes.
+    pub(crate) digest: [u8; 32],
 }
 
 /// What the passes before the one that writes report.
@@ -51,6 +60,28 @@ pub(crate) struct Choice {
     pub(crate) digest: [u8; 32],
 }
 
+impl Cutting {
+    /// The first pass, which judges the file, gathers its entities, and makes the header of the extract.
+    pub(crate) fn begin<F: Feed, G: Gather>(
+        self,
+        feed: &mut F,
+        gathering: &mut G,
+    ) -> Result<Begun, Halt>
+        ensures begun { IfOk result (λ begun. GaveFile F.Feed feed.old feed.new
+            (digest_if self.passes.hashes begun.digest) (λ b. Begins G.gathered self.area b
+            gathering.old gathering.new (header_of begun.header))) }
+        ensures halts { IfErr result (StopsFirst F.Feed feed.old feed.new self.passes.hashes) }
+        ensures keeps { KeepsFeed F.Feed feed.old feed.new }
+    {
+        let judged = judge(self.passes, feed, gathering)?;
+        let header = writable_header(&judged)?.for_box(self.passes.alloc, self.area)?;
+        Ok(Begun {
+            header,
+            digest: judged.digest,
+        })
+    }
+}
+
 /// The passes before the one that writes: the first judges the file and takes the nodes of the box, the second takes the ways.
 fn choose<F: Feed, G: Feed>(cutting: Cutting, first: &mut F, second: &mut G) -> Result<Choice, Halt>
     ensures chosen { IfOk result (λ choice. GaveFile F.Feed first.old first.new
@@ -62,22 +93,20 @@ fn choose<F: Feed, G: Feed>(cutting: Cutting, first: &mut F, second: &mut G) -> 
     ensures feeds { KeepsFeed F.Feed first.old first.new
         × KeepsFeed G.Feed second.old second.new }
 {
-    let Cutting { passes, area } = cutting;
-    let mut nodes = NodePhase::new(passes.alloc, area);
-    let judged = judge(passes, first, &mut nodes)?;
-    let header = writable_header(&judged)?.for_box(passes.alloc, area)?;
-    let digest = judged.digest;
+    let mut nodes = NodePhase::new(cutting.passes.alloc, cutting.area);
+    let begun = cutting.begin(first, &mut nodes)?;
+    let digest = begun.digest;
     let mut ways = nodes.end_nodes()?;
     let last = LaterPass {
         number: 2,
         digest,
-        passes,
+        passes: cutting.passes,
     };
     last.gather(second, &mut ways)?;
     let chosen = ways.end_ways()?;
     Ok(Choice {
         chosen,
-        header,
+        header: begun.header,
         digest,
     })
 }

@@ -29,7 +29,7 @@ use osm_entity::BoundingBox;
 use osm_ways::FirstPhase;
 use pbf_block::Counts;
 use pbf_frame::{Drain, Feed, Stop};
-use pbf_pass::{Halt, InputReceipt, Passes, judge, writable_header};
+use pbf_pass::{Halt, InputReceipt, Passes};
 use std::alloc::Global;
 use std::hash::BuildHasher;
 
@@ -49,23 +49,21 @@ pub(crate) fn choose_sorted<F: Feed, G: Feed>(
     ensures feeds { KeepsFeed F.Feed first.old first.new
         × KeepsFeed G.Feed second.old second.new }
 {
-    let Cutting { passes, area } = cutting;
-    let mut phase = FirstPhase::new(passes.alloc, area);
-    let judged = judge(passes, first, &mut phase)?;
-    let header = writable_header(&judged)?.for_box(passes.alloc, area)?;
-    let digest = judged.digest;
+    let mut phase = FirstPhase::new(cutting.passes.alloc, cutting.area);
+    let begun = cutting.begin(first, &mut phase)?;
+    let digest = begun.digest;
     let in_order = phase.is_in_order();
     let mut ways = phase.end()?;
     let again = LaterPass {
         number: 2,
         digest,
-        passes,
+        passes: cutting.passes,
     };
     again.gather_rest(second, &mut ways, in_order)?;
     let chosen = ways.end_ways()?;
     Ok(Choice {
         chosen,
-        header,
+        header: begun.header,
         digest,
     })
 }

@@ -1,6 +1,6 @@
 //! The commands and their arguments, as `clap` takes them.
 
-ghost use Rattle.std.specs.Prelude.{◌≡◌, IfOk, false, codes};
+ghost use Rattle.std.specs.Prelude.{◌≡◌, IfOk, IsOkAnd, false, codes};
 ghost use Rattle.clap.specs.Simple.{on_top};
 ghost use Rattle.clap.specs.Words.{app_of, new_app, rule_of, with_rule, with_subcommand};
 ghost use Rattle.clap.specs.declared.builder.command.Command.TheViews.{out-Command as fields_of};
@@ -116,72 +116,76 @@ fn named<'a>(alloc: Global, name: &'a str, about: &'a str, after_help: &'a str) 
         .after_help(after_help)
 }
 
+/// A command as far as it was made, or that memory was refused.
+type Made<'a> = Result<Command<'a>, AllocError>;
+
 /// The command with one more argument.
-fn with_arg<'a>(command: Command<'a>, arg: Arg<'a>) -> Result<Command<'a>, AllocError>
-    requires local { (fields_of command).has_globals ≡ false }
+fn with_arg<'a>(command: Made<'a>, arg: Arg<'a>) -> Made<'a>
+    requires local { IfOk command (λ c. (fields_of c).has_globals ≡ false) }
     requires at_home { arg.global ≡ false }
-    ensures app { IfOk result (λ c. app_of c ≡ with_rule (app_of command.entry) (rule_of arg.entry)) }
-    ensures local { IfOk result (λ c. (fields_of c).has_globals ≡ false) }
+    ensures app { IfOk result (λ r. IsOkAnd command.entry
+        (λ c. app_of r ≡ with_rule (app_of c) (rule_of arg.entry))) }
+    ensures local { IfOk result (λ r. (fields_of r).has_globals ≡ false) }
 {
-    command.arg(arg)
+    command?.arg(arg)
 }
 
 /// The command with one more command below it.
-fn with_command<'a>(command: Command<'a>, below: Command<'a>) -> Result<Command<'a>, AllocError>
-    requires local { (fields_of command).has_globals ≡ false }
-    requires below { (fields_of below).has_globals ≡ false }
-    ensures app { IfOk result (λ c. app_of c
-        ≡ with_subcommand (app_of command.entry) (app_of below.entry).top) }
-    ensures local { IfOk result (λ c. (fields_of c).has_globals ≡ false) }
+fn with_command<'a>(command: Made<'a>, below: Made<'a>) -> Made<'a>
+    requires local { IfOk command (λ c. (fields_of c).has_globals ≡ false) }
+    requires below { IfOk below (λ b. (fields_of b).has_globals ≡ false) }
+    ensures app { IfOk result (λ r. IsOkAnd command.entry (λ c. IsOkAnd below.entry
+        (λ b. app_of r ≡ with_subcommand (app_of c) (app_of b).top))) }
+    ensures local { IfOk result (λ r. (fields_of r).has_globals ≡ false) }
 {
-    command.subcommand(below)
+    command?.subcommand(below?)
 }
 
-fn blobs<'a>(alloc: Global, help: &'a Help) -> Result<Command<'a>, AllocError>
+fn blobs<'a>(alloc: Global, help: &'a Help) -> Made<'a>
     ensures app { IfOk result (λ c. app_of c ≡ blobs_app) }
     ensures local { IfOk result (λ c. (fields_of c).has_globals ≡ false) }
 {
     with_arg(
-        named(alloc, "blobs", help::BLOBS, help.blobs),
+        Ok(named(alloc, "blobs", help::BLOBS, help.blobs)),
         input(alloc, help),
     )
 }
 
-fn show<'a>(alloc: Global, help: &'a Help) -> Result<Command<'a>, AllocError>
+fn show<'a>(alloc: Global, help: &'a Help) -> Made<'a>
     ensures app { IfOk result (λ c. app_of c ≡ show_app) }
     ensures local { IfOk result (λ c. (fields_of c).has_globals ≡ false) }
 {
     let command = named(alloc, "show", help::SHOW, help.show);
-    let command = with_arg(command, dates(alloc))?;
-    let command = with_arg(command, progress(alloc))?;
+    let command = with_arg(Ok(command), dates(alloc));
+    let command = with_arg(command, progress(alloc));
     with_arg(command, input(alloc, help))
 }
 
-fn check<'a>(alloc: Global, help: &'a Help) -> Result<Command<'a>, AllocError>
+fn check<'a>(alloc: Global, help: &'a Help) -> Made<'a>
     ensures app { IfOk result (λ c. app_of c ≡ check_app) }
     ensures local { IfOk result (λ c. (fields_of c).has_globals ≡ false) }
 {
     let command = named(alloc, "check", help::CHECK, help.check);
-    let command = with_arg(command, progress(alloc))?;
-    let command = with_arg(command, digests(alloc, help.digest_of_input))?;
+    let command = with_arg(Ok(command), progress(alloc));
+    let command = with_arg(command, digests(alloc, help.digest_of_input));
     with_arg(command, input(alloc, help))
 }
 
 /// `convert` with its options.
-fn conversion<'a>(alloc: Global, help: &'a Help) -> Result<Command<'a>, AllocError>
+fn conversion<'a>(alloc: Global, help: &'a Help) -> Made<'a>
     ensures app { IfOk result (λ c. app_of c ≡ conversion_app) }
     ensures local { IfOk result (λ c. (fields_of c).has_globals ≡ false) }
 {
     let command = named(alloc, "convert", help::CONVERT, help.convert);
-    let command = with_arg(command, progress(alloc))?;
+    let command = with_arg(Ok(command), progress(alloc));
     with_arg(command, digests(alloc, help.digests))
 }
 
-fn convert<'a>(alloc: Global, help: &'a Help) -> Result<Command<'a>, AllocError>
+fn convert<'a>(alloc: Global, help: &'a Help) -> Made<'a>
     ensures app { IfOk result (λ c. app_of c ≡ convert_app) }
     ensures local { IfOk result (λ c. (fields_of c).has_globals ≡ false) }
 {
-    let command = with_arg(conversion(alloc, help)?, input(alloc, help))?;
+    let command = with_arg(conversion(alloc, help), input(alloc, help));
     with_arg(command, output(alloc))
 }
 
@@ -194,21 +198,31 @@ fn extraction<'a>(alloc: Global, help: &'a Help) -> Command<'a>
 }
 
 /// `extract` with its flags.
-fn options<'a>(alloc: Global, help: &'a Help) -> Result<Command<'a>, AllocError>
+fn options<'a>(alloc: Global, help: &'a Help) -> Made<'a>
     ensures app { IfOk result (λ c. app_of c ≡ options_app) }
     ensures local { IfOk result (λ c. (fields_of c).has_globals ≡ false) }
 {
-    let command = with_arg(extraction(alloc, help), parents(alloc))?;
-    let command = with_arg(command, progress(alloc))?;
+    let command = with_arg(Ok(extraction(alloc, help)), parents(alloc));
+    let command = with_arg(command, progress(alloc));
     with_arg(command, digests(alloc, help.digests))
 }
 
-fn extract<'a>(alloc: Global, help: &'a Help) -> Result<Command<'a>, AllocError>
+/// The command with the box.
+fn with_area<'a>(command: Made<'a>, alloc: Global) -> Made<'a>
+    requires local { IfOk command (λ c. (fields_of c).has_globals ≡ false) }
+    ensures app { IfOk result (λ r. IsOkAnd command.entry
+        (λ c. app_of r ≡ with_rule (app_of c) box_rule)) }
+    ensures local { IfOk result (λ r. (fields_of r).has_globals ≡ false) }
+{
+    with_arg(command, area(alloc)?)
+}
+
+fn extract<'a>(alloc: Global, help: &'a Help) -> Made<'a>
     ensures app { IfOk result (λ c. app_of c ≡ extract_app) }
     ensures local { IfOk result (λ c. (fields_of c).has_globals ≡ false) }
 {
-    let command = with_arg(options(alloc, help)?, area(alloc)?)?;
-    let command = with_arg(command, input(alloc, help))?;
+    let command = with_area(options(alloc, help), alloc);
+    let command = with_arg(command, input(alloc, help));
     with_arg(command, output(alloc))
 }
 
@@ -224,7 +238,7 @@ fn titled<'a>(alloc: Global, help: &'a Help) -> Command<'a>
 }
 
 /// The command line with no command yet.
-fn bare<'a>(alloc: Global, help: &'a Help) -> Result<Command<'a>, AllocError>
+fn bare<'a>(alloc: Global, help: &'a Help) -> Made<'a>
     ensures app { IfOk result (λ c. app_of c ≡ bare_app) }
     ensures local { IfOk result (λ c. (fields_of c).has_globals ≡ false) }
 {
@@ -237,12 +251,12 @@ fn bare<'a>(alloc: Global, help: &'a Help) -> Result<Command<'a>, AllocError>
 }
 
 /// The command line with the commands that write a file.
-fn writers<'a>(alloc: Global, help: &'a Help) -> Result<Command<'a>, AllocError>
+fn writers<'a>(alloc: Global, help: &'a Help) -> Made<'a>
     ensures app { IfOk result (λ c. app_of c ≡ writers_app) }
     ensures local { IfOk result (λ c. (fields_of c).has_globals ≡ false) }
 {
-    let command = with_command(bare(alloc, help)?, extract(alloc, help)?)?;
-    with_command(command, convert(alloc, help)?)
+    let command = with_command(bare(alloc, help), extract(alloc, help));
+    with_command(command, convert(alloc, help))
 }
 
 /// The command line of a program with this help, with the commands in the order in which help lists them.
@@ -250,7 +264,7 @@ pub(crate) fn command_line<'a>(alloc: Global, help: &'a Help) -> Result<Command<
     ensures app { IfOk result (λ c. app_of c ≡ program_app) }
     ensures local { IfOk result (λ c. (fields_of c).has_globals ≡ false) }
 {
-    let command = with_command(writers(alloc, help)?, check(alloc, help)?)?;
-    let command = with_command(command, show(alloc, help)?)?;
-    with_command(command, blobs(alloc, help)?)
+    let command = with_command(writers(alloc, help), check(alloc, help));
+    let command = with_command(command, show(alloc, help));
+    with_command(command, blobs(alloc, help))
 }

@@ -1,53 +1,34 @@
-use Rattle.std.proofs.Common.{inr, refl, rules}
+use Rattle.std.proofs.Common.{inr, refl}
 use Rattle.std.proofs.lemmas.Result.{err_from_is_err_and}
 use Rattle.pbfcut.specs.Calls.{ChangedIn}
-use Rattle.pbf_pass.specs.HeaderLimit.{header_limit, held_header, judged_writable}
-use Rattle.pbf_pass.specs.Pass.{with_node}
-use Rattle.pbf_pass.specs.Stops.{FaultOf, Only, unchanged}
-use Rattle.pbf_pass.proofs.LimitLemmas.{limit_refused}
-use Rattle.pbfcut.proofs.ExtractingLemmas.{chooses, stops_earlier, stops_later}
-use Rattle.pbf_pass.proofs.GivenLemmas.{tells_file, told_digest, told_says, takes_told}
-use Rattle.pbf_pass.proofs.HaltingLemmas.{halts_writing, limit_caused, limit_halts}
+use Rattle.pbf_pass.specs.HeaderLimit.{judged_writable}
+use Rattle.pbf_pass.specs.Stops.{FaultOf}
+use Rattle.pbfcut.proofs.ExtractingLemmas.{chooses, stops_choosing, stops_later}
+use Rattle.pbf_pass.proofs.GivenLemmas.{told_digest, told_says}
 use Rattle.pbfcut.specs.declared.repeat.LaterPass.{LaterPass}
-use Rattle.pbf_pass.specs.Refused.{stop_of}
-use Rattle.pbfcut.proofs.ChangedLemmas.{no_refusal, never_changed, changed_later}
+use Rattle.pbfcut.proofs.ChangedLemmas.{no_refusal, changed_later}
 use Rattle.pbfcut.proofs.extracting.choose.Goals as goal
 
-pub returns-in_err-judged-clause-halts : goal.returns-in_err-judged-clause-halts
-returns-in_err-judged-clause-halts g c =
+pub returns-in_err-begun-clause-halts : goal.returns-in_err-begun-clause-halts
+returns-in_err-begun-clause-halts g c =
     let p = err_from_is_err_and c.from_residual.result c.from_residual.ensures.1 in
-    rw (p.1, p.2) (record {
-      refused = halts_writing g.F.Feed _ _ _ _ c.in_err-judged.ensures.refused;
-      stops = search rules;
-      changed = never_changed _ _ _ _ (stop_of c.in_err-judged.field-0.0) c.in_err-judged.ensures.stops;
-    })
-
-pub returns-in_err-writable_header-clause-halts : goal.returns-in_err-writable_header-clause-halts
-returns-in_err-writable_header-clause-halts g c =
-    let p = err_from_is_err_and c.from_residual-in_err-writable_header.result c.from_residual-in_err-writable_header.ensures.1 in
-    let one = c.in_ok-judged.ensures.judged in
-    rw (p.1, p.2) (record {
-      refused = limit_halts g.F.Feed _ _ _ with_node _ _ c.in_ok-judged.judged _ c.in_ok-judged.ensures.judged c.in_err-writable_header.ensures.refused;
-      stops = stops_earlier (Only (header_limit (held_header c.in_ok-judged.judged.pass))) (FaultOf (judged_writable (g.F.Feed.remaining c.args.first.now))) ⊥ _ ⊥ unchanged (ChangedIn 2 (g.F.Feed.remaining c.args.first.now) (g.G.Feed.remaining c.args.second.now)) _
-          (λ e limit. limit_refused with_node _ _ _ _ e (takes_told with_node _ one.file _ _ _ (tells_file g.F.Feed _ _ _ _ one) one.holding.1) limit) (λ r. absurd r) (λ pass h. absurd h) (limit_caused c.in_ok-judged.judged _ c.in_err-writable_header.ensures.refused);
-      changed = never_changed (Only (header_limit (held_header c.in_ok-judged.judged.pass))) ⊥ ⊥ _ _ (limit_caused c.in_ok-judged.judged _ c.in_err-writable_header.ensures.refused);
-    })
+    rw (p.1, p.2) (stops_choosing g.F.Feed _ _ g.G.Feed _ _ _ _ c.in_err-begun.ensures.halts)
 
 pub returns-in_err-gather-clause-halts : goal.returns-in_err-gather-clause-halts
 returns-in_err-gather-clause-halts g c =
     let p = err_from_is_err_and c.from_residual-in_err-gather.result c.from_residual-in_err-gather.ensures.1 in
-    let one = c.in_ok-judged.ensures.judged in
+    let one = c.in_ok-begun.ensures.begun in
     let first = g.F.Feed.remaining c.args.first.now in
-    let again : LaterPass = record { number = 2; digest = c.in_ok-judged.judged.digest; passes = c.args.cutting.passes } in
+    let again : LaterPass = record { number = 2; digest = c.in_ok-begun.begun.digest; passes = c.args.cutting.passes } in
     rw (p.1, p.2) (record {
       refused = no_refusal g.G.Feed again _ _ _ _ c.in_err-gather.ensures.stops;
-      stops = stops_later g.G.Feed c.args.second.now c.gather.new.feed first one.holding.1.frames (told_says g.F.Feed _ _ _ _ _ one one.holding.1.says) again _ (FaultOf (judged_writable first)) _ ⊥ (ChangedIn 2 first (g.G.Feed.remaining c.args.second.now)) _ (told_digest g.F.Feed _ _ _ _ one) refl (λ r. inr r) (λ pass is. is) c.in_err-gather.ensures.stops;
-      changed = changed_later g.F.Feed _ _ g.G.Feed _ _ again _ _ _ _ c.in_err-gather.field-0.0 one one.holding.1.frames one.holding.1.says refl (λ pass is. is) c.in_err-gather.ensures.stops;
+      stops = stops_later g.G.Feed c.args.second.now c.gather.new.feed first one.holding.frames (told_says g.F.Feed _ _ _ _ _ one one.holding.judged) again _ (FaultOf (judged_writable first)) _ ⊥ (ChangedIn 2 first (g.G.Feed.remaining c.args.second.now)) _ (told_digest g.F.Feed _ _ _ _ one) refl (λ r. inr r) (λ pass is. is) c.in_err-gather.ensures.stops;
+      changed = changed_later g.F.Feed _ _ g.G.Feed _ _ again _ _ _ _ c.in_err-gather.field-0.0 one one.holding.frames one.holding.judged refl (λ pass is. is) c.in_err-gather.ensures.stops;
     })
 
 pub returns-clause-chosen : goal.returns-clause-chosen
 returns-clause-chosen g c =
-    let one = c.in_ok-judged.ensures.judged in
+    let one = c.in_ok-begun.ensures.begun in
     let two = c.in_ok-gather.ensures.gathered in
     record {
       file = one.file;
@@ -59,9 +40,9 @@ returns-clause-chosen g c =
         digest_is = two.digest_is;
         holding = record {
           ways = _;
-          chosen = chooses c.args.cutting.area _ _ c.in_ok-judged.judged.pass _ _ _ _ _ _ one.holding.1 c.new-nodes.ensures c.in_ok-writable_header.ensures.header c.in_ok-writable_header.ensures.within c.in_ok-header.ensures c.in_ok-ways.ensures two.holding;
+          chosen = chooses c.args.cutting.area one.file _ _ _ _ _ _ one.holding c.new-nodes.ensures c.in_ok-ways.ensures two.holding;
           kept = c.in_ok-chosen.ensures;
-          short = search rules;
+          short = one.holding.short;
         };
       };
     }

@@ -1,14 +1,10 @@
-use Rattle.std.proofs.Common.{◌≡◌, ◌∙◌, IfOk, subst}
-use Rattle.clap.specs.Words.{App, app_of}
-use Rattle.std.specs.Prelude.{codes}
-use Rattle.clap.specs.Words.{new_app}
+use Rattle.std.proofs.Common.{Ok}
 use Rattle.pbfcut_cli.specs.Words.{parents_rule, progress_rule, digests_rule}
 use Rattle.pbfcut_cli.proofs.CommandLemmas.{rule_added}
 use Rattle.pbfcut_cli.proofs.commands.options.Goals as goal
 
 pub returns-clause-app : goal.returns-clause-app
 returns-clause-app c =
-    let first = c.in_ok-command.ensures.app ∙ rule_added _ (new_app (codes "extract")) _ parents_rule c.extraction.ensures.app c.parents.ensures.rule in
-    let second = c.in_ok-command-2.ensures.app ∙ rule_added _ _ _ progress_rule first c.progress.ensures.rule in
-    let third = rule_added _ _ _ digests_rule second c.digests.ensures.rule in
-    subst (λ (a : App). IfOk c.with_arg-3.result (λ r. app_of r ≡ a)) third c.with_arg-3.ensures.app
+    let first = rule_added c.with_arg-command.result (Ok c.extraction.result) _ c.extraction.ensures.app _ parents_rule c.parents.ensures.rule c.with_arg-command.ensures.app in
+    let second = rule_added c.with_arg-command-2.result c.with_arg-command.result _ first _ progress_rule c.progress.ensures.rule c.with_arg-command-2.ensures.app in
+    rule_added c.with_arg.result c.with_arg-command-2.result _ second _ digests_rule c.digests.ensures.rule c.with_arg.ensures.app
