@@ -94,8 +94,10 @@ pub struct Dense<'a> {
 
 impl<'a> Dense<'a> {
     ghost use Rattle.std.specs.Prelude.{[], ℕ, List, ⊤, MatchOption, length, drop};
+    ghost use Rattle.std.specs.Iterator.{YieldsFirstBy};
     ghost use Rattle.pbf_wire.specs.Cursors.{sums_left};
     ghost use Rattle.pbf_wire.specs.Faults.{found_in};
+    ghost use Rattle.osm_entity.specs.Views.{node_of};
     ghost use Rattle.pbf_dense.specs.Judged.{id_count, dense_wire};
     ghost use Rattle.pbf_dense.specs.Nodes.{nodes, nodes_along};
     ghost use Rattle.pbf_dense.specs.Cursors.{dense_left};
@@ -187,6 +189,35 @@ impl<'a> Dense<'a> {
         skip_runs(&mut self.keys_vals, count);
     }
 
+    /// Puts the next node in this place, or `None`, as [`Dense::next`] gives it. The room of a node is large, and a loop that keeps its
+    /// place need neither clear nor copy it.
+    #[tactic(auto, using(crate::proofs::MovingLemmas::no_lats, crate::proofs::MovingLemmas::no_lons), unfolding(crate::specs::Cursors::dense_left))]
+    pub fn next_in(&mut self, place: &mut Option<NodeRef<'a>>)
+        ensures { YieldsFirstBy node_of dense_left self.old place.new self.new }
+    {
+        let Some(id) = self.ids.next() else {
+            *place = None;
+            return;
+        };
+        let Some(lat) = self.lats.next() else {
+            *place = None;
+            return;
+        };
+        let Some(lon) = self.lons.next() else {
+            *place = None;
+            return;
+        };
+        let meta = self.info.take(self.table);
+        // Most nodes have no tag, which is seen at once.
+        if self.keys_vals.pass_zero() {
+            let none = Tags::Owned(OwnedTags::new(&[]));
+            *place = Some(NodeRef::new(id, lat, lon, meta, none, self.scale));
+            return;
+        }
+        let tags = take_run(&mut self.keys_vals, self.table);
+        *place = Some(NodeRef::new(id, lat, lon, meta, tags, self.scale));
+    }
+
     /// How many nodes there are in a dense message without a wire fault: as many as ids. No number is decoded, and no other
     /// column is read.
     #[tactic(auto, using(crate::proofs::SoundDense::ids_are_nodes))]
@@ -211,18 +242,9 @@ impl<'a> Iterator for Dense<'a> {
 
     ghost remaining = { item_count dense_left };
 
-    #[tactic(auto, using(crate::proofs::MovingLemmas::no_lats, crate::proofs::MovingLemmas::no_lons), unfolding(crate::specs::Cursors::dense_left))]
     fn next(&mut self) -> Option<NodeRef<'a>> {
-        let id = self.ids.next()?;
-        let lat = self.lats.next()?;
-        let lon = self.lons.next()?;
-        let meta = self.info.take(self.table);
-        // Most nodes have no tag, which is seen at once.
-        if self.keys_vals.pass_zero() {
-            let none = Tags::Owned(OwnedTags::new(&[]));
-            return Some(NodeRef::new(id, lat, lon, meta, none, self.scale));
-        }
-        let tags = take_run(&mut self.keys_vals, self.table);
-        Some(NodeRef::new(id, lat, lon, meta, tags, self.scale))
+        let mut place = None;
+        self.next_in(&mut place);
+        place
     }
 }

@@ -20,34 +20,34 @@ nodes-preserved-in-Continue-1 g c =
     let fits : SFits w64 c.id.result = search rules in
     let here = ap (λ (z : ℤ). picks_id c.nodes.self.picker z) (sym c.id.ensures ∙ sym (to_z-of_z w64 c.id.result fits)) ∙ (sym c.picks_id.ensures.picked ∙ c.if-picks_id.true) in
     let same = ap (λ (p : Picker). record c.nodes.self { picker = p }) c.picks_id.ensures.same in
-    one_packed g.D.Drain c.args.self.now (dense_left c.args.dense.now) c.args.packer.now (dense_left c.nodes.nodes) (dense_left c.next.new.self) (node_of c.in-Some.node) c.nodes.self _ c.pack.new.self c.nodes.packer c.pack.new.packer _ c.in-Some.ensures.steps here same c.nodes.invariant c.in_ok-pack.ensures
+    one_packed g.D.Drain c.args.self.now (dense_left c.args.dense.now) c.args.packer.now (dense_left c.nodes.nodes) (dense_left c.next_in.new.self) (node_of c.in-Some.view.now) c.nodes.self _ c.pack_node.new.self c.nodes.packer c.pack_node.new.packer _ (rw c.in-Some.is at c.next_in.ensures) here same c.nodes.invariant c.in_ok-pack_node.ensures
 
-pub returns-in_err-pack : goal.returns-in_err-pack
-returns-in_err-pack g c =
+pub returns-in_err-pack_node : goal.returns-in_err-pack_node
+returns-in_err-pack_node g c =
     let p = err_from_is_err_and c.from_residual.result c.from_residual.ensures.1 in
     let fits : SFits w64 c.id.result = search rules in
     let here = ap (λ (z : ℤ). picks_id c.nodes.self.picker z) (sym c.id.ensures ∙ sym (to_z-of_z w64 c.id.result fits)) ∙ (sym c.picks_id.ensures.picked ∙ c.if-picks_id.true) in
     let same = ap (λ (p : Picker). record c.nodes.self { picker = p }) c.picks_id.ensures.same in
-    rw (p.1, p.2) (one_stops g.D.Drain c.args.self.now (dense_left c.args.dense.now) c.args.packer.now (dense_left c.nodes.nodes) (dense_left c.next.new.self) (node_of c.in-Some.node) c.nodes.self _ c.pack.new.self c.nodes.packer c.pack.new.packer _ c.in-Some.ensures.steps here same c.nodes.invariant c.in_err-pack.ensures)
+    rw (p.1, p.2) (one_stops g.D.Drain c.args.self.now (dense_left c.args.dense.now) c.args.packer.now (dense_left c.nodes.nodes) (dense_left c.next_in.new.self) (node_of c.in-Some.view.now) c.nodes.self _ c.pack_node.new.self c.nodes.packer c.pack_node.new.packer _ (rw c.in-Some.is at c.next_in.ensures) here same c.nodes.invariant c.in_err-pack_node.ensures)
 
 pub returns-in_default-unpicked : goal.returns-in_default-unpicked
 returns-in_default-unpicked g c =
-    let ns = dense_left c.next.new.self in
+    let ns = dense_left c.next_in.new.self in
     let fits : SFits w64 c.id.result = search rules in
     let here = ap (λ (z : ℤ). picks_id c.nodes.self.picker z) (sym c.id.ensures ∙ sym (to_z-of_z w64 c.id.result fits)) ∙ (sym c.picks_id.ensures.picked ∙ c.if-picks_id.false) in
     let later = subst (λ (p : Picker). filter (picks_of p) (map node ns) ≡ []) c.picks_id.ensures.same c.in_default-unpicked.ensures.none in
     let same = ap (λ (p : Picker). record c.nodes.self { picker = p }) (c.unpicked.ensures.same ∙ c.picks_id.ensures.same) in
-    rest_passed g.D.Drain c.args.self.now (dense_left c.args.dense.now) c.args.packer.now (dense_left c.nodes.nodes) ns (node_of c.in-Some.node) c.nodes.self _ c.nodes.packer _ c.in-Some.ensures.steps here later same c.nodes.invariant
+    rest_passed g.D.Drain c.args.self.now (dense_left c.args.dense.now) c.args.packer.now (dense_left c.nodes.nodes) ns (node_of c.in-Some.view.now) c.nodes.self _ c.nodes.packer _ (rw c.in-Some.is at c.next_in.ensures) here later same c.nodes.invariant
 
 pub nodes-preserved : goal.nodes-preserved
 nodes-preserved g c =
-    let ns = dense_left c.next.new.self in
+    let ns = dense_left c.next_in.new.self in
     let fits : SFits w64 c.id.result = search rules in
     let here = ap (λ (z : ℤ). picks_id c.nodes.self.picker z) (sym c.id.ensures ∙ sym (to_z-of_z w64 c.id.result fits)) ∙ (sym c.picks_id.ensures.picked ∙ c.if-picks_id.false) in
     let later = subst (λ (p : Picker). NonePicked p c.in-Some-unpicked.count ns) c.picks_id.ensures.same c.in-Some-unpicked.ensures.none in
     let same = ap (λ (p : Picker). record c.nodes.self { picker = p }) (c.unpicked.ensures.same ∙ c.picks_id.ensures.same) in
-    some_passed g.D.Drain c.args.self.now (dense_left c.args.dense.now) c.args.packer.now (dense_left c.nodes.nodes) ns _ (node_of c.in-Some.node) c.in-Some-unpicked.count c.nodes.self _ c.nodes.packer c.in-Some.ensures.steps c.pass.ensures here later same c.nodes.invariant
+    some_passed g.D.Drain c.args.self.now (dense_left c.args.dense.now) c.args.packer.now (dense_left c.nodes.nodes) ns _ (node_of c.in-Some.view.now) c.in-Some-unpicked.count c.nodes.self _ c.nodes.packer (rw c.in-Some.is at c.next_in.ensures) c.pass.ensures here later same c.nodes.invariant
 
 pub returns : goal.returns
 returns g c =
-    all_gone g.D.Drain c.args.self.now (dense_left c.args.dense.now) c.args.packer.now (dense_left c.nodes.nodes) c.nodes.self c.nodes.packer _ (search rules) c.nodes.invariant
+    all_gone g.D.Drain c.args.self.now (dense_left c.args.dense.now) c.args.packer.now (dense_left c.nodes.nodes) c.nodes.self c.nodes.packer _ (rw c.in_default.is at c.next_in.ensures).0 c.nodes.invariant
