@@ -1,10 +1,10 @@
 //! Headers and blocks, written as frames.
 
 ghost use Rattle.std.specs.Prelude.{◌≡◌, ◌+◌, ◌≤◌, [], List, OnOk};
-ghost use Rattle.osm_entity.specs.Entity.{EntitySpec};
-ghost use Rattle.osm_entity.specs.Ranges.{EntityFits};
-ghost use Rattle.osm_entity.specs.Views.{entity_of};
-ghost use Rattle.osm_entity.specs.Weight.{entity_weight, text_weight};
+ghost use Rattle.osm_entity.specs.Entity.{EntitySpec, node};
+ghost use Rattle.osm_entity.specs.Ranges.{EntityFits, NodeFits};
+ghost use Rattle.osm_entity.specs.Views.{entity_of, node_of};
+ghost use Rattle.osm_entity.specs.Weight.{entity_weight, node_weight, text_weight};
 ghost use Rattle.pbf_header.specs.Header.{header_of};
 ghost use Rattle.pbf_frame.specs.Devices.{IsFront};
 ghost use Rattle.pbf_frame.specs.Transfers.{Added};
@@ -14,7 +14,7 @@ ghost use Rattle.osm_pack.specs.Stops.{UsesDrain};
 ghost use Rattle.pbf_header.specs.declared.write.TheConstants.{MOST_HEADER_TEXT};
 
 use crate::open_block::OpenBlock;
-use osm_entity::EntityRef;
+use osm_entity::{EntityRef, NodeRef};
 use pbf_frame::{Drain, FrameKind, Stop, put_frame};
 use pbf_header::Header;
 use std::alloc::Global;
@@ -72,6 +72,42 @@ pub(crate) fn push_into<D: Drain, S: BuildHasher>(
         close_into(alloc, drain, block)?;
     }
     block.add(entity, weight)?;
+    Ok(())
+}
+
+/// A node, and what it weighs.
+#[derive(Clone, Copy)]
+pub(crate) struct WeighedNode<'a, 'b> {
+    pub(crate) view: &'a NodeRef<'b>,
+    pub(crate) weight: u64,
+}
+
+/// Adds a node to the open block, which is written first if the node may not join it.
+pub(crate) fn push_node_into<D: Drain, S: BuildHasher>(
+    alloc: Global,
+    drain: &mut D,
+    block: &mut OpenBlock<S>,
+    weighed: WeighedNode<'_, '_>,
+) -> Result<(), Stop>
+    requires open { IsOpen block.old }
+    requires fits { NodeFits (node_of weighed.view.now) }
+    requires weighs { weighed.weight ≡ node_weight (node_of weighed.view.now) }
+    ensures open { OnOk result (IsOpen block.new) }
+    ensures pending { (es : List EntitySpec) → Holds block.old es
+        → OnOk result (Holds block.new (then_pending es (node (node_of weighed.entry.view.now)))) }
+    ensures written { (es : List EntitySpec) → Holds block.old es
+        → OnOk result (Added D.Drain drain.old
+        (then_written es (node (node_of weighed.entry.view.now))) drain.new) }
+    ensures front { (es : List EntitySpec) → Holds block.old es
+        → IsFront (D.taken drain.old) (D.taken drain.new)
+        (then_written es (node (node_of weighed.entry.view.now))) }
+    ensures drain { UsesDrain D.Drain drain.old drain.new result }
+{
+    let WeighedNode { view, weight } = weighed;
+    if !block.takes_node(view, weight) {
+        close_into(alloc, drain, block)?;
+    }
+    block.add_node(view, weight)?;
     Ok(())
 }
 

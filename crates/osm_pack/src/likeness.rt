@@ -2,11 +2,12 @@
 
 ghost use Rattle.std.specs.Prelude.{◌≡◌, ◌&&◌};
 ghost use Rattle.std.specs.Ordering.{int_eq};
-ghost use Rattle.osm_entity.specs.Views.{meta_of, entity_of};
+ghost use Rattle.osm_entity.specs.Entity.{node};
+ghost use Rattle.osm_entity.specs.Views.{meta_of, node_of, entity_of};
 ghost use Rattle.pbf_block.specs.WrittenBlock.{iff, same_scale};
 ghost use Rattle.osm_pack.specs.Likenesses.{present_fields, no_fields, likeness_of, same_kind, same_present, same_likeness};
 
-use osm_entity::{EntityRef, MemberKind, MetaRef, Scale};
+use osm_entity::{EntityRef, MemberKind, MetaRef, NodeRef, Scale};
 
 /// Whether both are so, or neither is.
 fn iff(one: bool, other: bool) -> bool
@@ -105,15 +106,26 @@ impl Likeness {
     pub(crate) fn of(entity: &EntityRef<'_>) -> Likeness
         ensures { result ≡ likeness_of (entity_of entity.now) }
     {
-        let (kind, fields) = match entity {
-            EntityRef::Node(node) => (MemberKind::Node, PresentFields::of(&node.meta())),
-            EntityRef::Way(_) => (MemberKind::Way, PresentFields::none()),
-            EntityRef::Relation(_) => (MemberKind::Relation, PresentFields::none()),
+        let (kind, scale) = match entity {
+            EntityRef::Node(view) => return Likeness::of_node(view),
+            EntityRef::Way(view) => (MemberKind::Way, view.scale()),
+            EntityRef::Relation(view) => (MemberKind::Relation, view.scale()),
         };
         Likeness {
             kind,
-            scale: entity.scale(),
-            fields,
+            scale,
+            fields: PresentFields::none(),
+        }
+    }
+
+    /// That of a node.
+    pub(crate) fn of_node(view: &NodeRef<'_>) -> Likeness
+        ensures { result ≡ likeness_of (node (node_of view.now)) }
+    {
+        Likeness {
+            kind: MemberKind::Node,
+            scale: view.scale(),
+            fields: PresentFields::of(&view.meta()),
         }
     }
 

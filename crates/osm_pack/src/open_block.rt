@@ -3,9 +3,9 @@
 ghost use Rattle.std.specs.Prelude.{ℕ, ◌≡◌, ◌↔◌, ◌+◌, ◌-◌, ◌≤◌, ◌<◌, ◌^◌, min, ◌&&◌, ◌++◌, ◌∷◌, [], List, true, nat_le, length, IsTrue, IfOk, OnOk, Option, Some, None, unwrap_or};
 ghost use Rattle.osm_entity.specs.Entity.{EntitySpec, node, way, relation};
 ghost use Rattle.osm_entity.specs.EntityTexts.{way_texts, relation_texts};
-ghost use Rattle.osm_entity.specs.Ranges.{EntityFits, WayFits, RelationFits};
-ghost use Rattle.osm_entity.specs.Views.{entity_of, way_of, relation_of};
-ghost use Rattle.osm_entity.specs.Weight.{entity_weight};
+ghost use Rattle.osm_entity.specs.Ranges.{EntityFits, NodeFits, WayFits, RelationFits};
+ghost use Rattle.osm_entity.specs.Views.{entity_of, node_of, way_of, relation_of};
+ghost use Rattle.osm_entity.specs.Weight.{entity_weight, node_weight};
 ghost use Rattle.pbf_wire.specs.Message.{Each, slot_bytes};
 ghost use Rattle.pbf_strings.specs.TableOut.{texts_after, table_message};
 ghost use Rattle.pbf_block.specs.WrittenEntity.{way_message, relation_message};
@@ -18,7 +18,7 @@ ghost use Rattle.osm_pack.specs.declared.open_block.TheConstants.{MOST_HELD};
 ghost use Rattle.pbf_block.specs.declared.block_write.TheConstants.{MOST_ENTITIES};
 
 use crate::likeness::Likeness;
-use osm_entity::{EntityRef, HIGHEST_WEIGHT, RelationRef, Scale, WayRef};
+use osm_entity::{EntityRef, HIGHEST_WEIGHT, NodeRef, RelationRef, Scale, WayRef};
 use pbf_block::{DEFAULT_SCALE, EntityOut, MOST_ENTITIES, put_block, put_dense};
 use pbf_dense::DenseOut;
 use pbf_strings::TableOut;
@@ -58,6 +58,17 @@ fn remember(likeness: &mut Option<Likeness>, entity: &EntityRef<'_>)
 {
     if likeness.is_none() {
         *likeness = Some(Likeness::of(entity));
+    }
+}
+
+/// Takes what a node is like, likewise.
+fn remember_node(likeness: &mut Option<Likeness>, view: &NodeRef<'_>)
+    ensures { likeness.new
+        ≡ Some (unwrap_or likeness.old (likeness_of (node (node_of view.now)))) }
+{
+    let is_first = likeness.is_none();
+    if is_first {
+        *likeness = Some(Likeness::of_node(view));
     }
 }
 
@@ -191,6 +202,58 @@ impl<S: BuildHasher> OpenBlock<S> {
     {
         self.put(entity)?;
         remember(&mut self.likeness, entity);
+        self.count += 1;
+        self.weight += weight;
+        Ok(())
+    }
+
+    /// Whether a node is like those that are there.
+    fn is_alike_node(&self, view: &NodeRef<'_>) -> bool
+        ensures { result ≡ is_like self.now.likeness (likeness_of (node (node_of view.now))) }
+    {
+        match self.likeness {
+            Some(likeness) => likeness.same(Likeness::of_node(view)),
+            None => true,
+        }
+    }
+
+    /// Whether one more node of this weight may join the block.
+    #[inline(always)]
+    pub(crate) fn takes_node(&self, view: &NodeRef<'_>, weight: u64) -> bool
+        requires weighs { weight ≡ node_weight (node_of view.now) }
+        ensures { (es : List EntitySpec) → Holds self.now es
+            → result ≡ is_block (es ++ node (node_of view.now) ∷ []) }
+    {
+        may_join(self.is_alike_node(view), self.count, self.weight, weight)
+    }
+
+    /// Encodes a node after the others.
+    #[inline(always)]
+    fn put_node(&mut self, view: &NodeRef<'_>) -> Result<(), AllocError>
+        requires open { IsOpen self.old }
+        requires fits { NodeFits (node_of view.now) }
+        requires joins { (es : List EntitySpec) → Holds self.old es
+            → is_block (es ++ node (node_of view.now) ∷ []) ≡ true }
+        ensures { (es : List EntitySpec) → Holds self.old es
+            → OnOk result (Encodes self.old self.new es (node (node_of view.now))) }
+    {
+        self.nodes.push(view, &mut self.texts)?;
+        Ok(())
+    }
+
+    /// Adds a node of this weight after the others. After an `Err` the block is unspecified.
+    #[inline(always)]
+    pub(crate) fn add_node(&mut self, view: &NodeRef<'_>, weight: u64) -> Result<(), AllocError>
+        requires open { IsOpen self.old }
+        requires fits { NodeFits (node_of view.now) }
+        requires weighs { weight ≡ node_weight (node_of view.now) }
+        requires joins { (es : List EntitySpec) → Holds self.old es
+            → is_block (es ++ node (node_of view.now) ∷ []) ≡ true }
+        ensures { (es : List EntitySpec) → Holds self.old es
+            → OnOk result (Holds self.new (es ++ node (node_of view.now) ∷ [])) }
+    {
+        self.put_node(view)?;
+        remember_node(&mut self.likeness, view);
         self.count += 1;
         self.weight += weight;
         Ok(())

@@ -1,8 +1,10 @@
 //! Entities on their way into a drain.
 
-use crate::frames::{Weighed, finish_into, push_into, put_header_into};
+use crate::frames::{
+    Weighed, WeighedNode, finish_into, push_into, push_node_into, put_header_into,
+};
 use crate::open_block::OpenBlock;
-use osm_entity::EntityRef;
+use osm_entity::{EntityRef, NodeRef};
 use pbf_frame::{Drain, Stop};
 use pbf_header::Header;
 use std::alloc::Global;
@@ -42,11 +44,11 @@ impl<D: Drain, S: BuildHasher> Model for Packer<D, S> {
 
 impl<D: Drain, S: BuildHasher> Packer<D, S> {
     ghost use Rattle.std.specs.Prelude.{◌≡◌, ◌+◌, ◌≤◌, [], List, true, false, OnOk};
-    ghost use Rattle.osm_entity.specs.Entity.{EntitySpec};
-    ghost use Rattle.osm_entity.specs.Ranges.{EntityFits};
-    ghost use Rattle.osm_entity.specs.Views.{entity_of};
+    ghost use Rattle.osm_entity.specs.Entity.{EntitySpec, node};
+    ghost use Rattle.osm_entity.specs.Ranges.{EntityFits, NodeFits};
+    ghost use Rattle.osm_entity.specs.Views.{entity_of, node_of};
     ghost use Rattle.pbf_header.specs.Header.{header_of};
-    ghost use Rattle.osm_entity.specs.Weight.{entity_weight, text_weight};
+    ghost use Rattle.osm_entity.specs.Weight.{entity_weight, node_weight, text_weight};
     ghost use Rattle.pbf_header.specs.declared.write.TheConstants.{MOST_HEADER_TEXT};
     ghost use Rattle.pbf_frame.specs.Devices.{IsFront};
     ghost use Rattle.pbf_frame.specs.Transfers.{Added};
@@ -168,6 +170,25 @@ impl<D: Drain, S: BuildHasher> Packer<D, S> {
         }
         let weighed = Weighed { entity, weight };
         let outcome = push_into(self.alloc, &mut self.drain, &mut self.block, weighed);
+        if let Err(stop) = outcome {
+            self.stop = Some(stop);
+            self.block.clear(self.alloc);
+        }
+        outcome
+    }
+
+    /// [`Packer::push_weighed`] of a node, which need not be made an entity for it.
+    pub fn push_node(&mut self, view: &NodeRef<'_>, weight: u64) -> Result<(), Stop>
+        requires begun { has_header self.old ≡ true }
+        requires fits { NodeFits (node_of view.now) }
+        requires weighs { weight ≡ node_weight (node_of view.now) }
+        ensures { Pushes D.Drain (node (node_of view.now)) self.old self.new result }
+    {
+        if let Some(stop) = self.stop {
+            return Err(stop);
+        }
+        let weighed = WeighedNode { view, weight };
+        let outcome = push_node_into(self.alloc, &mut self.drain, &mut self.block, weighed);
         if let Err(stop) = outcome {
             self.stop = Some(stop);
             self.block.clear(self.alloc);

@@ -3,7 +3,7 @@
 ghost use Rattle.std.specs.Prelude.{true, false, ℤ, [], ◌∷◌, ◌≡◌, ◌≤◌, ◌+◌, None, Err, IfErr, OnOk, MatchOption, map, filter, take};
 ghost use Rattle.std.specs.Option.{option_map};
 ghost use Rattle.osm_entity.specs.Entity.{node, way};
-ghost use Rattle.osm_entity.specs.Views.{entity_of};
+ghost use Rattle.osm_entity.specs.Views.{entity_of, node_of};
 ghost use Rattle.osm_pack.specs.Packing.{IsPacking, has_header, packer_held};
 ghost use Rattle.osm_pack.specs.Packing as packing;
 ghost use Rattle.pbf_wire.specs.Spans.{is_in};
@@ -20,7 +20,7 @@ ghost use Rattle.pbf_pass.specs.Payload.{primitive_block, lent_by};
 ghost use Rattle.pbfcut.specs.Pick.{everything, pick_of, picks_of, picked_in, picks_id, picked_by, picked_by_some, IsReadyToPack, PacksAll, PacksEach, KeepsPacker, PacksPayload, FailsToPackPayload, PacksFrame, FailsToPack};
 ghost use Rattle.pbf_frame.specs.declared.frame.TheConstants.{FILE_LIMIT};
 
-use osm_entity::EntityRef;
+use osm_entity::{EntityRef, NodeRef};
 use osm_pack::Packer;
 use osm_ways::{Chooser, Chosen, ChosenParents};
 use pbf_block::{Block, Counts, Kinds, Run, Runs, UnmadeWay};
@@ -172,6 +172,26 @@ impl<'a> EntityPacker<'a> {
         Ok(())
     }
 
+    /// Packs a node, whether it is picked or not.
+    #[inline(always)]
+    fn pack_node<D: Drain, S: BuildHasher>(
+        &mut self,
+        view: &NodeRef<'_>,
+        packer: &mut Packer<D, S>,
+    ) -> Result<(), Stop>
+        requires { IsReadyToPack packer.old }
+        ensures { PacksEach D.Drain everything (node (node_of view.now) ∷ [])
+            self.old self.new packer.old packer.new result }
+    {
+        let Some(weight) = view.weight_if_fits() else {
+            let changed = Stop::Changed(self.number);
+            return Err(changed);
+        };
+        packer.push_node(view, weight)?;
+        self.counts.nodes = self.counts.nodes.saturating_add(1);
+        Ok(())
+    }
+
     /// Packs an entity if it is picked.
     fn pack_entity<D: Drain, S: BuildHasher>(
         &mut self,
@@ -222,7 +242,7 @@ impl<'a> EntityPacker<'a> {
         let mut nodes = *dense;
         'nodes: while let Some(node) = nodes.next() {
             if self.picker.picks_id(node.id()) {
-                self.pack(&EntityRef::Node(node), packer)?;
+                self.pack_node(&node, packer)?;
             } else {
                 let Some(count) = unpicked(&nodes, &mut self.picker) else {
                     return Ok(());

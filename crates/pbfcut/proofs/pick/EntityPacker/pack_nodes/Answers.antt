@@ -20,15 +20,15 @@ nodes-preserved-in-Continue-1 g c =
     let fits : SFits w64 c.id.result = search rules in
     let here = ap (λ (z : ℤ). picks_id c.nodes.self.picker z) (sym c.id.ensures ∙ sym (to_z-of_z w64 c.id.result fits)) ∙ (sym c.picks_id.ensures.picked ∙ c.if-picks_id.true) in
     let same = ap (λ (p : Picker). record c.nodes.self { picker = p }) c.picks_id.ensures.same in
-    one_packed g.D.Drain c.args.self.now (dense_left c.args.dense.now) c.args.packer.now (dense_left c.nodes.nodes) (dense_left c.next.new.self) (node_of c.in-Some.node) c.nodes.self _ c.pack.new.self c.nodes.packer c.pack.new.packer _ c.in-Some.ensures.steps here same c.nodes.invariant c.in_ok-pack.ensures
+    one_packed g.D.Drain c.args.self.now (dense_left c.args.dense.now) c.args.packer.now (dense_left c.nodes.nodes) (dense_left c.next.new.self) (node_of c.in-Some.node) c.nodes.self _ c.pack_node.new.self c.nodes.packer c.pack_node.new.packer _ c.in-Some.ensures.steps here same c.nodes.invariant c.in_ok-pack_node.ensures
 
-pub returns-in_err-pack : goal.returns-in_err-pack
-returns-in_err-pack g c =
+pub returns-in_err-pack_node : goal.returns-in_err-pack_node
+returns-in_err-pack_node g c =
     let p = err_from_is_err_and c.from_residual.result c.from_residual.ensures.1 in
     let fits : SFits w64 c.id.result = search rules in
     let here = ap (λ (z : ℤ). picks_id c.nodes.self.picker z) (sym c.id.ensures ∙ sym (to_z-of_z w64 c.id.result fits)) ∙ (sym c.picks_id.ensures.picked ∙ c.if-picks_id.true) in
     let same = ap (λ (p : Picker). record c.nodes.self { picker = p }) c.picks_id.ensures.same in
-    rw (p.1, p.2) (one_stops g.D.Drain c.args.self.now (dense_left c.args.dense.now) c.args.packer.now (dense_left c.nodes.nodes) (dense_left c.next.new.self) (node_of c.in-Some.node) c.nodes.self _ c.pack.new.self c.nodes.packer c.pack.new.packer _ c.in-Some.ensures.steps here same c.nodes.invariant c.in_err-pack.ensures)
+    rw (p.1, p.2) (one_stops g.D.Drain c.args.self.now (dense_left c.args.dense.now) c.args.packer.now (dense_left c.nodes.nodes) (dense_left c.next.new.self) (node_of c.in-Some.node) c.nodes.self _ c.pack_node.new.self c.nodes.packer c.pack_node.new.packer _ c.in-Some.ensures.steps here same c.nodes.invariant c.in_err-pack_node.ensures)
 
 pub returns-in_default-unpicked : goal.returns-in_default-unpicked
 returns-in_default-unpicked g c =
