@@ -116,8 +116,8 @@ impl DenseOut {
         let user = table.index_if_some(meta.user)?;
         self.info.push(&meta, user)?;
         self.ids.push(node.id())?;
-        self.lats.push(node.lat())?;
-        self.lons.push(node.lon())?;
+        self.lats.push_far(node.lat())?;
+        self.lons.push_far(node.lon())?;
         self.tagged = self.tagged || is_tagged(node);
         Ok(())
     }

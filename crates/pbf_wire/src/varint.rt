@@ -184,8 +184,8 @@ fn put_longest(out: &mut Vec<u8>, value: u64) -> Result<(), AllocError>
 }
 
 /// Like [`put_varint`], of a number that takes two bytes or more: most of them take two or three, which are spelled at once.
-#[inline(never)]
-fn put_longer(out: &mut Vec<u8>, value: u64) -> Result<(), AllocError>
+#[inline(always)]
+fn put_longer_here(out: &mut Vec<u8>, value: u64) -> Result<(), AllocError>
     requires { 128 ≤ value }
     ensures ok { OnOk result (out.new.items ≡ out.old.items ++ shortest value) }
     ensures err { OnErr result (out.new.items ≡ out.old.items) }
@@ -204,6 +204,16 @@ fn put_longer(out: &mut Vec<u8>, value: u64) -> Result<(), AllocError>
     Ok(())
 }
 
+/// [`put_longer_here`] as a call.
+#[inline(never)]
+fn put_longer(out: &mut Vec<u8>, value: u64) -> Result<(), AllocError>
+    requires { 128 ≤ value }
+    ensures ok { OnOk result (out.new.items ≡ out.old.items ++ shortest value) }
+    ensures err { OnErr result (out.new.items ≡ out.old.items) }
+{
+    put_longer_here(out, value)
+}
+
 /// Appends the shortest spelling, of one to ten bytes. An `Err` leaves the output as it was.
 ///
 /// Most numbers of a file take one byte, which is written inline, without a call.
@@ -216,6 +226,20 @@ pub fn put_varint(out: &mut Vec<u8>, value: u64) -> Result<(), AllocError>
         out.push(value as u8)?;
     } else {
         put_longer(out, value)?;
+    }
+    Ok(())
+}
+
+/// Like [`put_varint`], for numbers of which most take two or three bytes: those are written without a call too.
+#[inline(always)]
+pub(crate) fn put_mostly_longer(out: &mut Vec<u8>, number: u64) -> Result<(), AllocError>
+    ensures ok { OnOk result (out.new.items ≡ out.old.items ++ shortest number) }
+    ensures err { OnErr result (out.new.items ≡ out.old.items) }
+{
+    if number < 128 {
+        out.push(number as u8)?;
+    } else {
+        put_longer_here(out, number)?;
     }
     Ok(())
 }

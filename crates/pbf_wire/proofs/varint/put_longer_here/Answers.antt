@@ -1,6 +1,6 @@
 use Rattle.std.proofs.Common.{ap, sym, ◌∙◌, ◌++◌, arith}
 use Rattle.pbf_wire.proofs.Shortest.{two_bytes, three_bytes}
-use Rattle.pbf_wire.proofs.varint.put_longer.Goals as goal
+use Rattle.pbf_wire.proofs.varint.put_longer_here.Goals as goal
 
 pub returns-in_ok-extend_from_slice-clause-ok : goal.returns-in_ok-extend_from_slice-clause-ok
 returns-in_ok-extend_from_slice-clause-ok c =
