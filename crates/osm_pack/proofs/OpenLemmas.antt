@@ -1,6 +1,6 @@
 -- An open block, entity by entity.
-use Rattle.std.proofs.Common.{◌≡◌, ◌⊎◌, inl, inr, ℕ, ◌+◌, ◌*◌, ◌^◌, ◌≤◌, List, [], ◌∷◌, ◌++◌, Bool, true, ◌&&◌, length, map, Some, None, refl, sym, ap, ◌∙◌, subst, arith, append_assoc, append-nil, length-append, true≢false}
-use Rattle.std.specs.Prelude.{unwrap_or, nat_le, min, ◌-◌}
+use Rattle.std.proofs.Common.{◌≡◌, ◌⊎◌, inl, inr, ℕ, ◌+◌, ◌*◌, ◌^◌, ◌≤◌, List, [], ◌∷◌, ◌++◌, Bool, true, false, ◌&&◌, length, map, Some, None, refl, sym, ap, ◌∙◌, subst, arith, append_assoc, append-nil, length-append, true≢false}
+use Rattle.std.specs.Prelude.{unwrap_or, nat_le, min, ◌-◌, if◌then◌else◌}
 use Rattle.osm_entity.specs.declared.scale.Scale.{Scale}
 use Rattle.std.specs.List.{sum_by, flat_map, list_all}
 use Rattle.std.proofs.lemmas.List.{length_push, map_push}
@@ -25,9 +25,10 @@ use Rattle.pbf_block.proofs.LengthLaw.{open_short}
 use Rattle.pbf_block.proofs.HeldLaw.{after_held, way_beside, relation_beside}
 use Rattle.pbf_block.proofs.ClosingLaw.{table_fits, nodes_fit, group_fits, closing_fits}
 use Rattle.osm_pack.specs.declared.open_block.OpenBlock.{OpenBlock}
+use Rattle.osm_pack.specs.declared.open_block.Joining.{Joining}
 use Rattle.osm_pack.specs.declared.open_block.TheConstants.{MOST_HELD}
 use Rattle.osm_pack.specs.Likenesses.{likeness_of, same_likeness, is_like}
-use Rattle.osm_pack.specs.Open.{likeness_among, Holds, IsOpen, Encodes, IsClosing, block_held}
+use Rattle.osm_pack.specs.Open.{likeness_among, Holds, IsOpen, IsJoining, Encodes, Counts, IsClosing, block_held}
 use Rattle.osm_pack.proofs.CutLemmas.{like_first, joins, both, kept_parts, kept_bounds, kept_none, kept_one}
 use Rattle.osm_entity.specs.declared.weight.TheConstants.{HIGHEST_WEIGHT}
 use Rattle.pbf_block.specs.declared.block_write.TheConstants.{MOST_ENTITIES}
@@ -224,6 +225,11 @@ light (node n) h = h.light
 light (way w) h = h.light
 light (relation r) h = h.light
 
+-- what waits once an entity is added where there is room for it
+pub after_room : (joins : Bool) (es : List EntitySpec) (e : EntitySpec) → (if joins then es else []) ++ e ∷ [] ≡ (if joins then es ++ e ∷ [] else e ∷ [])
+after_room true es e = refl
+after_room false es e = refl
+
 -- an entity that fits may be a block by itself
 pub alone : (e : EntitySpec) → EntityFits e → is_block (e ∷ []) ≡ true
 alone e h = kept_one e (light e h)
@@ -350,6 +356,12 @@ module _ {S H : Type 0} where
     messages = λ used. ap (λ g. g.items) g ∙ n.messages used;
     writer = ap writer_length r ∙ n.writer;
   }
+
+  -- the same, by what decided whether it may join
+  pub joined : (old new block : OpenBlock S H) (es : List EntitySpec) (e : EntitySpec) (joining : Joining) → Holds old es → is_block (es ++ e ∷ []) ≡ true → Encodes old new es e → IsJoining joining e → Counts new block joining
+      → Holds block (es ++ e ∷ [])
+  joined old new block es e joining h join n is k =
+      added old new block es e h join n (k.likeness ∙ ap (λ l. Some (unwrap_or new.likeness l)) is.likeness) k.count (k.weight ∙ ap (λ m. new.weight + m) is.weight) k.texts k.nodes k.group k.writer
 
   pub room_held : (b : OpenBlock S H) (es : List EntitySpec) (e : EntitySpec) → Holds b es → is_block (es ++ e ∷ []) ≡ true → length b.texts + length (entity_texts e) ≤ 1048575
   room_held b es e h join = rw h.texts (room es e join)

@@ -9,11 +9,13 @@ ghost use Rattle.pbf_header.specs.Header.{header_of};
 ghost use Rattle.pbf_frame.specs.Devices.{IsFront};
 ghost use Rattle.pbf_frame.specs.Transfers.{Added};
 ghost use Rattle.osm_pack.specs.Cuts.{block_frame, header_frame, then_pending, then_written, at_end};
-ghost use Rattle.osm_pack.specs.Open.{Holds, IsOpen};
+ghost use Rattle.osm_pack.specs.Open.{Holds, IsOpen, IsJoining};
+ghost use Rattle.osm_pack.specs.Pushing.{MakesRoom};
 ghost use Rattle.osm_pack.specs.Stops.{UsesDrain};
 ghost use Rattle.pbf_header.specs.declared.write.TheConstants.{MOST_HEADER_TEXT};
 
-use crate::open_block::OpenBlock;
+use crate::likeness::Likeness;
+use crate::open_block::{Joining, OpenBlock};
 use osm_entity::{EntityRef, NodeRef};
 use pbf_frame::{Drain, FrameKind, Stop, put_frame};
 use pbf_header::Header;
@@ -46,6 +48,26 @@ pub(crate) struct Weighed<'a, 'b> {
     pub(crate) weight: u64,
 }
 
+/// Makes room for an entity: the open block is written if the entity may not join it.
+#[inline(always)]
+fn make_room<D: Drain, S: BuildHasher>(
+    alloc: Global,
+    drain: &mut D,
+    block: &mut OpenBlock<S>,
+    joining: Joining,
+) -> Result<(), Stop>
+    requires { IsOpen block.old }
+    ensures open { OnOk result (IsOpen block.new) }
+    ensures made { (e : EntitySpec) → IsJoining joining e → EntityFits e
+        → MakesRoom D.Drain e drain.old drain.new block.old block.new result }
+    ensures drain { UsesDrain D.Drain drain.old drain.new result }
+{
+    if !block.takes(joining) {
+        close_into(alloc, drain, block)?;
+    }
+    Ok(())
+}
+
 /// Adds an entity to the open block, which is written first if the entity may not join it.
 pub(crate) fn push_into<D: Drain, S: BuildHasher>(
     alloc: Global,
@@ -68,10 +90,12 @@ pub(crate) fn push_into<D: Drain, S: BuildHasher>(
     ensures drain { UsesDrain D.Drain drain.old drain.new result }
 {
     let Weighed { entity, weight } = weighed;
-    if !block.takes(entity, weight) {
-        close_into(alloc, drain, block)?;
-    }
-    block.add(entity, weight)?;
+    let joining = Joining {
+        likeness: Likeness::of(entity),
+        weight,
+    };
+    make_room(alloc, drain, block, joining)?;
+    block.add(entity, joining)?;
     Ok(())
 }
 
@@ -82,7 +106,7 @@ pub(crate) struct WeighedNode<'a, 'b> {
     pub(crate) weight: u64,
 }
 
-/// Adds a node to the open block, which is written first if the node may not join it.
+/// The same of a node, of which no entity has to be made.
 pub(crate) fn push_node_into<D: Drain, S: BuildHasher>(
     alloc: Global,
     drain: &mut D,
@@ -104,10 +128,12 @@ pub(crate) fn push_node_into<D: Drain, S: BuildHasher>(
     ensures drain { UsesDrain D.Drain drain.old drain.new result }
 {
     let WeighedNode { view, weight } = weighed;
-    if !block.takes_node(view, weight) {
-        close_into(alloc, drain, block)?;
-    }
-    block.add_node(view, weight)?;
+    let joining = Joining {
+        likeness: Likeness::of_node(view),
+        weight,
+    };
+    make_room(alloc, drain, block, joining)?;
+    block.add_node(view, joining)?;
     Ok(())
 }
 

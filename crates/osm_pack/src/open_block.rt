@@ -1,18 +1,17 @@
 //! The block that is open.
 
-ghost use Rattle.std.specs.Prelude.{ℕ, ◌≡◌, ◌↔◌, ◌+◌, ◌-◌, ◌≤◌, ◌<◌, ◌^◌, min, ◌&&◌, ◌++◌, ◌∷◌, [], List, true, nat_le, length, IsTrue, IfOk, OnOk, Option, Some, None, unwrap_or};
+ghost use Rattle.std.specs.Prelude.{ℕ, ◌≡◌, ◌↔◌, ◌+◌, ◌-◌, ◌≤◌, ◌<◌, ◌^◌, min, ◌&&◌, ◌++◌, ◌∷◌, [], List, true, nat_le, length, IsTrue, IfOk, OnOk};
 ghost use Rattle.osm_entity.specs.Entity.{EntitySpec, node, way, relation};
 ghost use Rattle.osm_entity.specs.EntityTexts.{way_texts, relation_texts};
 ghost use Rattle.osm_entity.specs.Ranges.{EntityFits, NodeFits, WayFits, RelationFits};
 ghost use Rattle.osm_entity.specs.Views.{entity_of, node_of, way_of, relation_of};
-ghost use Rattle.osm_entity.specs.Weight.{entity_weight, node_weight};
 ghost use Rattle.pbf_wire.specs.Message.{Each, slot_bytes};
 ghost use Rattle.pbf_strings.specs.TableOut.{texts_after, table_message};
 ghost use Rattle.pbf_block.specs.WrittenEntity.{way_message, relation_message};
 ghost use Rattle.pbf_block.specs.WrittenBlock.{is_block, block_message, scale_among, texts_of_all, nodes_among};
 ghost use Rattle.pbf_dense.specs.WrittenDense.{columns_held, dense_length, dense_message};
-ghost use Rattle.osm_pack.specs.Open.{Holds, IsOpen, Makes, Encodes, IsClosing, block_held};
-ghost use Rattle.osm_pack.specs.Likenesses.{likeness_of, is_like};
+ghost use Rattle.osm_pack.specs.Open.{Holds, IsOpen, IsJoining, Joins, Makes, Encodes, Counts, Adds, IsClosing, block_held};
+ghost use Rattle.osm_pack.specs.Likenesses.{is_like};
 ghost use Rattle.osm_entity.specs.declared.weight.TheConstants.{HIGHEST_WEIGHT};
 ghost use Rattle.osm_pack.specs.declared.open_block.TheConstants.{MOST_HELD};
 ghost use Rattle.pbf_block.specs.declared.block_write.TheConstants.{MOST_ENTITIES};
@@ -51,25 +50,11 @@ fn may_join(is_alike: bool, count: usize, weight: u64, more: u64) -> bool
     is_alike && count < MOST_ENTITIES && weight.saturating_add(more) <= HIGHEST_WEIGHT
 }
 
-/// Takes what an entity is like, if none was there before it. All later ones are like the first.
-fn remember(likeness: &mut Option<Likeness>, entity: &EntityRef<'_>)
-    ensures { likeness.new
-        ≡ Some (unwrap_or likeness.old (likeness_of (entity_of entity.now))) }
-{
-    if likeness.is_none() {
-        *likeness = Some(Likeness::of(entity));
-    }
-}
-
-/// Takes what a node is like, likewise.
-fn remember_node(likeness: &mut Option<Likeness>, view: &NodeRef<'_>)
-    ensures { likeness.new
-        ≡ Some (unwrap_or likeness.old (likeness_of (node (node_of view.now)))) }
-{
-    let is_first = likeness.is_none();
-    if is_first {
-        *likeness = Some(Likeness::of_node(view));
-    }
+/// What decides whether an entity may join a block.
+#[derive(Clone, Copy)]
+pub(crate) struct Joining {
+    pub(crate) likeness: Likeness,
+    pub(crate) weight: u64,
 }
 
 impl<S: BuildHasher> OpenBlock<S> {
@@ -108,25 +93,24 @@ impl<S: BuildHasher> OpenBlock<S> {
         self.count == 0
     }
 
-    /// Whether an entity is like those that are there.
-    fn is_alike(&self, entity: &EntityRef<'_>) -> bool
-        ensures { result ≡ is_like self.now.likeness (likeness_of (entity_of entity.now)) }
+    /// Whether an entity of this likeness is like those that are there.
+    fn is_alike(&self, likeness: Likeness) -> bool
+        ensures { result ≡ is_like self.now.likeness likeness }
     {
         match self.likeness {
-            Some(likeness) => likeness.same(Likeness::of(entity)),
+            Some(first) => first.same(likeness),
             None => true,
         }
     }
 
-    /// Whether one more entity of this weight may join the block. The caller passes the weight, because to find it means to go through
-    /// all of an entity's texts and lists.
+    /// Whether one more entity may join the block.
     #[inline(always)]
-    pub(crate) fn takes(&self, entity: &EntityRef<'_>, weight: u64) -> bool
-        requires weighs { weight ≡ entity_weight (entity_of entity.now) }
-        ensures { (es : List EntitySpec) → Holds self.now es
-            → result ≡ is_block (es ++ entity_of entity.now ∷ []) }
+    pub(crate) fn takes(&self, joining: Joining) -> bool
+        ensures { (es : List EntitySpec) (e : EntitySpec) → IsJoining joining e
+            → Holds self.now es → result ≡ is_block (es ++ e ∷ []) }
     {
-        may_join(self.is_alike(entity), self.count, self.weight, weight)
+        let is_alike = self.is_alike(joining.likeness);
+        may_join(is_alike, self.count, self.weight, joining.weight)
     }
 
     /// Makes the message of a way in the writer. Its columns and the message are held there beside what the block holds, until the
@@ -135,8 +119,7 @@ impl<S: BuildHasher> OpenBlock<S> {
     fn make_way(&mut self, view: &WayRef<'_>) -> Result<(), AllocError>
         requires open { IsOpen self.old }
         requires fits { WayFits (way_of view.now) }
-        requires joins { (es : List EntitySpec) → Holds self.old es
-            → is_block (es ++ way (way_of view.now) ∷ []) ≡ true }
+        requires joins { Joins self.old (way (way_of view.now)) }
         ensures made { OnOk result (Makes self.old self.new (way_texts (way_of view.now))) }
         ensures message { (used : List (List ℕ)) → OnOk result (self.new.writer.message.items
             ≡ way_message (texts_after self.new.texts used) (way_of view.now)) }
@@ -152,8 +135,7 @@ impl<S: BuildHasher> OpenBlock<S> {
     fn make_relation(&mut self, view: &RelationRef<'_>) -> Result<(), AllocError>
         requires open { IsOpen self.old }
         requires fits { RelationFits (relation_of view.now) }
-        requires joins { (es : List EntitySpec) → Holds self.old es
-            → is_block (es ++ relation (relation_of view.now) ∷ []) ≡ true }
+        requires joins { Joins self.old (relation (relation_of view.now)) }
         ensures made { OnOk result
             (Makes self.old self.new (relation_texts (relation_of view.now))) }
         ensures message { (used : List (List ℕ)) → OnOk result (self.new.writer.message.items
@@ -165,18 +147,30 @@ impl<S: BuildHasher> OpenBlock<S> {
         Ok(())
     }
 
+    /// Encodes a node after the others.
+    #[inline(always)]
+    fn put_node(&mut self, view: &NodeRef<'_>) -> Result<(), AllocError>
+        requires open { IsOpen self.old }
+        requires fits { NodeFits (node_of view.now) }
+        requires joins { Joins self.old (node (node_of view.now)) }
+        ensures { (es : List EntitySpec) → Holds self.old es
+            → OnOk result (Encodes self.old self.new es (node (node_of view.now))) }
+    {
+        self.nodes.push(view, &mut self.texts)?;
+        Ok(())
+    }
+
     /// Encodes an entity after the others.
     #[inline(always)]
     fn put(&mut self, entity: &EntityRef<'_>) -> Result<(), AllocError>
         requires open { IsOpen self.old }
         requires fits { EntityFits (entity_of entity.now) }
-        requires joins { (es : List EntitySpec) → Holds self.old es
-            → is_block (es ++ entity_of entity.now ∷ []) ≡ true }
+        requires joins { Joins self.old (entity_of entity.now) }
         ensures { (es : List EntitySpec) → Holds self.old es
             → OnOk result (Encodes self.old self.new es (entity_of entity.now)) }
     {
         match entity {
-            EntityRef::Node(node) => self.nodes.push(node, &mut self.texts)?,
+            EntityRef::Node(view) => self.put_node(view)?,
             EntityRef::Way(view) => {
                 self.make_way(view)?;
                 self.writer.append_way(&mut self.group)?;
@@ -189,73 +183,49 @@ impl<S: BuildHasher> OpenBlock<S> {
         Ok(())
     }
 
-    /// Adds an entity of this weight after the others. After an `Err` the block is unspecified.
+    /// Counts an entity that was encoded. All later ones are like the first.
     #[inline(always)]
-    pub(crate) fn add(&mut self, entity: &EntityRef<'_>, weight: u64) -> Result<(), AllocError>
+    fn count_joined(&mut self, joining: Joining)
+        requires few { self.old.count < MOST_ENTITIES }
+        requires light { self.old.weight + joining.weight ≤ HIGHEST_WEIGHT }
+        ensures { Counts self.old self.new joining }
+    {
+        if self.likeness.is_none() {
+            self.likeness = Some(joining.likeness);
+        }
+        self.count += 1;
+        self.weight += joining.weight;
+    }
+
+    /// Adds an entity after the others. After an `Err` the block is unspecified.
+    #[inline(always)]
+    pub(crate) fn add(&mut self, entity: &EntityRef<'_>, joining: Joining) -> Result<(), AllocError>
         requires open { IsOpen self.old }
         requires fits { EntityFits (entity_of entity.now) }
-        requires weighs { weight ≡ entity_weight (entity_of entity.now) }
-        requires joins { (es : List EntitySpec) → Holds self.old es
-            → is_block (es ++ entity_of entity.now ∷ []) ≡ true }
-        ensures { (es : List EntitySpec) → Holds self.old es
-            → OnOk result (Holds self.new (es ++ entity_of entity.now ∷ [])) }
+        requires is { IsJoining joining (entity_of entity.now) }
+        requires joins { Joins self.old (entity_of entity.now) }
+        ensures { Adds self.old self.new (entity_of entity.now) result }
     {
         self.put(entity)?;
-        remember(&mut self.likeness, entity);
-        self.count += 1;
-        self.weight += weight;
+        self.count_joined(joining);
         Ok(())
     }
 
-    /// Whether a node is like those that are there.
-    fn is_alike_node(&self, view: &NodeRef<'_>) -> bool
-        ensures { result ≡ is_like self.now.likeness (likeness_of (node (node_of view.now))) }
-    {
-        match self.likeness {
-            Some(likeness) => likeness.same(Likeness::of_node(view)),
-            None => true,
-        }
-    }
-
-    /// Whether one more node of this weight may join the block.
+    /// The same of a node, of which no entity has to be made.
     #[inline(always)]
-    pub(crate) fn takes_node(&self, view: &NodeRef<'_>, weight: u64) -> bool
-        requires weighs { weight ≡ node_weight (node_of view.now) }
-        ensures { (es : List EntitySpec) → Holds self.now es
-            → result ≡ is_block (es ++ node (node_of view.now) ∷ []) }
-    {
-        may_join(self.is_alike_node(view), self.count, self.weight, weight)
-    }
-
-    /// Encodes a node after the others.
-    #[inline(always)]
-    fn put_node(&mut self, view: &NodeRef<'_>) -> Result<(), AllocError>
+    pub(crate) fn add_node(
+        &mut self,
+        view: &NodeRef<'_>,
+        joining: Joining,
+    ) -> Result<(), AllocError>
         requires open { IsOpen self.old }
         requires fits { NodeFits (node_of view.now) }
-        requires joins { (es : List EntitySpec) → Holds self.old es
-            → is_block (es ++ node (node_of view.now) ∷ []) ≡ true }
-        ensures { (es : List EntitySpec) → Holds self.old es
-            → OnOk result (Encodes self.old self.new es (node (node_of view.now))) }
-    {
-        self.nodes.push(view, &mut self.texts)?;
-        Ok(())
-    }
-
-    /// Adds a node of this weight after the others. After an `Err` the block is unspecified.
-    #[inline(always)]
-    pub(crate) fn add_node(&mut self, view: &NodeRef<'_>, weight: u64) -> Result<(), AllocError>
-        requires open { IsOpen self.old }
-        requires fits { NodeFits (node_of view.now) }
-        requires weighs { weight ≡ node_weight (node_of view.now) }
-        requires joins { (es : List EntitySpec) → Holds self.old es
-            → is_block (es ++ node (node_of view.now) ∷ []) ≡ true }
-        ensures { (es : List EntitySpec) → Holds self.old es
-            → OnOk result (Holds self.new (es ++ node (node_of view.now) ∷ [])) }
+        requires is { IsJoining joining (node (node_of view.now)) }
+        requires joins { Joins self.old (node (node_of view.now)) }
+        ensures { Adds self.old self.new (node (node_of view.now)) result }
     {
         self.put_node(view)?;
-        remember_node(&mut self.likeness, view);
-        self.count += 1;
-        self.weight += weight;
+        self.count_joined(joining);
         Ok(())
     }
 

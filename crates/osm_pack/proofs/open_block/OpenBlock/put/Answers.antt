@@ -6,10 +6,8 @@ use Rattle.pbf_block.specs.WrittenBlock.{is_block}
 use Rattle.osm_pack.proofs.OpenLemmas.{room_held, node_encoded, way_encoded, relation_encoded, appended}
 use Rattle.osm_pack.proofs.open_block.OpenBlock.put.Goals as goal
 
-pub push-requires-clause-room : goal.push-requires-clause-room
-push-requires-clause-room g c =
-    let was = c.requires.«open» in
-    subst (λ v. length c.args.self.now.texts + length (entity_texts (entity_of v)) ≤ 1048575) c.in-Node.is (room_held c.args.self.now was.entities (entity_of c.args.entity.now) was.held (c.requires.joins was.entities was.held))
+pub put_node-requires-clause-joins : goal.put_node-requires-clause-joins
+put_node-requires-clause-joins g c = λ es h. subst (λ v. is_block (es ++ entity_of v ∷ []) ≡ true) c.in-Node.is (c.requires.joins es h)
 
 pub make_way-requires-clause-joins : goal.make_way-requires-clause-joins
 make_way-requires-clause-joins g c = λ es h. subst (λ v. is_block (es ++ entity_of v ∷ []) ≡ true) c.in-Way.is (c.requires.joins es h)
@@ -17,8 +15,8 @@ make_way-requires-clause-joins g c = λ es h. subst (λ v. is_block (es ++ entit
 pub make_relation-requires-clause-joins : goal.make_relation-requires-clause-joins
 make_relation-requires-clause-joins g c = λ es h. subst (λ v. is_block (es ++ entity_of v ∷ []) ≡ true) c.in-Relation.is (c.requires.joins es h)
 
-pub returns-in_ok-push-in-Node : goal.returns-in_ok-push-in-Node
-returns-in_ok-push-in-Node g c = λ es h. rw c.in-Node.is (node_encoded _ _ es _ h (record { likeness = refl; count = refl; weight = refl }) c.in_ok-push-in-Node.ensures.texts c.in_ok-push-in-Node.ensures.pushed refl refl)
+pub returns-in_ok-put_node-in-Node : goal.returns-in_ok-put_node-in-Node
+returns-in_ok-put_node-in-Node g c = λ es h. rw c.in-Node.is (c.in_ok-put_node-in-Node.ensures es h)
 
 pub returns-in_ok-append_way-in-Way : goal.returns-in_ok-append_way-in-Way
 returns-in_ok-append_way-in-Way g c = λ es h.

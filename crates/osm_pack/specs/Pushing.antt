@@ -1,0 +1,18 @@
+-- How room is made for an entity in the open block.
+use Rattle.std.specs.Prelude.{◌≡◌, List, [], ◌∷◌, ◌++◌, Result, OnOk, if◌then◌else◌}
+use Rattle.osm_entity.specs.Entity.{EntitySpec}
+use Rattle.pbf_frame.specs.declared.device.Drain as drain
+use Rattle.pbf_frame.specs.declared.stop.Stop.{Stop}
+use Rattle.pbf_frame.specs.Devices.{IsFront}
+use Rattle.pbf_frame.specs.Transfers.{Added}
+use Rattle.pbf_block.specs.WrittenBlock.{is_block}
+use Rattle.osm_pack.specs.Cuts.{then_written}
+use Rattle.osm_pack.specs.Open.{Holds, Joins}
+use Rattle.osm_pack.specs.declared.open_block.OpenBlock.{OpenBlock}
+
+-- there is room for an entity: what the block held went out if the entity could not join it
+pub record MakesRoom {D S H X : Type 0} (d : drain.Ghosts D) (e : EntitySpec) (drained now : D) (old new : OpenBlock S H) (result : Result X Stop) : Type 0 where
+  pub joins : OnOk result (Joins new e)
+  pub pending : (es : List EntitySpec) → Holds old es → OnOk result (Holds new (if is_block (es ++ e ∷ []) then es else []))
+  pub written : (es : List EntitySpec) → Holds old es → OnOk result (Added d drained (then_written es e) now)
+  pub front : (es : List EntitySpec) → Holds old es → IsFront (d.taken drained) (d.taken now) (then_written es e)
