@@ -225,7 +225,7 @@ light (node n) h = h.light
 light (way w) h = h.light
 light (relation r) h = h.light
 
--- what waits once an entity is added where there is room for it
+-- what waits once there is room for an entity and it is added
 pub after_room : (joins : Bool) (es : List EntitySpec) (e : EntitySpec) → (if joins then es else []) ++ e ∷ [] ≡ (if joins then es ++ e ∷ [] else e ∷ [])
 after_room true es e = refl
 after_room false es e = refl

@@ -9,7 +9,7 @@ use Rattle.pbf_frame.specs.Frames.{FrameSpec}
 use Rattle.pbf_frame.specs.Refusals.{Refuses}
 use Rattle.pbf_frame.specs.Verdict.{Verdict, with_first_known, Says, judged_known}
 use Rattle.pbf_frame.proofs.Refusing.{faulty_as}
-use Rattle.pbf_pass.specs.Again.{IsSound, GathersFrame, GathersFile, StopsAtFrame, StopsUnjudged, ReadsFaulty}
+use Rattle.pbf_pass.specs.Unjudged.{IsSound, GathersFrame, GathersFile, StopsAtFrame, StopsUnjudged, ReadsFaulty}
 use Rattle.pbf_pass.specs.Counting.{stored_entities}
 use Rattle.pbf_pass.specs.Judged.{fully, fully_known}
 use Rattle.pbf_pass.specs.Refused.{RefusesRest}

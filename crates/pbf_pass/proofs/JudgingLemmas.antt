@@ -8,7 +8,7 @@ use Rattle.pbf_frame.specs.declared.stop.Stop.TheVariants as why
 use Rattle.pbf_frame.specs.Frames.{FrameSpec}
 use Rattle.pbf_frame.specs.Verdict.{Verdict, with_first_known, Says}
 use Rattle.pbf_pass.specs.declared.pass.Pass.{Pass}
-use Rattle.pbf_pass.specs.Again.{IsSound}
+use Rattle.pbf_pass.specs.Unjudged.{IsSound}
 use Rattle.pbf_pass.specs.Counting.{counts_of, stored_entities}
 use Rattle.pbf_pass.specs.Judged.{payload_fault, fully_known}
 use Rattle.pbf_pass.specs.Pass.{IsFresh, TakesFrame, TakesFile, HoldsHeader, file_header}

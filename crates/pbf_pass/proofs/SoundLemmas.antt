@@ -7,7 +7,7 @@ use Rattle.pbf_frame.specs.Frames.{FrameSpec}
 use Rattle.pbf_frame.specs.Verdict.{Verdict, with_frame_first, with_first_known, with_all, VerdictAfter, Says}
 use Rattle.pbf_frame.proofs.Parting.{none_some, some_same}
 use Rattle.pbf_frame.proofs.VerdictLemmas.{gone_more, gone_split}
-use Rattle.pbf_pass.specs.Again.{IsSound, IsFaulty}
+use Rattle.pbf_pass.specs.Unjudged.{IsSound, IsFaulty}
 use Rattle.pbf_pass.specs.Judged.{payload_fault, sound_first, sound_front, fully, fully_known}
 
 -- the first ones of such frames

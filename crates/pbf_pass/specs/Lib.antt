@@ -4,7 +4,7 @@ pub mod Counting
 pub mod Stops
 pub mod Visit
 pub mod Pass
-pub mod Again
+pub mod Unjudged
 pub mod HeaderLimit
 pub mod Hashing
 pub mod Given

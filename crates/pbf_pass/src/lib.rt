@@ -1,16 +1,15 @@
 //! A pass over a whole file: it is judged, its entities are counted and gathered, and its bytes are hashed.
 #![tactic(auto)]
 
-mod again;
 mod checking;
 mod first;
 mod hashed;
 mod header_limit;
 mod pass;
 mod receipt;
+mod unjudged;
 mod visit;
 
-pub use again::{Later, gather_again, step_again};
 pub use checking::{check, check_with_receipt};
 pub use hashed::{HashedDrain, PassFeed};
 pub use header_limit::writable_header;
@@ -20,4 +19,5 @@ pub use pass::{
 };
 pub use pbf_block::Counts;
 pub use receipt::{Halt, InputReceipt, Passes, Refusal};
+pub use unjudged::{Later, gather_unjudged, step_unjudged};
 pub use visit::{FileRead, Visit, pass_over, step, visit_rest};

@@ -7,7 +7,7 @@ use Rattle.pbf_frame.specs.declared.stop.Stop.{Stop}
 use Rattle.pbf_frame.specs.declared.stop.Stop.TheVariants as stop
 use Rattle.pbf_frame.specs.Frames.{FrameSpec}
 use Rattle.pbf_frame.specs.Verdict.{Verdict, Says}
-use Rattle.pbf_pass.specs.Again.{StopsUnjudged, ReadsFaulty}
+use Rattle.pbf_pass.specs.Unjudged.{StopsUnjudged, ReadsFaulty}
 use Rattle.pbf_pass.specs.Given.{GaveFile}
 use Rattle.pbf_pass.specs.Hashing.{IsDigestOf, digest_if}
 use Rattle.pbf_pass.specs.Judged.{judged_file}
@@ -15,18 +15,18 @@ use Rattle.pbf_pass.specs.Stops.{Caused, unchanged, ReadFailed}
 use Rattle.pbf_pass.proofs.AgainLemmas.{refuses_less}
 use Rattle.pbfcut.specs.declared.repeat.LaterPass.{LaterPass}
 use Rattle.pbfcut.specs.Changes.{ChangedAt, IfChanged}
-use Rattle.pbfcut.specs.Repeat.{IsUnlike, StopsAgain, as_change, digest_of}
+use Rattle.pbfcut.specs.Repeat.{IsUnlike, StopsLater, as_change, digest_of}
 use Rattle.pbfcut.proofs.ConvertingLemmas.{known_says}
 
 -- ---- of one later pass
 
 module _ {F : Type 0} (f : feed.Ghosts F) (repeat : LaterPass) (old new : F) (wrote : Type 0) where
   -- it is no refusal
-  pub no_refusal : (s : Stop) → StopsAgain f repeat old new wrote s → (e : Fault) → s ≡ stop.Refused e → ⊥
-  no_refusal s stops e is = subst (λ (x : Stop). StopsAgain f repeat old new wrote x) is stops
+  pub no_refusal : (s : Stop) → StopsLater f repeat old new wrote s → (e : Fault) → s ≡ stop.Refused e → ⊥
+  no_refusal s stops e is = subst (λ (x : Stop). StopsLater f repeat old new wrote x) is stops
 
   -- what stops a pass that doesn't judge
-  pub stops_as_change : (known : Option Verdict) (s : Stop) → StopsUnjudged repeat.number known (ReadFailed f old new) wrote s → ReadsFaulty f old new s → StopsAgain f repeat old new wrote (as_change repeat.number s)
+  pub stops_as_change : (known : Option Verdict) (s : Stop) → StopsUnjudged repeat.number known (ReadFailed f old new) wrote s → ReadsFaulty f old new s → StopsLater f repeat old new wrote (as_change repeat.number s)
   stops_as_change known (stop.Refused e) stops faulty = (refl, refuses_less f old new _ (IsUnlike (digest_of repeat)) (λ b is same. is) faulty)
   stops_as_change known stop.Read stops faulty = stops
   stops_as_change known stop.Write stops faulty = stops
@@ -34,7 +34,7 @@ module _ {F : Type 0} (f : feed.Ghosts F) (repeat : LaterPass) (old new : F) (wr
   stops_as_change known (stop.Changed pass) stops faulty = (stops.0, refuses_less f old new _ (IsUnlike (digest_of repeat)) (λ b is same. is) faulty)
 
   -- one that judges
-  pub fault_as_change : (refused : Fault → Type 0) (s : Stop) → Caused refused (ReadFailed f old new) wrote unchanged s → ReadsFaulty f old new s → StopsAgain f repeat old new wrote (as_change repeat.number s)
+  pub fault_as_change : (refused : Fault → Type 0) (s : Stop) → Caused refused (ReadFailed f old new) wrote unchanged s → ReadsFaulty f old new s → StopsLater f repeat old new wrote (as_change repeat.number s)
   fault_as_change refused (stop.Refused e) stops faulty = (refl, refuses_less f old new _ (IsUnlike (digest_of repeat)) (λ b is same. is) faulty)
   fault_as_change refused stop.Read stops faulty = stops
   fault_as_change refused stop.Write stops faulty = stops
@@ -46,8 +46,8 @@ module _ {F : Type 0} (f : feed.Ghosts F) (repeat : LaterPass) (old new : F) (wr
   hashed_is hashes digest bytes is same = subst (λ (b : Bool). IsDigestOf (digest_if b digest) bytes) is same
 
   -- all was read, and the digest is another
-  pub digest_as_change : (hashes : Bool) (digest : List ℕ) (holds : List ℕ → Type 0) (s : Stop) → hashes ≡ repeat.passes.hashes → GaveFile f old new (digest_if hashes digest) holds → (s ≡ stop.Changed repeat.number) × (repeat.passes.hashes ≡ true) × (digest ≡ repeat.digest → ⊥) → StopsAgain f repeat old new wrote s
-  digest_as_change hashes digest holds s same given (is, hashed, other) = subst (λ (x : Stop). StopsAgain f repeat old new wrote x) (sym is) (
+  pub digest_as_change : (hashes : Bool) (digest : List ℕ) (holds : List ℕ → Type 0) (s : Stop) → hashes ≡ repeat.passes.hashes → GaveFile f old new (digest_if hashes digest) holds → (s ≡ stop.Changed repeat.number) × (repeat.passes.hashes ≡ true) × (digest ≡ repeat.digest → ⊥) → StopsLater f repeat old new wrote s
+  digest_as_change hashes digest holds s same given (is, hashed, other) = subst (λ (x : Stop). StopsLater f repeat old new wrote x) (sym is) (
     refl,
     record {
       read = given.file;
@@ -77,7 +77,7 @@ changed_before changed also (stop.Changed pass) step stops = step pass stops
 
 -- in a later one
 pub changed_later : {F G : Type 0} (f : feed.Ghosts F) (first now : F) (g : feed.Ghosts G) (old new : G) (repeat : LaterPass) (digest : Option (List ℕ)) (holds : List ℕ → Type 0) (wrote : Type 0) (changed : ℕ → Type 0) (s : Stop)
-    → (given : GaveFile f first now digest holds) → (frames : List FrameSpec) → Says (judged_file (Some given.file)) (frames, None) → digest_of repeat ≡ digest → ((pass : ℕ) → ChangedAt repeat.number f first now g old new pass → changed pass) → StopsAgain g repeat old new wrote s → IfChanged changed s
+    → (given : GaveFile f first now digest holds) → (frames : List FrameSpec) → Says (judged_file (Some given.file)) (frames, None) → digest_of repeat ≡ digest → ((pass : ℕ) → ChangedAt repeat.number f first now g old new pass → changed pass) → StopsLater g repeat old new wrote s → IfChanged changed s
 changed_later f first now g old new repeat digest holds wrote changed (stop.Refused e) given frames says is step stops = tt
 changed_later f first now g old new repeat digest holds wrote changed stop.Read given frames says is step stops = tt
 changed_later f first now g old new repeat digest holds wrote changed stop.Write given frames says is step stops = tt

@@ -46,14 +46,14 @@ use Rattle.pbfcut.proofs.TheoremLemmas.{took_weaker}
 use Rattle.pbf_pass.specs.Pass.{with_node, with_first, with_way, with_relation, TakesFile, file_header}
 use Rattle.pbf_pass.specs.declared.receipt.Passes.{Passes}
 use Rattle.pbfcut.specs.declared.repeat.LaterPass.{LaterPass}
-use Rattle.pbfcut.specs.Repeat.{IsUnlike, GathersRest, StopsAgain, digest_of}
+use Rattle.pbfcut.specs.Repeat.{IsUnlike, GathersRest, StopsLater, digest_of}
 use Rattle.pbf_pass.specs.Hashing.{IsDigestOf, digest_if}
 use Rattle.pbf_pass.specs.Stops.{Caused, FaultOf, ReadFailed, unchanged}
 use Rattle.pbf_pass.specs.declared.receipt.Halt.{Halt}
 use Rattle.pbf_pass.specs.Refused.{stop_of}
 use Rattle.pbfcut.specs.Choosing.{StopsFirst, StopsChoosing}
 use Rattle.pbfcut.proofs.ChangedLemmas.{never_changed}
-use Rattle.pbf_pass.specs.Again.{GathersFile}
+use Rattle.pbf_pass.specs.Unjudged.{GathersFile}
 use Rattle.pbf_pass.specs.Judged.{judged_file}
 use Rattle.pbfcut.specs.Pick.{Pick, picked_by, pick_of}
 use Rattle.pbfcut.specs.Write.{Packed, PacksFront}
@@ -198,7 +198,7 @@ later_differs f old new first digest frames same says unlike b c is too e =
 -- the stops of a later pass, as those of the call
 module _ {F : Type 0} (f : feed.Ghosts F) (old new : F) (first : Option (List ℕ)) (frames : List FrameSpec) (says : Says (judged_file first) (frames, None)) where
   pub stops_later : (again : LaterPass) (digest : Option (List ℕ)) (refused : Fault → Type 0) (read wrote : Type 0) (changed : ℕ → Type 0) (s : Stop) → IsDigest first digest → digest_of again ≡ digest
-      → (ReadFailed f old new → read) → ((pass : ℕ) → ChangedIn again.number first (f.remaining old) pass → changed pass) → StopsAgain f again old new wrote s → Caused refused read wrote changed s
+      → (ReadFailed f old new → read) → ((pass : ℕ) → ChangedIn again.number first (f.remaining old) pass → changed pass) → StopsLater f again old new wrote s → Caused refused read wrote changed s
   stops_later again digest refused read wrote changed (stop.Refused e) same is r d h = absurd h
   stops_later again digest refused read wrote changed stop.Read same is r d h = r h
   stops_later again digest refused read wrote changed stop.Write same is r d h = h
@@ -207,13 +207,13 @@ module _ {F : Type 0} (f : feed.Ghosts F) (old new : F) (first : Option (List �
 
   -- those of the pass that writes, in each call
   module _ (passes : Passes) (digest : List ℕ) (before now : Option (List ℕ)) (read wrote : Type 0) (s : Stop) (same : IsDigest first (digest_if passes.hashes digest)) (failed : ReadFailed f old new → read) where
-    pub convert_stops : StopsAgain f (record { number = 2; digest = digest; passes = passes }) old new wrote s → ConvertStops first (f.remaining old) before now read wrote s
+    pub convert_stops : StopsLater f (record { number = 2; digest = digest; passes = passes }) old new wrote s → ConvertStops first (f.remaining old) before now read wrote s
     convert_stops h = stops_later (record { number = 2; digest = digest; passes = passes }) (digest_if passes.hashes digest) (RefusedFirst (judged_writable first) before now) read wrote (ChangedIn 2 first (f.remaining old)) s same refl failed (λ pass is. is) h
 
-    pub extract_stops : (second : Option (List ℕ)) → StopsAgain f (record { number = 3; digest = digest; passes = passes }) old new wrote s → ExtractStops first second (f.remaining old) before now read wrote s
+    pub extract_stops : (second : Option (List ℕ)) → StopsLater f (record { number = 3; digest = digest; passes = passes }) old new wrote s → ExtractStops first second (f.remaining old) before now read wrote s
     extract_stops second h = stops_later (record { number = 3; digest = digest; passes = passes }) (digest_if passes.hashes digest) (RefusedFirst (judged_writable first) before now) read wrote (λ pass. ChangedBefore 2 first second before now pass ⊎ ChangedIn 3 first (f.remaining old) pass) s same refl failed (λ pass is. inr is) h
 
-    pub parents_stops : (second third : Option (List ℕ)) → StopsAgain f (record { number = 4; digest = digest; passes = passes }) old new wrote s → ParentsStops first second third (f.remaining old) before now read wrote s
+    pub parents_stops : (second third : Option (List ℕ)) → StopsLater f (record { number = 4; digest = digest; passes = passes }) old new wrote s → ParentsStops first second third (f.remaining old) before now read wrote s
     parents_stops second third h =
         stops_later (record { number = 4; digest = digest; passes = passes }) (digest_if passes.hashes digest) (RefusedFirst (judged_writable first) before now) read wrote
         (λ pass. (ChangedBefore 2 first second before now pass ⊎ ChangedBefore 3 first third before now pass) ⊎ ChangedIn 4 first (f.remaining old) pass) s same refl failed (λ pass is. inr is) h

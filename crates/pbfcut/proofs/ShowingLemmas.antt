@@ -18,7 +18,7 @@ use Rattle.pbf_frame.proofs.Parting.{none_some, some_same}
 use Rattle.pbf_frame.specs.Transfers.{Added}
 use Rattle.pbf_frame.proofs.Passed.{added_none}
 use Rattle.pbf_pass.specs.Judged.{payload_fault, fully_known, judged_file}
-use Rattle.pbf_pass.specs.Again.{IsFaulty, ReadsFaulty}
+use Rattle.pbf_pass.specs.Unjudged.{IsFaulty, ReadsFaulty}
 use Rattle.pbf_pass.specs.Given.{Took}
 use Rattle.pbf_pass.specs.Refused.{RefusesRest}
 use Rattle.pbf_pass.proofs.AgainLemmas.{refuses_less}

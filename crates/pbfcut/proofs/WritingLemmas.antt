@@ -20,7 +20,7 @@ use Rattle.pbf_frame.specs.Verdict.{Verdict, judged_known, with_first_known, Ver
 use Rattle.pbf_frame.proofs.Beginnings.{front_whole}
 use Rattle.pbf_frame.proofs.Parting.{none_some}
 use Rattle.pbf_frame.proofs.VerdictLemmas.{gone_more}
-use Rattle.pbf_pass.specs.Again.{IsSound, StopsAtFrame, StopsUnjudged, ReadsFaulty}
+use Rattle.pbf_pass.specs.Unjudged.{IsSound, StopsAtFrame, StopsUnjudged, ReadsFaulty}
 use Rattle.pbf_pass.specs.Counting.{counts_of, stored_entities}
 use Rattle.pbf_pass.specs.Judged.{fault_in, fully, fully_known, judged_file}
 use Rattle.pbf_pass.specs.Payload.{Payload, payload_as, payload_of}

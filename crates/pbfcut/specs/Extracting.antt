@@ -15,7 +15,7 @@ use Rattle.pbf_header.specs.Header.{HeaderSpec}
 use Rattle.pbf_header.specs.WrittenHeader.{header_out_for_box}
 use Rattle.pbf_frame.specs.Frames.{FrameSpec}
 use Rattle.pbf_frame.specs.Verdict.{Verdict, Says}
-use Rattle.pbf_pass.specs.Again.{GathersFile}
+use Rattle.pbf_pass.specs.Unjudged.{GathersFile}
 use Rattle.pbf_pass.specs.HeaderLimit.{header_limit}
 use Rattle.pbf_pass.specs.Counting.{stored_entities}
 use Rattle.pbf_pass.specs.Judged.{judged_file}

@@ -7,7 +7,7 @@ use Rattle.pbf_frame.specs.declared.stop.Stop.{Stop}
 use Rattle.pbf_frame.specs.declared.stop.Stop.TheVariants.{Refused, Read, Write, Memory, Changed}
 use Rattle.pbf_frame.specs.Refusals.{Refuses}
 use Rattle.pbfcut.specs.declared.repeat.LaterPass.{LaterPass}
-use Rattle.pbf_pass.specs.Again.{GathersFile, IsFaulty}
+use Rattle.pbf_pass.specs.Unjudged.{GathersFile, IsFaulty}
 use Rattle.pbf_pass.specs.Given.{GaveFile}
 use Rattle.pbf_pass.specs.Hashing.{IsDigestOf, digest_if}
 use Rattle.pbf_pass.specs.Judged.{judged_file}
@@ -22,8 +22,8 @@ abbrev pub IsUnlike : Option (List ℕ) → List ℕ → Type 0
 IsUnlike digest bytes = IsDigestOf digest bytes → IsFaulty (judged_file (Some bytes))
 
 -- nothing is refused; and if the stop is `Changed`, the feed gave other bytes than those of the digest
-abbrev pub StopsAgain : {F : Type 0} → feed.Ghosts F → LaterPass → (old new : F) → (wrote : Type 0) → Stop → Type 0
-StopsAgain f again old new wrote stop =
+abbrev pub StopsLater : {F : Type 0} → feed.Ghosts F → LaterPass → (old new : F) → (wrote : Type 0) → Stop → Type 0
+StopsLater f again old new wrote stop =
     Caused (λ e. ⊥) (ReadFailed f old new) wrote (λ pass. (pass ≡ again.number) × Refuses (IsUnlike (digest_of again)) (f.has_passed old) (f.has_passed new) (f.remaining old) (f.remaining new)) stop
 
 -- a fault that a later pass finds is a change

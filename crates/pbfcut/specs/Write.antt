@@ -11,7 +11,7 @@ use Rattle.pbf_frame.specs.declared.stop.Stop.{Stop}
 use Rattle.pbf_frame.specs.Devices.{IsFront}
 use Rattle.pbf_frame.specs.Frames.{FrameSpec}
 use Rattle.pbf_frame.specs.Verdict.{Verdict}
-use Rattle.pbf_pass.specs.Again.{StopsAtPayload}
+use Rattle.pbf_pass.specs.Unjudged.{StopsAtPayload}
 use Rattle.pbf_pass.specs.Counting.{counts_of, stored_entities}
 use Rattle.pbf_pass.specs.Judged.{fault_in}
 use Rattle.pbf_pass.specs.Payload.{Payload, payload_of}

@@ -18,7 +18,7 @@ pub use extracting::{
 };
 pub use pbf_pass::{
     Counts, Gather, Halt, InputReceipt, Nothing, Pass, Refusal, check, check_with_receipt,
-    gather_again, step_again, step_count, step_gather, step_nodes, step_relations, step_ways,
+    gather_unjudged, step_count, step_gather, step_nodes, step_relations, step_unjudged, step_ways,
 };
 pub use pick::{step_pack, step_write, step_write_parents};
 pub use showing::{show, show_with_receipt};

@@ -184,8 +184,7 @@ impl<'a> EntityPacker<'a> {
             self.old self.new packer.old packer.new result }
     {
         let Some(weight) = view.weight_if_fits() else {
-            let changed = Stop::Changed(self.number);
-            return Err(changed);
+            return Err(Stop::Changed(self.number));
         };
         packer.push_node(view, weight)?;
         self.counts.nodes = self.counts.nodes.saturating_add(1);

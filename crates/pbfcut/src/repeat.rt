@@ -2,15 +2,15 @@
 
 ghost use Rattle.std.specs.Prelude.{◌≡◌, true, IfOk, IfErr, OnOk, OnErr, Ok, Err, Some};
 ghost use Rattle.pbf_frame.specs.declared.stop.Stop.TheVariants.{Changed};
-ghost use Rattle.pbf_pass.specs.Again.{GathersFile};
+ghost use Rattle.pbf_pass.specs.Unjudged.{GathersFile};
 ghost use Rattle.pbf_pass.specs.Judged.{judged_file};
 ghost use Rattle.pbf_pass.specs.Given.{GaveFile};
 ghost use Rattle.pbf_pass.specs.Hashing.{digest_if};
 ghost use Rattle.pbf_frame.specs.Keeps.{KeepsFeed};
-ghost use Rattle.pbfcut.specs.Repeat.{GathersRest, StopsAgain, as_change, digest_of};
+ghost use Rattle.pbfcut.specs.Repeat.{GathersRest, StopsLater, as_change, digest_of};
 
 use pbf_frame::{Feed, Stop};
-use pbf_pass::{Gather, Passes, gather_again};
+use pbf_pass::{Gather, Passes, gather_unjudged};
 
 /// A pass after the first.
 #[derive(Clone, Copy)]
@@ -56,10 +56,10 @@ impl LaterPass {
         ensures gathered { OnOk result (GaveFile F.Feed feed.old feed.new (digest_of self)
             (λ file. GathersFile G.gathered (judged_file (Some file))
             gathering.old gathering.new)) }
-        ensures stops { IfErr result (StopsAgain F.Feed self feed.old feed.new ⊥) }
+        ensures stops { IfErr result (StopsLater F.Feed self feed.old feed.new ⊥) }
         ensures keeps { KeepsFeed F.Feed feed.old feed.new }
     {
-        match gather_again(self.passes, feed, gathering, self.number) {
+        match gather_unjudged(self.passes, feed, gathering, self.number) {
             Ok(digest) => self.compare(digest),
             Err(stop) => Err(self.changed(stop)),
         }
@@ -74,7 +74,7 @@ impl LaterPass {
     ) -> Result<(), Stop>
         ensures gathered { OnOk result (GathersRest F.Feed G.gathered is_done feed.old feed.new
             (digest_of self) gathering.old gathering.new) }
-        ensures stops { IfErr result (StopsAgain F.Feed self feed.old feed.new ⊥) }
+        ensures stops { IfErr result (StopsLater F.Feed self feed.old feed.new ⊥) }
         ensures keeps { KeepsFeed F.Feed feed.old feed.new }
     {
         if is_done {

@@ -7,7 +7,7 @@ ghost use Rattle.pbf_block.specs.Runs.{entities_left};
 ghost use Rattle.osm_text.specs.EntityText.{entity_line};
 ghost use Rattle.pbfcut.specs.Calls.{RefusedFirst, ChangedIn};
 ghost use Rattle.pbfcut.specs.Changes.{ChangedAt, IfChanged};
-ghost use Rattle.pbf_pass.specs.Again.{ReadsFaulty};
+ghost use Rattle.pbf_pass.specs.Unjudged.{ReadsFaulty};
 ghost use Rattle.pbf_pass.specs.Given.{GaveFile, Took};
 ghost use Rattle.pbf_pass.specs.Hashing.{digest_if};
 ghost use Rattle.pbf_pass.specs.Judged.{judged_file};

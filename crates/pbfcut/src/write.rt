@@ -3,7 +3,7 @@
 
 ghost use Rattle.std.specs.Prelude.{◌∷◌, ◌≡◌, IfOk, IfErr, OnErr};
 ghost use Rattle.pbf_header.specs.Header.{header_of};
-ghost use Rattle.pbf_pass.specs.Again.{StopsUnjudged, ReadsFaulty};
+ghost use Rattle.pbf_pass.specs.Unjudged.{StopsUnjudged, ReadsFaulty};
 ghost use Rattle.pbf_pass.specs.Given.{GaveFile, Took};
 ghost use Rattle.pbf_pass.specs.Hashing.{digest_if};
 ghost use Rattle.pbf_pass.specs.HeaderLimit.{HasShortTexts};
@@ -12,7 +12,7 @@ ghost use Rattle.pbf_pass.specs.Payload.{primitive_block, lent_by};
 ghost use Rattle.pbf_pass.specs.Stops.{ReadFailed, WriteFailed};
 ghost use Rattle.pbf_frame.specs.Keeps.{KeepsDrain, KeepsFeed};
 ghost use Rattle.pbfcut.specs.Pick.{pick_of, IsFreshPacker, IsReadyToPack};
-ghost use Rattle.pbfcut.specs.Repeat.{StopsAgain, digest_of};
+ghost use Rattle.pbfcut.specs.Repeat.{StopsLater, digest_of};
 ghost use Rattle.pbfcut.specs.Write.{PacksUnjudged, PacksNext, FailsAtNext, Packed, PacksFront};
 
 use crate::pick::EntityPacker;
@@ -190,7 +190,7 @@ impl LaterPass {
         ensures beginning { OnErr result (PacksFront (pick_of plan.entry.chosen)
             (header_of plan.entry.header.now) (judged_file (F.remaining feed.old))
             (D.taken drain.old) (D.taken drain.new)) }
-        ensures stops { IfErr result (StopsAgain F.Feed self feed.old feed.new
+        ensures stops { IfErr result (StopsLater F.Feed self feed.old feed.new
             (WriteFailed D.Drain drain.old drain.new)) }
         ensures keeps { KeepsFeed F.Feed feed.old feed.new }
         ensures drain { KeepsDrain D.Drain drain.old drain.new }

@@ -7,7 +7,7 @@ use osm_ways::{NodePhase, RelationPhase, WayPhase};
 use pbf_frame::{FrameReader, Pieces, Stop};
 use pbf_pass::Passes;
 use pbfcut::{
-    Counts, Nothing, Pass, gather_again, step_again, step_count, step_nodes, step_relations,
+    Counts, Nothing, Pass, gather_unjudged, step_count, step_nodes, step_relations, step_unjudged,
     step_ways,
 };
 use std::alloc::Global;
@@ -48,7 +48,7 @@ enum Taking<'a> {
     Ways(&'a mut WayPhase),
     Relations(&'a mut RelationPhase),
     /// The nodes in a later pass, which counts nothing.
-    NodesAgain(&'a mut NodePhase),
+    NodesUnjudged(&'a mut NodePhase),
 }
 
 fn take_frame(
@@ -62,7 +62,7 @@ fn take_frame(
         Taking::Nodes(phase) => step_nodes(alloc, reader, pass, phase),
         Taking::Ways(phase) => step_ways(alloc, reader, pass, phase),
         Taking::Relations(phase) => step_relations(alloc, reader, pass, phase),
-        Taking::NodesAgain(phase) => step_again(alloc, reader, *phase, 2),
+        Taking::NodesUnjudged(phase) => step_unjudged(alloc, reader, *phase, 2),
     }
 }
 
@@ -107,7 +107,7 @@ fn relations_counted(alloc: Global) -> Result<bool, Stop> {
 /// A later pass counts nothing.
 fn again_counted(alloc: Global) -> Result<bool, Stop> {
     let mut nodes = NodePhase::new(alloc, AREA);
-    Ok(taken(alloc, &mut Taking::NodesAgain(&mut nodes))? == Some(Counts::none()))
+    Ok(taken(alloc, &mut Taking::NodesUnjudged(&mut nodes))? == Some(Counts::none()))
 }
 
 #[test]
@@ -126,7 +126,7 @@ fn digest_of_a_later_pass(rt: HostRuntime) -> Result<(), Fail> {
         alloc: rt.alloc(),
         hashes: true,
     };
-    let digest = gather_again(passes, &mut small(), &mut Nothing, 2)?;
+    let digest = gather_unjudged(passes, &mut small(), &mut Nothing, 2)?;
     assert!(rt; digest == DIGEST);
     Ok(())
 }

@@ -20,7 +20,7 @@ nodes-preserved-in-Continue-1 g c =
     let fits : SFits w64 c.id.result = search rules in
     let here = ap (λ (z : ℤ). picks_id c.nodes.self.picker z) (sym c.id.ensures ∙ sym (to_z-of_z w64 c.id.result fits)) ∙ (sym c.picks_id.ensures.picked ∙ c.if-picks_id.true) in
     let same = ap (λ (p : Picker). record c.nodes.self { picker = p }) c.picks_id.ensures.same in
-    one_packed g.D.Drain c.args.self.now (dense_left c.args.dense.now) c.args.packer.now (dense_left c.nodes.nodes) (dense_left c.next_in.new.self) (node_of c.in-Some.view.now) c.nodes.self _ c.pack_node.new.self c.nodes.packer c.pack_node.new.packer _ (rw c.in-Some.is at c.next_in.ensures) here same c.nodes.invariant c.in_ok-pack_node.ensures
+    one_packed g.D.Drain c.args.self.now (dense_left c.args.dense.now) c.args.packer.now (dense_left c.nodes.nodes) (dense_left c.next_in.new.self) (node_of c.in-Some.view) c.nodes.self _ c.pack_node.new.self c.nodes.packer c.pack_node.new.packer _ (rw c.in-Some.is at c.next_in.ensures) here same c.nodes.invariant c.in_ok-pack_node.ensures
 
 pub returns-in_err-pack_node : goal.returns-in_err-pack_node
 returns-in_err-pack_node g c =
@@ -28,7 +28,7 @@ returns-in_err-pack_node g c =
     let fits : SFits w64 c.id.result = search rules in
     let here = ap (λ (z : ℤ). picks_id c.nodes.self.picker z) (sym c.id.ensures ∙ sym (to_z-of_z w64 c.id.result fits)) ∙ (sym c.picks_id.ensures.picked ∙ c.if-picks_id.true) in
     let same = ap (λ (p : Picker). record c.nodes.self { picker = p }) c.picks_id.ensures.same in
-    rw (p.1, p.2) (one_stops g.D.Drain c.args.self.now (dense_left c.args.dense.now) c.args.packer.now (dense_left c.nodes.nodes) (dense_left c.next_in.new.self) (node_of c.in-Some.view.now) c.nodes.self _ c.pack_node.new.self c.nodes.packer c.pack_node.new.packer _ (rw c.in-Some.is at c.next_in.ensures) here same c.nodes.invariant c.in_err-pack_node.ensures)
+    rw (p.1, p.2) (one_stops g.D.Drain c.args.self.now (dense_left c.args.dense.now) c.args.packer.now (dense_left c.nodes.nodes) (dense_left c.next_in.new.self) (node_of c.in-Some.view) c.nodes.self _ c.pack_node.new.self c.nodes.packer c.pack_node.new.packer _ (rw c.in-Some.is at c.next_in.ensures) here same c.nodes.invariant c.in_err-pack_node.ensures)
 
 pub returns-in_default-unpicked : goal.returns-in_default-unpicked
 returns-in_default-unpicked g c =
@@ -37,7 +37,7 @@ returns-in_default-unpicked g c =
     let here = ap (λ (z : ℤ). picks_id c.nodes.self.picker z) (sym c.id.ensures ∙ sym (to_z-of_z w64 c.id.result fits)) ∙ (sym c.picks_id.ensures.picked ∙ c.if-picks_id.false) in
     let later = subst (λ (p : Picker). filter (picks_of p) (map node ns) ≡ []) c.picks_id.ensures.same c.in_default-unpicked.ensures.none in
     let same = ap (λ (p : Picker). record c.nodes.self { picker = p }) (c.unpicked.ensures.same ∙ c.picks_id.ensures.same) in
-    rest_passed g.D.Drain c.args.self.now (dense_left c.args.dense.now) c.args.packer.now (dense_left c.nodes.nodes) ns (node_of c.in-Some.view.now) c.nodes.self _ c.nodes.packer _ (rw c.in-Some.is at c.next_in.ensures) here later same c.nodes.invariant
+    rest_passed g.D.Drain c.args.self.now (dense_left c.args.dense.now) c.args.packer.now (dense_left c.nodes.nodes) ns (node_of c.in-Some.view) c.nodes.self _ c.nodes.packer _ (rw c.in-Some.is at c.next_in.ensures) here later same c.nodes.invariant
 
 pub nodes-preserved : goal.nodes-preserved
 nodes-preserved g c =
@@ -46,7 +46,7 @@ nodes-preserved g c =
     let here = ap (λ (z : ℤ). picks_id c.nodes.self.picker z) (sym c.id.ensures ∙ sym (to_z-of_z w64 c.id.result fits)) ∙ (sym c.picks_id.ensures.picked ∙ c.if-picks_id.false) in
     let later = subst (λ (p : Picker). NonePicked p c.in-Some-unpicked.count ns) c.picks_id.ensures.same c.in-Some-unpicked.ensures.none in
     let same = ap (λ (p : Picker). record c.nodes.self { picker = p }) (c.unpicked.ensures.same ∙ c.picks_id.ensures.same) in
-    some_passed g.D.Drain c.args.self.now (dense_left c.args.dense.now) c.args.packer.now (dense_left c.nodes.nodes) ns _ (node_of c.in-Some.view.now) c.in-Some-unpicked.count c.nodes.self _ c.nodes.packer (rw c.in-Some.is at c.next_in.ensures) c.pass.ensures here later same c.nodes.invariant
+    some_passed g.D.Drain c.args.self.now (dense_left c.args.dense.now) c.args.packer.now (dense_left c.nodes.nodes) ns _ (node_of c.in-Some.view) c.in-Some-unpicked.count c.nodes.self _ c.nodes.packer (rw c.in-Some.is at c.next_in.ensures) c.pass.ensures here later same c.nodes.invariant
 
 pub returns : goal.returns
 returns g c =

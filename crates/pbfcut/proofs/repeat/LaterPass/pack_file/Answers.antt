@@ -3,7 +3,7 @@ use Rattle.std.specs.List.{filter}
 use Rattle.std.proofs.lemmas.Result.{err_from_is_err_and}
 use Rattle.pbf_header.specs.Header.{header_of}
 use Rattle.osm_pack.specs.Cuts.{written_file}
-use Rattle.pbf_pass.specs.Again.{StopsUnjudged}
+use Rattle.pbf_pass.specs.Unjudged.{StopsUnjudged}
 use Rattle.pbf_pass.specs.Stops.{ReadFailed, WriteFailed}
 use Rattle.pbf_pass.specs.Counting.{stored_entities}
 use Rattle.pbf_pass.specs.Given.{Took}

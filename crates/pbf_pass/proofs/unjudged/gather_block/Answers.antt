@@ -3,7 +3,7 @@ use Rattle.std.specs.Prelude.{None}
 use Rattle.std.specs.List.{fold}
 use Rattle.pbf_block.specs.PrimitiveBlock.{block_fault, entities}
 use Rattle.pbf_pass.proofs.GatherLemmas.{gathered_among}
-use Rattle.pbf_pass.proofs.again.gather_block.Goals as goal
+use Rattle.pbf_pass.proofs.unjudged.gather_block.Goals as goal
 
 pub returns-clause-gathered : goal.returns-clause-gathered
 returns-clause-gathered g c = λ sound.

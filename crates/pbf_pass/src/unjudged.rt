@@ -3,7 +3,7 @@
 
 ghost use Rattle.std.specs.Prelude.{◌≡◌, ◌≤◌, [], ◌∷◌, Some, IfOk, IfErr, OnOk};
 ghost use Rattle.pbf_frame.specs.Next.{place_of, held_by};
-ghost use Rattle.pbf_pass.specs.Again.{GathersPayload, GathersFrame, GathersFile, StopsAtPayload, StopsAtFrame, StopsUnjudged, ReadsFaulty};
+ghost use Rattle.pbf_pass.specs.Unjudged.{GathersPayload, GathersFrame, GathersFile, StopsAtPayload, StopsAtFrame, StopsUnjudged, ReadsFaulty};
 ghost use Rattle.pbf_pass.specs.Given.{GaveFile};
 ghost use Rattle.pbf_pass.specs.Hashing.{digest_if};
 ghost use Rattle.pbf_pass.specs.Judged.{judged_file};
@@ -87,7 +87,7 @@ impl<G: Gather> Visit for Later<'_, G> {
 ///
 /// The reader judges frames, but nothing judges their payloads: of a frame that has a fault anything may be gathered, or `Changed`
 /// with the number is returned. After a stop the reader and what was gathered may only be dropped, or the reader taken apart.
-pub fn step_again<F: Feed, G: Gather>(
+pub fn step_unjudged<F: Feed, G: Gather>(
     alloc: Global,
     reader: &mut FrameReader<F>,
     gathering: &mut G,
@@ -113,7 +113,7 @@ pub fn step_again<F: Feed, G: Gather>(
 /// What was gathered is specified if the digest is that of the bytes which were judged. `Refused` and `Changed` say that the
 /// file has a fault, so that its bytes are others. Reads each byte once, to the file's end if it returns `Ok`, and holds one frame
 /// at a time. After a stop what was gathered may only be dropped.
-pub fn gather_again<F: Feed, G: Gather>(
+pub fn gather_unjudged<F: Feed, G: Gather>(
     passes: Passes,
     feed: &mut F,
     gathering: &mut G,

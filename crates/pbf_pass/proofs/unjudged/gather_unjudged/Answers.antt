@@ -1,11 +1,11 @@
 use Rattle.std.proofs.Common.{Some, rules, false}
 use Rattle.std.proofs.lemmas.Result.{err_from_is_err_and}
 use Rattle.pbf_frame.specs.Verdict.{judged_known}
-use Rattle.pbf_pass.specs.Again.{GathersFile}
+use Rattle.pbf_pass.specs.Unjudged.{GathersFile}
 use Rattle.pbf_pass.specs.Judged.{judged_file}
 use Rattle.pbf_pass.proofs.AgainLemmas.{gathers_file, stops_visited, faulty_visited}
 use Rattle.pbf_pass.proofs.GivenLemmas.{gave_file_less}
-use Rattle.pbf_pass.proofs.again.gather_again.Goals as goal
+use Rattle.pbf_pass.proofs.unjudged.gather_unjudged.Goals as goal
 
 pub returns-in_err-pass_over-clause-stops : goal.returns-in_err-pass_over-clause-stops
 returns-in_err-pass_over-clause-stops g c =
