@@ -1,6 +1,6 @@
 //! A column of differences that is being written.
 
-ghost use Rattle.std.specs.Prelude.{◌≡◌, ◌∷◌, ◌++◌, ◌^◌, [], pos, length, OnOk, OnErr};
+ghost use Rattle.std.specs.Prelude.{◌≡◌, ◌∷◌, ◌++◌, [], pos, length, OnOk, OnErr};
 ghost use Rattle.pbf_wire.specs.Columns.{packed};
 ghost use Rattle.pbf_wire.specs.Signed.{IsWithin};
 ghost use Rattle.pbf_wire.specs.Sums.{deltas};

@@ -1,6 +1,6 @@
 //! Passes after the first one, whose bytes have to have its digest.
 
-ghost use Rattle.std.specs.Prelude.{◌≡◌, true, IfOk, IfErr, OnOk, OnErr, Ok, Err, Some};
+ghost use Rattle.std.specs.Prelude.{◌≡◌, true, IfErr, OnOk, Ok, Err, Some};
 ghost use Rattle.pbf_frame.specs.declared.stop.Stop.TheVariants.{Changed};
 ghost use Rattle.pbf_pass.specs.Unjudged.{GathersFile};
 ghost use Rattle.pbf_pass.specs.Judged.{judged_file};

@@ -1,8 +1,7 @@
-use Rattle.std.proofs.Common.{◌≡◌, ◌∙◌, ◌++◌, ◌∷◌, [], List, Bool, false, true, sym, subst}
+use Rattle.std.proofs.Common.{◌∙◌, [], List, Bool, sym, subst}
 use Rattle.std.specs.Prelude.{if◌then◌else◌}
 use Rattle.std.proofs.lemmas.Result.{err_from_is_err_and}
 use Rattle.osm_entity.specs.Entity.{EntitySpec}
-use Rattle.pbf_block.specs.WrittenBlock.{is_block}
 use Rattle.pbf_frame.specs.Devices.{IsFront}
 use Rattle.pbf_frame.specs.Transfers.{Added}
 use Rattle.pbf_frame.proofs.Beginnings.{front_whole}

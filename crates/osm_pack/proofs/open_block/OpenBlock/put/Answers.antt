@@ -1,9 +1,8 @@
-use Rattle.std.proofs.Common.{◌≡◌, ℕ, ◌+◌, ◌≤◌, ◌++◌, ◌∷◌, [], true, length, refl, subst, ap}
+use Rattle.std.proofs.Common.{◌≡◌, ℕ, ◌++◌, ◌∷◌, [], true, subst, ap}
 use Rattle.std.specs.Global.{Vec}
-use Rattle.osm_entity.specs.EntityTexts.{entity_texts}
 use Rattle.osm_entity.specs.Views.{entity_of}
 use Rattle.pbf_block.specs.WrittenBlock.{is_block}
-use Rattle.osm_pack.proofs.OpenLemmas.{room_held, node_encoded, way_encoded, relation_encoded, appended}
+use Rattle.osm_pack.proofs.OpenLemmas.{way_encoded, relation_encoded, appended}
 use Rattle.osm_pack.proofs.open_block.OpenBlock.put.Goals as goal
 
 pub put_node-requires-clause-joins : goal.put_node-requires-clause-joins
