@@ -6,7 +6,7 @@ usage: bench/packed.py PROGRAM FILE [--times N] BOX..
 FILE is compressed: `osmium cat` or `tools/pbfcut-any pack` makes one of what bench/make.py makes. In turn, N times (3), for each box:
 tools/pbfcut-any with PROGRAM as pbfcutz, and Osmium's complete-ways extract with its default threads, both on all processors. It prints the
 least and the median of the seconds by the clock, the least beside Osmium's, and the greatest memory of a process. First come `check` by pbfcut of
-the raw file, which is made for it, and by pbfcutz of FILE, on one processor each.
+the raw file, which is made for it, and by pbfcutz of FILE, on one processor each, without digests and with them.
 """
 import os
 import resource
@@ -55,14 +55,16 @@ def compare_checks(pbfcut: str, pbfcutz: str, file: str, folder: str, times: int
     raw = os.path.join(folder, "raw.osm.pbf")
     subprocess.run([COMPANION, "unpack", file, raw], env={**os.environ, "PBFCUTZ": pbfcutz}, check=True)
     one = {max(os.sched_getaffinity(0))}
-    runs = {"check of the raw file": [pbfcut, "check", raw], "check of the compressed file": [pbfcutz, "check", file]}
-    found = {name: [] for name in runs}
+    pairs = [[("check" + flags + " of the " + kind + " file", [program, *("check" + flags).split(), name])
+              for kind, program, name in (("raw", pbfcut, raw), ("compressed", pbfcutz, file))] for flags in ("", " --digests")]
+    found = {name: [] for pair in pairs for name, _ in pair}
     for _ in range(times):
-        for name, words in runs.items():
+        for name, words in (run for pair in pairs for run in pair):
             found[name].append(measured(words, {}, one))
     os.unlink(raw)
-    beside = show("check of the raw file", found["check of the raw file"])
-    show("check of the compressed file", found["check of the compressed file"], beside)
+    for (of_raw, _), (of_packed, _) in pairs:
+        beside = show(of_raw, found[of_raw])
+        show(of_packed, found[of_packed], beside)
 
 
 def compare_cuts(pbfcutz: str, file: str, box: str, folder: str, times: int):
