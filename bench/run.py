@@ -9,8 +9,8 @@ complete-ways extract by the same boxes, where Osmium is installed.
 
 It prints the least and the median of the seconds of a processor, and the greatest memory. `Digests` is the least beside as many passes of
 SHA-256 as the command takes over a sorted file (convert and extract two; check takes none, and is shown beside one), `Osmium` the least
-beside Osmium's. What two builds write has to be
-the same bytes, and the same as in the last run over FILE, of which FILE.written keeps the digests.
+beside Osmium's, and `In turn` the median of what each run took beside Osmium's next one, which a machine that is slower for some seconds
+changes less. What two builds write has to be the same bytes, and the same as in the last run over FILE, of which FILE.written keeps the digests.
 """
 import hashlib
 import json
@@ -85,9 +85,12 @@ class Row:
     def lines(self, one_pass: float):
         for who, seconds in self.seconds.items():
             digests = f"{self.least(who) / (self.passes * one_pass):.2f}"
-            osmium = f"{self.least(who) / self.least(OSMIUM):.2f}" if OSMIUM in self.seconds else ""
+            osmium = in_turn = ""
+            if OSMIUM in self.seconds:
+                osmium = f"{self.least(who) / self.least(OSMIUM):.2f}"
+                in_turn = f"{statistics.median(own / other for own, other in zip(seconds, self.seconds[OSMIUM])):.2f}"
             yield (f"| {self.name} | {who} | {self.least(who):.2f} | {statistics.median(seconds):.2f} "
-                   f"| {digests} | {osmium} | {self.memory[who]:.0f} |")
+                   f"| {digests} | {osmium} | {in_turn} | {self.memory[who]:.0f} |")
 
 
 def rows(programs: dict, file: str, boxes: list, out: str) -> list:
@@ -142,8 +145,8 @@ def main(words: list):
                 row.run(file, out)
     compare_with_last(table, file)
     print(f"{os.path.getsize(file)} bytes, {options['--times']} times each, on one processor\n")
-    print("| Command | Program | Least, s | Median, s | Digests | Osmium | Memory, MB |")
-    print("|---|---|---|---|---|---|---|")
+    print("| Command | Program | Least, s | Median, s | Digests | Osmium | In turn | Memory, MB |")
+    print("|---|---|---|---|---|---|---|---|")
     for row in table:
         print("\n".join(row.lines(table[0].least("digest_pass"))))
 
