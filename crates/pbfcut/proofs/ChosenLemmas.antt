@@ -87,7 +87,7 @@ module _ {F K D : Type 0} (f : feed.Ghosts F) (first now : F) (k : feed.Ghosts K
         gave_file_less f first now digest (λ b. Second digest b (λ c. GaveFile g third later digest (λ e. IsChoiceWithParents area b c e sets h))) _ (λ b two. (
           told digest b _ (IsWritable b) (λ c three. chosen_sound area b _ _ h three.holding.chosen.chosen) two,
           less digest b _ _ (λ c three. gave_file_less g third later digest _ _ (λ e choice. gave_file_less k last_old last_new digest _ _ (λ n took. took_weaker d old new _ _ (λ written is second more fourth.
-          is b (selects_parents sets area b _ _ _ h refl (ap judged (sym second)) (ap judged (sym more)) choice.chosen) fourth) took) last) three) two,
+              is b (selects_parents sets area b _ _ _ h refl (ap judged (sym second)) (ap judged (sym more)) choice.chosen) fourth) took) last) three) two,
         )) (subst (λ (l : List ℕ). GaveFile f first now (digest_if passes.hashes l) (λ b. Second (digest_if passes.hashes l) b (λ c. GaveFile g third later (digest_if passes.hashes l) (λ e. IsChoiceWithParents area b c e sets h)))) (sym input) chosen)) wrote.input
         (wrote_extract k last_old last_new d old new (all_parents area) (λ meant. extract_with_parents (seen_decoded area) meant) (all_parents_select area) area edges again sets h r wrote passes is)
 

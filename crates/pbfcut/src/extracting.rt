@@ -163,10 +163,7 @@ fn choose<F: Feed, G: Feed>(cutting: Cutting, first: &mut F, second: &mut G) -> 
     Ok(Choice {
         chosen,
         header: begun.header,
-        next: LaterPass {
-            number: 3,
-            ..again
-        },
+        next: LaterPass { number: 3, ..again },
     })
 }
 
