@@ -1,5 +1,5 @@
 -- A file's extract, from what its passes say.
-use Rattle.std.proofs.Common.{◌≡◌, ◌⊎◌, inl, inr, ℕ, ℤ, ◌<◌, ◌^◌, rules, List, [], ◌∷◌, map, Bor, Bool, true, false, Option, Some, None, subst, refl, sym, ap, ◌∙◌}
+use Rattle.std.proofs.Common.{◌≡◌, ◌⊎◌, inl, inr, ℕ, ℤ, ◌<◌, ◌^◌, rules, List, [], ◌∷◌, map, Bool, true, false, Option, Some, None, subst, refl, sym, ap, ◌∙◌}
 use Rattle.std.specs.FinSet as set
 use Rattle.std.specs.List.{fold, filter}
 use Rattle.std.specs.Option.{option_map}
@@ -9,20 +9,18 @@ use Rattle.osm_box.specs.declared.bounding_box.BoundingBox.{BoundingBox}
 use Rattle.osm_entity.specs.Ranges.{IsInt64}
 use Rattle.std.specs.Int.Signed.{mag}
 use Rattle.osm_entity.specs.Entity.{EntitySpec, Decoded, node, way, relation}
-use Rattle.osm_ways.specs.declared.phases.Chosen.{Chosen}
 use Rattle.osm_ids.specs.Links.{IsLeast}
-use Rattle.osm_ways.specs.Parents.{keeps_with_parents, extract_with_parents}
+use Rattle.osm_ways.specs.Parents.{keeps_with_parents}
 use Rattle.osm_ways.specs.Phases.{NodeSets, WaySets, RelationSets, KeptSets, node_step, way_step, relation_step, start_nodes, start_ways, start_relations, node_pass, without_parents, way_pass, relation_pass, is_chosen}
 use Rattle.osm_ways.specs.First.{FirstSets, start_first, first_step}
 use Rattle.osm_ways.proofs.FirstLemmas.{first_in_order, first_broken}
-use Rattle.osm_ways.specs.Seen.{seen_decoded, seen_entity}
-use Rattle.osm_ways.specs.Selection.{Seen, keeps, extract}
+use Rattle.osm_ways.specs.Seen.{seen_entity}
+use Rattle.osm_ways.specs.Selection.{Seen, keeps}
 use Rattle.osm_ways.proofs.Passes.{chosen_is_kept, chosen_with_parents}
 use Rattle.osm_pack.specs.Cuts.{written_file}
 use Rattle.pbf_header.specs.Header.{HeaderSpec}
 use Rattle.pbf_header.specs.WrittenHeader.{header_out_for_box, edges_of, EdgesTyped}
 use Rattle.pbf_frame.specs.declared.device.Feed as feed
-use Rattle.pbf_frame.specs.declared.device.Drain as drain
 use Rattle.pbf_frame.specs.declared.stop.Stop.{Stop}
 use Rattle.pbf_frame.specs.declared.stop.Stop.TheVariants as stop
 use Rattle.pbf_frame.specs.Devices.{IsFront}
@@ -37,16 +35,14 @@ use Rattle.pbf_pass.specs.HeaderLimit.{HasShortTexts, header_limit, judged_writa
 use Rattle.pbf_pass.specs.Counting.{counts_of, stored_entities}
 use Rattle.pbfcut.specs.Calls.{GaveOrNot, Differ, ChangedIn, ChangedBefore, RefusedFirst, ConvertStops, ExtractStops, ParentsStops}
 use Rattle.pbfcut.specs.Theorem.{IsExtraction}
-use Rattle.pbfcut.specs.Extracting.{Choice, complete_ways, all_parents, extraction, extract_bytes, Begins, Chooses, ChoosesParents, IsChoice, IsChoiceWithParents}
+use Rattle.pbfcut.specs.Extracting.{Choice, complete_ways, all_parents, extraction, extract_bytes, Begins, Chooses, ChoosesParents, AddsParents, IsChoice, IsChoiceWithParents}
 use Rattle.pbfcut.specs.Kept.{verdict_on, extract_of, IsWritable}
 use Rattle.pbf_pass.proofs.GivenLemmas.{IsDigest, gave_file_less}
-use Rattle.pbf_pass.specs.Given.{GaveFile, Took}
-use Rattle.pbfcut.proofs.KeptLaw.{IsSelection, IsKeptExtract, complete_ways_select, all_parents_select, same_verdict, extract_kept}
-use Rattle.pbfcut.proofs.TheoremLemmas.{took_weaker}
+use Rattle.pbfcut.proofs.KeptLaw.{IsSelection, IsKeptExtract, same_verdict, extract_kept}
 use Rattle.pbf_pass.specs.Pass.{with_node, with_first, with_way, with_relation, TakesFile, file_header}
 use Rattle.pbf_pass.specs.declared.receipt.Passes.{Passes}
 use Rattle.pbfcut.specs.declared.repeat.LaterPass.{LaterPass}
-use Rattle.pbfcut.specs.Repeat.{IsUnlike, GathersRest, StopsLater, digest_of}
+use Rattle.pbfcut.specs.Repeat.{IsPass, IsUnlike, GathersRest, StopsLater, digest_of}
 use Rattle.pbf_pass.specs.Hashing.{IsDigestOf, digest_if}
 use Rattle.pbf_pass.specs.Stops.{Caused, FaultOf, ReadFailed, unchanged}
 use Rattle.pbf_pass.specs.declared.receipt.Halt.{Halt}
@@ -55,7 +51,7 @@ use Rattle.pbfcut.specs.Choosing.{StopsFirst, StopsChoosing}
 use Rattle.pbfcut.proofs.ChangedLemmas.{never_changed}
 use Rattle.pbf_pass.specs.Unjudged.{GathersFile}
 use Rattle.pbf_pass.specs.Judged.{judged_file}
-use Rattle.pbfcut.specs.Pick.{Pick, picked_by, pick_of}
+use Rattle.pbfcut.specs.Pick.{Pick, picked_by}
 use Rattle.pbfcut.specs.Write.{Packed, PacksFront}
 use Rattle.pbfcut.proofs.ConvertingLemmas.{known_says}
 use Rattle.pbf_pass.proofs.LimitLemmas.{held_is, judged_sound}
@@ -205,18 +201,27 @@ module _ {F : Type 0} (f : feed.Ghosts F) (old new : F) (first : Option (List �
   stops_later again digest refused read wrote changed stop.Memory same is r d h = tt
   stops_later again digest refused read wrote changed (stop.Changed n) same is r d h = d n (h.0, later_differs f old new first (digest_of again) frames (subst (λ (d : Option (List ℕ)). IsDigest first d) (sym is) same) says h.1)
 
-  -- those of the pass that writes, in each call
+  -- those of the pass that writes
   module _ (passes : Passes) (digest : List ℕ) (before now : Option (List ℕ)) (read wrote : Type 0) (s : Stop) (same : IsDigest first (digest_if passes.hashes digest)) (failed : ReadFailed f old new → read) where
     pub convert_stops : StopsLater f (record { number = 2; digest = digest; passes = passes }) old new wrote s → ConvertStops first (f.remaining old) before now read wrote s
     convert_stops h = stops_later (record { number = 2; digest = digest; passes = passes }) (digest_if passes.hashes digest) (RefusedFirst (judged_writable first) before now) read wrote (ChangedIn 2 first (f.remaining old)) s same refl failed (λ pass is. is) h
 
-    pub extract_stops : (second : Option (List ℕ)) → StopsLater f (record { number = 3; digest = digest; passes = passes }) old new wrote s → ExtractStops first second (f.remaining old) before now read wrote s
-    extract_stops second h = stops_later (record { number = 3; digest = digest; passes = passes }) (digest_if passes.hashes digest) (RefusedFirst (judged_writable first) before now) read wrote (λ pass. ChangedBefore 2 first second before now pass ⊎ ChangedIn 3 first (f.remaining old) pass) s same refl failed (λ pass is. inr is) h
+  module _ (passes : Passes) (again : LaterPass) (read wrote : Type 0) (s : Stop) (same : IsDigest first (digest_if passes.hashes again.digest)) (failed : ReadFailed f old new → read) where
+    hashed : again.passes ≡ passes → digest_of again ≡ digest_if passes.hashes again.digest
+    hashed is = ap (λ (p : Passes). digest_if p.hashes again.digest) is
 
-    pub parents_stops : (second third : Option (List ℕ)) → StopsLater f (record { number = 4; digest = digest; passes = passes }) old new wrote s → ParentsStops first second third (f.remaining old) before now read wrote s
-    parents_stops second third h =
-        stops_later (record { number = 4; digest = digest; passes = passes }) (digest_if passes.hashes digest) (RefusedFirst (judged_writable first) before now) read wrote
-        (λ pass. (ChangedBefore 2 first second before now pass ⊎ ChangedBefore 3 first third before now pass) ⊎ ChangedIn 4 first (f.remaining old) pass) s same refl failed (λ pass is. inr is) h
+    pub extract_stops : (before now second : Option (List ℕ)) → IsPass 3 passes again → StopsLater f again old new wrote s → ExtractStops first second (f.remaining old) before now read wrote s
+    extract_stops before now second is h = stops_later again (digest_if passes.hashes again.digest) (RefusedFirst (judged_writable first) before now) read wrote (λ pass. ChangedBefore 2 first second before now pass ⊎ ChangedIn 3 first (f.remaining old) pass) s same (hashed is.1) failed (λ pass at. inr (at.0 ∙ is.0, at.1)) h
+
+    pub parents_stops : (before now second third : Option (List ℕ)) → IsPass 4 passes again → StopsLater f again old new wrote s → ParentsStops first second third (f.remaining old) before now read wrote s
+    parents_stops before now second third is h =
+        stops_later again (digest_if passes.hashes again.digest) (RefusedFirst (judged_writable first) before now) read wrote
+        (λ pass. (ChangedBefore 2 first second before now pass ⊎ ChangedBefore 3 first third before now pass) ⊎ ChangedIn 4 first (f.remaining old) pass) s same (hashed is.1) failed (λ pass at. inr (at.0 ∙ is.0, at.1)) h
+
+    -- that of the pass that takes relations
+    pub relations_stop : (second : Option (List ℕ)) → IsPass 3 passes again → StopsLater f again old new wrote s
+        → Caused (FaultOf (judged_writable first)) read wrote (λ pass. ChangedIn 2 first second pass ⊎ ChangedIn 3 first (f.remaining old) pass) s
+    relations_stop second is h = stops_later again (digest_if passes.hashes again.digest) (FaultOf (judged_writable first)) read wrote (λ pass. ChangedIn 2 first second pass ⊎ ChangedIn 3 first (f.remaining old) pass) s same (hashed is.1) failed (λ pass at. inr (at.0 ∙ is.0, at.1)) h
 
 -- the stops of earlier passes, in a call with more of them
 pub stops_earlier : (refused also : Fault → Type 0) (read more wrote : Type 0) (changed too : ℕ → Type 0) (s : Stop) → ((e : Fault) → refused e → also e) → (read → more) → ((pass : ℕ) → changed pass → too pass) → Caused refused read ⊥ changed s → Caused also more wrote too s
@@ -235,9 +240,8 @@ stops_choosing f first now g second later hashes h s = record {
 }
 
 -- a selection by what was chosen
-pub selects_chosen : (chosen : Bor Chosen) (area : BoundingBox) (b first second : List ℕ) (h : HeaderSpec) → first ≡ b → second ≡ b → IsChoice area first second chosen.now h → Selects b (complete_ways area) area (pick_of (Some chosen)) h
-unfolding pick_of
-selects_chosen chosen area b first second h is too c =
+pub selects_chosen : (sets : KeptSets) (area : BoundingBox) (b first second : List ℕ) (h : HeaderSpec) → first ≡ b → second ≡ b → IsChoice area first second sets h → Selects b (complete_ways area) area (picked_by sets) h
+selects_chosen sets area b first second h is too c =
     let judged = λ (l : List ℕ). judged_file (Some l) in
     subst (λ (s : KeptSets). Selects b (complete_ways area) area (picked_by s) h) (sym c.kept) (selects_ways area b _ _ c.ways h (ap judged is) (ap judged too) c.chosen)
 
@@ -256,10 +260,9 @@ parents_are area es sets ways least =
     let seen = map (seen_entity area) es in
     picked_as area es sets keeps_with_parents (ap (λ (w : WaySets). is_chosen (record { ways = w; relation_ids = sets.relation_ids })) ways ∙ chosen_with_parents seen sets.relation_ids least)
 
-pub selects_parents : (chosen : Bor Chosen) (area : BoundingBox) (b : List ℕ) (first second third : Option Verdict) (h : HeaderSpec) → first ≡ judged_file (Some b) → second ≡ judged_file (Some b) → third ≡ judged_file (Some b)
-    → ChoosesParents area first second third chosen.now h → Selects b (all_parents area) area (pick_of (Some chosen)) h
-unfolding pick_of
-selects_parents chosen area b first second third h is too more p =
+pub selects_parents : (sets : KeptSets) (area : BoundingBox) (b : List ℕ) (first second third : Option Verdict) (h : HeaderSpec) → first ≡ judged_file (Some b) → second ≡ judged_file (Some b) → third ≡ judged_file (Some b)
+    → ChoosesParents area first second third sets h → Selects b (all_parents area) area (picked_by sets) h
+selects_parents sets area b first second third h is too more p =
     let c = p.chosen in
     let es = stored_entities c.frames in
     let judged = known_says b (c.frames, None) (subst (λ (k : Option Verdict). Says k (c.frames, None)) is c.judged) in
@@ -271,18 +274,30 @@ selects_parents chosen area b first second third h is too more p =
       judged = judged;
       writable = judged_sound b c.frames judged c.within;
       bytes = header_from area (file_header c.frames) h c.header (all_parents area) es;
-      picked = parents_are area es chosen.now (p.kept ∙ ap (λ (r : RelationSets). r.ways) relations) (subst (λ (r : RelationSets). IsLeast (set.contains r.links) r.start chosen.now.relation_ids) relations p.least);
+      picked = parents_are area es sets (p.kept ∙ ap (λ (r : RelationSets). r.ways) relations) (subst (λ (r : RelationSets). IsLeast (set.contains r.links) r.start sets.relation_ids) relations p.least);
     }
 
-pub chooses_parents : (area : BoundingBox) (first second third : Option Verdict) (ways : WaySets) (h : HeaderSpec) (begun relations : RelationSets) (given sets : KeptSets) → Chooses area first second ways h → begun ≡ start_relations ways → GathersFile with_relation third begun relations
-    → given.ways ≡ relations.ways → IsLeast (set.contains relations.links) relations.start given.relation_ids → sets ≡ given → ChoosesParents area first second third sets h
-chooses_parents area first second third ways h begun relations given sets chosen starts more kept least handed = record {
-  ways = ways;
-  chosen = chosen;
+-- what the pass that takes relations reports
+pub adds_parents : (known : Option Verdict) (before given now : KeptSets) (begun relations : RelationSets) → begun ≡ start_relations before.ways → GathersFile with_relation known begun relations → given.ways ≡ relations.ways
+    → IsLeast (set.contains relations.links) relations.start given.relation_ids → now ≡ given → AddsParents known before now
+adds_parents known before given now begun relations starts more kept least handed = record {
   relations = relations;
-  gathered = λ frames known. more frames known ∙ ap (λ (s : RelationSets). fold with_relation s (stored_entities frames)) starts;
+  gathered = λ frames is. more frames is ∙ ap (λ (s : RelationSets). fold with_relation s (stored_entities frames)) starts;
   kept = ap (λ (s : KeptSets). s.ways) handed ∙ kept;
   least = subst (λ (s : KeptSets). IsLeast (set.contains relations.links) relations.start s.relation_ids) (sym handed) least;
+}
+
+pub chooses_parents : (area : BoundingBox) (b c e : List ℕ) (before now : KeptSets) (h : HeaderSpec) → IsChoice area b c before h → AddsParents (judged_file (Some e)) before now → IsChoiceWithParents area b c e now h
+chooses_parents area b c e before now h choice adds = record {
+  chosen = record {
+    ways = choice.ways;
+    chosen = choice.chosen;
+    relations = adds.relations;
+    gathered = λ frames is. adds.gathered frames is ∙ ap (λ (s : KeptSets). fold with_relation (start_relations s.ways) (stored_entities frames)) choice.kept;
+    kept = adds.kept;
+    least = adds.least;
+  };
+  short = choice.short;
 }
 
 -- ---- if the second pass may be left out
@@ -354,16 +369,3 @@ module _ {G : Type 0} (f : feed.Ghosts G) (old new : G) (digest : Option (List �
         };
         short = p.short;
       }) rest)
-
--- the pass that writes, after passes that chose
-pub went_on : {H D : Type 0} (f : feed.Ghosts H) (d : drain.Ghosts D) (feed_old feed_new : H) (old new : D) (input : Option (List ℕ)) (area : BoundingBox) (edges : EdgesTyped (edges_of area)) (b c : List ℕ) (chosen : Bor Chosen) (h : HeaderSpec) (counts : Counts) → IsChoice area b c chosen.now h
-    → GaveFile f feed_old feed_new input (λ file. Took d old new (Packed (pick_of (Some chosen)) h counts (judged_file (Some file))))
-    → GaveFile f feed_old feed_new input (λ e. Took d old new (λ written. b ≡ c → b ≡ e → IsExtraction (complete_ways area) (λ meant. extract (seen_decoded area) meant) area b counts written))
-went_on f d feed_old feed_new old new input area edges b c chosen h counts choice wrote = gave_file_less f feed_old feed_new input _ _ (λ e took. took_weaker d old new _ _ (λ written packed second third.
-    extracted (complete_ways area) (λ meant. extract (seen_decoded area) meant) (complete_ways_select area) area edges b _ h (selects_chosen chosen area b b c h refl (sym second) choice) counts _ written (ap (λ (l : List ℕ). judged_file (Some l)) (sym third)) packed) took) wrote
-
-pub went_on_with_parents : {H D : Type 0} (f : feed.Ghosts H) (d : drain.Ghosts D) (feed_old feed_new : H) (old new : D) (input : Option (List ℕ)) (area : BoundingBox) (edges : EdgesTyped (edges_of area)) (b c k : List ℕ) (chosen : Bor Chosen) (h : HeaderSpec) (counts : Counts) → IsChoiceWithParents area b c k chosen.now h
-    → GaveFile f feed_old feed_new input (λ file. Took d old new (Packed (pick_of (Some chosen)) h counts (judged_file (Some file))))
-    → GaveFile f feed_old feed_new input (λ e. Took d old new (λ written. b ≡ c → b ≡ k → b ≡ e → IsExtraction (all_parents area) (λ meant. extract_with_parents (seen_decoded area) meant) area b counts written))
-went_on_with_parents f d feed_old feed_new old new input area edges b c k chosen h counts choice wrote = gave_file_less f feed_old feed_new input _ _ (λ e took. took_weaker d old new _ _ (λ written packed second third fourth.
-    extracted (all_parents area) (λ meant. extract_with_parents (seen_decoded area) meant) (all_parents_select area) area edges b _ h (selects_parents chosen area b _ _ _ h refl (ap (λ (l : List ℕ). judged_file (Some l)) (sym second)) (ap (λ (l : List ℕ). judged_file (Some l)) (sym third)) choice.chosen) counts _ written (ap (λ (l : List ℕ). judged_file (Some l)) (sym fourth)) packed) took) wrote

@@ -10,5 +10,6 @@ pub mod StayLemmas
 pub mod ConvertingLemmas
 pub mod ChangedLemmas
 pub mod ExtractingLemmas
+pub mod ChosenLemmas
 pub mod KeptLaw
 pub mod NodeLemmas

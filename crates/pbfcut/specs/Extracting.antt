@@ -64,6 +64,13 @@ pub record Chooses (area : BoundingBox) (first second : Option Verdict) (sets : 
   pub header : option_map (λ p. header_out_for_box area p.1) (file_header frames) ≡ Some h
   pub chosen : GathersFile with_way second (start_ways (fold with_node (start_nodes area) (stored_entities frames)).box_ids) sets
 
+-- the pass that takes relations: what was chosen before, and the relations of this file, if it has no fault, with all parents
+pub record AddsParents (known : Option Verdict) (before now : KeptSets) : Type 0 where
+  pub relations : RelationSets
+  pub gathered : GathersFile with_relation known (start_relations before.ways) relations
+  pub kept : now.ways ≡ relations.ways
+  pub least : IsLeast (set.contains relations.links) relations.start now.relation_ids
+
 -- and the relations of a third file, with all parents
 pub record ChoosesParents (area : BoundingBox) (first second third : Option Verdict) (sets : KeptSets) (h : HeaderSpec) : Type 0 where
   pub ways : WaySets

@@ -7,11 +7,16 @@ use Rattle.pbf_frame.specs.declared.stop.Stop.{Stop}
 use Rattle.pbf_frame.specs.declared.stop.Stop.TheVariants.{Refused, Read, Write, Memory, Changed}
 use Rattle.pbf_frame.specs.Refusals.{Refuses}
 use Rattle.pbfcut.specs.declared.repeat.LaterPass.{LaterPass}
+use Rattle.pbf_pass.specs.declared.receipt.Passes.{Passes}
 use Rattle.pbf_pass.specs.Unjudged.{GathersFile, IsFaulty}
 use Rattle.pbf_pass.specs.Given.{GaveFile}
 use Rattle.pbf_pass.specs.Hashing.{IsDigestOf, digest_if}
 use Rattle.pbf_pass.specs.Judged.{judged_file}
 use Rattle.pbf_pass.specs.Stops.{Caused, ReadFailed}
+
+-- it is the pass of this number, made like this
+abbrev pub IsPass : ℕ → Passes → LaterPass → Type 0
+IsPass number passes again = (again.number ≡ number) × (again.passes ≡ passes)
 
 -- the digest of the first pass, if it was hashed
 abbrev pub digest_of : LaterPass → Option (List ℕ)

@@ -1,23 +1,31 @@
 -- The pass that writes, over payloads that it doesn't judge: what is written is stated for files without a fault.
-use Rattle.std.specs.Prelude.{◌≡◌, ℕ, List, ◌++◌, Option, Some, None, Result, OnOk, IfErr}
+use Rattle.std.specs.Prelude.{◌≡◌, ℕ, List, ◌++◌, Option, Some, None, Result, OnOk, OnErr, IfOk, IfErr}
 use Rattle.std.specs.List.{filter}
 use Rattle.osm_entity.specs.Entity.{EntitySpec}
+use Rattle.osm_ways.specs.Phases.{KeptSets}
 use Rattle.osm_pack.specs.Cuts.{written_file}
 use Rattle.osm_pack.specs.Packing.{Packing, IsPacking}
 use Rattle.pbf_header.specs.Header.{HeaderSpec}
 use Rattle.pbf_block.specs.declared.counts.Counts.{Counts}
+use Rattle.pbf_frame.specs.declared.device.Feed as feed
 use Rattle.pbf_frame.specs.declared.device.Drain as drain
 use Rattle.pbf_frame.specs.declared.stop.Stop.{Stop}
 use Rattle.pbf_frame.specs.Devices.{IsFront}
 use Rattle.pbf_frame.specs.Frames.{FrameSpec}
 use Rattle.pbf_frame.specs.Verdict.{Verdict}
+use Rattle.pbf_pass.specs.declared.receipt.Halt.{Halt}
+use Rattle.pbf_pass.specs.declared.receipt.InputReceipt.{InputReceipt}
 use Rattle.pbf_pass.specs.Unjudged.{StopsAtPayload}
+use Rattle.pbf_pass.specs.Given.{GaveFile, Took}
 use Rattle.pbf_pass.specs.Counting.{counts_of, stored_entities}
-use Rattle.pbf_pass.specs.Judged.{fault_in}
+use Rattle.pbf_pass.specs.Judged.{fault_in, judged_file}
 use Rattle.pbf_pass.specs.Payload.{Payload, payload_of}
+use Rattle.pbf_pass.specs.Refused.{stop_of}
 use Rattle.pbf_pass.specs.Stops.{WriteFailed}
+use Rattle.pbfcut.specs.declared.repeat.LaterPass.{LaterPass}
 use Rattle.pbfcut.specs.declared.pick.EntityPacker.{EntityPacker}
-use Rattle.pbfcut.specs.Pick.{Pick, Packs, Begins, KeepsPacker, picked_in, picks_of}
+use Rattle.pbfcut.specs.Pick.{Pick, Packs, Begins, KeepsPacker, picked_in, picked_by, picks_of}
+use Rattle.pbfcut.specs.Repeat.{StopsLater, digest_of}
 
 -- ---- one payload, and one frame
 
@@ -71,3 +79,13 @@ Packed pick h counts known written = (frames : List FrameSpec) → known ≡ Som
 -- if the file has no fault, a prefix of the header and of what is picked went out
 abbrev pub PacksFront : Pick → HeaderSpec → Option Verdict → (old new : Option (List ℕ)) → Type 0
 PacksFront pick h known old new = (frames : List FrameSpec) → known ≡ Some (frames, None) → IsFront old new (written_file h (filter pick (stored_entities frames)))
+
+-- ---- after passes that chose
+
+-- the feed gave a file of the first pass's digest, and the drain took its header and what is picked of it; or a prefix of that, if the pass
+-- stopped, which is no refusal
+pub record WritesChoice {F D : Type 0} (f : feed.Ghosts F) (old new : F) (d : drain.Ghosts D) (before now : D) (again : LaterPass) (sets : KeptSets) (h : HeaderSpec) (result : Result InputReceipt Halt) : Type 0 where
+  pub input : IfOk result (λ receipt. receipt.input ≡ again.digest)
+  pub packed : IfOk result (λ receipt. GaveFile f old new (digest_of again) (λ file. Took d before now (Packed (picked_by sets) h receipt.counts (judged_file (Some file)))))
+  pub front : OnErr result (PacksFront (picked_by sets) h (judged_file (f.remaining old)) (d.taken before) (d.taken now))
+  pub stops : IfErr result (λ halt. StopsLater f again old new (WriteFailed d before now) (stop_of halt))

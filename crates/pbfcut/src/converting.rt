@@ -107,17 +107,17 @@ pub fn convert_with_receipt<F: Feed, G: Feed, D: Drain, S: BuildHasher + Drop>(
     ensures drain { KeepsDrain D.Drain drain.old drain.new }
 {
     let judged = judge(passes, first, &mut Nothing)?;
+    let digest = judged.digest;
     let plan = OutputPlan {
+        pass: LaterPass {
+            number: 2,
+            digest,
+            passes,
+        },
         header: writable_header(&judged)?,
         chosen: None,
     };
-    let digest = judged.digest;
-    let last = LaterPass {
-        number: 2,
-        digest,
-        passes,
-    };
-    let counts = last.write(second, drain, hasher, plan)?;
+    let counts = plan.write(second, drain, hasher)?;
     Ok(InputReceipt {
         counts,
         input: digest,

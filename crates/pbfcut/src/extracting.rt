@@ -12,13 +12,15 @@ ghost use Rattle.pbfcut.specs.Choosing.{StopsFirst, StopsChoosing, StopsChoosing
 ghost use Rattle.pbfcut.specs.Changes.{ChangedAt, IfChanged};
 ghost use Rattle.pbfcut.specs.Theorem.{Extracted, IsExtraction, Promised, Canonical};
 ghost use Rattle.pbfcut.specs.Converting.{CanBeWritten};
-ghost use Rattle.pbf_pass.specs.HeaderLimit.{judged_writable};
-ghost use Rattle.pbfcut.specs.Extracting.{complete_ways, all_parents, extract_bytes, Begins, IsChoice, IsChoiceWithParents};
+ghost use Rattle.pbf_pass.specs.HeaderLimit.{HasShortTexts, judged_writable};
+ghost use Rattle.pbfcut.specs.Extracting.{complete_ways, all_parents, extract_bytes, Begins, AddsParents, IsChoice, IsChoiceWithParents};
 ghost use Rattle.pbf_pass.specs.Given.{GaveFile, Took};
 ghost use Rattle.pbf_pass.specs.Hashing.{digest_if};
+ghost use Rattle.pbf_pass.specs.Judged.{judged_file};
 ghost use Rattle.pbfcut.specs.Kept.{IsWritable, extract_of};
 ghost use Rattle.pbf_pass.specs.Refused.{HaltsFile, stop_of};
-ghost use Rattle.pbfcut.specs.Repeat.{SameDigest};
+ghost use Rattle.pbfcut.specs.Repeat.{IsPass, SameDigest, StopsLater, digest_of};
+ghost use Rattle.pbfcut.specs.Write.{WritesChoice};
 ghost use Rattle.pbf_pass.specs.Stops.{ReadFailed, WriteFailed};
 ghost use Rattle.pbf_frame.specs.Keeps.{KeepsDrain, KeepsFeed};
 
@@ -56,8 +58,8 @@ pub(crate) struct Choice {
     pub(crate) chosen: Chosen,
     /// The header that is written.
     pub(crate) header: Header,
-    /// The digest of the first pass.
-    pub(crate) digest: [u8; 32],
+    /// The pass that comes next, with the digest of the first.
+    pub(crate) next: LaterPass,
 }
 
 impl Cutting {
@@ -82,12 +84,66 @@ impl Cutting {
     }
 }
 
+impl Choice {
+    /// The pass that takes the relations: what was chosen, with all parents.
+    pub(crate) fn with_parents<F: Feed>(self, feed: &mut F) -> Result<Choice, Halt>
+        ensures parents { IfOk result (λ choice. GaveFile F.Feed feed.old feed.new
+            (digest_of self.next)
+            (λ file. AddsParents (judged_file (Some file)) self.chosen choice.chosen)) }
+        ensures same { IfOk result (λ choice. (choice.header ≡ self.header)
+            × (choice.next.digest ≡ self.next.digest)) }
+        ensures next { IfOk result (λ choice. IsPass 4 self.next.passes choice.next) }
+        ensures stops { IfErr result
+            (λ h. StopsLater F.Feed self.next feed.old feed.new ⊥ (stop_of h)) }
+        ensures keeps { KeepsFeed F.Feed feed.old feed.new }
+    {
+        let mut relations = self.chosen.with_parents();
+        self.next.gather(feed, &mut relations)?;
+        let chosen = relations.end_relations()?.into_chosen();
+        Ok(Choice {
+            chosen,
+            header: self.header,
+            next: LaterPass {
+                number: 4,
+                ..self.next
+            },
+        })
+    }
+
+    /// The pass that writes: the header, and what was chosen.
+    pub(crate) fn write<F: Feed, D: Drain, S: BuildHasher + Drop>(
+        self,
+        feed: &mut F,
+        drain: &mut D,
+        hasher: S,
+    ) -> Result<InputReceipt, Halt>
+        requires { HasShortTexts (header_of self.header) }
+        ensures wrote { WritesChoice F.Feed feed.old feed.new D.Drain drain.old drain.new
+            self.next self.chosen (header_of self.header) result }
+        ensures feed { KeepsFeed F.Feed feed.old feed.new }
+        ensures drain { KeepsDrain D.Drain drain.old drain.new }
+    {
+        let plan = OutputPlan {
+            pass: self.next,
+            header: &self.header,
+            chosen: Some(&self.chosen),
+        };
+        let counts = plan.write(feed, drain, hasher)?;
+        Ok(InputReceipt {
+            counts,
+            input: self.next.digest,
+        })
+    }
+}
+
 /// The passes before the one that writes: the first judges the file and takes the nodes of the box, the second takes the ways.
 fn choose<F: Feed, G: Feed>(cutting: Cutting, first: &mut F, second: &mut G) -> Result<Choice, Halt>
     ensures chosen { IfOk result (λ choice. GaveFile F.Feed first.old first.new
-        (digest_if cutting.passes.hashes choice.digest) (λ b. GaveFile G.Feed second.old second.new
-        (digest_if cutting.passes.hashes choice.digest)
+        (digest_if cutting.passes.hashes choice.next.digest)
+        (λ b. GaveFile G.Feed second.old second.new
+        (digest_if cutting.passes.hashes choice.next.digest)
         (λ c. IsChoice cutting.area b c choice.chosen (header_of choice.header)))) }
+    ensures next { IfOk result (λ choice. IsPass 3 cutting.passes choice.next) }
     ensures halts { IfErr result (StopsChoosing F.Feed first.old first.new
         G.Feed second.old second.new cutting.passes.hashes) }
     ensures feeds { KeepsFeed F.Feed first.old first.new
@@ -96,18 +152,18 @@ fn choose<F: Feed, G: Feed>(cutting: Cutting, first: &mut F, second: &mut G) -> 
     let mut nodes = NodePhase::new(cutting.passes.alloc, cutting.area);
     let begun = cutting.begin(first, &mut nodes)?;
     let digest = begun.digest;
-    let mut ways = nodes.end_nodes()?;
-    let last = LaterPass {
+    let again = LaterPass {
         number: 2,
         digest,
         passes: cutting.passes,
     };
-    last.gather(second, &mut ways)?;
+    let mut ways = nodes.end_nodes()?;
+    again.gather(second, &mut ways)?;
     let chosen = ways.end_ways()?;
     Ok(Choice {
         chosen,
         header: begun.header,
-        digest,
+        next: LaterPass { number: 3, ..again },
     })
 }
 
@@ -214,21 +270,7 @@ pub fn extract_with_receipt<F: Feed, G: Feed, H: Feed, D: Drain, S: BuildHasher 
         hashes: true,
     };
     let choice = choose(Cutting { passes, area }, first, second)?;
-    let digest = choice.digest;
-    let plan = OutputPlan {
-        header: &choice.header,
-        chosen: Some(&choice.chosen),
-    };
-    let last = LaterPass {
-        number: 3,
-        digest,
-        passes,
-    };
-    let counts = last.write(third, drain, hasher, plan)?;
-    Ok(InputReceipt {
-        counts,
-        input: digest,
-    })
+    choice.write(third, drain, hasher)
 }
 
 /// The passes before the one that writes: over nodes and ways as without parents, and a third that takes the relations.
@@ -239,10 +281,13 @@ fn choose_parents<F: Feed, G: Feed, H: Feed>(
     third: &mut H,
 ) -> Result<Choice, Halt>
     ensures chosen { IfOk result (λ choice. GaveFile F.Feed first.old first.new
-        (digest_if cutting.passes.hashes choice.digest) (λ b. GaveFile G.Feed second.old second.new
-        (digest_if cutting.passes.hashes choice.digest) (λ c. GaveFile H.Feed third.old third.new
-        (digest_if cutting.passes.hashes choice.digest) (λ d. IsChoiceWithParents cutting.area b c d
-        choice.chosen (header_of choice.header))))) }
+        (digest_if cutting.passes.hashes choice.next.digest)
+        (λ b. GaveFile G.Feed second.old second.new
+        (digest_if cutting.passes.hashes choice.next.digest)
+        (λ c. GaveFile H.Feed third.old third.new
+        (digest_if cutting.passes.hashes choice.next.digest)
+        (λ d. IsChoiceWithParents cutting.area b c d choice.chosen (header_of choice.header))))) }
+    ensures next { IfOk result (λ choice. IsPass 4 cutting.passes choice.next) }
     ensures halts { IfErr result (StopsChoosingParents F.Feed first.old first.new
         G.Feed second.old second.new H.Feed third.old third.new cutting.passes.hashes) }
     ensures feeds { KeepsFeed F.Feed first.old first.new
@@ -250,20 +295,7 @@ fn choose_parents<F: Feed, G: Feed, H: Feed>(
         × KeepsFeed H.Feed third.old third.new }
 {
     let choice = choose(cutting, first, second)?;
-    let digest = choice.digest;
-    let mut relations = choice.chosen.with_parents();
-    let last = LaterPass {
-        number: 3,
-        digest,
-        passes: cutting.passes,
-    };
-    last.gather(third, &mut relations)?;
-    let chosen = relations.end_relations()?.into_chosen();
-    Ok(Choice {
-        chosen,
-        header: choice.header,
-        digest,
-    })
+    choice.with_parents(third)
 }
 
 /// Writes the complete-ways extract of the box with all parents: what [`extract`] writes, and all relations that have a kept
@@ -384,19 +416,5 @@ pub fn extract_parents_with_receipt<
         hashes: true,
     };
     let choice = choose_parents(Cutting { passes, area }, first, second, third)?;
-    let digest = choice.digest;
-    let plan = OutputPlan {
-        header: &choice.header,
-        chosen: Some(&choice.chosen),
-    };
-    let last = LaterPass {
-        number: 4,
-        digest,
-        passes,
-    };
-    let counts = last.write(fourth, drain, hasher, plan)?;
-    Ok(InputReceipt {
-        counts,
-        input: digest,
-    })
+    choice.write(fourth, drain, hasher)
 }

@@ -132,6 +132,8 @@ fn unpicked(dense: &Dense<'_>, picker: &mut Picker<'_>) -> Option<usize>
 /// Packs those entities of a payload that are picked, one after another, and counts them.
 #[derive(Drop)]
 pub(crate) struct EntityPacker<'a> {
+    /// The allocator of what is read of a payload.
+    pub(crate) alloc: Global,
     picker: Picker<'a>,
     /// The numbers of the entities that were packed.
     pub(crate) counts: Counts,
@@ -141,12 +143,18 @@ pub(crate) struct EntityPacker<'a> {
 
 impl<'a> EntityPacker<'a> {
     /// Of those that were chosen, or of all if nothing was; so many were packed before, in the pass of this number.
-    pub(crate) fn new(chosen: Option<&'a Chosen>, counts: Counts, number: u8) -> EntityPacker<'a>
+    pub(crate) fn new(
+        alloc: Global,
+        chosen: Option<&'a Chosen>,
+        counts: Counts,
+        number: u8,
+    ) -> EntityPacker<'a>
         ensures picker { picks_of result.picker ≡ pick_of chosen.entry }
         ensures counts { result.counts ≡ counts }
         ensures number { result.number ≡ number }
     {
         EntityPacker {
+            alloc,
             picker: Picker::of(chosen),
             counts,
             number,
@@ -294,7 +302,6 @@ impl<'a> EntityPacker<'a> {
     /// Judges a PrimitiveBlock, and packs what is picked of it. Each entity of a block without a fault can be written.
     fn pack_block<D: Drain, S: BuildHasher>(
         &mut self,
-        alloc: Global,
         frame: &Frame<'_>,
         packer: &mut Packer<D, S>,
     ) -> Result<(), Stop>
@@ -309,7 +316,7 @@ impl<'a> EntityPacker<'a> {
             (primitive_block frame.now.payload_at frame.now.payload.now) packer.old packer.new) }
         ensures keeps { KeepsPacker D.Drain packer.old packer.new }
     {
-        let block = Block::read(alloc, frame.payload, frame.payload_at)?;
+        let block = Block::read(self.alloc, frame.payload, frame.payload_at)?;
         self.pack_runs(block.runs_among(Kinds::all()), packer)?;
         Ok(())
     }
@@ -317,7 +324,6 @@ impl<'a> EntityPacker<'a> {
     /// Judges the payload of a frame, packs what is picked of it, and takes its header or the numbers of these entities.
     fn pack_payload<D: Drain, S: BuildHasher>(
         &mut self,
-        alloc: Global,
         frame: &Frame<'_>,
         pass: &mut Pass,
         packer: &mut Packer<D, S>,
@@ -331,9 +337,9 @@ impl<'a> EntityPacker<'a> {
         ensures keeps { KeepsPacker D.Drain packer.old packer.new }
     {
         match frame.kind {
-            FrameKind::Header => pass.take_header(alloc, frame.payload, frame.payload_at)?,
+            FrameKind::Header => pass.take_header(self.alloc, frame.payload, frame.payload_at)?,
             FrameKind::Data => {
-                self.pack_block(alloc, frame, packer)?;
+                self.pack_block(frame, packer)?;
                 pass.counts.add(self.counts);
             }
             FrameKind::Other => {}
@@ -380,8 +386,8 @@ pub fn step_pack<F: Feed, D: Drain, S: BuildHasher>(
     let Some(frame) = reader.next()? else {
         return Ok(false);
     };
-    let mut entities = EntityPacker::new(chosen, Counts::none(), 0);
-    let outcome = entities.pack_payload(alloc, &frame, pass, packer);
+    let mut entities = EntityPacker::new(alloc, chosen, Counts::none(), 0);
+    let outcome = entities.pack_payload(&frame, pass, packer);
     packer.held_is_bounded();
     outcome?;
     Ok(true)

@@ -18,13 +18,12 @@ ghost use Rattle.pbf_pass.specs.Given.{GaveFile, Took};
 ghost use Rattle.pbf_pass.specs.Hashing.{digest_if};
 ghost use Rattle.pbfcut.specs.Kept.{IsWritable, extract_of};
 ghost use Rattle.pbf_pass.specs.Refused.{HaltsFile, stop_of};
-ghost use Rattle.pbfcut.specs.Repeat.{SameDigest};
+ghost use Rattle.pbfcut.specs.Repeat.{IsPass, SameDigest};
 ghost use Rattle.pbf_pass.specs.Stops.{ReadFailed, WriteFailed};
 ghost use Rattle.pbf_frame.specs.Keeps.{KeepsDrain, KeepsFeed};
 
 use crate::extracting::{Choice, Cutting};
 use crate::repeat::LaterPass;
-use crate::write::OutputPlan;
 use osm_entity::BoundingBox;
 use osm_ways::FirstPhase;
 use pbf_block::Counts;
@@ -41,9 +40,11 @@ pub(crate) fn choose_sorted<F: Feed, G: Feed>(
     second: &mut G,
 ) -> Result<Choice, Halt>
     ensures chosen { IfOk result (λ choice. GaveFile F.Feed first.old first.new
-        (digest_if cutting.passes.hashes choice.digest) (λ b. GaveOrNot G.Feed second.old second.new
-        (digest_if cutting.passes.hashes choice.digest) b
+        (digest_if cutting.passes.hashes choice.next.digest)
+        (λ b. GaveOrNot G.Feed second.old second.new
+        (digest_if cutting.passes.hashes choice.next.digest) b
         (λ c. IsChoice cutting.area b c choice.chosen (header_of choice.header)))) }
+    ensures next { IfOk result (λ choice. IsPass 3 cutting.passes choice.next) }
     ensures halts { IfErr result (StopsChoosing F.Feed first.old first.new
         G.Feed second.old second.new cutting.passes.hashes) }
     ensures feeds { KeepsFeed F.Feed first.old first.new
@@ -52,19 +53,19 @@ pub(crate) fn choose_sorted<F: Feed, G: Feed>(
     let mut phase = FirstPhase::new(cutting.passes.alloc, cutting.area);
     let begun = cutting.begin(first, &mut phase)?;
     let digest = begun.digest;
-    let in_order = phase.is_in_order();
-    let mut ways = phase.end()?;
     let again = LaterPass {
         number: 2,
         digest,
         passes: cutting.passes,
     };
+    let in_order = phase.is_in_order();
+    let mut ways = phase.end()?;
     again.gather_rest(second, &mut ways, in_order)?;
     let chosen = ways.end_ways()?;
     Ok(Choice {
         chosen,
         header: begun.header,
-        digest,
+        next: LaterPass { number: 3, ..again },
     })
 }
 
@@ -164,21 +165,7 @@ pub fn extract_sorted_with_receipt<F: Feed, G: Feed, H: Feed, D: Drain, S: Build
     ensures drain { KeepsDrain D.Drain drain.old drain.new }
 {
     let choice = choose_sorted(Cutting { passes, area }, first, second)?;
-    let digest = choice.digest;
-    let plan = OutputPlan {
-        header: &choice.header,
-        chosen: Some(&choice.chosen),
-    };
-    let last = LaterPass {
-        number: 3,
-        digest,
-        passes,
-    };
-    let counts = last.write(third, drain, hasher, plan)?;
-    Ok(InputReceipt {
-        counts,
-        input: digest,
-    })
+    choice.write(third, drain, hasher)
 }
 
 /// The passes before the one that writes: over nodes and ways as without parents, and one that takes the relations.
@@ -189,10 +176,13 @@ fn choose_parents_sorted<F: Feed, G: Feed, H: Feed>(
     third: &mut H,
 ) -> Result<Choice, Halt>
     ensures chosen { IfOk result (λ choice. GaveFile F.Feed first.old first.new
-        (digest_if cutting.passes.hashes choice.digest) (λ b. GaveOrNot G.Feed second.old second.new
-        (digest_if cutting.passes.hashes choice.digest) b
-        (λ c. GaveFile H.Feed third.old third.new (digest_if cutting.passes.hashes choice.digest)
+        (digest_if cutting.passes.hashes choice.next.digest)
+        (λ b. GaveOrNot G.Feed second.old second.new
+        (digest_if cutting.passes.hashes choice.next.digest) b
+        (λ c. GaveFile H.Feed third.old third.new
+        (digest_if cutting.passes.hashes choice.next.digest)
         (λ d. IsChoiceWithParents cutting.area b c d choice.chosen (header_of choice.header))))) }
+    ensures next { IfOk result (λ choice. IsPass 4 cutting.passes choice.next) }
     ensures halts { IfErr result (StopsChoosingParents F.Feed first.old first.new
         G.Feed second.old second.new H.Feed third.old third.new cutting.passes.hashes) }
     ensures feeds { KeepsFeed F.Feed first.old first.new
@@ -200,20 +190,7 @@ fn choose_parents_sorted<F: Feed, G: Feed, H: Feed>(
         × KeepsFeed H.Feed third.old third.new }
 {
     let choice = choose_sorted(cutting, first, second)?;
-    let digest = choice.digest;
-    let mut relations = choice.chosen.with_parents();
-    let again = LaterPass {
-        number: 3,
-        digest,
-        passes: cutting.passes,
-    };
-    again.gather(third, &mut relations)?;
-    let chosen = relations.end_relations()?.into_chosen();
-    Ok(Choice {
-        chosen,
-        header: choice.header,
-        digest,
-    })
+    choice.with_parents(third)
 }
 
 /// Like [`extract_parents_with_receipt`](crate::extract_parents_with_receipt), in three passes if no node of the file comes after a
@@ -277,19 +254,5 @@ pub fn extract_parents_sorted_with_receipt<
     ensures drain { KeepsDrain D.Drain drain.old drain.new }
 {
     let choice = choose_parents_sorted(Cutting { passes, area }, first, second, third)?;
-    let digest = choice.digest;
-    let plan = OutputPlan {
-        header: &choice.header,
-        chosen: Some(&choice.chosen),
-    };
-    let last = LaterPass {
-        number: 4,
-        digest,
-        passes,
-    };
-    let counts = last.write(fourth, drain, hasher, plan)?;
-    Ok(InputReceipt {
-        counts,
-        input: digest,
-    })
+    choice.write(fourth, drain, hasher)
 }

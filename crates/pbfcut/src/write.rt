@@ -28,7 +28,6 @@ use std::hash::BuildHasher;
 
 /// Packs what is picked of a PrimitiveBlock, which isn't judged.
 fn pack_block<D: Drain, S: BuildHasher>(
-    alloc: Global,
     frame: &Frame<'_>,
     entities: &mut EntityPacker<'_>,
     packer: &mut Packer<D, S>,
@@ -37,7 +36,7 @@ fn pack_block<D: Drain, S: BuildHasher>(
     ensures { PacksUnjudged D.Drain (primitive_block frame.now.payload_at frame.now.payload.now)
         entities.old entities.new packer.old packer.new result }
 {
-    let Some(block) = UnjudgedBlock::open(alloc, frame.payload, frame.payload_at)? else {
+    let Some(block) = UnjudgedBlock::open(entities.alloc, frame.payload, frame.payload_at)? else {
         return Err(Stop::Changed(entities.number));
     };
     entities.pack_runs(block.runs_among(Kinds::all()), packer)?;
@@ -46,7 +45,6 @@ fn pack_block<D: Drain, S: BuildHasher>(
 
 /// Packs what is picked of the payload of a frame, which isn't judged.
 fn pack_payload<D: Drain, S: BuildHasher>(
-    alloc: Global,
     frame: &Frame<'_>,
     entities: &mut EntityPacker<'_>,
     packer: &mut Packer<D, S>,
@@ -56,7 +54,7 @@ fn pack_payload<D: Drain, S: BuildHasher>(
         entities.old entities.new packer.old packer.new result }
 {
     match frame.kind {
-        FrameKind::Data => pack_block(alloc, frame, entities, packer),
+        FrameKind::Data => pack_block(frame, entities, packer),
         FrameKind::Header | FrameKind::Other => Ok(()),
     }
 }
@@ -88,55 +86,56 @@ impl<D: Drain, S: BuildHasher> Visit for Writer<'_, D, S> {
     ghost lender = { λ v. v.packer.ghost_name ∷ D.lender v.packer.now.drain };
 
     fn visit(&mut self, alloc: Global, frame: &Frame<'_>) -> Result<(), Stop> {
-        let mut entities = EntityPacker::new(self.chosen, self.counts, self.number);
-        pack_payload(alloc, frame, &mut entities, self.packer)?;
+        let mut entities = EntityPacker::new(alloc, self.chosen, self.counts, self.number);
+        pack_payload(frame, &mut entities, self.packer)?;
         self.counts = entities.counts;
         Ok(())
     }
 }
 
-/// What is written of a file.
+/// What is written of a file, and in which pass.
 #[derive(Clone, Copy)]
 pub(crate) struct OutputPlan<'a> {
+    /// The pass.
+    pub(crate) pass: LaterPass,
     /// The header.
     pub(crate) header: &'a Header,
     /// Which of the entities; all of them if nothing was chosen.
     pub(crate) chosen: Option<&'a Chosen>,
 }
 
-impl LaterPass {
+impl<'a> OutputPlan<'a> {
     /// Puts a header, what is picked of a whole file, and the last block through a packer.
-    fn pack_file<'a, F: Feed, D: Drain, S: BuildHasher>(
+    fn pack_file<F: Feed, D: Drain, S: BuildHasher>(
         self,
         feed: &mut F,
         packer: &'a mut Packer<D, S>,
-        plan: OutputPlan<'a>,
     ) -> Result<InputReceipt, Stop>
         requires fresh { IsFreshPacker packer.old }
-        requires short { HasShortTexts (header_of plan.header.now) }
+        requires short { HasShortTexts (header_of self.header.now) }
         ensures packed { IfOk result (λ wrote. GaveFile F.Feed feed.old feed.new
-            (digest_if self.passes.hashes wrote.input)
+            (digest_if self.entry.pass.passes.hashes wrote.input)
             (λ file. Took D.Drain packer.old.drain packer.new.drain
-            (Packed (pick_of plan.entry.chosen) (header_of plan.entry.header.now)
+            (Packed (pick_of self.entry.chosen) (header_of self.entry.header.now)
             wrote.counts (judged_file (Some file))))) }
-        ensures beginning { OnErr result (PacksFront (pick_of plan.entry.chosen)
-            (header_of plan.entry.header.now) (judged_file (F.remaining feed.old))
+        ensures beginning { OnErr result (PacksFront (pick_of self.entry.chosen)
+            (header_of self.entry.header.now) (judged_file (F.remaining feed.old))
             (D.taken packer.old.drain) (D.taken packer.new.drain)) }
         ensures faulty { IfErr result (ReadsFaulty F.Feed feed.old feed.new) }
-        ensures stops { IfErr result (StopsUnjudged self.number (judged_file (F.remaining feed.old))
-            (ReadFailed F.Feed feed.old feed.new)
+        ensures stops { IfErr result (StopsUnjudged self.entry.pass.number
+            (judged_file (F.remaining feed.old)) (ReadFailed F.Feed feed.old feed.new)
             (WriteFailed D.Drain packer.old.drain packer.new.drain)) }
         ensures keeps { KeepsFeed F.Feed feed.old feed.new }
         ensures drain { KeepsDrain D.Drain packer.old.drain packer.new.drain }
     {
-        packer.put_header(plan.header)?;
+        packer.put_header(self.header)?;
         let mut writer = Writer {
             packer,
             counts: Counts::none(),
-            chosen: plan.chosen,
-            number: self.number,
+            chosen: self.chosen,
+            number: self.pass.number,
         };
-        let outcome = pass_over(self.passes, feed, &mut writer);
+        let outcome = pass_over(self.pass.passes, feed, &mut writer);
         // What is known of the packer comes back with the reference itself.
         let Writer { packer, counts, .. } = writer;
         let input = outcome?.digest;
@@ -151,24 +150,24 @@ impl LaterPass {
         feed: &mut F,
         drain: &mut D,
         hasher: S,
-        plan: OutputPlan<'_>,
     ) -> Result<InputReceipt, Stop>
-        requires { HasShortTexts (header_of plan.header.now) }
+        requires { HasShortTexts (header_of self.header.now) }
         ensures packed { IfOk result (λ wrote. GaveFile F.Feed feed.old feed.new
-            (digest_if self.passes.hashes wrote.input) (λ file. Took D.Drain drain.old drain.new
-            (Packed (pick_of plan.entry.chosen) (header_of plan.entry.header.now)
-            wrote.counts (judged_file (Some file))))) }
-        ensures beginning { OnErr result (PacksFront (pick_of plan.entry.chosen)
-            (header_of plan.entry.header.now) (judged_file (F.remaining feed.old))
+            (digest_if self.entry.pass.passes.hashes wrote.input)
+            (λ file. Took D.Drain drain.old drain.new (Packed (pick_of self.entry.chosen)
+            (header_of self.entry.header.now) wrote.counts (judged_file (Some file))))) }
+        ensures beginning { OnErr result (PacksFront (pick_of self.entry.chosen)
+            (header_of self.entry.header.now) (judged_file (F.remaining feed.old))
             (D.taken drain.old) (D.taken drain.new)) }
         ensures faulty { IfErr result (ReadsFaulty F.Feed feed.old feed.new) }
-        ensures stops { IfErr result (StopsUnjudged self.number (judged_file (F.remaining feed.old))
-            (ReadFailed F.Feed feed.old feed.new) (WriteFailed D.Drain drain.old drain.new)) }
+        ensures stops { IfErr result (StopsUnjudged self.entry.pass.number
+            (judged_file (F.remaining feed.old)) (ReadFailed F.Feed feed.old feed.new)
+            (WriteFailed D.Drain drain.old drain.new)) }
         ensures keeps { KeepsFeed F.Feed feed.old feed.new }
         ensures drain { KeepsDrain D.Drain drain.old drain.new }
     {
-        let mut packer = Packer::new(self.passes.alloc, &mut *drain, hasher);
-        let outcome = self.pack_file(feed, &mut packer, plan);
+        let mut packer = Packer::new(self.pass.passes.alloc, &mut *drain, hasher);
+        let outcome = self.pack_file(feed, &mut packer);
         // What is known of the drain comes back with the reference itself.
         let _drain = packer.into_drain();
         outcome
@@ -180,27 +179,26 @@ impl LaterPass {
         feed: &mut F,
         drain: &mut D,
         hasher: S,
-        plan: OutputPlan<'_>,
     ) -> Result<Counts, Stop>
-        requires { HasShortTexts (header_of plan.header.now) }
-        ensures packed { IfOk result (λ counts. GaveFile F.Feed feed.old feed.new (digest_of self)
-            (λ file. Took D.Drain drain.old drain.new
-            (Packed (pick_of plan.entry.chosen) (header_of plan.entry.header.now)
+        requires { HasShortTexts (header_of self.header.now) }
+        ensures packed { IfOk result (λ counts. GaveFile F.Feed feed.old feed.new
+            (digest_of self.entry.pass) (λ file. Took D.Drain drain.old drain.new
+            (Packed (pick_of self.entry.chosen) (header_of self.entry.header.now)
             counts (judged_file (Some file))))) }
-        ensures beginning { OnErr result (PacksFront (pick_of plan.entry.chosen)
-            (header_of plan.entry.header.now) (judged_file (F.remaining feed.old))
+        ensures beginning { OnErr result (PacksFront (pick_of self.entry.chosen)
+            (header_of self.entry.header.now) (judged_file (F.remaining feed.old))
             (D.taken drain.old) (D.taken drain.new)) }
-        ensures stops { IfErr result (StopsLater F.Feed self feed.old feed.new
+        ensures stops { IfErr result (StopsLater F.Feed self.entry.pass feed.old feed.new
             (WriteFailed D.Drain drain.old drain.new)) }
         ensures keeps { KeepsFeed F.Feed feed.old feed.new }
         ensures drain { KeepsDrain D.Drain drain.old drain.new }
     {
-        match self.write_unjudged(feed, drain, hasher, plan) {
+        match self.write_unjudged(feed, drain, hasher) {
             Ok(wrote) => {
-                self.compare(wrote.input)?;
+                self.pass.compare(wrote.input)?;
                 Ok(wrote.counts)
             }
-            Err(stop) => Err(self.changed(stop)),
+            Err(stop) => Err(self.pass.changed(stop)),
         }
     }
 }

@@ -1,14 +1,14 @@
-use Rattle.std.proofs.Common.{◌⊎◌, inl, inr, refl, ap, ◌∙◌, rules}
-use Rattle.std.proofs.lemmas.Result.{err_from_is_err_and}
-use Rattle.osm_ways.specs.Phases.{KeptSets, start_relations}
-use Rattle.pbfcut.specs.Calls.{ChangedIn}
-use Rattle.pbf_pass.specs.HeaderLimit.{judged_writable}
-use Rattle.pbf_pass.specs.Stops.{FaultOf}
-use Rattle.pbfcut.proofs.ExtractingLemmas.{chooses_parents, stops_later}
-use Rattle.pbf_pass.proofs.GivenLemmas.{told_digest, told_says}
-use Rattle.pbfcut.specs.declared.repeat.LaterPass.{LaterPass}
+use Rattle.std.proofs.Common.{◌⊎◌, ◌∙◌, inl, inr, ap, rules}
+use Rattle.std.proofs.lemmas.Result.{IfErr-weaker, err_from_is_err_and}
+use Rattle.pbf_pass.specs.Given.{GaveFile}
+use Rattle.pbf_pass.specs.declared.receipt.Passes.{Passes}
+use Rattle.pbf_pass.specs.Hashing.{digest_if}
 use Rattle.pbf_pass.specs.Refused.{stop_of}
-use Rattle.pbfcut.proofs.ChangedLemmas.{no_refusal, changed_before, changed_later}
+use Rattle.pbf_pass.specs.Stops.{ReadFailed}
+use Rattle.pbf_pass.proofs.GivenLemmas.{told_digest, told_says, gave_file_less}
+use Rattle.pbfcut.proofs.ExtractingLemmas.{relations_stop}
+use Rattle.pbfcut.proofs.ChosenLemmas.{later_halts, parents_chosen}
+use Rattle.pbfcut.proofs.ChangedLemmas.{changed_before, changed_later}
 use Rattle.pbfcut.proofs.extracting.choose_parents.Goals as goal
 
 pub returns-in_err-choice-clause-halts : goal.returns-in_err-choice-clause-halts
@@ -20,43 +20,21 @@ returns-in_err-choice-clause-halts g c =
       changed = changed_before _ _ (stop_of c.in_err-choice.field-0.0) (λ pass is. inl is) c.in_err-choice.ensures.halts.changed;
     })
 
-pub returns-in_err-gather-clause-halts : goal.returns-in_err-gather-clause-halts
-returns-in_err-gather-clause-halts g c =
-    let p = err_from_is_err_and c.from_residual-in_err-gather.result c.from_residual-in_err-gather.ensures.1 in
+pub returns-clause-halts : goal.returns-clause-halts
+returns-clause-halts g c =
     let one = c.in_ok-choice.ensures.chosen in
     let choice = one.holding.holding.chosen in
-    let first = g.F.Feed.remaining c.args.first.now in
-    let third = g.H.Feed.remaining c.args.third.now in
-    let again : LaterPass = record { number = 3; digest = c.in_ok-choice.choice.digest; passes = c.args.cutting.passes } in
-    rw (p.1, p.2) (record {
-      refused = no_refusal g.H.Feed again _ _ _ _ c.in_err-gather.ensures.stops;
-      stops = stops_later g.H.Feed c.args.third.now c.gather.new.feed first choice.frames (told_says g.F.Feed _ _ _ _ _ one choice.judged) again _ (FaultOf (judged_writable first)) _ ⊥ (λ pass. ChangedIn 2 first (g.G.Feed.remaining c.args.second.now) pass ⊎ ChangedIn 3 first third pass) _
-          (told_digest g.F.Feed _ _ _ _ one) refl (λ r. inr (inr r)) (λ pass is. inr is) c.in_err-gather.ensures.stops;
-      changed = changed_later g.F.Feed _ _ g.H.Feed _ _ again _ _ _ _ c.in_err-gather.field-0.0 one choice.frames choice.judged refl (λ pass is. inr is) c.in_err-gather.ensures.stops;
-    })
+    let next = c.in_ok-choice.choice.next in
+    let is = c.in_ok-choice.ensures.next in
+    let earlier = ReadFailed g.F.Feed c.args.first.now c.choose.new.first in
+    let read = earlier ⊎ (ReadFailed g.G.Feed c.args.second.now c.choose.new.second ⊎ ReadFailed g.H.Feed c.args.third.now c.with_parents.new.feed) in
+    IfErr-weaker c.with_parents.result _ _ (λ h stops. record {
+      refused = later_halts g.H.Feed _ _ _ _ _ h stops;
+      stops = relations_stop g.H.Feed c.args.third.now c.with_parents.new.feed (g.F.Feed.remaining c.args.first.now) choice.frames (told_says g.F.Feed _ _ _ _ _ one choice.judged) c.args.cutting.passes next read ⊥ (stop_of h) (told_digest g.F.Feed _ _ _ _ one) (λ r. inr (inr r)) (g.G.Feed.remaining c.args.second.now) is stops;
+      changed = changed_later g.F.Feed _ _ g.H.Feed _ _ next _ _ _ _ (stop_of h) one choice.frames choice.judged (ap (λ (p : Passes). digest_if p.hashes next.digest) is.1) (λ pass at. inr (at.0 ∙ is.0, at.1)) stops;
+    }) c.with_parents.ensures.stops
 
 pub returns-clause-chosen : goal.returns-clause-chosen
 returns-clause-chosen g c =
-    let one = c.in_ok-choice.ensures.chosen in
-    let two = one.holding in
-    let choice = two.holding in
-    let three = c.in_ok-gather.ensures.gathered in
-    record {
-      file = one.file;
-      supplied = one.supplied;
-      digest_is = one.digest_is;
-      holding = record {
-        file = two.file;
-        supplied = two.supplied;
-        digest_is = two.digest_is;
-        holding = record {
-          file = three.file;
-          supplied = three.supplied;
-          digest_is = three.digest_is;
-          holding = record {
-            chosen = chooses_parents c.args.cutting.area _ _ _ choice.ways _ _ _ _ _ choice.chosen (c.with_parents-relations.ensures ∙ ap (λ (s : KeptSets). start_relations s.ways) choice.kept) three.holding c.in_ok-end_relations.ensures.ways c.in_ok-end_relations.ensures.least c.into_chosen-chosen.ensures;
-            short = choice.short;
-          };
-        };
-      };
-    }
+    parents_chosen g.F.Feed _ _ g.H.Feed _ _ c.args.cutting.area c.args.cutting.passes c.in_ok-choice.choice c.in_ok-choice.ensures.next c.with_parents.result (λ digest file holds. GaveFile g.G.Feed c.args.second.now c.choose.new.second digest holds) (λ digest file. gave_file_less g.G.Feed c.args.second.now c.choose.new.second digest)
+    c.in_ok-choice.ensures.chosen c.with_parents.ensures.parents c.with_parents.ensures.same
