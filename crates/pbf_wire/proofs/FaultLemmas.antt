@@ -88,7 +88,7 @@ front_within : (r : Result (ℕ × ℕ) Reason) (more : ℕ → List Entry) (n :
 front_within (Ok front) more n h = omega (arith, h (front.1 - 1))
 front_within (Err e) more n h = omega arith
 
-numbers_within : (skip : ℕ) (bytes : List ℕ) → length (read_entries (entries_past skip bytes)) ≤ length bytes
+pub numbers_within : (skip : ℕ) (bytes : List ℕ) → length (read_entries (entries_past skip bytes)) ≤ length bytes
 unfolding entries_past
 numbers_within skip [] = omega arith
 numbers_within (suc skip) (b ∷ bs) = omega (arith, numbers_within skip bs)
