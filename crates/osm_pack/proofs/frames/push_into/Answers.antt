@@ -1,8 +1,8 @@
 use Rattle.std.proofs.Common.{◌++◌, ◌∷◌, [], List, subst}
 use Rattle.osm_entity.specs.Entity.{EntitySpec}
-use Rattle.osm_entity.specs.Views.{entity_of}
 use Rattle.pbf_block.specs.WrittenBlock.{is_block}
 use Rattle.osm_pack.specs.Open.{Holds, IsJoining}
+use Rattle.osm_pack.specs.View.{entity_shown}
 use Rattle.osm_pack.proofs.OpenLemmas.{after_room}
 use Rattle.osm_pack.proofs.frames.push_into.Goals as goal
 
@@ -11,14 +11,14 @@ add-requires-clause-is g c = record { likeness = c.of.ensures; weight = c.requir
 
 pub add-requires-clause-joins : goal.add-requires-clause-joins
 add-requires-clause-joins g c =
-    let is : IsJoining _ (entity_of c.args.weighed.entity.now) = record { likeness = c.of.ensures; weight = c.requires.weighs } in
-    (c.in_ok-make_room.ensures.made (entity_of c.args.weighed.entity.now) is c.requires.fits).joins
+    let is : IsJoining _ (entity_shown c.args.weighed.entity) = record { likeness = c.of.ensures; weight = c.requires.weighs } in
+    (c.in_ok-make_room.ensures.made (entity_shown c.args.weighed.entity) is c.requires.fits).joins
 
 pub returns-clause-pending : goal.returns-clause-pending
 returns-clause-pending g c = λ es h.
-    let is : IsJoining _ (entity_of c.args.weighed.entity.now) = record { likeness = c.of.ensures; weight = c.requires.weighs } in
-    let made = c.in_ok-make_room.ensures.made (entity_of c.args.weighed.entity.now) is c.requires.fits in
-    subst (λ (now : List EntitySpec). Holds c.add.new.self now) (after_room (is_block (es ++ entity_of c.args.weighed.entity.now ∷ [])) es (entity_of c.args.weighed.entity.now)) (c.in_ok-add.ensures _ (made.pending es h))
+    let is : IsJoining _ (entity_shown c.args.weighed.entity) = record { likeness = c.of.ensures; weight = c.requires.weighs } in
+    let made = c.in_ok-make_room.ensures.made (entity_shown c.args.weighed.entity) is c.requires.fits in
+    subst (λ (now : List EntitySpec). Holds c.add.new.self now) (after_room (is_block (es ++ entity_shown c.args.weighed.entity ∷ [])) es (entity_shown c.args.weighed.entity)) (c.in_ok-add.ensures _ (made.pending es h))
 
 pub returns-clause-open : goal.returns-clause-open
 returns-clause-open g c =
@@ -27,20 +27,20 @@ returns-clause-open g c =
 
 pub returns-clause-written : goal.returns-clause-written
 returns-clause-written g c = λ es h.
-    let is : IsJoining _ (entity_of c.args.weighed.entity.now) = record { likeness = c.of.ensures; weight = c.requires.weighs } in
-    (c.in_ok-make_room.ensures.made (entity_of c.args.weighed.entity.now) is c.requires.fits).written es h
+    let is : IsJoining _ (entity_shown c.args.weighed.entity) = record { likeness = c.of.ensures; weight = c.requires.weighs } in
+    (c.in_ok-make_room.ensures.made (entity_shown c.args.weighed.entity) is c.requires.fits).written es h
 
 pub returns-clause-front : goal.returns-clause-front
 returns-clause-front g c = λ es h.
-    let is : IsJoining _ (entity_of c.args.weighed.entity.now) = record { likeness = c.of.ensures; weight = c.requires.weighs } in
-    (c.in_ok-make_room.ensures.made (entity_of c.args.weighed.entity.now) is c.requires.fits).front es h
+    let is : IsJoining _ (entity_shown c.args.weighed.entity) = record { likeness = c.of.ensures; weight = c.requires.weighs } in
+    (c.in_ok-make_room.ensures.made (entity_shown c.args.weighed.entity) is c.requires.fits).front es h
 
 pub returns-in_err-make_room-clause-front : goal.returns-in_err-make_room-clause-front
 returns-in_err-make_room-clause-front g c = λ es h.
-    let is : IsJoining _ (entity_of c.args.weighed.entity.now) = record { likeness = c.of.ensures; weight = c.requires.weighs } in
-    (c.in_err-make_room.ensures.made (entity_of c.args.weighed.entity.now) is c.requires.fits).front es h
+    let is : IsJoining _ (entity_shown c.args.weighed.entity) = record { likeness = c.of.ensures; weight = c.requires.weighs } in
+    (c.in_err-make_room.ensures.made (entity_shown c.args.weighed.entity) is c.requires.fits).front es h
 
 pub returns-in_err-add-clause-front : goal.returns-in_err-add-clause-front
 returns-in_err-add-clause-front g c = λ es h.
-    let is : IsJoining _ (entity_of c.args.weighed.entity.now) = record { likeness = c.of.ensures; weight = c.requires.weighs } in
-    (c.in_ok-make_room.ensures.made (entity_of c.args.weighed.entity.now) is c.requires.fits).front es h
+    let is : IsJoining _ (entity_shown c.args.weighed.entity) = record { likeness = c.of.ensures; weight = c.requires.weighs } in
+    (c.in_ok-make_room.ensures.made (entity_shown c.args.weighed.entity) is c.requires.fits).front es h
