@@ -46,10 +46,10 @@ all_next : (k : ℕ) (o : Occurrence) (os : List Occurrence) → o.number ≡ k 
 all_next k o os same = grind arith
 
 -- the second or a later occurrence
-pub again : (seen : Bool) (so_far : Option Fault) (k : ℕ) (os t : List Occurrence) (o : Occurrence) (all : Option Fault) → seen ≡ true → os ≡ o ∷ t → o.number ≡ k
+pub occurs_later : (seen : Bool) (so_far : Option Fault) (k : ℕ) (os t : List Occurrence) (o : Occurrence) (all : Option Fault) → seen ≡ true → os ≡ o ∷ t → o.number ≡ k
     → lesser so_far (least (map (λ o. fault o.place TwiceMessage) (if seen then all_of k os else drop 1 (all_of k os)))) ≡ all
     → lesser (lesser so_far (Some (fault o.place TwiceMessage))) (least (map (λ o. fault o.place TwiceMessage) (all_of k t))) ≡ all
-again seen so_far k os t o all e next same h =
+occurs_later seen so_far k os t o all e next same h =
     let left : Bool → List Occurrence → List Occurrence = λ b w. if b then all_of k w else drop 1 (all_of k w) in
     let whole : List Occurrence → Option Fault = λ w. lesser so_far (least (map (λ o. fault o.place TwiceMessage) w)) in
     least_next so_far (fault o.place TwiceMessage) (map (λ o. fault o.place TwiceMessage) (all_of k t))
