@@ -6,11 +6,9 @@ ghost use Rattle.osm_entity.specs.Ranges.{EntityFits};
 ghost use Rattle.osm_entity.specs.Views.{entity_of};
 ghost use Rattle.osm_entity.specs.Weight.{entity_weight, text_weight};
 ghost use Rattle.pbf_header.specs.Header.{header_of};
-ghost use Rattle.pbf_frame.specs.Devices.{IsFront};
-ghost use Rattle.pbf_frame.specs.Transfers.{Added};
 ghost use Rattle.osm_pack.specs.Cuts.{block_frame, header_frame, then_pending, then_written, at_end};
 ghost use Rattle.osm_pack.specs.Open.{Holds, IsOpen, IsJoining};
-ghost use Rattle.osm_pack.specs.Pushing.{MakesRoom};
+ghost use Rattle.osm_pack.specs.Pushing.{MakesRoom, Writes};
 ghost use Rattle.osm_pack.specs.View.{entity_shown};
 ghost use Rattle.osm_pack.specs.Stops.{UsesDrain};
 ghost use Rattle.pbf_header.specs.declared.write.TheConstants.{MOST_HEADER_TEXT};
@@ -30,11 +28,9 @@ pub(crate) fn close_into<D: Drain, S: BuildHasher>(
     block: &mut OpenBlock<S>,
 ) -> Result<(), Stop>
     requires { IsOpen block.old }
-    ensures written { (es : List EntitySpec) → Holds block.old es
-        → OnOk result (Added D.Drain drain.old (block_frame es) drain.new) }
+    ensures writes { (es : List EntitySpec) → Holds block.old es
+        → Writes D.Drain (block_frame es) drain.old drain.new result }
     ensures empty { OnOk result (Holds block.new []) }
-    ensures front { (es : List EntitySpec) → Holds block.old es
-        → IsFront (D.taken drain.old) (D.taken drain.new) (block_frame es) }
     ensures drain { UsesDrain D.Drain drain.old drain.new result }
 {
     let payload = block.close(alloc)?;
@@ -106,12 +102,9 @@ pub(crate) fn push_into<D: Drain, S: BuildHasher>(
     ensures open { OnOk result (IsOpen block.new) }
     ensures pending { (es : List EntitySpec) → Holds block.old es
         → OnOk result (Holds block.new (then_pending es (entity_shown weighed.entry.entity))) }
-    ensures written { (es : List EntitySpec) → Holds block.old es
-        → OnOk result (Added D.Drain drain.old
-        (then_written es (entity_shown weighed.entry.entity)) drain.new) }
-    ensures front { (es : List EntitySpec) → Holds block.old es
-        → IsFront (D.taken drain.old) (D.taken drain.new)
-        (then_written es (entity_shown weighed.entry.entity)) }
+    ensures writes { (es : List EntitySpec) → Holds block.old es
+        → Writes D.Drain (then_written es (entity_shown weighed.entry.entity))
+        drain.old drain.new result }
     ensures drain { UsesDrain D.Drain drain.old drain.new result }
 {
     let Weighed { entity, weight } = weighed;
@@ -132,10 +125,8 @@ pub(crate) fn put_header_into<D: Drain>(
 ) -> Result<(), Stop>
     requires { text_weight (header_of header.now).source + text_weight (header_of header.now).url
         ≤ MOST_HEADER_TEXT }
-    ensures written { OnOk result
-        (Added D.Drain drain.old (header_frame (header_of header.now)) drain.new) }
-    ensures front { IsFront (D.taken drain.old) (D.taken drain.new)
-        (header_frame (header_of header.now)) }
+    ensures writes { Writes D.Drain (header_frame (header_of header.now))
+        drain.old drain.new result }
     ensures drain { UsesDrain D.Drain drain.old drain.new result }
 {
     let mut payload = Vec::new(alloc);
@@ -151,12 +142,10 @@ pub(crate) fn finish_into<D: Drain, S: BuildHasher>(
     block: &mut OpenBlock<S>,
 ) -> Result<(), Stop>
     requires { IsOpen block.old }
-    ensures written { (es : List EntitySpec) → Holds block.old es
-        → OnOk result (Added D.Drain drain.old (at_end es) drain.new) }
+    ensures writes { (es : List EntitySpec) → Holds block.old es
+        → Writes D.Drain (at_end es) drain.old drain.new result }
     ensures open { OnOk result (IsOpen block.new) }
     ensures empty { OnOk result (Holds block.new []) }
-    ensures front { (es : List EntitySpec) → Holds block.old es
-        → IsFront (D.taken drain.old) (D.taken drain.new) (at_end es) }
     ensures drain { UsesDrain D.Drain drain.old drain.new result }
 {
     if !block.is_empty() {

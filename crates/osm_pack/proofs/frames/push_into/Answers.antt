@@ -1,4 +1,5 @@
-use Rattle.std.proofs.Common.{◌++◌, ◌∷◌, [], List, subst}
+use Rattle.std.proofs.Common.{rules, ◌++◌, ◌∷◌, [], List, subst}
+use Rattle.std.proofs.lemmas.Result.{err_from_is_err_and}
 use Rattle.osm_entity.specs.Entity.{EntitySpec}
 use Rattle.pbf_block.specs.WrittenBlock.{is_block}
 use Rattle.osm_pack.specs.Open.{Holds, IsJoining}
@@ -25,22 +26,19 @@ returns-clause-open g c =
     let was = c.requires.«open» in
     record { entities = _; held = returns-clause-pending g c was.entities was.held }
 
-pub returns-clause-written : goal.returns-clause-written
-returns-clause-written g c = λ es h.
+pub returns-clause-writes : goal.returns-clause-writes
+returns-clause-writes g c = λ es h.
     let is : IsJoining _ (entity_shown c.args.weighed.entity) = record { likeness = c.of.ensures; weight = c.requires.weighs } in
-    (c.in_ok-make_room.ensures.made (entity_shown c.args.weighed.entity) is c.requires.fits).written es h
+    let made = (c.in_ok-make_room.ensures.made (entity_shown c.args.weighed.entity) is c.requires.fits).writes es h in
+    record { written = made.written; front = made.front }
 
-pub returns-clause-front : goal.returns-clause-front
-returns-clause-front g c = λ es h.
+pub returns-in_err-make_room-clause-writes : goal.returns-in_err-make_room-clause-writes
+returns-in_err-make_room-clause-writes g c = λ es h.
     let is : IsJoining _ (entity_shown c.args.weighed.entity) = record { likeness = c.of.ensures; weight = c.requires.weighs } in
-    (c.in_ok-make_room.ensures.made (entity_shown c.args.weighed.entity) is c.requires.fits).front es h
+    let p = err_from_is_err_and c.from_residual.result c.from_residual.ensures.1 in
+    rw (p.1, p.2) (record { written = tt; front = ((c.in_err-make_room.ensures.made (entity_shown c.args.weighed.entity) is c.requires.fits).writes es h).front })
 
-pub returns-in_err-make_room-clause-front : goal.returns-in_err-make_room-clause-front
-returns-in_err-make_room-clause-front g c = λ es h.
+pub returns-in_err-add-clause-writes : goal.returns-in_err-add-clause-writes
+returns-in_err-add-clause-writes g c = λ es h.
     let is : IsJoining _ (entity_shown c.args.weighed.entity) = record { likeness = c.of.ensures; weight = c.requires.weighs } in
-    (c.in_err-make_room.ensures.made (entity_shown c.args.weighed.entity) is c.requires.fits).front es h
-
-pub returns-in_err-add-clause-front : goal.returns-in_err-add-clause-front
-returns-in_err-add-clause-front g c = λ es h.
-    let is : IsJoining _ (entity_shown c.args.weighed.entity) = record { likeness = c.of.ensures; weight = c.requires.weighs } in
-    (c.in_ok-make_room.ensures.made (entity_shown c.args.weighed.entity) is c.requires.fits).front es h
+    record { written = search rules; front = ((c.in_ok-make_room.ensures.made (entity_shown c.args.weighed.entity) is c.requires.fits).writes es h).front }
