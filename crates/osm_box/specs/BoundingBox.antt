@@ -4,9 +4,13 @@ use Rattle.osm_box.specs.declared.bounding_box.BoundingBox.{BoundingBox}
 use Rattle.osm_box.specs.declared.bounding_box.BoxFault.{BoxFault}
 use Rattle.osm_box.specs.declared.bounding_box.BoxFault.TheVariants.{Range, LeftOverRight, BottomOverTop}
 
--- the number is from -limit to limit
+-- a number is from low to high
+abbrev pub is_between : ℤ → ℤ → ℤ → Bool
+is_between low high number = int_le low number && int_le number high
+
+-- it is from -limit to limit
 unfoldable pub is_up_to : ℤ → ℤ → Bool
-is_up_to limit number = int_le (neg_ℤ limit) number && int_le number limit
+is_up_to limit number = is_between (neg_ℤ limit) limit number
 
 -- the box of these edges, or that two of them are the wrong way round
 abbrev pub box_of_ordered : ℤ → ℤ → ℤ → ℤ → Result BoundingBox BoxFault
@@ -21,10 +25,6 @@ box_of_edges left bottom right top =
     if not (is_up_to (pos 180000000000) left && is_up_to (pos 180000000000) right) then Err Range
     else (if not (is_up_to (pos 90000000000) bottom && is_up_to (pos 90000000000) top) then Err Range
     else box_of_ordered left bottom right top)
-
--- a number is from low to high
-abbrev pub is_between : ℤ → ℤ → ℤ → Bool
-is_between low high number = int_le low number && int_le number high
 
 -- a place in nanodegrees is in the box, edges included
 abbrev pub is_inside : BoundingBox → ℤ → ℤ → Bool

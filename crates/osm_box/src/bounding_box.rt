@@ -1,7 +1,7 @@
 //! The box of an extract.
 
-ghost use Rattle.std.specs.Prelude.{◌≡◌, ◌≤ℤ◌, ◌&&◌, pos, int_le};
-ghost use Rattle.osm_box.specs.BoundingBox.{box_of_edges, box_of_ordered, is_up_to, is_inside};
+ghost use Rattle.std.specs.Prelude.{◌≡◌, ◌≤ℤ◌, ◌&&◌, pos};
+ghost use Rattle.osm_box.specs.BoundingBox.{box_of_edges, box_of_ordered, is_between, is_up_to, is_inside};
 ghost use Rattle.osm_box.specs.Degrees.{box_of_numbers, box_of_text};
 
 use crate::degrees::{Parts, degrees};
@@ -133,13 +133,13 @@ impl BoundingBox {
     }
 
     fn spans_lat(&self, lat: i128) -> bool
-        ensures { result ≡ (int_le self.now.bottom lat && int_le lat self.now.top) }
+        ensures { result ≡ is_between self.now.bottom self.now.top lat }
     {
         i128::from(self.bottom) <= lat && lat <= i128::from(self.top)
     }
 
     fn spans_lon(&self, lon: i128) -> bool
-        ensures { result ≡ (int_le self.now.left lon && int_le lon self.now.right) }
+        ensures { result ≡ is_between self.now.left self.now.right lon }
     {
         i128::from(self.left) <= lon && lon <= i128::from(self.right)
     }

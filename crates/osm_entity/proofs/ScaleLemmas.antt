@@ -1,6 +1,6 @@
 -- Stored numbers multiplied and added, as wide numbers hold them.
 use Rattle.std.proofs.Common.{◌≡◌, ◌^◌, ◌≤◌, ◌<◌, ◌/◌, suc, ℤ, pos, negsuc, ◌+ℤ◌, ◌-ℤ◌, ◌≤ℤ◌, ◌<ℤ◌, true, FitsSigned, SFits, of_z, to_z, to_z-of_z, ◌∙◌, refl, arith, rules, mul_comm, div-le_self, le-div_iff_mul-le, div-lt_iff_lt-mul}
-use Rattle.std.specs.Prelude.{nat_abs, ◌*ℤ◌}
+use Rattle.std.specs.Prelude.{nat_abs, ◌*ℤ◌, Option, MatchOption, ⊤}
 use Rattle.std.specs.Cmp.{both_ways}
 use Rattle.std.specs.Int.{int_div_euclid}
 use Rattle.pbf_wire.specs.Spans.{is_in}
@@ -148,6 +148,18 @@ next_fits q x a b =
     let one : nat_abs q ≤ 2 ^ 62 = omega arith in
     let other : nat_abs (q +ℤ pos 1) ≤ 2 ^ 62 = omega (arith, ints) in
     rw (kept_64 q one) (in_64 (q +ℤ pos 1) other)
+
+pub one_less_fits : (x : ℤ) → nat_abs x ≤ 2 ^ 61 → SFits w64 (to_z w64 (of_z w64 x) -ℤ pos 1)
+one_less_fits x small =
+    let one : nat_abs x ≤ 2 ^ 62 = omega arith in
+    let other : nat_abs (x -ℤ pos 1) ≤ 2 ^ 62 = omega (arith, ints) in
+    rw (kept_64 x one) (in_64 (x -ℤ pos 1) other)
+
+-- the span of the numbers, as they are passed
+pub span_kept : (span : Option Span) (offset g low high a b x y : ℤ) → a ≡ offset → b ≡ g → x ≡ low → y ≡ high
+    → MatchOption span ⊤ (λ s. (stored : ℤ) → is_in s stored ≡ is_between x y (nano a b stored))
+    → MatchOption span ⊤ (λ s. (stored : ℤ) → is_in s stored ≡ is_between low high (nano offset g stored))
+span_kept span offset g low high a b x y offset_is g_is low_is high_is told = rw (← offset_is, ← g_is, ← low_is, ← high_is) told
 
 pub apart : (a b : ℤ) → nat_abs a ≤ 2 ^ 60 → nat_abs b ≤ 2 ^ 60 → nat_abs (a -ℤ b) ≤ 2 ^ 61
 apart a b p q = omega (arith, ints)

@@ -247,5 +247,5 @@ least_only is_link start ids others h k =
 pub least_closed : (is_link : Link → Bool) (start : Ids) → IsClosed is_link (set.contains start) → IsLeast is_link start start
 least_closed is_link start closed = record { holds = λ id h. h; closed = closed; least = λ test has _. has }
 
-pub least_again : (is_link : Link → Bool) (start ids : Ids) → IsLeast is_link start ids → IsLeast is_link ids ids
-least_again is_link start ids h = least_closed is_link ids h.closed
+pub least_of_itself : (is_link : Link → Bool) (start ids : Ids) → IsLeast is_link start ids → IsLeast is_link ids ids
+least_of_itself is_link start ids h = least_closed is_link ids h.closed

@@ -7,7 +7,7 @@ use Rattle.pbf_wire.specs.Columns.{packed}
 use Rattle.pbf_wire.specs.Packed.{numbers_of}
 use Rattle.pbf_wire.proofs.PackedLemmas.{column_read}
 use Rattle.pbf_wire.proofs.Shortest.{shortest_spells}
-use Rattle.pbf_wire.proofs.Spellings.{again}
+use Rattle.pbf_wire.proofs.Spellings.{spelling_is_read}
 use Rattle.osm_ids.specs.Pages.{gap, gaps, raised, Rises, AllFit}
 
 -- what spells the ids after `low`
@@ -42,4 +42,4 @@ shortest_some n lt = some_byte (shortest n) (shortest_spells n lt).ended
 
 -- what is read of a shortest spelling
 pub read_at : (bytes : List ℕ) (at n : ℕ) (rest : List ℕ) → n < 2 ^ 64 → drop at bytes ≡ shortest n ++ rest → moved_by at (varint_at (drop at bytes)) ≡ Ok (n, at + length (shortest n))
-read_at bytes at n rest lt e = ap (moved_by at) (ap varint_at e ∙ again (shortest n) rest n (shortest_spells n lt))
+read_at bytes at n rest lt e = ap (moved_by at) (ap varint_at e ∙ spelling_is_read (shortest n) rest n (shortest_spells n lt))

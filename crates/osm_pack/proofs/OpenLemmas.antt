@@ -7,7 +7,7 @@ use Rattle.std.proofs.lemmas.List.{length_push, map_push}
 use Rattle.std.proofs.lemmas.List.Sums.{sum_by_push, sum_by-cons}
 use Rattle.std.proofs.Math.Bool.{and-true}
 use Rattle.pbf_wire.specs.Message.{Each, slot_bytes, message, unless_empty}
-use Rattle.pbf_wire.proofs.RoomLemmas.{each_short}
+use Rattle.pbf_wire.proofs.LengthLemmas.{each_short}
 use Rattle.pbf_wire.proofs.WritingLemmas.{each_none, each_joined, message_first, message_one}
 use Rattle.pbf_strings.specs.TableOut.{texts_after, table_message, text_held}
 use Rattle.pbf_strings.proofs.UsedTexts.{after_both, used_later, length_after}

@@ -1,5 +1,6 @@
 pub mod Cuts
 pub mod Likenesses
+pub mod View
 pub mod Open
 pub mod Stops
 pub mod Pushing

@@ -1,5 +1,5 @@
 -- How room is made for an entity in the open block.
-use Rattle.std.specs.Prelude.{List, [], ◌∷◌, ◌++◌, Result, OnOk, if◌then◌else◌}
+use Rattle.std.specs.Prelude.{ℕ, List, [], ◌∷◌, ◌++◌, Result, OnOk, if◌then◌else◌}
 use Rattle.osm_entity.specs.Entity.{EntitySpec}
 use Rattle.pbf_frame.specs.declared.device.Drain as drain
 use Rattle.pbf_frame.specs.declared.stop.Stop.{Stop}
@@ -10,9 +10,13 @@ use Rattle.osm_pack.specs.Cuts.{then_written}
 use Rattle.osm_pack.specs.Open.{Holds, Joins}
 use Rattle.osm_pack.specs.declared.open_block.OpenBlock.{OpenBlock}
 
+-- these bytes are written; of a call that stops, a prefix of them
+pub record Writes {D X : Type 0} (d : drain.Ghosts D) (bytes : List ℕ) (old new : D) (result : Result X Stop) : Type 0 where
+  pub written : OnOk result (Added d old bytes new)
+  pub front : IsFront (d.taken old) (d.taken new) bytes
+
 -- there is room for an entity: what the block held went out if the entity could not join it
 pub record MakesRoom {D S H X : Type 0} (d : drain.Ghosts D) (e : EntitySpec) (drained now : D) (old new : OpenBlock S H) (result : Result X Stop) : Type 0 where
   pub joins : OnOk result (Joins new e)
   pub pending : (es : List EntitySpec) → Holds old es → OnOk result (Holds new (if is_block (es ++ e ∷ []) then es else []))
-  pub written : (es : List EntitySpec) → Holds old es → OnOk result (Added d drained (then_written es e) now)
-  pub front : (es : List EntitySpec) → Holds old es → IsFront (d.taken drained) (d.taken now) (then_written es e)
+  pub writes : (es : List EntitySpec) → Holds old es → Writes d (then_written es e) drained now result

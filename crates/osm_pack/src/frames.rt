@@ -1,22 +1,21 @@
 //! Headers and blocks, written as frames.
 
 ghost use Rattle.std.specs.Prelude.{◌≡◌, ◌+◌, ◌≤◌, [], List, OnOk};
-ghost use Rattle.osm_entity.specs.Entity.{EntitySpec, node};
-ghost use Rattle.osm_entity.specs.Ranges.{EntityFits, NodeFits};
-ghost use Rattle.osm_entity.specs.Views.{entity_of, node_of};
-ghost use Rattle.osm_entity.specs.Weight.{entity_weight, node_weight, text_weight};
+ghost use Rattle.osm_entity.specs.Entity.{EntitySpec};
+ghost use Rattle.osm_entity.specs.Ranges.{EntityFits};
+ghost use Rattle.osm_entity.specs.Views.{entity_of};
+ghost use Rattle.osm_entity.specs.Weight.{entity_weight, text_weight};
 ghost use Rattle.pbf_header.specs.Header.{header_of};
-ghost use Rattle.pbf_frame.specs.Devices.{IsFront};
-ghost use Rattle.pbf_frame.specs.Transfers.{Added};
 ghost use Rattle.osm_pack.specs.Cuts.{block_frame, header_frame, then_pending, then_written, at_end};
 ghost use Rattle.osm_pack.specs.Open.{Holds, IsOpen, IsJoining};
-ghost use Rattle.osm_pack.specs.Pushing.{MakesRoom};
+ghost use Rattle.osm_pack.specs.Pushing.{MakesRoom, Writes};
+ghost use Rattle.osm_pack.specs.View.{entity_shown};
 ghost use Rattle.osm_pack.specs.Stops.{UsesDrain};
 ghost use Rattle.pbf_header.specs.declared.write.TheConstants.{MOST_HEADER_TEXT};
 
 use crate::likeness::Likeness;
 use crate::open_block::{Joining, OpenBlock};
-use osm_entity::{EntityRef, NodeRef};
+use osm_entity::{EntityRef, NodeRef, RelationRef, WayRef};
 use pbf_frame::{Drain, FrameKind, Stop, put_frame};
 use pbf_header::Header;
 use std::alloc::Global;
@@ -29,11 +28,9 @@ pub(crate) fn close_into<D: Drain, S: BuildHasher>(
     block: &mut OpenBlock<S>,
 ) -> Result<(), Stop>
     requires { IsOpen block.old }
-    ensures written { (es : List EntitySpec) → Holds block.old es
-        → OnOk result (Added D.Drain drain.old (block_frame es) drain.new) }
+    ensures writes { (es : List EntitySpec) → Holds block.old es
+        → Writes D.Drain (block_frame es) drain.old drain.new result }
     ensures empty { OnOk result (Holds block.new []) }
-    ensures front { (es : List EntitySpec) → Holds block.old es
-        → IsFront (D.taken drain.old) (D.taken drain.new) (block_frame es) }
     ensures drain { UsesDrain D.Drain drain.old drain.new result }
 {
     let payload = block.close(alloc)?;
@@ -41,10 +38,32 @@ pub(crate) fn close_into<D: Drain, S: BuildHasher>(
     Ok(())
 }
 
+/// An entity that is lent by its kind: so a node can be packed where it was read, and is not moved into an [`EntityRef`].
+#[derive(Clone, Copy)]
+pub(crate) enum EntityView<'a, 'b> {
+    Node(&'a NodeRef<'b>),
+    Way(&'a WayRef<'b>),
+    Relation(&'a RelationRef<'b>),
+}
+
+impl<'a, 'b> EntityView<'a, 'b> {
+    /// The same entity.
+    #[inline(always)]
+    pub(crate) fn of(entity: &'a EntityRef<'b>) -> EntityView<'a, 'b>
+        ensures { entity_shown result ≡ entity_of entity.now }
+    {
+        match entity {
+            EntityRef::Node(view) => EntityView::Node(view),
+            EntityRef::Way(view) => EntityView::Way(view),
+            EntityRef::Relation(view) => EntityView::Relation(view),
+        }
+    }
+}
+
 /// An entity, and what it weighs.
 #[derive(Clone, Copy)]
 pub(crate) struct Weighed<'a, 'b> {
-    pub(crate) entity: &'a EntityRef<'b>,
+    pub(crate) entity: EntityView<'a, 'b>,
     pub(crate) weight: u64,
 }
 
@@ -68,7 +87,9 @@ fn make_room<D: Drain, S: BuildHasher>(
     Ok(())
 }
 
-/// Adds an entity to the open block, which is written first if the entity may not join it.
+/// Adds an entity to the open block, which is written first if the entity may not join it. It is part of its callers, which know the
+/// entity's kind.
+#[inline(always)]
 pub(crate) fn push_into<D: Drain, S: BuildHasher>(
     alloc: Global,
     drain: &mut D,
@@ -76,17 +97,14 @@ pub(crate) fn push_into<D: Drain, S: BuildHasher>(
     weighed: Weighed<'_, '_>,
 ) -> Result<(), Stop>
     requires open { IsOpen block.old }
-    requires fits { EntityFits (entity_of weighed.entity.now) }
-    requires weighs { weighed.weight ≡ entity_weight (entity_of weighed.entity.now) }
+    requires fits { EntityFits (entity_shown weighed.entity) }
+    requires weighs { weighed.weight ≡ entity_weight (entity_shown weighed.entity) }
     ensures open { OnOk result (IsOpen block.new) }
     ensures pending { (es : List EntitySpec) → Holds block.old es
-        → OnOk result (Holds block.new (then_pending es (entity_of weighed.entry.entity.now))) }
-    ensures written { (es : List EntitySpec) → Holds block.old es
-        → OnOk result (Added D.Drain drain.old
-        (then_written es (entity_of weighed.entry.entity.now)) drain.new) }
-    ensures front { (es : List EntitySpec) → Holds block.old es
-        → IsFront (D.taken drain.old) (D.taken drain.new)
-        (then_written es (entity_of weighed.entry.entity.now)) }
+        → OnOk result (Holds block.new (then_pending es (entity_shown weighed.entry.entity))) }
+    ensures writes { (es : List EntitySpec) → Holds block.old es
+        → Writes D.Drain (then_written es (entity_shown weighed.entry.entity))
+        drain.old drain.new result }
     ensures drain { UsesDrain D.Drain drain.old drain.new result }
 {
     let Weighed { entity, weight } = weighed;
@@ -99,44 +117,6 @@ pub(crate) fn push_into<D: Drain, S: BuildHasher>(
     Ok(())
 }
 
-/// A node, and what it weighs.
-#[derive(Clone, Copy)]
-pub(crate) struct WeighedNode<'a, 'b> {
-    pub(crate) view: &'a NodeRef<'b>,
-    pub(crate) weight: u64,
-}
-
-/// The same of a node, of which no entity has to be made.
-pub(crate) fn push_node_into<D: Drain, S: BuildHasher>(
-    alloc: Global,
-    drain: &mut D,
-    block: &mut OpenBlock<S>,
-    weighed: WeighedNode<'_, '_>,
-) -> Result<(), Stop>
-    requires open { IsOpen block.old }
-    requires fits { NodeFits (node_of weighed.view.now) }
-    requires weighs { weighed.weight ≡ node_weight (node_of weighed.view.now) }
-    ensures open { OnOk result (IsOpen block.new) }
-    ensures pending { (es : List EntitySpec) → Holds block.old es
-        → OnOk result (Holds block.new (then_pending es (node (node_of weighed.entry.view.now)))) }
-    ensures written { (es : List EntitySpec) → Holds block.old es
-        → OnOk result (Added D.Drain drain.old
-        (then_written es (node (node_of weighed.entry.view.now))) drain.new) }
-    ensures front { (es : List EntitySpec) → Holds block.old es
-        → IsFront (D.taken drain.old) (D.taken drain.new)
-        (then_written es (node (node_of weighed.entry.view.now))) }
-    ensures drain { UsesDrain D.Drain drain.old drain.new result }
-{
-    let WeighedNode { view, weight } = weighed;
-    let joining = Joining {
-        likeness: Likeness::of_node(view),
-        weight,
-    };
-    make_room(alloc, drain, block, joining)?;
-    block.add_node(view, joining)?;
-    Ok(())
-}
-
 /// Writes a header.
 pub(crate) fn put_header_into<D: Drain>(
     alloc: Global,
@@ -145,10 +125,8 @@ pub(crate) fn put_header_into<D: Drain>(
 ) -> Result<(), Stop>
     requires { text_weight (header_of header.now).source + text_weight (header_of header.now).url
         ≤ MOST_HEADER_TEXT }
-    ensures written { OnOk result
-        (Added D.Drain drain.old (header_frame (header_of header.now)) drain.new) }
-    ensures front { IsFront (D.taken drain.old) (D.taken drain.new)
-        (header_frame (header_of header.now)) }
+    ensures writes { Writes D.Drain (header_frame (header_of header.now))
+        drain.old drain.new result }
     ensures drain { UsesDrain D.Drain drain.old drain.new result }
 {
     let mut payload = Vec::new(alloc);
@@ -164,12 +142,10 @@ pub(crate) fn finish_into<D: Drain, S: BuildHasher>(
     block: &mut OpenBlock<S>,
 ) -> Result<(), Stop>
     requires { IsOpen block.old }
-    ensures written { (es : List EntitySpec) → Holds block.old es
-        → OnOk result (Added D.Drain drain.old (at_end es) drain.new) }
+    ensures writes { (es : List EntitySpec) → Holds block.old es
+        → Writes D.Drain (at_end es) drain.old drain.new result }
     ensures open { OnOk result (IsOpen block.new) }
     ensures empty { OnOk result (Holds block.new []) }
-    ensures front { (es : List EntitySpec) → Holds block.old es
-        → IsFront (D.taken drain.old) (D.taken drain.new) (at_end es) }
     ensures drain { UsesDrain D.Drain drain.old drain.new result }
 {
     if !block.is_empty() {

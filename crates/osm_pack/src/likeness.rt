@@ -2,12 +2,13 @@
 
 ghost use Rattle.std.specs.Prelude.{◌≡◌, ◌&&◌};
 ghost use Rattle.std.specs.Ordering.{int_eq};
-ghost use Rattle.osm_entity.specs.Entity.{node};
-ghost use Rattle.osm_entity.specs.Views.{meta_of, node_of, entity_of};
+ghost use Rattle.osm_entity.specs.Views.{meta_of};
 ghost use Rattle.pbf_block.specs.WrittenBlock.{iff, same_scale};
 ghost use Rattle.osm_pack.specs.Likenesses.{present_fields, no_fields, likeness_of, same_kind, same_present, same_likeness};
+ghost use Rattle.osm_pack.specs.View.{entity_shown};
 
-use osm_entity::{EntityRef, MemberKind, MetaRef, NodeRef, Scale};
+use crate::frames::EntityView;
+use osm_entity::{MemberKind, MetaRef, Scale};
 
 /// Whether both are so, or neither is.
 fn iff(one: bool, other: bool) -> bool
@@ -103,29 +104,27 @@ pub(crate) struct Likeness {
 
 impl Likeness {
     /// That of an entity.
-    pub(crate) fn of(entity: &EntityRef<'_>) -> Likeness
-        ensures { result ≡ likeness_of (entity_of entity.now) }
+    #[inline(always)]
+    pub(crate) fn of(entity: EntityView<'_, '_>) -> Likeness
+        ensures { result ≡ likeness_of (entity_shown entity.entry) }
     {
-        let (kind, scale) = match entity {
-            EntityRef::Node(view) => return Likeness::of_node(view),
-            EntityRef::Way(view) => (MemberKind::Way, view.scale()),
-            EntityRef::Relation(view) => (MemberKind::Relation, view.scale()),
+        let (kind, scale, fields) = match entity {
+            EntityView::Node(view) => {
+                (
+                    MemberKind::Node,
+                    view.scale(),
+                    PresentFields::of(&view.meta()),
+                )
+            }
+            EntityView::Way(view) => (MemberKind::Way, view.scale(), PresentFields::none()),
+            EntityView::Relation(view) => {
+                (MemberKind::Relation, view.scale(), PresentFields::none())
+            }
         };
         Likeness {
             kind,
             scale,
-            fields: PresentFields::none(),
-        }
-    }
-
-    /// That of a node.
-    pub(crate) fn of_node(view: &NodeRef<'_>) -> Likeness
-        ensures { result ≡ likeness_of (node (node_of view.now)) }
-    {
-        Likeness {
-            kind: MemberKind::Node,
-            scale: view.scale(),
-            fields: PresentFields::of(&view.meta()),
+            fields,
         }
     }
 

@@ -4,7 +4,7 @@ ghost use Rattle.std.specs.Prelude.{ℕ, ◌≡◌, ◌↔◌, ◌+◌, ◌-◌,
 ghost use Rattle.osm_entity.specs.Entity.{EntitySpec, node, way, relation};
 ghost use Rattle.osm_entity.specs.EntityTexts.{way_texts, relation_texts};
 ghost use Rattle.osm_entity.specs.Ranges.{EntityFits, NodeFits, WayFits, RelationFits};
-ghost use Rattle.osm_entity.specs.Views.{entity_of, node_of, way_of, relation_of};
+ghost use Rattle.osm_entity.specs.Views.{node_of, way_of, relation_of};
 ghost use Rattle.pbf_wire.specs.Message.{Each, slot_bytes};
 ghost use Rattle.pbf_strings.specs.TableOut.{texts_after, table_message};
 ghost use Rattle.pbf_block.specs.WrittenEntity.{way_message, relation_message};
@@ -12,12 +12,14 @@ ghost use Rattle.pbf_block.specs.WrittenBlock.{is_block, block_message, scale_am
 ghost use Rattle.pbf_dense.specs.WrittenDense.{columns_held, dense_length, dense_message};
 ghost use Rattle.osm_pack.specs.Open.{Holds, IsOpen, IsJoining, Joins, Makes, Encodes, Counts, Adds, IsClosing, block_held};
 ghost use Rattle.osm_pack.specs.Likenesses.{is_like};
+ghost use Rattle.osm_pack.specs.View.{entity_shown};
 ghost use Rattle.osm_entity.specs.declared.weight.TheConstants.{HIGHEST_WEIGHT};
 ghost use Rattle.osm_pack.specs.declared.open_block.TheConstants.{MOST_HELD};
 ghost use Rattle.pbf_block.specs.declared.block_write.TheConstants.{MOST_ENTITIES};
 
+use crate::frames::EntityView;
 use crate::likeness::Likeness;
-use osm_entity::{EntityRef, HIGHEST_WEIGHT, NodeRef, RelationRef, Scale, WayRef};
+use osm_entity::{HIGHEST_WEIGHT, NodeRef, RelationRef, Scale, WayRef};
 use pbf_block::{DEFAULT_SCALE, EntityOut, MOST_ENTITIES, put_block, put_dense};
 use pbf_dense::DenseOut;
 use pbf_strings::TableOut;
@@ -162,20 +164,20 @@ impl<S: BuildHasher> OpenBlock<S> {
 
     /// Encodes an entity after the others.
     #[inline(always)]
-    fn put(&mut self, entity: &EntityRef<'_>) -> Result<(), AllocError>
+    fn put(&mut self, entity: EntityView<'_, '_>) -> Result<(), AllocError>
         requires open { IsOpen self.old }
-        requires fits { EntityFits (entity_of entity.now) }
-        requires joins { Joins self.old (entity_of entity.now) }
+        requires fits { EntityFits (entity_shown entity) }
+        requires joins { Joins self.old (entity_shown entity) }
         ensures { (es : List EntitySpec) → Holds self.old es
-            → OnOk result (Encodes self.old self.new es (entity_of entity.now)) }
+            → OnOk result (Encodes self.old self.new es (entity_shown entity.entry)) }
     {
         match entity {
-            EntityRef::Node(view) => self.put_node(view)?,
-            EntityRef::Way(view) => {
+            EntityView::Node(view) => self.put_node(view)?,
+            EntityView::Way(view) => {
                 self.make_way(view)?;
                 self.writer.append_way(&mut self.group)?;
             }
-            EntityRef::Relation(view) => {
+            EntityView::Relation(view) => {
                 self.make_relation(view)?;
                 self.writer.append_relation(&mut self.group)?;
             }
@@ -199,32 +201,18 @@ impl<S: BuildHasher> OpenBlock<S> {
 
     /// Adds an entity after the others. After an `Err` the block is unspecified.
     #[inline(always)]
-    pub(crate) fn add(&mut self, entity: &EntityRef<'_>, joining: Joining) -> Result<(), AllocError>
-        requires open { IsOpen self.old }
-        requires fits { EntityFits (entity_of entity.now) }
-        requires is { IsJoining joining (entity_of entity.now) }
-        requires joins { Joins self.old (entity_of entity.now) }
-        ensures { Adds self.old self.new (entity_of entity.now) result }
-    {
-        self.put(entity)?;
-        self.count_joined(joining);
-        Ok(())
-    }
-
-    /// The same of a node, of which no entity has to be made.
-    #[inline(always)]
-    pub(crate) fn add_node(
+    pub(crate) fn add(
         &mut self,
-        view: &NodeRef<'_>,
+        entity: EntityView<'_, '_>,
         joining: Joining,
     ) -> Result<(), AllocError>
         requires open { IsOpen self.old }
-        requires fits { NodeFits (node_of view.now) }
-        requires is { IsJoining joining (node (node_of view.now)) }
-        requires joins { Joins self.old (node (node_of view.now)) }
-        ensures { Adds self.old self.new (node (node_of view.now)) result }
+        requires fits { EntityFits (entity_shown entity) }
+        requires is { IsJoining joining (entity_shown entity) }
+        requires joins { Joins self.old (entity_shown entity) }
+        ensures { Adds self.old self.new (entity_shown entity.entry) result }
     {
-        self.put_node(view)?;
+        self.put(entity)?;
         self.count_joined(joining);
         Ok(())
     }

@@ -1,8 +1,6 @@
 //! Entities on their way into a drain.
 
-use crate::frames::{
-    Weighed, WeighedNode, finish_into, push_into, push_node_into, put_header_into,
-};
+use crate::frames::{EntityView, Weighed, finish_into, push_into, put_header_into};
 use crate::open_block::OpenBlock;
 use osm_entity::{EntityRef, NodeRef};
 use pbf_frame::{Drain, Stop};
@@ -54,6 +52,7 @@ impl<D: Drain, S: BuildHasher> Packer<D, S> {
     ghost use Rattle.pbf_frame.specs.Transfers.{Added};
     ghost use Rattle.osm_pack.specs.Cuts.{header_frame, then_pending, then_written, at_end};
     ghost use Rattle.osm_pack.specs.declared.open_block.TheConstants.{MOST_HELD};
+    ghost use Rattle.osm_pack.specs.View.{entity_shown};
     ghost use Rattle.osm_pack.specs.Packing.{Pending, Pushes, UsesPacker, IsPacking, has_header, packer_held};
 
     /// A packer over a drain, with no header and no entities yet. The input is untrusted, so the hasher should be seeded.
@@ -165,16 +164,8 @@ impl<D: Drain, S: BuildHasher> Packer<D, S> {
         requires weighs { weight ≡ entity_weight (entity_of entity.now) }
         ensures { Pushes D.Drain (entity_of entity.now) self.old self.new result }
     {
-        if let Some(stop) = self.stop {
-            return Err(stop);
-        }
-        let weighed = Weighed { entity, weight };
-        let outcome = push_into(self.alloc, &mut self.drain, &mut self.block, weighed);
-        if let Err(stop) = outcome {
-            self.stop = Some(stop);
-            self.block.clear(self.alloc);
-        }
-        outcome
+        let entity = EntityView::of(entity);
+        self.push_view(Weighed { entity, weight })
     }
 
     /// [`Packer::push_weighed`] of a node, which need not be made an entity for it.
@@ -184,11 +175,22 @@ impl<D: Drain, S: BuildHasher> Packer<D, S> {
         requires weighs { weight ≡ node_weight (node_of view.now) }
         ensures { Pushes D.Drain (node (node_of view.now)) self.old self.new result }
     {
+        let entity = EntityView::Node(view);
+        self.push_view(Weighed { entity, weight })
+    }
+
+    /// The same of any entity. It is part of both.
+    #[inline(always)]
+    fn push_view(&mut self, weighed: Weighed<'_, '_>) -> Result<(), Stop>
+        requires begun { has_header self.old ≡ true }
+        requires fits { EntityFits (entity_shown weighed.entity) }
+        requires weighs { weighed.weight ≡ entity_weight (entity_shown weighed.entity) }
+        ensures { Pushes D.Drain (entity_shown weighed.entry.entity) self.old self.new result }
+    {
         if let Some(stop) = self.stop {
             return Err(stop);
         }
-        let weighed = WeighedNode { view, weight };
-        let outcome = push_node_into(self.alloc, &mut self.drain, &mut self.block, weighed);
+        let outcome = push_into(self.alloc, &mut self.drain, &mut self.block, weighed);
         if let Err(stop) = outcome {
             self.stop = Some(stop);
             self.block.clear(self.alloc);

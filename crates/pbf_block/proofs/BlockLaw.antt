@@ -18,7 +18,7 @@ use Rattle.pbf_wire.specs.Faults.{fault_where, fields_in, leaf_faults, missing, 
 use Rattle.pbf_wire.specs.Message.{Slot, Scalar, Each, message, SlotFits, SlotIs, scalars_at}
 use Rattle.pbf_wire.proofs.MessageLemmas.{last_written, embedded_below}
 use Rattle.pbf_wire.proofs.SumLemmas.{signs_fit, signs_read, low_signs_read}
-use Rattle.pbf_wire.proofs.QuietLemmas.{field_at, SlotQuiet, SlotGives, scalar_quiet, quiet_gives, fields_quiet, fields_give, no_fault_within, leaf_quiet, present_written, once_written, last_held, in_last_written}
+use Rattle.pbf_wire.proofs.NoFaultLemmas.{field_at, SlotQuiet, SlotGives, scalar_quiet, quiet_gives, fields_quiet, fields_give, no_fault_within, leaf_quiet, present_written, once_written, last_held, in_last_written}
 use Rattle.pbf_strings.specs.Texts.{texts, table_kinds}
 use Rattle.pbf_strings.specs.TableOut.{table_message}
 use Rattle.pbf_strings.specs.TableOut.{table_of as written_table}

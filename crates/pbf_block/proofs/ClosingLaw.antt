@@ -24,7 +24,7 @@ use Rattle.pbf_dense.proofs.InfoLaw.{deltas_length}
 use Rattle.pbf_block.specs.declared.block_write.TheConstants.{MOST_ENTITIES}
 use Rattle.pbf_block.specs.WrittenEntity.{key_index, value_index, role_index, kind_number, way_message, relation_slots, relation_message}
 use Rattle.pbf_block.specs.WrittenBlock.{all_alike, is_block, nodes_among, group_message, block_slots, scale_among, texts_of_all, messages_among, block_message}
-use Rattle.pbf_wire.proofs.RoomLemmas.{packed_short, message_short}
+use Rattle.pbf_wire.proofs.LengthLemmas.{packed_short, message_short}
 use Rattle.pbf_block.proofs.LengthLaw.{beside, info_room, way_room, columns_room, dense_room, group_room, messages_room}
 
 -- ---- small numbers have few bytes

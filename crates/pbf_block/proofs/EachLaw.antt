@@ -7,7 +7,7 @@ use Rattle.pbf_wire.specs.declared.kind.Kind.TheVariants as kind
 use Rattle.pbf_wire.specs.Wire.{kind_of}
 use Rattle.pbf_wire.specs.Message.{Each, message}
 use Rattle.pbf_wire.proofs.MessageLemmas.{embedded_below}
-use Rattle.pbf_wire.proofs.QuietLemmas.{field_count}
+use Rattle.pbf_wire.proofs.NoFaultLemmas.{field_count}
 use Rattle.pbf_strings.specs.TableOut.{table_of}
 use Rattle.osm_entity.specs.declared.scale.Scale.{Scale}
 use Rattle.osm_entity.specs.Entity.{WaySpec, RelationSpec, EntitySpec, way, relation}

@@ -15,7 +15,7 @@ use Rattle.pbf_wire.specs.Sums.{sums, deltas}
 use Rattle.std.specs.Option.{option_map_or, option_to_list}
 use Rattle.pbf_wire.specs.Wire.{kind_of}
 use Rattle.pbf_wire.proofs.MessageLemmas.{column_written, last_written, embedded_below}
-use Rattle.pbf_wire.proofs.QuietLemmas.{sums_good_written, SlotQuiet, column_quiet, fields_quiet, no_fault_within, counted_written, indexes_good, present_written, once_written, embedded_or_none, in_last_written, unless_all, unless_below, unless_few, column_passed}
+use Rattle.pbf_wire.proofs.NoFaultLemmas.{sums_good_written, SlotQuiet, column_quiet, fields_quiet, no_fault_within, counted_written, indexes_good, present_written, once_written, embedded_or_none, in_last_written, unless_all, unless_below, unless_few, column_passed}
 use Rattle.pbf_wire.proofs.SumLemmas.{sums_of_deltas, within_true}
 use Rattle.pbf_strings.specs.TableOut.{table_of}
 use Rattle.pbf_strings.proofs.UsedTexts.{index_below}

@@ -12,7 +12,7 @@ use Rattle.pbf_wire.specs.Writing.{Whole, spelling, occurrences_of}
 use Rattle.pbf_wire.specs.Faults.{fields_in, twice}
 use Rattle.pbf_wire.specs.Message.{Slot, Each, message, SlotFits}
 use Rattle.pbf_wire.proofs.MessageLemmas.{fields_written}
-use Rattle.pbf_wire.proofs.QuietLemmas.{field_at, SlotQuiet, each_gives, fields_quiet, fields_give, no_fault_within, field_count, once_written}
+use Rattle.pbf_wire.proofs.NoFaultLemmas.{field_at, SlotQuiet, each_gives, fields_quiet, fields_give, no_fault_within, field_count, once_written}
 use Rattle.osm_entity.specs.declared.scale.Scale.{Scale}
 use Rattle.osm_entity.specs.Entity.{EntitySpec}
 use Rattle.pbf_block.specs.declared.group.TheConstants.{GROUP_KINDS, DENSE, CHANGESETS}

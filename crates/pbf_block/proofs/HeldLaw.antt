@@ -7,7 +7,7 @@ use Rattle.std.proofs.lemmas.List.Sums.{sum_by-cons, sum_by-append}
 use Rattle.pbf_wire.specs.Columns.{packed}
 use Rattle.pbf_wire.specs.Sums.{deltas}
 use Rattle.pbf_wire.specs.Varint.{shortest}
-use Rattle.pbf_wire.proofs.RoomLemmas.{packed_short, message_short}
+use Rattle.pbf_wire.proofs.LengthLemmas.{packed_short, message_short}
 use Rattle.pbf_strings.specs.TableOut.{has_text, with_text, texts_after, text_held}
 use Rattle.osm_entity.specs.declared.member.MemberKind.{MemberKind}
 use Rattle.osm_entity.specs.declared.member.MemberKind.TheVariants as kind

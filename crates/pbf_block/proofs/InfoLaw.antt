@@ -6,7 +6,7 @@ use Rattle.std.proofs.lemmas.Int.{ints}
 use Rattle.pbf_wire.specs.declared.fault.Reason.TheVariants.{StringIndex}
 use Rattle.pbf_wire.specs.declared.fault.Fault.{Fault}
 use Rattle.pbf_wire.specs.Faults.{below_fault, fields_in, leaf_faults}
-use Rattle.pbf_wire.proofs.QuietLemmas.{leaf_quiet, in_last_written}
+use Rattle.pbf_wire.proofs.NoFaultLemmas.{leaf_quiet, in_last_written}
 use Rattle.std.proofs.lemmas.Bool.{lt-ltb}
 use Rattle.pbf_wire.specs.Message.{scalars_at, SlotFits, message}
 use Rattle.pbf_wire.specs.Reading.{last_number}

@@ -20,7 +20,7 @@ use Rattle.pbf_dense.specs.WrittenDense.{bit_of, tag_numbers, run_of, info_colum
 use Rattle.pbf_dense.proofs.InfoLaw.{deltas_length}
 use Rattle.pbf_block.specs.WrittenEntity.{key_index, value_index, role_index, kind_number, info_slots, info_message, way_slots, way_message, relation_slots, relation_message}
 use Rattle.pbf_block.specs.WrittenBlock.{all_alike, is_block, nodes_among, ways_among, relations_among, group_slots, group_message, block_slots, scale_among, texts_of_all, messages_among, block_message}
-use Rattle.pbf_wire.proofs.RoomLemmas.{packed_short, each_room, each_short, message_short}
+use Rattle.pbf_wire.proofs.LengthLemmas.{packed_short, each_room, each_short, message_short}
 use Rattle.osm_entity.specs.declared.weight.TheConstants.{HIGHEST_WEIGHT}
 use Rattle.pbf_block.specs.declared.block_write.TheConstants.{MOST_ENTITIES}
 

@@ -5,7 +5,7 @@ use Rattle.std.proofs.lemmas.List.{append-nil}
 use Rattle.std.proofs.lemmas.Bool.{le-ltb}
 use Rattle.pbf_wire.specs.Faults.{fields_in}
 use Rattle.pbf_wire.specs.Message.{Each, message, unless_empty}
-use Rattle.pbf_wire.proofs.QuietLemmas.{no_items}
+use Rattle.pbf_wire.proofs.NoFaultLemmas.{no_items}
 use Rattle.pbf_strings.specs.TableOut.{table_of}
 use Rattle.osm_entity.specs.declared.scale.Scale.{Scale}
 use Rattle.osm_entity.specs.Entity.{NodeSpec, EntitySpec, node}

@@ -10,7 +10,7 @@ use Rattle.pbf_wire.specs.Faults.{fields_in, below_fault, nested_faults}
 use Rattle.pbf_wire.specs.Message.{Slot, Column, message, SlotFits}
 use Rattle.pbf_wire.specs.Sums.{deltas}
 use Rattle.pbf_wire.proofs.MessageLemmas.{all_left, all_right, column_written}
-use Rattle.pbf_wire.proofs.QuietLemmas.{below_good}
+use Rattle.pbf_wire.proofs.NoFaultLemmas.{below_good}
 use Rattle.pbf_wire.proofs.SumLemmas.{deltas_fit}
 use Rattle.pbf_strings.specs.TableOut.{has_text, table_of}
 use Rattle.pbf_strings.proofs.UsedTexts.{index_below}

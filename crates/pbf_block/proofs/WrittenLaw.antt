@@ -1,5 +1,5 @@
 -- Entities that may share one block are written as a block that has no fault and holds them.
-use Rattle.pbf_wire.proofs.QuietLemmas.{unless_below}
+use Rattle.pbf_wire.proofs.NoFaultLemmas.{unless_below}
 use Rattle.std.proofs.Common.{◌≡◌, ℕ, ◌*◌, ◌^◌, ◌<◌, ◌≤◌, ◌&&◌, ℤ, Bool, true, false, List, [], ◌∷◌, ◌++◌, length, length-append, map, None, refl, sym, ap, subst, arith, true≢false}
 use Rattle.std.specs.Prelude.{nat_le}
 use Rattle.std.specs.List.{flat_map, list_all, sum_by, AllByRecursion}

@@ -1,9 +1,9 @@
 -- Ways and relations as they are written, each a message of its own. Indexes are those in a table that has all texts of the
 -- entity: the one before it was written, with its texts used in order, or any later one.
-use Rattle.std.specs.Prelude.{◌≡◌, ℕ, ◌+◌, ◌*◌, ℤ, List, [], ◌∷◌, Some, length, map}
+use Rattle.std.specs.Prelude.{◌≡◌, ℕ, ◌+◌, ◌*◌, ℤ, List, [], ◌∷◌, ◌++◌, Some, length, map, Result, OnOk}
 use Rattle.std.specs.Option.{option_map}
 use Rattle.pbf_wire.specs.Columns.{packed}
-use Rattle.pbf_wire.specs.Message.{Slot, Scalar, Column, Each, message, unless_empty}
+use Rattle.pbf_wire.specs.Message.{Slot, Scalar, Column, Each, message, slot_bytes, unless_empty}
 use Rattle.pbf_wire.specs.Signed.{sign_extended}
 use Rattle.pbf_wire.specs.Sums.{deltas}
 use Rattle.pbf_strings.specs.TableOut.{index_in}
@@ -110,3 +110,8 @@ most_way_held w = 380 + 40 * length w.tags + 20 * length w.refs + 40 * length w.
 
 abbrev pub most_relation_held : RelationSpec → ℕ
 most_relation_held r = 380 + 40 * length r.tags + 42 * length r.members
+
+-- the message is appended to a group, as the field of this number, and nothing of it stays in the writer
+pub record MovesMessage {X E : Type 0} (number : ℕ) (old new : EntityOut) (before now : List ℕ) (result : Result X E) : Type 0 where
+  pub written : OnOk result (now ≡ before ++ slot_bytes (Each number (old.message.items ∷ [])))
+  pub empty : OnOk result (writer_length new ≡ 0)

@@ -8,7 +8,7 @@ ghost use Rattle.osm_entity.specs.EntityTexts.{tag_texts, way_texts, relation_te
 ghost use Rattle.osm_entity.specs.Ranges.{WayFits, RelationFits};
 ghost use Rattle.osm_entity.specs.Sources.{tags_left};
 ghost use Rattle.osm_entity.specs.Views.{meta_of, way_of, relation_of};
-ghost use Rattle.pbf_block.specs.WrittenEntity.{entity_slots, way_message, relation_message, writer_length, begun_length, KeepsColumns, most_way_held, most_relation_held};
+ghost use Rattle.pbf_block.specs.WrittenEntity.{entity_slots, way_message, relation_message, writer_length, begun_length, KeepsColumns, MovesMessage, most_way_held, most_relation_held};
 ghost use Rattle.pbf_strings.specs.declared.table.TheConstants.{MOST_USED_TEXTS};
 
 use crate::entity::{ID, INFO, KEYS, VALS};
@@ -128,9 +128,7 @@ impl EntityOut {
     /// Appends the message as a field of a group, and removes all of the entity.
     fn put_message(&mut self, group: &mut Vec<u8>, number: u64) -> Result<(), AllocError>
         requires { number < 2 ^ 29 }
-        ensures written { OnOk result (group.new.items
-            ≡ group.old.items ++ slot_bytes (Each number (self.old.message.items ∷ []))) }
-        ensures empty { OnOk result (writer_length self.new ≡ 0) }
+        ensures { MovesMessage number self.old self.new group.old.items group.new.items result }
     {
         put_bytes(group, number, &self.message)?;
         self.clear();
@@ -207,18 +205,14 @@ impl EntityOut {
     /// Appends the message that was made to a group, as a way. Then nothing of it stays in the writer. After an `Err` group and
     /// writer are unspecified.
     pub fn append_way(&mut self, group: &mut Vec<u8>) -> Result<(), AllocError>
-        ensures written { OnOk result (group.new.items
-            ≡ group.old.items ++ slot_bytes (Each WAYS (self.old.message.items ∷ []))) }
-        ensures empty { OnOk result (writer_length self.new ≡ 0) }
+        ensures { MovesMessage WAYS self.old self.new group.old.items group.new.items result }
     {
         self.put_message(group, WAYS)
     }
 
     /// Appends the message that was made to a group, as a relation. The rest is as for [`EntityOut::append_way`].
     pub fn append_relation(&mut self, group: &mut Vec<u8>) -> Result<(), AllocError>
-        ensures written { OnOk result (group.new.items
-            ≡ group.old.items ++ slot_bytes (Each RELATIONS (self.old.message.items ∷ []))) }
-        ensures empty { OnOk result (writer_length self.new ≡ 0) }
+        ensures { MovesMessage RELATIONS self.old self.new group.old.items group.new.items result }
     {
         self.put_message(group, RELATIONS)
     }

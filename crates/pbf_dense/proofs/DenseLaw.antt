@@ -19,7 +19,7 @@ use Rattle.pbf_wire.specs.Faults.{fault_where, entered, fields_in, leaf_faults, 
 use Rattle.pbf_wire.specs.Message.{message, unless_empty, SlotFits, SlotIs, numbers_at, messages_at}
 use Rattle.pbf_wire.proofs.MessageLemmas.{all_append, all_left, all_right, column_written, embedded_below}
 use Rattle.pbf_wire.proofs.SumLemmas.{deltas_fit, signs_fit}
-use Rattle.pbf_wire.proofs.QuietLemmas.{SlotQuiet, field_at, column_quiet, fields_quiet, no_fault_within, counted_written, indexes_good, once_written, unless_all, unless_below, unless_few, column_passed}
+use Rattle.pbf_wire.proofs.NoFaultLemmas.{SlotQuiet, field_at, column_quiet, fields_quiet, no_fault_within, counted_written, indexes_good, once_written, unless_all, unless_below, unless_few, column_passed}
 use Rattle.pbf_strings.specs.TableOut.{has_text, index_in, table_of}
 use Rattle.pbf_strings.proofs.UsedTexts.{index_below}
 use Rattle.osm_entity.specs.Entity.{TagSpec, MetaSpec, NodeSpec}

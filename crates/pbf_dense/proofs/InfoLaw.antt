@@ -16,7 +16,7 @@ use Rattle.pbf_wire.specs.Faults.{fault_where, fields_in, leaf_faults, column_co
 use Rattle.pbf_wire.specs.Message.{message, SlotFits, SlotIs, numbers_at}
 use Rattle.pbf_wire.proofs.MessageLemmas.{column_written}
 use Rattle.pbf_wire.proofs.SumLemmas.{IsSmall, deltas_fit, sums_of_deltas}
-use Rattle.pbf_wire.proofs.QuietLemmas.{leaf_quiet, counted_written, sums_good_written, index_sums_good}
+use Rattle.pbf_wire.proofs.NoFaultLemmas.{leaf_quiet, counted_written, sums_good_written, index_sums_good}
 use Rattle.osm_entity.specs.Ranges.{IsStored, IsUid}
 use Rattle.pbf_dense.specs.declared.dense_info.TheConstants.{DENSEINFO_KINDS, VERSION, TIMESTAMP, CHANGESET, UID, USER_SID, VISIBLE}
 use Rattle.pbf_dense.specs.Info.{InfoSpec}

@@ -13,7 +13,7 @@ use Rattle.pbf_wire.specs.Sums.{sums, sum_at, deltas}
 use Rattle.pbf_wire.specs.Faults.{fields_in, embedded, fault_where}
 use Rattle.pbf_wire.specs.Message.{message, numbers_at}
 use Rattle.pbf_wire.proofs.SumLemmas.{sums_of_deltas}
-use Rattle.pbf_wire.proofs.QuietLemmas.{embedded_or_none}
+use Rattle.pbf_wire.proofs.NoFaultLemmas.{embedded_or_none}
 use Rattle.pbf_strings.specs.TableOut.{has_text, index_in, table_of}
 use Rattle.pbf_strings.proofs.UsedTexts.{text_at_index}
 use Rattle.osm_entity.specs.declared.scale.Scale.{Scale}

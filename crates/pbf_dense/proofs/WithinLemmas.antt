@@ -1,10 +1,11 @@
 -- Ids by spans of stored places are those of the nodes in the box.
-use Rattle.std.proofs.Common.{◌≡◌, ◌+◌, ◌<◌, length, ℕ, zero, suc, ℤ, Bool, true, false, ◌&&◌, cond, List, [], ◌∷◌, map, drop, take, refl, sym, ap, ap₂, ◌∙◌, arith, rules, subst}
-use Rattle.std.proofs.Math.Seq.{drop-nil}
-use Rattle.std.proofs.lemmas.List.{length-drop}
-use Rattle.pbf_wire.specs.Spans.{is_in, AreAlike}
+use Rattle.std.proofs.Common.{◌≡◌, ◌+◌, ◌-◌, ◌<◌, ◌≤◌, length, ℕ, zero, suc, ℤ, Bool, true, false, ◌&&◌, cond, List, [], ◌∷◌, map, drop, take, refl, sym, ap, ap₂, ◌∙◌, arith, rules, subst}
+use Rattle.std.proofs.Math.Seq.{drop-nil, take-add}
+use Rattle.std.proofs.lemmas.List.{drop-drop, length-drop, take_all}
+use Rattle.pbf_wire.specs.Spans.{is_in, AreAlike, ArePassed}
 use Rattle.pbf_wire.specs.declared.span.Span.{Span}
-use Rattle.pbf_wire.proofs.SpanLemmas.{IsPast, one_past}
+use Rattle.pbf_wire.proofs.MessageLemmas.{all_append}
+use Rattle.pbf_wire.proofs.SpanLemmas.{one_past}
 use Rattle.osm_box.specs.BoundingBox.{is_between}
 use Rattle.osm_box.specs.declared.bounding_box.BoundingBox.{BoundingBox}
 use Rattle.osm_entity.specs.declared.scale.Scale.{Scale}
@@ -93,29 +94,25 @@ none_inside lat_span lon_span ids lats (lon ∷ lons) outside =
 -- ---- values that are skipped
 
 -- so many more
-pub more_past : (values left more : List ℤ) (span : Span) (m n : ℕ) → IsPast span false values left m → more ≡ drop n left → AreAlike span false (take n left) → IsPast span false values more (m + n)
-more_past values left more span zero n past e outside =
-    let same : zero + n ≡ n = omega arith in
-    rw same (record { passed = e ∙ ap (drop n) past.passed; alike = subst (λ (l : List ℤ). AreAlike span false (take n l)) past.passed outside })
-more_past [] left more span (suc m) n past e outside =
-    let next : suc m + n ≡ suc (m + n) = omega arith in
-    rw next (record { passed = e ∙ ap (drop n) past.passed ∙ drop-nil n; alike = search rules })
-more_past (v ∷ vs) left more span (suc m) n past e outside =
-    let rest = more_past vs left more span m n (record { passed = past.passed; alike = past.alike.1 }) e outside in
-    let next : suc m + n ≡ suc (m + n) = omega arith in
-    rw next (record { passed = rest.passed; alike = (past.alike.0, rest.alike) })
+pub more_passed : (values left more : List ℤ) (span : Span) (m n : ℕ) → ArePassed span false values left m → ArePassed span false left more n → ArePassed span false values more (m + n)
+more_passed values left more span m n passed next = record {
+  passed = next.passed ∙ ap (drop n) passed.passed ∙ drop-drop n m values;
+  alike = subst (λ (l : List ℤ). AreAlike span false l) (sym (take-add m n values)) (all_append _ (take m values) (take n (drop m values)) passed.alike (subst (λ (l : List ℤ). AreAlike span false (take n l)) passed.passed next.alike));
+  there = omega (arith, passed.there, next.there, ap length passed.passed, length-drop m values);
+  few = passed.few;
+}
 
 -- and one more
-pub one_more_past : (values left next : List ℤ) (span : Span) (n : ℕ) (value : ℤ) → IsPast span false values left n → left ≡ value ∷ next → is_in span value ≡ false → IsPast span false values next (n + 1)
-one_more_past values left next span n value past e there =
+pub one_more_passed : (values left next : List ℤ) (span : Span) (n : ℕ) (value : ℤ) → ArePassed span false values left n → left ≡ value ∷ next → is_in span value ≡ false → ArePassed span false values next (n + 1)
+one_more_passed values left next span n value passed e there =
     let more : n + 1 ≡ suc n = omega arith in
-    rw more (one_past span false values next value n (subst (λ (l : List ℤ). IsPast span false values l n) e past) there)
+    rw more (one_past span false values next value n (subst (λ (l : List ℤ). ArePassed span false values l n) e passed) there)
 
 -- then all are, if none is left
-pub all_past : (values left : List ℤ) (span : Span) (n : ℕ) → IsPast span false values left n → left ≡ [] → AreAlike span false values
-all_past values left span zero past none = subst (λ (l : List ℤ). AreAlike span false l) (sym none ∙ past.passed) tt
-all_past [] left span (suc n) past none = tt
-all_past (v ∷ vs) left span (suc n) past none = (past.alike.0, all_past vs left span n (record { passed = past.passed; alike = past.alike.1 }) none)
+pub all_passed : (values left : List ℤ) (span : Span) (n : ℕ) → ArePassed span false values left n → left ≡ [] → AreAlike span false values
+all_passed values left span n passed none =
+    let all : length values ≤ n = omega (arith, ap length none, ap length passed.passed, length-drop n values) in
+    subst (λ (l : List ℤ). AreAlike span false l) (take_all n values all) passed.alike
 
 pub shorter : (values next : List ℤ) (n : ℕ) (value : ℤ) → drop n values ≡ value ∷ next → length next < length values
 shorter values next n value e = omega (arith, ap length e, length-drop n values)

@@ -1,13 +1,10 @@
 //! The ids of the nodes that lie in a box.
 
-ghost use Rattle.std.specs.Prelude.{◌≡◌, ◌≤◌, ◌∷◌, ◌^◌, [], false, ⊤, MatchOption, drop, take};
+ghost use Rattle.std.specs.Prelude.{◌≡◌, ◌<◌, ◌-◌, ◌∷◌, ◌^◌, [], false, ⊤, MatchOption, drop, take};
 ghost use Rattle.pbf_wire.specs.Cursors.{sums_left};
 ghost use Rattle.pbf_wire.specs.Spans.{AreAlike};
 
 use pbf_wire::{Span, Sums};
-
-/// More values than a message has.
-const MANY: usize = 1 << 60;
 
 /// A value, and how many were skipped before it.
 #[derive(Clone, Copy)]
@@ -16,26 +13,23 @@ struct Reached {
     value: i64,
 }
 
-/// Skips values that a span lacks, and takes the next one, which it has: unless it lacks more in a row than a message has, where the
-/// skipping stops.
+/// Skips values that a span lacks, and takes the next one, which it has.
 fn reach(values: &mut Sums<'_>, span: Span) -> Option<Reached>
     ensures outside { MatchOption result (AreAlike span false (sums_left values.old))
         (λ r. AreAlike span false (take r.skipped (sums_left values.old))) }
     ensures left { MatchOption result (sums_left values.new ≡ [])
         (λ r. drop r.skipped (sums_left values.old) ≡ r.value ∷ sums_left values.new) }
-    ensures few { MatchOption result ⊤ (λ r. r.skipped ≤ 2 ^ 61) }
+    ensures few { MatchOption result ⊤ (λ r. r.skipped < 2 ^ 64 - 1) }
 {
-    let mut skipped = 0;
-    'values: while skipped < MANY {
-        skipped += values.pass_outside(span, MANY);
-        let value = values.next()?;
+    let mut skipped = values.pass_outside(span, usize::MAX);
+    'values: while let Some(value) = values.next() {
         if span.has(value) {
             return Some(Reached { skipped, value });
         }
         skipped += 1;
+        skipped += values.pass_outside(span, usize::MAX);
     }
-    let value = values.next()?;
-    Some(Reached { skipped, value })
+    None
 }
 
 /// The ids of those nodes of a dense message that lie in a box and are still to come: an iterator over three of its columns, which

@@ -44,8 +44,8 @@ module _ {F : Type 0} {remaining : F → Option (List ℕ)} {failures : F → �
   was_reading old new answer reading advances = (λ _. advances, λ ended. absurd (reading_ended old.state reading ended), λ stop stopped. absurd (reading_stopped old.state stop reading stopped))
 
   -- a reader at its end stays there
-  pub sees_end_again : (old : FrameReader F) → old.state ≡ Ended → IsSeeingNext remaining failures lender has_passed old (Ok None) old
-  sees_end_again old ended = record {
+  pub sees_end_once_ended : (old : FrameReader F) → old.state ≡ Ended → IsSeeingNext remaining failures lender has_passed old (Ok None) old
+  sees_end_once_ended old ended = record {
     answer = Ok None;
     sees = refl;
     next = (λ reading. absurd (reading_ended old.state reading ended), λ _. (refl, refl), λ stop stopped. absurd (ended_stopped old.state stop ended stopped));

@@ -9,6 +9,11 @@ pub record Added {D : Type 0} (d : drain.Ghosts D) (old : D) (bytes : List ℕ) 
   pub told : d.taken new ≡ append (d.taken old) bytes
   pub logged : Passes (d.has_taken old) bytes (d.has_taken new)
 
+-- a feed gave these bytes, and has others after them
+pub record SuppliedFirst {F : Type 0} (f : feed.Ghosts F) (old : F) (bytes : List ℕ) (new : F) : Type 0 where
+  pub told : f.remaining old ≡ prepend bytes (f.remaining new)
+  pub logged : Passes (f.has_passed old) bytes (f.has_passed new)
+
 -- a feed gave these bytes, was at its end, and goes through the same references
 pub record Supplied {F : Type 0} (f : feed.Ghosts F) (old : F) (bytes : List ℕ) (new : F) : Type 0 where
   pub told : f.remaining old ≡ prepend bytes (f.remaining new)

@@ -3,7 +3,8 @@
 ghost use Rattle.std.specs.Prelude.{None, Ok, true, ◌≡◌, ◌+◌, ◌<◌, ◌≤◌, length, IfOk, OnOk, IfErr, IfSome, IfNone, vec_len, max};
 ghost use Rattle.byteorder.specs.Endian.{big_number};
 ghost use Rattle.pbf_wire.specs.Least.{least};
-ghost use Rattle.pbf_frame.specs.Devices.{IsAtEnd, Passes, given_prefix, prepend};
+ghost use Rattle.pbf_frame.specs.Devices.{IsAtEnd, given_prefix};
+ghost use Rattle.pbf_frame.specs.Transfers.{SuppliedFirst};
 ghost use Rattle.pbf_wire.specs.Faults.{fault};
 ghost use Rattle.pbf_frame.specs.declared.frame.TheConstants.{FILE_LIMIT};
 ghost use Rattle.pbf_frame.specs.Frames.{order_faults, next_of};
@@ -45,14 +46,11 @@ fn refused(offset: u64, reason: Reason) -> Stop
 pub fn fill_vec<F: Feed>(feed: &mut F, buf: &mut Vec<u8>, count: usize) -> Result<(), Stop>
     ensures reads { OnOk result
         (ReadsBytes (F.remaining feed.old) (F.remaining feed.new) count buf.new.items) }
-    ensures bytes { OnOk result (F.remaining feed.old
-        ≡ prepend buf.new.items (F.remaining feed.new)) }
+    ensures supplied { OnOk result (SuppliedFirst F.Feed feed.old buf.new.items feed.new) }
     ensures bound { OnOk result (vec_len buf.new ≤ count) }
     ensures end { OnOk result (vec_len buf.new < count → IsAtEnd (F.remaining feed.new)) }
     ensures held { vec_len buf.new ≤ max count (vec_len buf.old) }
     ensures lender { F.lender feed.new ≡ F.lender feed.old }
-    ensures passed { OnOk result
-        (Passes (F.has_passed feed.old) buf.new.items (F.has_passed feed.new)) }
     ensures counts { F.failures feed.old ≤ F.failures feed.new }
     ensures stops { IfErr result (IsFillStop (F.failures feed.old) (F.failures feed.new)) }
 {
@@ -74,10 +72,8 @@ fn read_prefix<F: Feed>(feed: &mut F, start: FrameStart) -> Result<Option<[u8; 4
     ensures small { IfOk result (λ o. IfSome o (λ prefix. big_number 4 prefix < HEADER_LIMIT)) }
     ensures ended { IfOk result (λ o. IfNone o (IsAtEnd (F.remaining feed.new))) }
     ensures header_given { IfOk result (λ o. IfNone o (start.had_header ≡ true)) }
-    ensures bytes { IfOk result (λ o. F.remaining feed.old
-        ≡ prepend (given_prefix o) (F.remaining feed.new)) }
-    ensures passed { IfOk result (λ o.
-        Passes (F.has_passed feed.old) (given_prefix o) (F.has_passed feed.new)) }
+    ensures supplied { IfOk result (λ o.
+        SuppliedFirst F.Feed feed.old (given_prefix o) feed.new) }
     ensures feed { UsesFeed F.Feed feed.old feed.new result }
 {
     let mut prefix = [0; 4];
@@ -106,10 +102,7 @@ fn read_bytes<F: Feed>(feed: &mut F, buf: &mut Vec<u8>, count: u32, cut: Fault) 
     ensures refused { IfErr result (RefusedFrom F.Feed (bytes_at cut count) feed.old feed.new) }
     ensures held { vec_len buf.new ≤ max count (vec_len buf.old) }
     ensures len { OnOk result (vec_len buf.new ≡ count) }
-    ensures bytes { OnOk result (F.remaining feed.old
-        ≡ prepend buf.new.items (F.remaining feed.new)) }
-    ensures passed { OnOk result
-        (Passes (F.has_passed feed.old) buf.new.items (F.has_passed feed.new)) }
+    ensures supplied { OnOk result (SuppliedFirst F.Feed feed.old buf.new.items feed.new) }
     ensures feed { UsesFeed F.Feed feed.old feed.new result }
 {
     fill_vec(feed, buf, count as usize)?;
@@ -159,10 +152,7 @@ fn read_header<F: Feed>(
     ensures end { IfOk result (λ head.
         start.place + 4 + vec_len header.new + head.size ≤ FILE_LIMIT) }
     ensures held { vec_len header.new ≤ max 65535 (vec_len header.old) }
-    ensures bytes { OnOk result (F.remaining feed.old
-        ≡ prepend header.new.items (F.remaining feed.new)) }
-    ensures passed { OnOk result
-        (Passes (F.has_passed feed.old) header.new.items (F.has_passed feed.new)) }
+    ensures supplied { OnOk result (SuppliedFirst F.Feed feed.old header.new.items feed.new) }
     ensures spelled { OnOk result (length header.new.items ≡ big_number 4 prefix.now) }
     ensures ordered { IfOk result (λ head.
         least (order_faults (Some FILE_LIMIT) start.had_header start.place head.kind
@@ -219,10 +209,7 @@ fn read_known_blob<F: Feed>(
     ensures sound { OnOk result (blob_fault at blob.new.items ≡ None) }
     ensures long { OnOk result (vec_len blob.new ≡ size) }
     ensures held { vec_len blob.new ≤ max size (vec_len blob.old) }
-    ensures bytes { OnOk result (F.remaining feed.old
-        ≡ prepend blob.new.items (F.remaining feed.new)) }
-    ensures passed { OnOk result
-        (Passes (F.has_passed feed.old) blob.new.items (F.has_passed feed.new)) }
+    ensures supplied { OnOk result (SuppliedFirst F.Feed feed.old blob.new.items feed.new) }
     ensures feed { UsesFeed F.Feed feed.old feed.new result }
 {
     let cut = Fault {

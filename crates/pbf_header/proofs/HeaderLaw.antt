@@ -10,7 +10,7 @@ use Rattle.pbf_wire.specs.Message.{message, SlotFits, scalars_at}
 use Rattle.pbf_wire.specs.Reading.{last_number, each}
 use Rattle.pbf_wire.specs.Signed.{zigzag, unzigzag, sign_extended, low_i64}
 use Rattle.pbf_wire.specs.declared.fault.Fault.{Fault}
-use Rattle.pbf_wire.proofs.QuietLemmas.{SlotQuiet, scalar_quiet, each_quiet, fields_quiet, no_fault_within, leaf_quiet, field_count, present_written, once_written}
+use Rattle.pbf_wire.proofs.NoFaultLemmas.{SlotQuiet, scalar_quiet, each_quiet, fields_quiet, no_fault_within, leaf_quiet, field_count, present_written, once_written}
 use Rattle.pbf_wire.proofs.MessageLemmas.{last_written, each_written, embedded_below}
 use Rattle.pbf_wire.proofs.SumLemmas.{unzigzag_zigzag, signs_read, signs_fit}
 use Rattle.osm_entity.specs.Weight.{text_weight}
@@ -21,8 +21,8 @@ use Rattle.pbf_header.specs.declared.header_block.TheConstants.{HEADER_KINDS, BB
 use Rattle.pbf_header.specs.Header.{HeaderSpec, edge, box_in, last_text, header_in}
 use Rattle.pbf_header.specs.HeaderFaults.{edge_faults, header_structure, feature_faults, header_values, header_fault}
 use Rattle.pbf_header.specs.WrittenHeader.{known_features, header_out, header_out_for_convert, kept_features, EdgesTyped, BoxTyped, HeaderFits, box_slots, box_message, header_slots, header_message}
-use Rattle.pbf_header.proofs.HeaderLemmas.{header_again}
-use Rattle.pbf_wire.proofs.RoomLemmas.{each_room, message_short}
+use Rattle.pbf_header.proofs.HeaderLemmas.{header_out_twice}
+use Rattle.pbf_wire.proofs.LengthLemmas.{each_room, message_short}
 use Rattle.osm_entity.proofs.RangeLemmas.{present}
 use Rattle.pbf_wire.proofs.SlotLemmas.{IfSome, none_given, option_few, option_read, last_text_of, scalar_fits, last_given}
 use Rattle.pbf_header.specs.declared.write.TheConstants.{MOST_HEADER_TEXT}
@@ -236,11 +236,11 @@ header_short h fits light = canonical_short h fits.canonical light
 
 -- what is written for any header
 pub out_short : (h : HeaderSpec) → text_weight h.source + text_weight h.url ≤ MOST_HEADER_TEXT → length (header_message (header_out_for_convert h)) < 33554432
-out_short h light = canonical_short (header_out_for_convert h) (header_again h.bbox h.bbox h) light
+out_short h light = canonical_short (header_out_for_convert h) (header_out_twice h.bbox h.bbox h) light
 
 -- a header that is written out is one that can be written
 pub out_fits : (bbox : Option HeaderBox) (h : HeaderSpec) → BoxTyped bbox → IfPresent IsInt64 h.timestamp → IfPresent IsInt64 h.sequence → HeaderFits (header_out bbox h)
-out_fits bbox h box timestamp sequence = record { canonical = header_again bbox bbox h; bbox = box; timestamp = timestamp; sequence = sequence }
+out_fits bbox h box timestamp sequence = record { canonical = header_out_twice bbox bbox h; bbox = box; timestamp = timestamp; sequence = sequence }
 
 module _ (at : ℕ) (h : HeaderSpec) (fits : HeaderFits h) (light : text_weight h.source + text_weight h.url ≤ MOST_HEADER_TEXT) where
   below : length (header_message h) < 2 ^ 64

@@ -25,24 +25,24 @@ keep there feature features = cond there (feature ∷ features) features
 abbrev three : Bool → Bool → Bool → List (List ℕ)
 three a b c = keep a (codes "Has_Metadata") (keep b (codes "Sort.Type_then_ID") (keep c (codes "LocationsOnWays") []))
 
-three_again : (a b c : Bool) → kept_features (three a b c) ≡ three a b c
-three_again false false false = refl
-three_again false false true = refl
-three_again false true false = refl
-three_again false true true = refl
-three_again true false false = refl
-three_again true false true = refl
-three_again true true false = refl
-three_again true true true = refl
+three_kept : (a b c : Bool) → kept_features (three a b c) ≡ three a b c
+three_kept false false false = refl
+three_kept false false true = refl
+three_kept false true false = refl
+three_kept false true true = refl
+three_kept true false false = refl
+three_kept true false true = refl
+three_kept true true false = refl
+three_kept true true true = refl
 
 -- features that are kept are kept again
-pub kept_again : (optional : List (List ℕ)) → kept_features (kept_features optional) ≡ kept_features optional
-kept_again optional = three_again (has_text optional (codes "Has_Metadata")) (has_text optional (codes "Sort.Type_then_ID")) (has_text optional (codes "LocationsOnWays"))
+pub features_kept_twice : (optional : List (List ℕ)) → kept_features (kept_features optional) ≡ kept_features optional
+features_kept_twice optional = three_kept (has_text optional (codes "Has_Metadata")) (has_text optional (codes "Sort.Type_then_ID")) (has_text optional (codes "LocationsOnWays"))
 
 -- the header of what is written, with another box or the same
-pub header_again : (bbox other : Option HeaderBox) (h : HeaderSpec) → header_out bbox (header_out other h) ≡ header_out bbox h
-header_again bbox other h =
-    ap (λ (optional : List (List ℕ)). record { bbox = bbox; required = known_features; optional = optional; program = Some (codes "pbfcut"); source = h.source; url = h.url; timestamp = h.timestamp; sequence = h.sequence }) (kept_again h.optional)
+pub header_out_twice : (bbox other : Option HeaderBox) (h : HeaderSpec) → header_out bbox (header_out other h) ≡ header_out bbox h
+header_out_twice bbox other h =
+    ap (λ (optional : List (List ℕ)). record { bbox = bbox; required = known_features; optional = optional; program = Some (codes "pbfcut"); source = h.source; url = h.url; timestamp = h.timestamp; sequence = h.sequence }) (features_kept_twice h.optional)
 
 -- the least of what four edges lack, one after another
 pub edges_joined : (a b c d : List Fault) → lesser (least a) (lesser (least b) (lesser (least c) (least d))) ≡ least (a ++ (b ++ (c ++ (d ++ []))))

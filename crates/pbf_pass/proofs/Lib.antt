@@ -5,7 +5,7 @@ pub mod VisitLemmas
 pub mod GatherLemmas
 pub mod JudgingLemmas
 pub mod ReadingLemmas
-pub mod AgainLemmas
+pub mod UnjudgedLemmas
 pub mod GivenLemmas
 pub mod LimitLemmas
 pub mod HaltingLemmas

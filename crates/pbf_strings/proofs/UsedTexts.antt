@@ -5,10 +5,10 @@ use Rattle.std.specs.List.{list_any, position_or_len, AllByRecursion, IsDistinct
 use Rattle.std.specs.Str.{bytes_eq}
 use Rattle.std.specs.Cmp.Lexicographic.{nat_list_eq_equiv}
 use Rattle.std.proofs.lemmas.Slice.Eq.{bytes_eq-Decides}
-use Rattle.std.specs.Prelude.{slice_get}
+use Rattle.std.specs.Prelude.{slice_get, Ok}
 use Rattle.std.proofs.lemmas.List.Recursion.{is_position_or_len}
 use Rattle.std.proofs.lemmas.Option.{cond_some}
-use Rattle.pbf_strings.specs.TableOut.{has_text, with_text, texts_after, place_in, index_in, table_of}
+use Rattle.pbf_strings.specs.TableOut.{has_text, with_text, texts_after, place_in, index_in, table_of, GivesIndex}
 
 pub same_text : (text : List ℕ) → bytes_eq text text ≡ true
 same_text text = nat_list_eq_equiv.refl text
@@ -83,6 +83,19 @@ text_at_index texts text h = ap (λ (n : ℕ). slice_get (table_of texts) n) (ad
 
 pub text_named : (texts : List (List ℕ)) (text : List ℕ) → slice_get (table_of (with_text texts text)) (index_in (with_text texts text) text) ≡ Some text
 text_named texts text = text_at_index (with_text texts text) text (any_with texts text)
+
+with_known : (texts : List (List ℕ)) (text : List ℕ) → has_text texts text ≡ true → texts ≡ with_text texts text
+with_known texts text h = sym (ap (λ b. cond b texts (texts ++ text ∷ [])) h)
+
+-- the index of a text that is there
+pub recent_gives : {E : Type 0} (texts : List (List ℕ)) (text : List ℕ) (index : ℕ) → (has_text texts text ≡ true) × (index ≡ index_in texts text) → GivesIndex {E = E} text texts texts (Ok index)
+recent_gives texts text index found = record {
+  texts = with_known texts text found.0;
+  index = found.1;
+  named = ap (λ (n : ℕ). slice_get (table_of texts) n) found.1 ∙ text_at_index texts text found.0;
+  known = λ _. refl;
+  err = tt;
+}
 
 place_below : (texts : List (List ℕ)) (text : List ℕ) → has_text texts text ≡ true → place_in texts text < length texts
 place_below [] text h = absurd cc

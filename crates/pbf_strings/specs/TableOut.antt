@@ -1,5 +1,5 @@
 -- A string table that is being written: its texts in order of first use.
-use Rattle.std.specs.Prelude.{ℕ, Bool, ◌+◌, List, [], ◌∷◌, ◌++◌, if◌then◌else◌, length}
+use Rattle.std.specs.Prelude.{◌≡◌, ℕ, Bool, true, ◌+◌, List, [], ◌∷◌, ◌++◌, if◌then◌else◌, length, slice_get, Some, Result, IsOk, IfOk, OnOk, OnErr}
 use Rattle.std.specs.List.{list_any}
 use Rattle.std.specs.Str.{bytes_eq}
 use Rattle.pbf_wire.specs.Message.{Each, message}
@@ -29,6 +29,14 @@ index_in texts text = place_in texts text + 1
 -- all texts of the table that is written
 abbrev pub table_of : List (List ℕ) → List (List ℕ)
 table_of texts = [] ∷ texts
+
+-- a text is given its index, for which it is added if it is new; or the texts are as they were, which no text that is there can cause
+pub record GivesIndex {E : Type 0} (text : List ℕ) (old new : List (List ℕ)) (result : Result ℕ E) : Type 0 where
+  pub texts : OnOk result (new ≡ with_text old text)
+  pub index : IfOk result (λ index. index ≡ index_in new text)
+  pub named : IfOk result (λ index. slice_get (table_of new) index ≡ Some text)
+  pub known : has_text old text ≡ true → IsOk result
+  pub err : OnErr result (new ≡ old)
 
 -- the StringTable that is written
 abbrev pub table_message : List (List ℕ) → List ℕ

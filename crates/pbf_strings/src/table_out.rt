@@ -1,10 +1,10 @@
 //! A table that is written: its texts in order of first use.
 
-ghost use Rattle.std.specs.Prelude.{◌≡◌, ◌<◌, ◌≤◌, ◌+◌, ◌-◌, ℕ, List, ◌^◌, ◌↔◌, min, ◌++◌, [], length, map, take, Some, true, IsTrue, IsOk, IfOk, IfSome, OnOk, OnErr, slice_get};
+ghost use Rattle.std.specs.Prelude.{◌≡◌, ◌<◌, ◌≤◌, ◌+◌, ◌-◌, ℕ, List, ◌^◌, ◌↔◌, min, ◌++◌, [], length, map, take, true, IsTrue, IfOk, IfSome, OnOk, OnErr};
 ghost use Rattle.std.specs.List.{sum_by};
 ghost use Rattle.std.specs.Option.{option_map, option_to_list};
 ghost use Rattle.pbf_wire.specs.Message.{Each, slot_bytes};
-ghost use Rattle.pbf_strings.specs.TableOut.{has_text, with_text, texts_after, index_in, text_held, table_of, table_message};
+ghost use Rattle.pbf_strings.specs.TableOut.{GivesIndex, has_text, texts_after, index_in, text_held, table_message};
 ghost use Rattle.pbf_strings.specs.declared.table.TheConstants.{MOST_USED_TEXTS};
 
 use crate::table::TEXT;
@@ -160,11 +160,7 @@ impl<S: BuildHasher> TableOut<S> {
     /// Like [`TableOut::index_of`], of a text that is most likely new: a copy is made first, so that it is hashed once.
     fn index_of_new(&mut self, text: &[u8]) -> Result<u32, AllocError>
         requires { length self.old < MOST_USED_TEXTS }
-        ensures texts { OnOk result (self.new ≡ with_text self.old text.now) }
-        ensures index { IfOk result (λ index. index ≡ index_in self.new text.now) }
-        ensures named { IfOk result (λ index. slice_get (table_of self.new) index ≡ Some text.now) }
-        ensures known { has_text self.old text.now ≡ true → IsOk result }
-        ensures err { OnErr result (self.new ≡ self.old) }
+        ensures { GivesIndex text.now self.old self.new result }
     {
         let Ok(copy) = Vec::from_slice(self.alloc, text) else {
             return match self.texts.get_index_of(text) {
@@ -179,11 +175,7 @@ impl<S: BuildHasher> TableOut<S> {
     /// Like [`TableOut::index_of`], by the hash of the text.
     fn index_by_hash(&mut self, text: &[u8]) -> Result<u32, AllocError>
         requires { length self.old < MOST_USED_TEXTS }
-        ensures texts { OnOk result (self.new ≡ with_text self.old text.now) }
-        ensures index { IfOk result (λ index. index ≡ index_in self.new text.now) }
-        ensures named { IfOk result (λ index. slice_get (table_of self.new) index ≡ Some text.now) }
-        ensures known { has_text self.old text.now ≡ true → IsOk result }
-        ensures err { OnErr result (self.new ≡ self.old) }
+        ensures { GivesIndex text.now self.old self.new result }
     {
         let index = match self.texts.get_index_of(text) {
             Some(index) => index,
@@ -200,11 +192,7 @@ impl<S: BuildHasher> TableOut<S> {
     fn index_elsewhere(&mut self, slot: usize, text: &[u8]) -> Result<u32, AllocError>
         requires room { length self.old < MOST_USED_TEXTS }
         requires slot { slot < SLOTS }
-        ensures texts { OnOk result (self.new ≡ with_text self.old text.now) }
-        ensures index { IfOk result (λ index. index ≡ index_in self.new text.now) }
-        ensures named { IfOk result (λ index. slice_get (table_of self.new) index ≡ Some text.now) }
-        ensures known { has_text self.old text.now ≡ true → IsOk result }
-        ensures err { OnErr result (self.new ≡ self.old) }
+        ensures { GivesIndex text.now self.old self.new result }
     {
         if self.recent[slot] == 0 {
             return self.index_of_new(text);
@@ -217,11 +205,7 @@ impl<S: BuildHasher> TableOut<S> {
     #[inline(always)]
     pub fn index_of(&mut self, text: &[u8]) -> Result<u32, AllocError>
         requires { length self.old < MOST_USED_TEXTS }
-        ensures texts { OnOk result (self.new ≡ with_text self.old text.now) }
-        ensures index { IfOk result (λ index. index ≡ index_in self.new text.now) }
-        ensures named { IfOk result (λ index. slice_get (table_of self.new) index ≡ Some text.now) }
-        ensures known { has_text self.old text.now ≡ true → IsOk result }
-        ensures err { OnErr result (self.new ≡ self.old) }
+        ensures { GivesIndex text.now self.old self.new result }
     {
         let slot = slot_of(text);
         if let Some(index) = self.recent_index(slot, text) {
@@ -236,9 +220,7 @@ impl<S: BuildHasher> TableOut<S> {
     #[inline(never)]
     fn index_apart(&mut self, text: &[u8]) -> Result<u32, AllocError>
         requires { length self.old < MOST_USED_TEXTS }
-        ensures texts { OnOk result (self.new ≡ with_text self.old text.now) }
-        ensures index { IfOk result (λ index. index ≡ index_in self.new text.now) }
-        ensures err { OnErr result (self.new ≡ self.old) }
+        ensures { GivesIndex text.now self.old self.new result }
     {
         self.index_of(text)
     }
@@ -247,9 +229,7 @@ impl<S: BuildHasher> TableOut<S> {
     #[inline(always)]
     fn index_of_user(&mut self, text: &[u8]) -> Result<u32, AllocError>
         requires { length self.old < MOST_USED_TEXTS }
-        ensures texts { OnOk result (self.new ≡ with_text self.old text.now) }
-        ensures index { IfOk result (λ index. index ≡ index_in self.new text.now) }
-        ensures err { OnErr result (self.new ≡ self.old) }
+        ensures { GivesIndex text.now self.old self.new result }
     {
         if let Some(index) = self.recent_index(LAST_USER, text) {
             return Ok(index);

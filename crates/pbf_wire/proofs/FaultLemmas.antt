@@ -46,10 +46,10 @@ all_next : (k : ℕ) (o : Occurrence) (os : List Occurrence) → o.number ≡ k 
 all_next k o os same = grind arith
 
 -- the second or a later occurrence
-pub again : (seen : Bool) (so_far : Option Fault) (k : ℕ) (os t : List Occurrence) (o : Occurrence) (all : Option Fault) → seen ≡ true → os ≡ o ∷ t → o.number ≡ k
+pub occurs_later : (seen : Bool) (so_far : Option Fault) (k : ℕ) (os t : List Occurrence) (o : Occurrence) (all : Option Fault) → seen ≡ true → os ≡ o ∷ t → o.number ≡ k
     → lesser so_far (least (map (λ o. fault o.place TwiceMessage) (if seen then all_of k os else drop 1 (all_of k os)))) ≡ all
     → lesser (lesser so_far (Some (fault o.place TwiceMessage))) (least (map (λ o. fault o.place TwiceMessage) (all_of k t))) ≡ all
-again seen so_far k os t o all e next same h =
+occurs_later seen so_far k os t o all e next same h =
     let left : Bool → List Occurrence → List Occurrence = λ b w. if b then all_of k w else drop 1 (all_of k w) in
     let whole : List Occurrence → Option Fault = λ w. lesser so_far (least (map (λ o. fault o.place TwiceMessage) w)) in
     least_next so_far (fault o.place TwiceMessage) (map (λ o. fault o.place TwiceMessage) (all_of k t))
@@ -88,7 +88,7 @@ front_within : (r : Result (ℕ × ℕ) Reason) (more : ℕ → List Entry) (n :
 front_within (Ok front) more n h = omega (arith, h (front.1 - 1))
 front_within (Err e) more n h = omega arith
 
-numbers_within : (skip : ℕ) (bytes : List ℕ) → length (read_entries (entries_past skip bytes)) ≤ length bytes
+pub numbers_within : (skip : ℕ) (bytes : List ℕ) → length (read_entries (entries_past skip bytes)) ≤ length bytes
 unfolding entries_past
 numbers_within skip [] = omega arith
 numbers_within (suc skip) (b ∷ bs) = omega (arith, numbers_within skip bs)

@@ -6,7 +6,7 @@ pub mod Cutting
 pub mod Columns
 pub mod Written
 pub mod SumLemmas
-pub mod RoomyLemmas
+pub mod SumRoomLemmas
 pub mod SpanLemmas
 pub mod PackedLemmas
 pub mod WritingLemmas
@@ -18,8 +18,8 @@ pub mod MessageLemmas
 pub mod FaultLemmas
 pub mod RisingLemmas
 pub mod SoundLemmas
-pub mod QuietLemmas
+pub mod NoFaultLemmas
 pub mod ShortLemmas
 pub mod PhaseLemmas
 pub mod SlotLemmas
-pub mod RoomLemmas
+pub mod LengthLemmas

@@ -28,7 +28,7 @@ use Rattle.pbf_wire.proofs.MessageLemmas.{all_append}
 use Rattle.pbf_wire.specs.Sums.{sums_within}
 use Rattle.pbf_wire.proofs.SumLemmas.{within_true, added_within, then_more}
 use Rattle.pbf_wire.proofs.RisingLemmas.{running, running_is}
-use Rattle.pbf_wire.proofs.FaultLemmas.{column_short, ends_counted}
+use Rattle.pbf_wire.proofs.FaultLemmas.{column_short, ends_counted, numbers_within}
 use Rattle.pbf_wire.proofs.SoundLemmas.{ends_are_numbers}
 
 -- ---- a mask of ends
@@ -279,6 +279,12 @@ begun_small column short more =
 pub left_short : (k : ℕ) (fields : Fields) → length (joined k (found (fields_left fields))) ≤ length fields.rest.now
 unfolding fields_left
 left_short k fields = column_short k fields.at fields.rest.now
+
+pub numbers_fit : (column : Column) → length (column_left column) ≤ length column.packed.now + length column.fields.0.rest.now
+unfolding column_left
+numbers_fit column =
+    let ns = read_entries (entries column.packed.now) in
+    omega (arith, numbers_within 0 column.packed.now, left_short column.number column.fields.0, length-append (placed column.packed_place ns) (joined column.number (found_left column.fields)), length-map {B = ℕ × ℕ} ns (λ v. (v, column.packed_place)))
 
 -- ---- their sums
 

@@ -1,23 +1,24 @@
 -- Values that are skipped one after another.
-use Rattle.std.proofs.Common.{◌≡◌, Bool, true, false, not, ℕ, zero, suc, ℤ, List, [], ◌∷◌, drop, take, refl, rules, arith, ◌<ℤ◌, ◌≤ℤ◌}
+use Rattle.std.proofs.Common.{◌≡◌, ◌≤◌, Bool, true, false, not, ℕ, zero, suc, ℤ, List, [], ◌∷◌, length, map, None, Some, ap, refl, rules, arith, ◌<ℤ◌, ◌≤ℤ◌}
+use Rattle.std.proofs.Math.Seq.{drop-nil}
 use Rattle.std.proofs.lemmas.Int.{ints}
+use Rattle.std.proofs.lemmas.List.{length-map}
 use Rattle.std.specs.Bool.{beq}
-use Rattle.pbf_wire.specs.Spans.{is_in, AreAlike}
+use Rattle.pbf_wire.specs.Cursors.{column_left, numbers_left, sums_left}
+use Rattle.pbf_wire.specs.Signed.{delta_in}
+use Rattle.pbf_wire.specs.Spans.{is_in, ArePassed}
+use Rattle.pbf_wire.specs.Sums.{added, sums_within}
 use Rattle.pbf_wire.specs.declared.span.Span.{Span}
+use Rattle.pbf_wire.specs.declared.sums.Sums.{Sums}
+use Rattle.pbf_wire.proofs.SumLemmas.{then_more}
 
--- so many values are skipped, each of which a span has, or lacks
-pub record IsPast (span : Span) (is_there : Bool) (values left : List ℤ) (n : ℕ) : Type 0 where
-  pub passed : left ≡ drop n values
-  pub alike : AreAlike span is_there (take n values)
-
-pub one_past : (span : Span) (is_there : Bool) (values left : List ℤ) (value : ℤ) (n : ℕ) → IsPast span is_there values (value ∷ left) n → is_in span value ≡ is_there
-    → IsPast span is_there values left (suc n)
-one_past span is_there [] left value zero past there = search rules
-one_past span is_there [] left value (suc n) past there = search rules
+pub one_past : (span : Span) (is_there : Bool) (values left : List ℤ) (value : ℤ) (n : ℕ) → ArePassed span is_there values (value ∷ left) n → is_in span value ≡ is_there
+    → ArePassed span is_there values left (suc n)
+one_past span is_there [] left value n past there = absurd (omega (arith, ap length past.passed, ap length (drop-nil {A = ℤ} n)))
 one_past span is_there (v ∷ vs) left value zero past there = search rules
 one_past span is_there (v ∷ vs) left value (suc n) past there =
-    let more = one_past span is_there vs left value n (record { passed = past.passed; alike = past.alike.1 }) there in
-    record { passed = more.passed; alike = (past.alike.0, more.alike) }
+    let more = one_past span is_there vs left value n (record { passed = past.passed; alike = past.alike.1; there = omega (arith, past.there); few = omega (arith, past.few) }) there in
+    record { passed = more.passed; alike = (past.alike.0, more.alike); there = omega (arith, more.there); few = past.few }
 
 pub same_test : (a b : Bool) → not (beq a b) ≡ false → a ≡ b
 same_test true true e = refl
@@ -36,3 +37,18 @@ pub wider_has : (span wider : Span) (n : ℤ) → wider.above ≤ℤ span.above 
 wider_has span wider n above below h =
     let inside = in_span span n h in
     span_has wider n (omega (arith, ints, above, inside.0)) (omega (arith, ints, below, inside.1))
+
+-- ---- how many there are
+
+sums_fit : (limit start : ℤ) (ds : List ℤ) → length (sums_within limit start ds) ≤ length ds
+sums_fit limit start [] = omega arith
+sums_fit limit start (d ∷ ds) =
+    elim (added limit start d) as (λ r. length (then_more limit ds r) ≤ suc (length ds)) [
+      | None ↦ omega arith
+      | Some sum ↦ omega (arith, sums_fit limit sum ds)
+    ]
+
+-- as many as the column has numbers, or fewer
+pub values_fit : (values : Sums) (n : ℕ) → length (column_left values.entries) ≤ n → length (sums_left values) ≤ n
+values_fit values n h =
+    omega (arith, h, sums_fit values.limit values.total (map (delta_in values.narrow) (numbers_left values.entries)), length-map (numbers_left values.entries) (delta_in values.narrow), length-map {B = ℕ} (column_left values.entries) (λ p. p.0))

@@ -8,7 +8,7 @@ use Rattle.pbf_wire.specs.Occurrence.{IsSpelled, Joins, Item, items}
 use Rattle.pbf_wire.specs.Columns.{Entry, entries}
 use Rattle.pbf_wire.specs.Writing.{Part, Single, Whole, spelling, written, IsWritablePart, occurrence_of, occurrences_of}
 use Rattle.pbf_wire.proofs.Shortest.{shortest_spells}
-use Rattle.pbf_wire.proofs.Spellings.{again, varint_ok, prefix_free}
+use Rattle.pbf_wire.proofs.Spellings.{spelling_is_read, varint_ok, prefix_free}
 use Rattle.pbf_wire.proofs.Items.{items_none}
 use Rattle.pbf_wire.proofs.Cutting.{all_ok, walks}
 use Rattle.pbf_wire.proofs.Columns.{entries_none, entries_ok}
@@ -63,14 +63,14 @@ pub joined_read : (pairs : List (ℕ × List ℕ)) → AllSpell pairs → entrie
 joined_read [] h = entries_none [] refl
 joined_read ((v, s) ∷ pairs) h =
     let rest = bytes_of_all pairs in
-    let one = again s rest v h.0 in
+    let one = spelling_is_read s rest v h.0 in
     let f = varint_ok (s ++ rest) v (length s) one in
     entries_ok (s ++ rest) v (length s) f.positive f.within one
     ∙ ap (λ (w : List Entry). Ok v ∷ w) (ap entries (drop_at s rest (length s) refl) ∙ joined_read pairs h.1)
 
 not_empty : (v : ℕ) (s rest : List ℕ) → IsVarint v s → s ++ rest ≡ [] → ⊥
 not_empty v s rest h e =
-    let f = varint_ok (s ++ rest) v (length s) (again s rest v h) in
+    let f = varint_ok (s ++ rest) v (length s) (spelling_is_read s rest v h) in
     omega (arith, f.positive, f.within, ap (λ (w : List ℕ). length w) e)
 
 pub joined_only : (pairs others : List (ℕ × List ℕ)) → AllSpell pairs → AllSpell others → bytes_of_all pairs ≡ bytes_of_all others → pairs ≡ others
@@ -88,7 +88,7 @@ all_entries ns = map Ok ns
 pub column_reads_back : (ns : List ℕ) → AllByRecursion (λ n. n < 2 ^ 64) ns → entries (flat_map shortest ns) ≡ all_entries ns
 column_reads_back [] h = entries_none [] refl
 column_reads_back (n ∷ ns) h =
-    let one = again (shortest n) (flat_map shortest ns) n (shortest_spells n h.0) in
+    let one = spelling_is_read (shortest n) (flat_map shortest ns) n (shortest_spells n h.0) in
     let f = varint_ok (shortest n ++ flat_map shortest ns) n (length (shortest n)) one in
     entries_ok (shortest n ++ flat_map shortest ns) n (length (shortest n)) f.positive f.within one
     ∙ ap (λ (w : List Entry). Ok n ∷ w) (ap entries (drop_at (shortest n) (flat_map shortest ns) (length (shortest n)) refl) ∙ column_reads_back ns h.1)

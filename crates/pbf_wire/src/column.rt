@@ -146,6 +146,15 @@ impl<'a> Column<'a> {
         self.place
     }
 
+    /// How many bytes are left, of which each number takes one at least.
+    #[inline(always)]
+    #[tactic(auto, using(crate::proofs::ShortLemmas::numbers_fit))]
+    pub(crate) fn bytes_left(&self) -> usize
+        ensures { length (column_left self.now) ≤ result }
+    {
+        self.packed.len() + self.fields.0.len()
+    }
+
     /// How many numbers are still to come, if a quick test shows that they are few and small: at most 2^26, each below 2^35. None is
     /// decoded.
     #[inline(always)]

@@ -29,11 +29,11 @@ pub fn judge_twice(message: Message<'_>, number: u64) -> Option<Fault>
     for field in message.found() {
         if field.number == number {
             if seen {
-                let again = Fault {
+                let twice = Fault {
                     offset: field.offset,
                     reason: Reason::TwiceMessage,
                 };
-                least = lesser(least, Some(again));
+                least = lesser(least, Some(twice));
             }
             seen = true;
         }

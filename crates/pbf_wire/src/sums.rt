@@ -55,13 +55,13 @@ pub struct Sums<'a> {
 }
 
 impl<'a> Sums<'a> {
-    ghost use Rattle.std.specs.Prelude.{◌+◌, ◌≤◌, ◌∷◌, ℕ, ⊤, true, false, IsTrue, MatchOption, drop, take, length, map};
+    ghost use Rattle.std.specs.Prelude.{◌+◌, ◌≤◌, ◌∷◌, ℕ, ⊤, true, false, IsTrue, MatchOption, drop, length, map};
     ghost use Rattle.std.specs.Iterator.{YieldsFirst};
     ghost use Rattle.std.specs.List.{AllByRecursion};
     ghost use Rattle.pbf_wire.specs.Signed.{unzigzag, low_sint32};
     ghost use Rattle.pbf_wire.specs.Sums.{sums_within};
     ghost use Rattle.pbf_wire.specs.Cursors.{numbers_left, sums_left};
-    ghost use Rattle.pbf_wire.specs.Spans.{AreAlike};
+    ghost use Rattle.pbf_wire.specs.Spans.{ArePassed};
 
     /// The values of a column of `sint64`.
     pub fn new(entries: Column<'a>, limit: i64) -> Self
@@ -215,10 +215,11 @@ impl<'a> Sums<'a> {
     /// stays in registers.
     #[inline(always)]
     fn pass_alike(&mut self, span: Span, is_there: bool, most: usize) -> usize
-        ensures passed { sums_left self.new ≡ drop result (sums_left self.old) }
-        ensures alike { AreAlike span is_there (take result (sums_left self.old)) }
+        ensures past { ArePassed span is_there (sums_left self.old) (sums_left self.new) result }
         ensures fewer { result ≤ most }
     {
+        // For the proof only: there are no more values than bytes, so they can be counted.
+        let _bytes = self.entries.bytes_left();
         let mut rest = *self;
         let mut left = most;
         'alike: while left > 0 {
@@ -240,8 +241,7 @@ impl<'a> Sums<'a> {
     /// at one that isn't read quickly.
     #[inline(never)]
     pub fn pass_inside(&mut self, span: Span, most: usize) -> usize
-        ensures passed { sums_left self.new ≡ drop result (sums_left self.old) }
-        ensures inside { AreAlike span true (take result (sums_left self.old)) }
+        ensures past { ArePassed span true (sums_left self.old) (sums_left self.new) result }
         ensures fewer { result ≤ most }
     {
         self.pass_alike(span, true, most)
@@ -251,8 +251,7 @@ impl<'a> Sums<'a> {
     /// at one that isn't read quickly.
     #[inline(never)]
     pub fn pass_outside(&mut self, span: Span, most: usize) -> usize
-        ensures passed { sums_left self.new ≡ drop result (sums_left self.old) }
-        ensures outside { AreAlike span false (take result (sums_left self.old)) }
+        ensures past { ArePassed span false (sums_left self.old) (sums_left self.new) result }
         ensures fewer { result ≤ most }
     {
         self.pass_alike(span, false, most)

@@ -1,7 +1,7 @@
 //! Varints: numbers of 64 bits, seven bits a byte, the lowest first. The top bit is set on every byte but the last.
 
-ghost use Rattle.std.specs.Prelude.{◌≡◌, ◌≤◌, ◌<◌, ◌^◌, ℕ, IfOk, MatchOption, OnOk, OnErr, ⊤, Result, Ok, Err, ◌↔◌, ◌++◌, length, take, drop, slice_range};
-ghost use Rattle.pbf_wire.specs.Varint.{IsVarint, IsCut, IsLong, number_or_reason, varint_at, moved_by, shortest};
+ghost use Rattle.std.specs.Prelude.{◌≡◌, ◌≤◌, ◌<◌, ◌^◌, ℕ, IfOk, MatchOption, ⊤, Result, Ok, Err, ◌↔◌, length, take, drop, slice_range};
+ghost use Rattle.pbf_wire.specs.Varint.{AppendsVarint, IsVarint, IsCut, IsLong, number_or_reason, varint_at, moved_by, shortest};
 
 use crate::fault::Reason;
 use std::alloc::AllocError;
@@ -154,12 +154,15 @@ pub fn shortest_spelling(value: u64) -> ([u8; 10], usize)
     (spelling, length + 1)
 }
 
+// The functions that append a number do so by one rule, `shortest`, which the contract of each cites. They differ in what is part of
+// their callers: of `put_varint`, which many call, only the case of one byte; of `put_mostly_longer`, which one column calls whose
+// numbers mostly take two or three, the cases of one to three.
+
 /// Like [`put_longer`], of a number that takes four bytes or more: most of them take four or five.
 #[inline(never)]
 fn put_longest(out: &mut Vec<u8>, value: u64) -> Result<(), AllocError>
     requires { 2 ^ 21 ≤ value }
-    ensures ok { OnOk result (out.new.items ≡ out.old.items ++ shortest value) }
-    ensures err { OnErr result (out.new.items ≡ out.old.items) }
+    ensures { AppendsVarint value out.old.items out.new.items result }
 {
     if value < 1 << 28 {
         out.extend_from_slice(&[
@@ -187,8 +190,7 @@ fn put_longest(out: &mut Vec<u8>, value: u64) -> Result<(), AllocError>
 #[inline(always)]
 fn put_longer_here(out: &mut Vec<u8>, value: u64) -> Result<(), AllocError>
     requires { 128 ≤ value }
-    ensures ok { OnOk result (out.new.items ≡ out.old.items ++ shortest value) }
-    ensures err { OnErr result (out.new.items ≡ out.old.items) }
+    ensures { AppendsVarint value out.old.items out.new.items result }
 {
     if value < 1 << 14 {
         out.extend_from_slice(&[(value % 128 + 128) as u8, (value / 128) as u8])?;
@@ -208,8 +210,7 @@ fn put_longer_here(out: &mut Vec<u8>, value: u64) -> Result<(), AllocError>
 #[inline(never)]
 fn put_longer(out: &mut Vec<u8>, value: u64) -> Result<(), AllocError>
     requires { 128 ≤ value }
-    ensures ok { OnOk result (out.new.items ≡ out.old.items ++ shortest value) }
-    ensures err { OnErr result (out.new.items ≡ out.old.items) }
+    ensures { AppendsVarint value out.old.items out.new.items result }
 {
     put_longer_here(out, value)
 }
@@ -219,8 +220,7 @@ fn put_longer(out: &mut Vec<u8>, value: u64) -> Result<(), AllocError>
 /// Most numbers of a file take one byte, which is written inline, without a call.
 #[inline(always)]
 pub fn put_varint(out: &mut Vec<u8>, value: u64) -> Result<(), AllocError>
-    ensures ok { OnOk result (out.new.items ≡ out.old.items ++ shortest value) }
-    ensures err { OnErr result (out.new.items ≡ out.old.items) }
+    ensures { AppendsVarint value out.old.items out.new.items result }
 {
     if value < 128 {
         out.push(value as u8)?;
@@ -233,8 +233,7 @@ pub fn put_varint(out: &mut Vec<u8>, value: u64) -> Result<(), AllocError>
 /// Like [`put_varint`], for numbers of which most take two or three bytes: those are written without a call too.
 #[inline(always)]
 pub(crate) fn put_mostly_longer(out: &mut Vec<u8>, number: u64) -> Result<(), AllocError>
-    ensures ok { OnOk result (out.new.items ≡ out.old.items ++ shortest number) }
-    ensures err { OnErr result (out.new.items ≡ out.old.items) }
+    ensures { AppendsVarint number out.old.items out.new.items result }
 {
     if number < 128 {
         out.push(number as u8)?;

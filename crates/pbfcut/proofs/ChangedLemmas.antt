@@ -12,7 +12,7 @@ use Rattle.pbf_pass.specs.Given.{GaveFile}
 use Rattle.pbf_pass.specs.Hashing.{IsDigestOf, digest_if}
 use Rattle.pbf_pass.specs.Judged.{judged_file}
 use Rattle.pbf_pass.specs.Stops.{Caused, unchanged, ReadFailed}
-use Rattle.pbf_pass.proofs.AgainLemmas.{refuses_less}
+use Rattle.pbf_pass.proofs.UnjudgedLemmas.{refuses_less}
 use Rattle.pbfcut.specs.declared.repeat.LaterPass.{LaterPass}
 use Rattle.pbfcut.specs.Changes.{ChangedAt, IfChanged}
 use Rattle.pbfcut.specs.Repeat.{IsUnlike, StopsLater, as_change, digest_of}

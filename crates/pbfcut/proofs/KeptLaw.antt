@@ -29,7 +29,7 @@ use Rattle.pbf_header.specs.Header.{HeaderSpec}
 use Rattle.pbf_header.specs.WrittenHeader.{edges_of, header_message, header_out_for_box, header_out_for_convert, EdgesTyped, HeaderFits}
 use Rattle.pbf_block.proofs.FitsLaw.{entities_fit, entities_typed}
 use Rattle.pbf_header.proofs.HeaderLaw.{out_fits}
-use Rattle.pbf_header.proofs.HeaderLemmas.{header_again}
+use Rattle.pbf_header.proofs.HeaderLemmas.{header_out_twice}
 use Rattle.pbf_header.proofs.ReadHeaderLaw.{header_fits}
 use Rattle.osm_pack.specs.Cuts.{written_entities, written_file}
 use Rattle.pbfcut.specs.Converting.{conversion, answer_bytes}
@@ -157,8 +157,8 @@ readable file sound =
       can = record { fits = found.fits; short = found.short; fit = all_fit v.0 (front_sound front.0 front.1 p.sound); typed = all_typed v.0 };
     }
 
-is_again : (h : HeaderSpec) (es : List EntitySpec) → CanWrite h es → IsFileOf (verdict_within None (written_file h es)) (header_out_for_convert h) es
-is_again h es can = written_is_file h es can.fits can.short can.fit can.typed
+written_out_is_file : (h : HeaderSpec) (es : List EntitySpec) → CanWrite h es → IsFileOf (verdict_within None (written_file h es)) (header_out_for_convert h) es
+written_out_is_file h es can = written_is_file h es can.fits can.short can.fit can.typed
 
 module _ (read : Verdict) (h : HeaderSpec) (es : List EntitySpec) (is : IsFileOf read h es) where
   is_sound : read.1 ≡ None
@@ -203,7 +203,7 @@ same_as_a_file bytes low none =
 -- ---- a conversion
 
 written_for_out : (h : HeaderSpec) (es : List EntitySpec) → written_file (header_out_for_convert h) es ≡ written_file h es
-written_for_out h es = ap (λ (g : HeaderSpec). written_frame kind.Header (header_message g) ++ written_entities es) (header_again h.bbox h.bbox h)
+written_for_out h es = ap (λ (g : HeaderSpec). written_frame kind.Header (header_message g) ++ written_entities es) (header_out_twice h.bbox h.bbox h)
 
 -- it means the same, and its conversion is the same bytes
 pub record IsKept (read : Verdict) (written : List ℕ) : Type 0 where
@@ -212,7 +212,7 @@ pub record IsKept (read : Verdict) (written : List ℕ) : Type 0 where
 
 conversion_written : (read : Verdict) (h : HeaderSpec) (es : List EntitySpec) → IsFileOf read h es → CanWrite h es → IsKept read (written_file h es)
 conversion_written read h es is can =
-    let again = is_again h es can in
+    let again = written_out_is_file h es can in
     let out = header_out_for_convert h in
     let written = verdict_within None (written_file h es) in
     record {
@@ -258,8 +258,8 @@ module _ (choose : Choice) (select : List Decoded → List Decoded) (selection :
       let out = header_out_for_box area h in
       let kept = choose es in
       let written = verdict_within None (written_file out kept) in
-      let once : header_out_for_convert out ≡ out = header_again (Some (edges_of area)) (Some (edges_of area)) h in
-      let again = subst (λ (g : HeaderSpec). IsFileOf written g kept) once (is_again out kept (can_extract h es can)) in
+      let once : header_out_for_convert out ≡ out = header_out_twice (Some (edges_of area)) (Some (edges_of area)) h in
+      let again = subst (λ (g : HeaderSpec). IsFileOf written g kept) once (written_out_is_file out kept (can_extract h es can)) in
       let entities = entities_are written out kept again ∙ ap choose (sym (entities_are read h es is)) in
       record {
         extract = record {

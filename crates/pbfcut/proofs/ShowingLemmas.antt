@@ -21,7 +21,7 @@ use Rattle.pbf_pass.specs.Judged.{payload_fault, fully_known, judged_file}
 use Rattle.pbf_pass.specs.Unjudged.{IsFaulty, ReadsFaulty}
 use Rattle.pbf_pass.specs.Given.{Took}
 use Rattle.pbf_pass.specs.Refused.{RefusesRest}
-use Rattle.pbf_pass.proofs.AgainLemmas.{refuses_less}
+use Rattle.pbf_pass.proofs.UnjudgedLemmas.{refuses_less}
 use Rattle.pbf_pass.specs.Visit.{Takes, Fails, Visited, VisitsAll, StopsVisit, RefusesVisit}
 use Rattle.pbfcut.specs.declared.showing.LineWriter.{LineWriter}
 use Rattle.pbfcut.specs.Showing.{frame_text, file_text, answer_text, Shown, ShowsFront, WritesFront, WritesLines, ShowsNext, FailsToShowNext}

@@ -29,10 +29,10 @@ use Rattle.pbf_pass.specs.Stops.{Caused, WriteFailed}
 use Rattle.pbf_pass.proofs.GivenLemmas.{Tells}
 use Rattle.pbf_pass.proofs.SoundLemmas.{sound_first_ones, sound_last, all_sound, rest_sound}
 use Rattle.pbf_pass.specs.Visit.{Takes, Fails, Visited, StopsVisit, RefusesVisit}
-use Rattle.pbf_pass.proofs.AgainLemmas.{stops_visited, faulty_visited}
+use Rattle.pbf_pass.proofs.UnjudgedLemmas.{stops_visited, faulty_visited}
 use Rattle.pbf_pass.proofs.VisitLemmas.{visited_to}
 use Rattle.pbfcut.specs.Pick.{Pick, HasPacked, BeginsAll, Begins, StopsAmong, picked_in}
-use Rattle.pbfcut.specs.Write.{PacksAgain, FailsAgain, PacksFrameAgain, FailsAtFrame, PacksNext, FailsAtNext, Packed, PacksFront}
+use Rattle.pbfcut.specs.Write.{PacksUnjudgedPayload, FailsAtUnjudgedPayload, PacksUnjudgedFrame, FailsAtFrame, PacksNext, FailsAtNext, Packed, PacksFront}
 use Rattle.pbfcut.proofs.PickingLemmas.{picked_one, front_of, begins_packed, none_gone}
 
 -- ---- the whole file
@@ -53,9 +53,9 @@ front_told pick h (Some b) file old new tells p frames is = p frames (ap (λ (l 
 -- ---- why it stops
 
 -- at a payload that isn't judged
-pub stops_again : {D S H : Type 0} (d : drain.Ghosts D) (number : ℕ) (pick : Pick) (p : Payload) (es : List EntitySpec) (old new : Packing D S H) (s : Stop) → (fault_in p ≡ None → AllByRecursion EntityFits es) → (fault_in p ≡ None → filter pick es ≡ picked_in pick p)
-    → StopsAmong d number pick es old new s → FailsAgain d number pick p old new s
-stops_again d number pick p es old new s fits same stops = record {
+pub fails_at_unjudged_payload : {D S H : Type 0} (d : drain.Ghosts D) (number : ℕ) (pick : Pick) (p : Payload) (es : List EntitySpec) (old new : Packing D S H) (s : Stop) → (fault_in p ≡ None → AllByRecursion EntityFits es) → (fault_in p ≡ None → filter pick es ≡ picked_in pick p)
+    → StopsAmong d number pick es old new s → FailsAtUnjudgedPayload d number pick p old new s
+fails_at_unjudged_payload d number pick p es old new s fits same stops = record {
   cause = of s stops.cause;
   begins = λ sound. subst (λ (l : List EntitySpec). Begins d old new l) (same sound) stops.begins;
 } where
@@ -67,12 +67,12 @@ stops_again d number pick p es old new s fits same stops = record {
   of (stop.Changed pass) h = (h.0, λ sound. h.1 (fits sound))
 
 -- a failure of the last frame is one of the loop
-pub fails_again : (number first before now : ℕ) (f : FrameSpec) (s : Stop) → first ≤ before → Caused (λ e. ⊥) ⊥ (HasRisen before now) (λ pass. (pass ≡ number) × (IsSound f → ⊥)) s → StopsAtFrame number (HasRisen first now) f s
-fails_again number first before now f (stop.Refused e) l h = absurd h
-fails_again number first before now f stop.Read l h = absurd h
-fails_again number first before now f stop.Write l h = omega (arith, l, h)
-fails_again number first before now f stop.Memory l h = tt
-fails_again number first before now f (stop.Changed pass) l h = h
+pub fails_in_last_frame : (number first before now : ℕ) (f : FrameSpec) (s : Stop) → first ≤ before → Caused (λ e. ⊥) ⊥ (HasRisen before now) (λ pass. (pass ≡ number) × (IsSound f → ⊥)) s → StopsAtFrame number (HasRisen first now) f s
+fails_in_last_frame number first before now f (stop.Refused e) l h = absurd h
+fails_in_last_frame number first before now f stop.Read l h = absurd h
+fails_in_last_frame number first before now f stop.Write l h = omega (arith, l, h)
+fails_in_last_frame number first before now f stop.Memory l h = tt
+fails_in_last_frame number first before now f (stop.Changed pass) l h = h
 
 -- ---- a payload of which nothing is packed
 
@@ -81,7 +81,7 @@ pub none_picked : (pick : Pick) (k : FrameKind) (at : ℕ) (m : List ℕ) → (k
 none_picked pick k at m (inl is) = ap (λ (k : FrameKind). picked_in pick (payload_as k at m)) is
 none_picked pick k at m (inr is) = ap (λ (k : FrameKind). picked_in pick (payload_as k at m)) is
 
-pub packs_none : {D S H : Type 0} (d : drain.Ghosts D) (pick : Pick) (p : Payload) (packer : Packing D S H) (counts : Counts) → IsPacking packer → picked_in pick p ≡ [] → PacksAgain d pick p packer packer counts counts
+pub packs_none : {D S H : Type 0} (d : drain.Ghosts D) (pick : Pick) (p : Payload) (packer : Packing D S H) (counts : Counts) → IsPacking packer → picked_in pick p ≡ [] → PacksUnjudgedPayload d pick p packer packer counts counts
 packs_none d pick p packer counts packing none = record {
   es = [];
   are = λ sound. sym none;
@@ -108,7 +108,7 @@ front_before d pick start first mid fs all es taken gone are begins is =
     front_of pick (d.taken start) taken fs rest.0 (all, None) split (subst (λ (l : List EntitySpec). BeginsAll (d.taken start) l taken) (are here) (begins here))
 
 module _ {D S H : Type 0} (d : drain.Ghosts D) (pick : Pick) (start : D) where
-  pub frames_more : (fs : List FrameSpec) (f : FrameSpec) (before now : Counts) (old new : Packing D S H) → PackedFrames d pick start fs before old → PacksFrameAgain d pick old new before now f → PackedFrames d pick start (fs ++ f ∷ []) now new
+  pub frames_more : (fs : List FrameSpec) (f : FrameSpec) (before now : Counts) (old new : Packing D S H) → PackedFrames d pick start fs before old → PacksUnjudgedFrame d pick old new before now f → PackedFrames d pick start (fs ++ f ∷ []) now new
   frames_more fs f before now old new so_far p = record {
     es = so_far.es ++ p.es;
     are = λ sound. ap₂ (λ (a b : List EntitySpec). a ++ b) (so_far.are (sound_first_ones fs (f ∷ []) sound)) (p.are (sound_last fs f sound)) ∙ sym (picked_one pick fs f);
@@ -147,7 +147,7 @@ module _ {V D S H : Type 0} (d : drain.Ghosts D) (to : V → Packing D S H) (cou
   pub has_written : (fs : List FrameSpec) (now : V) → Visited took before fs now → HasPacked d (to before).drain [] (to before) → counts before ≡ counts_of [] → HasWritten fs now
   has_written fs now visited none zero = visited_to took HasWritten (λ gone f mid last so_far one.
       let h = is mid last f one in record {
-        frames = frames_more d (pick before) (to before).drain gone f (counts mid) (counts last) (to mid) (to last) so_far.frames (subst (λ (p : Pick). PacksFrameAgain d p (to mid) (to last) (counts mid) (counts last) f) so_far.same h.0.packs);
+        frames = frames_more d (pick before) (to before).drain gone f (counts mid) (counts last) (to mid) (to last) so_far.frames (subst (λ (p : Pick). PacksUnjudgedFrame d p (to mid) (to last) (counts mid) (counts last) f) so_far.same h.0.packs);
         same = h.1 ∙ so_far.same;
         number_same = h.2 ∙ so_far.number_same;
         drain_counts = omega (arith, so_far.drain_counts, h.0.keeps.drain_kept.counts);
@@ -172,7 +172,7 @@ module _ {V D S H : Type 0} (d : drain.Ghosts D) (to : V → Packing D S H) (cou
     pub stops_written : (first : ℕ) → first ≤ d.failures (to before).drain → StopsUnjudged (number before) (fully_known known) read (HasRisen first (d.failures (to now).drain)) stop
     stops_written first counted = stops_visited number took (λ old new f one. (is old new f one).2) failed known read _ before now stop (λ fs mid f s visited failing.
         let counted_here : first ≤ d.failures (to mid).drain = omega (arith, counted, (has_written fs mid visited none zero).drain_counts) in
-        fails_again (number mid) _ _ _ f s counted_here (fails mid f s failing).fails.cause) stopped
+        fails_in_last_frame (number mid) _ _ _ f s counted_here (fails mid f s failing).fails.cause) stopped
 
     pub counts_written : d.failures (to before).drain ≤ d.failures (to now).drain
     counts_written = of stopped where
@@ -185,7 +185,7 @@ module _ {V D S H : Type 0} (d : drain.Ghosts D) (to : V → Packing D S H) (cou
       → HasPacked d (to before).drain [] (to before) → counts before ≡ counts_of [] → RefusesRest f first last (RefusesVisit took failed (λ b. judged_known false 0 (Some b)) before now) stop → ReadsFaulty f first last stop
   faulty_written f first last failed now stop fails none zero rest =
       faulty_visited number took (λ old new f one. (is old new f one).2) f first last failed (HasRisen (d.failures (to before).drain) (d.failures (to now).drain)) before now stop (λ fs mid f s visited failing.
-      fails_again (number mid) _ _ _ f s (has_written fs mid visited none zero).drain_counts (fails mid f s failing).fails.cause) rest
+      fails_in_last_frame (number mid) _ _ _ f s (has_written fs mid visited none zero).drain_counts (fails mid f s failing).fails.cause) rest
 
 -- a packer finds no fault
 pub faulty_never : {F : Type 0} (f : feed.Ghosts F) (old new : F) (before now : ℕ) (s : Stop) → IsPackStop before now s → ReadsFaulty f old new s

@@ -30,7 +30,7 @@ use Rattle.pbfcut.specs.Repeat.{StopsLater, digest_of}
 -- ---- one payload, and one frame
 
 -- entities were packed, and counted with those before them; of a payload without a fault they are those that are picked
-pub record PacksAgain {D S H : Type 0} (d : drain.Ghosts D) (pick : Pick) (p : Payload) (old new : Packing D S H) (before now : Counts) : Type 0 where
+pub record PacksUnjudgedPayload {D S H : Type 0} (d : drain.Ghosts D) (pick : Pick) (p : Payload) (old new : Packing D S H) (before now : Counts) : Type 0 where
   pub es : List EntitySpec
   pub are : fault_in p ≡ None → es ≡ picked_in pick p
   pub packs : Packs d old new es
@@ -39,26 +39,26 @@ pub record PacksAgain {D S H : Type 0} (d : drain.Ghosts D) (pick : Pick) (p : P
 
 -- a call stopped at a payload: it has a fault, which says that the bytes changed since they were judged; or a write failed, or memory was
 -- refused. If it has none, a prefix of what is picked of it went out
-pub record FailsAgain {D S H : Type 0} (d : drain.Ghosts D) (number : ℕ) (pick : Pick) (p : Payload) (old new : Packing D S H) (stop : Stop) : Type 0 where
+pub record FailsAtUnjudgedPayload {D S H : Type 0} (d : drain.Ghosts D) (number : ℕ) (pick : Pick) (p : Payload) (old new : Packing D S H) (stop : Stop) : Type 0 where
   pub cause : StopsAtPayload number (WriteFailed d old.drain new.drain) p stop
   pub begins : fault_in p ≡ None → Begins d old new (picked_in pick p)
 
 -- what a call does at a payload that it doesn't judge
 pub record PacksUnjudged {D S H X : Type 0} (d : drain.Ghosts D) (p : Payload) (before now : EntityPacker) (old new : Packing D S H) (result : Result X Stop) : Type 0 where
-  pub packed : OnOk result (PacksAgain d (picks_of before.picker) p old new before.counts now.counts)
-  pub stopped : IfErr result (FailsAgain d before.number (picks_of before.picker) p old new)
+  pub packed : OnOk result (PacksUnjudgedPayload d (picks_of before.picker) p old new before.counts now.counts)
+  pub stopped : IfErr result (FailsAtUnjudgedPayload d before.number (picks_of before.picker) p old new)
   pub keeps : KeepsPacker d old new
 
 -- the same of a frame
-abbrev pub PacksFrameAgain : {D S H : Type 0} → drain.Ghosts D → Pick → (old new : Packing D S H) → (before now : Counts) → FrameSpec → Type 0
-PacksFrameAgain d pick old new before now f = PacksAgain d pick (payload_of f) old new before now
+abbrev pub PacksUnjudgedFrame : {D S H : Type 0} → drain.Ghosts D → Pick → (old new : Packing D S H) → (before now : Counts) → FrameSpec → Type 0
+PacksUnjudgedFrame d pick old new before now f = PacksUnjudgedPayload d pick (payload_of f) old new before now
 
 abbrev pub FailsAtFrame : {D S H : Type 0} → drain.Ghosts D → ℕ → Pick → Packing D S H → Packing D S H → FrameSpec → Stop → Type 0
-FailsAtFrame d number pick old new f stop = FailsAgain d number pick (payload_of f) old new stop
+FailsAtFrame d number pick old new f stop = FailsAtUnjudgedPayload d number pick (payload_of f) old new stop
 
 -- what a visitor does that packs
 pub record PacksNext {D S H : Type 0} (d : drain.Ghosts D) (pick : Pick) (old new : Packing D S H) (before now : Counts) (f : FrameSpec) : Type 0 where
-  pub packs : PacksFrameAgain d pick old new before now f
+  pub packs : PacksUnjudgedFrame d pick old new before now f
   pub keeps : KeepsPacker d old new
 
 pub record FailsAtNext {D S H : Type 0} (d : drain.Ghosts D) (number : ℕ) (pick : Pick) (old new : Packing D S H) (f : FrameSpec) (stop : Stop) : Type 0 where

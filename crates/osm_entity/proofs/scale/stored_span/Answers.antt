@@ -2,7 +2,7 @@ use Rattle.std.proofs.Common.{rules, arith, ◌≡◌, ◌≤◌, ◌≤ℤ◌, 
 use Rattle.std.specs.Prelude.{nat_abs}
 use Rattle.std.specs.Int.{int_div_euclid}
 use Rattle.std.proofs.lemmas.Int.{ints}
-use Rattle.osm_entity.proofs.ScaleLemmas.{span_is, apart, first_kept, last_kept, next_kept, next_fits}
+use Rattle.osm_entity.proofs.ScaleLemmas.{span_is, apart, first_kept, last_kept, next_kept, next_fits, one_less_fits}
 use Rattle.osm_entity.proofs.scale.stored_span.Goals as goal
 
 pub overflow_sub-high : goal.overflow_sub-high
@@ -10,6 +10,14 @@ overflow_sub-high c =
     let small : nat_abs (to_z w64 (of_z w64 c.args.offset)) ≤ 2 ^ 60 = search rules in
     let small_high : nat_abs (to_z w64 (of_z w64 c.args.high)) ≤ 2 ^ 60 = search rules in
     omega (arith, ints, small, small_high)
+
+pub overflow_sub-low-2 : goal.overflow_sub-low-2
+overflow_sub-low-2 c =
+    let offset = to_z w64 (of_z w64 c.args.offset) in
+    let low = to_z w64 (of_z w64 c.args.low) in
+    let small : nat_abs offset ≤ 2 ^ 60 = search rules in
+    let small_low : nat_abs low ≤ 2 ^ 60 = search rules in
+    one_less_fits (low -ℤ offset) (apart low offset small_low small)
 
 pub overflow_add-result : goal.overflow_add-result
 overflow_add-result c =

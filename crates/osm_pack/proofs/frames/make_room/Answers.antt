@@ -18,8 +18,10 @@ returns-in_ok-close_into-clause-made g c = λ e is fits.
     record {
       joins = λ es h. rw (only_none _ es closed.empty h) (alone e fits);
       pending = λ es h. subst (λ (q : Bool). Holds c.close_into.new.block (if q then es else [])) (sym (cut es h)) closed.empty;
-      written = λ es h. subst (λ (q : Bool). Added g.D.Drain c.args.drain.now (if q then [] else block_frame es) c.close_into.new.drain) (sym (cut es h)) (closed.written es h);
-      front = λ es h. subst (λ (q : Bool). IsFront (g.D.Drain.taken c.args.drain.now) (g.D.Drain.taken c.close_into.new.drain) (if q then [] else block_frame es)) (sym (cut es h)) (closed.front es h);
+      writes = λ es h. record {
+        written = subst (λ (q : Bool). Added g.D.Drain c.args.drain.now (if q then [] else block_frame es) c.close_into.new.drain) (sym (cut es h)) (closed.writes es h).written;
+        front = subst (λ (q : Bool). IsFront (g.D.Drain.taken c.args.drain.now) (g.D.Drain.taken c.close_into.new.drain) (if q then [] else block_frame es)) (sym (cut es h)) (closed.writes es h).front;
+      };
     }
 
 pub returns-else-not-takes-clause-made : goal.returns-else-not-takes-clause-made
@@ -29,8 +31,7 @@ returns-else-not-takes-clause-made g c = λ e is fits.
     record {
       joins = joins;
       pending = λ es h. subst (λ (q : Bool). Holds c.args.block.now (if q then es else [])) (sym (joins es h)) h;
-      written = written;
-      front = λ es h. front_whole _ _ _ (written es h).told;
+      writes = λ es h. record { written = written es h; front = front_whole _ _ _ (written es h).told };
     }
 
 pub returns-in_err-close_into-clause-made : goal.returns-in_err-close_into-clause-made
@@ -39,7 +40,8 @@ returns-in_err-close_into-clause-made g c = λ e is fits.
     rw (p.1, p.2) (record {
       joins = tt;
       pending = λ es h. tt;
-      written = λ es h. tt;
-      front = λ es h.
-          subst (λ (q : Bool). IsFront (g.D.Drain.taken c.args.drain.now) (g.D.Drain.taken c.close_into.new.drain) (if q then [] else block_frame es)) (sym (sym (c.takes.ensures es e is h) ∙ c.if-not-takes.true)) (c.close_into.ensures.front es h);
+      writes = λ es h. record {
+        written = tt;
+        front = subst (λ (q : Bool). IsFront (g.D.Drain.taken c.args.drain.now) (g.D.Drain.taken c.close_into.new.drain) (if q then [] else block_frame es)) (sym (sym (c.takes.ensures es e is h) ∙ c.if-not-takes.true)) (c.close_into.ensures.writes es h).front;
+      };
     })

@@ -13,7 +13,7 @@ returns-in_err-head-clause-refused g c =
     let header = c.read_bytes.new.buf.items in
     let p = err_from_is_err_and c.from_residual-in_err-head.result c.from_residual-in_err-head.ensures.1 in
     let long : length header ≡ big_number 4 c.args.prefix.now = omega (arith, c.in_ok-read_bytes.ensures.len, c.read_u32.ensures) in
-    rw (p.1, p.2) (whatever_follows _ _ _ _ header _ c.in_ok-read_bytes.ensures.bytes c.in_ok-read_bytes.ensures.passed (λ rest. header_unfit c.args.start.had_header c.args.start.place c.args.prefix.now header rest c.in_err-head.field-0.0 long (ap (λ (l : List ℕ). head_of (c.args.start.place + 4) l) (sym c.deref.ensures.value) ∙ sym c.in_err-head.ensures.exact)))
+    rw (p.1, p.2) (whatever_follows _ _ _ _ header _ c.in_ok-read_bytes.ensures.supplied.told c.in_ok-read_bytes.ensures.supplied.logged (λ rest. header_unfit c.args.start.had_header c.args.start.place c.args.prefix.now header rest c.in_err-head.field-0.0 long (ap (λ (l : List ℕ). head_of (c.args.start.place + 4) l) (sym c.deref.ensures.value) ∙ sym c.in_err-head.ensures.exact)))
 
 pub returns-in-Some-clause-refused : goal.returns-in-Some-clause-refused
 returns-in-Some-clause-refused g c =
@@ -23,4 +23,4 @@ returns-in-Some-clause-refused g c =
     let says = ap (λ (l : List ℕ). head_of (c.args.start.place + 4) l) (sym c.deref.ensures.value) ∙ sym c.in_ok-head.ensures.exact in
     let ends : c.args.start.place + 4 + c.len.result + c.from.result ≡ c.args.start.place + 4 + length header + head.size = omega (arith, c.len.ensures, c.from.ensures, c.read_bytes.new.buf.ok.0) in
     let misplaced = ap (λ (n : ℕ). least (order_faults (Some FILE_LIMIT) c.args.start.had_header c.args.start.place head.kind n)) (sym ends) ∙ sym c.judge_order.ensures ∙ c.in-Some.is in
-    whatever_follows _ _ _ _ header _ c.in_ok-read_bytes.ensures.bytes c.in_ok-read_bytes.ensures.passed (λ rest. header_misplaced c.args.start.had_header c.args.start.place c.args.prefix.now header rest head c.in-Some.fault long says misplaced)
+    whatever_follows _ _ _ _ header _ c.in_ok-read_bytes.ensures.supplied.told c.in_ok-read_bytes.ensures.supplied.logged (λ rest. header_misplaced c.args.start.had_header c.args.start.place c.args.prefix.now header rest head c.in-Some.fault long says misplaced)

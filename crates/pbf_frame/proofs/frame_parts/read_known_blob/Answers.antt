@@ -7,4 +7,4 @@ pub returns-in-Some-clause-refused : goal.returns-in-Some-clause-refused
 returns-in-Some-clause-refused g c =
     let blob = c.read_bytes.new.buf.items in
     let long : length blob ≡ c.args.size = omega (arith, c.in_ok-read_bytes.ensures.len) in
-    whatever_follows _ _ _ _ blob _ c.in_ok-read_bytes.ensures.bytes c.in_ok-read_bytes.ensures.passed (λ rest. blob_unfit c.args.size c.args.at blob rest c.in-Some.fault long (ap (λ (l : List ℕ). blob_fault c.args.at l) (sym c.deref.ensures.value) ∙ sym c.judge_blob.ensures ∙ c.in-Some.is))
+    whatever_follows _ _ _ _ blob _ c.in_ok-read_bytes.ensures.supplied.told c.in_ok-read_bytes.ensures.supplied.logged (λ rest. blob_unfit c.args.size c.args.at blob rest c.in-Some.fault long (ap (λ (l : List ℕ). blob_fault c.args.at l) (sym c.deref.ensures.value) ∙ sym c.judge_blob.ensures ∙ c.in-Some.is))

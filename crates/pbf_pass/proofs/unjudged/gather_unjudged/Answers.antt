@@ -3,7 +3,7 @@ use Rattle.std.proofs.lemmas.Result.{err_from_is_err_and}
 use Rattle.pbf_frame.specs.Verdict.{judged_known}
 use Rattle.pbf_pass.specs.Unjudged.{GathersFile}
 use Rattle.pbf_pass.specs.Judged.{judged_file}
-use Rattle.pbf_pass.proofs.AgainLemmas.{gathers_file, stops_visited, faulty_visited}
+use Rattle.pbf_pass.proofs.UnjudgedLemmas.{gathers_file, stops_visited, faulty_visited}
 use Rattle.pbf_pass.proofs.GivenLemmas.{gave_file_less}
 use Rattle.pbf_pass.proofs.unjudged.gather_unjudged.Goals as goal
 

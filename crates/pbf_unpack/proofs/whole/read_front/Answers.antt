@@ -18,17 +18,17 @@ returns-then-length-ge-HEADER_LIMIT-clause-means g c =
 pub returns-then-len-length-clause-took : goal.returns-then-len-length-clause-took
 returns-then-len-length-clause-took g c =
     took_two (g.F.Feed.has_passed c.args.feed.now) (g.F.Feed.has_passed c.fill_vec.new.feed) (g.F.Feed.has_passed c.fill_vec-2.new.feed) (g.F.Feed.remaining c.args.feed.now) (g.F.Feed.remaining c.fill_vec.new.feed) (g.F.Feed.remaining c.fill_vec-2.new.feed) c.fill_vec.new.buf.items c.fill_vec-2.new.buf.items c.extend_from_slice.new.self.items
-    (search rules) c.in_ok-fill_vec.ensures.bytes c.in_ok-fill_vec.ensures.passed c.in_ok-fill_vec-2.ensures.bytes c.in_ok-fill_vec-2.ensures.passed
+    (search rules) c.in_ok-fill_vec.ensures.supplied.told c.in_ok-fill_vec.ensures.supplied.logged c.in_ok-fill_vec-2.ensures.supplied.told c.in_ok-fill_vec-2.ensures.supplied.logged
 
 pub returns-in-Ok-clause-took : goal.returns-in-Ok-clause-took
 returns-in-Ok-clause-took g c =
     took_two (g.F.Feed.has_passed c.args.feed.now) (g.F.Feed.has_passed c.fill_vec.new.feed) (g.F.Feed.has_passed c.fill_vec-2.new.feed) (g.F.Feed.remaining c.args.feed.now) (g.F.Feed.remaining c.fill_vec.new.feed) (g.F.Feed.remaining c.fill_vec-2.new.feed) c.fill_vec.new.buf.items c.fill_vec-2.new.buf.items c.extend_from_slice.new.self.items
-    (search rules) c.in_ok-fill_vec.ensures.bytes c.in_ok-fill_vec.ensures.passed c.in_ok-fill_vec-2.ensures.bytes c.in_ok-fill_vec-2.ensures.passed
+    (search rules) c.in_ok-fill_vec.ensures.supplied.told c.in_ok-fill_vec.ensures.supplied.logged c.in_ok-fill_vec-2.ensures.supplied.told c.in_ok-fill_vec-2.ensures.supplied.logged
 
 pub returns-in-Err-clause-took : goal.returns-in-Err-clause-took
 returns-in-Err-clause-took g c =
     took_two (g.F.Feed.has_passed c.args.feed.now) (g.F.Feed.has_passed c.fill_vec.new.feed) (g.F.Feed.has_passed c.fill_vec-2.new.feed) (g.F.Feed.remaining c.args.feed.now) (g.F.Feed.remaining c.fill_vec.new.feed) (g.F.Feed.remaining c.fill_vec-2.new.feed) c.fill_vec.new.buf.items c.fill_vec-2.new.buf.items c.extend_from_slice.new.self.items
-    (search rules) c.in_ok-fill_vec.ensures.bytes c.in_ok-fill_vec.ensures.passed c.in_ok-fill_vec-2.ensures.bytes c.in_ok-fill_vec-2.ensures.passed
+    (search rules) c.in_ok-fill_vec.ensures.supplied.told c.in_ok-fill_vec.ensures.supplied.logged c.in_ok-fill_vec-2.ensures.supplied.told c.in_ok-fill_vec-2.ensures.supplied.logged
 
 pub returns-then-len-length-clause-means : goal.returns-then-len-length-clause-means
 returns-then-len-length-clause-means g c =

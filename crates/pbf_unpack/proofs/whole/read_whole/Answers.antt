@@ -15,13 +15,13 @@ pub returns-then-len-head-clause-took : goal.returns-then-len-head-clause-took
 returns-then-len-head-clause-took g c =
     let first = c.in_ok-head.ensures.took in
     took_two (g.F.Feed.has_passed c.args.feed.now) (g.F.Feed.has_passed c.read_front.new.feed) (g.F.Feed.has_passed c.fill_vec.new.feed) (g.F.Feed.remaining c.args.feed.now) (g.F.Feed.remaining c.read_front.new.feed) (g.F.Feed.remaining c.fill_vec.new.feed) c.read_front.new.front.items c.fill_vec.new.buf.items (c.read_front.new.front.items ++ c.fill_vec.new.buf.items)
-    refl first.told first.logged c.in_ok-fill_vec.ensures.bytes c.in_ok-fill_vec.ensures.passed
+    refl first.told first.logged c.in_ok-fill_vec.ensures.supplied.told c.in_ok-fill_vec.ensures.supplied.logged
 
 pub returns-clause-took : goal.returns-clause-took
 returns-clause-took g c =
     let first = c.in_ok-head.ensures.took in
     took_two (g.F.Feed.has_passed c.args.feed.now) (g.F.Feed.has_passed c.read_front.new.feed) (g.F.Feed.has_passed c.fill_vec.new.feed) (g.F.Feed.remaining c.args.feed.now) (g.F.Feed.remaining c.read_front.new.feed) (g.F.Feed.remaining c.fill_vec.new.feed) c.read_front.new.front.items c.fill_vec.new.buf.items (c.read_front.new.front.items ++ c.fill_vec.new.buf.items)
-    refl first.told first.logged c.in_ok-fill_vec.ensures.bytes c.in_ok-fill_vec.ensures.passed
+    refl first.told first.logged c.in_ok-fill_vec.ensures.supplied.told c.in_ok-fill_vec.ensures.supplied.logged
 
 pub returns-then-len-head-clause-means : goal.returns-then-len-head-clause-means
 returns-then-len-head-clause-means g c =

@@ -1,5 +1,5 @@
 use Rattle.pbf_wire.specs.Varint.{shortest}
-use Rattle.pbf_wire.proofs.Spellings.{again}
+use Rattle.pbf_wire.proofs.Spellings.{spelling_is_read}
 use Rattle.pbf_wire.proofs.Shortest.{shortest_spells, shortest_least}
 use Rattle.pbf_wire.proofs.laws.shortest_is_shortest.Goals as goal
 
@@ -10,4 +10,4 @@ pub returns-clause-least : goal.returns-clause-least
 returns-clause-least c = shortest_least
 
 pub returns-clause-reads_back : goal.returns-clause-reads_back
-returns-clause-reads_back c = λ v rest lt. again (shortest v) rest v (shortest_spells v lt)
+returns-clause-reads_back c = λ v rest lt. spelling_is_read (shortest v) rest v (shortest_spells v lt)

@@ -12,7 +12,7 @@ use Rattle.pbfcut.proofs.pick.unpicked.Goals as goal
 
 pub ids-smaller : goal.ids-smaller
 ids-smaller c =
-    fewer_left (sums_left c.ids.ids) (sums_left c.next.new.self) c.in-Some.id c.pass_inside-count.result (sym c.pass_inside-count.ensures.passed ∙ c.in-Some.ensures.steps)
+    fewer_left (sums_left c.ids.ids) (sums_left c.next.new.self) c.in-Some.id c.pass_inside-count.result (sym c.pass_inside-count.ensures.past.passed ∙ c.in-Some.ensures.steps)
 
 pub ids-preserved : goal.ids-preserved
 ids-preserved c =
@@ -23,8 +23,8 @@ ids-preserved c =
     let m = c.pass_inside-count.result in
     let fits : SFits w64 id = search rules in
     let absent = subst (λ (p : Picker). NoneInside p c.absent.result) so_far.picker c.absent.ensures in
-    let inside = more_inside picker c.ids.count m (sums_left c.ids.ids) nodes c.absent.result absent c.pass_inside-count.ensures.inside so_far.ids_are so_far.none in
-    let turn = sym c.pass_inside-count.ensures.passed ∙ c.in-Some.ensures.steps in
+    let inside = more_inside picker c.ids.count m (sums_left c.ids.ids) nodes c.absent.result absent c.pass_inside-count.ensures.past.alike so_far.ids_are so_far.none in
+    let turn = sym c.pass_inside-count.ensures.past.passed ∙ c.in-Some.ensures.steps in
     let begin = subst (λ (l : List ℤ). BeginWithIds l (drop (c.ids.count + m) nodes)) turn inside.1 in
     let not_picked = ap (λ (z : ℤ). picks_id picker z) (sym (to_z-of_z w64 id fits)) ∙ (ap (λ (p : Picker). picks_id p (to_z w64 (of_z w64 id))) (sym so_far.picker) ∙ sym c.picks_id.ensures.picked ∙ c.if-picks_id.false) in
     let more = one_more picker id (sums_left c.next.new.self) (c.ids.count + m) nodes not_picked begin inside.0 in
@@ -42,11 +42,11 @@ returns-in_default-clause-none c =
     let picker = c.args.picker.now in
     let m = c.pass_inside-count.result in
     let absent = subst (λ (p : Picker). NoneInside p c.absent.result) so_far.picker c.absent.ensures in
-    let inside = more_inside picker c.ids.count m (sums_left c.ids.ids) nodes c.absent.result absent c.pass_inside-count.ensures.inside so_far.ids_are so_far.none in
-    none_more picker (c.ids.count + m) (drop m (sums_left c.ids.ids)) nodes (sym c.pass_inside-count.ensures.passed ∙ c.in_default.ensures.steps.0) inside.1 inside.0
+    let inside = more_inside picker c.ids.count m (sums_left c.ids.ids) nodes c.absent.result absent c.pass_inside-count.ensures.past.alike so_far.ids_are so_far.none in
+    none_more picker (c.ids.count + m) (drop m (sums_left c.ids.ids)) nodes (sym c.pass_inside-count.ensures.past.passed ∙ c.in_default.ensures.steps.0) inside.1 inside.0
 
 pub returns-then-count-eq-MOST_PASSED-clause-none : goal.returns-then-count-eq-MOST_PASSED-clause-none
 returns-then-count-eq-MOST_PASSED-clause-none c =
     let so_far = c.ids.invariant in
     let absent = subst (λ (p : Picker). NoneInside p c.absent.result) so_far.picker c.absent.ensures in
-    (more_inside c.args.picker.now c.ids.count c.pass_inside-count.result (sums_left c.ids.ids) (dense_left c.args.dense.now) c.absent.result absent c.pass_inside-count.ensures.inside so_far.ids_are so_far.none).0
+    (more_inside c.args.picker.now c.ids.count c.pass_inside-count.result (sums_left c.ids.ids) (dense_left c.args.dense.now) c.absent.result absent c.pass_inside-count.ensures.past.alike so_far.ids_are so_far.none).0

@@ -7,7 +7,7 @@ use Rattle.pbf_pass.specs.Payload.{primitive_block}
 use Rattle.pbfcut.specs.Pick.{picks_of}
 use Rattle.pbfcut.proofs.PackingLemmas.{keeps_same}
 use Rattle.pbfcut.proofs.PickingLemmas.{begins_none, picked_runs}
-use Rattle.pbfcut.proofs.WritingLemmas.{stops_again}
+use Rattle.pbfcut.proofs.WritingLemmas.{fails_at_unjudged_payload}
 use Rattle.pbfcut.proofs.write.pack_block.Goals as goal
 
 pub returns-in_err-block : goal.returns-in_err-block
@@ -29,7 +29,7 @@ returns-in_err-pack_runs g c =
     let here : block_fault block.at block.payload.now ≡ block_fault frame.payload_at frame.payload.now = ap₂ (λ (at : ℕ) (m : List ℕ). block_fault at m) is.1 is.0 in
     rw (p.1, p.2) (record {
       packed = tt;
-      stopped = stops_again g.D.Drain c.args.entities.now.number pick (primitive_block frame.payload_at frame.payload.now) (joined_runs (runs_left c.runs_among.result)) _ _ _ (λ sound. c.runs_among.ensures.fits (here ∙ sound))
+      stopped = fails_at_unjudged_payload g.D.Drain c.args.entities.now.number pick (primitive_block frame.payload_at frame.payload.now) (joined_runs (runs_left c.runs_among.result)) _ _ _ (λ sound. c.runs_among.ensures.fits (here ∙ sound))
           (λ sound. picked_runs pick c.all.result (joined_runs (runs_left c.runs_among.result)) frame.payload_at block.at frame.payload.now block.payload.now c.all.ensures is (c.runs_among.ensures.exact (here ∙ sound))) c.in_err-pack_runs.ensures.stopped;
       keeps = c.in_err-pack_runs.ensures.keeps;
     })

@@ -1,11 +1,11 @@
 use Rattle.std.proofs.Common.{◌≡◌, refl, ap, ◌+◌, ◌||◌, ℕ, rules}
 use Rattle.pbf_frame.specs.Frames.{is_header}
-use Rattle.pbf_frame.proofs.Advancing.{sees_end_again, sees_frame, sees_end, sees_stop}
+use Rattle.pbf_frame.proofs.Advancing.{sees_end_once_ended, sees_frame, sees_end, sees_stop}
 use Rattle.pbf_frame.proofs.reader.FrameReader.advance.Goals.{then-self, else-self}
 use Rattle.pbf_frame.proofs.reader.FrameReader.advance.Goals as goal
 
 pub returns-in-Ended-clause-next : goal.returns-in-Ended-clause-next
-returns-in-Ended-clause-next g c = sees_end_again _ c.in-Ended.is
+returns-in-Ended-clause-next g c = sees_end_once_ended _ c.in-Ended.is
 
 pub returns-after-self-clause-next : goal.returns-after-self-clause-next
 returns-after-self-clause-next g c =

@@ -1,6 +1,6 @@
 use Rattle.std.proofs.Common.{rules, ◌∙◌, ap, ◌+ℤ◌, w64}
 use mir.Val.{SFits}
-use Rattle.pbf_wire.proofs.RoomyLemmas.{room_stored, total_after}
+use Rattle.pbf_wire.proofs.SumRoomLemmas.{room_stored, total_after}
 use Rattle.pbf_wire.proofs.sums.Sums.add_short.Goals as goal
 
 pub returns-clause-total : goal.returns-clause-total

@@ -1,7 +1,7 @@
 use Rattle.std.proofs.Common.{rules, arith, w64}
 use mir.Val.{SFits}
 use Rattle.std.proofs.lemmas.Int.{to_z-of_z}
-use Rattle.pbf_wire.proofs.RoomyLemmas.{next_is}
+use Rattle.pbf_wire.proofs.SumRoomLemmas.{next_is}
 use Rattle.pbf_wire.proofs.sums.Sums.next_short.Goals as goal
 
 pub returns : goal.returns

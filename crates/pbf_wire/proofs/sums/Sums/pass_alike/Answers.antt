@@ -1,10 +1,16 @@
-use Rattle.std.proofs.Common.{rules, arith, ◌≡◌, ◌-◌, ◌∷◌, suc, sym, ap, ◌∙◌, w64}
+use Rattle.std.proofs.Common.{rules, arith, ◌≡◌, ◌<◌, ◌-◌, ◌^◌, length, ◌∷◌, suc, sym, ap, ◌∙◌, w64}
 use Rattle.std.proofs.lemmas.Int.{to_z-of_z}
 use mir.Val.{SFits}
 use Rattle.pbf_wire.specs.Cursors.{sums_left}
-use Rattle.pbf_wire.specs.Spans.{is_in}
-use Rattle.pbf_wire.proofs.SpanLemmas.{IsPast, one_past, same_test}
+use Rattle.pbf_wire.specs.Spans.{is_in, ArePassed}
+use Rattle.pbf_wire.proofs.SpanLemmas.{one_past, same_test, values_fit}
 use Rattle.pbf_wire.proofs.sums.Sums.pass_alike.Goals as goal
+
+pub alike-init : goal.alike-init
+alike-init c =
+    let all = c.args.self.now in
+    let fits : length (sums_left all) < 2 ^ 64 = omega (arith, values_fit all c.bytes_left-bytes.result c.bytes_left-bytes.ensures) in
+    record { past = record { passed = search rules; alike = search rules; there = omega arith; few = fits }; fewer = omega arith }
 
 pub alike-preserved : goal.alike-preserved
 alike-preserved c =
@@ -15,5 +21,5 @@ alike-preserved c =
     let one_more : c.args.most - (c.alike.left - 1) ≡ suc (c.args.most - c.alike.left) = omega (arith, c.alike.invariant.fewer, c.alike-test.true) in
     let there : is_in c.args.span value ≡ c.args.is_there =
     ap (is_in c.args.span) (sym (to_z-of_z w64 value fits)) ∙ sym c.has.ensures ∙ same_test c.has.result c.args.is_there c.if-has-is_there.false in
-    let before : IsPast c.args.span c.args.is_there values (value ∷ left) (c.args.most - c.alike.left) = (let e = c.in-Some.ensures in rw (sym e) c.alike.invariant.past) in
+    let before : ArePassed c.args.span c.args.is_there values (value ∷ left) (c.args.most - c.alike.left) = (let e = c.in-Some.ensures in rw (sym e) c.alike.invariant.past) in
     record { past = rw one_more (one_past c.args.span c.args.is_there values left value (c.args.most - c.alike.left) before there); fewer = search rules }

@@ -1,6 +1,6 @@
 use Rattle.std.proofs.Common.{List, ℕ, ◌+◌, drop, ap, ◌∙◌}
 use Rattle.pbf_wire.specs.Cursors.{numbers_left}
-use Rattle.pbf_wire.proofs.RoomyLemmas.{values, eight_times}
+use Rattle.pbf_wire.proofs.SumRoomLemmas.{values, eight_times}
 use Rattle.pbf_wire.proofs.sums.Sums.pass_eight.Goals as goal
 
 pub returns-clause-passed : goal.returns-clause-passed

@@ -1,6 +1,6 @@
 use Rattle.std.proofs.Common.{ap, map}
-use Rattle.pbf_wire.proofs.RoomyLemmas.{same_again}
+use Rattle.pbf_wire.proofs.SumRoomLemmas.{zero_gives_last}
 use Rattle.pbf_wire.proofs.sums.Sums.pass_same.Goals as goal
 
 pub returns-clause-passed : goal.returns-clause-passed
-returns-clause-passed c = λ zero. same_again c.args.self.now c.pass_short_zero.new.self (ap (map (λ p. p.0)) (c.pass_short_zero.ensures.passed zero))
+returns-clause-passed c = λ zero. zero_gives_last c.args.self.now c.pass_short_zero.new.self (ap (map (λ p. p.0)) (c.pass_short_zero.ensures.passed zero))

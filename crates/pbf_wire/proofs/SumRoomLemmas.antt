@@ -65,9 +65,9 @@ next_is old new entries number some small numbers total_is entries_are limit_is 
     rw (numbers, total_is, entries_are, limit_is, narrow_is) (value_after old.limit old.total old.room number old.narrow (numbers_left entries) old.roomy some small)
 
 -- an entry 0 gives the last value again
-pub same_again : (sums : Sums) (entries : Column) → numbers_left sums.entries ≡ 0 ∷ numbers_left entries
+pub zero_gives_last : (sums : Sums) (entries : Column) → numbers_left sums.entries ≡ 0 ∷ numbers_left entries
     → sums_left sums ≡ sums.total ∷ sums_within sums.limit sums.total (map (delta_in sums.narrow) (numbers_left entries))
-same_again sums entries numbers =
+zero_gives_last sums entries numbers =
     let none : (narrow : Bool) → delta_in narrow 0 ≡ pos 0 = λ narrow. delta_short narrow 0 (omega arith) in
     let still : sums.total +ℤ pos 0 ≡ sums.total = omega (arith, ints) in
     let within : IsWithin sums.limit (sums.total +ℤ pos 0) = rw still (room_within sums.limit sums.total sums.room sums.roomy) in
@@ -79,15 +79,15 @@ module _ (limit total : ℤ) (room : ℕ) (narrow : Bool) (roomy : HasRoom limit
   abbrev pub values : List ℕ → List ℤ
   values ns = sums_within limit total (map (delta_in narrow) ns)
 
-  again : (n : ℕ) (ns : List ℕ) → drop (suc n) (values (0 ∷ ns)) ≡ drop n (values ns)
-  again n ns =
+  once : (n : ℕ) (ns : List ℕ) → drop (suc n) (values (0 ∷ ns)) ≡ drop n (values ns)
+  once n ns =
       let still : total +ℤ pos 0 ≡ total = omega (arith, ints) in
       let within : IsWithin limit (total +ℤ pos 0) = rw still (room_within limit total room roomy) in
       let ds = map (delta_in narrow) ns in
       ap (drop (suc n)) (ap (λ (d : ℤ). sums_within limit total (d ∷ ds)) (delta_short narrow 0 (omega arith)) ∙ ap (then_more limit ds) (added_within limit total (pos 0) within) ∙ ap (λ (t : ℤ). t ∷ sums_within limit t ds) still)
 
   twice : (n : ℕ) (ns : List ℕ) → drop (suc (suc n)) (values (0 ∷ 0 ∷ ns)) ≡ drop n (values ns)
-  twice n ns = again (suc n) (0 ∷ ns) ∙ again n ns
+  twice n ns = once (suc n) (0 ∷ ns) ∙ once n ns
 
   four_times : (n : ℕ) (ns : List ℕ) → drop (suc (suc (suc (suc n)))) (values (0 ∷ 0 ∷ 0 ∷ 0 ∷ ns)) ≡ drop n (values ns)
   four_times n ns = twice (suc (suc n)) (0 ∷ 0 ∷ ns) ∙ twice n ns
