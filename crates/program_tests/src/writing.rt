@@ -57,14 +57,18 @@ fn writes(alloc: Global, reader: &mut Reader, pass: &mut Pass, packer: &mut Writ
     packer.has_header() && matches!(step_write(alloc, reader, pass, None, packer), Ok(true))
 }
 
-/// Whether both steps that write all go through a frame each.
-fn steps_write(alloc: Global) -> Result<bool, Stop> {
-    let mut packer = begun(alloc)?;
+/// Whether both steps that write all go through a frame each, into this packer.
+fn both_write(alloc: Global, packer: &mut Writer) -> bool {
     let mut reader = FrameReader::new(alloc, small());
     let mut pass = Pass::new();
-    let header = packs(alloc, &mut reader, &mut pass, &mut packer);
-    let way = writes(alloc, &mut reader, &mut pass, &mut packer);
-    Ok(header && way && pass.counts.ways == 1)
+    let header = packs(alloc, &mut reader, &mut pass, packer);
+    let way = writes(alloc, &mut reader, &mut pass, packer);
+    header && way && pass.counts.ways == 1
+}
+
+fn steps_write(alloc: Global) -> Result<bool, Stop> {
+    let mut packer = begun(alloc)?;
+    Ok(both_write(alloc, &mut packer))
 }
 
 fn writes_chosen(
@@ -81,14 +85,22 @@ fn writes_chosen(
         )
 }
 
-/// Whether the step that writes what was chosen goes through both frames.
+/// Whether the step that writes what was chosen goes through both frames, into this packer.
+fn both_write_chosen(alloc: Global, chosen: &ChosenParents, packer: &mut Writer) -> bool {
+    let mut reader = FrameReader::new(alloc, small());
+    let header = writes_chosen(alloc, &mut reader, chosen, packer);
+    let way = writes_chosen(alloc, &mut reader, chosen, packer);
+    header && way
+}
+
+fn writes_into_a_packer(alloc: Global, chosen: &ChosenParents) -> Result<bool, Stop> {
+    let mut packer = begun(alloc)?;
+    Ok(both_write_chosen(alloc, chosen, &mut packer))
+}
+
 fn step_writes_chosen(alloc: Global) -> Result<bool, Stop> {
     let chosen = nothing(alloc)?;
-    let mut packer = begun(alloc)?;
-    let mut reader = FrameReader::new(alloc, small());
-    let header = writes_chosen(alloc, &mut reader, &chosen, &mut packer);
-    let way = writes_chosen(alloc, &mut reader, &chosen, &mut packer);
-    Ok(header && way)
+    writes_into_a_packer(alloc, &chosen)
 }
 
 #[test]
