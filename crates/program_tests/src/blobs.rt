@@ -41,7 +41,19 @@ fn lists_as(
     Ok(listed == outcome && sink.bytes() == text.as_bytes())
 }
 
-/// Lists the input whole, one byte a read and in pieces of seven.
+/// Whether it is listed so whole, one byte a read and in pieces of seven.
+fn lists_in_each_way(
+    alloc: Global,
+    input: &[u8],
+    text: &str,
+    outcome: Result<u64, Stop>,
+) -> Result<bool, AllocError> {
+    let whole = lists_as(alloc, input, &[], text, outcome)?;
+    let bytewise = lists_as(alloc, input, &[1], text, outcome)?;
+    let in_sevens = lists_as(alloc, input, &[7], text, outcome)?;
+    Ok(whole && bytewise && in_sevens)
+}
+
 fn lists(
     rt: &(impl Abort + AllocGlobal),
     input: &[u8],
@@ -49,16 +61,8 @@ fn lists(
     outcome: Result<u64, Stop>,
 ) -> Result<(), Fail> {
     assert!(rt;
-        lists_as(rt.alloc(), input, &[], text, outcome)?,
-        "whole: {text}"
-    );
-    assert!(rt;
-        lists_as(rt.alloc(), input, &[1], text, outcome)?,
-        "byte by byte: {text}"
-    );
-    assert!(rt;
-        lists_as(rt.alloc(), input, &[7], text, outcome)?,
-        "in sevens: {text}"
+        lists_in_each_way(rt.alloc(), input, text, outcome)?,
+        "{text}"
     );
     Ok(())
 }

@@ -29,6 +29,21 @@ fn file(alloc: Global, frame: &[u8], last: u8) -> Result<Vec<u8>, AllocError> {
     Ok(bytes)
 }
 
+/// Whether a conversion ends so, if the passes read these bytes.
+fn converts(
+    alloc: Global,
+    one: &[u8],
+    other: &[u8],
+    outcome: Result<Counts, Stop>,
+) -> Result<bool, AllocError> {
+    let mut first = Pieces::new(one, &[], None);
+    let mut second = Pieces::new(other, &[], None);
+    let mut sink = Sink::new(alloc, 4_096, 0)?;
+    let hasher: BuildHasherDefault<FoldHasher> = BuildHasherDefault::new();
+    let ended = convert(alloc, &mut first, &mut second, &mut sink, hasher);
+    Ok(ended == outcome)
+}
+
 /// Whether a conversion ends so, if the file's last byte is the first of these in pass 1 and the second in pass 2.
 fn ends_so(
     alloc: Global,
@@ -38,12 +53,7 @@ fn ends_so(
 ) -> Result<bool, AllocError> {
     let one = file(alloc, frame, lasts.0)?;
     let other = file(alloc, frame, lasts.1)?;
-    let mut first = Pieces::new(&one, &[], None);
-    let mut second = Pieces::new(&other, &[], None);
-    let mut sink = Sink::new(alloc, 4_096, 0)?;
-    let hasher: BuildHasherDefault<FoldHasher> = BuildHasherDefault::new();
-    let ended = convert(alloc, &mut first, &mut second, &mut sink, hasher);
-    Ok(ended == outcome)
+    converts(alloc, &one, &other, outcome)
 }
 
 #[test]

@@ -184,33 +184,41 @@ fn joins(rt: &(impl Abort + AllocGlobal), words: &[&str], expected: &[&str]) -> 
 
 #[test]
 fn boxes_that_are_words_of_their_own(rt: HostRuntime) -> Result<(), Fail> {
-    joins(&rt, &[], &[])?;
-    joins(
-        &rt,
-        &["extract", "--box", "-0.5,1,2,3", "a"],
-        &["extract", "--box=-0.5,1,2,3", "a"],
-    )?;
-    joins(&rt, &["--box", "-.5"], &["--box=-.5"])?;
-    joins(&rt, &["--bbox", "-.5"], &["--bbox=-.5"])?;
-    joins(
-        &rt,
-        &["--box", "--box", "-9", "-9"],
-        &["--box", "--box=-9", "-9"],
-    )?;
-    joins(&rt, &["--box", "0,1,2,3", "a"], &["--box", "0,1,2,3", "a"])?;
-    joins(&rt, &["--box", "-h"], &["--box", "-h"])?;
-    joins(&rt, &["--box", "-"], &["--box", "-"])?;
-    joins(&rt, &["--dates", "-1"], &["--dates", "-1"])?;
-    joins(&rt, &["check", "--box"], &["check", "--box"])
+    for (words, expected) in [
+        ([].as_slice(), [].as_slice()),
+        (
+            &["extract", "--box", "-0.5,1,2,3", "a"],
+            &["extract", "--box=-0.5,1,2,3", "a"],
+        ),
+        (&["--box", "-.5"], &["--box=-.5"]),
+        (&["--bbox", "-.5"], &["--bbox=-.5"]),
+        (
+            &["--box", "--box", "-9", "-9"],
+            &["--box", "--box=-9", "-9"],
+        ),
+        (&["--box", "0,1,2,3", "a"], &["--box", "0,1,2,3", "a"]),
+        (&["--box", "-h"], &["--box", "-h"]),
+        (&["--box", "-"], &["--box", "-"]),
+        (&["--dates", "-1"], &["--dates", "-1"]),
+        (&["check", "--box"], &["check", "--box"]),
+    ] {
+        joins(&rt, words, expected)?;
+    }
+    Ok(())
 }
 
 #[test]
 fn help_that_is_a_word(rt: HostRuntime) -> Result<(), Fail> {
-    joins(&rt, &["help"], &["--help"])?;
-    joins(&rt, &["help", "show"], &["show", "--help"])?;
-    joins(&rt, &["help", "--box", "-9"], &["--box=-9", "--help"])?;
-    joins(&rt, &["show", "help"], &["show", "help"])?;
-    joins(&rt, &["helps"], &["helps"])
+    for (words, expected) in [
+        (["help"].as_slice(), ["--help"].as_slice()),
+        (&["help", "show"], &["show", "--help"]),
+        (&["help", "--box", "-9"], &["--box=-9", "--help"]),
+        (&["show", "help"], &["show", "help"]),
+        (&["helps"], &["helps"]),
+    ] {
+        joins(&rt, words, expected)?;
+    }
+    Ok(())
 }
 
 /// Whether the text is a refusal of words, whose first line is this.
@@ -244,27 +252,31 @@ fn refuses_with(
 #[test]
 fn words_that_are_no_command(rt: HostRuntime) -> Result<(), Fail> {
     let missing = "error: the following required arguments were not provided:";
-    refuses_with(&rt, &["cut", "a"], "error: unrecognized subcommand 'cut'")?;
-    refuses_with(&rt, &["show"], missing)?;
-    refuses_with(&rt, &["convert", "a"], missing)?;
-    refuses_with(&rt, &["extract", "a", "b"], missing)?;
-    refuses_with(
-        &rt,
-        &["check", "--dates", "a"],
-        "error: unexpected argument '--dates' found",
-    )?;
-    let with_output = "error: unexpected argument '-o' found";
-    refuses_with(&rt, &["convert", "a", "-o", "b"], with_output)?;
-    refuses_with(
-        &rt,
-        &["blobs", "a", "b"],
-        "error: unexpected argument 'b' found",
-    )?;
-    refuses_with(
-        &rt,
-        &[],
-        "error: 'pbfcut' requires a subcommand but one was not provided",
-    )
+    for (words, first_line) in [
+        (
+            ["cut", "a"].as_slice(),
+            "error: unrecognized subcommand 'cut'",
+        ),
+        (&["show"], missing),
+        (&["convert", "a"], missing),
+        (&["extract", "a", "b"], missing),
+        (
+            &["check", "--dates", "a"],
+            "error: unexpected argument '--dates' found",
+        ),
+        (
+            &["convert", "a", "-o", "b"],
+            "error: unexpected argument '-o' found",
+        ),
+        (&["blobs", "a", "b"], "error: unexpected argument 'b' found"),
+        (
+            &[],
+            "error: 'pbfcut' requires a subcommand but one was not provided",
+        ),
+    ] {
+        refuses_with(&rt, words, first_line)?;
+    }
+    Ok(())
 }
 
 fn has_parts(text: &str, parts: &[&str]) -> bool {
@@ -357,16 +369,20 @@ fn ends_so(alloc: Global, stop: Stop, text: &str, number: u8) -> Result<bool, Al
     Ok(ending.status() == number && is_message(alloc, &ending, text)?)
 }
 
-/// The stop has this line and this status.
+/// Whether the stop has this line and this status, by itself and as an ending.
+fn is_told(alloc: Global, stop: Stop, text: &str, number: u8) -> Result<bool, AllocError> {
+    let line_is = is_line(alloc, &stop, text)?;
+    let ending_is = ends_so(alloc, stop, text, number)?;
+    Ok(status(&stop) == number && line_is && ending_is)
+}
+
 fn told_as(
     rt: &(impl Abort + AllocGlobal),
     stop: Stop,
     text: &str,
     number: u8,
 ) -> Result<(), Fail> {
-    assert_eq!(rt; status(&stop), number);
-    assert!(rt; is_line(rt.alloc(), &stop, text)?, "not: {text}");
-    assert!(rt; ends_so(rt.alloc(), stop, text, number)?, "not: {text}");
+    assert!(rt; is_told(rt.alloc(), stop, text, number)?, "not: {text}");
     Ok(())
 }
 
@@ -389,12 +405,45 @@ fn stops(rt: HostRuntime) -> Result<(), Fail> {
 }
 
 /// Whether the ending has this message, without its line end, and this status.
-fn ends_with(alloc: Global, ending: &Ending, text: &str, number: u8) -> Result<bool, AllocError> {
-    Ok(ending.status() == number && is_message(alloc, ending, text)?)
+fn has_message(alloc: Global, ending: Ending, text: &str, number: u8) -> Result<bool, AllocError> {
+    Ok(ending.status() == number && is_message(alloc, &ending, text)?)
+}
+
+fn ends_with(
+    rt: &(impl Abort + AllocGlobal),
+    ending: Ending,
+    text: &str,
+    number: u8,
+) -> Result<(), Fail> {
+    assert!(rt;
+        has_message(rt.alloc(), ending, text, number)?,
+        "not: {text}"
+    );
+    Ok(())
+}
+
+#[test]
+fn endings_of_the_program(rt: HostRuntime) -> Result<(), Fail> {
+    ends_with(&rt, Ending::Box(BoxFault::Shape), "pbfcut: box: Shape", 2)?;
+    let last = Ending::Box(BoxFault::BottomOverTop);
+    ends_with(&rt, last, "pbfcut: box: BottomOverTop", 2)?;
+    ends_with(&rt, Ending::CannotOpen, "pbfcut: cannot open", 3)?;
+    ends_with(&rt, Ending::OutExists, "pbfcut: OUT exists", 3)?;
+    let pipe = "pbfcut: IN must be a file, not a pipe";
+    ends_with(&rt, Ending::IsPipe, pipe, 3)
+}
+
+/// What was wrong with words ends with its message and its status.
+#[test]
+fn endings_of_words(rt: HostRuntime) -> Result<(), Fail> {
+    let memory = Ending::from(CliFault::Memory);
+    ends_with(&rt, memory, "pbfcut: out of memory", 4)?;
+    let digit = Ending::from(CliFault::Box(BoxFault::Digit));
+    ends_with(&rt, digit, "pbfcut: box: Digit", 2)
 }
 
 /// Whether the message of the ending begins so, and its status is that of words that are wrong.
-fn begins_with(alloc: Global, ending: &Ending, text: &str) -> Result<bool, AllocError> {
+fn begins_with(alloc: Global, ending: Ending, text: &str) -> Result<bool, AllocError> {
     let message = ending.message(alloc, Program::Pbfcut)?;
     Ok(ending.status() == 2 && message.as_str().starts_with(text))
 }
@@ -403,33 +452,20 @@ fn begins_with(alloc: Global, ending: &Ending, text: &str) -> Result<bool, Alloc
 fn end_in(alloc: Global, words: &[&str], text: &str) -> Result<bool, AllocError> {
     match read_words(alloc, Program::Pbfcut, words) {
         Ok(_) => Ok(false),
-        Err(fault) => begins_with(alloc, &Ending::from(fault), text),
+        Err(fault) => begins_with(alloc, Ending::from(fault), text),
     }
 }
 
 #[test]
-fn endings_of_the_program(rt: HostRuntime) -> Result<(), Fail> {
-    let alloc = rt.alloc();
+fn messages_of_words(rt: HostRuntime) -> Result<(), Fail> {
     assert!(rt;
-        ends_with(
-            alloc,
-            &Ending::Box(BoxFault::Shape),
-            "pbfcut: box: Shape",
-            2
+        end_in(
+            rt.alloc(),
+            &["cut"],
+            "error: unrecognized subcommand 'cut'\n"
         )?
     );
-    let last = Ending::Box(BoxFault::BottomOverTop);
-    assert!(rt; ends_with(alloc, &last, "pbfcut: box: BottomOverTop", 2)?);
-    assert!(rt; ends_with(alloc, &Ending::CannotOpen, "pbfcut: cannot open", 3)?);
-    assert!(rt; ends_with(alloc, &Ending::OutExists, "pbfcut: OUT exists", 3)?);
-    let pipe = "pbfcut: IN must be a file, not a pipe";
-    assert!(rt; ends_with(alloc, &Ending::IsPipe, pipe, 3)?);
-    let memory = Ending::from(CliFault::Memory);
-    assert!(rt; ends_with(alloc, &memory, "pbfcut: out of memory", 4)?);
-    let digit = Ending::from(CliFault::Box(BoxFault::Digit));
-    assert!(rt; ends_with(alloc, &digit, "pbfcut: box: Digit", 2)?);
-    assert!(rt; end_in(alloc, &["cut"], "error: unrecognized subcommand 'cut'\n")?);
     let utf8 = "error: invalid UTF-8 was detected in one or more arguments\n";
-    assert!(rt; begins_with(alloc, &Ending::NotText, utf8)?);
+    assert!(rt; begins_with(rt.alloc(), Ending::NotText, utf8)?);
     Ok(())
 }

@@ -4,8 +4,8 @@
 use osm_entity::BoundingBox;
 use osm_pack::Packer;
 use osm_ways::{ChosenParents, NodePhase};
-use pbf_frame::{FrameReader, Pieces, Sink, Stop};
-use pbf_pass::{Passes, judge, writable_header};
+use pbf_frame::{FrameReader, Pieces, Sink};
+use pbf_pass::{Halt, Judged, Passes, judge, writable_header};
 use pbfcut::{Nothing, Pass, step_pack, step_write, step_write_parents};
 use std::alloc::{AllocError, Global};
 use std::hash::{BuildHasherDefault, FoldHasher};
@@ -23,18 +23,25 @@ fn small() -> Pieces<'static> {
     Pieces::new(&SMALL, &[], None)
 }
 
-/// A packer that put the header.
-fn begun(alloc: Global) -> Result<Writer, Stop> {
+fn judged(alloc: Global) -> Result<Judged, Halt> {
     let passes = Passes {
         alloc,
         hashes: false,
     };
-    let told = judge(passes, &mut small(), &mut Nothing)?;
-    let header = writable_header(&told)?;
+    judge(passes, &mut small(), &mut Nothing)
+}
+
+fn fresh(alloc: Global) -> Result<Writer, AllocError> {
     let sink = Sink::new(alloc, 4_096, 0)?;
-    let mut packer = Packer::new(alloc, sink, BuildHasherDefault::new());
-    packer.put_header(header)?;
-    Ok(packer)
+    Ok(Packer::new(alloc, sink, BuildHasherDefault::new()))
+}
+
+/// Whether the packer puts the header of the file.
+fn puts_header(told: &Judged, packer: &mut Writer) -> bool {
+    match writable_header(told) {
+        Ok(header) => !packer.has_header() && packer.put_header(header).is_ok(),
+        Err(_) => false,
+    }
 }
 
 /// What was chosen of nothing.
@@ -53,18 +60,17 @@ fn packs(alloc: Global, reader: &mut Reader, pass: &mut Pass, packer: &mut Write
     packer.has_header() && matches!(step_pack(alloc, reader, pass, None, packer), Ok(true))
 }
 
-fn writes(alloc: Global, reader: &mut Reader, pass: &mut Pass, packer: &mut Writer) -> bool {
+fn step_writes(alloc: Global, reader: &mut Reader, pass: &mut Pass, packer: &mut Writer) -> bool {
     packer.has_header() && matches!(step_write(alloc, reader, pass, None, packer), Ok(true))
 }
 
-/// Whether both steps that write all go through a frame each.
-fn steps_write(alloc: Global) -> Result<bool, Stop> {
-    let mut packer = begun(alloc)?;
+/// Whether both steps that write all go through a frame each, into this packer.
+fn both_write(alloc: Global, packer: &mut Writer) -> bool {
     let mut reader = FrameReader::new(alloc, small());
     let mut pass = Pass::new();
-    let header = packs(alloc, &mut reader, &mut pass, &mut packer);
-    let way = writes(alloc, &mut reader, &mut pass, &mut packer);
-    Ok(header && way && pass.counts.ways == 1)
+    let header = packs(alloc, &mut reader, &mut pass, packer);
+    let way = step_writes(alloc, &mut reader, &mut pass, packer);
+    header && way && pass.counts.ways == 1
 }
 
 fn writes_chosen(
@@ -81,20 +87,39 @@ fn writes_chosen(
         )
 }
 
-/// Whether the step that writes what was chosen goes through both frames.
-fn step_writes_chosen(alloc: Global) -> Result<bool, Stop> {
-    let chosen = nothing(alloc)?;
-    let mut packer = begun(alloc)?;
+/// Whether the step that writes what was chosen goes through both frames, into this packer.
+fn both_write_chosen(alloc: Global, chosen: &ChosenParents, packer: &mut Writer) -> bool {
     let mut reader = FrameReader::new(alloc, small());
-    let header = writes_chosen(alloc, &mut reader, &chosen, &mut packer);
-    let way = writes_chosen(alloc, &mut reader, &chosen, &mut packer);
-    Ok(header && way)
+    let header = writes_chosen(alloc, &mut reader, chosen, packer);
+    let way = writes_chosen(alloc, &mut reader, chosen, packer);
+    header && way
+}
+
+/// Whether a packer puts the header, and then all steps that write go through frames. Each of these functions holds one owned value, and
+/// leaves by `?` only before it has that.
+fn all_write(alloc: Global, told: &Judged, chosen: &ChosenParents) -> Result<bool, AllocError> {
+    let mut packer = fresh(alloc)?;
+    let begun = puts_header(told, &mut packer);
+    let all = both_write(alloc, &mut packer);
+    let picked = both_write_chosen(alloc, chosen, &mut packer);
+    Ok(begun && all && picked)
+}
+
+fn all_write_judged(alloc: Global, told: &Judged) -> Result<bool, AllocError> {
+    let chosen = nothing(alloc)?;
+    all_write(alloc, told, &chosen)
+}
+
+fn writes(alloc: Global) -> Result<bool, Halt> {
+    let told = judged(alloc)?;
+    match all_write_judged(alloc, &told) {
+        Ok(all) => Ok(all),
+        Err(error) => Err(Halt::from(error)),
+    }
 }
 
 #[test]
 fn steps_that_write(rt: HostRuntime) -> Result<(), Fail> {
-    let all = steps_write(rt.alloc())?;
-    let chosen = step_writes_chosen(rt.alloc())?;
-    assert!(rt; all && chosen);
+    assert!(rt; matches!(writes(rt.alloc()), Ok(true)));
     Ok(())
 }
