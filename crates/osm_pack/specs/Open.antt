@@ -3,6 +3,7 @@ use Rattle.std.specs.Prelude.{◌≡◌, ℕ, ◌+◌, List, [], ◌∷◌, ◌+
 use Rattle.std.specs.List.{sum_by}
 use Rattle.pbf_strings.specs.TableOut.{texts_after, table_message, text_held}
 use Rattle.osm_entity.specs.Entity.{EntitySpec}
+use Rattle.osm_entity.specs.Ranges.{EntityFits}
 use Rattle.osm_entity.specs.Weight.{entity_weight}
 use Rattle.pbf_dense.specs.WrittenDense.{HoldsNodes, columns_held, dense_length}
 use Rattle.pbf_block.specs.WrittenBlock.{is_block, texts_of_all, nodes_among, messages_among, group_message}
@@ -42,6 +43,12 @@ pub record IsJoining (joining : Joining) (e : EntitySpec) : Type 0 where
 -- one more entity may join it
 abbrev pub Joins : {S H : Type 0} → OpenBlock S H → EntitySpec → Type 0
 Joins b e = (es : List EntitySpec) → Holds b es → is_block (es ++ e ∷ []) ≡ true
+
+-- the block is open, and the entity, which is in its ranges, may join it
+pub record MayAdd {S H : Type 0} (b : OpenBlock S H) (e : EntitySpec) : Type 0 where
+  pub «open» : IsOpen b
+  pub fits : EntityFits e
+  pub joins : Joins b e
 
 -- the message of an entity with these texts is made in the writer, and nothing else is done
 pub record Makes {S H : Type 0} (old new : OpenBlock S H) (used : List (List ℕ)) : Type 0 where

@@ -3,14 +3,13 @@
 ghost use Rattle.std.specs.Prelude.{ℕ, ◌≡◌, ◌↔◌, ◌+◌, ◌-◌, ◌≤◌, ◌<◌, ◌^◌, min, ◌&&◌, ◌++◌, ◌∷◌, [], List, true, nat_le, length, IsTrue, IfOk, OnOk};
 ghost use Rattle.osm_entity.specs.Entity.{EntitySpec, node, way, relation};
 ghost use Rattle.osm_entity.specs.EntityTexts.{way_texts, relation_texts};
-ghost use Rattle.osm_entity.specs.Ranges.{EntityFits, NodeFits, WayFits, RelationFits};
 ghost use Rattle.osm_entity.specs.Views.{node_of, way_of, relation_of};
 ghost use Rattle.pbf_wire.specs.Message.{Each, slot_bytes};
 ghost use Rattle.pbf_strings.specs.TableOut.{texts_after, table_message};
 ghost use Rattle.pbf_block.specs.WrittenEntity.{way_message, relation_message};
 ghost use Rattle.pbf_block.specs.WrittenBlock.{is_block, block_message, scale_among, texts_of_all, nodes_among};
 ghost use Rattle.pbf_dense.specs.WrittenDense.{columns_held, dense_length, dense_message};
-ghost use Rattle.osm_pack.specs.Open.{Holds, IsOpen, IsJoining, Joins, Makes, Encodes, Counts, Adds, IsClosing, block_held};
+ghost use Rattle.osm_pack.specs.Open.{Holds, IsOpen, IsJoining, MayAdd, Makes, Encodes, Counts, Adds, IsClosing, block_held};
 ghost use Rattle.osm_pack.specs.Likenesses.{is_like};
 ghost use Rattle.osm_pack.specs.View.{entity_shown};
 ghost use Rattle.osm_entity.specs.declared.weight.TheConstants.{HIGHEST_WEIGHT};
@@ -119,9 +118,7 @@ impl<S: BuildHasher> OpenBlock<S> {
     /// message is in the group too: all of it together is no more than `MOST_HELD` (`room`).
     #[inline(never)]
     fn make_way(&mut self, view: &WayRef<'_>) -> Result<(), AllocError>
-        requires open { IsOpen self.old }
-        requires fits { WayFits (way_of view.now) }
-        requires joins { Joins self.old (way (way_of view.now)) }
+        requires { MayAdd self.old (way (way_of view.now)) }
         ensures made { OnOk result (Makes self.old self.new (way_texts (way_of view.now))) }
         ensures message { (used : List (List ℕ)) → OnOk result (self.new.writer.message.items
             ≡ way_message (texts_after self.new.texts used) (way_of view.now)) }
@@ -135,9 +132,7 @@ impl<S: BuildHasher> OpenBlock<S> {
     /// The same of a relation.
     #[inline(never)]
     fn make_relation(&mut self, view: &RelationRef<'_>) -> Result<(), AllocError>
-        requires open { IsOpen self.old }
-        requires fits { RelationFits (relation_of view.now) }
-        requires joins { Joins self.old (relation (relation_of view.now)) }
+        requires { MayAdd self.old (relation (relation_of view.now)) }
         ensures made { OnOk result
             (Makes self.old self.new (relation_texts (relation_of view.now))) }
         ensures message { (used : List (List ℕ)) → OnOk result (self.new.writer.message.items
@@ -152,9 +147,7 @@ impl<S: BuildHasher> OpenBlock<S> {
     /// Encodes a node after the others.
     #[inline(always)]
     fn put_node(&mut self, view: &NodeRef<'_>) -> Result<(), AllocError>
-        requires open { IsOpen self.old }
-        requires fits { NodeFits (node_of view.now) }
-        requires joins { Joins self.old (node (node_of view.now)) }
+        requires { MayAdd self.old (node (node_of view.now)) }
         ensures { (es : List EntitySpec) → Holds self.old es
             → OnOk result (Encodes self.old self.new es (node (node_of view.now))) }
     {
@@ -165,9 +158,7 @@ impl<S: BuildHasher> OpenBlock<S> {
     /// Encodes an entity after the others.
     #[inline(always)]
     fn put(&mut self, entity: EntityView<'_, '_>) -> Result<(), AllocError>
-        requires open { IsOpen self.old }
-        requires fits { EntityFits (entity_shown entity) }
-        requires joins { Joins self.old (entity_shown entity) }
+        requires { MayAdd self.old (entity_shown entity) }
         ensures { (es : List EntitySpec) → Holds self.old es
             → OnOk result (Encodes self.old self.new es (entity_shown entity.entry)) }
     {
@@ -206,10 +197,8 @@ impl<S: BuildHasher> OpenBlock<S> {
         entity: EntityView<'_, '_>,
         joining: Joining,
     ) -> Result<(), AllocError>
-        requires open { IsOpen self.old }
-        requires fits { EntityFits (entity_shown entity) }
+        requires may { MayAdd self.old (entity_shown entity) }
         requires is { IsJoining joining (entity_shown entity) }
-        requires joins { Joins self.old (entity_shown entity) }
         ensures { Adds self.old self.new (entity_shown entity.entry) result }
     {
         self.put(entity)?;

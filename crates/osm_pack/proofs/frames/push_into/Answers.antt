@@ -10,10 +10,14 @@ use Rattle.osm_pack.proofs.frames.push_into.Goals as goal
 pub add-requires-clause-is : goal.add-requires-clause-is
 add-requires-clause-is g c = record { likeness = c.of.ensures; weight = c.requires.weighs }
 
-pub add-requires-clause-joins : goal.add-requires-clause-joins
-add-requires-clause-joins g c =
+pub add-requires-clause-may : goal.add-requires-clause-may
+add-requires-clause-may g c =
     let is : IsJoining _ (entity_shown c.args.weighed.entity) = record { likeness = c.of.ensures; weight = c.requires.weighs } in
-    (c.in_ok-make_room.ensures.made (entity_shown c.args.weighed.entity) is c.requires.fits).joins
+    record {
+      «open» = c.in_ok-make_room.ensures.«open»;
+      fits = c.requires.fits;
+      joins = (c.in_ok-make_room.ensures.made (entity_shown c.args.weighed.entity) is c.requires.fits).joins;
+    }
 
 pub returns-clause-pending : goal.returns-clause-pending
 returns-clause-pending g c = λ es h.

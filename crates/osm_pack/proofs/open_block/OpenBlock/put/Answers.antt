@@ -1,18 +1,19 @@
 use Rattle.std.proofs.Common.{◌≡◌, ℕ, ◌++◌, ◌∷◌, [], true, subst, ap}
 use Rattle.std.specs.Global.{Vec}
+use Rattle.osm_pack.specs.Open.{MayAdd}
 use Rattle.osm_pack.specs.View.{entity_shown}
 use Rattle.pbf_block.specs.WrittenBlock.{is_block}
 use Rattle.osm_pack.proofs.OpenLemmas.{way_encoded, relation_encoded, appended}
 use Rattle.osm_pack.proofs.open_block.OpenBlock.put.Goals as goal
 
-pub put_node-requires-clause-joins : goal.put_node-requires-clause-joins
-put_node-requires-clause-joins g c = λ es h. subst (λ v. is_block (es ++ entity_shown v ∷ []) ≡ true) c.in-Node.is (c.requires.joins es h)
+pub put_node-requires : goal.put_node-requires
+put_node-requires g c = subst (λ v. MayAdd c.args.self.now (entity_shown v)) c.in-Node.is c.requires
 
-pub make_way-requires-clause-joins : goal.make_way-requires-clause-joins
-make_way-requires-clause-joins g c = λ es h. subst (λ v. is_block (es ++ entity_shown v ∷ []) ≡ true) c.in-Way.is (c.requires.joins es h)
+pub make_way-requires : goal.make_way-requires
+make_way-requires g c = subst (λ v. MayAdd c.args.self.now (entity_shown v)) c.in-Way.is c.requires
 
-pub make_relation-requires-clause-joins : goal.make_relation-requires-clause-joins
-make_relation-requires-clause-joins g c = λ es h. subst (λ v. is_block (es ++ entity_shown v ∷ []) ≡ true) c.in-Relation.is (c.requires.joins es h)
+pub make_relation-requires : goal.make_relation-requires
+make_relation-requires g c = subst (λ v. MayAdd c.args.self.now (entity_shown v)) c.in-Relation.is c.requires
 
 pub returns-in_ok-put_node-in-Node : goal.returns-in_ok-put_node-in-Node
 returns-in_ok-put_node-in-Node g c = λ es h. rw c.in-Node.is (c.in_ok-put_node-in-Node.ensures es h)
