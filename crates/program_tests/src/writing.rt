@@ -95,14 +95,18 @@ fn both_write_chosen(alloc: Global, chosen: &ChosenParents, packer: &mut Writer)
     header && way
 }
 
-/// Whether a packer puts the header, and then all steps that write go through frames. Each of these functions holds one owned value, and
-/// leaves by `?` only before it has that.
+/// Whether the packer puts the header, and then all steps that write go through frames.
+fn goes_through(alloc: Global, told: &Judged, chosen: &ChosenParents, packer: &mut Writer) -> bool {
+    let begun = puts_header(told, packer);
+    let all = both_write(alloc, packer);
+    let picked = both_write_chosen(alloc, chosen, packer);
+    begun && all && picked
+}
+
+/// The same of a packer of its own. Each of these functions holds one owned value, and leaves by `?` only before it has that.
 fn all_write(alloc: Global, told: &Judged, chosen: &ChosenParents) -> Result<bool, AllocError> {
     let mut packer = fresh(alloc)?;
-    let begun = puts_header(told, &mut packer);
-    let all = both_write(alloc, &mut packer);
-    let picked = both_write_chosen(alloc, chosen, &mut packer);
-    Ok(begun && all && picked)
+    Ok(goes_through(alloc, told, chosen, &mut packer))
 }
 
 fn all_write_judged(alloc: Global, told: &Judged) -> Result<bool, AllocError> {
