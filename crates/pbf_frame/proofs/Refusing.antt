@@ -149,13 +149,15 @@ pub record PrefixRead (before mid : ℕ → List ℕ → Type 0) (old between : 
   pub small : big_number 4 prefix < HEADER_LIMIT
 
 pub prefix_read : (before mid : ℕ → List ℕ → Type 0) (old between given : Option (List ℕ)) (prefix : List ℕ) → given ≡ Some prefix → old ≡ prepend (given_prefix given) between → Passes before (given_prefix given) mid
-    → IfSome given (λ (p : List ℕ). length p ≡ 4) → IfSome given (λ (p : List ℕ). big_number 4 p < HEADER_LIMIT) → PrefixRead before mid old between prefix
-prefix_read before mid old between given prefix is told passed long small = record {
-  told = told ∙ ap (λ (o : Option (List ℕ)). prepend (given_prefix o) between) is;
-  logged = subst (λ (o : Option (List ℕ)). Passes before (given_prefix o) mid) is passed;
-  long = subst (λ (o : Option (List ℕ)). IfSome o (λ (p : List ℕ). length p ≡ 4)) is long;
-  small = subst (λ (o : Option (List ℕ)). IfSome o (λ (p : List ℕ). big_number 4 p < HEADER_LIMIT)) is small;
-}
+    → IfSome given (λ (p : List ℕ). (length p ≡ 4) × (big_number 4 p < HEADER_LIMIT)) → PrefixRead before mid old between prefix
+prefix_read before mid old between given prefix is told passed small =
+    let fits = subst (λ (o : Option (List ℕ)). IfSome o (λ (p : List ℕ). (length p ≡ 4) × (big_number 4 p < HEADER_LIMIT))) is small in
+    record {
+      told = told ∙ ap (λ (o : Option (List ℕ)). prepend (given_prefix o) between) is;
+      logged = subst (λ (o : Option (List ℕ)). Passes before (given_prefix o) mid) is passed;
+      long = fits.0;
+      small = fits.1;
+    }
 
 module _ (h : Bool) (p : ℕ) (before : ℕ → List ℕ → Type 0) (old : Option (List ℕ)) (stop : Stop) where
   pub refused_prefix : (now : ℕ → List ℕ → Type 0) (new : Option (List ℕ)) → RefusedBy (prefix_at h p) before now old new stop → RefusedBy (next_of h p) before now old new stop

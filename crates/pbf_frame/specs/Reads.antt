@@ -1,5 +1,5 @@
 -- What a call that reads from a feed gives.
-use Rattle.std.specs.Prelude.{◌≡◌, ◌≤◌, ◌+◌, ℕ, Bool, true, List, [], Option, Some, None, Result, Ok, IfErr, take, drop, length}
+use Rattle.std.specs.Prelude.{◌≡◌, ◌≤◌, ◌+◌, ℕ, Bool, true, List, [], Option, Some, None, Result, Ok, IfOk, IfErr, take, drop, length}
 use Rattle.pbf_wire.specs.declared.fault.Fault.{Fault}
 use Rattle.pbf_frame.specs.declared.device.Feed as feed
 use Rattle.pbf_frame.specs.declared.frame.FrameKind.{FrameKind}
@@ -10,6 +10,7 @@ use Rattle.pbf_frame.specs.declared.stop.Stop.TheVariants.{Refused, Read, Write,
 use Rattle.pbf_frame.specs.Devices.{HasRisen, IsAtEnd, Passes, prepend}
 use Rattle.pbf_frame.specs.Keeps.{KeepsFeed}
 use Rattle.pbf_frame.specs.Blob.{blob_fault}
+use Rattle.pbf_frame.specs.Refusals.{RefusedFrom}
 use Rattle.pbf_frame.specs.Frames.{FrameSpec, blob_at, frame_kind, frame_bytes, next_of}
 use Rattle.pbf_frame.specs.Sound.{IsFrame}
 use Rattle.pbf_frame.specs.Steps.{blob_of}
@@ -30,6 +31,11 @@ IsFillStop old new Read = HasRisen old new
 IsFillStop old new Memory = Unit {0}
 IsFillStop _ _ _ = ⊥
 
+-- such a call stops so, and keeps what else the feed has
+pub record FillsFrom {F X : Type 0} (f : feed.Ghosts F) (old new : F) (result : Result X Stop) : Type 0 where
+  pub stops : IfErr result (IsFillStop (f.failures old) (f.failures new))
+  pub keeps : KeepsFeed f old new
+
 -- a call that only writes stops for a failed write
 abbrev pub IsWriteStop : ℕ → ℕ → Stop → Type 0
 IsWriteStop old new Write = HasRisen old new
@@ -46,6 +52,12 @@ IsReaderStop _ _ _ = ⊥
 pub record UsesFeed {F X : Type 0} (f : feed.Ghosts F) (old new : F) (result : Result X Stop) : Type 0 where
   pub stops : IfErr result (IsReaderStop (f.failures old) (f.failures new))
   pub keeps : KeepsFeed f old new
+
+-- a call that reads a part of the file gives it, or refuses it, as f does of the same bytes
+pub record ReadsPart {F X A : Type 0} (f : feed.Ghosts F) (part : List ℕ → Result (A × List ℕ) Fault) (value : X → A) (old new : F) (result : Result X Stop) : Type 0 where
+  pub given : IfOk result (λ x. Gives (value x) (f.remaining old) (f.remaining new) part)
+  pub refused : IfErr result (RefusedFrom f part old new)
+  pub uses : UsesFeed f old new result
 
 -- this many bytes are gone
 pub record Skips (before now : ℕ → List ℕ → Type 0) (old new : Option (List ℕ)) (count : ℕ) : Type 0 where

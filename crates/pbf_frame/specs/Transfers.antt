@@ -16,7 +16,6 @@ pub record SuppliedFirst {F : Type 0} (f : feed.Ghosts F) (old : F) (bytes : Lis
 
 -- a feed gave these bytes, was at its end, and goes through the same references
 pub record Supplied {F : Type 0} (f : feed.Ghosts F) (old : F) (bytes : List ℕ) (new : F) : Type 0 where
-  pub told : f.remaining old ≡ prepend bytes (f.remaining new)
+  pub gave : SuppliedFirst f old bytes new
   pub end : IsAtEnd (f.remaining new)
-  pub logged : Passes (f.has_passed old) bytes (f.has_passed new)
   pub lender : f.lender new ≡ f.lender old

@@ -9,7 +9,7 @@ ghost use Rattle.pbf_wire.specs.Faults.{fault};
 ghost use Rattle.pbf_frame.specs.declared.frame.TheConstants.{FILE_LIMIT};
 ghost use Rattle.pbf_frame.specs.Frames.{order_faults, next_of};
 ghost use Rattle.pbf_frame.specs.declared.header.TheConstants.{LARGEST_SIZE};
-ghost use Rattle.pbf_frame.specs.Reads.{Gives, UsesFeed, IsFillStop, ReadsBytes, Skips, GaveBlob, GaveFrame, GaveEnd, IsWithinFile};
+ghost use Rattle.pbf_frame.specs.Reads.{UsesFeed, FillsFrom, ReadsPart, ReadsBytes, Skips, GaveBlob, GaveFrame, GaveEnd, IsWithinFile};
 ghost use Rattle.pbf_frame.specs.Refusals.{RefusedFrom};
 ghost use Rattle.pbf_frame.specs.Sound.{IsSoundBlob};
 ghost use Rattle.pbf_frame.specs.Blob.{blob_fault};
@@ -50,9 +50,7 @@ pub fn fill_vec<F: Feed>(feed: &mut F, buf: &mut Vec<u8>, count: usize) -> Resul
     ensures bound { OnOk result (vec_len buf.new ≤ count) }
     ensures end { OnOk result (vec_len buf.new < count → IsAtEnd (F.remaining feed.new)) }
     ensures held { vec_len buf.new ≤ max count (vec_len buf.old) }
-    ensures lender { F.lender feed.new ≡ F.lender feed.old }
-    ensures counts { F.failures feed.old ≤ F.failures feed.new }
-    ensures stops { IfErr result (IsFillStop (F.failures feed.old) (F.failures feed.new)) }
+    ensures feed { FillsFrom F.Feed feed.old feed.new result }
 {
     buf.resize(count, 0)?;
     let read = fill(feed, buf)?;
@@ -63,18 +61,14 @@ pub fn fill_vec<F: Feed>(feed: &mut F, buf: &mut Vec<u8>, count: usize) -> Resul
 // The four bytes before the next frame's header, or nothing at the end.
 #[tactic(auto, unfolding(crate::specs::Steps::prefix_at))]
 fn read_prefix<F: Feed>(feed: &mut F, start: FrameStart) -> Result<Option<[u8; 4]>, Stop>
-    ensures given { IfOk result (λ o.
-        Gives o (F.remaining feed.old) (F.remaining feed.new)
-        (prefix_at start.had_header start.place)) }
-    ensures refused { IfErr result
-        (RefusedFrom F.Feed (prefix_at start.had_header start.place) feed.old feed.new) }
-    ensures long { IfOk result (λ o. IfSome o (λ prefix. length prefix ≡ 4)) }
-    ensures small { IfOk result (λ o. IfSome o (λ prefix. big_number 4 prefix < HEADER_LIMIT)) }
-    ensures ended { IfOk result (λ o. IfNone o (IsAtEnd (F.remaining feed.new))) }
-    ensures header_given { IfOk result (λ o. IfNone o (start.had_header ≡ true)) }
+    ensures reads { ReadsPart F.Feed (prefix_at start.had_header start.place) (λ o. o)
+        feed.old feed.new result }
+    ensures small { IfOk result (λ o. IfSome o (λ prefix. (length prefix ≡ 4)
+        × (big_number 4 prefix < HEADER_LIMIT))) }
+    ensures ended { IfOk result (λ o. IfNone o (IsAtEnd (F.remaining feed.new)
+        × (start.had_header ≡ true))) }
     ensures supplied { IfOk result (λ o.
         SuppliedFirst F.Feed feed.old (given_prefix o) feed.new) }
-    ensures feed { UsesFeed F.Feed feed.old feed.new result }
 {
     let mut prefix = [0; 4];
     let read = fill(feed, &mut prefix)?;
@@ -97,13 +91,11 @@ fn read_prefix<F: Feed>(feed: &mut F, start: FrameStart) -> Result<Option<[u8; 4
 // This many bytes.
 #[tactic(auto, unfolding(crate::specs::Steps::bytes_at))]
 fn read_bytes<F: Feed>(feed: &mut F, buf: &mut Vec<u8>, count: u32, cut: Fault) -> Result<(), Stop>
-    ensures given { OnOk result
-        (Gives buf.new.items (F.remaining feed.old) (F.remaining feed.new) (bytes_at cut count)) }
-    ensures refused { IfErr result (RefusedFrom F.Feed (bytes_at cut count) feed.old feed.new) }
+    ensures reads { ReadsPart F.Feed (bytes_at cut count) (λ _. buf.new.items)
+        feed.old feed.new result }
     ensures held { vec_len buf.new ≤ max count (vec_len buf.old) }
     ensures len { OnOk result (vec_len buf.new ≡ count) }
     ensures supplied { OnOk result (SuppliedFirst F.Feed feed.old buf.new.items feed.new) }
-    ensures feed { UsesFeed F.Feed feed.old feed.new result }
 {
     fill_vec(feed, buf, count as usize)?;
     if buf.len() < count as usize {
@@ -141,12 +133,8 @@ fn read_header<F: Feed>(
     requires in_range { start.place ≤ FILE_LIMIT }
     requires whole { 4 ≤ length prefix.now }
     requires small { big_number 4 prefix.now < HEADER_LIMIT }
-    ensures given { IfOk result (λ head.
-        Gives (header.new.items, head) (F.remaining feed.old) (F.remaining feed.new)
-        (header_after start.had_header start.place prefix.now)) }
-    ensures refused { IfErr result
-        (RefusedFrom F.Feed (header_after start.had_header start.place prefix.now)
-        feed.old feed.new) }
+    ensures reads { ReadsPart F.Feed (header_after start.had_header start.place prefix.now)
+        (λ head. (header.new.items, head)) feed.old feed.new result }
     ensures head { IfOk result (λ head. head_of (start.place + 4) header.new.items ≡ Ok head) }
     ensures small { IfOk result (λ head. head.size ≤ LARGEST_SIZE) }
     ensures end { IfOk result (λ head.
@@ -157,7 +145,6 @@ fn read_header<F: Feed>(
     ensures ordered { IfOk result (λ head.
         least (order_faults (Some FILE_LIMIT) start.had_header start.place head.kind
         (start.place + 4 + length header.new.items + head.size)) ≡ None) }
-    ensures feed { UsesFeed F.Feed feed.old feed.new result }
 {
     let cut = Fault {
         offset: start.place,
@@ -202,15 +189,12 @@ fn read_known_blob<F: Feed>(
     at: u64,
 ) -> Result<(), Stop>
     requires in_range { at + size ≤ OFFSET_LIMIT }
-    ensures given { OnOk result
-        (Gives blob.new.items (F.remaining feed.old) (F.remaining feed.new)
-        (known_blob_of size at)) }
-    ensures refused { IfErr result (RefusedFrom F.Feed (known_blob_of size at) feed.old feed.new) }
+    ensures reads { ReadsPart F.Feed (known_blob_of size at) (λ _. blob.new.items)
+        feed.old feed.new result }
     ensures sound { OnOk result (blob_fault at blob.new.items ≡ None) }
     ensures long { OnOk result (vec_len blob.new ≡ size) }
     ensures held { vec_len blob.new ≤ max size (vec_len blob.old) }
     ensures supplied { OnOk result (SuppliedFirst F.Feed feed.old blob.new.items feed.new) }
-    ensures feed { UsesFeed F.Feed feed.old feed.new result }
 {
     let cut = Fault {
         offset: at,

@@ -42,7 +42,7 @@ says_told (Some b) file v tells says = subst (λ (l : List ℕ). Says (judged_fi
 
 module _ {F : Type 0} (f : feed.Ghosts F) (old new : F) (digest : Option (List ℕ)) where
   pub tells_file : (holds : List ℕ → Type 0) (given : GaveFile f old new digest holds) → Tells (f.remaining old) given.file
-  tells_file holds given = tells_all (f.remaining old) (f.remaining new) given.file given.supplied.told given.supplied.end
+  tells_file holds given = tells_all (f.remaining old) (f.remaining new) given.file given.supplied.gave.told given.supplied.end
 
   -- what holds of the file that was given holds of the one that is reported
   pub told_holds : (holds : List ℕ → Type 0) (b : List ℕ) → GaveFile f old new digest holds → f.remaining old ≡ Some b → holds b

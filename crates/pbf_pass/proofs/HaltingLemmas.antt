@@ -107,8 +107,8 @@ module _ {F : Type 0} (f : feed.Ghosts F) (old new : F) (hashes : Bool) where
   limit_halts gathered before now told (halt.Refused r) given limit = record {
     bytes = record {
       read = given.file;
-      told = given.supplied.told;
-      logged = given.supplied.logged;
+      told = given.supplied.gave.told;
+      logged = given.supplied.gave.logged;
       faulty = inr (given.supplied.end, limit_refused gathered before now (judged_file (Some given.file)) told.pass r.fault given.holding.1 limit.0);
     };
     counted = subst (λ (n : ℕ). IsLength n given.file) (sym limit.1) given.holding.0;

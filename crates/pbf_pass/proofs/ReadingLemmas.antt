@@ -88,9 +88,11 @@ module _ {F : Type 0} (g : feed.Ghosts F) where
       record {
         bytes = joined_frames frames;
         supplied = record {
-          told = so_far.told ∙ ap (prepend (joined_frames frames)) none.told;
+          gave = record {
+            told = so_far.told ∙ ap (prepend (joined_frames frames)) none.told;
+            logged = λ log b h. none.logged log (b ++ joined_frames frames) (so_far.logged log b h);
+          };
           end = none.end;
-          logged = λ log b h. none.logged log (b ++ joined_frames frames) (so_far.logged log b h);
           lender = lender;
         };
         holding = subst (λ (v : Verdict). holds (Some v)) (sym is) holding;

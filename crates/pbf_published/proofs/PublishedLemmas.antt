@@ -54,21 +54,21 @@ DigestIsOf known digest = (all : List ℕ) → known ≡ Some all → digest ≡
 
 module _ {F U : Type 0} (f : feed.Ghosts F) (first last : F) {u : feed.Ghosts U} {old new : U} {raw_digest : Option (List ℕ)} {holds : List ℕ → Type 0} (given : GaveFile u old new raw_digest holds) (hashes : Bool) (o : Option (List ℕ)) (remaining : u.remaining old ≡ raw_of (f.remaining first)) (opened : Opened (f.remaining first) (f.has_passed first) hashes (u.has_passed old)) (closed : Closed (f.has_passed last) (u.has_passed new) (u.remaining new) o) where
   ended : (all : List ℕ) → f.remaining first ≡ Some all → u.remaining new ≡ Some []
-  ended all is = none_left_of_all (u.remaining old) (u.remaining new) given.file (unpacked all) given.supplied.told given.supplied.end (remaining ∙ ap raw_of is)
+  ended all is = none_left_of_all (u.remaining old) (u.remaining new) given.file (unpacked all) given.supplied.gave.told given.supplied.end (remaining ∙ ap raw_of is)
 
   -- what is said of the file that an unpacking feed gave is said of the raw file that packed bytes mean
   pub published_of : (digest : List ℕ) → o ≡ Some digest → (keeps : List ℕ → Type 0) → ((file : List ℕ) → holds file → keeps file) → GavePublished f first last (digest_if hashes digest) raw_digest keeps
   published_of digest is keeps step =
       let file = given.file in
       let known = f.remaining first in
-      let m = if_digest o digest _ is (closed.means hashes known file (given.supplied.logged (log_number (log_of hashes) known) [] opened.hashed)) in
+      let m = if_digest o digest _ is (closed.means hashes known file (given.supplied.gave.logged (log_number (log_of hashes) known) [] opened.hashed)) in
       record {
         packed = m.packed;
         digest_is = m.digest_is;
         raw_digest_is = subst (λ (l : List ℕ). IsDigestOf raw_digest l) (sym m.means) given.digest_is;
         told = λ all all_is. same_Some _ _ (sym all_is ∙ m.told (ended all all_is));
         logged = λ log start.
-            let p = if_digest o digest _ is (closed.logged log known file (given.supplied.logged (log_number (suc (suc log)) known) [] (opened.logged log start))) in
+            let p = if_digest o digest _ is (closed.logged log known file (given.supplied.gave.logged (log_number (suc (suc log)) known) [] (opened.logged log start))) in
             record { packed = p.packed; passed = p.passed; means = p.means ∙ sym m.means };
         holding = subst keeps (sym m.means) (step file given.holding);
       }

@@ -51,8 +51,8 @@ module _ {F : Type 0} (f : feed.Ghosts F) (repeat : LaterPass) (old new : F) (wr
     refl,
     record {
       read = given.file;
-      told = given.supplied.told;
-      logged = given.supplied.logged;
+      told = given.supplied.gave.told;
+      logged = given.supplied.gave.logged;
       faulty = inr (given.supplied.end, λ alike. absurd (other (hashed_is hashes digest given.file (same ∙ hashed) given.digest_is ∙ sym (hashed_is repeat.passes.hashes repeat.digest given.file hashed alike))));
     },
   )

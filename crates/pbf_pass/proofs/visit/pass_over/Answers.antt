@@ -19,14 +19,16 @@ returns-in-Ok-clause-visited g c =
     record {
       file = given.bytes;
       supplied = supplied_as g.F.Feed c.new-reader.result.feed.feed.now c.args.feed.now c.visit_rest-outcome.new.reader.feed.feed.now _ given.bytes (search rules) (search rules) record {
-        told = given.supplied.told;
+        gave = record {
+          told = given.supplied.gave.told;
+          logged = λ log. given.supplied.gave.logged (suc (suc log));
+        };
         end = given.supplied.end;
-        logged = λ log. given.supplied.logged (suc (suc log));
         lender = same_below _ _ _ _ given.supplied.lender;
       };
-      digest_is = digest_if_hashed c.args.passes.hashes _ given.bytes (λ is. c.digest-digest.ensures.digest given.bytes (given.supplied.logged zero [] (hashes ∙ is, hasher)).1);
+      digest_is = digest_if_hashed c.args.passes.hashes _ given.bytes (λ is. c.digest-digest.ensures.digest given.bytes (given.supplied.gave.logged zero [] (hashes ∙ is, hasher)).1);
       holding = (
-        c.count-count.ensures ∙ given.supplied.logged (suc zero) [] count,
+        c.count-count.ensures ∙ given.supplied.gave.logged (suc zero) [] count,
         holds_of_file c.new-reader.result given.bytes (λ known. VisitsAll g.V.Visit.took known c.in-Ok.frames c.args.visitor.now c.visit_rest-outcome.new.visitor) c.new-reader.ensures.had_header c.new-reader.ensures.place given.holding,
       );
     }

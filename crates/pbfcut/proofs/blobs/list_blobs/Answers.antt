@@ -11,7 +11,7 @@ pub returns-clause-listed : goal.returns-clause-listed
 returns-clause-listed g c =
     let given = c.in_ok-outcome.ensures.visited in
     let remaining = g.F.Feed.remaining in
-    let told : remaining c.args.feed.now ≡ prepend given.bytes (remaining c.visit_rest-outcome.new.reader.feed.now) = ap (λ r. remaining r.now) (sym c.new-reader.ensures.feed) ∙ given.supplied.told in
+    let told : remaining c.args.feed.now ≡ prepend given.bytes (remaining c.visit_rest-outcome.new.reader.feed.now) = ap (λ r. remaining r.now) (sym c.new-reader.ensures.feed) ∙ given.supplied.gave.told in
     let tells = tells_all (remaining c.args.feed.now) (remaining c.visit_rest-outcome.new.reader.feed.now) given.bytes told given.supplied.end in
     let all = visits_file c.new-reader.result given.bytes _ _ _ c.visit_rest-outcome.new.visitor c.new-reader.ensures.had_header c.new-reader.ensures.place given.holding in
     let said : Lists g.D.Drain c.args.drain.now c.visit_rest-outcome.new.visitor.drain.now (judged_known false 0 (remaining c.args.feed.now)) c.in_ok-outcome.field-0 = lists_all g.D.Drain (λ v. v.drain.now) _ (λ old new f one. one) (remaining c.args.feed.now) given.bytes _ _ c.visit_rest-outcome.new.visitor tells all in
