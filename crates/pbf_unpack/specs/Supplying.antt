@@ -1,7 +1,9 @@
 -- What a feed of unpacked bytes has supplied, and what it has still to supply.
-use Rattle.std.specs.Prelude.{◌≡◌, ℕ, ◌<◌, ◌-◌, ◌^◌, List, [], ◌++◌, length, drop, Option, None}
+use Rattle.std.specs.Prelude.{◌≡◌, ℕ, ◌<◌, ◌-◌, ◌^◌, List, [], ◌++◌, length, drop, Option, None, Result, IfErr, OnOk}
 use Rattle.std.specs.Option.{option_map}
+use Rattle.pbf_frame.specs.declared.device.Feed as feed
 use Rattle.pbf_frame.specs.declared.stop.Stop.{Stop}
+use Rattle.pbf_frame.specs.Keeps.{KeepsFeed}
 use Rattle.pbf_frame.specs.declared.stop.Stop.TheVariants as stop
 use Rattle.pbf_frame.specs.Devices.{HasRisen, IsAtEnd}
 use Rattle.pbf_unpack.specs.declared.feed.State.{State}
@@ -78,6 +80,12 @@ IsSupplyStop state old new stop.Read = (refusals state ≡ 0) × HasRisen old ne
 IsSupplyStop state old new stop.Write = ⊥
 IsSupplyStop state old new (stop.Refused e) = ⊥
 IsSupplyStop state old new (stop.Changed pass) = ⊥
+
+-- a call that reads bytes of this feed stops so, has read only if memory was never refused, and keeps what else the feed below has
+pub record SuppliesFrom {F X : Type 0} (f : feed.Ghosts F) (old new : UnpackedFeed F) (result : Result X Stop) : Type 0 where
+  pub stops : IfErr result (IsSupplyStop old.state (f.failures old.feed) (f.failures new.feed))
+  pub goes : OnOk result (refusals old.state ≡ 0)
+  pub keeps : KeepsFeed f old.feed new.feed
 
 -- ---- how it goes on
 

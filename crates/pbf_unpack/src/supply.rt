@@ -2,9 +2,9 @@
 
 ghost use Rattle.std.specs.Prelude.{◌≡◌, ◌+◌, ◌-◌, ◌<◌, ◌≤◌, ◌++◌, ◌==◌, [], None, length, take, drop, vec_len, IfOk, IfErr, OnOk};
 ghost use Rattle.pbf_frame.specs.Devices.{prepend, Passes, IsAtEnd};
-ghost use Rattle.pbf_frame.specs.Reads.{IsFillStop};
+ghost use Rattle.pbf_frame.specs.Reads.{FillsFrom};
 ghost use Rattle.pbf_unpack.specs.declared.feed.State.TheVariants as states;
-ghost use Rattle.pbf_unpack.specs.Supplying.{left_in, remaining_in, refusals, HasSupplied, GoesOn, HasSupply, IsSameBut, IsSupplyStop};
+ghost use Rattle.pbf_unpack.specs.Supplying.{left_in, remaining_in, refusals, HasSupplied, GoesOn, HasSupply, IsSameBut, SuppliesFrom};
 
 use crate::buffers::Buffers;
 use crate::feed::{Origin, State, UnpackedFeed};
@@ -63,7 +63,6 @@ impl<F: Feed> UnpackedFeed<F> {
     /// Keeps where the frame in the buffers comes from.
     fn come_from(&mut self, from: Origin, frame: WholeFrame, outcome: Outcome)
         ensures same { IsSameBut self.old self.new }
-        ensures lender { F.lender self.new.feed ≡ F.lender self.old.feed }
     {
         let mut origin = from;
         if outcome == Outcome::Unpacked {
@@ -81,10 +80,7 @@ impl<F: Feed> UnpackedFeed<F> {
         requires spent { left_in self.old ≡ [] }
         ensures goes_on { OnOk result (GoesOn F.remaining F.has_passed self.old self.new) }
         ensures ready { OnOk result (HasSupply self.new.state (left_in self.new)) }
-        ensures lender { F.lender self.new.feed ≡ F.lender self.old.feed }
-        ensures counts { F.failures self.old.feed ≤ F.failures self.new.feed }
-        ensures stops { IfErr result
-            (IsFillStop (F.failures self.old.feed) (F.failures self.new.feed)) }
+        ensures feed { FillsFrom F.Feed self.old.feed self.new.feed result }
     {
         let next = self.next_origin();
         self.done = 0;
@@ -114,11 +110,7 @@ impl<F: Feed> UnpackedFeed<F> {
     fn make_ready(&mut self) -> Result<(), Stop>
         ensures goes_on { OnOk result (GoesOn F.remaining F.has_passed self.old self.new) }
         ensures ready { OnOk result (HasSupply self.new.state (left_in self.new)) }
-        ensures lender { F.lender self.new.feed ≡ F.lender self.old.feed }
-        ensures counts { F.failures self.old.feed ≤ F.failures self.new.feed }
-        ensures goes { OnOk result (refusals self.old.state ≡ 0) }
-        ensures stops { IfErr result (IsSupplyStop self.old.state (F.failures self.old.feed)
-            (F.failures self.new.feed)) }
+        ensures feed { SuppliesFrom F.Feed self.old self.new result }
     {
         if self.state == State::Refused {
             return Err(Stop::Memory);
@@ -135,7 +127,6 @@ impl<F: Feed> UnpackedFeed<F> {
         ensures left { left_in self.old ≡ take result buf.new ++ left_in self.new }
         ensures some { 0 < length (left_in self.old) → 0 < length buf.old → 0 < result }
         ensures feed { self.new.feed ≡ self.old.feed }
-        ensures lender { F.lender self.new.feed ≡ F.lender self.old.feed }
         ensures state { self.new.state ≡ self.old.state }
         ensures place { self.new.place ≡ self.old.place }
         ensures fault { self.new.fault ≡ self.old.fault }
@@ -148,7 +139,6 @@ impl<F: Feed> UnpackedFeed<F> {
     /// A read of the feed below failed: what was read of a frame is dropped, and what follows is passed on.
     fn pass_on(&mut self)
         ensures feed { self.new.feed ≡ self.old.feed }
-        ensures lender { F.lender self.new.feed ≡ F.lender self.old.feed }
         ensures state { self.new.state ≡ states.Failed }
     {
         self.buffers.drop_supplied();
@@ -165,11 +155,7 @@ impl<F: Feed> UnpackedFeed<F> {
             → IsAtEnd (remaining_in F.remaining self.old)) }
         ensures passed { IfOk result (λ n. Passes (HasSupplied F.remaining F.has_passed self.old)
             (take n buf.new) (HasSupplied F.remaining F.has_passed self.new)) }
-        ensures lender { F.lender self.new.feed ≡ F.lender self.old.feed }
-        ensures counts { F.failures self.old.feed ≤ F.failures self.new.feed }
-        ensures goes { OnOk result (refusals self.old.state ≡ 0) }
-        ensures stops { IfErr result (IsSupplyStop self.old.state (F.failures self.old.feed)
-            (F.failures self.new.feed)) }
+        ensures feed { SuppliesFrom F.Feed self.old self.new result }
     {
         self.make_ready()?;
         if !self.is_spent() {

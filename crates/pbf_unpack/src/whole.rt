@@ -1,9 +1,9 @@
 //! A whole frame, read from a feed.
 
-ghost use Rattle.std.specs.Prelude.{◌≡◌, ◌+◌, ◌-◌, ◌<◌, ◌≤◌, ◌++◌, length, IfOk, IfErr, OnOk, vec_len, max};
+ghost use Rattle.std.specs.Prelude.{◌≡◌, ◌+◌, ◌-◌, ◌<◌, ◌≤◌, ◌++◌, length, IfOk, OnOk, vec_len, max};
 ghost use Rattle.pbf_frame.specs.declared.header.Head.{Head};
 ghost use Rattle.pbf_frame.specs.declared.header.TheConstants.{HEADER_LIMIT};
-ghost use Rattle.pbf_frame.specs.Reads.{IsFillStop};
+ghost use Rattle.pbf_frame.specs.Reads.{FillsFrom};
 ghost use Rattle.pbf_unpack.specs.Whole.{TookBytes, BeginsWith, Means, IsPlaced};
 ghost use Rattle.pbf_frame.specs.declared.frame.TheConstants.{FILE_LIMIT};
 
@@ -55,9 +55,7 @@ fn read_front<F: Feed>(
         (BeginsWith place front.new.items header.new.items (F.remaining feed.new)) }
     ensures front_held { vec_len front.new ≤ max (HEADER_LIMIT + 3) (vec_len front.old) }
     ensures header_held { vec_len header.new ≤ max (HEADER_LIMIT - 1) (vec_len header.old) }
-    ensures lender { F.lender feed.new ≡ F.lender feed.old }
-    ensures counts { F.failures feed.old ≤ F.failures feed.new }
-    ensures stops { IfErr result (IsFillStop (F.failures feed.old) (F.failures feed.new)) }
+    ensures feed { FillsFrom F.Feed feed.old feed.new result }
 {
     fill_vec(feed, front, 4)?;
     if front.len() < 4 {
@@ -91,9 +89,7 @@ pub(crate) fn read_whole<F: Feed>(
         buffers.new.packed.items (F.remaining feed.new)) }
     ensures placed { IfOk result (IsPlaced buffers.new.packed.items) }
     ensures raw { buffers.new.raw ≡ buffers.old.raw }
-    ensures lender { F.lender feed.new ≡ F.lender feed.old }
-    ensures counts { F.failures feed.old ≤ F.failures feed.new }
-    ensures stops { IfErr result (IsFillStop (F.failures feed.old) (F.failures feed.new)) }
+    ensures feed { FillsFrom F.Feed feed.old feed.new result }
 {
     buffers.packed.clear();
     let head = match read_front(feed, &mut buffers.front, &mut buffers.header, place)? {
