@@ -1,8 +1,9 @@
 //! Loops over a device, however it cuts the bytes.
 
 ghost use Rattle.std.specs.Prelude.{◌≡◌, ◌<◌, ◌≤◌, length, take, IfOk, OnOk, OnErr};
-ghost use Rattle.pbf_frame.specs.Devices.{prepend, Passes, IsAtEnd, HasRisen, IsFront};
-ghost use Rattle.pbf_frame.specs.Transfers.{Added};
+ghost use Rattle.pbf_frame.specs.Devices.{IsAtEnd, HasRisen, IsFront};
+ghost use Rattle.pbf_frame.specs.Keeps.{KeepsFeed};
+ghost use Rattle.pbf_frame.specs.Transfers.{Added, SuppliedFirst};
 
 use crate::device::{Drain, Feed};
 use crate::stop::{DrainFault, FeedFault};
@@ -10,14 +11,11 @@ use crate::stop::{DrainFault, FeedFault};
 /// Fills the buffer, or less of it only at the end of the feed: each read is for all that is still wanted.
 pub(crate) fn fill<F: Feed>(feed: &mut F, buf: &mut [u8]) -> Result<usize, FeedFault>
     ensures bound { IfOk result (λ n. n ≤ length buf.old) }
-    ensures bytes { IfOk result (λ n. F.remaining feed.old
-        ≡ prepend (take n buf.new) (F.remaining feed.new)) }
+    ensures supplied { IfOk result (λ n.
+        SuppliedFirst F.Feed feed.old (take n buf.new) feed.new) }
     ensures end { IfOk result (λ n. n < length buf.old → IsAtEnd (F.remaining feed.new)) }
-    ensures passed { IfOk result (λ n.
-        Passes (F.has_passed feed.old) (take n buf.new) (F.has_passed feed.new)) }
-    ensures counts { F.failures feed.old ≤ F.failures feed.new }
+    ensures keeps { KeepsFeed F.Feed feed.old feed.new }
     ensures failed { OnErr result (HasRisen (F.failures feed.old) (F.failures feed.new)) }
-    ensures lender { F.lender feed.new ≡ F.lender feed.old }
 {
     let mut done = 0;
     while done < buf.len() {

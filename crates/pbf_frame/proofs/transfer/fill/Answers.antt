@@ -16,8 +16,12 @@ loop-done-preserved g c =
     let read = take_read done c.in_ok-count.count buf c.read.new.buf so_far.within long (omega (arith, left, long)) in
     record {
       within = omega (arith, left, same, so_far.within);
-      bytes = prepend_more _ _ _ _ _ so_far.bytes c.in_ok-count.ensures.bytes ∙ ap (λ (xs : List ℕ). prepend xs (g.F.Feed.remaining c.read.new.self)) (sym read);
-      passed = passes_same (g.F.Feed.has_passed c.args.feed.now) (g.F.Feed.has_passed c.read.new.self) _ _ (sym read) (passes_more (g.F.Feed.has_passed c.args.feed.now) (g.F.Feed.has_passed c.loop-done.feed) (g.F.Feed.has_passed c.read.new.self) (take done buf) (take c.in_ok-count.count c.read.new.buf) so_far.passed c.in_ok-count.ensures.passed);
-      counts = omega (arith, c.read.ensures.counts);
-      lender = c.read.ensures.lender ∙ so_far.lender;
+      supplied = record {
+        told = prepend_more _ _ _ _ _ so_far.supplied.told c.in_ok-count.ensures.bytes ∙ ap (λ (xs : List ℕ). prepend xs (g.F.Feed.remaining c.read.new.self)) (sym read);
+        logged = passes_same (g.F.Feed.has_passed c.args.feed.now) (g.F.Feed.has_passed c.read.new.self) _ _ (sym read) (passes_more (g.F.Feed.has_passed c.args.feed.now) (g.F.Feed.has_passed c.loop-done.feed) (g.F.Feed.has_passed c.read.new.self) (take done buf) (take c.in_ok-count.count c.read.new.buf) so_far.supplied.logged c.in_ok-count.ensures.passed);
+      };
+      keeps = record {
+        counts = omega (arith, so_far.keeps.counts, c.read.ensures.counts);
+        lender = c.read.ensures.lender ∙ so_far.keeps.lender;
+      };
     }
