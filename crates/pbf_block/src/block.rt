@@ -16,6 +16,7 @@ ghost use Rattle.pbf_block.specs.Numbers.{counts_of};
 ghost use Rattle.pbf_block.specs.Runs.{entities_left, joined_runs, runs_left};
 ghost use Rattle.pbf_wire.specs.Fields.{occurrence};
 ghost use Rattle.pbf_block.specs.Scale.{scale_of, stored_texts};
+ghost use Rattle.pbf_strings.specs.declared.table.TheConstants.{MOST_TEXTS};
 ghost use Rattle.pbf_wire.specs.declared.limits.TheConstants.{OFFSET_LIMIT, RAW_LIMIT, SUM_LIMIT};
 
 use crate::counts::Counts;
@@ -196,7 +197,7 @@ impl<'a> Block<'a> {
     pub fn held(&self) -> u64
         ensures value { result
             ≡ 4 * length (stored_texts (fields_in self.now.at self.now.payload.now)) }
-        ensures bound { result ≤ 4194304 }
+        ensures bound { result ≤ 4 * MOST_TEXTS }
     {
         self.opened.held()
     }

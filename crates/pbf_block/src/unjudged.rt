@@ -9,6 +9,7 @@ ghost use Rattle.pbf_block.specs.Kinds.{is_among};
 ghost use Rattle.pbf_block.specs.Numbers.{counts_of};
 ghost use Rattle.pbf_block.specs.Runs.{joined_runs, runs_left};
 ghost use Rattle.pbf_block.specs.Scale.{scale_of, stored_texts};
+ghost use Rattle.pbf_strings.specs.declared.table.TheConstants.{MOST_TEXTS};
 ghost use Rattle.pbf_wire.specs.declared.limits.TheConstants.{OFFSET_LIMIT, RAW_LIMIT};
 
 use crate::block::bytes_in;
@@ -114,7 +115,7 @@ impl<'a> UnjudgedBlock<'a> {
     pub(crate) fn held(&self) -> u64
         ensures value { result
             ≡ 4 * length (stored_texts (fields_in self.now.at self.now.payload.now)) }
-        ensures bound { result ≤ 4194304 }
+        ensures bound { result ≤ 4 * MOST_TEXTS }
     {
         self.table.held()
     }

@@ -1,6 +1,6 @@
 //! The parts of a frame, read from a feed.
 
-ghost use Rattle.std.specs.Prelude.{None, Ok, true, ◌≡◌, ◌+◌, ◌<◌, ◌≤◌, length, IfOk, OnOk, IfErr, IfSome, IfNone, vec_len, max};
+ghost use Rattle.std.specs.Prelude.{None, Ok, true, ◌≡◌, ◌+◌, ◌-◌, ◌<◌, ◌≤◌, length, IfOk, OnOk, IfErr, IfSome, IfNone, vec_len, max};
 ghost use Rattle.byteorder.specs.Endian.{big_number};
 ghost use Rattle.pbf_wire.specs.Least.{least};
 ghost use Rattle.pbf_frame.specs.Devices.{IsAtEnd, given_prefix};
@@ -8,7 +8,7 @@ ghost use Rattle.pbf_frame.specs.Transfers.{SuppliedFirst};
 ghost use Rattle.pbf_wire.specs.Faults.{fault};
 ghost use Rattle.pbf_frame.specs.declared.frame.TheConstants.{FILE_LIMIT};
 ghost use Rattle.pbf_frame.specs.Frames.{order_faults, next_of};
-ghost use Rattle.pbf_frame.specs.declared.header.TheConstants.{LARGEST_SIZE};
+ghost use Rattle.pbf_frame.specs.declared.header.TheConstants.{HEADER_LIMIT, LARGEST_SIZE};
 ghost use Rattle.pbf_frame.specs.Reads.{UsesFeed, FillsFrom, ReadsPart, ReadsBytes, Skips, GaveBlob, GaveFrame, GaveEnd, IsWithinFile};
 ghost use Rattle.pbf_frame.specs.Refusals.{RefusedFrom};
 ghost use Rattle.pbf_frame.specs.Sound.{IsSoundBlob};
@@ -139,7 +139,7 @@ fn read_header<F: Feed>(
     ensures small { IfOk result (λ head. head.size ≤ LARGEST_SIZE) }
     ensures end { IfOk result (λ head.
         start.place + 4 + vec_len header.new + head.size ≤ FILE_LIMIT) }
-    ensures held { vec_len header.new ≤ max 65535 (vec_len header.old) }
+    ensures held { vec_len header.new ≤ max (HEADER_LIMIT - 1) (vec_len header.old) }
     ensures supplied { OnOk result (SuppliedFirst F.Feed feed.old header.new.items feed.new) }
     ensures spelled { OnOk result (length header.new.items ≡ big_number 4 prefix.now) }
     ensures ordered { IfOk result (λ head.
@@ -263,7 +263,7 @@ pub(crate) fn read_frame<F: Feed>(
         IfSome o (λ seen. (start.place < seen.blob_at) × IsWithinFile seen)) }
     ensures sound { IfOk result (λ o.
         IfSome o (λ seen. IsSoundBlob seen.kind seen.blob_at blob.new.items)) }
-    ensures header_held { vec_len header.new ≤ max 65535 (vec_len header.old) }
+    ensures header_held { vec_len header.new ≤ max (HEADER_LIMIT - 1) (vec_len header.old) }
     ensures blob_held { vec_len blob.new ≤ max LARGEST_SIZE (vec_len blob.old) }
     ensures feed { UsesFeed F.Feed feed.old feed.new result }
 {

@@ -7,6 +7,7 @@ ghost use Rattle.pbf_wire.specs.declared.fault.ReadFault.TheVariants.{Refused};
 ghost use Rattle.pbf_wire.specs.Occurrence.{items};
 ghost use Rattle.pbf_strings.specs.Texts.{text, texts, longest, first_text, text_at, count_fault, table_fault};
 ghost use Rattle.pbf_wire.specs.Wire.{ok_unless};
+ghost use Rattle.pbf_strings.specs.declared.table.TheConstants.{MOST_TEXTS};
 ghost use Rattle.pbf_wire.specs.declared.limits.TheConstants.{OFFSET_LIMIT, RAW_LIMIT};
 
 use pbf_wire::{Fault, Fields, Kind, Payload, ReadFault, Reason, judge_wire};
@@ -237,7 +238,7 @@ impl<'a> Table<'a> {
     /// How many bytes the table holds beside the message: four for each text, at most 4,194,304.
     pub fn held(&self) -> u64
         ensures value { result ≡ 4 * length self.now }
-        ensures bound { result ≤ 4194304 }
+        ensures bound { result ≤ 4 * MOST_TEXTS }
     {
         4 * self.places.len() as u64
     }
