@@ -46,11 +46,16 @@ pub record UsesPacker {D S H X : Type 0} (d : drain.Ghosts D) (old new : Packing
   pub keeps : KeepsDrain d old.drain new.drain
   pub spent : (stop : Stop) → HasStopped old stop → (result ≡ Err stop) × (new.drain ≡ old.drain)
 
--- what `push` promises, of a call to which the weight is given
+-- what a call that adds an entity promises
 pub record Pushes {D S H X : Type 0} (d : drain.Ghosts D) (e : EntitySpec) (old new : Packing D S H) (result : Result X Stop) : Type 0 where
+  -- there is a header still
   pub header : has_header new ≡ true
+  -- it waits with the others if they may be in one block, otherwise by itself
   pub pending : (es : List EntitySpec) → Pending old es → OnOk result (Pending new (then_pending es e))
+  -- if it does not fit the block of those that wait, these went out as a block, by what the drain reports and by each log; otherwise nothing did
   pub written : (es : List EntitySpec) → Pending old es → OnOk result (Added d old.drain (then_written es e) new.drain)
+  -- the packer goes on
   pub packing : OnOk result (IsPacking old × IsPacking new)
+  -- what went out is a prefix of what was to be written
   pub front : IsPacking old → (es : List EntitySpec) → Pending old es → IsFront (d.taken old.drain) (d.taken new.drain) (then_written es e)
   pub uses : UsesPacker d old new result

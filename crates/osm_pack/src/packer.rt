@@ -50,7 +50,7 @@ impl<D: Drain, S: BuildHasher> Packer<D, S> {
     ghost use Rattle.pbf_header.specs.declared.write.TheConstants.{MOST_HEADER_TEXT};
     ghost use Rattle.pbf_frame.specs.Devices.{IsFront};
     ghost use Rattle.pbf_frame.specs.Transfers.{Added};
-    ghost use Rattle.osm_pack.specs.Cuts.{header_frame, then_pending, then_written, at_end};
+    ghost use Rattle.osm_pack.specs.Cuts.{header_frame, at_end};
     ghost use Rattle.osm_pack.specs.declared.open_block.TheConstants.{MOST_HELD};
     ghost use Rattle.osm_pack.specs.View.{entity_shown};
     ghost use Rattle.osm_pack.specs.Packing.{Pending, Pushes, UsesPacker, IsPacking, has_header, packer_held};
@@ -134,25 +134,8 @@ impl<D: Drain, S: BuildHasher> Packer<D, S> {
     pub fn push(&mut self, entity: &EntityRef<'_>) -> Result<(), Stop>
         requires begun { has_header self.old ≡ true }
         requires fits { EntityFits (entity_of entity.now) }
-        // There is a header still.
-        ensures header { has_header self.new ≡ true }
-        // It waits with the others if they may be in one block, otherwise by itself.
-        ensures pending { (es : List EntitySpec) → Pending self.old es
-            → OnOk result (Pending self.new (then_pending es (entity_of entity.now))) }
-        // If it does not fit the block of those that wait, these went out as a block, by what the drain reports and by each log; otherwise
-        // nothing did.
-        ensures written { (es : List EntitySpec) → Pending self.old es
-            → OnOk result (Added D.Drain self.old.drain
-            (then_written es (entity_of entity.now)) self.new.drain) }
-        // The packer goes on.
-        ensures packing { OnOk result (IsPacking self.old × IsPacking self.new) }
-        // What went out is a prefix of what was to be written.
-        ensures front { IsPacking self.old → (es : List EntitySpec) → Pending self.old es
-            → IsFront (D.taken self.old.drain) (D.taken self.new.drain)
-            (then_written es (entity_of entity.now)) }
-        // After a stop the packer is spent: it returns the same stop again, and the drain is as it was. `Write` comes only if the drain's count
-        // of failures rose; any other stop is `Memory`. The drain keeps its references, and its count of failures doesn't fall.
-        ensures uses { UsesPacker D.Drain self.old self.new result }
+        // It waits with the others, or these went out as a block and it waits by itself.
+        ensures { Pushes D.Drain (entity_of entity.now) self.old self.new result }
     {
         self.push_weighed(entity, entity.weight())
     }

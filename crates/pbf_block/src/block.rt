@@ -1,6 +1,6 @@
 //! A PrimitiveBlock that is judged and read.
 
-ghost use Rattle.std.specs.Prelude.{◌≡◌, ◌+◌, ◌*◌, ◌≤◌, ◌<◌, ◌^◌, [], None, Some, Err, IfOk, IsTrue, OnOk, length};
+ghost use Rattle.std.specs.Prelude.{◌≡◌, ◌+◌, ◌*◌, ◌≤◌, ◌<◌, [], None, Some, Err, IfOk, IsTrue, OnOk, length};
 ghost use Rattle.std.specs.List.{AllByRecursion, filter};
 ghost use Rattle.std.specs.Option.{option_or, option_map};
 ghost use Rattle.pbf_wire.specs.declared.fault.Fault.{Fault};

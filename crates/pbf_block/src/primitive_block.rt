@@ -1,6 +1,6 @@
 //! A PrimitiveBlock: its fields, and its rules phase by phase.
 
-ghost use Rattle.std.specs.Prelude.{◌≡◌, ◌≤◌, ◌^◌, ◌++◌, [], IsTrue};
+ghost use Rattle.std.specs.Prelude.{◌≡◌, ◌≤◌, ◌++◌, [], IsTrue};
 ghost use Rattle.std.specs.List.{flat_map};
 ghost use Rattle.pbf_wire.specs.declared.fault.Reason.TheVariants.{Granularity, DateGranularity};
 ghost use Rattle.pbf_wire.specs.Faults.{found_in, in_last, missing, twice};

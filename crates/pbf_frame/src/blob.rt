@@ -1,6 +1,6 @@
 //! The Blob of a frame: its payload, and why it is refused.
 
-ghost use Rattle.std.specs.Prelude.{◌≡◌, ◌+◌, ◌<◌, ◌≤◌, ◌^◌, List, [], None, length};
+ghost use Rattle.std.specs.Prelude.{◌≡◌, ◌+◌, ◌<◌, ◌≤◌, List, [], None, length};
 ghost use Rattle.std.specs.Option.{option_map};
 ghost use Rattle.pbf_wire.specs.declared.fault.Fault.{Fault};
 ghost use Rattle.pbf_wire.specs.Faults.{or_more, found_in};

@@ -1,6 +1,6 @@
 //! Frames: what they are, and what a reader lends of one.
 
-ghost use Rattle.std.specs.Prelude.{◌≡◌, ◌+◌, ◌<◌, ◌≤◌, ◌^◌, length, nat_le, if◌then◌else◌, Some, None};
+ghost use Rattle.std.specs.Prelude.{◌≡◌, ◌+◌, ◌<◌, ◌≤◌, length, nat_le, if◌then◌else◌, Some, None};
 ghost use Rattle.pbf_wire.specs.declared.limits.TheConstants.{OFFSET_LIMIT, RAW_LIMIT};
 ghost use Rattle.pbf_frame.specs.declared.frame.TheConstants.{FILE_LIMIT};
 

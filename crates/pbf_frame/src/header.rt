@@ -1,6 +1,6 @@
 //! The BlobHeader of a frame: its type and the size of its blob.
 
-ghost use Rattle.std.specs.Prelude.{◌≡◌, ◌+◌, ◌≤◌, ◌^◌, length, IfOk, is_none, unwrap_or};
+ghost use Rattle.std.specs.Prelude.{◌≡◌, ◌+◌, ◌≤◌, length, IfOk, is_none, unwrap_or};
 ghost use Rattle.std.specs.Option.{option_map};
 ghost use Rattle.pbf_wire.specs.declared.fault.Reason.TheVariants.{Missing};
 ghost use Rattle.pbf_wire.specs.Faults.{fault_where, found_in};

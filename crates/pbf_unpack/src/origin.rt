@@ -1,6 +1,5 @@
 //! From a place in the raw file back to the packed one.
 
-ghost use Rattle.std.specs.Prelude.{◌≡◌};
 
 use crate::feed::{Origin, UnpackedFeed};
 use crate::reports::Place;
