@@ -62,9 +62,10 @@ ParentsStops first second third fourth old new read wrote =
 
 -- ---- the same by the devices of the call, each before it and after it: a read or a write failed if the count of its device rose
 
--- of `convert`
-abbrev pub StopsConverting : {F G D : Type 0} → feed.Ghosts F → (first first_now : F) → feed.Ghosts G → (second second_now : G) → drain.Ghosts D → (old new : D) → Stop → Type 0
-StopsConverting f first first_now g second second_now d old new = ConvertStops (f.remaining first) (g.remaining second) (d.taken old) (d.taken new) (ReadFailed f first first_now ⊎ ReadFailed g second second_now) (WriteFailed d old new)
+-- of a call with two passes, of which the first judges so: `convert`, `show`
+abbrev pub StopsTwoPasses : {F G D : Type 0} → (Option (List ℕ) → Option Verdict) → feed.Ghosts F → (first first_now : F) → feed.Ghosts G → (second second_now : G) → drain.Ghosts D → (old new : D) → Stop → Type 0
+StopsTwoPasses judge f first first_now g second second_now d old new =
+    Caused (RefusedFirst (judge (f.remaining first)) (d.taken old) (d.taken new)) (ReadFailed f first first_now ⊎ ReadFailed g second second_now) (WriteFailed d old new) (ChangedIn 2 (f.remaining first) (g.remaining second))
 
 -- of `extract`
 abbrev pub StopsExtracting : {F G K D : Type 0} → feed.Ghosts F → (first first_now : F) → feed.Ghosts G → (second second_now : G) → feed.Ghosts K → (third third_now : K) → drain.Ghosts D → (old new : D) → Stop → Type 0
