@@ -5,7 +5,9 @@ pub returns : goal.returns
 returns g c =
     let all = c.step_gather.ensures.steps in
     record {
-      step = step_less g.F.Feed _ _ _ _ _ _ _ _ (λ f t. (t.sound, t.taken)) (λ s. s.0) all.step;
-      limited = all.limited;
-      space = all.space;
+      steps = record {
+        step = step_less g.F.Feed _ _ _ _ _ _ _ _ (λ f t. (t.sound, t.taken)) (λ s. s.0) all.step;
+        limited = all.limited;
+        space = all.space;
+      };
     }
