@@ -3,4 +3,4 @@ use Rattle.pbfcut.proofs.pick.step_write.Goals as goal
 
 pub returns : goal.returns
 unfolding pick_of
-returns g c = c.step_pack.ensures.steps
+returns g c = record { steps = c.step_pack.ensures.steps }

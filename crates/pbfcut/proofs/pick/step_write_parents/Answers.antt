@@ -6,4 +6,4 @@ use Rattle.pbfcut.proofs.pick.step_write_parents.Goals as goal
 pub returns : goal.returns
 unfolding pick_of
 returns g c =
-    subst (λ (sets : KeptSets). StepsPacking g.F.Feed c.args.reader.now c.step_pack.new.reader g.D.Drain (picked_by sets) c.args.packer.now c.step_pack.new.packer c.args.pass.now c.step_pack.new.pass c.step_pack.result) c.chosen.ensures c.step_pack.ensures.steps
+    record { steps = subst (λ (sets : KeptSets). StepsPacking g.F.Feed c.args.reader.now c.step_pack.new.reader g.D.Drain (picked_by sets) c.args.packer.now c.step_pack.new.packer c.args.pass.now c.step_pack.new.pass c.step_pack.result) c.chosen.ensures c.step_pack.ensures.steps }
