@@ -3,3 +3,4 @@ pub mod Parents
 pub mod Phases
 pub mod First
 pub mod Seen
+pub mod Looking

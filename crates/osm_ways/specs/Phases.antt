@@ -1,5 +1,5 @@
 -- What the passes do with each entity of a list, and the sets that they gather.
-use Rattle.std.specs.Prelude.{ℤ, Bool, if◌then◌else◌, List, refl, Option, Some, None}
+use Rattle.std.specs.Prelude.{◌≡◌, ℤ, Bool, if◌then◌else◌, List, refl, Option, Some, None, Result, OnOk, OnErr}
 use Rattle.std.specs.Coded.{Coded, code_by, coded×, coded_ℤ}
 use Rattle.std.specs.List.{fold}
 use Rattle.std.specs.Ordering.{int_cmp}
@@ -95,6 +95,11 @@ sets_with_relation sets id members =
 abbrev pub node_step : Ids → Seen → Ids
 node_step ids (a_node id inside) = ids_with_node ids id inside
 node_step ids _ = ids
+
+-- a node was taken; if memory is refused, all is as it was
+pub record TakesNode {X E : Type 0} (node : Seen) (before now : NodeSets) (result : Result X E) : Type 0 where
+  pub ok : OnOk result (now ≡ record { area = before.area; box_ids = node_step before.box_ids node })
+  pub err : OnErr result (now ≡ before)
 
 abbrev pub way_step : WaySets → Seen → WaySets
 way_step sets (a_way id refs) = sets_with_way sets id refs

@@ -5,6 +5,7 @@ ghost use Rattle.std.specs.FinSet as set;
 ghost use Rattle.osm_entity.specs.Sources.{lent_member, refs_left};
 ghost use Rattle.osm_entity.specs.Views.{way_of, relation_of};
 ghost use Rattle.osm_ids.specs.Cursors.{Lacks};
+ghost use Rattle.osm_ways.specs.Looking.{LooksUp};
 ghost use Rattle.osm_ways.specs.Selection.{is_selecting, is_kept_way};
 ghost use Rattle.osm_ways.specs.Seen.{seen_way, seen_member, seen_relation};
 ghost use Rattle.osm_ways.specs.Phases.{is_chosen, ids_or_none};
@@ -47,8 +48,7 @@ impl<'a> Model for Chooser<'a> {
 
 /// Whether an id is among those of all parents, if they were chosen.
 fn has(ids: &mut Option<Lookup<'_>>, id: i64) -> bool
-    ensures found { result ≡ set.contains (ids_or_none ids.old) id }
-    ensures same { ids.new ≡ ids.old }
+    ensures { LooksUp (set.contains (ids_or_none ids.old) id) ids.old ids.new result }
 {
     match ids {
         Some(ids) => ids.has(id),
@@ -60,8 +60,7 @@ impl<'a> Chooser<'a> {
     /// Whether nodes of this id are kept: it is that of a node in the box, or a ref of a kept way. The choice stays the same.
     #[inline(always)]
     pub fn keeps_node(&mut self, id: i64) -> bool
-        ensures kept { result ≡ set.contains self.old.ways.node_ids id }
-        ensures same { self.new ≡ self.old }
+        ensures { LooksUp (set.contains self.old.ways.node_ids id) self.old self.new result }
     {
         self.box_ids.has(id) || self.refs.has(id)
     }
@@ -76,17 +75,16 @@ impl<'a> Chooser<'a> {
 
     /// Whether the way is kept: one of its refs is a node in the box. Of two ways of one id each is judged by itself.
     pub fn keeps_way(&mut self, way: &WayRef<'_>) -> bool
-        ensures kept { result ≡ is_chosen self.old (seen_way (way_of way.now)) }
-        ensures same { self.new ≡ self.old }
+        ensures { LooksUp (is_chosen self.old (seen_way (way_of way.now)))
+            self.old self.new result }
     {
         self.keeps_refs(way.refs())
     }
 
     /// The same of a way by its refs, which are all that counts of it.
     pub fn keeps_refs(&mut self, refs: Refs<'_>) -> bool
-        ensures kept { result
-            ≡ is_kept_way (set.contains self.old.ways.box_ids) (refs_left refs.entry) }
-        ensures same { self.new ≡ self.old }
+        ensures { LooksUp (is_kept_way (set.contains self.old.ways.box_ids) (refs_left refs.entry))
+            self.old self.new result }
     {
         is_kept_by(&mut self.box_ids, refs)
     }
@@ -94,9 +92,8 @@ impl<'a> Chooser<'a> {
     /// Whether the relation is kept: a node or a way among its members is, or a relation, with all parents. Of two relations of one
     /// id each is judged by itself.
     pub fn keeps_relation(&mut self, relation: &RelationRef<'_>) -> bool
-        ensures kept { result
-            ≡ is_chosen self.old (seen_relation (relation_of relation.now)) }
-        ensures same { self.new ≡ self.old }
+        ensures { LooksUp (is_chosen self.old (seen_relation (relation_of relation.now)))
+            self.old self.new result }
     {
         for member in relation.members() {
             if self.selects(&member) {
@@ -108,10 +105,9 @@ impl<'a> Chooser<'a> {
 
     /// Whether the member selects its relation.
     fn selects(&mut self, member: &MemberRef<'_>) -> bool
-        ensures selected { result ≡ is_selecting (set.contains self.old.ways.node_ids)
+        ensures { LooksUp (is_selecting (set.contains self.old.ways.node_ids)
             (set.contains self.old.ways.way_ids) (set.contains self.old.relation_ids)
-            (seen_member (lent_member member.now)) }
-        ensures same { self.new ≡ self.old }
+            (seen_member (lent_member member.now))) self.old self.new result }
     {
         match member.kind {
             MemberKind::Node => self.keeps_node(member.id),

@@ -1,14 +1,15 @@
 //! The phases of a selection, each of its own type: first all nodes are taken, then all ways, then the entities are chosen.
 
-ghost use Rattle.std.specs.Prelude.{◌≡◌, true, IfOk, OnOk, OnErr};
+ghost use Rattle.std.specs.Prelude.{◌≡◌, true, IfOk, OnOk};
 ghost use Rattle.std.specs.List.{fold};
 ghost use Rattle.std.specs.FinSet as set;
 ghost use Rattle.osm_entity.specs.Sources.{refs_left};
 ghost use Rattle.osm_entity.specs.Views.{node_of, way_of};
 ghost use Rattle.osm_box.specs.BoundingBox.{is_inside};
+ghost use Rattle.osm_ways.specs.Looking.{LooksUp};
 ghost use Rattle.osm_ways.specs.Selection.{is_kept_way, a_node};
 ghost use Rattle.osm_ways.specs.Seen.{seen_node, seen_way, seen_refs};
-ghost use Rattle.osm_ways.specs.Phases.{start_nodes, start_ways, node_step, way_step, sets_of, without_parents};
+ghost use Rattle.osm_ways.specs.Phases.{TakesNode, start_nodes, start_ways, way_step, sets_of, without_parents};
 
 use osm_entity::{BoundingBox, NodeRef, Refs, WayRef};
 use osm_ids::{IdLookup, IdSet, Known, SealedIds};
@@ -58,13 +59,7 @@ impl NodePhase {
     ///
     /// If memory is refused, the phase is as it was.
     pub fn take_node(&mut self, node: &NodeRef<'_>) -> Result<(), AllocError>
-        ensures ok { OnOk result (self.new
-            ≡ record {
-              area = self.old.area;
-              box_ids = node_step self.old.box_ids
-                  (seen_node self.old.area (node_of node.now));
-            }) }
-        ensures err { OnErr result (self.new ≡ self.old) }
+        ensures { TakesNode (seen_node self.old.area (node_of node.now)) self.old self.new result }
     {
         self.take_place(node.id(), node.nano_lat(), node.nano_lon())
     }
@@ -75,13 +70,7 @@ impl NodePhase {
     ///
     /// If memory is refused, the phase is as it was.
     pub fn take_place(&mut self, id: i64, lat: i128, lon: i128) -> Result<(), AllocError>
-        ensures ok { OnOk result (self.new
-            ≡ record {
-              area = self.old.area;
-              box_ids = node_step self.old.box_ids
-                  (a_node id (is_inside self.old.area lat lon));
-            }) }
-        ensures err { OnErr result (self.new ≡ self.old) }
+        ensures { TakesNode (a_node id (is_inside self.old.area lat lon)) self.old self.new result }
     {
         if self.area.contains(lat, lon) {
             self.take_inside(id)?;
@@ -96,12 +85,7 @@ impl NodePhase {
     /// If memory is refused, the phase is as it was.
     #[inline(always)]
     pub fn take_inside(&mut self, id: i64) -> Result<(), AllocError>
-        ensures ok { OnOk result (self.new
-            ≡ record {
-              area = self.old.area;
-              box_ids = node_step self.old.box_ids (a_node id true);
-            }) }
-        ensures err { OnErr result (self.new ≡ self.old) }
+        ensures { TakesNode (a_node id true) self.old self.new result }
     {
         self.box_ids.add(id)?;
         Ok(())
@@ -236,8 +220,8 @@ impl<'a> SeenWay<'a> {
 
 /// Whether one of these refs is among the ids.
 pub(crate) fn is_kept_by<I: IdLookup>(ids: &mut I, refs: Refs<'_>) -> bool
-    ensures kept { result ≡ is_kept_way (set.contains (I.ids ids.old)) (refs_left refs.entry) }
-    ensures same { ids.new ≡ ids.old }
+    ensures { LooksUp (is_kept_way (set.contains (I.ids ids.old)) (refs_left refs.entry))
+        ids.old ids.new result }
 {
     let mut rest = refs;
     'refs: while let Some(id) = rest.next() {

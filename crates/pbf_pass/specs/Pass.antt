@@ -1,5 +1,5 @@
 -- What one frame does to a pass, and what a pass is after all frames.
-use Rattle.std.specs.Prelude.{◌≡◌, ℕ, ℤ, List, [], ◌∷◌, Bool, true, false, Option, Some, None, Result, Ok, Err}
+use Rattle.std.specs.Prelude.{◌≡◌, ◌≤◌, ℕ, ℤ, List, [], ◌∷◌, Bool, true, false, Option, Some, None, Result, Ok, Err}
 use Rattle.std.specs.List.{flat_map, fold, last_or}
 use Rattle.std.specs.Option.{option_map}
 use Rattle.osm_entity.specs.Entity.{EntitySpec, node, way, relation}
@@ -12,10 +12,12 @@ use Rattle.osm_ways.specs.Seen.{seen_node, seen_way, seen_relation}
 use Rattle.pbf_header.specs.Header.{HeaderSpec, header_of, header_in}
 use Rattle.pbf_block.specs.declared.counts.Counts.{Counts}
 use Rattle.pbf_frame.specs.declared.device.Feed as feed
+use Rattle.pbf_frame.specs.declared.frame.TheConstants.{FILE_LIMIT}
 use Rattle.pbf_frame.specs.declared.reader.FrameReader.{FrameReader}
+use Rattle.pbf_frame.specs.declared.reader.TheConstants.{MOST_BUFFERED}
 use Rattle.pbf_frame.specs.declared.stop.Stop.{Stop}
 use Rattle.pbf_frame.specs.Frames.{FrameSpec}
-use Rattle.pbf_frame.specs.Next.{IsNext}
+use Rattle.pbf_frame.specs.Next.{IsNext, place_of, held_by}
 use Rattle.pbf_frame.specs.Verdict.{Verdict, Says}
 use Rattle.pbf_pass.specs.declared.pass.Pass.{Pass}
 use Rattle.pbf_pass.specs.Counting.{counted_with, counts_of, entities_in, stored_entities}
@@ -39,6 +41,16 @@ pub record IsStep {F : Type 0} (g : feed.Ghosts F) (old new : FrameReader F) (to
   pub answer : Result (Option FrameSpec) Stop
   pub next : IsNext g.remaining g.failures g.lender g.has_passed old answer new
   pub follows : Follows took failed same answer result
+
+-- what a step does, and where its reader is then, whatever is returned
+pub record Steps {F : Type 0} (g : feed.Ghosts F) (old new : FrameReader F) (took : FrameSpec → Type 0) (failed : FrameSpec → Stop → Type 0) (same : Type 0) (result : Result Bool Stop) : Type 0 where
+  -- on `true` exactly the next frame's bytes are gone, its place has risen, and it was taken. A reader at its end returns `false`, a spent one
+  -- its stop, and nothing else changes
+  pub step : IsStep g old new took failed same result
+  -- the place is at most 2^62
+  pub limited : place_of new ≤ FILE_LIMIT
+  -- the reader holds at most 33,620,990 bytes
+  pub space : held_by new ≤ MOST_BUFFERED
 
 -- what failed at a frame is that its payload has a fault, or that memory was refused
 abbrev pub FailsToJudge : FrameSpec → Stop → Type 0

@@ -1,10 +1,11 @@
 -- What a refusal says of the bytes that were read, whether the feed reports them or not.
-use Rattle.std.specs.Prelude.{◌≡◌, ℕ, List, [], Bool, Option, Some}
+use Rattle.std.specs.Prelude.{◌≡◌, ℕ, List, [], Bool, Option, Some, Result, IfErr}
 use Rattle.pbf_wire.specs.declared.fault.Fault.{Fault}
 use Rattle.pbf_frame.specs.declared.device.Feed as feed
 use Rattle.pbf_frame.specs.declared.device.Drain as drain
 use Rattle.pbf_frame.specs.declared.stop.Stop.{Stop}
 use Rattle.pbf_frame.specs.declared.stop.Stop.TheVariants as stop
+use Rattle.pbf_frame.specs.Keeps.{KeepsFeed}
 use Rattle.pbf_frame.specs.Refusals.{Refuses}
 use Rattle.pbf_frame.specs.Transfers.{Added}
 use Rattle.pbf_frame.specs.Verdict.{Verdict}
@@ -14,7 +15,8 @@ use Rattle.pbf_pass.specs.declared.receipt.Halt.TheVariants as halt
 use Rattle.pbf_pass.specs.declared.pass.Judged.{Judged}
 use Rattle.pbf_pass.specs.HeaderLimit.{header_limit, held_header}
 use Rattle.pbf_pass.specs.Hashing.{IsLength, IsDigestOf, digest_if}
-use Rattle.pbf_pass.specs.Stops.{FaultOf}
+use Rattle.pbf_pass.specs.Judged.{judged_file}
+use Rattle.pbf_pass.specs.Stops.{Caused, FaultOf, ReadFailed, unchanged}
 
 -- what a reader's feed gave is why it stopped: it is refused, or it changed; any other stop says nothing of the bytes
 abbrev pub RefusesRest : {F : Type 0} → feed.Ghosts F → (old new : F) → (Stop → List ℕ → Type 0) → Stop → Type 0
@@ -62,3 +64,14 @@ HaltsFile f old new hashes d before now judge h = Halts (λ refusal. RefusesFile
 abbrev pub IsLimitRefused : Judged → Halt → Type 0
 IsLimitRefused told (halt.Refused refusal) = (header_limit (held_header told.pass) ≡ Some refusal.fault) × (refusal.read ≡ told.count) × (refusal.input ≡ told.digest)
 IsLimitRefused told (halt.Stopped s) = ⊥
+
+-- ---- however a call ends
+
+-- what a call says that judges a file, but for what it returns of one without a fault
+pub record EndsJudging {F X : Type 0} (f : feed.Ghosts F) (old new : F) (hashes : Bool) (result : Result X Halt) : Type 0 where
+  -- the feed gave `read` bytes of this digest. The fault is the first of whatever begins so (or of them, if the feed was at its end)
+  pub refused : IfErr result (Halts (RefusesFile f old new hashes (λ b. judged_file (Some b))))
+  -- `Refused` names the first fault of the file. `Read` comes only if the feed's count of failures rose; `Write` and `Changed` never come
+  pub stops : IfErr result (λ h. Caused (FaultOf (judged_file (f.remaining old))) (ReadFailed f old new) ⊥ unchanged (stop_of h))
+  -- the feed keeps its references, and its count of failures doesn't fall
+  pub keeps : KeepsFeed f old new

@@ -1,5 +1,6 @@
 -- What a pass does that visits the frames of a file one after another, and why it stops.
-use Rattle.std.specs.Prelude.{◌≡◌, ◌⊎◌, ℕ, List, [], ◌∷◌, Option, None, Some, length}
+use Rattle.std.specs.Prelude.{◌≡◌, ◌⊎◌, ℕ, List, [], ◌∷◌, Option, None, Some, Result, OnOk, length}
+use Rattle.std.specs.Borrow.{GName}
 use Rattle.pbf_frame.specs.declared.stop.Stop.{Stop}
 use Rattle.pbf_frame.specs.Frames.{FrameSpec}
 use Rattle.pbf_frame.specs.Verdict.{Verdict, with_first_known, VerdictAfter, Says}
@@ -50,3 +51,8 @@ StopsVisit took failed known read before now stop = StopsBehind took known read 
 -- it stopped for these bytes, and no read failed
 abbrev pub RefusesVisit : {V : Type 0} → Takes V → Fails V → (List ℕ → Option Verdict) → (before now : V) → Stop → List ℕ → Type 0
 RefusesVisit took failed judge before now stop bytes = StopsVisit took failed (judge bytes) ⊥ before now stop
+
+-- what a call leaves of its visitor: it can take a frame if the call succeeds, and goes through the same references
+pub record KeepsVisitor {V X E : Type 0} (can_take : V → Type 0) (goes_through : V → List GName) (before now : V) (result : Result X E) : Type 0 where
+  pub ready : OnOk result (can_take now)
+  pub lender : goes_through now ≡ goes_through before

@@ -5,9 +5,8 @@ ghost use Rattle.pbf_pass.specs.Given.{GaveFile};
 ghost use Rattle.pbf_pass.specs.Hashing.{digest_if};
 ghost use Rattle.pbf_pass.specs.Judged.{judged_file};
 ghost use Rattle.pbf_pass.specs.Pass.{CountsFile};
-ghost use Rattle.pbf_pass.specs.Refused.{RefusesFile, Halts, stop_of};
 ghost use Rattle.pbf_pass.specs.Stops.{Caused, FaultOf, unchanged, ReadFailed};
-ghost use Rattle.pbf_frame.specs.Keeps.{KeepsFeed};
+ghost use Rattle.pbf_pass.specs.Refused.{EndsJudging};
 
 use crate::pass::{Nothing, judge};
 use crate::receipt::{Halt, InputReceipt, Passes};
@@ -43,15 +42,8 @@ pub fn check_with_receipt<F: Feed>(passes: Passes, feed: &mut F) -> Result<Input
     // The feed gave a file, of this digest if it is hashed, to its end. It has no fault, and the counts are those of its entities.
     ensures receipt { IfOk result (λ receipt. GaveFile F.Feed feed.old feed.new
         (digest_if passes.hashes receipt.input) (λ file. CountsFile (judged_file (Some file)) receipt.counts)) }
-    // The feed gave `read` bytes of this digest. The fault is the first of whatever begins so (or of them, if the feed was at its end).
-    ensures refused { IfErr result
-        (Halts (RefusesFile F.Feed feed.old feed.new passes.hashes
-        (λ b. judged_file (Some b)))) }
-    // Each stop has its cause, as of `check`.
-    ensures stops { IfErr result (λ h. Caused (FaultOf (judged_file (F.remaining feed.old)))
-        (ReadFailed F.Feed feed.old feed.new) ⊥ unchanged (stop_of h)) }
-    // The feed keeps its references, and its count of failures doesn't fall.
-    ensures keeps { KeepsFeed F.Feed feed.old feed.new }
+    // However it ends: what it refuses, why it stops, and that it keeps its feed.
+    ensures ends { EndsJudging F.Feed feed.old feed.new passes.hashes result }
 {
     let told = judge(passes, feed, &mut Nothing)?;
     let input = told.digest;

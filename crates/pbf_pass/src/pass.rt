@@ -1,6 +1,6 @@
 //! A pass over a file: what it takes and gathers frame by frame, and the loop that judges the whole file.
 
-ghost use Rattle.std.specs.Prelude.{◌≡◌, ◌≤◌, ◌+◌, [], ◌∷◌, false, None, Some, Err, IfOk, IfErr, OnOk, length, map};
+ghost use Rattle.std.specs.Prelude.{◌≡◌, ◌≤◌, ◌+◌, [], ◌∷◌, false, None, Some, Err, IfOk, OnOk, length, map};
 ghost use Rattle.std.specs.List.{fold};
 ghost use Rattle.osm_entity.specs.Entity.{EntitySpec, node, way};
 ghost use Rattle.osm_entity.specs.Views.{entity_of};
@@ -10,20 +10,15 @@ ghost use Rattle.pbf_block.specs.PrimitiveBlock.{entities};
 ghost use Rattle.pbf_block.specs.Runs.{way_from, joined_runs, run_entities, runs_left};
 ghost use Rattle.pbf_dense.specs.Cursors.{dense_left};
 ghost use Rattle.pbf_dense.specs.Within.{ids_within_left};
-ghost use Rattle.pbf_frame.specs.Next.{place_of, held_by};
 ghost use Rattle.pbf_wire.specs.declared.fault.Fault.{Fault};
 ghost use Rattle.pbf_wire.specs.declared.fault.ReadFault.TheVariants.{Refused};
 ghost use Rattle.pbf_pass.specs.Judged.{fault_in, judged_file};
 ghost use Rattle.pbf_pass.specs.Payload.{header_block, primitive_block, lent_by};
-ghost use Rattle.pbf_pass.specs.Pass.{IsFresh, TakesPayload, TakesAll, TakesFrame, CountsFrame, TakesFile, IsStep, FailsToJudge, as_it_was, with_node, with_inside, with_way, with_relation};
+ghost use Rattle.pbf_pass.specs.Pass.{IsFresh, TakesPayload, TakesAll, TakesFrame, CountsFrame, TakesFile, FailsToJudge, as_it_was, with_node, with_inside, with_way, with_relation, Steps};
 ghost use Rattle.pbf_pass.specs.Given.{GaveFile};
 ghost use Rattle.pbf_pass.specs.Hashing.{IsLength, digest_if};
-ghost use Rattle.pbf_pass.specs.Refused.{RefusesFile, Halts, stop_of};
-ghost use Rattle.pbf_pass.specs.Stops.{Caused, FaultOf, unchanged, ReadFailed};
-ghost use Rattle.pbf_frame.specs.Keeps.{KeepsFeed};
-ghost use Rattle.pbf_frame.specs.declared.frame.TheConstants.{FILE_LIMIT};
-ghost use Rattle.pbf_frame.specs.declared.reader.TheConstants.{MOST_BUFFERED};
 ghost use Rattle.pbf_wire.specs.declared.limits.TheConstants.{OFFSET_LIMIT};
+ghost use Rattle.pbf_pass.specs.Refused.{EndsJudging};
 
 use crate::receipt::{Halt, Passes};
 use crate::visit::{FileRead, Visit, pass_over, step};
@@ -355,14 +350,10 @@ pub fn step_gather<F: Feed, G: Gather>(
 ) -> Result<bool, Stop>
     // On `true` exactly the next frame's bytes are gone, its place has risen, it has no fault of any phase, and the pass took its header or
     // counts its entities, which were gathered in order. `Refused` names its first fault. A reader at its end returns `false`, a spent one
-    // its stop, and nothing else changes.
-    ensures step { IsStep F.Feed reader.old reader.new
+    // its stop, and nothing else changes. Whatever is returned, the place is at most 2^62, and the reader holds at most 33,620,990 bytes.
+    ensures steps { Steps F.Feed reader.old reader.new
         (TakesFrame G.gathered pass.old pass.new gathering.old gathering.new)
         FailsToJudge ((pass.new ≡ pass.old) × (gathering.new ≡ gathering.old)) result }
-    // The place is at most 2^62.
-    ensures limited { place_of reader.new ≤ FILE_LIMIT }
-    // The reader holds at most 33,620,990 bytes, whatever is returned.
-    ensures space { held_by reader.new ≤ MOST_BUFFERED }
 {
     step(alloc, reader, &mut Judging { pass, gathering })
 }
@@ -374,10 +365,8 @@ pub fn step_count<F: Feed>(
     reader: &mut FrameReader<F>,
     pass: &mut Pass,
 ) -> Result<bool, Stop>
-    ensures step { IsStep F.Feed reader.old reader.new (CountsFrame pass.old pass.new)
+    ensures steps { Steps F.Feed reader.old reader.new (CountsFrame pass.old pass.new)
         FailsToJudge (pass.new ≡ pass.old) result }
-    ensures limited { place_of reader.new ≤ FILE_LIMIT }
-    ensures space { held_by reader.new ≤ MOST_BUFFERED }
 {
     step_gather(alloc, reader, pass, &mut Nothing)
 }
@@ -389,11 +378,9 @@ pub fn step_nodes<F: Feed>(
     pass: &mut Pass,
     phase: &mut NodePhase,
 ) -> Result<bool, Stop>
-    ensures step { IsStep F.Feed reader.old reader.new
+    ensures steps { Steps F.Feed reader.old reader.new
         (TakesFrame with_node pass.old pass.new phase.old phase.new)
         FailsToJudge ((pass.new ≡ pass.old) × (phase.new ≡ phase.old)) result }
-    ensures limited { place_of reader.new ≤ FILE_LIMIT }
-    ensures space { held_by reader.new ≤ MOST_BUFFERED }
 {
     step_gather(alloc, reader, pass, phase)
 }
@@ -405,11 +392,9 @@ pub fn step_ways<F: Feed>(
     pass: &mut Pass,
     phase: &mut WayPhase,
 ) -> Result<bool, Stop>
-    ensures step { IsStep F.Feed reader.old reader.new
+    ensures steps { Steps F.Feed reader.old reader.new
         (TakesFrame with_way pass.old pass.new phase.old phase.new)
         FailsToJudge ((pass.new ≡ pass.old) × (phase.new ≡ phase.old)) result }
-    ensures limited { place_of reader.new ≤ FILE_LIMIT }
-    ensures space { held_by reader.new ≤ MOST_BUFFERED }
 {
     step_gather(alloc, reader, pass, phase)
 }
@@ -421,11 +406,9 @@ pub fn step_relations<F: Feed>(
     pass: &mut Pass,
     phase: &mut RelationPhase,
 ) -> Result<bool, Stop>
-    ensures step { IsStep F.Feed reader.old reader.new
+    ensures steps { Steps F.Feed reader.old reader.new
         (TakesFrame with_relation pass.old pass.new phase.old phase.new)
         FailsToJudge ((pass.new ≡ pass.old) × (phase.new ≡ phase.old)) result }
-    ensures limited { place_of reader.new ≤ FILE_LIMIT }
-    ensures space { held_by reader.new ≤ MOST_BUFFERED }
 {
     step_gather(alloc, reader, pass, phase)
 }
@@ -455,15 +438,8 @@ pub fn judge<F: Feed, G: Gather>(
     ensures judged { IfOk result (λ told. GaveFile F.Feed feed.old feed.new
         (digest_if passes.hashes told.digest) (λ file. IsLength told.count file
         × TakesFile G.gathered (judged_file (Some file)) gathering.old gathering.new told.pass)) }
-    // `Refused` names the first fault of the file. `Read` comes only if the feed's count of failures rose; `Write` and `Changed` never come.
-    ensures stops { IfErr result (λ h. Caused (FaultOf (judged_file (F.remaining feed.old)))
-        (ReadFailed F.Feed feed.old feed.new) ⊥ unchanged (stop_of h)) }
-    // The feed gave `read` bytes of this digest. The fault is the first of whatever begins so (or of them, if the feed was at its end).
-    ensures refused { IfErr result
-        (Halts (RefusesFile F.Feed feed.old feed.new passes.hashes
-        (λ b. judged_file (Some b)))) }
-    // The feed keeps its references, and its count of failures doesn't fall.
-    ensures keeps { KeepsFeed F.Feed feed.old feed.new }
+    // However it ends: what it refuses, why it stops, and that it keeps its feed.
+    ensures ends { EndsJudging F.Feed feed.old feed.new passes.hashes result }
 {
     let mut pass = Pass::new();
     let mut judging = Judging {

@@ -1,18 +1,15 @@
 //! A pass after the one that judged the file. It reads frames and gathers their entities, and judges no payload: that its bytes are
 //! those of the first pass is seen by their digest, at the end.
 
-ghost use Rattle.std.specs.Prelude.{◌≡◌, ◌≤◌, [], ◌∷◌, Some, IfOk, IfErr, OnOk};
-ghost use Rattle.pbf_frame.specs.Next.{place_of, held_by};
+ghost use Rattle.std.specs.Prelude.{◌≡◌, [], ◌∷◌, Some, IfOk, IfErr, OnOk};
 ghost use Rattle.pbf_pass.specs.Unjudged.{GathersPayload, GathersFrame, GathersFile, StopsAtPayload, StopsAtFrame, StopsUnjudged, ReadsFaulty};
 ghost use Rattle.pbf_pass.specs.Given.{GaveFile};
 ghost use Rattle.pbf_pass.specs.Hashing.{digest_if};
 ghost use Rattle.pbf_pass.specs.Judged.{judged_file};
-ghost use Rattle.pbf_pass.specs.Pass.{IsStep};
 ghost use Rattle.pbf_pass.specs.Payload.{primitive_block, lent_by};
 ghost use Rattle.pbf_pass.specs.Stops.{ReadFailed};
 ghost use Rattle.pbf_frame.specs.Keeps.{KeepsFeed};
-ghost use Rattle.pbf_frame.specs.declared.frame.TheConstants.{FILE_LIMIT};
-ghost use Rattle.pbf_frame.specs.declared.reader.TheConstants.{MOST_BUFFERED};
+ghost use Rattle.pbf_pass.specs.Pass.{Steps};
 
 use crate::pass::{Gather, gather_runs};
 use crate::receipt::Passes;
@@ -95,14 +92,10 @@ pub fn step_unjudged<F: Feed, G: Gather>(
 ) -> Result<bool, Stop>
     // On `true` exactly the next frame's bytes are gone, and if it has no fault its entities were gathered in order. `Changed` has the number
     // of the pass, and comes only if the frame has a fault. A reader at its end returns `false`, a spent one its stop, and nothing is
-    // gathered.
-    ensures step { IsStep F.Feed reader.old reader.new
+    // gathered. Whatever is returned, the place is at most 2^62, and the reader holds at most 33,620,990 bytes.
+    ensures steps { Steps F.Feed reader.old reader.new
         (GathersFrame G.gathered gathering.old gathering.new)
         (StopsAtFrame number ⊥) (gathering.new ≡ gathering.old) result }
-    // The place is at most 2^62.
-    ensures limited { place_of reader.new ≤ FILE_LIMIT }
-    // The reader holds at most 33,620,990 bytes, whatever is returned.
-    ensures space { held_by reader.new ≤ MOST_BUFFERED }
 {
     step(alloc, reader, &mut Later { gathering, number })
 }

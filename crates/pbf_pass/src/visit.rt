@@ -1,21 +1,19 @@
 //! A pass over frames, each of which goes to a visitor.
 
-ghost use Rattle.std.specs.Prelude.{◌≡◌, ◌≤◌, List, [], false, Some, IfOk, IfErr, OnOk};
+ghost use Rattle.std.specs.Prelude.{◌≡◌, List, [], false, Some, IfOk, IfErr, OnOk};
 ghost use Rattle.std.specs.Borrow.{GName};
 ghost use Rattle.pbf_frame.specs.declared.stop.Stop.{Stop};
 ghost use Rattle.pbf_frame.specs.declared.stop.Stop.TheVariants as stop;
 ghost use Rattle.pbf_frame.specs.Frames.{FrameSpec};
-ghost use Rattle.pbf_frame.specs.Next.{IsReading, Shows, place_of, held_by, verdict};
+ghost use Rattle.pbf_frame.specs.Next.{IsReading, Shows, verdict};
 ghost use Rattle.pbf_frame.specs.Verdict.{judged_known};
 ghost use Rattle.pbf_pass.specs.Given.{GaveRest, GaveFile, judged_from};
 ghost use Rattle.pbf_pass.specs.Hashing.{IsLength, digest_if};
-ghost use Rattle.pbf_pass.specs.Pass.{IsStep};
 ghost use Rattle.pbf_pass.specs.Refused.{RefusesRest, RefusesBytes, Halts, stop_of};
 ghost use Rattle.pbf_pass.specs.Stops.{ReadFailed};
 ghost use Rattle.pbf_frame.specs.Keeps.{KeepsFeed};
-ghost use Rattle.pbf_pass.specs.Visit.{VisitsAll, StopsVisit, RefusesVisit};
-ghost use Rattle.pbf_frame.specs.declared.frame.TheConstants.{FILE_LIMIT};
-ghost use Rattle.pbf_frame.specs.declared.reader.TheConstants.{MOST_BUFFERED};
+ghost use Rattle.pbf_pass.specs.Visit.{VisitsAll, StopsVisit, RefusesVisit, KeepsVisitor};
+ghost use Rattle.pbf_pass.specs.Pass.{Steps};
 
 use crate::hashed::PassFeed;
 use crate::receipt::{Halt, Passes};
@@ -56,15 +54,12 @@ pub fn step<F: Feed, V: Visit>(
 ) -> Result<bool, Stop>
     requires { V.ready visitor.old }
     // On `true` exactly the next frame's bytes are gone, the frame has no fault, and it was visited. A reader at its end returns `false`, a
-    // spent one its stop, and the visitor is as it was.
-    ensures step { IsStep F.Feed reader.old reader.new (λ f. V.took visitor.old f visitor.new)
+    // spent one its stop, and the visitor is as it was. Whatever is returned, the place is at most 2^62, and the reader holds at most
+    // 33,620,990 bytes.
+    ensures steps { Steps F.Feed reader.old reader.new (λ f. V.took visitor.old f visitor.new)
         (λ f stop. V.failed visitor.old f visitor.new stop) (visitor.new ≡ visitor.old) result }
-    ensures ready { OnOk result (V.ready visitor.new) }
-    ensures lender { V.lender visitor.new ≡ V.lender visitor.old }
-    // The place is at most 2^62.
-    ensures limited { place_of reader.new ≤ FILE_LIMIT }
-    // The reader holds at most 33,620,990 bytes, whatever is returned.
-    ensures space { held_by reader.new ≤ MOST_BUFFERED }
+    // The visitor can take a frame until it stops, and goes through the same references.
+    ensures visitor { KeepsVisitor V.ready V.lender visitor.old visitor.new result }
 {
     let Some(frame) = reader.next()? else {
         return Ok(false);
@@ -93,8 +88,8 @@ pub fn visit_rest<F: Feed, V: Visit>(
         (RefusesVisit V.took V.failed (judged_from reader.old) visitor.old visitor.new)) }
     // The feed keeps its references, and its count of failures doesn't fall.
     ensures keeps { KeepsFeed F.Feed reader.old.feed reader.new.feed }
-    ensures ready { OnOk result (V.ready visitor.new) }
-    ensures lender { V.lender visitor.new ≡ V.lender visitor.old }
+    // The visitor can take a frame until it stops, and goes through the same references.
+    ensures visitor { KeepsVisitor V.ready V.lender visitor.old visitor.new result }
 {
     let mut count = 0;
     'frames: while step(alloc, reader, visitor)? {
@@ -141,8 +136,8 @@ pub fn pass_over<F: Feed, V: Visit>(
         visitor.old visitor.new) (stop_of h)) }
     // The feed keeps its references, and its count of failures doesn't fall.
     ensures keeps { KeepsFeed F.Feed feed.old feed.new }
-    ensures ready { OnOk result (V.ready visitor.new) }
-    ensures lender { V.lender visitor.new ≡ V.lender visitor.old }
+    // The visitor can take a frame until it stops, and goes through the same references.
+    ensures visitor { KeepsVisitor V.ready V.lender visitor.old visitor.new result }
 {
     let mut reader = FrameReader::new(passes.alloc, PassFeed::new(&mut *feed, passes.hashes));
     let outcome = visit_rest(passes.alloc, &mut reader, visitor);

@@ -2,11 +2,12 @@
 use Rattle.std.specs.Prelude.{◌≡◌, ◌⊎◌, ℕ, List, Option, Some}
 use Rattle.pbf_wire.specs.declared.fault.Fault.{Fault}
 use Rattle.pbf_frame.specs.declared.device.Feed as feed
+use Rattle.pbf_frame.specs.declared.device.Drain as drain
 use Rattle.pbf_frame.specs.declared.stop.Stop.{Stop}
 use Rattle.pbf_frame.specs.Verdict.{Verdict}
 use Rattle.pbf_pass.specs.Given.{GaveFile}
 use Rattle.pbf_pass.specs.HeaderLimit.{judged_writable}
-use Rattle.pbf_pass.specs.Stops.{Caused, FaultOf}
+use Rattle.pbf_pass.specs.Stops.{Caused, FaultOf, ReadFailed, WriteFailed}
 
 -- ---- what is supplied
 
@@ -58,3 +59,20 @@ ExtractStops first second third old new read wrote = Caused (RefusedFirst (judge
 abbrev pub ParentsStops : (first second third fourth old new : Option (List ℕ)) (read wrote : Type 0) → Stop → Type 0
 ParentsStops first second third fourth old new read wrote =
     Caused (RefusedFirst (judged_writable first) old new) read wrote (λ pass. (ChangedBefore 2 first second old new pass ⊎ ChangedBefore 3 first third old new pass) ⊎ ChangedIn 4 first fourth pass)
+
+-- ---- the same by the devices of the call, each before it and after it: a read or a write failed if the count of its device rose
+
+-- of a call with two passes, of which the first judges so: `convert`, `show`
+abbrev pub StopsTwoPasses : {F G D : Type 0} → (Option (List ℕ) → Option Verdict) → feed.Ghosts F → (first first_now : F) → feed.Ghosts G → (second second_now : G) → drain.Ghosts D → (old new : D) → Stop → Type 0
+StopsTwoPasses judge f first first_now g second second_now d old new =
+    Caused (RefusedFirst (judge (f.remaining first)) (d.taken old) (d.taken new)) (ReadFailed f first first_now ⊎ ReadFailed g second second_now) (WriteFailed d old new) (ChangedIn 2 (f.remaining first) (g.remaining second))
+
+-- of `extract`
+abbrev pub StopsExtracting : {F G K D : Type 0} → feed.Ghosts F → (first first_now : F) → feed.Ghosts G → (second second_now : G) → feed.Ghosts K → (third third_now : K) → drain.Ghosts D → (old new : D) → Stop → Type 0
+StopsExtracting f first first_now g second second_now k third third_now d old new =
+    ExtractStops (f.remaining first) (g.remaining second) (k.remaining third) (d.taken old) (d.taken new) (ReadFailed f first first_now ⊎ (ReadFailed g second second_now ⊎ ReadFailed k third third_now)) (WriteFailed d old new)
+
+-- of `extract_parents`
+abbrev pub StopsExtractingParents : {F G K J D : Type 0} → feed.Ghosts F → (first first_now : F) → feed.Ghosts G → (second second_now : G) → feed.Ghosts K → (third third_now : K) → feed.Ghosts J → (fourth fourth_now : J) → drain.Ghosts D → (old new : D) → Stop → Type 0
+StopsExtractingParents f first first_now g second second_now k third third_now j fourth fourth_now d old new =
+    ParentsStops (f.remaining first) (g.remaining second) (k.remaining third) (j.remaining fourth) (d.taken old) (d.taken new) ((ReadFailed f first first_now ⊎ (ReadFailed g second second_now ⊎ ReadFailed k third third_now)) ⊎ ReadFailed j fourth fourth_now) (WriteFailed d old new)

@@ -12,3 +12,4 @@ pub mod Theorem
 pub mod Calls
 pub mod Changes
 pub mod Choosing
+pub mod Ends

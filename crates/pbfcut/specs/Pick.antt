@@ -1,5 +1,5 @@
 -- Entities that are picked, on their way into the drain.
-use Rattle.std.specs.Prelude.{◌≡◌, ◌⊎◌, ℕ, ℤ, List, [], ◌++◌, Bool, true, false, Option, Some, None, Result, OnOk, IfErr}
+use Rattle.std.specs.Prelude.{◌≡◌, ◌≤◌, ◌⊎◌, ◌+◌, ℕ, ℤ, List, [], ◌++◌, Bool, true, false, Option, Some, None, Result, Err, OnOk, IfErr}
 use Rattle.std.specs.Borrow.{Bor}
 use Rattle.std.specs.FinSet as set
 use Rattle.std.specs.List.{AllByRecursion, filter}
@@ -8,9 +8,15 @@ use Rattle.osm_entity.specs.Entity.{EntitySpec, node, way, relation}
 use Rattle.osm_entity.specs.Ranges.{EntityFits}
 use Rattle.osm_ways.specs.Phases.{KeptSets, is_chosen}
 use Rattle.osm_ways.specs.Seen.{seen_way, seen_relation}
+use Rattle.osm_pack.specs.declared.open_block.TheConstants.{MOST_HELD}
 use Rattle.osm_pack.specs.Cuts.{written_entities, pending_after, written_after}
-use Rattle.osm_pack.specs.Packing.{Packing, Pending, IsPacking, has_header}
+use Rattle.osm_pack.specs.Packing.{Packing, Pending, IsPacking, HasStopped, has_header, packer_held}
+use Rattle.pbf_frame.specs.declared.device.Feed as feed
 use Rattle.pbf_frame.specs.declared.device.Drain as drain
+use Rattle.pbf_frame.specs.declared.frame.TheConstants.{FILE_LIMIT}
+use Rattle.pbf_frame.specs.declared.reader.FrameReader.{FrameReader}
+use Rattle.pbf_frame.specs.declared.reader.TheConstants.{MOST_BUFFERED}
+use Rattle.pbf_frame.specs.Next.{place_of, held_by}
 use Rattle.pbf_frame.specs.declared.stop.Stop.{Stop}
 use Rattle.pbf_frame.specs.Devices.{IsFront}
 use Rattle.pbf_frame.specs.Transfers.{Added}
@@ -23,7 +29,7 @@ use Rattle.pbfcut.specs.declared.pick.Picker.{Picker}
 use Rattle.pbf_block.specs.declared.counts.Counts.{Counts}
 use Rattle.pbf_pass.specs.Counting.{entities_in, counts_of}
 use Rattle.pbf_pass.specs.Judged.{fault_in}
-use Rattle.pbf_pass.specs.Pass.{TakesSome}
+use Rattle.pbf_pass.specs.Pass.{IsStep, TakesSome}
 use Rattle.pbf_pass.specs.Payload.{Payload, payload_of}
 use Rattle.pbf_pass.specs.Stops.{Caused, Only, unchanged, WriteFailed}
 use Rattle.pbf_frame.specs.Keeps.{KeepsDrain}
@@ -152,3 +158,20 @@ PacksFrame d pick old new before now f = PacksPayload d pick (payload_of f) old 
 
 abbrev pub FailsToPack : {D S H : Type 0} → drain.Ghosts D → Pick → Packing D S H → Packing D S H → FrameSpec → Stop → Type 0
 FailsToPack d pick old new f stop = FailsToPackPayload d pick (payload_of f) old new stop
+
+-- ---- one step
+
+-- what a step does that judges the next frame and packs what is picked of it
+pub record StepsPacking {F D S H : Type 0} (f : feed.Ghosts F) (reader reader_now : FrameReader F) (d : drain.Ghosts D) (pick : Pick) (old new : Packing D S H) (before now : Pass) (result : Result Bool Stop) : Type 0 where
+  -- on `true` exactly the next frame's bytes are gone, it has no fault of any phase, its entities that are picked were packed in order, and the
+  -- pass counts these. On a refusal the drain took nothing in this step; on another stop nothing, or a prefix of what these entities make. A
+  -- reader at its end returns `false`, a spent one its stop, and nothing else changes
+  pub step : IsPacking old → IsStep f reader reader_now (PacksFrame d pick old new before now) (FailsToPack d pick old new) ((now ≡ before) × (new ≡ old)) result
+  -- a spent packer returns its stop again, and the reader is as it was
+  pub spent : (stop : Stop) → HasStopped old stop → (result ≡ Err stop) × (reader_now ≡ reader)
+  -- the packer keeps its header, the drain its references, and its count of failures doesn't fall
+  pub keeps : KeepsPacker d old new
+  -- the place is within the limit of a file
+  pub limited : place_of reader_now ≤ FILE_LIMIT
+  -- reader and packer together hold at most so many bytes, whatever is returned
+  pub space : held_by reader_now + packer_held new ≤ MOST_BUFFERED + MOST_HELD

@@ -1,10 +1,11 @@
 -- Passes after the first one: their bytes have to have its digest.
-use Rattle.std.specs.Prelude.{◌≡◌, ℕ, List, Bool, true, false, Option, Some}
+use Rattle.std.specs.Prelude.{◌≡◌, ℕ, List, Bool, true, false, Option, Some, Result, OnOk, IfErr}
 use Rattle.sha2.specs.Sha256.{sha256}
 use Rattle.osm_entity.specs.Entity.{EntitySpec}
 use Rattle.pbf_frame.specs.declared.device.Feed as feed
 use Rattle.pbf_frame.specs.declared.stop.Stop.{Stop}
 use Rattle.pbf_frame.specs.declared.stop.Stop.TheVariants.{Refused, Read, Write, Memory, Changed}
+use Rattle.pbf_frame.specs.Keeps.{KeepsFeed}
 use Rattle.pbf_frame.specs.Refusals.{Refuses}
 use Rattle.pbfcut.specs.declared.repeat.LaterPass.{LaterPass}
 use Rattle.pbf_pass.specs.declared.receipt.Passes.{Passes}
@@ -47,3 +48,9 @@ SameDigest first other = (b c : List ℕ) → first ≡ Some b → other ≡ Som
 abbrev pub GathersRest : {F S : Type 0} → feed.Ghosts F → (S → EntitySpec → S) → Bool → (old new : F) → Option (List ℕ) → (before now : S) → Type 0
 GathersRest f gathered true old new digest before now = (new ≡ old) × (now ≡ before)
 GathersRest f gathered false old new digest before now = GaveFile f old new digest (λ file. GathersFile gathered (judged_file (Some file)) before now)
+
+-- what a later pass does that gathers, or that is spared since none were left
+pub record GathersLater {F S X : Type 0} (f : feed.Ghosts F) (with_one : S → EntitySpec → S) (spared : Bool) (again : LaterPass) (old new : F) (before now : S) (result : Result X Stop) : Type 0 where
+  pub gathered : OnOk result (GathersRest f with_one spared old new (digest_of again) before now)
+  pub stops : IfErr result (StopsLater f again old new ⊥)
+  pub keeps : KeepsFeed f old new

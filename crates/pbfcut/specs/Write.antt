@@ -5,7 +5,7 @@ use Rattle.osm_entity.specs.Entity.{EntitySpec}
 use Rattle.osm_ways.specs.Phases.{KeptSets}
 use Rattle.osm_pack.specs.Cuts.{written_file}
 use Rattle.osm_pack.specs.Packing.{Packing, IsPacking}
-use Rattle.pbf_header.specs.Header.{HeaderSpec}
+use Rattle.pbf_header.specs.Header.{HeaderSpec, header_of}
 use Rattle.pbf_block.specs.declared.counts.Counts.{Counts}
 use Rattle.pbf_frame.specs.declared.device.Feed as feed
 use Rattle.pbf_frame.specs.declared.device.Drain as drain
@@ -13,18 +13,21 @@ use Rattle.pbf_frame.specs.declared.stop.Stop.{Stop}
 use Rattle.pbf_frame.specs.Devices.{IsFront}
 use Rattle.pbf_frame.specs.Frames.{FrameSpec}
 use Rattle.pbf_frame.specs.Verdict.{Verdict}
+use Rattle.pbf_frame.specs.Keeps.{KeepsDrain, KeepsFeed}
 use Rattle.pbf_pass.specs.declared.receipt.Halt.{Halt}
 use Rattle.pbf_pass.specs.declared.receipt.InputReceipt.{InputReceipt}
-use Rattle.pbf_pass.specs.Unjudged.{StopsAtPayload}
+use Rattle.pbf_pass.specs.Unjudged.{ReadsFaulty, StopsAtPayload, StopsUnjudged}
 use Rattle.pbf_pass.specs.Given.{GaveFile, Took}
+use Rattle.pbf_pass.specs.Hashing.{digest_if}
 use Rattle.pbf_pass.specs.Counting.{counts_of, stored_entities}
 use Rattle.pbf_pass.specs.Judged.{fault_in, judged_file}
 use Rattle.pbf_pass.specs.Payload.{Payload, payload_of}
 use Rattle.pbf_pass.specs.Refused.{stop_of}
-use Rattle.pbf_pass.specs.Stops.{WriteFailed}
+use Rattle.pbf_pass.specs.Stops.{ReadFailed, WriteFailed}
 use Rattle.pbfcut.specs.declared.repeat.LaterPass.{LaterPass}
+use Rattle.pbfcut.specs.declared.write.OutputPlan.{OutputPlan}
 use Rattle.pbfcut.specs.declared.pick.EntityPacker.{EntityPacker}
-use Rattle.pbfcut.specs.Pick.{Pick, Packs, Begins, KeepsPacker, picked_in, picked_by, picks_of}
+use Rattle.pbfcut.specs.Pick.{Pick, Packs, Begins, KeepsPacker, pick_of, picked_in, picked_by, picks_of}
 use Rattle.pbfcut.specs.Repeat.{StopsLater, digest_of}
 
 -- ---- one payload, and one frame
@@ -80,6 +83,26 @@ Packed pick h counts known written = (frames : List FrameSpec) → known ≡ Som
 abbrev pub PacksFront : Pick → HeaderSpec → Option Verdict → (old new : Option (List ℕ)) → Type 0
 PacksFront pick h known old new = (frames : List FrameSpec) → known ≡ Some (frames, None) → IsFront old new (written_file h (filter pick (stored_entities frames)))
 
+-- ---- the pass that writes, whose bytes aren't compared yet
+
+-- the feed gave a file, and the drain took its header and what is picked of it; or a prefix of that, if the pass stopped: at a fault, since the
+-- bytes changed, or for a device
+pub record WritesUnjudged {F D : Type 0} (f : feed.Ghosts F) (old new : F) (d : drain.Ghosts D) (before now : D) (plan : OutputPlan) (result : Result InputReceipt Stop) : Type 0 where
+  pub packed : IfOk result (λ wrote. GaveFile f old new (digest_if plan.pass.passes.hashes wrote.input) (λ file. Took d before now (Packed (pick_of plan.chosen) (header_of plan.header.now) wrote.counts (judged_file (Some file)))))
+  pub beginning : OnErr result (PacksFront (pick_of plan.chosen) (header_of plan.header.now) (judged_file (f.remaining old)) (d.taken before) (d.taken now))
+  pub faulty : IfErr result (ReadsFaulty f old new)
+  pub stops : IfErr result (StopsUnjudged plan.pass.number (judged_file (f.remaining old)) (ReadFailed f old new) (WriteFailed d before now))
+  pub keeps : KeepsFeed f old new
+  pub out : KeepsDrain d before now
+
+-- the same once they are: it has to be the first pass's file
+pub record WritesAgain {F D : Type 0} (f : feed.Ghosts F) (old new : F) (d : drain.Ghosts D) (before now : D) (plan : OutputPlan) (result : Result Counts Stop) : Type 0 where
+  pub packed : IfOk result (λ counts. GaveFile f old new (digest_of plan.pass) (λ file. Took d before now (Packed (pick_of plan.chosen) (header_of plan.header.now) counts (judged_file (Some file)))))
+  pub beginning : OnErr result (PacksFront (pick_of plan.chosen) (header_of plan.header.now) (judged_file (f.remaining old)) (d.taken before) (d.taken now))
+  pub stops : IfErr result (StopsLater f plan.pass old new (WriteFailed d before now))
+  pub keeps : KeepsFeed f old new
+  pub out : KeepsDrain d before now
+
 -- ---- after passes that chose
 
 -- the feed gave a file of the first pass's digest, and the drain took its header and what is picked of it; or a prefix of that, if the pass
@@ -89,3 +112,5 @@ pub record WritesChoice {F D : Type 0} (f : feed.Ghosts F) (old new : F) (d : dr
   pub packed : IfOk result (λ receipt. GaveFile f old new (digest_of again) (λ file. Took d before now (Packed (picked_by sets) h receipt.counts (judged_file (Some file)))))
   pub front : OnErr result (PacksFront (picked_by sets) h (judged_file (f.remaining old)) (d.taken before) (d.taken now))
   pub stops : IfErr result (λ halt. StopsLater f again old new (WriteFailed d before now) (stop_of halt))
+  pub keeps : KeepsFeed f old new
+  pub out : KeepsDrain d before now

@@ -1,19 +1,16 @@
 //! `convert`: all entities, in canonical form.
 
-ghost use Rattle.std.specs.Prelude.{◌≡◌, ◌⊎◌, ℕ, List, IfOk, IfErr, OnOk, OnErr};
+ghost use Rattle.std.specs.Prelude.{◌≡◌, ℕ, List, IfOk, IfErr, OnOk, OnErr};
 ghost use Rattle.pbf_frame.specs.Devices.{IsFront};
-ghost use Rattle.pbfcut.specs.Calls.{BothSupply, ConvertStops};
-ghost use Rattle.pbfcut.specs.Changes.{ChangedAt, IfChanged};
+ghost use Rattle.pbfcut.specs.Calls.{BothSupply, StopsTwoPasses};
 ghost use Rattle.pbfcut.specs.Theorem.{Converted, IsConverted, Promised, Canonical};
 ghost use Rattle.pbfcut.specs.Converting.{answer_bytes, CanBeWritten};
 ghost use Rattle.pbf_pass.specs.HeaderLimit.{judged_writable};
 ghost use Rattle.pbf_pass.specs.Given.{GaveFile, Took};
 ghost use Rattle.pbf_pass.specs.Hashing.{digest_if};
 ghost use Rattle.pbfcut.specs.Kept.{IsWritable, conversion_of};
-ghost use Rattle.pbf_pass.specs.Refused.{HaltsFile, stop_of};
 ghost use Rattle.pbfcut.specs.Repeat.{SameDigest};
-ghost use Rattle.pbf_pass.specs.Stops.{ReadFailed, WriteFailed};
-ghost use Rattle.pbf_frame.specs.Keeps.{KeepsDrain, KeepsFeed};
+ghost use Rattle.pbfcut.specs.Ends.{EndsTwoPasses};
 
 use crate::repeat::LaterPass;
 use crate::write::OutputPlan;
@@ -55,10 +52,8 @@ pub fn convert<F: Feed, G: Feed, D: Drain, S: BuildHasher + Drop>(
     // `Refused` names the first fault of the first feed's file, or that its header can't be written, and the drain took nothing. `Read`
     // and `Write` come only if a count of failures rose: of a feed, of the drain. `Changed(2)`: the second feed's bytes aren't the
     // first's. No other number comes.
-    ensures stops { IfErr result (ConvertStops (F.remaining first.old) (G.remaining second.old)
-        (D.taken drain.old) (D.taken drain.new)
-        (ReadFailed F.Feed first.old first.new ⊎ ReadFailed G.Feed second.old second.new)
-        (WriteFailed D.Drain drain.old drain.new)) }
+    ensures stops { IfErr result (StopsTwoPasses judged_writable F.Feed first.old first.new
+        G.Feed second.old second.new D.Drain drain.old drain.new) }
 {
     let passes = Passes {
         alloc,
@@ -83,28 +78,13 @@ pub fn convert_with_receipt<F: Feed, G: Feed, D: Drain, S: BuildHasher + Drop>(
         × GaveFile G.Feed second.old second.new (digest_if passes.hashes receipt.input)
         (λ c. Took D.Drain drain.old drain.new
         (λ written. b ≡ c → IsConverted b receipt.counts written)))) }
-    // The first feed gave `read` bytes of this digest, the fault is the first of whatever begins so (or of them, if the feed was at its
-    // end), and the drain took nothing.
-    ensures refused { IfErr result (HaltsFile F.Feed first.old first.new passes.hashes
-        D.Drain drain.old drain.new (λ b. judged_writable (Some b))) }
-    // Each stop has its cause, as of `convert`.
-    ensures stops { IfErr result (λ h. ConvertStops (F.remaining first.old) (G.remaining second.old)
-        (D.taken drain.old) (D.taken drain.new)
-        (ReadFailed F.Feed first.old first.new ⊎ ReadFailed G.Feed second.old second.new)
-        (WriteFailed D.Drain drain.old drain.new) (stop_of h)) }
-    // `Changed(2)`, whether the feeds report their bytes or not: the first gave a file, to its end, and the second gave bytes that the file
-    // doesn't begin with, or was at its end and had given another list. No other number comes.
-    ensures changed { IfErr result (λ h. IfChanged
-        (ChangedAt 2 F.Feed first.old first.new G.Feed second.old second.new) (stop_of h)) }
+    // However it ends: what it refuses, why it stops, when it says `Changed`, and that it keeps its devices.
+    ensures ends { EndsTwoPasses judged_writable F.Feed first.old first.new
+        G.Feed second.old second.new D.Drain drain.old drain.new passes.hashes result }
     // Whatever stopped it, if both feeds supply these bytes, a prefix of their conversion went out, and nothing if they have a fault.
     ensures beginning { OnErr result ((b : List ℕ)
         → BothSupply b (F.remaining first.old) (G.remaining second.old)
         → IsFront (D.taken drain.old) (D.taken drain.new) (conversion_of b)) }
-    // Each feed keeps its references, and its count of failures doesn't fall.
-    ensures feeds { KeepsFeed F.Feed first.old first.new
-        × KeepsFeed G.Feed second.old second.new }
-    // The drain keeps its references, and its count of failures doesn't fall.
-    ensures drain { KeepsDrain D.Drain drain.old drain.new }
 {
     let judged = judge(passes, first, &mut Nothing)?;
     let digest = judged.digest;

@@ -1,24 +1,17 @@
 //! Entities that are picked, on their way into the drain, and the steps that judge them.
 
-ghost use Rattle.std.specs.Prelude.{true, false, ℤ, [], ◌∷◌, ◌≡◌, ◌≤◌, ◌+◌, None, Err, IfErr, OnOk, MatchOption, map, filter, take};
+ghost use Rattle.std.specs.Prelude.{true, false, ℤ, [], ◌∷◌, ◌≡◌, None, IfErr, OnOk, MatchOption, map, filter, take};
 ghost use Rattle.std.specs.Option.{option_map};
 ghost use Rattle.osm_entity.specs.Entity.{node, way};
 ghost use Rattle.osm_entity.specs.Views.{entity_of, node_of};
-ghost use Rattle.osm_pack.specs.Packing.{IsPacking, has_header, packer_held};
-ghost use Rattle.osm_pack.specs.Packing as packing;
+ghost use Rattle.osm_pack.specs.Packing.{has_header};
 ghost use Rattle.pbf_wire.specs.Spans.{is_in};
 ghost use Rattle.pbf_dense.specs.Cursors.{dense_left};
 ghost use Rattle.pbf_block.specs.Runs.{way_from, joined_runs, run_entities, runs_left};
-ghost use Rattle.pbf_frame.specs.declared.stop.Stop.{Stop};
-ghost use Rattle.pbf_frame.specs.declared.reader.TheConstants.{MOST_BUFFERED};
-ghost use Rattle.osm_pack.specs.declared.open_block.TheConstants.{MOST_HELD};
-ghost use Rattle.pbf_frame.specs.Next.{place_of, held_by};
 ghost use Rattle.pbf_pass.specs.Counting.{counts_of};
 ghost use Rattle.pbf_pass.specs.Judged.{fault_in};
-ghost use Rattle.pbf_pass.specs.Pass.{IsStep};
 ghost use Rattle.pbf_pass.specs.Payload.{primitive_block, lent_by};
-ghost use Rattle.pbfcut.specs.Pick.{everything, pick_of, picks_of, picked_in, picks_id, picked_by, picked_by_some, IsReadyToPack, PacksAll, PacksEach, KeepsPacker, PacksPayload, FailsToPackPayload, PacksFrame, FailsToPack};
-ghost use Rattle.pbf_frame.specs.declared.frame.TheConstants.{FILE_LIMIT};
+ghost use Rattle.pbfcut.specs.Pick.{everything, pick_of, picks_of, picked_in, picks_id, picked_by, picked_by_some, IsReadyToPack, PacksAll, PacksEach, KeepsPacker, PacksPayload, FailsToPackPayload, StepsPacking};
 
 use osm_entity::{EntityRef, NodeRef};
 use osm_pack::Packer;
@@ -362,22 +355,9 @@ pub fn step_pack<F: Feed, D: Drain, S: BuildHasher>(
     packer: &mut Packer<D, S>,
 ) -> Result<bool, Stop>
     requires { has_header packer.old ≡ true }
-    // On `true` exactly the next frame's bytes are gone, it has no fault of any phase, its entities that are picked were packed in order, and
-    // the pass counts these. On a refusal the drain took nothing in this step; on another stop nothing, or a prefix of what these entities
-    // make. A reader at its end returns `false`, a spent one its stop, and nothing else changes.
-    ensures step { IsPacking packer.old → IsStep F.Feed reader.old reader.new
-        (PacksFrame D.Drain (pick_of chosen.entry) packer.old packer.new pass.old pass.new)
-        (FailsToPack D.Drain (pick_of chosen.entry) packer.old packer.new)
-        ((pass.new ≡ pass.old) × (packer.new ≡ packer.old)) result }
-    // A spent packer returns its stop again, and the reader is as it was.
-    ensures spent { (stop : Stop) → packing.HasStopped packer.old stop
-        → (result ≡ Err stop) × (reader.new ≡ reader.old) }
-    // The packer keeps its header, the drain its references, and its count of failures doesn't fall.
-    ensures keeps { KeepsPacker D.Drain packer.old packer.new }
-    // The place is within the limit of a file.
-    ensures limited { place_of reader.new ≤ FILE_LIMIT }
-    // After each step reader and packer together hold at most so many bytes, whatever is returned.
-    ensures space { held_by reader.new + packer_held packer.new ≤ MOST_BUFFERED + MOST_HELD }
+    // The next frame was judged, and what is picked of it was packed; or the step stopped. Reader and packer hold at most so many bytes then.
+    ensures steps { StepsPacking F.Feed reader.old reader.new D.Drain (pick_of chosen.entry)
+        packer.old packer.new pass.old pass.new result }
 {
     packer.held_is_bounded();
     if let Some(stop) = packer.stop() {
@@ -402,17 +382,9 @@ pub fn step_write<F: Feed, D: Drain, S: BuildHasher>(
     packer: &mut Packer<D, S>,
 ) -> Result<bool, Stop>
     requires { has_header packer.old ≡ true }
-    ensures step { IsPacking packer.old → IsStep F.Feed reader.old reader.new
-        (PacksFrame D.Drain (picked_by_some (option_map (λ c. c.now) chosen.entry))
-        packer.old packer.new pass.old pass.new)
-        (FailsToPack D.Drain (picked_by_some (option_map (λ c. c.now) chosen.entry))
-        packer.old packer.new)
-        ((pass.new ≡ pass.old) × (packer.new ≡ packer.old)) result }
-    ensures spent { (stop : Stop) → packing.HasStopped packer.old stop
-        → (result ≡ Err stop) × (reader.new ≡ reader.old) }
-    ensures keeps { KeepsPacker D.Drain packer.old packer.new }
-    ensures limited { place_of reader.new ≤ FILE_LIMIT }
-    ensures space { held_by reader.new + packer_held packer.new ≤ MOST_BUFFERED + MOST_HELD }
+    ensures steps { StepsPacking F.Feed reader.old reader.new D.Drain
+        (picked_by_some (option_map (λ c. c.now) chosen.entry))
+        packer.old packer.new pass.old pass.new result }
 {
     step_pack(alloc, reader, pass, chosen, packer)
 }
@@ -426,16 +398,8 @@ pub fn step_write_parents<F: Feed, D: Drain, S: BuildHasher>(
     packer: &mut Packer<D, S>,
 ) -> Result<bool, Stop>
     requires { has_header packer.old ≡ true }
-    ensures step { IsPacking packer.old → IsStep F.Feed reader.old reader.new
-        (PacksFrame D.Drain (picked_by chosen.now)
-        packer.old packer.new pass.old pass.new)
-        (FailsToPack D.Drain (picked_by chosen.now) packer.old packer.new)
-        ((pass.new ≡ pass.old) × (packer.new ≡ packer.old)) result }
-    ensures spent { (stop : Stop) → packing.HasStopped packer.old stop
-        → (result ≡ Err stop) × (reader.new ≡ reader.old) }
-    ensures keeps { KeepsPacker D.Drain packer.old packer.new }
-    ensures limited { place_of reader.new ≤ FILE_LIMIT }
-    ensures space { held_by reader.new + packer_held packer.new ≤ MOST_BUFFERED + MOST_HELD }
+    ensures steps { StepsPacking F.Feed reader.old reader.new D.Drain (picked_by chosen.now)
+        packer.old packer.new pass.old pass.new result }
 {
     step_pack(alloc, reader, pass, Some(chosen.chosen()), packer)
 }

@@ -1,13 +1,9 @@
 //! Passes after the first one, whose bytes have to have its digest.
 
-ghost use Rattle.std.specs.Prelude.{◌≡◌, true, IfErr, OnOk, Ok, Err, Some};
+ghost use Rattle.std.specs.Prelude.{◌≡◌, true, false, IfErr, OnOk, Ok, Err};
 ghost use Rattle.pbf_frame.specs.declared.stop.Stop.TheVariants.{Changed};
-ghost use Rattle.pbf_pass.specs.Unjudged.{GathersFile};
-ghost use Rattle.pbf_pass.specs.Judged.{judged_file};
-ghost use Rattle.pbf_pass.specs.Given.{GaveFile};
 ghost use Rattle.pbf_pass.specs.Hashing.{digest_if};
-ghost use Rattle.pbf_frame.specs.Keeps.{KeepsFeed};
-ghost use Rattle.pbfcut.specs.Repeat.{GathersRest, StopsLater, as_change, digest_of};
+ghost use Rattle.pbfcut.specs.Repeat.{as_change, digest_of, GathersLater};
 
 use pbf_frame::{Feed, Stop};
 use pbf_pass::{Gather, Passes, gather_unjudged};
@@ -53,11 +49,8 @@ impl LaterPass {
         feed: &mut F,
         gathering: &mut G,
     ) -> Result<(), Stop>
-        ensures gathered { OnOk result (GaveFile F.Feed feed.old feed.new (digest_of self)
-            (λ file. GathersFile G.gathered (judged_file (Some file))
-            gathering.old gathering.new)) }
-        ensures stops { IfErr result (StopsLater F.Feed self feed.old feed.new ⊥) }
-        ensures keeps { KeepsFeed F.Feed feed.old feed.new }
+        ensures { GathersLater F.Feed G.gathered false self
+            feed.old feed.new gathering.old gathering.new result }
     {
         match gather_unjudged(self.passes, feed, gathering, self.number) {
             Ok(digest) => self.compare(digest),
@@ -72,10 +65,8 @@ impl LaterPass {
         gathering: &mut G,
         is_done: bool,
     ) -> Result<(), Stop>
-        ensures gathered { OnOk result (GathersRest F.Feed G.gathered is_done feed.old feed.new
-            (digest_of self) gathering.old gathering.new) }
-        ensures stops { IfErr result (StopsLater F.Feed self feed.old feed.new ⊥) }
-        ensures keeps { KeepsFeed F.Feed feed.old feed.new }
+        ensures { GathersLater F.Feed G.gathered is_done self
+            feed.old feed.new gathering.old gathering.new result }
     {
         if is_done {
             return Ok(());

@@ -1,23 +1,19 @@
 //! `show`: a line for each field of the header and for each entity.
 
-ghost use Rattle.std.specs.Prelude.{◌∷◌, ◌≡◌, ◌⊎◌, Some, IfOk, IfErr, OnOk, OnErr};
+ghost use Rattle.std.specs.Prelude.{◌∷◌, ◌≡◌, Some, IfOk, IfErr, OnOk, OnErr};
 ghost use Rattle.std.specs.List.{flat_map};
 ghost use Rattle.osm_entity.specs.Views.{entity_of};
 ghost use Rattle.pbf_block.specs.Runs.{entities_left};
 ghost use Rattle.osm_text.specs.EntityText.{entity_line};
-ghost use Rattle.pbfcut.specs.Calls.{RefusedFirst, ChangedIn};
-ghost use Rattle.pbfcut.specs.Changes.{ChangedAt, IfChanged};
-ghost use Rattle.pbf_pass.specs.Unjudged.{ReadsFaulty};
 ghost use Rattle.pbf_pass.specs.Given.{GaveFile, Took};
 ghost use Rattle.pbf_pass.specs.Hashing.{digest_if};
 ghost use Rattle.pbf_pass.specs.Judged.{judged_file};
 ghost use Rattle.pbf_pass.specs.Pass.{CountsFile};
 ghost use Rattle.pbf_pass.specs.Payload.{header_block, primitive_block, lent_by};
-ghost use Rattle.pbf_pass.specs.Refused.{HaltsFile, stop_of};
 ghost use Rattle.pbfcut.specs.Repeat.{SameDigest};
-ghost use Rattle.pbfcut.specs.Showing.{Shown, ShowsFront, WritesFront, WritesLines, WritesPayload, ShowsNext, FailsToShowNext};
-ghost use Rattle.pbf_pass.specs.Stops.{Caused, FaultOf, unchanged, ReadFailed, WriteFailed};
-ghost use Rattle.pbf_frame.specs.Keeps.{KeepsDrain, KeepsFeed};
+ghost use Rattle.pbfcut.specs.Showing.{Shown, ShowsFront, WritesLines, WritesPayload, ShowsNext, FailsToShowNext, ShowsAgain};
+ghost use Rattle.pbfcut.specs.Calls.{StopsTwoPasses};
+ghost use Rattle.pbfcut.specs.Ends.{EndsTwoPasses};
 
 use crate::repeat::LaterPass;
 use osm_entity::EntityRef;
@@ -144,15 +140,8 @@ fn write_text<F: Feed, D: Drain>(
     drain: &mut D,
     dates: bool,
 ) -> Result<[u8; 32], Stop>
-    ensures shown { IfOk result (λ digest. GaveFile F.Feed feed.old feed.new
-        (digest_if passes.hashes digest) (λ file. Took D.Drain drain.old drain.new (Shown dates (judged_file (Some file))))) }
-    ensures beginning { OnErr result (WritesFront dates (judged_file (F.remaining feed.old))
-        (D.taken drain.old) (D.taken drain.new)) }
-    ensures stops { IfErr result (Caused (FaultOf (judged_file (F.remaining feed.old)))
-        (ReadFailed F.Feed feed.old feed.new) (WriteFailed D.Drain drain.old drain.new) unchanged) }
-    ensures faulty { IfErr result (ReadsFaulty F.Feed feed.old feed.new) }
-    ensures keeps { KeepsFeed F.Feed feed.old feed.new }
-    ensures drain { KeepsDrain D.Drain drain.old drain.new }
+    ensures { ShowsAgain F.Feed feed.old feed.new D.Drain drain.old drain.new
+        passes.hashes dates result }
 {
     let text = Vec::new(passes.alloc);
     let mut lines = LineWriter { text, dates };
@@ -186,11 +175,8 @@ pub fn show<F: Feed, G: Feed, D: Drain>(
     ensures digests { OnOk result (SameDigest (F.remaining first.old) (G.remaining second.old)) }
     // `Refused` names the first fault of the first feed's file, and the drain took nothing. `Read` and `Write` come only if a count of
     // failures rose: of a feed, of the drain. `Changed(2)`: the second feed's bytes aren't the first's. No other number comes.
-    ensures stops { IfErr result (Caused
-        (RefusedFirst (judged_file (F.remaining first.old)) (D.taken drain.old) (D.taken drain.new))
-        (ReadFailed F.Feed first.old first.new ⊎ ReadFailed G.Feed second.old second.new)
-        (WriteFailed D.Drain drain.old drain.new)
-        (ChangedIn 2 (F.remaining first.old) (G.remaining second.old))) }
+    ensures stops { IfErr result (StopsTwoPasses judged_file F.Feed first.old first.new
+        G.Feed second.old second.new D.Drain drain.old drain.new) }
     // Whatever stopped it, if both feeds supply one file, a prefix of its text went out, and nothing if it has a fault.
     ensures beginning { OnErr result (F.remaining first.old ≡ G.remaining second.old
         → ShowsFront dates (judged_file (F.remaining first.old))
@@ -219,29 +205,13 @@ pub fn show_with_receipt<F: Feed, G: Feed, D: Drain>(
         (λ b. CountsFile (judged_file (Some b)) receipt.counts
         × GaveFile G.Feed second.old second.new (digest_if passes.hashes receipt.input)
         (λ c. Took D.Drain drain.old drain.new (Shown dates (judged_file (Some c)))))) }
-    // The first feed gave `read` bytes of this digest, the fault is the first of whatever begins so (or of them, if the feed was at its
-    // end), and the drain took nothing.
-    ensures refused { IfErr result (HaltsFile F.Feed first.old first.new passes.hashes
-        D.Drain drain.old drain.new (λ b. judged_file (Some b))) }
-    // Each stop has its cause, as of `show`.
-    ensures stops { IfErr result (λ h. Caused
-        (RefusedFirst (judged_file (F.remaining first.old)) (D.taken drain.old) (D.taken drain.new))
-        (ReadFailed F.Feed first.old first.new ⊎ ReadFailed G.Feed second.old second.new)
-        (WriteFailed D.Drain drain.old drain.new)
-        (ChangedIn 2 (F.remaining first.old) (G.remaining second.old)) (stop_of h)) }
-    // `Changed(2)`, whether the feeds report their bytes or not: the first gave a file, to its end, and the second gave bytes that the file
-    // doesn't begin with, or was at its end and had given another list. No other number comes.
-    ensures changed { IfErr result (λ h. IfChanged
-        (ChangedAt 2 F.Feed first.old first.new G.Feed second.old second.new) (stop_of h)) }
+    // However it ends: what it refuses, why it stops, when it says `Changed`, and that it keeps its devices.
+    ensures ends { EndsTwoPasses judged_file F.Feed first.old first.new
+        G.Feed second.old second.new D.Drain drain.old drain.new passes.hashes result }
     // Whatever stopped it, if both feeds supply one file, a prefix of its text went out, and nothing if it has a fault.
     ensures beginning { OnErr result (F.remaining first.old ≡ G.remaining second.old
         → ShowsFront dates (judged_file (F.remaining first.old))
         (D.taken drain.old) (D.taken drain.new)) }
-    // Each feed keeps its references, and its count of failures doesn't fall.
-    ensures feeds { KeepsFeed F.Feed first.old first.new
-        × KeepsFeed G.Feed second.old second.new }
-    // The drain keeps its references, and its count of failures doesn't fall.
-    ensures drain { KeepsDrain D.Drain drain.old drain.new }
 {
     let judged = judge(passes, first, &mut Nothing)?;
     let input = judged.digest;

@@ -1,26 +1,21 @@
 //! The extracts with one pass fewer, for files whose ways come after their nodes.
 
-ghost use Rattle.std.specs.Prelude.{◌≡◌, ◌⊎◌, ℕ, List, [], IfOk, IfErr, OnOk, OnErr};
+ghost use Rattle.std.specs.Prelude.{◌≡◌, ◌⊎◌, ℕ, List, IfOk, IfErr, OnOk};
 ghost use Rattle.osm_ways.specs.Parents.{extract_with_parents};
 ghost use Rattle.osm_ways.specs.Seen.{seen_decoded};
 ghost use Rattle.osm_ways.specs.Selection.{extract};
 ghost use Rattle.pbf_header.specs.Header.{header_of};
-ghost use Rattle.pbf_frame.specs.Devices.{IsFront};
-ghost use Rattle.pbf_frame.specs.Transfers.{Added};
-ghost use Rattle.pbfcut.specs.Calls.{AllSupply, FourSupply, GaveOrNot, ExtractStops, ParentsStops};
-ghost use Rattle.pbfcut.specs.Choosing.{StopsChoosing, StopsChoosingParents};
-ghost use Rattle.pbfcut.specs.Changes.{ChangedAt, IfChanged};
+ghost use Rattle.pbfcut.specs.Calls.{AllSupply, GaveOrNot, StopsExtracting};
 ghost use Rattle.pbfcut.specs.Theorem.{Extracted, IsExtraction, Promised, Canonical};
 ghost use Rattle.pbfcut.specs.Converting.{CanBeWritten};
 ghost use Rattle.pbf_pass.specs.HeaderLimit.{judged_writable};
 ghost use Rattle.pbfcut.specs.Extracting.{complete_ways, all_parents, extract_bytes, IsChoice, IsChoiceWithParents};
 ghost use Rattle.pbf_pass.specs.Given.{GaveFile, Took};
 ghost use Rattle.pbf_pass.specs.Hashing.{digest_if};
-ghost use Rattle.pbfcut.specs.Kept.{IsWritable, extract_of};
-ghost use Rattle.pbf_pass.specs.Refused.{HaltsFile, stop_of};
-ghost use Rattle.pbfcut.specs.Repeat.{IsPass, SameDigest};
-ghost use Rattle.pbf_pass.specs.Stops.{ReadFailed, WriteFailed};
-ghost use Rattle.pbf_frame.specs.Keeps.{KeepsDrain, KeepsFeed};
+ghost use Rattle.pbfcut.specs.Kept.{IsWritable};
+ghost use Rattle.pbfcut.specs.Repeat.{SameDigest};
+ghost use Rattle.pbfcut.specs.Choosing.{EndsChoosing, EndsChoosingParents};
+ghost use Rattle.pbfcut.specs.Ends.{EndsExtracting, EndsExtractingParents};
 
 use crate::extracting::{Choice, Cutting};
 use crate::repeat::LaterPass;
@@ -44,11 +39,8 @@ pub(crate) fn choose_sorted<F: Feed, G: Feed>(
         (λ b. GaveOrNot G.Feed second.old second.new
         (digest_if cutting.passes.hashes choice.next.digest) b
         (λ c. IsChoice cutting.area b c choice.chosen (header_of choice.header)))) }
-    ensures next { IfOk result (λ choice. IsPass 3 cutting.passes choice.next) }
-    ensures halts { IfErr result (StopsChoosing F.Feed first.old first.new
-        G.Feed second.old second.new cutting.passes.hashes) }
-    ensures feeds { KeepsFeed F.Feed first.old first.new
-        × KeepsFeed G.Feed second.old second.new }
+    ensures ends { EndsChoosing F.Feed first.old first.new G.Feed second.old second.new
+        cutting result }
 {
     let mut phase = FirstPhase::new(cutting.passes.alloc, cutting.area);
     let begun = cutting.begin(first, &mut phase)?;
@@ -102,11 +94,8 @@ pub fn extract_sorted<F: Feed, G: Feed, H: Feed, D: Drain, S: BuildHasher + Drop
     // `Refused` names the first fault of the first feed's file, or that its header can't be written, and the drain took nothing. `Read`
     // and `Write` come only if a count of failures rose: of a feed, of the drain. `Changed(2)`: the second feed's bytes aren't the
     // first's, and the drain took nothing. `Changed(3)`: the third's aren't. No other number comes.
-    ensures stops { IfErr result (ExtractStops (F.remaining first.old) (G.remaining second.old)
-        (H.remaining third.old) (D.taken drain.old) (D.taken drain.new)
-        (ReadFailed F.Feed first.old first.new
-        ⊎ (ReadFailed G.Feed second.old second.new ⊎ ReadFailed H.Feed third.old third.new))
-        (WriteFailed D.Drain drain.old drain.new)) }
+    ensures stops { IfErr result (StopsExtracting F.Feed first.old first.new
+        G.Feed second.old second.new H.Feed third.old third.new D.Drain drain.old drain.new) }
 {
     let passes = Passes {
         alloc,
@@ -136,33 +125,10 @@ pub fn extract_sorted_with_receipt<F: Feed, G: Feed, H: Feed, D: Drain, S: Build
         Took D.Drain drain.old drain.new
         (λ written. b ≡ c → b ≡ d → IsExtraction (complete_ways area) (extract (seen_decoded area))
         area b receipt.counts written))))) }
-    // The first feed gave `read` bytes of this digest, the fault is the first of whatever begins so (or of them, if the feed was at its
-    // end), and the drain took nothing.
-    ensures refused { IfErr result (HaltsFile F.Feed first.old first.new passes.hashes
-        D.Drain drain.old drain.new (λ b. judged_writable (Some b))) }
-    // Each stop has its cause, as of `extract`.
-    ensures stops { IfErr result (λ h. ExtractStops (F.remaining first.old) (G.remaining second.old)
-        (H.remaining third.old) (D.taken drain.old) (D.taken drain.new)
-        (ReadFailed F.Feed first.old first.new
-        ⊎ (ReadFailed G.Feed second.old second.new ⊎ ReadFailed H.Feed third.old third.new))
-        (WriteFailed D.Drain drain.old drain.new) (stop_of h)) }
-    // `Changed`, whether the feeds report their bytes or not: the first gave a file, to its end, and the second (or the third) gave bytes that
-    // the file doesn't begin with, or was at its end and had given another list. After `Changed(2)` the drain took nothing.
-    ensures changed { IfErr result (λ h. IfChanged (λ pass.
-        (ChangedAt 2 F.Feed first.old first.new G.Feed second.old second.new pass
-        × Added D.Drain drain.old [] drain.new)
-        ⊎ ChangedAt 3 F.Feed first.old first.new H.Feed third.old third.new pass) (stop_of h)) }
-    // Whatever stopped it, if all feeds supply these bytes, a prefix of their extract went out, and nothing if they have a fault.
-    ensures beginning { OnErr result ((b : List ℕ)
-        → AllSupply b (F.remaining first.old) (G.remaining second.old) (H.remaining third.old)
-        → IsFront (D.taken drain.old) (D.taken drain.new)
-        (extract_of (complete_ways area) area b)) }
-    // Each feed keeps its references, and its count of failures doesn't fall.
-    ensures feeds { KeepsFeed F.Feed first.old first.new
-        × KeepsFeed G.Feed second.old second.new
-        × KeepsFeed H.Feed third.old third.new }
-    // The drain keeps its references, and its count of failures doesn't fall.
-    ensures drain { KeepsDrain D.Drain drain.old drain.new }
+    // However it ends: what it refuses, why it stops, when it says `Changed`, what went out by then, and that it keeps its devices.
+    ensures ends { EndsExtracting F.Feed first.old first.new
+        G.Feed second.old second.new H.Feed third.old third.new
+        D.Drain drain.old drain.new passes.hashes area result }
 {
     let choice = choose_sorted(Cutting { passes, area }, first, second)?;
     choice.write(third, drain, hasher)
@@ -182,12 +148,8 @@ fn choose_parents_sorted<F: Feed, G: Feed, H: Feed>(
         (λ c. GaveFile H.Feed third.old third.new
         (digest_if cutting.passes.hashes choice.next.digest)
         (λ d. IsChoiceWithParents cutting.area b c d choice.chosen (header_of choice.header))))) }
-    ensures next { IfOk result (λ choice. IsPass 4 cutting.passes choice.next) }
-    ensures halts { IfErr result (StopsChoosingParents F.Feed first.old first.new
-        G.Feed second.old second.new H.Feed third.old third.new cutting.passes.hashes) }
-    ensures feeds { KeepsFeed F.Feed first.old first.new
-        × KeepsFeed G.Feed second.old second.new
-        × KeepsFeed H.Feed third.old third.new }
+    ensures ends { EndsChoosingParents F.Feed first.old first.new G.Feed second.old second.new
+        H.Feed third.old third.new cutting result }
 {
     let choice = choose_sorted(cutting, first, second)?;
     choice.with_parents(third)
@@ -222,36 +184,10 @@ pub fn extract_parents_sorted_with_receipt<
         (λ d. GaveFile I.Feed fourth.old fourth.new (digest_if passes.hashes receipt.input)
         (λ e. Took D.Drain drain.old drain.new (λ written. b ≡ c → b ≡ d → b ≡ e → IsExtraction (all_parents area)
         (extract_with_parents (seen_decoded area)) area b receipt.counts written)))))) }
-    // The first feed gave `read` bytes of this digest, the fault is the first of whatever begins so (or of them, if the feed was at its
-    // end), and the drain took nothing.
-    ensures refused { IfErr result (HaltsFile F.Feed first.old first.new passes.hashes
-        D.Drain drain.old drain.new (λ b. judged_writable (Some b))) }
-    // Each stop has its cause, as of `extract_parents`.
-    ensures stops { IfErr result (λ h. ParentsStops (F.remaining first.old) (G.remaining second.old)
-        (H.remaining third.old) (I.remaining fourth.old) (D.taken drain.old) (D.taken drain.new)
-        ((ReadFailed F.Feed first.old first.new
-        ⊎ (ReadFailed G.Feed second.old second.new ⊎ ReadFailed H.Feed third.old third.new))
-        ⊎ ReadFailed I.Feed fourth.old fourth.new)
-        (WriteFailed D.Drain drain.old drain.new) (stop_of h)) }
-    // `Changed`, whether the feeds report their bytes or not: the first gave a file, to its end, and the feed of that pass gave bytes that
-    // the file doesn't begin with, or was at its end and had given another list. Before the fourth pass the drain took nothing.
-    ensures changed { IfErr result (λ h. IfChanged (λ pass.
-        ((ChangedAt 2 F.Feed first.old first.new G.Feed second.old second.new pass
-        ⊎ ChangedAt 3 F.Feed first.old first.new H.Feed third.old third.new pass)
-        × Added D.Drain drain.old [] drain.new)
-        ⊎ ChangedAt 4 F.Feed first.old first.new I.Feed fourth.old fourth.new pass) (stop_of h)) }
-    // Whatever stopped it, if all feeds supply these bytes, a prefix of their extract went out, and nothing if they have a fault.
-    ensures beginning { OnErr result ((b : List ℕ)
-        → FourSupply b (F.remaining first.old) (G.remaining second.old) (H.remaining third.old)
-        (I.remaining fourth.old)
-        → IsFront (D.taken drain.old) (D.taken drain.new) (extract_of (all_parents area) area b)) }
-    // Each feed keeps its references, and its count of failures doesn't fall.
-    ensures feeds { KeepsFeed F.Feed first.old first.new
-        × KeepsFeed G.Feed second.old second.new
-        × KeepsFeed H.Feed third.old third.new
-        × KeepsFeed I.Feed fourth.old fourth.new }
-    // The drain keeps its references, and its count of failures doesn't fall.
-    ensures drain { KeepsDrain D.Drain drain.old drain.new }
+    // However it ends: what it refuses, why it stops, when it says `Changed`, what went out by then, and that it keeps its devices.
+    ensures ends { EndsExtractingParents F.Feed first.old first.new
+        G.Feed second.old second.new H.Feed third.old third.new I.Feed fourth.old fourth.new
+        D.Drain drain.old drain.new passes.hashes area result }
 {
     let choice = choose_parents_sorted(Cutting { passes, area }, first, second, third)?;
     choice.write(fourth, drain, hasher)

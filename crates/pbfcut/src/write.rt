@@ -1,19 +1,12 @@
 //! The pass that writes. It comes after the one that judged the file, and judges no payload: that its bytes are those of the first
 //! pass is seen by their digest, at the end.
 
-ghost use Rattle.std.specs.Prelude.{◌∷◌, ◌≡◌, IfOk, IfErr, OnErr};
+ghost use Rattle.std.specs.Prelude.{◌∷◌, ◌≡◌};
 ghost use Rattle.pbf_header.specs.Header.{header_of};
-ghost use Rattle.pbf_pass.specs.Unjudged.{StopsUnjudged, ReadsFaulty};
-ghost use Rattle.pbf_pass.specs.Given.{GaveFile, Took};
-ghost use Rattle.pbf_pass.specs.Hashing.{digest_if};
 ghost use Rattle.pbf_pass.specs.HeaderLimit.{HasShortTexts};
-ghost use Rattle.pbf_pass.specs.Judged.{judged_file};
 ghost use Rattle.pbf_pass.specs.Payload.{primitive_block, lent_by};
-ghost use Rattle.pbf_pass.specs.Stops.{ReadFailed, WriteFailed};
-ghost use Rattle.pbf_frame.specs.Keeps.{KeepsDrain, KeepsFeed};
 ghost use Rattle.pbfcut.specs.Pick.{pick_of, IsFreshPacker, IsReadyToPack};
-ghost use Rattle.pbfcut.specs.Repeat.{StopsLater, digest_of};
-ghost use Rattle.pbfcut.specs.Write.{PacksUnjudged, PacksNext, FailsAtNext, Packed, PacksFront};
+ghost use Rattle.pbfcut.specs.Write.{PacksUnjudged, PacksNext, FailsAtNext, WritesUnjudged, WritesAgain};
 
 use crate::pick::EntityPacker;
 use crate::repeat::LaterPass;
@@ -113,20 +106,8 @@ impl<'a> OutputPlan<'a> {
     ) -> Result<InputReceipt, Stop>
         requires fresh { IsFreshPacker packer.old }
         requires short { HasShortTexts (header_of self.header.now) }
-        ensures packed { IfOk result (λ wrote. GaveFile F.Feed feed.old feed.new
-            (digest_if self.entry.pass.passes.hashes wrote.input)
-            (λ file. Took D.Drain packer.old.drain packer.new.drain
-            (Packed (pick_of self.entry.chosen) (header_of self.entry.header.now)
-            wrote.counts (judged_file (Some file))))) }
-        ensures beginning { OnErr result (PacksFront (pick_of self.entry.chosen)
-            (header_of self.entry.header.now) (judged_file (F.remaining feed.old))
-            (D.taken packer.old.drain) (D.taken packer.new.drain)) }
-        ensures faulty { IfErr result (ReadsFaulty F.Feed feed.old feed.new) }
-        ensures stops { IfErr result (StopsUnjudged self.entry.pass.number
-            (judged_file (F.remaining feed.old)) (ReadFailed F.Feed feed.old feed.new)
-            (WriteFailed D.Drain packer.old.drain packer.new.drain)) }
-        ensures keeps { KeepsFeed F.Feed feed.old feed.new }
-        ensures drain { KeepsDrain D.Drain packer.old.drain packer.new.drain }
+        ensures { WritesUnjudged F.Feed feed.old feed.new
+            D.Drain packer.old.drain packer.new.drain self.entry result }
     {
         packer.put_header(self.header)?;
         let mut writer = Writer {
@@ -152,19 +133,8 @@ impl<'a> OutputPlan<'a> {
         hasher: S,
     ) -> Result<InputReceipt, Stop>
         requires { HasShortTexts (header_of self.header.now) }
-        ensures packed { IfOk result (λ wrote. GaveFile F.Feed feed.old feed.new
-            (digest_if self.entry.pass.passes.hashes wrote.input)
-            (λ file. Took D.Drain drain.old drain.new (Packed (pick_of self.entry.chosen)
-            (header_of self.entry.header.now) wrote.counts (judged_file (Some file))))) }
-        ensures beginning { OnErr result (PacksFront (pick_of self.entry.chosen)
-            (header_of self.entry.header.now) (judged_file (F.remaining feed.old))
-            (D.taken drain.old) (D.taken drain.new)) }
-        ensures faulty { IfErr result (ReadsFaulty F.Feed feed.old feed.new) }
-        ensures stops { IfErr result (StopsUnjudged self.entry.pass.number
-            (judged_file (F.remaining feed.old)) (ReadFailed F.Feed feed.old feed.new)
-            (WriteFailed D.Drain drain.old drain.new)) }
-        ensures keeps { KeepsFeed F.Feed feed.old feed.new }
-        ensures drain { KeepsDrain D.Drain drain.old drain.new }
+        ensures { WritesUnjudged F.Feed feed.old feed.new D.Drain drain.old drain.new
+            self.entry result }
     {
         let mut packer = Packer::new(self.pass.passes.alloc, &mut *drain, hasher);
         let outcome = self.pack_file(feed, &mut packer);
@@ -181,17 +151,8 @@ impl<'a> OutputPlan<'a> {
         hasher: S,
     ) -> Result<Counts, Stop>
         requires { HasShortTexts (header_of self.header.now) }
-        ensures packed { IfOk result (λ counts. GaveFile F.Feed feed.old feed.new
-            (digest_of self.entry.pass) (λ file. Took D.Drain drain.old drain.new
-            (Packed (pick_of self.entry.chosen) (header_of self.entry.header.now)
-            counts (judged_file (Some file))))) }
-        ensures beginning { OnErr result (PacksFront (pick_of self.entry.chosen)
-            (header_of self.entry.header.now) (judged_file (F.remaining feed.old))
-            (D.taken drain.old) (D.taken drain.new)) }
-        ensures stops { IfErr result (StopsLater F.Feed self.entry.pass feed.old feed.new
-            (WriteFailed D.Drain drain.old drain.new)) }
-        ensures keeps { KeepsFeed F.Feed feed.old feed.new }
-        ensures drain { KeepsDrain D.Drain drain.old drain.new }
+        ensures { WritesAgain F.Feed feed.old feed.new D.Drain drain.old drain.new
+            self.entry result }
     {
         match self.write_unjudged(feed, drain, hasher) {
             Ok(wrote) => {

@@ -1,3 +1,4 @@
 pub mod Words
 pub mod Endings
 pub mod Joined
+pub mod Commands

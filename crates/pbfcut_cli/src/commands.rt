@@ -3,7 +3,7 @@
 ghost use Rattle.std.specs.Prelude.{◌≡◌, IfOk, IsOkAnd, false, codes};
 ghost use Rattle.clap.specs.Simple.{on_top};
 ghost use Rattle.clap.specs.Words.{app_of, new_app, rule_of, with_rule, with_subcommand};
-ghost use Rattle.clap.specs.declared.builder.command.Command.TheViews.{out-Command as fields_of};
+ghost use Rattle.pbfcut_cli.specs.Commands.{HasNoGlobals, IsArgument, IsCommand, IsWith};
 ghost use Rattle.pbfcut_cli.specs.Words.{
   bare_app,
   blobs_app,
@@ -32,23 +32,20 @@ use std::alloc::{AllocError, Global};
 
 /// The file that is read.
 fn input<'a>(alloc: Global, help: &'a Help) -> Arg<'a>
-    ensures rule { rule_of result ≡ input_rule }
-    ensures local { result.global ≡ false }
+    ensures { IsArgument input_rule result }
 {
     Arg::new(alloc, "IN").required(true).help(help.input)
 }
 
 /// The file that is written.
 fn output<'a>(alloc: Global) -> Arg<'a>
-    ensures rule { rule_of result ≡ output_rule }
-    ensures local { result.global ≡ false }
+    ensures { IsArgument output_rule result }
 {
     Arg::new(alloc, "OUT").required(true).help(help::OUTPUT)
 }
 
 fn dates<'a>(alloc: Global) -> Arg<'a>
-    ensures rule { rule_of result ≡ dates_rule }
-    ensures local { result.global ≡ false }
+    ensures { IsArgument dates_rule result }
 {
     Arg::new(alloc, "dates")
         .long("dates")
@@ -57,8 +54,7 @@ fn dates<'a>(alloc: Global) -> Arg<'a>
 }
 
 fn progress<'a>(alloc: Global) -> Arg<'a>
-    ensures rule { rule_of result ≡ progress_rule }
-    ensures local { result.global ≡ false }
+    ensures { IsArgument progress_rule result }
 {
     Arg::new(alloc, "progress")
         .long("progress")
@@ -67,8 +63,7 @@ fn progress<'a>(alloc: Global) -> Arg<'a>
 }
 
 fn digests<'a>(alloc: Global, help: &'a str) -> Arg<'a>
-    ensures rule { rule_of result ≡ digests_rule }
-    ensures local { result.global ≡ false }
+    ensures { IsArgument digests_rule result }
 {
     Arg::new(alloc, "digests")
         .long("digests")
@@ -77,8 +72,7 @@ fn digests<'a>(alloc: Global, help: &'a str) -> Arg<'a>
 }
 
 fn parents<'a>(alloc: Global) -> Arg<'a>
-    ensures rule { rule_of result ≡ parents_rule }
-    ensures local { result.global ≡ false }
+    ensures { IsArgument parents_rule result }
 {
     Arg::new(alloc, "parents")
         .long("parents")
@@ -88,8 +82,7 @@ fn parents<'a>(alloc: Global) -> Arg<'a>
 
 /// The box, as text, by one name.
 fn box_alone<'a>(alloc: Global) -> Arg<'a>
-    ensures rule { rule_of result ≡ lone_box_rule }
-    ensures local { result.global ≡ false }
+    ensures { IsArgument lone_box_rule result }
 {
     Arg::new(alloc, "box")
         .long("box")
@@ -100,16 +93,14 @@ fn box_alone<'a>(alloc: Global) -> Arg<'a>
 
 /// The box, as text.
 fn area<'a>(alloc: Global) -> Result<Arg<'a>, AllocError>
-    ensures rule { IfOk result (λ arg. rule_of arg ≡ box_rule) }
-    ensures local { IfOk result (λ arg. arg.global ≡ false) }
+    ensures { IfOk result (IsArgument box_rule) }
 {
     box_alone(alloc).alias("bbox")
 }
 
 /// A command of this name, with no argument yet.
 fn named<'a>(alloc: Global, name: &'a str, about: &'a str, after_help: &'a str) -> Command<'a>
-    ensures app { app_of result ≡ new_app name.now }
-    ensures local { (fields_of result).has_globals ≡ false }
+    ensures { IsCommand (new_app name.now) result }
 {
     Command::new(alloc, name)
         .about(about)
@@ -121,29 +112,26 @@ type Made<'a> = Result<Command<'a>, AllocError>;
 
 /// The command with one more argument.
 fn with_arg<'a>(command: Made<'a>, arg: Arg<'a>) -> Made<'a>
-    requires local { IfOk command (λ c. (fields_of c).has_globals ≡ false) }
+    requires local { IfOk command HasNoGlobals }
     requires at_home { arg.global ≡ false }
-    ensures app { IfOk result (λ r. IsOkAnd command.entry
-        (λ c. app_of r ≡ with_rule (app_of c) (rule_of arg.entry))) }
-    ensures local { IfOk result (λ r. (fields_of r).has_globals ≡ false) }
+    ensures { IfOk result (IsWith (λ app. with_rule app (rule_of arg.entry)) command.entry) }
 {
     command?.arg(arg)
 }
 
 /// The command with one more command below it.
 fn with_command<'a>(command: Made<'a>, below: Made<'a>) -> Made<'a>
-    requires local { IfOk command (λ c. (fields_of c).has_globals ≡ false) }
-    requires below { IfOk below (λ b. (fields_of b).has_globals ≡ false) }
+    requires local { IfOk command HasNoGlobals }
+    requires below { IfOk below HasNoGlobals }
     ensures app { IfOk result (λ r. IsOkAnd command.entry (λ c. IsOkAnd below.entry
         (λ b. app_of r ≡ with_subcommand (app_of c) (app_of b).top))) }
-    ensures local { IfOk result (λ r. (fields_of r).has_globals ≡ false) }
+    ensures local { IfOk result HasNoGlobals }
 {
     command?.subcommand(below?)
 }
 
 fn blobs<'a>(alloc: Global, help: &'a Help) -> Made<'a>
-    ensures app { IfOk result (λ c. app_of c ≡ blobs_app) }
-    ensures local { IfOk result (λ c. (fields_of c).has_globals ≡ false) }
+    ensures { IfOk result (IsCommand blobs_app) }
 {
     with_arg(
         Ok(named(alloc, "blobs", help::BLOBS, help.blobs)),
@@ -152,8 +140,7 @@ fn blobs<'a>(alloc: Global, help: &'a Help) -> Made<'a>
 }
 
 fn show<'a>(alloc: Global, help: &'a Help) -> Made<'a>
-    ensures app { IfOk result (λ c. app_of c ≡ show_app) }
-    ensures local { IfOk result (λ c. (fields_of c).has_globals ≡ false) }
+    ensures { IfOk result (IsCommand show_app) }
 {
     let command = named(alloc, "show", help::SHOW, help.show);
     let command = with_arg(Ok(command), dates(alloc));
@@ -162,8 +149,7 @@ fn show<'a>(alloc: Global, help: &'a Help) -> Made<'a>
 }
 
 fn check<'a>(alloc: Global, help: &'a Help) -> Made<'a>
-    ensures app { IfOk result (λ c. app_of c ≡ check_app) }
-    ensures local { IfOk result (λ c. (fields_of c).has_globals ≡ false) }
+    ensures { IfOk result (IsCommand check_app) }
 {
     let command = named(alloc, "check", help::CHECK, help.check);
     let command = with_arg(Ok(command), progress(alloc));
@@ -173,8 +159,7 @@ fn check<'a>(alloc: Global, help: &'a Help) -> Made<'a>
 
 /// `convert` with its options.
 fn conversion<'a>(alloc: Global, help: &'a Help) -> Made<'a>
-    ensures app { IfOk result (λ c. app_of c ≡ conversion_app) }
-    ensures local { IfOk result (λ c. (fields_of c).has_globals ≡ false) }
+    ensures { IfOk result (IsCommand conversion_app) }
 {
     let command = named(alloc, "convert", help::CONVERT, help.convert);
     let command = with_arg(Ok(command), progress(alloc));
@@ -182,8 +167,7 @@ fn conversion<'a>(alloc: Global, help: &'a Help) -> Made<'a>
 }
 
 fn convert<'a>(alloc: Global, help: &'a Help) -> Made<'a>
-    ensures app { IfOk result (λ c. app_of c ≡ convert_app) }
-    ensures local { IfOk result (λ c. (fields_of c).has_globals ≡ false) }
+    ensures { IfOk result (IsCommand convert_app) }
 {
     let command = with_arg(conversion(alloc, help), input(alloc, help));
     with_arg(command, output(alloc))
@@ -191,16 +175,14 @@ fn convert<'a>(alloc: Global, help: &'a Help) -> Made<'a>
 
 /// `extract` with no argument yet.
 fn extraction<'a>(alloc: Global, help: &'a Help) -> Command<'a>
-    ensures app { app_of result ≡ new_app (codes "extract") }
-    ensures local { (fields_of result).has_globals ≡ false }
+    ensures { IsCommand (new_app (codes "extract")) result }
 {
     named(alloc, "extract", help::EXTRACT, help.extract).override_usage(help.usage_of_extract)
 }
 
 /// `extract` with its flags.
 fn options<'a>(alloc: Global, help: &'a Help) -> Made<'a>
-    ensures app { IfOk result (λ c. app_of c ≡ options_app) }
-    ensures local { IfOk result (λ c. (fields_of c).has_globals ≡ false) }
+    ensures { IfOk result (IsCommand options_app) }
 {
     let command = with_arg(Ok(extraction(alloc, help)), parents(alloc));
     let command = with_arg(command, progress(alloc));
@@ -209,17 +191,14 @@ fn options<'a>(alloc: Global, help: &'a Help) -> Made<'a>
 
 /// The command with the box.
 fn with_area<'a>(command: Made<'a>, alloc: Global) -> Made<'a>
-    requires local { IfOk command (λ c. (fields_of c).has_globals ≡ false) }
-    ensures app { IfOk result (λ r. IsOkAnd command.entry
-        (λ c. app_of r ≡ with_rule (app_of c) box_rule)) }
-    ensures local { IfOk result (λ r. (fields_of r).has_globals ≡ false) }
+    requires local { IfOk command HasNoGlobals }
+    ensures { IfOk result (IsWith (λ app. with_rule app box_rule) command.entry) }
 {
     with_arg(command, area(alloc)?)
 }
 
 fn extract<'a>(alloc: Global, help: &'a Help) -> Made<'a>
-    ensures app { IfOk result (λ c. app_of c ≡ extract_app) }
-    ensures local { IfOk result (λ c. (fields_of c).has_globals ≡ false) }
+    ensures { IfOk result (IsCommand extract_app) }
 {
     let command = with_area(options(alloc, help), alloc);
     let command = with_arg(command, input(alloc, help));
@@ -228,8 +207,7 @@ fn extract<'a>(alloc: Global, help: &'a Help) -> Made<'a>
 
 /// The command line with what it says of itself.
 fn titled<'a>(alloc: Global, help: &'a Help) -> Command<'a>
-    ensures app { app_of result ≡ on_top versioned (new_app (codes "pbfcut")) }
-    ensures local { (fields_of result).has_globals ≡ false }
+    ensures { IsCommand (on_top versioned (new_app (codes "pbfcut"))) result }
 {
     Command::new(alloc, "pbfcut")
         .about(help.about)
@@ -239,8 +217,7 @@ fn titled<'a>(alloc: Global, help: &'a Help) -> Command<'a>
 
 /// The command line with no command yet.
 fn bare<'a>(alloc: Global, help: &'a Help) -> Made<'a>
-    ensures app { IfOk result (λ c. app_of c ≡ bare_app) }
-    ensures local { IfOk result (λ c. (fields_of c).has_globals ≡ false) }
+    ensures { IfOk result (IsCommand bare_app) }
 {
     titled(alloc, help)
         .no_binary_name(true)
@@ -252,8 +229,7 @@ fn bare<'a>(alloc: Global, help: &'a Help) -> Made<'a>
 
 /// The command line with the commands that write a file.
 fn writers<'a>(alloc: Global, help: &'a Help) -> Made<'a>
-    ensures app { IfOk result (λ c. app_of c ≡ writers_app) }
-    ensures local { IfOk result (λ c. (fields_of c).has_globals ≡ false) }
+    ensures { IfOk result (IsCommand writers_app) }
 {
     let command = with_command(bare(alloc, help), extract(alloc, help));
     with_command(command, convert(alloc, help))
@@ -261,8 +237,7 @@ fn writers<'a>(alloc: Global, help: &'a Help) -> Made<'a>
 
 /// The command line of a program with this help, with the commands in the order in which help lists them.
 pub(crate) fn command_line<'a>(alloc: Global, help: &'a Help) -> Result<Command<'a>, AllocError>
-    ensures app { IfOk result (λ c. app_of c ≡ program_app) }
-    ensures local { IfOk result (λ c. (fields_of c).has_globals ≡ false) }
+    ensures { IfOk result (IsCommand program_app) }
 {
     let command = with_command(writers(alloc, help), check(alloc, help));
     let command = with_command(command, show(alloc, help));

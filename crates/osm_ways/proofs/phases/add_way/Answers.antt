@@ -25,7 +25,7 @@ returns-clause-sets g c =
     let any : list_any (set.contains known) (first ∷ rest) ≡ true =
     elim c.if-not-has.branch [
       | then-not-has+else-not-is_kept_by+in_ok-add w ↦
-          ap (λ b. set.contains known first || b) (ap (λ k. list_any (set.contains (g.I.IdLookup.ids k)) rest) (sym c.has.ensures.same) ∙ sym w.is_kept_by.ensures.kept ∙ w.if-not-is_kept_by.false)
+          ap (λ b. set.contains known first || b) (ap (λ k. list_any (set.contains (g.I.IdLookup.ids k)) rest) (sym c.has.ensures.same) ∙ sym w.is_kept_by.ensures.found ∙ w.if-not-is_kept_by.false)
           ∙ or_true (set.contains known first)
       | else-not-has w ↦ ap (λ b. b || list_any (set.contains known) rest) (ap (set.contains known) (sym (to_z-of_z w64 first fits)) ∙ sym (w.if-not-has.ensures {u = tt}).found)
     ] in

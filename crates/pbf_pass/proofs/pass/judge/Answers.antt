@@ -10,15 +10,14 @@ use Rattle.pbf_pass.proofs.HaltingLemmas.{halts_file}
 use Rattle.pbf_pass.proofs.JudgingLemmas.{takes_file, stops_judging}
 use Rattle.pbf_pass.proofs.pass.judge.Goals as goal
 
-pub returns-in_err-count-clause-stops : goal.returns-in_err-count-clause-stops
-returns-in_err-count-clause-stops g c =
+pub returns-in_err-count-clause-ends : goal.returns-in_err-count-clause-ends
+returns-in_err-count-clause-ends g c =
     let p = err_from_is_err_and c.from_residual.result c.from_residual.ensures.1 in
-    rw (p.1, p.2) (stops_judging _ (λ old new f one. one.sound) _ _ _ ⊥ _ c.pass_over.new.visitor _ (λ fs mid f s visited failing. failing) c.in_err-count.ensures.stops)
-
-pub returns-in_err-count-clause-refused : goal.returns-in_err-count-clause-refused
-returns-in_err-count-clause-refused g c =
-    let p = err_from_is_err_and c.from_residual.result c.from_residual.ensures.1 in
-    rw (p.1, p.2) (halts_file g.F.Feed _ _ _ _ (λ b. judged_file (Some b)) _ (λ e b stops. stops_judging _ (λ old new f one. one.sound) _ (judged_known false 0 (Some b)) ⊥ ⊥ _ c.pass_over.new.visitor (Refused e) (λ fs mid f s visited failing. failing) stops) c.in_err-count.ensures.refused)
+    rw (p.1, p.2) (record {
+      refused = halts_file g.F.Feed _ _ _ _ (λ b. judged_file (Some b)) _ (λ e b stops. stops_judging _ (λ old new f one. one.sound) _ (judged_known false 0 (Some b)) ⊥ ⊥ _ c.pass_over.new.visitor (Refused e) (λ fs mid f s visited failing. failing) stops) c.in_err-count.ensures.refused;
+      stops = stops_judging _ (λ old new f one. one.sound) _ _ _ ⊥ _ c.pass_over.new.visitor _ (λ fs mid f s visited failing. failing) c.in_err-count.ensures.stops;
+      keeps = search rules;
+    })
 
 pub returns-clause-judged : goal.returns-clause-judged
 returns-clause-judged g c =

@@ -23,7 +23,7 @@ pub frames-preserved : goal.frames-preserved
 frames-preserved g c =
     let so_far = c.frames.invariant in
     let frames = so_far.done.0 in
-    let t = took_one g.F.Feed _ _ _ _ _ _ c.if-branch.true so_far.reading c.in_ok-step.ensures.step in
+    let t = took_one g.F.Feed _ _ _ _ _ _ c.if-branch.true so_far.reading c.in_ok-step.ensures.steps.step in
     record {
       done = (
         frames ++ t.frame ∷ [],
@@ -33,31 +33,31 @@ frames-preserved g c =
         omega (arith, so_far.done.4, length-append frames (t.frame ∷ [])),
       );
       few = omega (arith, so_far.few, t.rises);
-      limited = c.step.ensures.limited;
+      limited = c.step.ensures.steps.limited;
       reading = t.reading;
-      ready = c.in_ok-step.ensures.ready;
+      ready = c.in_ok-step.ensures.visitor.ready;
       counts = omega (arith, so_far.counts, t.keeps.counts);
       lender = t.keeps.lender ∙ so_far.lender;
-      visitor = c.step.ensures.lender ∙ so_far.visitor;
+      visitor = c.step.ensures.visitor.lender ∙ so_far.visitor;
     }
 
 pub returns-in_err-step-clause-stops : goal.returns-in_err-step-clause-stops
 returns-in_err-step-clause-stops g c =
     let p = err_from_is_err_and c.from_residual.result c.from_residual.ensures.1 in
     let so_far = c.frames.invariant in
-    rw (p.1, p.2) (stops_visit g.F.Feed _ _ g.V.Visit.took g.V.Visit.failed _ so_far.done.0 _ _ _ _ _ so_far.done.1 so_far.counts so_far.done.2 (stopped_step g.F.Feed _ _ _ _ _ _ so_far.reading c.in_err-step.ensures.step))
+    rw (p.1, p.2) (stops_visit g.F.Feed _ _ g.V.Visit.took g.V.Visit.failed _ so_far.done.0 _ _ _ _ _ so_far.done.1 so_far.counts so_far.done.2 (stopped_step g.F.Feed _ _ _ _ _ _ so_far.reading c.in_err-step.ensures.steps.step))
 
 pub returns-in_err-step-clause-refused : goal.returns-in_err-step-clause-refused
 returns-in_err-step-clause-refused g c =
     let p = err_from_is_err_and c.from_residual.result c.from_residual.ensures.1 in
     let so_far = c.frames.invariant in
-    rw (p.1, p.2) (has_passed_refused g.F.Feed g.V.Visit.took g.V.Visit.failed _ _ _ _ _ _ so_far.done.0 so_far.done.3 so_far.done.2 _ (refused_step g.F.Feed _ _ _ _ _ _ so_far.reading c.in_err-step.ensures.step))
+    rw (p.1, p.2) (has_passed_refused g.F.Feed g.V.Visit.took g.V.Visit.failed _ _ _ _ _ _ so_far.done.0 so_far.done.3 so_far.done.2 _ (refused_step g.F.Feed _ _ _ _ _ _ so_far.reading c.in_err-step.ensures.steps.step))
 
 pub returns-clause-visited : goal.returns-clause-visited
 returns-clause-visited g c =
     let so_far = c.frames.invariant in
     let frames = so_far.done.0 in
-    let e = met_end g.F.Feed _ _ _ _ _ _ c.if-branch.false so_far.reading c.in_ok-step.ensures.step in
+    let e = met_end g.F.Feed _ _ _ _ _ _ c.if-branch.false so_far.reading c.in_ok-step.ensures.steps.step in
     has_passed_all g.F.Feed _ _ _ frames _ so_far.done.3 e.gave (e.keeps.lender ∙ so_far.lender) record {
       frames = frames;
       says = refl;

@@ -1,4 +1,4 @@
-use Rattle.std.proofs.Common.{◌⊎◌, List, ℕ, Some, ap, sym, inr, refl}
+use Rattle.std.proofs.Common.{rules, ◌⊎◌, List, ℕ, Some, ap, sym, inr, refl}
 use Rattle.std.proofs.lemmas.Result.{err_from_is_err_and}
 use Rattle.pbf_header.specs.Header.{header_of}
 use Rattle.pbfcut.specs.Calls.{RefusedFirst, ChangedIn}
@@ -16,37 +16,34 @@ use Rattle.pbf_pass.specs.Refused.{stop_of}
 use Rattle.pbfcut.proofs.ChangedLemmas.{no_refusal, never_changed, changed_later}
 use Rattle.pbfcut.proofs.converting.convert_with_receipt.Goals as goal
 
-pub returns-in_err-judged-clause-refused : goal.returns-in_err-judged-clause-refused
-returns-in_err-judged-clause-refused g c =
+pub returns-in_err-judged-clause-ends : goal.returns-in_err-judged-clause-ends
+returns-in_err-judged-clause-ends g c =
     let p = err_from_is_err_and c.from_residual.result c.from_residual.ensures.1 in
-    rw (p.1, p.2) (halts_first g.F.Feed _ _ _ g.D.Drain _ _ _ (halts_writing g.F.Feed _ _ _ _ c.in_err-judged.ensures.refused))
+    rw (p.1, p.2) (record {
+      refused = halts_first g.F.Feed _ _ _ g.D.Drain _ _ _ (halts_writing g.F.Feed _ _ _ _ c.in_err-judged.ensures.refused);
+      stops = search rules;
+      changed = never_changed _ _ _ _ (stop_of c.in_err-judged.field-0.0) c.in_err-judged.ensures.stops;
+      feeds = search rules;
+      out = search rules;
+    })
 
-pub returns-in_err-writable_header-clause-refused : goal.returns-in_err-writable_header-clause-refused
-returns-in_err-writable_header-clause-refused g c =
-    let p = err_from_is_err_and c.from_residual-in_err-writable_header.result c.from_residual-in_err-writable_header.ensures.1 in
-    rw (p.1, p.2) (halts_first g.F.Feed _ _ _ g.D.Drain _ _ _ (limit_halts g.F.Feed _ _ _ as_it_was _ _ c.in_ok-judged.judged _ c.in_ok-judged.ensures.judged c.in_err-writable_header.ensures.refused))
-
-pub returns-in_err-counts-clause-refused : goal.returns-in_err-counts-clause-refused
-returns-in_err-counts-clause-refused g c =
-    let p = err_from_is_err_and c.from_residual-in_err-counts.result c.from_residual-in_err-counts.ensures.1 in
-    rw (p.1, p.2) (no_refusal g.G.Feed _ _ _ _ _ c.in_err-counts.ensures.stops)
-
-pub returns-in_err-writable_header-clause-stops : goal.returns-in_err-writable_header-clause-stops
-returns-in_err-writable_header-clause-stops g c =
+pub returns-in_err-writable_header-clause-ends : goal.returns-in_err-writable_header-clause-ends
+returns-in_err-writable_header-clause-ends g c =
     let p = err_from_is_err_and c.from_residual-in_err-writable_header.result c.from_residual-in_err-writable_header.ensures.1 in
     let one = c.in_ok-judged.ensures.judged in
     let first = g.F.Feed.remaining c.args.first.now in
     let old = g.D.Drain.taken c.args.drain.now in
-    rw (p.1, p.2) (stops_earlier (Only (header_limit (held_header c.in_ok-judged.judged.pass))) (RefusedFirst (judged_writable first) old old) ⊥ _ _ unchanged (ChangedIn 2 first (g.G.Feed.remaining c.args.second.now)) _
-    (λ e limit. (limit_refused as_it_was _ _ _ _ e (takes_told as_it_was first one.file _ _ _ (tells_file g.F.Feed _ _ _ _ one) one.holding.1) limit, refl)) (λ r. absurd r) (λ pass h. absurd h) (limit_caused c.in_ok-judged.judged _ c.in_err-writable_header.ensures.refused))
+    rw (p.1, p.2) (record {
+      refused = halts_first g.F.Feed _ _ _ g.D.Drain _ _ _ (limit_halts g.F.Feed _ _ _ as_it_was _ _ c.in_ok-judged.judged _ c.in_ok-judged.ensures.judged c.in_err-writable_header.ensures.refused);
+      stops = stops_earlier (Only (header_limit (held_header c.in_ok-judged.judged.pass))) (RefusedFirst (judged_writable first) old old) ⊥ _ _ unchanged (ChangedIn 2 first (g.G.Feed.remaining c.args.second.now)) _
+          (λ e limit. (limit_refused as_it_was _ _ _ _ e (takes_told as_it_was first one.file _ _ _ (tells_file g.F.Feed _ _ _ _ one) one.holding.1) limit, refl)) (λ r. absurd r) (λ pass h. absurd h) (limit_caused c.in_ok-judged.judged _ c.in_err-writable_header.ensures.refused);
+      changed = never_changed (Only (header_limit (held_header c.in_ok-judged.judged.pass))) ⊥ ⊥ _ _ (limit_caused c.in_ok-judged.judged _ c.in_err-writable_header.ensures.refused);
+      feeds = search rules;
+      out = search rules;
+    })
 
-pub returns-in_err-writable_header-clause-beginning : goal.returns-in_err-writable_header-clause-beginning
-returns-in_err-writable_header-clause-beginning g c =
-    let p = err_from_is_err_and c.from_residual-in_err-writable_header.result c.from_residual-in_err-writable_header.ensures.1 in
-    rw p.1 (λ b supply. nothing_out _ _)
-
-pub returns-in_err-counts-clause-stops : goal.returns-in_err-counts-clause-stops
-returns-in_err-counts-clause-stops g c =
+pub returns-in_err-counts-clause-ends : goal.returns-in_err-counts-clause-ends
+returns-in_err-counts-clause-ends g c =
     let p = err_from_is_err_and c.from_residual-in_err-counts.result c.from_residual-in_err-counts.ensures.1 in
     let one = c.in_ok-judged.ensures.judged in
     let first = g.F.Feed.remaining c.args.first.now in
@@ -54,24 +51,19 @@ returns-in_err-counts-clause-stops g c =
     let new = g.D.Drain.taken c.write.new.drain in
     let read = ReadFailed g.F.Feed c.args.first.now c.judge.new.feed ⊎ ReadFailed g.G.Feed c.args.second.now c.write.new.feed in
     let wrote = WriteFailed g.D.Drain c.args.drain.now c.write.new.drain in
-    rw (p.1, p.2) (convert_stops g.G.Feed c.args.second.now c.write.new.feed first one.holding.1.frames (told_says g.F.Feed _ _ _ _ _ one one.holding.1.says) c.args.passes c.in_ok-judged.judged.digest old new read wrote _ (told_digest g.F.Feed _ _ _ _ one) (λ r. inr r) c.in_err-counts.ensures.stops)
-
-pub returns-in_err-judged-clause-changed : goal.returns-in_err-judged-clause-changed
-returns-in_err-judged-clause-changed g c =
-    let p = err_from_is_err_and c.from_residual.result c.from_residual.ensures.1 in
-    rw (p.1, p.2) (never_changed _ _ _ _ (stop_of c.in_err-judged.field-0.0) c.in_err-judged.ensures.stops)
-
-pub returns-in_err-writable_header-clause-changed : goal.returns-in_err-writable_header-clause-changed
-returns-in_err-writable_header-clause-changed g c =
-    let p = err_from_is_err_and c.from_residual-in_err-writable_header.result c.from_residual-in_err-writable_header.ensures.1 in
-    rw (p.1, p.2) (never_changed (Only (header_limit (held_header c.in_ok-judged.judged.pass))) ⊥ ⊥ _ _ (limit_caused c.in_ok-judged.judged _ c.in_err-writable_header.ensures.refused))
-
-pub returns-in_err-counts-clause-changed : goal.returns-in_err-counts-clause-changed
-returns-in_err-counts-clause-changed g c =
-    let p = err_from_is_err_and c.from_residual-in_err-counts.result c.from_residual-in_err-counts.ensures.1 in
-    let one = c.in_ok-judged.ensures.judged in
     let last : LaterPass = record { number = 2; digest = c.in_ok-judged.judged.digest; passes = c.args.passes } in
-    rw (p.1, p.2) (changed_later g.F.Feed _ _ g.G.Feed _ _ last _ _ _ _ c.in_err-counts.field-0.0 one one.holding.1.frames one.holding.1.says refl (λ pass is. is) c.in_err-counts.ensures.stops)
+    rw (p.1, p.2) (record {
+      refused = no_refusal g.G.Feed _ _ _ _ _ c.in_err-counts.ensures.stops;
+      stops = convert_stops g.G.Feed c.args.second.now c.write.new.feed first one.holding.1.frames (told_says g.F.Feed _ _ _ _ _ one one.holding.1.says) c.args.passes c.in_ok-judged.judged.digest old new read wrote _ (told_digest g.F.Feed _ _ _ _ one) (λ r. inr r) c.in_err-counts.ensures.stops;
+      changed = changed_later g.F.Feed _ _ g.G.Feed _ _ last _ _ _ _ c.in_err-counts.field-0.0 one one.holding.1.frames one.holding.1.says refl (λ pass is. is) c.in_err-counts.ensures.stops;
+      feeds = search rules;
+      out = search rules;
+    })
+
+pub returns-in_err-writable_header-clause-beginning : goal.returns-in_err-writable_header-clause-beginning
+returns-in_err-writable_header-clause-beginning g c =
+    let p = err_from_is_err_and c.from_residual-in_err-writable_header.result c.from_residual-in_err-writable_header.ensures.1 in
+    rw p.1 (λ b supply. nothing_out _ _)
 
 pub returns-in_err-counts-clause-beginning : goal.returns-in_err-counts-clause-beginning
 returns-in_err-counts-clause-beginning g c =

@@ -1,4 +1,4 @@
-use Rattle.std.proofs.Common.{◌⊎◌, inl, inr, ap, true, List, ℕ, Some, ◌∙◌}
+use Rattle.std.proofs.Common.{rules, ◌⊎◌, inl, inr, ap, true, List, ℕ, Some, ◌∙◌}
 use Rattle.std.proofs.lemmas.Result.{IfErr-weaker, on_err_weaker, err_from_is_err_and}
 use Rattle.pbf_header.specs.Header.{header_of}
 use Rattle.osm_ways.specs.Seen.{seen_decoded}
@@ -14,26 +14,26 @@ use Rattle.pbf_pass.proofs.HaltingLemmas.{halts_first}
 use Rattle.pbf_frame.proofs.Passed.{added_none}
 use Rattle.pbfcut.specs.Extracting.{all_parents}
 use Rattle.pbfcut.proofs.ChangedLemmas.{changed_before, changed_later}
+use Rattle.pbfcut.proofs.ConvertingLemmas.{nothing_out}
 use Rattle.pbfcut.proofs.ChosenLemmas.{later_halts, wrote_front, parents_receipt}
 use Rattle.pbfcut.proofs.ExtractingLemmas.{edges_typed, selects_parents, parents_stops}
 use Rattle.pbfcut.proofs.KeptLaw.{all_parents_select}
 use Rattle.pbfcut.proofs.extracting.extract_parents_with_receipt.Goals as goal
 
-pub returns-in_err-choice-clause-refused : goal.returns-in_err-choice-clause-refused
-returns-in_err-choice-clause-refused g c =
+pub returns-in_err-choice-clause-ends : goal.returns-in_err-choice-clause-ends
+returns-in_err-choice-clause-ends g c =
     let p = err_from_is_err_and c.from_residual.result c.from_residual.ensures.1 in
-    rw (p.1, p.2) (halts_first g.F.Feed _ _ _ g.D.Drain _ _ _ c.in_err-choice.ensures.halts.refused)
+    rw (p.1, p.2) (record {
+      refused = halts_first g.F.Feed _ _ _ g.D.Drain _ _ _ c.in_err-choice.ensures.ends.halts.refused;
+      stops = search rules;
+      changed = changed_before _ _ (stop_of c.in_err-choice.field-0.0) (λ pass is. inl (is, added_none g.D.Drain c.args.drain.now)) c.in_err-choice.ensures.ends.halts.changed;
+      beginning = λ b supply. nothing_out _ _;
+      feeds = search rules;
+      out = search rules;
+    })
 
-pub returns-in_err-choice-clause-changed : goal.returns-in_err-choice-clause-changed
-returns-in_err-choice-clause-changed g c =
-    let p = err_from_is_err_and c.from_residual.result c.from_residual.ensures.1 in
-    rw (p.1, p.2) (changed_before _ _ (stop_of c.in_err-choice.field-0.0) (λ pass is. inl (is, added_none g.D.Drain c.args.drain.now)) c.in_err-choice.ensures.halts.changed)
-
-pub returns-clause-refused : goal.returns-clause-refused
-returns-clause-refused g c = IfErr-weaker c.write.result _ _ (λ h stops. later_halts g.I.Feed _ _ _ _ _ h stops) c.write.ensures.wrote.stops
-
-pub returns-clause-stops : goal.returns-clause-stops
-returns-clause-stops g c =
+pub returns-clause-ends : goal.returns-clause-ends
+returns-clause-ends g c =
     let one = c.in_ok-choice.ensures.chosen in
     let choice = one.holding.holding.holding.chosen.chosen in
     let old = g.D.Drain.taken c.args.drain.now in
@@ -41,30 +41,25 @@ returns-clause-stops g c =
     let earlier = ReadFailed g.F.Feed c.args.first.now c.choose_parents.new.first ⊎ (ReadFailed g.G.Feed c.args.second.now c.choose_parents.new.second ⊎ ReadFailed g.H.Feed c.args.third.now c.choose_parents.new.third) in
     let read = earlier ⊎ ReadFailed g.I.Feed c.args.fourth.now c.write.new.feed in
     let wrote = WriteFailed g.D.Drain c.args.drain.now c.write.new.drain in
-    IfErr-weaker c.write.result _ _ (λ h stops. parents_stops g.I.Feed c.args.fourth.now c.write.new.feed (g.F.Feed.remaining c.args.first.now) choice.frames (told_says g.F.Feed _ _ _ _ _ one choice.judged) (record { alloc = c.args.alloc; hashes = true }) c.in_ok-choice.choice.next read wrote (stop_of h) (told_digest g.F.Feed _ _ _ _ one) (λ r. inr r) old new (g.G.Feed.remaining c.args.second.now) (g.H.Feed.remaining c.args.third.now) c.in_ok-choice.ensures.next stops) c.write.ensures.wrote.stops
-
-pub returns-clause-changed : goal.returns-clause-changed
-returns-clause-changed g c =
-    let one = c.in_ok-choice.ensures.chosen in
-    let choice = one.holding.holding.holding.chosen.chosen in
     let next = c.in_ok-choice.choice.next in
-    let is = c.in_ok-choice.ensures.next in
-    IfErr-weaker c.write.result _ _ (λ h stops. changed_later g.F.Feed _ _ g.I.Feed _ _ next _ _ _ _ (stop_of h) one choice.frames choice.judged (ap (λ (p : Passes). digest_if p.hashes next.digest) is.1) (λ pass at. inr (at.0 ∙ is.0, at.1)) stops) c.write.ensures.wrote.stops
-
-pub returns-clause-beginning : goal.returns-clause-beginning
-returns-clause-beginning g c =
+    let is = c.in_ok-choice.ensures.ends.next in
     let area = c.args.area in
     let w = c.well_formed.1.1.1.1.1.0.1.1 in
     let edges = edges_typed area w.0.1 w.1.0.1 w.1.1.0.1 w.1.1.1.0.1 in
-    let one = c.in_ok-choice.ensures.chosen in
-    let next = c.in_ok-choice.choice.next in
     let sets = c.in_ok-choice.choice.chosen in
     let h = header_of c.in_ok-choice.choice.header in
     let judged = λ (l : List ℕ). judged_file (Some l) in
-    on_err_weaker c.write.result (λ front b supply.
-    let two = one.holding in
-    let three = two.holding in
-    front b supply.3 (selects_parents sets area b _ _ _ h (ap judged (tells_file g.F.Feed _ _ _ _ one b supply.0)) (ap judged (tells_file g.G.Feed _ _ _ _ two b supply.1)) (ap judged (tells_file g.H.Feed _ _ _ _ three b supply.2)) three.holding.chosen)) (wrote_front g.I.Feed _ _ g.D.Drain _ _ (all_parents area) (λ meant. extract_with_parents (seen_decoded area) meant) (all_parents_select area) area edges next sets h c.write.result c.write.ensures.wrote)
+    record {
+      refused = IfErr-weaker c.write.result _ _ (λ h stops. later_halts g.I.Feed _ _ _ _ _ h stops) c.write.ensures.stops;
+      stops = IfErr-weaker c.write.result _ _ (λ h stops. parents_stops g.I.Feed c.args.fourth.now c.write.new.feed (g.F.Feed.remaining c.args.first.now) choice.frames (told_says g.F.Feed _ _ _ _ _ one choice.judged) (record { alloc = c.args.alloc; hashes = true }) c.in_ok-choice.choice.next read wrote (stop_of h) (told_digest g.F.Feed _ _ _ _ one) (λ r. inr r) old new (g.G.Feed.remaining c.args.second.now) (g.H.Feed.remaining c.args.third.now) c.in_ok-choice.ensures.ends.next stops) c.write.ensures.stops;
+      changed = IfErr-weaker c.write.result _ _ (λ h stops. changed_later g.F.Feed _ _ g.I.Feed _ _ next _ _ _ _ (stop_of h) one choice.frames choice.judged (ap (λ (p : Passes). digest_if p.hashes next.digest) is.1) (λ pass at. inr (at.0 ∙ is.0, at.1)) stops) c.write.ensures.stops;
+      beginning = on_err_weaker c.write.result (λ front b supply.
+          let two = one.holding in
+          let three = two.holding in
+          front b supply.3 (selects_parents sets area b _ _ _ h (ap judged (tells_file g.F.Feed _ _ _ _ one b supply.0)) (ap judged (tells_file g.G.Feed _ _ _ _ two b supply.1)) (ap judged (tells_file g.H.Feed _ _ _ _ three b supply.2)) three.holding.chosen)) (wrote_front g.I.Feed _ _ g.D.Drain _ _ (all_parents area) (λ meant. extract_with_parents (seen_decoded area) meant) (all_parents_select area) area edges next sets h c.write.result c.write.ensures);
+      feeds = search rules;
+      out = search rules;
+    }
 
 pub returns-clause-receipt : goal.returns-clause-receipt
 returns-clause-receipt g c =
@@ -72,5 +67,5 @@ returns-clause-receipt g c =
     let w = c.well_formed.1.1.1.1.1.0.1.1 in
     let edges = edges_typed area w.0.1 w.1.0.1 w.1.1.0.1 w.1.1.1.0.1 in
     let next = c.in_ok-choice.choice.next in
-    let is = c.in_ok-choice.ensures.next in
-    parents_receipt g.F.Feed _ _ g.I.Feed _ _ g.D.Drain _ _ area edges (record { alloc = c.args.alloc; hashes = true }) next is.1 _ _ c.write.result c.write.ensures.wrote (λ digest file holds. GaveFile g.G.Feed c.args.second.now c.choose_parents.new.second digest holds) (λ digest file holds P step given. step given.file given.holding) (λ digest file. gave_file_less g.G.Feed c.args.second.now c.choose_parents.new.second digest) g.H.Feed _ _ c.in_ok-choice.ensures.chosen
+    let is = c.in_ok-choice.ensures.ends.next in
+    parents_receipt g.F.Feed _ _ g.I.Feed _ _ g.D.Drain _ _ area edges (record { alloc = c.args.alloc; hashes = true }) next is.1 _ _ c.write.result c.write.ensures (λ digest file holds. GaveFile g.G.Feed c.args.second.now c.choose_parents.new.second digest holds) (λ digest file holds P step given. step given.file given.holding) (λ digest file. gave_file_less g.G.Feed c.args.second.now c.choose_parents.new.second digest) g.H.Feed _ _ c.in_ok-choice.ensures.chosen

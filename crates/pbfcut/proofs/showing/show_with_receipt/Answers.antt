@@ -1,4 +1,4 @@
-use Rattle.std.proofs.Common.{List, ℕ, Option, refl, sym, subst}
+use Rattle.std.proofs.Common.{rules, List, ℕ, Option, refl, sym, subst}
 use Rattle.std.proofs.lemmas.Result.{err_from_is_err_and}
 use Rattle.pbf_pass.specs.Judged.{judged_file}
 use Rattle.pbfcut.specs.Showing.{ShowsFront}
@@ -10,6 +10,44 @@ use Rattle.pbfcut.specs.Repeat.{as_change}
 use Rattle.pbfcut.proofs.ChangedLemmas.{never_changed, changed_later, digest_as_change, fault_as_change}
 use Rattle.pbfcut.proofs.showing.show_with_receipt.Goals as goal
 
+pub returns-in_err-judged-clause-ends : goal.returns-in_err-judged-clause-ends
+returns-in_err-judged-clause-ends g c =
+    let p = err_from_is_err_and c.from_residual.result c.from_residual.ensures.1 in
+    rw (p.1, p.2) (record {
+      refused = search rules;
+      stops = search rules;
+      changed = never_changed _ _ _ _ (stop_of c.in_err-judged.field-0.0) c.in_err-judged.ensures.stops;
+      feeds = search rules;
+      out = search rules;
+    })
+
+pub returns-in_err-compare-in-Ok-clause-ends : goal.returns-in_err-compare-in-Ok-clause-ends
+returns-in_err-compare-in-Ok-clause-ends g c =
+    let p = err_from_is_err_and c.from_residual-in_err-compare-in-Ok.result c.from_residual-in_err-compare-in-Ok.ensures.1 in
+    let one = c.in_ok-judged.ensures.judged in
+    let last : LaterPass = record { number = 2; digest = c.in_ok-judged.judged.digest; passes = c.args.passes } in
+    let stops = digest_as_change g.G.Feed last c.args.second.now c.write_text.new.feed ⊥ c.args.passes.hashes c.in-Ok.digest _ _ refl c.in-Ok.ensures.shown c.in_err-compare-in-Ok.ensures.other in
+    rw (p.1, p.2) (record {
+      refused = search rules;
+      stops = search rules;
+      changed = changed_later g.F.Feed _ _ g.G.Feed _ _ last _ _ _ _ c.in_err-compare-in-Ok.field-0.0 one one.holding.1.frames one.holding.1.says refl (λ pass is. is) stops;
+      feeds = search rules;
+      out = search rules;
+    })
+
+pub returns-clause-ends : goal.returns-clause-ends
+returns-clause-ends g c =
+    let one = c.in_ok-judged.ensures.judged in
+    let last : LaterPass = record { number = 2; digest = c.in_ok-judged.judged.digest; passes = c.args.passes } in
+    let stops = fault_as_change g.G.Feed last c.args.second.now c.write_text.new.feed _ _ c.in-Err.stop c.in-Err.ensures.stops c.in-Err.ensures.faulty in
+    record {
+      refused = search rules;
+      stops = search rules;
+      changed = rw (c.from.ensures, c.changed.ensures) (changed_later g.F.Feed _ _ g.G.Feed _ _ last _ _ _ _ (as_change 2 c.in-Err.stop) one one.holding.1.frames one.holding.1.says refl (λ pass is. is) stops);
+      feeds = search rules;
+      out = search rules;
+    }
+
 pub returns-in_err-compare-in-Ok-clause-beginning : goal.returns-in_err-compare-in-Ok-clause-beginning
 returns-in_err-compare-in-Ok-clause-beginning g c =
     let p = err_from_is_err_and c.from_residual-in_err-compare-in-Ok.result c.from_residual-in_err-compare-in-Ok.ensures.1 in
@@ -17,23 +55,3 @@ returns-in_err-compare-in-Ok-clause-beginning g c =
     let took = given.holding in
     rw p.1 (λ alike. subst (λ (o : Option (List ℕ)). ShowsFront c.args.dates (judged_file o) (g.D.Drain.taken c.args.drain.now) (g.D.Drain.taken c.write_text.new.drain)) (sym alike)
     (shown_front c.args.dates _ _ _ took.written (shown_told c.args.dates _ given.file took.written (tells_file g.G.Feed _ _ _ _ given) took.holding) took.added.told))
-
-pub returns-in_err-judged-clause-changed : goal.returns-in_err-judged-clause-changed
-returns-in_err-judged-clause-changed g c =
-    let p = err_from_is_err_and c.from_residual.result c.from_residual.ensures.1 in
-    rw (p.1, p.2) (never_changed _ _ _ _ (stop_of c.in_err-judged.field-0.0) c.in_err-judged.ensures.stops)
-
-pub returns-in_err-compare-in-Ok-clause-changed : goal.returns-in_err-compare-in-Ok-clause-changed
-returns-in_err-compare-in-Ok-clause-changed g c =
-    let p = err_from_is_err_and c.from_residual-in_err-compare-in-Ok.result c.from_residual-in_err-compare-in-Ok.ensures.1 in
-    let one = c.in_ok-judged.ensures.judged in
-    let last : LaterPass = record { number = 2; digest = c.in_ok-judged.judged.digest; passes = c.args.passes } in
-    let stops = digest_as_change g.G.Feed last c.args.second.now c.write_text.new.feed ⊥ c.args.passes.hashes c.in-Ok.digest _ _ refl c.in-Ok.ensures.shown c.in_err-compare-in-Ok.ensures.other in
-    rw (p.1, p.2) (changed_later g.F.Feed _ _ g.G.Feed _ _ last _ _ _ _ c.in_err-compare-in-Ok.field-0.0 one one.holding.1.frames one.holding.1.says refl (λ pass is. is) stops)
-
-pub returns-clause-changed : goal.returns-clause-changed
-returns-clause-changed g c =
-    let one = c.in_ok-judged.ensures.judged in
-    let last : LaterPass = record { number = 2; digest = c.in_ok-judged.judged.digest; passes = c.args.passes } in
-    let stops = fault_as_change g.G.Feed last c.args.second.now c.write_text.new.feed _ _ c.in-Err.stop c.in-Err.ensures.stops c.in-Err.ensures.faulty in
-    rw (c.from.ensures, c.changed.ensures) (changed_later g.F.Feed _ _ g.G.Feed _ _ last _ _ _ _ (as_change 2 c.in-Err.stop) one one.holding.1.frames one.holding.1.says refl (λ pass is. is) stops)

@@ -3,8 +3,8 @@ use Rattle.pbfcut_cli.specs.Words.{box_rule, input_rule, output_rule}
 use Rattle.pbfcut_cli.proofs.CommandLemmas.{rule_added}
 use Rattle.pbfcut_cli.proofs.commands.extract.Goals as goal
 
-pub returns-clause-app : goal.returns-clause-app
-returns-clause-app c =
-    let first = rule_added c.with_area-command.result c.options.result _ c.options.ensures.app box_rule box_rule refl c.with_area-command.ensures.app in
-    let second = rule_added c.with_arg-command.result c.with_area-command.result _ first _ input_rule c.input.ensures.rule c.with_arg-command.ensures.app in
-    rule_added c.with_arg.result c.with_arg-command.result _ second _ output_rule c.output.ensures.rule c.with_arg.ensures.app
+pub returns : goal.returns
+returns c =
+    let first = rule_added c.with_area-command.result c.options.result _ c.options.ensures box_rule box_rule refl c.with_area-command.ensures in
+    let second = rule_added c.with_arg-command.result c.with_area-command.result _ first _ input_rule c.input.ensures.is c.with_arg-command.ensures in
+    rule_added c.with_arg.result c.with_arg-command.result _ second _ output_rule c.output.ensures.is c.with_arg.ensures

@@ -2,7 +2,7 @@ use Rattle.pbfcut_cli.specs.Words.{bare_app, extract_app, convert_app}
 use Rattle.pbfcut_cli.proofs.CommandLemmas.{command_added}
 use Rattle.pbfcut_cli.proofs.commands.writers.Goals as goal
 
-pub returns-clause-app : goal.returns-clause-app
-returns-clause-app c =
-    let first = command_added c.with_command-command.result c.bare.result c.extract.result bare_app extract_app c.bare.ensures.app c.extract.ensures.app c.with_command-command.ensures.app in
-    command_added c.with_command.result c.with_command-command.result c.convert.result _ convert_app first c.convert.ensures.app c.with_command.ensures.app
+pub returns : goal.returns
+returns c =
+    let first = command_added c.with_command-command.result c.bare.result c.extract.result bare_app extract_app c.bare.ensures c.extract.ensures c.with_command-command.ensures.app c.with_command-command.ensures.local in
+    command_added c.with_command.result c.with_command-command.result c.convert.result _ convert_app first c.convert.ensures c.with_command.ensures.app c.with_command.ensures.local

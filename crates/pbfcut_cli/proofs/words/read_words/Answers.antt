@@ -7,7 +7,7 @@ use Rattle.pbfcut_cli.proofs.words.read_words.Goals as goal
 
 pub command_in-requires : goal.command_in-requires
 command_in-requires c =
-    let app = c.in_ok-command_line.ensures.app in
+    let app = c.in_ok-command_line.ensures.is in
     let words = word_texts c.args.words.now in
     let has = subcommand_required c.in_ok-command_line.command_line c.in-Ok.matches c.in-Ok.ensures.parsed
     c.in_ok-command_line.ensures.local (ap (λ (a : App). a.top.subcommand_required) app) in
@@ -17,7 +17,7 @@ command_in-requires c =
 
 pub returns-in-Ok-command_in-clause-read : goal.returns-in-Ok-command_in-clause-read
 returns-in-Ok-command_in-clause-read c =
-    let app = c.in_ok-command_line.ensures.app in
+    let app = c.in_ok-command_line.ensures.is in
     let words = word_texts c.args.words.now in
     let rows : subcommand_rows_of c.in-Ok.matches ≡ command_words c.args.words.now =
     (c.in-Ok.ensures.matches (ap is_simple app ∙ simple)).1 ∙ ap (λ (a : App). subcommand_of a words) app in
@@ -25,7 +25,7 @@ returns-in-Ok-command_in-clause-read c =
 
 pub returns-in-Ok-clause-fault : goal.returns-in-Ok-clause-fault
 returns-in-Ok-clause-fault c =
-    let app = c.in_ok-command_line.ensures.app in
+    let app = c.in_ok-command_line.ensures.is in
     let words = word_texts c.args.words.now in
     let rows : subcommand_rows_of c.in-Ok.matches ≡ command_words c.args.words.now =
     (c.in-Ok.ensures.matches (ap is_simple app ∙ simple)).1 ∙ ap (λ (a : App). subcommand_of a words) app in
@@ -35,5 +35,5 @@ pub returns-clause-taken : goal.returns-clause-taken
 returns-clause-taken c = λ t.
     let words = word_texts c.args.words.now in
     let taken : takes program_app words ≡ true = t in
-    let kind = c.in-Err.ensures.passes (ap (λ (a : App). takes a words) c.in_ok-command_line.ensures.app ∙ taken) in
+    let kind = c.in-Err.ensures.passes (ap (λ (a : App). takes a words) c.in_ok-command_line.ensures.is ∙ taken) in
     rw (c.refused.ensures.memory kind) tt

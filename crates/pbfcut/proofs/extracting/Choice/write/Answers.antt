@@ -1,14 +1,17 @@
-use Rattle.std.proofs.Common.{refl}
+use Rattle.std.proofs.Common.{refl, rules}
 use Rattle.std.proofs.lemmas.Result.{err_from_is_err_and}
 use Rattle.pbfcut.specs.Pick.{pick_of}
 use Rattle.pbfcut.proofs.extracting.Choice.write.Goals as goal
 
-pub returns-in_err-counts-clause-wrote : goal.returns-in_err-counts-clause-wrote
+pub returns-in_err-counts : goal.returns-in_err-counts
 unfolding pick_of
-returns-in_err-counts-clause-wrote g c =
+returns-in_err-counts g c =
     let p = err_from_is_err_and c.from_residual.result c.from_residual.ensures.1 in
-    rw (p.1, p.2) (record { input = tt; packed = tt; front = c.in_err-counts.ensures.beginning; stops = c.in_err-counts.ensures.stops })
+    let wrote = c.in_err-counts.ensures in
+    rw (p.1, p.2) (record { input = tt; packed = tt; front = wrote.beginning; stops = wrote.stops; keeps = wrote.keeps; out = wrote.out })
 
-pub returns-clause-wrote : goal.returns-clause-wrote
+pub returns : goal.returns
 unfolding pick_of
-returns-clause-wrote g c = record { input = refl; packed = c.in_ok-counts.ensures.packed; front = tt; stops = tt }
+returns g c =
+    let wrote = c.in_ok-counts.ensures in
+    record { input = refl; packed = wrote.packed; front = tt; stops = tt; keeps = wrote.keeps; out = wrote.out }

@@ -1,13 +1,20 @@
-use Rattle.std.proofs.Common.{refl}
+use Rattle.std.proofs.Common.{refl, rules}
 use Rattle.std.proofs.lemmas.Result.{IfErr-weaker}
 use Rattle.pbf_pass.specs.Judged.{judged_file}
 use Rattle.pbfcut.specs.Repeat.{StopsLater}
 use Rattle.pbfcut.proofs.ChangedLemmas.{stops_as_change, digest_as_change}
 use Rattle.pbfcut.proofs.repeat.LaterPass.gather.Goals as goal
 
-pub returns-in-Ok-clause-stops : goal.returns-in-Ok-clause-stops
-returns-in-Ok-clause-stops g c =
-    IfErr-weaker c.compare.result _ (StopsLater g.F.Feed c.args.self c.args.feed.now c.gather_unjudged.new.feed ⊥) (λ s other. digest_as_change g.F.Feed c.args.self c.args.feed.now c.gather_unjudged.new.feed ⊥ c.args.self.passes.hashes c.in-Ok.digest _ s refl c.in-Ok.ensures.gathered other) c.compare.ensures.other
+pub returns-in-Ok : goal.returns-in-Ok
+returns-in-Ok g c = record {
+  gathered = search rules;
+  stops = IfErr-weaker c.compare.result _ (StopsLater g.F.Feed c.args.self c.args.feed.now c.gather_unjudged.new.feed ⊥) (λ s other. digest_as_change g.F.Feed c.args.self c.args.feed.now c.gather_unjudged.new.feed ⊥ c.args.self.passes.hashes c.in-Ok.digest _ s refl c.in-Ok.ensures.gathered other) c.compare.ensures.other;
+  keeps = search rules;
+}
 
-pub returns-in-Err-clause-stops : goal.returns-in-Err-clause-stops
-returns-in-Err-clause-stops g c = rw c.changed.ensures (stops_as_change g.F.Feed c.args.self c.args.feed.now c.gather_unjudged.new.feed ⊥ (judged_file (g.F.Feed.remaining c.args.feed.now)) c.in-Err.stop c.in-Err.ensures.stops c.in-Err.ensures.faulty)
+pub returns-in-Err : goal.returns-in-Err
+returns-in-Err g c = record {
+  gathered = tt;
+  stops = rw c.changed.ensures (stops_as_change g.F.Feed c.args.self c.args.feed.now c.gather_unjudged.new.feed ⊥ (judged_file (g.F.Feed.remaining c.args.feed.now)) c.in-Err.stop c.in-Err.ensures.stops c.in-Err.ensures.faulty);
+  keeps = search rules;
+}

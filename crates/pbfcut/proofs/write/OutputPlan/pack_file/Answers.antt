@@ -15,51 +15,41 @@ use Rattle.pbfcut.proofs.PickingLemmas.{none_packed, behind_header, header_alone
 use Rattle.pbfcut.proofs.WritingLemmas.{frames_all, last_front, front_told, has_written, front_written, stops_written, faulty_written, faulty_never, counts_written, stops_last}
 use Rattle.pbfcut.proofs.write.OutputPlan.pack_file.Goals as goal
 
-pub returns-in_err-put_header-clause-beginning : goal.returns-in_err-put_header-clause-beginning
-returns-in_err-put_header-clause-beginning g c =
+pub returns-in_err-put_header : goal.returns-in_err-put_header
+returns-in_err-put_header g c =
     let p = err_from_is_err_and c.from_residual.result c.from_residual.ensures.1 in
-    rw p.1 (λ frames is. header_alone (header_of c.args.self.header.now) _ _ (filter (pick_of c.args.self.chosen) (stored_entities frames)) (c.in_err-put_header.ensures.front c.requires.fresh.packing))
+    rw (p.1, p.2) (record {
+      packed = tt;
+      beginning = λ frames is. header_alone (header_of c.args.self.header.now) _ _ (filter (pick_of c.args.self.chosen) (stored_entities frames)) (c.in_err-put_header.ensures.front c.requires.fresh.packing);
+      faulty = faulty_never g.F.Feed _ _ _ _ _ (c.in_err-put_header.ensures.uses.stops c.requires.fresh.packing);
+      stops = search rules;
+      keeps = search rules;
+      out = search rules;
+    })
 
-pub returns-in_err-input-clause-beginning : goal.returns-in_err-input-clause-beginning
-returns-in_err-input-clause-beginning g c =
+pub returns-in_err-input : goal.returns-in_err-input
+returns-in_err-input g c =
     let p = err_from_is_err_and c.from_residual-in_err-input.result c.from_residual-in_err-input.ensures.1 in
     let none = none_packed g.D.Drain c.put_header.new.self (c.in_ok-put_header.ensures.pending [] c.requires.fresh.none) in
-    let front = front_written g.D.Drain (λ v. v.packer.now) (λ v. v.counts) (λ v. pick_of v.chosen) (λ v. v.number) _ (λ old new f one. one) _ _ _ _ c.pass_over-outcome.new.visitor _ (λ mid f s failing. failing) c.in_err-input.ensures.stops none c.none.ensures in
-    let said : PacksFront (pick_of c.args.self.chosen) (header_of c.args.self.header.now) (judged_file (g.F.Feed.remaining c.args.feed.now)) (g.D.Drain.taken c.args.packer.now.drain) (g.D.Drain.taken c.pass_over-outcome.new.visitor.packer.now.drain) = λ frames is. behind_header (header_of c.args.self.header.now) (g.D.Drain.taken c.args.packer.now.drain) _ (g.D.Drain.taken c.pass_over-outcome.new.visitor.packer.now.drain) (filter (pick_of c.args.self.chosen) (stored_entities frames)) (c.in_ok-put_header.ensures.written c.requires.fresh.packing).told (front frames is) in
-    rw p.1 (search (rules, said))
+    rw (p.1, p.2) (record {
+      packed = tt;
+      beginning =
+          let front = front_written g.D.Drain (λ v. v.packer.now) (λ v. v.counts) (λ v. pick_of v.chosen) (λ v. v.number) _ (λ old new f one. one) _ _ _ _ c.pass_over-outcome.new.visitor _ (λ mid f s failing. failing) c.in_err-input.ensures.stops none c.none.ensures in
+          let said : PacksFront (pick_of c.args.self.chosen) (header_of c.args.self.header.now) (judged_file (g.F.Feed.remaining c.args.feed.now)) (g.D.Drain.taken c.args.packer.now.drain) (g.D.Drain.taken c.pass_over-outcome.new.visitor.packer.now.drain) = λ frames is. behind_header (header_of c.args.self.header.now) (g.D.Drain.taken c.args.packer.now.drain) _ (g.D.Drain.taken c.pass_over-outcome.new.visitor.packer.now.drain) (filter (pick_of c.args.self.chosen) (stored_entities frames)) (c.in_ok-put_header.ensures.written c.requires.fresh.packing).told (front frames is) in
+          search (rules, said);
+      faulty = faulty_written g.D.Drain (λ v. v.packer.now) (λ v. v.counts) (λ v. pick_of v.chosen) (λ v. v.number) _ (λ old new f one. one) _ g.F.Feed _ _ _ c.pass_over-outcome.new.visitor _ (λ mid f s failing. failing) none c.none.ensures c.in_err-input.ensures.given;
+      stops =
+          let said = stops_written g.D.Drain (λ v. v.packer.now) (λ v. v.counts) (λ v. pick_of v.chosen) (λ v. v.number) _ (λ old new f one. one) _ _ _ _ c.pass_over-outcome.new.visitor _ (λ mid f s failing. failing) c.in_err-input.ensures.stops none c.none.ensures (g.D.Drain.failures c.args.packer.now.drain) c.put_header.ensures.uses.keeps.counts in
+          search (rules, said);
+      keeps = search rules;
+      out =
+          let more = counts_written g.D.Drain (λ v. v.packer.now) (λ v. v.counts) (λ v. pick_of v.chosen) (λ v. v.number) _ (λ old new f one. one) _ _ _ _ c.pass_over-outcome.new.visitor _ (λ mid f s failing. failing) c.in_err-input.ensures.stops none c.none.ensures in
+          let counts : g.D.Drain.failures c.args.packer.now.drain ≤ g.D.Drain.failures c.pass_over-outcome.new.visitor.packer.now.drain = omega (arith, c.put_header.ensures.uses.keeps.counts, more) in
+          search (rules, counts);
+    })
 
-pub returns-in_err-input-clause-stops : goal.returns-in_err-input-clause-stops
-returns-in_err-input-clause-stops g c =
-    let p = err_from_is_err_and c.from_residual-in_err-input.result c.from_residual-in_err-input.ensures.1 in
-    let none = none_packed g.D.Drain c.put_header.new.self (c.in_ok-put_header.ensures.pending [] c.requires.fresh.none) in
-    let said = stops_written g.D.Drain (λ v. v.packer.now) (λ v. v.counts) (λ v. pick_of v.chosen) (λ v. v.number) _ (λ old new f one. one) _ _ _ _ c.pass_over-outcome.new.visitor _ (λ mid f s failing. failing) c.in_err-input.ensures.stops none c.none.ensures (g.D.Drain.failures c.args.packer.now.drain) c.put_header.ensures.uses.keeps.counts in
-    rw (p.1, p.2) (search (rules, said))
-
-pub returns-in_err-put_header-clause-faulty : goal.returns-in_err-put_header-clause-faulty
-returns-in_err-put_header-clause-faulty g c =
-    let p = err_from_is_err_and c.from_residual.result c.from_residual.ensures.1 in
-    rw (p.1, p.2) (faulty_never g.F.Feed _ _ _ _ _ (c.in_err-put_header.ensures.uses.stops c.requires.fresh.packing))
-
-pub returns-in_err-input-clause-faulty : goal.returns-in_err-input-clause-faulty
-returns-in_err-input-clause-faulty g c =
-    let p = err_from_is_err_and c.from_residual-in_err-input.result c.from_residual-in_err-input.ensures.1 in
-    let none = none_packed g.D.Drain c.put_header.new.self (c.in_ok-put_header.ensures.pending [] c.requires.fresh.none) in
-    rw (p.1, p.2) (faulty_written g.D.Drain (λ v. v.packer.now) (λ v. v.counts) (λ v. pick_of v.chosen) (λ v. v.number) _ (λ old new f one. one) _ g.F.Feed _ _ _ c.pass_over-outcome.new.visitor _ (λ mid f s failing. failing) none c.none.ensures c.in_err-input.ensures.given)
-
-pub returns-in_err-finish-clause-faulty : goal.returns-in_err-finish-clause-faulty
-returns-in_err-finish-clause-faulty g c =
-    let p = err_from_is_err_and c.from_residual-in_err-finish.result c.from_residual-in_err-finish.ensures.1 in
-    rw (p.1, p.2) (faulty_never g.F.Feed _ _ _ _ _ (c.in_err-finish.ensures.uses.stops c.in_ok-input.ensures.ready.1))
-
-pub returns-in_err-input-clause-drain : goal.returns-in_err-input-clause-drain
-returns-in_err-input-clause-drain g c =
-    let none = none_packed g.D.Drain c.put_header.new.self (c.in_ok-put_header.ensures.pending [] c.requires.fresh.none) in
-    let more = counts_written g.D.Drain (λ v. v.packer.now) (λ v. v.counts) (λ v. pick_of v.chosen) (λ v. v.number) _ (λ old new f one. one) _ _ _ _ c.pass_over-outcome.new.visitor _ (λ mid f s failing. failing) c.in_err-input.ensures.stops none c.none.ensures in
-    let counts : g.D.Drain.failures c.args.packer.now.drain ≤ g.D.Drain.failures c.pass_over-outcome.new.visitor.packer.now.drain = omega (arith, c.put_header.ensures.uses.keeps.counts, more) in
-    search (rules, counts)
-
-pub returns-in_err-finish-clause-beginning : goal.returns-in_err-finish-clause-beginning
-returns-in_err-finish-clause-beginning g c =
+pub returns-in_err-finish : goal.returns-in_err-finish
+returns-in_err-finish g c =
     let p = err_from_is_err_and c.from_residual-in_err-finish.result c.from_residual-in_err-finish.ensures.1 in
     let none = none_packed g.D.Drain c.put_header.new.self (c.in_ok-put_header.ensures.pending [] c.requires.fresh.none) in
     let given = c.in_ok-input.ensures.visited in
@@ -67,52 +57,51 @@ returns-in_err-finish-clause-beginning g c =
     let w = has_written g.D.Drain (λ v. v.packer.now) (λ v. v.counts) (λ v. pick_of v.chosen) (λ v. v.number) _ (λ old new f one. one) _ all.frames c.pass_over-outcome.new.visitor all.visited none c.none.ensures in
     let pick = pick_of c.args.self.chosen in
     let h = header_of c.args.self.header.now in
-    let end = end_front g.D.Drain _ w.frames.es c.pass_over-outcome.new.visitor.packer.now c.finish.new.self w.frames.packed (c.in_err-finish.ensures.front c.in_ok-input.ensures.ready.1) in
-    let said = front_told pick h (g.F.Feed.remaining c.args.feed.now) given.file (g.D.Drain.taken c.args.packer.now.drain) (g.D.Drain.taken c.finish.new.self.drain) (tells_file g.F.Feed _ _ _ _ given)
-    (λ frames is. behind_header h _ _ _ (filter pick (stored_entities frames)) (c.in_ok-put_header.ensures.written c.requires.fresh.packing).told (last_front g.D.Drain pick _ all.frames frames _ _ _ w.frames end (sym (ap fully_known all.says) ∙ is))) in
-    rw p.1 (search (rules, said))
+    rw (p.1, p.2) (record {
+      packed = tt;
+      beginning =
+          let end = end_front g.D.Drain _ w.frames.es c.pass_over-outcome.new.visitor.packer.now c.finish.new.self w.frames.packed (c.in_err-finish.ensures.front c.in_ok-input.ensures.ready.1) in
+          let said = front_told pick h (g.F.Feed.remaining c.args.feed.now) given.file (g.D.Drain.taken c.args.packer.now.drain) (g.D.Drain.taken c.finish.new.self.drain) (tells_file g.F.Feed _ _ _ _ given)
+          (λ frames is. behind_header h _ _ _ (filter pick (stored_entities frames)) (c.in_ok-put_header.ensures.written c.requires.fresh.packing).told (last_front g.D.Drain pick _ all.frames frames _ _ _ w.frames end (sym (ap fully_known all.says) ∙ is))) in
+          search (rules, said);
+      faulty = faulty_never g.F.Feed _ _ _ _ _ (c.in_err-finish.ensures.uses.stops c.in_ok-input.ensures.ready.1);
+      stops =
+          let counts : g.D.Drain.failures c.args.packer.now.drain ≤ g.D.Drain.failures c.pass_over-outcome.new.visitor.packer.now.drain = omega (arith, c.put_header.ensures.uses.keeps.counts, w.drain_counts) in
+          let read = ReadFailed g.F.Feed c.args.feed.now c.pass_over-outcome.new.feed in
+          let said : StopsUnjudged c.args.self.pass.number (judged_file (g.F.Feed.remaining c.args.feed.now)) read (WriteFailed g.D.Drain c.args.packer.now.drain c.finish.new.self.drain) c.in_err-finish.field-0.0 = stops_last c.args.self.pass.number _ _ _ (judged_file (g.F.Feed.remaining c.args.feed.now)) read _ counts (c.in_err-finish.ensures.uses.stops c.in_ok-input.ensures.ready.1) in
+          search (rules, said);
+      keeps = search rules;
+      out =
+          let counts : g.D.Drain.failures c.args.packer.now.drain ≤ g.D.Drain.failures c.finish.new.self.drain = omega (arith, c.put_header.ensures.uses.keeps.counts, w.drain_counts, c.finish.ensures.uses.keeps.counts) in
+          search (rules, counts);
+    })
 
-pub returns-in_err-finish-clause-stops : goal.returns-in_err-finish-clause-stops
-returns-in_err-finish-clause-stops g c =
-    let p = err_from_is_err_and c.from_residual-in_err-finish.result c.from_residual-in_err-finish.ensures.1 in
-    let none = none_packed g.D.Drain c.put_header.new.self (c.in_ok-put_header.ensures.pending [] c.requires.fresh.none) in
-    let all = c.in_ok-input.ensures.visited.holding.1 in
-    let w = has_written g.D.Drain (λ v. v.packer.now) (λ v. v.counts) (λ v. pick_of v.chosen) (λ v. v.number) _ (λ old new f one. one) _ all.frames c.pass_over-outcome.new.visitor all.visited none c.none.ensures in
-    let counts : g.D.Drain.failures c.args.packer.now.drain ≤ g.D.Drain.failures c.pass_over-outcome.new.visitor.packer.now.drain = omega (arith, c.put_header.ensures.uses.keeps.counts, w.drain_counts) in
-    let read = ReadFailed g.F.Feed c.args.feed.now c.pass_over-outcome.new.feed in
-    let said : StopsUnjudged c.args.self.pass.number (judged_file (g.F.Feed.remaining c.args.feed.now)) read (WriteFailed g.D.Drain c.args.packer.now.drain c.finish.new.self.drain) c.in_err-finish.field-0.0 = stops_last c.args.self.pass.number _ _ _ (judged_file (g.F.Feed.remaining c.args.feed.now)) read _ counts (c.in_err-finish.ensures.uses.stops c.in_ok-input.ensures.ready.1) in
-    rw (p.1, p.2) (search (rules, said))
-
-pub returns-in_err-finish-clause-drain : goal.returns-in_err-finish-clause-drain
-returns-in_err-finish-clause-drain g c =
-    let none = none_packed g.D.Drain c.put_header.new.self (c.in_ok-put_header.ensures.pending [] c.requires.fresh.none) in
-    let all = c.in_ok-input.ensures.visited.holding.1 in
-    let w = has_written g.D.Drain (λ v. v.packer.now) (λ v. v.counts) (λ v. pick_of v.chosen) (λ v. v.number) _ (λ old new f one. one) _ all.frames c.pass_over-outcome.new.visitor all.visited none c.none.ensures in
-    let counts : g.D.Drain.failures c.args.packer.now.drain ≤ g.D.Drain.failures c.finish.new.self.drain = omega (arith, c.put_header.ensures.uses.keeps.counts, w.drain_counts, c.finish.ensures.uses.keeps.counts) in
-    search (rules, counts)
-
-pub returns-clause-drain : goal.returns-clause-drain
-returns-clause-drain g c =
-    let none = none_packed g.D.Drain c.put_header.new.self (c.in_ok-put_header.ensures.pending [] c.requires.fresh.none) in
-    let all = c.in_ok-input.ensures.visited.holding.1 in
-    let w = has_written g.D.Drain (λ v. v.packer.now) (λ v. v.counts) (λ v. pick_of v.chosen) (λ v. v.number) _ (λ old new f one. one) _ all.frames c.pass_over-outcome.new.visitor all.visited none c.none.ensures in
-    let counts : g.D.Drain.failures c.args.packer.now.drain ≤ g.D.Drain.failures c.finish.new.self.drain = omega (arith, c.put_header.ensures.uses.keeps.counts, w.drain_counts, c.finish.ensures.uses.keeps.counts) in
-    search (rules, counts)
-
-pub returns-clause-packed : goal.returns-clause-packed
-returns-clause-packed g c =
+pub returns : goal.returns
+returns g c =
     let none = none_packed g.D.Drain c.put_header.new.self (c.in_ok-put_header.ensures.pending [] c.requires.fresh.none) in
     let pick = pick_of c.args.self.chosen in
     let h = header_of c.args.self.header.now in
-    let counts = c.pass_over-outcome.new.visitor.counts in
-    let said = gave_file_less g.F.Feed _ _ _ _ (λ file. Took g.D.Drain c.args.packer.now.drain c.finish.new.self.drain (Packed pick h counts (judged_file (Some file))))
-    (λ file p.
-    let all = p.1 in
+    let all = c.in_ok-input.ensures.visited.holding.1 in
     let w = has_written g.D.Drain (λ v. v.packer.now) (λ v. v.counts) (λ v. pick_of v.chosen) (λ v. v.number) _ (λ old new f one. one) _ all.frames c.pass_over-outcome.new.visitor all.visited none c.none.ensures in
-    let es = w.frames.es in
     record {
-      written = written_file h es;
-      added = whole_file g.D.Drain h _ _ _ es (c.in_ok-put_header.ensures.written c.requires.fresh.packing) (ended g.D.Drain _ es c.pass_over-outcome.new.visitor.packer.now c.finish.new.self w.frames.packed c.in_ok-finish.ensures.written);
-      holding = λ frames is. frames_all g.D.Drain pick _ h all.frames counts counts _ w.frames refl frames (sym (ap fully_known all.says) ∙ is);
-    }) c.in_ok-input.ensures.visited in
-    search (rules, said)
+      packed =
+          let counts = c.pass_over-outcome.new.visitor.counts in
+          let said = gave_file_less g.F.Feed _ _ _ _ (λ file. Took g.D.Drain c.args.packer.now.drain c.finish.new.self.drain (Packed pick h counts (judged_file (Some file))))
+          (λ file p.
+          let all = p.1 in
+          let w = has_written g.D.Drain (λ v. v.packer.now) (λ v. v.counts) (λ v. pick_of v.chosen) (λ v. v.number) _ (λ old new f one. one) _ all.frames c.pass_over-outcome.new.visitor all.visited none c.none.ensures in
+          let es = w.frames.es in
+          record {
+            written = written_file h es;
+            added = whole_file g.D.Drain h _ _ _ es (c.in_ok-put_header.ensures.written c.requires.fresh.packing) (ended g.D.Drain _ es c.pass_over-outcome.new.visitor.packer.now c.finish.new.self w.frames.packed c.in_ok-finish.ensures.written);
+            holding = λ frames is. frames_all g.D.Drain pick _ h all.frames counts counts _ w.frames refl frames (sym (ap fully_known all.says) ∙ is);
+          }) c.in_ok-input.ensures.visited in
+          search (rules, said);
+      beginning = tt;
+      faulty = tt;
+      stops = tt;
+      keeps = search rules;
+      out =
+          let counts : g.D.Drain.failures c.args.packer.now.drain ≤ g.D.Drain.failures c.finish.new.self.drain = omega (arith, c.put_header.ensures.uses.keeps.counts, w.drain_counts, c.finish.ensures.uses.keeps.counts) in
+          search (rules, counts);
+    }

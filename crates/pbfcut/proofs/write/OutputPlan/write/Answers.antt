@@ -1,4 +1,4 @@
-use Rattle.std.proofs.Common.{refl}
+use Rattle.std.proofs.Common.{refl, rules}
 use Rattle.std.proofs.lemmas.Result.{err_from_is_err_and}
 use Rattle.pbf_header.specs.Header.{header_of}
 use Rattle.pbfcut.specs.Pick.{pick_of}
@@ -9,19 +9,25 @@ use Rattle.pbfcut.proofs.ChangedLemmas.{stops_as_change, digest_as_change}
 use Rattle.pbfcut.proofs.WritingLemmas.{packed_front, packed_told}
 use Rattle.pbfcut.proofs.write.OutputPlan.write.Goals as goal
 
-pub returns-in_err-compare-in-Ok-clause-beginning : goal.returns-in_err-compare-in-Ok-clause-beginning
-returns-in_err-compare-in-Ok-clause-beginning g c =
+pub returns-in_err-compare-in-Ok : goal.returns-in_err-compare-in-Ok
+returns-in_err-compare-in-Ok g c =
     let p = err_from_is_err_and c.from_residual.result c.from_residual.ensures.1 in
     let given = c.in-Ok.ensures.packed in
     let took = given.holding in
-    rw p.1 (packed_front (pick_of c.args.self.chosen) (header_of c.args.self.header.now) _ _ _ _ took.written
-    (packed_told _ _ _ _ given.file took.written (tells_file g.F.Feed _ _ _ _ given) took.holding) took.added.told)
+    rw (p.1, p.2) (record {
+      packed = tt;
+      beginning = packed_front (pick_of c.args.self.chosen) (header_of c.args.self.header.now) _ _ _ _ took.written
+          (packed_told _ _ _ _ given.file took.written (tells_file g.F.Feed _ _ _ _ given) took.holding) took.added.told;
+      stops = digest_as_change g.F.Feed c.args.self.pass c.args.feed.now c.write_unjudged.new.feed (WriteFailed g.D.Drain c.args.drain.now c.write_unjudged.new.drain) c.args.self.pass.passes.hashes c.in-Ok.wrote.input _ _ refl given c.in_err-compare-in-Ok.ensures.other;
+      keeps = search rules;
+      out = search rules;
+    })
 
-pub returns-in_err-compare-in-Ok-clause-stops : goal.returns-in_err-compare-in-Ok-clause-stops
-returns-in_err-compare-in-Ok-clause-stops g c =
-    let p = err_from_is_err_and c.from_residual.result c.from_residual.ensures.1 in
-    rw (p.1, p.2) (digest_as_change g.F.Feed c.args.self.pass c.args.feed.now c.write_unjudged.new.feed (WriteFailed g.D.Drain c.args.drain.now c.write_unjudged.new.drain) c.args.self.pass.passes.hashes c.in-Ok.wrote.input _ _ refl c.in-Ok.ensures.packed c.in_err-compare-in-Ok.ensures.other)
-
-pub returns-in-Err-clause-stops : goal.returns-in-Err-clause-stops
-returns-in-Err-clause-stops g c =
-    rw c.changed.ensures (stops_as_change g.F.Feed c.args.self.pass c.args.feed.now c.write_unjudged.new.feed (WriteFailed g.D.Drain c.args.drain.now c.write_unjudged.new.drain) (judged_file (g.F.Feed.remaining c.args.feed.now)) c.in-Err.stop c.in-Err.ensures.stops c.in-Err.ensures.faulty)
+pub returns-in-Err : goal.returns-in-Err
+returns-in-Err g c = record {
+  packed = tt;
+  beginning = search rules;
+  stops = rw c.changed.ensures (stops_as_change g.F.Feed c.args.self.pass c.args.feed.now c.write_unjudged.new.feed (WriteFailed g.D.Drain c.args.drain.now c.write_unjudged.new.drain) (judged_file (g.F.Feed.remaining c.args.feed.now)) c.in-Err.stop c.in-Err.ensures.stops c.in-Err.ensures.faulty);
+  keeps = search rules;
+  out = search rules;
+}
