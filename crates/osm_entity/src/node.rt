@@ -42,15 +42,15 @@ impl Node {
     }
 }
 
-/// A node, wherever it lies.
+/// A node, wherever it lies. The fields are those of [`Node`].
 #[derive(Clone, Copy)]
 pub struct NodeRef<'a> {
-    id: i64,
-    lat: i64,
-    lon: i64,
-    meta: MetaRef<'a>,
-    tags: Tags<'a>,
-    scale: Scale,
+    pub id: i64,
+    pub lat: i64,
+    pub lon: i64,
+    pub meta: MetaRef<'a>,
+    pub tags: Tags<'a>,
+    pub scale: Scale,
 }
 
 impl<'a> NodeRef<'a> {

@@ -145,7 +145,7 @@ pub enum Tags<'a> {
 
 impl Tags<'_> {
     /// Whether it is seen at once that there is no tag. No column is read for that, so a `false` says nothing.
-    pub(crate) fn are_none(&self) -> bool
+    pub fn are_none(&self) -> bool
         ensures { IsTrue result → tags_left self.now ≡ [] }
     {
         match self {

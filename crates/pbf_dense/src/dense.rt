@@ -1,6 +1,7 @@
 //! The nodes of a dense message.
 
-ghost use Rattle.std.specs.Prelude.{◌≡◌, map};
+ghost use Rattle.std.specs.Prelude.{◌≡◌, [], ⊤, MatchOption, map};
+ghost use Rattle.std.specs.Option.{IsSome};
 ghost use Rattle.pbf_wire.specs.Cursors.{numbers_left};
 ghost use Rattle.osm_entity.specs.Sources.{low_32, run_tags, tags_left};
 ghost use Rattle.pbf_dense.specs.Runs.{after_run, after_runs};
@@ -10,7 +11,7 @@ use crate::entries::next_number;
 use crate::info::InfoColumns;
 use crate::places::Places;
 use crate::within::IdsWithin;
-use osm_entity::{BoundingBox, NodeRef, OwnedTags, RunTags, STORED_LIMIT, Scale, Tags};
+use osm_entity::{BoundingBox, MetaRef, NodeRef, OwnedTags, RunTags, STORED_LIMIT, Scale, Tags};
 use pbf_strings::Table;
 use pbf_wire::{Column, Message, Sums, column_count, low_u32};
 
@@ -62,10 +63,18 @@ fn skip_runs(numbers: &mut Column<'_>, count: usize)
     *numbers = rest;
 }
 
-/// The tags of the next node, whose run is skipped. It is a call, so that its copy of the column takes no room where nodes are made.
+/// Leaves no tags in this place. It is a call, so that they take no room where nodes are read.
 #[inline(never)]
-fn take_run<'a>(numbers: &mut Column<'a>, table: &'a Table<'a>) -> Tags<'a>
-    ensures tags { tags_left result ≡ run_tags table.now (numbers_left numbers.old) }
+fn clear_tags(tags: &mut Tags<'_>)
+    ensures { tags_left tags.new ≡ [] }
+{
+    *tags = Tags::Owned(OwnedTags::new(&[]));
+}
+
+/// Puts the tags of the next node in this place, and skips its run. It is a call for the same reason.
+#[inline(never)]
+fn take_run<'a>(numbers: &mut Column<'a>, table: &'a Table<'a>, tags: &mut Tags<'a>)
+    ensures tags { tags_left tags.new ≡ run_tags table.now (numbers_left numbers.old) }
     ensures rest { map low_32 (numbers_left numbers.new)
         ≡ after_run (map low_32 (numbers_left numbers.old)) }
 {
@@ -74,9 +83,50 @@ fn take_run<'a>(numbers: &mut Column<'a>, table: &'a Table<'a>) -> Tags<'a>
         Some(first) if low_u32(first) != 0 => {
             let _value = next_number(numbers);
             skip_run(numbers);
-            Tags::Run(run)
+            *tags = Tags::Run(run);
         }
-        _ => Tags::Owned(OwnedTags::new(&[])),
+        _ => clear_tags(tags),
+    }
+}
+
+/// Like [`take_run`], and quick if there is no tag, as of most nodes, and there was none in the place before.
+#[inline(always)]
+fn take_tags<'a>(numbers: &mut Column<'a>, table: &'a Table<'a>, tags: &mut Tags<'a>)
+    ensures tags { tags_left tags.new ≡ run_tags table.now (numbers_left numbers.old) }
+    ensures rest { map low_32 (numbers_left numbers.new)
+        ≡ after_run (map low_32 (numbers_left numbers.old)) }
+{
+    if !numbers.pass_zero() {
+        take_run(numbers, table, tags);
+    } else if !tags.are_none() {
+        clear_tags(tags);
+    }
+}
+
+/// Puts a node into a place, whose parts are all still to be given. It is a call for the same reason.
+#[inline(never)]
+fn fill(place: &mut Option<NodeRef<'_>>, scale: Scale)
+    ensures { IsSome place.new }
+{
+    let meta = MetaRef {
+        version: None,
+        timestamp: None,
+        changeset: None,
+        uid: None,
+        user: None,
+        visible: None,
+    };
+    let tags = Tags::Owned(OwnedTags::new(&[]));
+    *place = Some(NodeRef::new(0, 0, 0, meta, tags, scale));
+}
+
+/// Like [`fill`], of a place that may have one.
+#[inline(always)]
+fn fill_if_empty(place: &mut Option<NodeRef<'_>>, scale: Scale)
+    ensures { IsSome place.new }
+{
+    if place.is_none() {
+        fill(place, scale);
     }
 }
 
@@ -93,7 +143,7 @@ pub struct Dense<'a> {
 }
 
 impl<'a> Dense<'a> {
-    ghost use Rattle.std.specs.Prelude.{[], ℕ, List, ⊤, MatchOption, length, drop};
+    ghost use Rattle.std.specs.Prelude.{ℕ, List, length, drop};
     ghost use Rattle.std.specs.Iterator.{YieldsFirstBy};
     ghost use Rattle.pbf_wire.specs.Cursors.{sums_left};
     ghost use Rattle.pbf_wire.specs.Faults.{found_in};
@@ -190,7 +240,7 @@ impl<'a> Dense<'a> {
     }
 
     /// Puts the next node in this place, or `None`, as [`Dense::next`] gives it. The room of a node is large, and a loop that keeps its
-    /// place need neither clear nor copy it.
+    /// place need neither clear nor copy it: each part is written where it is to be, and of tags that are none nothing is.
     #[tactic(auto, using(crate::proofs::MovingLemmas::no_lats, crate::proofs::MovingLemmas::no_lons), unfolding(crate::specs::Cursors::dense_left))]
     pub fn next_in(&mut self, place: &mut Option<NodeRef<'a>>)
         ensures { YieldsFirstBy node_of dense_left self.old place.new self.new }
@@ -207,15 +257,16 @@ impl<'a> Dense<'a> {
             *place = None;
             return;
         };
-        let meta = self.info.take(self.table);
-        // Most nodes have no tag, which is seen at once.
-        if self.keys_vals.pass_zero() {
-            let none = Tags::Owned(OwnedTags::new(&[]));
-            *place = Some(NodeRef::new(id, lat, lon, meta, none, self.scale));
+        fill_if_empty(place, self.scale);
+        let Some(node) = place else {
             return;
-        }
-        let tags = take_run(&mut self.keys_vals, self.table);
-        *place = Some(NodeRef::new(id, lat, lon, meta, tags, self.scale));
+        };
+        node.id = id;
+        node.lat = lat;
+        node.lon = lon;
+        node.scale = self.scale;
+        self.info.take_in(self.table, &mut node.meta);
+        take_tags(&mut self.keys_vals, self.table, &mut node.tags);
     }
 
     /// How many nodes there are in a dense message without a wire fault: as many as ids. No number is decoded, and no other

@@ -112,9 +112,8 @@ impl DenseOut {
             → OnOk result (HoldsNodes self.new table.new (ns ++ node_of node.now ∷ [])) }
     {
         push_tags(&mut self.runs, node, table)?;
-        let meta = node.meta();
-        let user = table.index_if_some(meta.user)?;
-        self.info.push(&meta, user)?;
+        let user = table.index_if_some(node.meta.user)?;
+        self.info.push(&node.meta, user)?;
         self.ids.push(node.id())?;
         self.lats.push_far(node.lat())?;
         self.lons.push_far(node.lon())?;

@@ -26,6 +26,7 @@ fn user_text<'a>(table: &'a Table<'a>, index: Option<i64>) -> Option<&'a [u8]>
 }
 
 /// The next value of a column of uids.
+#[inline(always)]
 #[tactic(auto, using(crate::proofs::InfoLemmas::later_within))]
 fn next_uid(uids: &mut Sums<'_>) -> Option<i32>
     requires { list_all (is_within (pos (2 ^ 30))) (sums_left uids.old) ≡ true }
@@ -92,19 +93,18 @@ impl<'a> InfoColumns<'a> {
         InfoColumns::in_field(last_field(dense, DENSEINFO))
     }
 
-    /// The metadata of the next node.
-    pub(crate) fn take(&mut self, table: &'a Table<'a>) -> MetaRef<'a>
-        ensures meta { meta_of result ≡ meta_at table.now (info_left self.old) 0 }
+    /// Puts the metadata of the next node in this place.
+    #[inline(always)]
+    pub(crate) fn take_in(&mut self, table: &'a Table<'a>, meta: &mut MetaRef<'a>)
+        ensures meta { meta_of meta.new ≡ meta_at table.now (info_left self.old) 0 }
         ensures rest { info_left self.new ≡ info_rest (info_left self.old) }
     {
-        MetaRef {
-            version: next_number(&mut self.versions).map(|number| low_i32(number)),
-            timestamp: next_sum(&mut self.timestamps),
-            changeset: next_sum(&mut self.changesets),
-            uid: next_uid(&mut self.uids),
-            user: user_text(table, next_sum(&mut self.users)),
-            visible: next_number(&mut self.visible).map(|number| number != 0),
-        }
+        meta.version = next_number(&mut self.versions).map(|number| low_i32(number));
+        meta.timestamp = next_sum(&mut self.timestamps);
+        meta.changeset = next_sum(&mut self.changesets);
+        meta.uid = next_uid(&mut self.uids);
+        meta.user = user_text(table, next_sum(&mut self.users));
+        meta.visible = next_number(&mut self.visible).map(|number| number != 0);
     }
 
     /// Skips the metadata of as many nodes.

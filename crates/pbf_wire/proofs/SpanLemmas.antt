@@ -1,5 +1,5 @@
 -- Values that are skipped one after another.
-use Rattle.std.proofs.Common.{◌≡◌, ◌≤◌, Bool, true, false, not, ℕ, zero, suc, ℤ, List, [], ◌∷◌, length, map, None, Some, ap, refl, rules, arith, ◌<ℤ◌, ◌≤ℤ◌}
+use Rattle.std.proofs.Common.{◌≡◌, ◌<◌, ◌≤◌, ◌^◌, Bool, true, false, not, ℕ, zero, suc, ℤ, List, [], ◌∷◌, length, map, None, Some, ap, refl, rules, arith, ◌<ℤ◌, ◌≤ℤ◌}
 use Rattle.std.proofs.Math.Seq.{drop-nil}
 use Rattle.std.proofs.lemmas.Int.{ints}
 use Rattle.std.proofs.lemmas.List.{length-map}
@@ -48,7 +48,7 @@ sums_fit limit start (d ∷ ds) =
       | Some sum ↦ omega (arith, sums_fit limit sum ds)
     ]
 
--- as many as the column has numbers, or fewer
-pub values_fit : (values : Sums) (n : ℕ) → length (column_left values.entries) ≤ n → length (sums_left values) ≤ n
-values_fit values n h =
+-- no more than the column has numbers
+pub values_fit : (values : Sums) → length (column_left values.entries) < 2 ^ 64 → length (sums_left values) < 2 ^ 64
+values_fit values h =
     omega (arith, h, sums_fit values.limit values.total (map (delta_in values.narrow) (numbers_left values.entries)), length-map (numbers_left values.entries) (delta_in values.narrow), length-map {B = ℕ} (column_left values.entries) (λ p. p.0))

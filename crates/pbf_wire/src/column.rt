@@ -146,13 +146,14 @@ impl<'a> Column<'a> {
         self.place
     }
 
-    /// How many bytes are left, of which each number takes one at least.
+    /// There are so few numbers that they can be counted, since each takes a byte at least. This does nothing: it is a law, called where
+    /// a proof needs it.
     #[inline(always)]
     #[tactic(auto, using(crate::proofs::ShortLemmas::numbers_fit))]
-    pub(crate) fn bytes_left(&self) -> usize
-        ensures { length (column_left self.now) ≤ result }
+    pub(crate) fn numbers_are_few(&self)
+        ensures { length (column_left self.now) < 2 ^ 64 }
     {
-        self.packed.len() + self.fields.0.len()
+        let _bytes = self.packed.len() + self.fields.0.len();
     }
 
     /// How many numbers are still to come, if a quick test shows that they are few and small: at most 2^26, each below 2^35. None is

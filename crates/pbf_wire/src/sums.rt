@@ -218,8 +218,7 @@ impl<'a> Sums<'a> {
         ensures past { ArePassed span is_there (sums_left self.old) (sums_left self.new) result }
         ensures fewer { result ≤ most }
     {
-        // For the proof only: there are no more values than bytes, so they can be counted.
-        let _bytes = self.entries.bytes_left();
+        self.entries.numbers_are_few();
         let mut rest = *self;
         let mut left = most;
         'alike: while left > 0 {

@@ -1,4 +1,4 @@
-use Rattle.std.proofs.Common.{rules, arith, ◌≡◌, ◌<◌, ◌-◌, ◌^◌, length, ◌∷◌, suc, sym, ap, ◌∙◌, w64}
+use Rattle.std.proofs.Common.{rules, arith, ◌≡◌, ◌-◌, ◌∷◌, suc, sym, ap, ◌∙◌, w64}
 use Rattle.std.proofs.lemmas.Int.{to_z-of_z}
 use mir.Val.{SFits}
 use Rattle.pbf_wire.specs.Cursors.{sums_left}
@@ -9,8 +9,7 @@ use Rattle.pbf_wire.proofs.sums.Sums.pass_alike.Goals as goal
 pub alike-init : goal.alike-init
 alike-init c =
     let all = c.args.self.now in
-    let fits : length (sums_left all) < 2 ^ 64 = omega (arith, values_fit all c.bytes_left-bytes.result c.bytes_left-bytes.ensures) in
-    record { past = record { passed = search rules; alike = search rules; there = omega arith; few = fits }; fewer = omega arith }
+    record { past = record { passed = search rules; alike = search rules; there = omega arith; few = values_fit all c.numbers_are_few.ensures }; fewer = omega arith }
 
 pub alike-preserved : goal.alike-preserved
 alike-preserved c =
