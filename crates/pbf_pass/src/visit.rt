@@ -68,8 +68,7 @@ pub fn step<F: Feed, V: Visit>(
     Ok(true)
 }
 
-/// Visits the frames that are left, by steps, and returns how many there are: after each step its clause `space` bounds what the reader
-/// holds.
+/// Visits the frames that are left, by steps, and returns how many there are: after each step `space` bounds what the reader holds.
 pub fn visit_rest<F: Feed, V: Visit>(
     alloc: Global,
     reader: &mut FrameReader<F>,
