@@ -105,7 +105,8 @@ const MOST_PASSED: usize = 8_000;
 fn unpicked(dense: &Dense<'_>, picker: &mut Picker<'_>) -> Option<usize>
     ensures none { MatchOption result
         (filter (picks_of picker.old) (map node (dense_left dense.now)) ≡ [])
-        (λ count. filter (picks_of picker.old) (map node (take count (dense_left dense.now))) ≡ []) }
+        (λ count. filter (picks_of picker.old)
+        (map node (take count (dense_left dense.now))) ≡ []) }
     ensures same { picker.new ≡ picker.old }
 {
     let mut ids = dense.ids();
@@ -304,7 +305,8 @@ impl<'a> EntityPacker<'a> {
             OnOk result (PacksAll D.Drain (fault_in p) (picked_in (picks_of self.old.picker) p)
             packer.old packer.new) }
         ensures counted { OnOk result (self.new.counts ≡ counts_of (picked_in
-            (picks_of self.old.picker) (primitive_block frame.now.payload_at frame.now.payload.now))) }
+            (picks_of self.old.picker)
+            (primitive_block frame.now.payload_at frame.now.payload.now))) }
         ensures stopped { IfErr result (FailsToPackPayload D.Drain (picks_of self.old.picker)
             (primitive_block frame.now.payload_at frame.now.payload.now) packer.old packer.new) }
         ensures keeps { KeepsPacker D.Drain packer.old packer.new }
