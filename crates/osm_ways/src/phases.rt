@@ -236,9 +236,9 @@ pub(crate) fn is_kept_by<I: IdLookup>(ids: &mut I, refs: Refs<'_>) -> bool
 
 /// Adds all of these refs that aren't known to the ids.
 fn add_refs<I: IdLookup>(known: &mut I, ids: &mut IdSet, refs: Refs<'_>) -> Result<(), AllocError>
-    ensures refs { OnOk result (set.union (I.ids known.old) ids.new
-        ≡ fold set.insert (set.union (I.ids known.old) ids.old) (refs_left refs.entry)) }
-    ensures same { OnOk result (known.new ≡ known.old) }
+    ensures { OnOk result ((set.union (I.ids known.old) ids.new
+        ≡ fold set.insert (set.union (I.ids known.old) ids.old) (refs_left refs.entry))
+        × (known.new ≡ known.old)) }
 {
     for id in refs {
         if known.has(id) {

@@ -41,8 +41,9 @@ pub fn check<F: Feed>(alloc: Global, feed: &mut F) -> Result<Counts, Stop>
 pub fn check_with_receipt<F: Feed>(passes: Passes, feed: &mut F) -> Result<InputReceipt, Halt>
     // The feed gave a file, of this digest if it is hashed, to its end. It has no fault, and the counts are those of its entities.
     ensures receipt { IfOk result (λ receipt. GaveFile F.Feed feed.old feed.new
-        (digest_if passes.hashes receipt.input) (λ file. CountsFile (judged_file (Some file)) receipt.counts)) }
-    // However it ends: what it refuses, why it stops, and that it keeps its feed.
+        (digest_if passes.hashes receipt.input)
+        (λ file. CountsFile (judged_file (Some file)) receipt.counts)) }
+    // However it ends: `refused` says what is refused, of the bytes that were read; `stops` why it stops; and `keeps` that it keeps its feed.
     ensures ends { EndsJudging F.Feed feed.old feed.new passes.hashes result }
 {
     let told = judge(passes, feed, &mut Nothing)?;

@@ -438,7 +438,7 @@ pub fn judge<F: Feed, G: Gather>(
     ensures judged { IfOk result (λ told. GaveFile F.Feed feed.old feed.new
         (digest_if passes.hashes told.digest) (λ file. IsLength told.count file
         × TakesFile G.gathered (judged_file (Some file)) gathering.old gathering.new told.pass)) }
-    // However it ends: what it refuses, why it stops, and that it keeps its feed.
+    // However it ends: `refused` says what is refused, of the bytes that were read; `stops` why it stops; and `keeps` that it keeps its feed.
     ensures ends { EndsJudging F.Feed feed.old feed.new passes.hashes result }
 {
     let mut pass = Pass::new();

@@ -38,7 +38,8 @@ pub trait Visit {
     /// may only be dropped or taken apart.
     fn visit(&mut self, alloc: Global, frame: &Frame<'_>) -> Result<(), Stop>
         requires { ready self.old }
-        ensures took { OnOk result ((f : FrameSpec) → Shows frame.now f → took self.old f self.new) }
+        ensures took { OnOk result ((f : FrameSpec) → Shows frame.now f
+            → took self.old f self.new) }
         ensures failed { IfErr result (λ stop. (f : FrameSpec) → Shows frame.now f
             → failed self.old f self.new stop) }
         ensures ready { OnOk result (ready self.new) }
@@ -68,8 +69,7 @@ pub fn step<F: Feed, V: Visit>(
     Ok(true)
 }
 
-/// Visits the frames that are left, by steps, and returns how many there are: after each step its clause `space` bounds what the reader
-/// holds.
+/// Visits the frames that are left, by steps, and returns how many there are: after each step `space` bounds what the reader holds.
 pub fn visit_rest<F: Feed, V: Visit>(
     alloc: Global,
     reader: &mut FrameReader<F>,

@@ -33,7 +33,7 @@ use Rattle.pbf_block.specs.declared.counts.Counts.{Counts}
 use Rattle.pbf_pass.specs.declared.pass.Pass.{Pass}
 use Rattle.pbf_pass.specs.HeaderLimit.{HasShortTexts, header_limit, judged_writable, held_header}
 use Rattle.pbf_pass.specs.Counting.{counts_of, stored_entities}
-use Rattle.pbfcut.specs.Calls.{GaveOrNot, Differ, ChangedIn, ChangedBefore, RefusedFirst, ConvertStops, ExtractStops, ParentsStops}
+use Rattle.pbfcut.specs.Calls.{GaveOrNot, Differ, ChangedIn, ChangedBefore, RefusedFirst, ExtractStops, ParentsStops}
 use Rattle.pbfcut.specs.Theorem.{IsExtraction}
 use Rattle.pbfcut.specs.Extracting.{Choice, complete_ways, all_parents, extraction, extract_bytes, Begins, Chooses, ChoosesParents, AddsParents, IsChoice, IsChoiceWithParents}
 use Rattle.pbfcut.specs.Kept.{verdict_on, extract_of, IsWritable}
@@ -203,7 +203,7 @@ module _ {F : Type 0} (f : feed.Ghosts F) (old new : F) (first : Option (List �
 
   -- those of the pass that writes
   module _ (passes : Passes) (digest : List ℕ) (before now : Option (List ℕ)) (read wrote : Type 0) (s : Stop) (same : IsDigest first (digest_if passes.hashes digest)) (failed : ReadFailed f old new → read) where
-    pub convert_stops : StopsLater f (record { number = 2; digest = digest; passes = passes }) old new wrote s → ConvertStops first (f.remaining old) before now read wrote s
+    pub convert_stops : StopsLater f (record { number = 2; digest = digest; passes = passes }) old new wrote s → Caused (RefusedFirst (judged_writable first) before now) read wrote (ChangedIn 2 first (f.remaining old)) s
     convert_stops h = stops_later (record { number = 2; digest = digest; passes = passes }) (digest_if passes.hashes digest) (RefusedFirst (judged_writable first) before now) read wrote (ChangedIn 2 first (f.remaining old)) s same refl failed (λ pass is. is) h
 
   module _ (passes : Passes) (again : LaterPass) (read wrote : Type 0) (s : Stop) (same : IsDigest first (digest_if passes.hashes again.digest)) (failed : ReadFailed f old new → read) where

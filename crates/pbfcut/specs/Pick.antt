@@ -162,7 +162,7 @@ FailsToPack d pick old new f stop = FailsToPackPayload d pick (payload_of f) old
 -- ---- one step
 
 -- what a step does that judges the next frame and packs what is picked of it
-pub record StepsPacking {F D S H : Type 0} (f : feed.Ghosts F) (reader reader_now : FrameReader F) (d : drain.Ghosts D) (pick : Pick) (old new : Packing D S H) (before now : Pass) (result : Result Bool Stop) : Type 0 where
+pub record JudgesAndPacks {F D S H : Type 0} (f : feed.Ghosts F) (reader reader_now : FrameReader F) (d : drain.Ghosts D) (pick : Pick) (old new : Packing D S H) (before now : Pass) (result : Result Bool Stop) : Type 0 where
   -- on `true` exactly the next frame's bytes are gone, it has no fault of any phase, its entities that are picked were packed in order, and the
   -- pass counts these. On a refusal the drain took nothing in this step; on another stop nothing, or a prefix of what these entities make. A
   -- reader at its end returns `false`, a spent one its stop, and nothing else changes

@@ -78,7 +78,8 @@ pub fn convert_with_receipt<F: Feed, G: Feed, D: Drain, S: BuildHasher + Drop>(
         × GaveFile G.Feed second.old second.new (digest_if passes.hashes receipt.input)
         (λ c. Took D.Drain drain.old drain.new
         (λ written. b ≡ c → IsConverted b receipt.counts written)))) }
-    // However it ends: what it refuses, why it stops, when it says `Changed`, and that it keeps its devices.
+    // However it ends: `refused` says what is refused, of the bytes that were read, and that the drain took nothing then; `stops` why it
+    // stops; `changed` of what bytes it says `Changed`; and `feeds` and `out` that it keeps its devices.
     ensures ends { EndsTwoPasses judged_writable F.Feed first.old first.new
         G.Feed second.old second.new D.Drain drain.old drain.new passes.hashes result }
     // Whatever stopped it, if both feeds supply these bytes, a prefix of their conversion went out, and nothing if they have a fault.

@@ -219,14 +219,15 @@ pub fn extract_with_receipt<F: Feed, G: Feed, H: Feed, D: Drain, S: BuildHasher 
 ) -> Result<InputReceipt, Halt>
     // Each feed gave a file of the digest `input`, to its end; the first has no fault, and its header can be written. The drain took
     // bytes. If the files are the same, these bytes are exactly its complete-ways extract, and the counts are those of the entities in it.
-    ensures receipt { IfOk result (λ receipt. GaveFile F.Feed first.old first.new (Some receipt.input)
-        (λ b. IsWritable b
+    ensures receipt { IfOk result (λ receipt. GaveFile F.Feed first.old first.new
+        (Some receipt.input) (λ b. IsWritable b
         × GaveFile G.Feed second.old second.new (Some receipt.input)
         (λ c. GaveFile H.Feed third.old third.new (Some receipt.input) (λ d.
         Took D.Drain drain.old drain.new
         (λ written. b ≡ c → b ≡ d → IsExtraction (complete_ways area) (extract (seen_decoded area))
         area b receipt.counts written))))) }
-    // However it ends: what it refuses, why it stops, when it says `Changed`, what went out by then, and that it keeps its devices.
+    // However it ends: `refused` says what is refused, of the bytes that were read, and that the drain took nothing then; `stops` why it
+    // stops; `changed` of what bytes it says `Changed`; `beginning` what went out by then; and `feeds` and `out` that it keeps its devices.
     ensures ends { EndsExtracting F.Feed first.old first.new
         G.Feed second.old second.new H.Feed third.old third.new
         D.Drain drain.old drain.new true area result }
@@ -332,14 +333,15 @@ pub fn extract_parents_with_receipt<
     // Each feed gave a file of the digest `input`, to its end; the first has no fault, and its header can be written. The drain took
     // bytes. If the files are the same, these bytes are exactly its complete-ways extract with all parents, and the
     // counts are those of the entities in it.
-    ensures receipt { IfOk result (λ receipt. GaveFile F.Feed first.old first.new (Some receipt.input)
-        (λ b. IsWritable b
+    ensures receipt { IfOk result (λ receipt. GaveFile F.Feed first.old first.new
+        (Some receipt.input) (λ b. IsWritable b
         × GaveFile G.Feed second.old second.new (Some receipt.input)
         (λ c. GaveFile H.Feed third.old third.new (Some receipt.input) (λ d.
-        GaveFile I.Feed fourth.old fourth.new (Some receipt.input) (λ e. Took D.Drain drain.old drain.new
-        (λ written. b ≡ c → b ≡ d → b ≡ e → IsExtraction (all_parents area)
+        GaveFile I.Feed fourth.old fourth.new (Some receipt.input) (λ e.
+        Took D.Drain drain.old drain.new (λ written. b ≡ c → b ≡ d → b ≡ e → IsExtraction (all_parents area)
         (extract_with_parents (seen_decoded area)) area b receipt.counts written)))))) }
-    // However it ends: what it refuses, why it stops, when it says `Changed`, what went out by then, and that it keeps its devices.
+    // However it ends: `refused` says what is refused, of the bytes that were read, and that the drain took nothing then; `stops` why it
+    // stops; `changed` of what bytes it says `Changed`; `beginning` what went out by then; and `feeds` and `out` that it keeps its devices.
     ensures ends { EndsExtractingParents F.Feed first.old first.new
         G.Feed second.old second.new H.Feed third.old third.new I.Feed fourth.old fourth.new
         D.Drain drain.old drain.new true area result }

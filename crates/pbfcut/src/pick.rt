@@ -11,7 +11,7 @@ ghost use Rattle.pbf_block.specs.Runs.{way_from, joined_runs, run_entities, runs
 ghost use Rattle.pbf_pass.specs.Counting.{counts_of};
 ghost use Rattle.pbf_pass.specs.Judged.{fault_in};
 ghost use Rattle.pbf_pass.specs.Payload.{primitive_block, lent_by};
-ghost use Rattle.pbfcut.specs.Pick.{everything, pick_of, picks_of, picked_in, picks_id, picked_by, picked_by_some, IsReadyToPack, PacksAll, PacksEach, KeepsPacker, PacksPayload, FailsToPackPayload, StepsPacking};
+ghost use Rattle.pbfcut.specs.Pick.{everything, pick_of, picks_of, picked_in, picks_id, picked_by, picked_by_some, IsReadyToPack, PacksAll, PacksEach, KeepsPacker, PacksPayload, FailsToPackPayload, JudgesAndPacks};
 
 use osm_entity::{EntityRef, NodeRef};
 use osm_pack::Packer;
@@ -105,7 +105,8 @@ const MOST_PASSED: usize = 8_000;
 fn unpicked(dense: &Dense<'_>, picker: &mut Picker<'_>) -> Option<usize>
     ensures none { MatchOption result
         (filter (picks_of picker.old) (map node (dense_left dense.now)) ≡ [])
-        (λ count. filter (picks_of picker.old) (map node (take count (dense_left dense.now))) ≡ []) }
+        (λ count. filter (picks_of picker.old)
+        (map node (take count (dense_left dense.now))) ≡ []) }
     ensures same { picker.new ≡ picker.old }
 {
     let mut ids = dense.ids();
@@ -304,7 +305,8 @@ impl<'a> EntityPacker<'a> {
             OnOk result (PacksAll D.Drain (fault_in p) (picked_in (picks_of self.old.picker) p)
             packer.old packer.new) }
         ensures counted { OnOk result (self.new.counts ≡ counts_of (picked_in
-            (picks_of self.old.picker) (primitive_block frame.now.payload_at frame.now.payload.now))) }
+            (picks_of self.old.picker)
+            (primitive_block frame.now.payload_at frame.now.payload.now))) }
         ensures stopped { IfErr result (FailsToPackPayload D.Drain (picks_of self.old.picker)
             (primitive_block frame.now.payload_at frame.now.payload.now) packer.old packer.new) }
         ensures keeps { KeepsPacker D.Drain packer.old packer.new }
@@ -356,7 +358,7 @@ pub fn step_pack<F: Feed, D: Drain, S: BuildHasher>(
 ) -> Result<bool, Stop>
     requires { has_header packer.old ≡ true }
     // The next frame was judged, and what is picked of it was packed; or the step stopped. Reader and packer hold at most so many bytes then.
-    ensures steps { StepsPacking F.Feed reader.old reader.new D.Drain (pick_of chosen.entry)
+    ensures steps { JudgesAndPacks F.Feed reader.old reader.new D.Drain (pick_of chosen.entry)
         packer.old packer.new pass.old pass.new result }
 {
     packer.held_is_bounded();
@@ -382,7 +384,7 @@ pub fn step_write<F: Feed, D: Drain, S: BuildHasher>(
     packer: &mut Packer<D, S>,
 ) -> Result<bool, Stop>
     requires { has_header packer.old ≡ true }
-    ensures steps { StepsPacking F.Feed reader.old reader.new D.Drain
+    ensures steps { JudgesAndPacks F.Feed reader.old reader.new D.Drain
         (picked_by_some (option_map (λ c. c.now) chosen.entry))
         packer.old packer.new pass.old pass.new result }
 {
@@ -398,7 +400,7 @@ pub fn step_write_parents<F: Feed, D: Drain, S: BuildHasher>(
     packer: &mut Packer<D, S>,
 ) -> Result<bool, Stop>
     requires { has_header packer.old ≡ true }
-    ensures steps { StepsPacking F.Feed reader.old reader.new D.Drain (picked_by chosen.now)
+    ensures steps { JudgesAndPacks F.Feed reader.old reader.new D.Drain (picked_by chosen.now)
         packer.old packer.new pass.old pass.new result }
 {
     step_pack(alloc, reader, pass, Some(chosen.chosen()), packer)

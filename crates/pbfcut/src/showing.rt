@@ -205,7 +205,8 @@ pub fn show_with_receipt<F: Feed, G: Feed, D: Drain>(
         (λ b. CountsFile (judged_file (Some b)) receipt.counts
         × GaveFile G.Feed second.old second.new (digest_if passes.hashes receipt.input)
         (λ c. Took D.Drain drain.old drain.new (Shown dates (judged_file (Some c)))))) }
-    // However it ends: what it refuses, why it stops, when it says `Changed`, and that it keeps its devices.
+    // However it ends: `refused` says what is refused, of the bytes that were read, and that the drain took nothing then; `stops` why it
+    // stops; `changed` of what bytes it says `Changed`; and `feeds` and `out` that it keeps its devices.
     ensures ends { EndsTwoPasses judged_file F.Feed first.old first.new
         G.Feed second.old second.new D.Drain drain.old drain.new passes.hashes result }
     // Whatever stopped it, if both feeds supply one file, a prefix of its text went out, and nothing if it has a fault.

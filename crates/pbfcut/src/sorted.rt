@@ -125,7 +125,8 @@ pub fn extract_sorted_with_receipt<F: Feed, G: Feed, H: Feed, D: Drain, S: Build
         Took D.Drain drain.old drain.new
         (λ written. b ≡ c → b ≡ d → IsExtraction (complete_ways area) (extract (seen_decoded area))
         area b receipt.counts written))))) }
-    // However it ends: what it refuses, why it stops, when it says `Changed`, what went out by then, and that it keeps its devices.
+    // However it ends: `refused` says what is refused, of the bytes that were read, and that the drain took nothing then; `stops` why it
+    // stops; `changed` of what bytes it says `Changed`; `beginning` what went out by then; and `feeds` and `out` that it keeps its devices.
     ensures ends { EndsExtracting F.Feed first.old first.new
         G.Feed second.old second.new H.Feed third.old third.new
         D.Drain drain.old drain.new passes.hashes area result }
@@ -182,9 +183,11 @@ pub fn extract_parents_sorted_with_receipt<
         × GaveOrNot G.Feed second.old second.new (digest_if passes.hashes receipt.input) b
         (λ c. GaveFile H.Feed third.old third.new (digest_if passes.hashes receipt.input)
         (λ d. GaveFile I.Feed fourth.old fourth.new (digest_if passes.hashes receipt.input)
-        (λ e. Took D.Drain drain.old drain.new (λ written. b ≡ c → b ≡ d → b ≡ e → IsExtraction (all_parents area)
-        (extract_with_parents (seen_decoded area)) area b receipt.counts written)))))) }
-    // However it ends: what it refuses, why it stops, when it says `Changed`, what went out by then, and that it keeps its devices.
+        (λ e. Took D.Drain drain.old drain.new (λ written. b ≡ c → b ≡ d → b ≡ e
+        → IsExtraction (all_parents area) (extract_with_parents (seen_decoded area))
+        area b receipt.counts written)))))) }
+    // However it ends: `refused` says what is refused, of the bytes that were read, and that the drain took nothing then; `stops` why it
+    // stops; `changed` of what bytes it says `Changed`; `beginning` what went out by then; and `feeds` and `out` that it keeps its devices.
     ensures ends { EndsExtractingParents F.Feed first.old first.new
         G.Feed second.old second.new H.Feed third.old third.new I.Feed fourth.old fourth.new
         D.Drain drain.old drain.new passes.hashes area result }

@@ -1,4 +1,4 @@
--- What the functions return that put the command line together. Each says besides that nothing is global, which clap asks of the next one.
+-- What the functions return that put the command line together. Each says besides that nothing is global, which clap requires.
 use Rattle.std.specs.Prelude.{◌≡◌, false, Result, IsOkAnd}
 use Rattle.clap.specs.Words.{App, Rule, app_of, rule_of}
 use Rattle.clap.specs.declared.builder.arg.Arg.{Arg}
@@ -9,7 +9,7 @@ use Rattle.clap.specs.declared.builder.command.Command.TheViews.{out-Command as 
 abbrev pub HasNoGlobals : Command → Type 0
 HasNoGlobals command = (fields_of command).has_globals ≡ false
 
--- it is this argument, and belongs to its command alone
+-- it is this argument, and belongs to only its command
 pub record IsArgument (rule : Rule) (arg : Arg) : Type 0 where
   pub is : rule_of arg ≡ rule
   pub local : arg.global ≡ false

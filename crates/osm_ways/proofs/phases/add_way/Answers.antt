@@ -43,6 +43,6 @@ returns-clause-sets g c =
     ] in
     let more = c.add_refs.new.ids in
     let all : set.union known more ≡ fold set.insert (set.union known c.if-not-has.refs) rest =
-    subst (λ k. set.union (g.I.IdLookup.ids k) more ≡ fold set.insert (set.union (g.I.IdLookup.ids k) c.if-not-has.refs) rest) same (c.in_ok-add_refs.ensures {u = tt}).refs in
+    subst (λ k. set.union (g.I.IdLookup.ids k) more ≡ fold set.insert (set.union (g.I.IdLookup.ids k) c.if-not-has.refs) rest) same (c.in_ok-add_refs.ensures {u = tt}).0 in
     kept_way_added known refs c.args.way_ids.now _ _ id first (refs_left c.args.way.refs) rest turn any (all ∙ ap (λ s. fold set.insert s rest) one)
     ((c.in_ok-add-2.ensures {u = tt}).ok ∙ ap (set.insert c.args.way_ids.now) (to_z-of_z w64 id id_fits))

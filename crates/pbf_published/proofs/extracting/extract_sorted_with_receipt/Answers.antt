@@ -27,7 +27,7 @@ returns-in_err-last-clause-beginning g c =
 pub returns-in_err-receipt-clause-beginning : goal.returns-in_err-receipt-clause-beginning
 returns-in_err-receipt-clause-beginning g c =
     let p = err_from_is_err_and c.from_residual-in_err-receipt.result c.from_residual-in_err-receipt.ensures.1 in
-    rw (p.1, p.2) (outcome_beginning _ _ _ c.published_outcome-outcome.ensures _ _ _ c.in_err-receipt.was (λ begun b supply. begun b (c.open-one.ensures.remaining ∙ supply.0, c.open-two.ensures.remaining ∙ supply.1, c.open-three.ensures.remaining ∙ supply.2)) c.extract_sorted_with_receipt-outcome.ensures.beginning)
+    rw (p.1, p.2) (outcome_beginning _ _ _ c.published_outcome-outcome.ensures _ _ _ c.in_err-receipt.was (λ begun b supply. begun b (c.open-one.ensures.remaining ∙ supply.0, c.open-two.ensures.remaining ∙ supply.1, c.open-three.ensures.remaining ∙ supply.2)) c.extract_sorted_with_receipt-outcome.ensures.ends.beginning)
 
 pub returns-in_err-receipt-clause-stops : goal.returns-in_err-receipt-clause-stops
 returns-in_err-receipt-clause-stops g c =
@@ -39,7 +39,7 @@ returns-in_err-receipt-clause-stops g c =
     let two = none_lacks _ _ three.0 in
     either_of (read_below g.F.Feed _ _ _ _ c.open-one.ensures.failures (c.lacks_memory.ensures two.0 ∙ ap (λ r. g.F.Feed.failures r.now) (sym c.close-one.ensures.feed) ∙ ap (λ (x : g.row.F.Denot). g.F.Feed.failures x) (search rules))) (either_of (read_below g.G.Feed _ _ _ _ c.open-two.ensures.failures (c.lacks_memory-2.ensures two.1 ∙ ap (λ r. g.G.Feed.failures r.now) (sym c.close-two.ensures.feed) ∙ ap (λ (x : g.row.G.Denot). g.G.Feed.failures x) (search rules))) (read_below g.H.Feed _ _ _ _ c.open-three.ensures.failures (c.lacks_memory-3.ensures three.1 ∙ ap (λ r. g.H.Feed.failures r.now) (sym c.close-three.ensures.feed) ∙ ap (λ (x : g.row.H.Denot). g.H.Feed.failures x) (search rules)))))
     (λ pass is. elim is [ inl before ↦ inl (inr (before.0.0, packed_differ _ _ _ _ c.open-one.ensures.remaining c.open-two.ensures.remaining before.0.1)) | inr after ↦ inr (after.0, packed_differ _ _ _ _ c.open-one.ensures.remaining c.open-three.ensures.remaining after.1) ])
-    c.extract_sorted_with_receipt-outcome.ensures.stops)
+    c.extract_sorted_with_receipt-outcome.ensures.ends.stops)
 
 pub returns-in_err-input-clause-stops : goal.returns-in_err-input-clause-stops
 returns-in_err-input-clause-stops g c =

@@ -20,9 +20,9 @@ pub returns-in_err-judged-clause-ends : goal.returns-in_err-judged-clause-ends
 returns-in_err-judged-clause-ends g c =
     let p = err_from_is_err_and c.from_residual.result c.from_residual.ensures.1 in
     rw (p.1, p.2) (record {
-      refused = halts_first g.F.Feed _ _ _ g.D.Drain _ _ _ (halts_writing g.F.Feed _ _ _ _ c.in_err-judged.ensures.refused);
+      refused = halts_first g.F.Feed _ _ _ g.D.Drain _ _ _ (halts_writing g.F.Feed _ _ _ _ c.in_err-judged.ensures.ends.refused);
       stops = search rules;
-      changed = never_changed _ _ _ _ (stop_of c.in_err-judged.field-0.0) c.in_err-judged.ensures.stops;
+      changed = never_changed _ _ _ _ (stop_of c.in_err-judged.field-0.0) c.in_err-judged.ensures.ends.stops;
       feeds = search rules;
       out = search rules;
     })

@@ -20,11 +20,15 @@ returns-in_err-gather-clause-ends g c =
     let one = c.in_ok-begun.ensures.begun in
     let first = g.F.Feed.remaining c.args.first.now in
     let again : LaterPass = record { number = 2; digest = c.in_ok-begun.begun.digest; passes = c.args.cutting.passes } in
-    rw (p.1, p.2) (record { next = tt; halts = record {
-      refused = no_refusal g.G.Feed again _ _ _ _ c.in_err-gather.ensures.stops;
-      stops = stops_later g.G.Feed c.args.second.now c.gather.new.feed first one.holding.frames (told_says g.F.Feed _ _ _ _ _ one one.holding.judged) again _ (FaultOf (judged_writable first)) _ ⊥ (ChangedIn 2 first (g.G.Feed.remaining c.args.second.now)) _ (told_digest g.F.Feed _ _ _ _ one) refl (λ r. inr r) (λ pass is. is) c.in_err-gather.ensures.stops;
-      changed = changed_later g.F.Feed _ _ g.G.Feed _ _ again _ _ _ _ c.in_err-gather.field-0.0 one one.holding.frames one.holding.judged refl (λ pass is. is) c.in_err-gather.ensures.stops;
-    }; feeds = search rules })
+    rw (p.1, p.2) (record {
+      next = tt;
+      halts = record {
+        refused = no_refusal g.G.Feed again _ _ _ _ c.in_err-gather.ensures.stops;
+        stops = stops_later g.G.Feed c.args.second.now c.gather.new.feed first one.holding.frames (told_says g.F.Feed _ _ _ _ _ one one.holding.judged) again _ (FaultOf (judged_writable first)) _ ⊥ (ChangedIn 2 first (g.G.Feed.remaining c.args.second.now)) _ (told_digest g.F.Feed _ _ _ _ one) refl (λ r. inr r) (λ pass is. is) c.in_err-gather.ensures.stops;
+        changed = changed_later g.F.Feed _ _ g.G.Feed _ _ again _ _ _ _ c.in_err-gather.field-0.0 one one.holding.frames one.holding.judged refl (λ pass is. is) c.in_err-gather.ensures.stops;
+      };
+      feeds = search rules;
+    })
 
 pub returns-clause-chosen : goal.returns-clause-chosen
 returns-clause-chosen g c =

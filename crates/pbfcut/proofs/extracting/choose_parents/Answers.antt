@@ -14,11 +14,15 @@ use Rattle.pbfcut.proofs.extracting.choose_parents.Goals as goal
 pub returns-in_err-choice-clause-ends : goal.returns-in_err-choice-clause-ends
 returns-in_err-choice-clause-ends g c =
     let p = err_from_is_err_and c.from_residual.result c.from_residual.ensures.1 in
-    rw (p.1, p.2) (record { next = tt; halts = record {
-      refused = c.in_err-choice.ensures.ends.halts.refused;
-      stops = search rules;
-      changed = changed_before _ _ (stop_of c.in_err-choice.field-0.0) (λ pass is. inl is) c.in_err-choice.ensures.ends.halts.changed;
-    }; feeds = search rules })
+    rw (p.1, p.2) (record {
+      next = tt;
+      halts = record {
+        refused = c.in_err-choice.ensures.ends.halts.refused;
+        stops = search rules;
+        changed = changed_before _ _ (stop_of c.in_err-choice.field-0.0) (λ pass is. inl is) c.in_err-choice.ensures.ends.halts.changed;
+      };
+      feeds = search rules;
+    })
 
 pub returns-clause-ends : goal.returns-clause-ends
 returns-clause-ends g c =
@@ -28,11 +32,15 @@ returns-clause-ends g c =
     let is = c.in_ok-choice.ensures.ends.next in
     let earlier = ReadFailed g.F.Feed c.args.first.now c.choose.new.first in
     let read = earlier ⊎ (ReadFailed g.G.Feed c.args.second.now c.choose.new.second ⊎ ReadFailed g.H.Feed c.args.third.now c.with_parents.new.feed) in
-    record { next = search rules; halts = IfErr-weaker c.with_parents.result _ _ (λ h stops. record {
-      refused = later_halts g.H.Feed _ _ _ _ _ h stops;
-      stops = relations_stop g.H.Feed c.args.third.now c.with_parents.new.feed (g.F.Feed.remaining c.args.first.now) choice.frames (told_says g.F.Feed _ _ _ _ _ one choice.judged) c.args.cutting.passes next read ⊥ (stop_of h) (told_digest g.F.Feed _ _ _ _ one) (λ r. inr (inr r)) (g.G.Feed.remaining c.args.second.now) is stops;
-      changed = changed_later g.F.Feed _ _ g.H.Feed _ _ next _ _ _ _ (stop_of h) one choice.frames choice.judged (ap (λ (p : Passes). digest_if p.hashes next.digest) is.1) (λ pass at. inr (at.0 ∙ is.0, at.1)) stops;
-    }) c.with_parents.ensures.stops; feeds = search rules }
+    record {
+      next = search rules;
+      halts = IfErr-weaker c.with_parents.result _ _ (λ h stops. record {
+        refused = later_halts g.H.Feed _ _ _ _ _ h stops;
+        stops = relations_stop g.H.Feed c.args.third.now c.with_parents.new.feed (g.F.Feed.remaining c.args.first.now) choice.frames (told_says g.F.Feed _ _ _ _ _ one choice.judged) c.args.cutting.passes next read ⊥ (stop_of h) (told_digest g.F.Feed _ _ _ _ one) (λ r. inr (inr r)) (g.G.Feed.remaining c.args.second.now) is stops;
+        changed = changed_later g.F.Feed _ _ g.H.Feed _ _ next _ _ _ _ (stop_of h) one choice.frames choice.judged (ap (λ (p : Passes). digest_if p.hashes next.digest) is.1) (λ pass at. inr (at.0 ∙ is.0, at.1)) stops;
+      }) c.with_parents.ensures.stops;
+      feeds = search rules;
+    }
 
 pub returns-clause-chosen : goal.returns-clause-chosen
 returns-clause-chosen g c =

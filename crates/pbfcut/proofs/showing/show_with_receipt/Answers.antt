@@ -16,7 +16,7 @@ returns-in_err-judged-clause-ends g c =
     rw (p.1, p.2) (record {
       refused = search rules;
       stops = search rules;
-      changed = never_changed _ _ _ _ (stop_of c.in_err-judged.field-0.0) c.in_err-judged.ensures.stops;
+      changed = never_changed _ _ _ _ (stop_of c.in_err-judged.field-0.0) c.in_err-judged.ensures.ends.stops;
       feeds = search rules;
       out = search rules;
     })

@@ -1,4 +1,4 @@
-use Rattle.std.proofs.Common.{refl, rules}
+use Rattle.std.proofs.Common.{refl}
 use Rattle.std.proofs.lemmas.Result.{err_from_is_err_and}
 use Rattle.pbfcut.specs.Pick.{pick_of}
 use Rattle.pbfcut.proofs.extracting.Choice.write.Goals as goal

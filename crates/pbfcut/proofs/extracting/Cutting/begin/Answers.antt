@@ -11,7 +11,7 @@ use Rattle.pbfcut.proofs.extracting.Cutting.begin.Goals as goal
 pub returns-in_err-judged-clause-halts : goal.returns-in_err-judged-clause-halts
 returns-in_err-judged-clause-halts g c =
     let p = err_from_is_err_and c.from_residual.result c.from_residual.ensures.1 in
-    rw (p.1, p.2) (record { refused = halts_writing g.F.Feed _ _ _ _ c.in_err-judged.ensures.refused; stops = search rules })
+    rw (p.1, p.2) (record { refused = halts_writing g.F.Feed _ _ _ _ c.in_err-judged.ensures.ends.refused; stops = search rules })
 
 pub returns-in_err-writable_header-clause-halts : goal.returns-in_err-writable_header-clause-halts
 returns-in_err-writable_header-clause-halts g c =

@@ -60,15 +60,15 @@ returns-in_err-finish g c =
     rw (p.1, p.2) (record {
       packed = tt;
       beginning =
-          let end = end_front g.D.Drain _ w.frames.es c.pass_over-outcome.new.visitor.packer.now c.finish.new.self w.frames.packed (c.in_err-finish.ensures.front c.in_ok-input.ensures.ready.1) in
+          let end = end_front g.D.Drain _ w.frames.es c.pass_over-outcome.new.visitor.packer.now c.finish.new.self w.frames.packed (c.in_err-finish.ensures.front c.in_ok-input.ensures.visitor.ready.1) in
           let said = front_told pick h (g.F.Feed.remaining c.args.feed.now) given.file (g.D.Drain.taken c.args.packer.now.drain) (g.D.Drain.taken c.finish.new.self.drain) (tells_file g.F.Feed _ _ _ _ given)
           (λ frames is. behind_header h _ _ _ (filter pick (stored_entities frames)) (c.in_ok-put_header.ensures.written c.requires.fresh.packing).told (last_front g.D.Drain pick _ all.frames frames _ _ _ w.frames end (sym (ap fully_known all.says) ∙ is))) in
           search (rules, said);
-      faulty = faulty_never g.F.Feed _ _ _ _ _ (c.in_err-finish.ensures.uses.stops c.in_ok-input.ensures.ready.1);
+      faulty = faulty_never g.F.Feed _ _ _ _ _ (c.in_err-finish.ensures.uses.stops c.in_ok-input.ensures.visitor.ready.1);
       stops =
           let counts : g.D.Drain.failures c.args.packer.now.drain ≤ g.D.Drain.failures c.pass_over-outcome.new.visitor.packer.now.drain = omega (arith, c.put_header.ensures.uses.keeps.counts, w.drain_counts) in
           let read = ReadFailed g.F.Feed c.args.feed.now c.pass_over-outcome.new.feed in
-          let said : StopsUnjudged c.args.self.pass.number (judged_file (g.F.Feed.remaining c.args.feed.now)) read (WriteFailed g.D.Drain c.args.packer.now.drain c.finish.new.self.drain) c.in_err-finish.field-0.0 = stops_last c.args.self.pass.number _ _ _ (judged_file (g.F.Feed.remaining c.args.feed.now)) read _ counts (c.in_err-finish.ensures.uses.stops c.in_ok-input.ensures.ready.1) in
+          let said : StopsUnjudged c.args.self.pass.number (judged_file (g.F.Feed.remaining c.args.feed.now)) read (WriteFailed g.D.Drain c.args.packer.now.drain c.finish.new.self.drain) c.in_err-finish.field-0.0 = stops_last c.args.self.pass.number _ _ _ (judged_file (g.F.Feed.remaining c.args.feed.now)) read _ counts (c.in_err-finish.ensures.uses.stops c.in_ok-input.ensures.visitor.ready.1) in
           search (rules, said);
       keeps = search rules;
       out =
