@@ -113,7 +113,7 @@ impl Likeness {
                 (
                     MemberKind::Node,
                     view.scale(),
-                    PresentFields::of(&view.meta()),
+                    PresentFields::of(&view.meta),
                 )
             }
             EntityView::Way(view) => (MemberKind::Way, view.scale(), PresentFields::none()),
