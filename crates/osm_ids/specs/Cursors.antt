@@ -1,7 +1,7 @@
 -- How far a page is read, and which ids can be looked up from there.
 use Rattle.std.specs.Prelude.{◌≡◌, ℕ, ◌⊎◌, ◌<◌, ◌≤◌, List, ◌∷◌, length, drop, get_or, ℤ, ◌<ℤ◌, ◌≤ℤ◌, int_le, nat_lt, Bool, true, false}
 use Rattle.std.specs.List.{list_any}
-use Rattle.std.specs.List.Sorted.{IsPartitionPoint}
+use Rattle.std.specs.List.Sorted.{IsPartitionPoint, IsPartitionedBy}
 use Rattle.std.specs.Ordering.{int_eq, int_cmp}
 use Rattle.std.specs.FinSet as set
 use Rattle.pbf_wire.specs.declared.span.Span.{Span}
@@ -10,7 +10,7 @@ use Rattle.osm_ids.specs.declared.lookup.Known.{Known}
 use Rattle.osm_ids.specs.declared.lookup.Place.{Place}
 use Rattle.osm_ids.specs.declared.page.Cursor.{Cursor}
 use Rattle.osm_ids.specs.declared.pages.PageStart.{PageStart}
-use Rattle.osm_ids.specs.Pages.{page_bytes, Rises, AllFit, ids_in}
+use Rattle.osm_ids.specs.Pages.{Page, page_bytes, Rises, AllFit, IsSealed, ids_in}
 
 -- `passed` is among the ids, and of them each one above it, or at or above `last`, is `last` or one of those that the bytes from here on spell
 pub record IsAt (ids : List ℤ) (page : List ℕ) (cursor : Cursor) : Type 0 where
@@ -21,6 +21,16 @@ pub record IsAt (ids : List ℤ) (page : List ℕ) (cursor : Cursor) : Type 0 wh
   pub behind : list_any (int_eq cursor.passed) ids ≡ true
   pub answer : (id : ℤ) → (cursor.passed <ℤ id) ⊎ (cursor.last ≤ℤ id) → list_any (int_eq id) (cursor.last ∷ rest) ≡ list_any (int_eq id) ids
 
+-- so many pages are begun, one at least, and the index has them
+pub record IsBegun (index : List PageStart) (begun : ℕ) : Type 0 where
+  pub some : 0 < begun
+  pub within : begun ≤ length index
+
+-- in pages that these bytes spell
+pub record BegunIn (index : List PageStart) (bytes : List ℕ) (begun : ℕ) : Type 0 where
+  pub sealed : (pages : List Page) × IsSealed index bytes pages
+  pub begins : IsBegun index begun
+
 -- a byte that is a whole varint
 abbrev pub is_short : ℕ → Bool
 is_short b = nat_lt b 128
@@ -28,6 +38,11 @@ is_short b = nat_lt b 128
 -- so many pages begin at or below the id, and the others above it
 abbrev pub IsPassedAt : List PageStart → ℤ → ℕ → Type 0
 IsPassedAt index id n = IsPartitionPoint (λ (s : PageStart). int_le s.first id ≡ true) (λ (s : PageStart). int_le s.first id ≡ false) index n
+
+-- so many pages of an index begin at or below the id, if the index rises
+pub record CountsPassed (starts : List PageStart) (id : ℤ) (n : ℕ) : Type 0 where
+  pub within : n ≤ length starts
+  pub point : IsPartitionedBy (λ (s : PageStart). int_le s.first id) starts → IsPassedAt starts id n
 
 -- enough is read to know whether the page has the id
 abbrev pub IsReadTo : List ℕ → Cursor → ℤ → Type 0

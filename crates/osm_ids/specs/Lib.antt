@@ -4,3 +4,4 @@ pub mod Walks
 pub mod Merging
 pub mod Links
 pub mod Cursors
+pub mod Looking

@@ -6,7 +6,8 @@ ghost use Rattle.std.specs.List.Sorted.{IsPartitionedBy};
 ghost use Rattle.std.specs.Ordering.{int_eq};
 ghost use Rattle.std.specs.FinSet as set;
 ghost use Rattle.osm_ids.specs.Pages.{Page, IsSealed, ids_in};
-ghost use Rattle.osm_ids.specs.Cursors.{IsAt, IsPassedAt, IsReadTo, IsPlace, Stands, AreKnown, IsKnown, Lacks, BeginFrom};
+ghost use Rattle.osm_ids.specs.Cursors.{IsAt, IsPassedAt, IsReadTo, IsPlace, IsBegun, BegunIn, CountsPassed, Stands, AreKnown, IsKnown, Lacks, BeginFrom};
+ghost use Rattle.osm_ids.specs.Looking.{LooksUp};
 ghost use Rattle.std.specs.Ordering.{int_cmp};
 
 use crate::page::{Cursor, read_up_to, short_step};
@@ -141,8 +142,7 @@ impl<'a> Lookup<'a> {
     /// comparisons, and the next one of a dense set no call.
     #[inline(always)]
     pub fn has(&mut self, id: i64) -> bool
-        ensures found { result ≡ set.contains self.old id }
-        ensures same { self.new ≡ self.old }
+        ensures { LooksUp (set.contains self.old id) self.old self.new result }
     {
         if is_within(self.here.known, id) {
             return self.here.known.there;
@@ -157,8 +157,7 @@ impl<'a> Lookup<'a> {
     /// Whether the set has the id, looked up from the place whose page it is in, if it is one of the two.
     #[inline(never)]
     fn find(&mut self, id: i64) -> bool
-        ensures found { result ≡ set.contains self.old id }
-        ensures same { self.new ≡ self.old }
+        ensures { LooksUp (set.contains self.old id) self.old self.new result }
     {
         self.turn_to(id);
         self.find_here(id)
@@ -178,8 +177,7 @@ impl<'a> Lookup<'a> {
     /// Whether the set has the id. It stays at the id, and where the set lacks it at the next one, so that a greater id is read
     /// from there on.
     fn find_here(&mut self, id: i64) -> bool
-        ensures found { result ≡ set.contains self.old id }
-        ensures same { self.new ≡ self.old }
+        ensures { LooksUp (set.contains self.old id) self.old self.new result }
     {
         if is_within(self.here.known, id) {
             return self.here.known.there;
@@ -268,8 +266,7 @@ fn known_first(index: &[PageStart]) -> Known
 
 /// The ids of a page, if the next page begins 128 above its first: it has 128, so the set has all between. None is read then.
 fn known_whole(index: &[PageStart], begun: usize) -> Option<Known>
-    requires some { 0 < begun }
-    requires within { begun ≤ length index.now }
+    requires { IsBegun index.now begun }
     ensures known { (bytes : List ℕ) (pages : List Page) → IsSealed index.now bytes pages
         → IfSome result (λ known. AreKnown index.now bytes known) }
     ensures there { (bytes : List ℕ) (pages : List Page) (id : ℤ)
@@ -319,9 +316,7 @@ fn first_of(start: PageStart) -> Cursor
 
 /// Where the page before a place of the index begins to be read.
 fn first_place<'a>(index: &[PageStart], bytes: &'a [u8], begun: usize) -> Place<'a>
-    requires sealed { (pages : List Page) × IsSealed index.now bytes.now pages }
-    requires some { 0 < begun }
-    requires within { begun ≤ length index.now }
+    requires { BegunIn index.now bytes.now begun }
     ensures begun { result.begun ≡ begun }
     ensures place { IsPlace index.now bytes.now result }
     ensures first { (start : PageStart) → start ≡ get_or index.now (begun - 1) start
@@ -337,9 +332,7 @@ fn first_place<'a>(index: &[PageStart], bytes: &'a [u8], begun: usize) -> Place<
 
 /// The bytes of the page before a place of the index.
 fn page_before<'a>(index: &[PageStart], bytes: &'a [u8], begun: usize) -> &'a [u8]
-    requires sealed { (pages : List Page) × IsSealed index.now bytes.now pages }
-    requires some { 0 < begun }
-    requires within { begun ≤ length index.now }
+    requires { BegunIn index.now bytes.now begun }
     ensures { (start : PageStart) → start ≡ get_or index.now (begun - 1) start
         → Stands index.now bytes.now begun result.now
         (record { passed = start.first; last = start.first; at = 0 }) }
@@ -363,9 +356,7 @@ fn part(bytes: &[u8], from: usize, to: usize) -> &[u8]
 
 /// How many pages begin at or below the id. It is tried first whether they are as many as `near`, or one more.
 fn starts_near(starts: &[PageStart], near: usize, id: i64) -> usize
-    ensures within { result ≤ length starts.now }
-    ensures point { IsPartitionedBy (λ (s : PageStart). int_le s.first id) starts.now
-        → IsPassedAt starts.now id result }
+    ensures { CountsPassed starts.now id result }
 {
     if are_begun(starts, near, id) {
         return near;
@@ -397,9 +388,7 @@ fn begins_up_to(start: &PageStart, id: i64) -> bool
 
 /// How many pages begin at or below the id.
 fn starts_up_to(starts: &[PageStart], id: i64) -> usize
-    ensures within { result ≤ length starts.now }
-    ensures point { IsPartitionedBy (λ (s : PageStart). int_le s.first id) starts.now
-        → IsPassedAt starts.now id result }
+    ensures { CountsPassed starts.now id result }
 {
     starts.partition_point(|start| begins_up_to(start, id))
 }

@@ -4,6 +4,7 @@ ghost use Rattle.std.specs.Prelude.{◌≡◌};
 ghost use Rattle.std.specs.FinSet as set;
 ghost use Rattle.std.specs.Ordering.{int_cmp};
 ghost use Rattle.osm_ids.specs.Cursors.{IsKnown, Lacks};
+ghost use Rattle.osm_ids.specs.Looking.{LooksUp};
 
 use crate::lookup::{Known, Lookup};
 use pbf_wire::{EMPTY_SPAN, Span};
@@ -17,8 +18,7 @@ pub trait IdLookup {
 
     /// Whether the id is among them, in a set that may grow ([`OpenLookup`]) or a sealed one ([`Lookup`]). They stay the same.
     fn has(&mut self, id: i64) -> bool
-        ensures found { result ≡ set.contains (ids self.old) id }
-        ensures same { self.new ≡ self.old };
+        ensures { LooksUp (set.contains (ids self.old) id) self.old self.new result };
 
     /// Ids that aren't among them, as far as the last look-up showed: none if it showed nothing.
     fn absent(&self) -> Span

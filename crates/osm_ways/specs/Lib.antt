@@ -3,4 +3,3 @@ pub mod Parents
 pub mod Phases
 pub mod First
 pub mod Seen
-pub mod Looking

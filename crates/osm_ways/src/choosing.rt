@@ -5,7 +5,7 @@ ghost use Rattle.std.specs.FinSet as set;
 ghost use Rattle.osm_entity.specs.Sources.{lent_member, refs_left};
 ghost use Rattle.osm_entity.specs.Views.{way_of, relation_of};
 ghost use Rattle.osm_ids.specs.Cursors.{Lacks};
-ghost use Rattle.osm_ways.specs.Looking.{LooksUp};
+ghost use Rattle.osm_ids.specs.Looking.{LooksUp};
 ghost use Rattle.osm_ways.specs.Selection.{is_selecting, is_kept_way};
 ghost use Rattle.osm_ways.specs.Seen.{seen_way, seen_member, seen_relation};
 ghost use Rattle.osm_ways.specs.Phases.{is_chosen, ids_or_none};

@@ -6,7 +6,7 @@ ghost use Rattle.std.specs.FinSet as set;
 ghost use Rattle.osm_entity.specs.Sources.{refs_left};
 ghost use Rattle.osm_entity.specs.Views.{node_of, way_of};
 ghost use Rattle.osm_box.specs.BoundingBox.{is_inside};
-ghost use Rattle.osm_ways.specs.Looking.{LooksUp};
+ghost use Rattle.osm_ids.specs.Looking.{LooksUp};
 ghost use Rattle.osm_ways.specs.Selection.{is_kept_way, a_node};
 ghost use Rattle.osm_ways.specs.Seen.{seen_node, seen_way, seen_refs};
 ghost use Rattle.osm_ways.specs.Phases.{TakesNode, start_nodes, start_ways, way_step, sets_of, without_parents};

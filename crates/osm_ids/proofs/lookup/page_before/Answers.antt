@@ -14,7 +14,7 @@ part-requires c =
       | then-begun-index w ↦ inl (_, w.if-begun-index.true, get_or_default index begun _ _ w.if-begun-index.true, w.end-is)
       | else-begun-index w ↦ inr (w.if-begun-index.false, w.end-is)
     ] in
-    let there = looked_before index c.args.bytes.now _ begun _ end c.requires.sealed.1 c.requires.some c.requires.within (get_or_default index (begun - 1) _ _ (omega (arith, c.requires.some, c.requires.within))) ends in
+    let there = looked_before index c.args.bytes.now _ begun _ end c.requires.sealed.1 c.requires.begins.some c.requires.begins.within (get_or_default index (begun - 1) _ _ (omega (arith, c.requires.begins.some, c.requires.begins.within))) ends in
     record { ordered = there.ordered; within = there.within }
 
 pub returns : goal.returns
@@ -26,5 +26,5 @@ returns c = λ start is.
       | then-begun-index w ↦ inl (_, w.if-begun-index.true, get_or_default index begun _ _ w.if-begun-index.true, w.end-is)
       | else-begun-index w ↦ inr (w.if-begun-index.false, w.end-is)
     ] in
-    let there = looked_before index c.args.bytes.now _ begun start end c.requires.sealed.1 c.requires.some c.requires.within is ends in
-    stands index c.args.bytes.now begun start end c.part.result.now there (c.part.ensures ∙ ap (λ (s : PageStart). take (end - s.place) (drop s.place c.args.bytes.now)) (get_or_default index (begun - 1) _ start (omega (arith, c.requires.some, c.requires.within)) ∙ sym is))
+    let there = looked_before index c.args.bytes.now _ begun start end c.requires.sealed.1 c.requires.begins.some c.requires.begins.within is ends in
+    stands index c.args.bytes.now begun start end c.part.result.now there (c.part.ensures ∙ ap (λ (s : PageStart). take (end - s.place) (drop s.place c.args.bytes.now)) (get_or_default index (begun - 1) _ start (omega (arith, c.requires.begins.some, c.requires.begins.within)) ∙ sym is))

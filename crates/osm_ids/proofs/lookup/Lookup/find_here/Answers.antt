@@ -13,42 +13,51 @@ use Rattle.osm_ids.proofs.Places.{IsChosen, chosen_first, chosen_still}
 use Rattle.osm_ids.proofs.lookup.Lookup.find_here.Goals as goal
 use Rattle.osm_ids.proofs.lookup.Lookup.find_here.Goals.{then-begun-self+then-is_ahead, else-begun-self}
 
-pub returns-then-is_within-clause-found : goal.returns-then-is_within-clause-found
-returns-then-is_within-clause-found c =
+pub returns-then-is_within : goal.returns-then-is_within
+returns-then-is_within c =
     let id = c.args.id in
     let known = c.self.inside.here.known in
     let within = c.if-is_within.ensures refl in
     let same = to_z-of_z w64 id c.ranges.id in
-    sym (c.self.invariant.1.known id (subst (λ z. known.span.above <ℤ z) same within.0) (subst (λ z. z <ℤ known.span.below) same within.1))
-    ∙ sym (contains-ids_of (ids_in c.self.inside.index.now c.self.inside.bytes.now) id)
-    ∙ ap (λ s. set.contains s id) c.self.view_is
+    record {
+      found = sym (c.self.invariant.1.known id (subst (λ z. known.span.above <ℤ z) same within.0) (subst (λ z. z <ℤ known.span.below) same within.1))
+      ∙ sym (contains-ids_of (ids_in c.self.inside.index.now c.self.inside.bytes.now) id)
+      ∙ ap (λ s. set.contains s id) c.self.view_is;
+      same = search rules;
+    }
 
-pub returns-then-begun-eq0-clause-found : goal.returns-then-begun-eq0-clause-found
-returns-then-begun-eq0-clause-found c =
+pub returns-then-begun-eq0 : goal.returns-then-begun-eq0
+returns-then-begun-eq0 c =
     let index = c.self.inside.index.now in
     let bytes = c.self.inside.bytes.now in
     let sealed = c.self.invariant.0.1 in
     let id = c.args.id in
     let point : IsPassedAt index id c.starts_near-begun.result = passed index bytes _ id _ _ sealed (to_z-of_z w64 id c.ranges.id) c.starts_near-begun.ensures.point in
-    sym (none_at_all index bytes _ id _ sealed point c.if-begun-eq0.true)
-    ∙ sym (contains-ids_of (ids_in index bytes) id)
-    ∙ ap (λ s. set.contains s id) c.self.view_is
+    record {
+      found = sym (none_at_all index bytes _ id _ sealed point c.if-begun-eq0.true)
+      ∙ sym (contains-ids_of (ids_in index bytes) id)
+      ∙ ap (λ s. set.contains s id) c.self.view_is;
+      same = search rules;
+    }
 
 pub invariant_of-self : goal.invariant_of-self
 invariant_of-self c =
     let place = c.self.invariant.1 in
     (c.self.invariant.0, record { within = place.within; stands = place.stands; known = c.known_first-self-inside.ensures c.self.inside.bytes.now _ c.self.invariant.0.1; some = place.some }, c.self.invariant.2)
 
-pub returns-in-Some-clause-found : goal.returns-in-Some-clause-found
-returns-in-Some-clause-found c =
+pub returns-in-Some : goal.returns-in-Some
+returns-in-Some c =
     let index = c.self.inside.index.now in
     let bytes = c.self.inside.bytes.now in
     let sealed = c.self.invariant.0.1 in
     let id = c.args.id in
     let point : IsPassedAt index id c.starts_near-begun.result = passed index bytes _ id _ _ sealed (to_z-of_z w64 id c.ranges.id) c.starts_near-begun.ensures.point in
-    sym (c.in-Some.ensures.there bytes _ id sealed point)
-    ∙ sym (contains-ids_of (ids_in index bytes) id)
-    ∙ ap (λ s. set.contains s id) c.self.view_is
+    record {
+      found = sym (c.in-Some.ensures.there bytes _ id sealed point)
+      ∙ sym (contains-ids_of (ids_in index bytes) id)
+      ∙ ap (λ s. set.contains s id) c.self.view_is;
+      same = search rules;
+    }
 
 pub invariant_of-self-in-Some : goal.invariant_of-self-in-Some
 invariant_of-self-in-Some c =
@@ -68,8 +77,8 @@ invariant_of-self-in-Some c =
     ] in
     (c.self.invariant.0, record { within = chosen.held.within; stands = chosen.held.stands; known = c.in-Some.ensures.known bytes _ c.self.invariant.0.1; some = chosen.held.some }, c.self.invariant.2)
 
-pub returns-clause-found : goal.returns-clause-found
-returns-clause-found c =
+pub returns : goal.returns
+returns c =
     let index = c.self.inside.index.now in
     let bytes = c.self.inside.bytes.now in
     let id = c.args.id in
@@ -87,11 +96,14 @@ returns-clause-found c =
           subst (λ p. IsChosen index bytes begun p id) (sym w.place-is) (chosen_first index bytes begun w.first_place-place.result id some le point w.first_place-place.ensures.begun w.first_place-place.ensures.place w.first_place-place.ensures.first)
     ] in
     let fits : SFits w64 last = search rules in
-    same_bits (of_z w64 last) id (omega (arith, Fits-of_z fits)) c.ranges.id
-    ∙ ap (λ z. int_eq id z) (to_z-of_z w64 last fits)
-    ∙ found_in_set index bytes begun place.page.now place.cursor id _ last chosen.reads point same c.read_up_to-cursor.ensures.found
-    ∙ sym (contains-ids_of (ids_in index bytes) id)
-    ∙ ap (λ s. set.contains s id) c.self.view_is
+    record {
+      found = same_bits (of_z w64 last) id (omega (arith, Fits-of_z fits)) c.ranges.id
+      ∙ ap (λ z. int_eq id z) (to_z-of_z w64 last fits)
+      ∙ found_in_set index bytes begun place.page.now place.cursor id _ last chosen.reads point same c.read_up_to-cursor.ensures.found
+      ∙ sym (contains-ids_of (ids_in index bytes) id)
+      ∙ ap (λ s. set.contains s id) c.self.view_is;
+      same = search rules;
+    }
 
 pub invariant_of-self-2 : goal.invariant_of-self-2
 invariant_of-self-2 c =

@@ -1,4 +1,4 @@
--- What is looked up of a choice, one entity after another.
+-- What a look-up returns, of a set of ids or of what was chosen by one.
 use Rattle.std.specs.Prelude.{◌≡◌}
 
 -- it returns this, and changes nothing that counts
