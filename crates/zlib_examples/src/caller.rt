@@ -1,6 +1,6 @@
 //! A caller of the crate, which its README shows.
 
-ghost use Rattle.std.specs.Prelude.{◌≡◌, ◌++◌, List, ℕ, Ok, IfOk};
+ghost use Rattle.std.specs.Prelude.{◌≡◌, Ok, IfOk};
 ghost use Rattle.zlib.specs.Stream.{inflated};
 
 use std::alloc::Global;
