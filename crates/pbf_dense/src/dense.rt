@@ -10,6 +10,7 @@ use crate::dense_nodes::{ID, KEYS_VALS, LAT, LON};
 use crate::entries::next_number;
 use crate::info::InfoColumns;
 use crate::places::Places;
+use crate::user_texts::UserTexts;
 use crate::within::IdsWithin;
 use osm_entity::{BoundingBox, MetaRef, NodeRef, OwnedTags, RunTags, STORED_LIMIT, Scale, Tags};
 use pbf_strings::Table;
@@ -138,7 +139,7 @@ pub struct Dense<'a> {
     lons: Sums<'a>,
     info: InfoColumns<'a>,
     keys_vals: Column<'a>,
-    table: &'a Table<'a>,
+    texts: UserTexts<'a>,
     scale: Scale,
 }
 
@@ -166,7 +167,7 @@ impl<'a> Dense<'a> {
             lons: Sums::new(message.column(LON), STORED_LIMIT),
             info: InfoColumns::last_in(message),
             keys_vals: message.column(KEYS_VALS),
-            table,
+            texts: UserTexts::new(table),
             scale,
         }
     }
@@ -265,8 +266,8 @@ impl<'a> Dense<'a> {
         node.lat = lat;
         node.lon = lon;
         node.scale = self.scale;
-        self.info.take_in(self.table, &mut node.meta);
-        take_tags(&mut self.keys_vals, self.table, &mut node.tags);
+        self.info.take_in(&mut self.texts, &mut node.meta);
+        take_tags(&mut self.keys_vals, self.texts.table, &mut node.tags);
     }
 
     /// How many nodes there are in a dense message without a wire fault: as many as ids. No number is decoded, and no other
