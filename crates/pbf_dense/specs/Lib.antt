@@ -1,5 +1,6 @@
 pub mod Info
 pub mod Runs
+pub mod Taking
 pub mod Nodes
 pub mod Cursors
 pub mod Judged

@@ -3,13 +3,15 @@
 ghost use Rattle.std.specs.Prelude.{◌≡◌, [], ⊤, MatchOption, map};
 ghost use Rattle.std.specs.Option.{IsSome};
 ghost use Rattle.pbf_wire.specs.Cursors.{numbers_left};
-ghost use Rattle.osm_entity.specs.Sources.{low_32, run_tags, tags_left};
-ghost use Rattle.pbf_dense.specs.Runs.{after_run, after_runs};
+ghost use Rattle.osm_entity.specs.Sources.{low_32, tags_left};
+ghost use Rattle.pbf_dense.specs.Runs.{after_runs};
+ghost use Rattle.pbf_dense.specs.Taking.{PassesRun, TakesTags};
 
 use crate::dense_nodes::{ID, KEYS_VALS, LAT, LON};
 use crate::entries::next_number;
 use crate::info::InfoColumns;
 use crate::places::Places;
+use crate::user_texts::UserTexts;
 use crate::within::IdsWithin;
 use osm_entity::{BoundingBox, MetaRef, NodeRef, OwnedTags, RunTags, STORED_LIMIT, Scale, Tags};
 use pbf_strings::Table;
@@ -18,8 +20,7 @@ use pbf_wire::{Column, Message, Sums, column_count, low_u32};
 /// Moves past the next 0 in key place.
 #[tactic(auto, using(crate::proofs::MovingLemmas::run_steps))]
 fn skip_run(numbers: &mut Column<'_>)
-    ensures { map low_32 (numbers_left numbers.new)
-        ≡ after_run (map low_32 (numbers_left numbers.old)) }
+    ensures { PassesRun numbers.old numbers.new }
 {
     'tags: while let Some(key) = next_number(numbers) {
         if low_u32(key) == 0 {
@@ -34,8 +35,7 @@ fn skip_run(numbers: &mut Column<'_>)
 #[inline(always)]
 #[tactic(auto, using(crate::proofs::MovingLemmas::run_steps))]
 fn pass_run(numbers: &mut Column<'_>)
-    ensures { map low_32 (numbers_left numbers.new)
-        ≡ after_run (map low_32 (numbers_left numbers.old)) }
+    ensures { PassesRun numbers.old numbers.new }
 {
     if numbers.pass_zero() {
         return;
@@ -74,9 +74,7 @@ fn clear_tags(tags: &mut Tags<'_>)
 /// Puts the tags of the next node in this place, and skips its run. It is a call for the same reason.
 #[inline(never)]
 fn take_run<'a>(numbers: &mut Column<'a>, table: &'a Table<'a>, tags: &mut Tags<'a>)
-    ensures tags { tags_left tags.new ≡ run_tags table.now (numbers_left numbers.old) }
-    ensures rest { map low_32 (numbers_left numbers.new)
-        ≡ after_run (map low_32 (numbers_left numbers.old)) }
+    ensures { TakesTags table.now numbers.old numbers.new tags.new }
 {
     let run = RunTags::new(*numbers, table);
     match next_number(numbers) {
@@ -92,9 +90,7 @@ fn take_run<'a>(numbers: &mut Column<'a>, table: &'a Table<'a>, tags: &mut Tags<
 /// Like [`take_run`], and quick if there is no tag, as of most nodes, and there was none in the place before.
 #[inline(always)]
 fn take_tags<'a>(numbers: &mut Column<'a>, table: &'a Table<'a>, tags: &mut Tags<'a>)
-    ensures tags { tags_left tags.new ≡ run_tags table.now (numbers_left numbers.old) }
-    ensures rest { map low_32 (numbers_left numbers.new)
-        ≡ after_run (map low_32 (numbers_left numbers.old)) }
+    ensures { TakesTags table.now numbers.old numbers.new tags.new }
 {
     if !numbers.pass_zero() {
         take_run(numbers, table, tags);
@@ -138,7 +134,7 @@ pub struct Dense<'a> {
     lons: Sums<'a>,
     info: InfoColumns<'a>,
     keys_vals: Column<'a>,
-    table: &'a Table<'a>,
+    texts: UserTexts<'a>,
     scale: Scale,
 }
 
@@ -166,7 +162,7 @@ impl<'a> Dense<'a> {
             lons: Sums::new(message.column(LON), STORED_LIMIT),
             info: InfoColumns::last_in(message),
             keys_vals: message.column(KEYS_VALS),
-            table,
+            texts: UserTexts::new(table),
             scale,
         }
     }
@@ -265,8 +261,8 @@ impl<'a> Dense<'a> {
         node.lat = lat;
         node.lon = lon;
         node.scale = self.scale;
-        self.info.take_in(self.table, &mut node.meta);
-        take_tags(&mut self.keys_vals, self.table, &mut node.tags);
+        self.info.take_in(&mut self.texts, &mut node.meta);
+        take_tags(&mut self.keys_vals, self.texts.table, &mut node.tags);
     }
 
     /// How many nodes there are in a dense message without a wire fault: as many as ids. No number is decoded, and no other

@@ -5,25 +5,13 @@ ghost use Rattle.std.specs.Option.{option_map};
 ghost use Rattle.std.specs.List.{list_all};
 ghost use Rattle.pbf_wire.specs.Signed.{is_within};
 ghost use Rattle.pbf_wire.specs.Cursors.{sums_left};
-ghost use Rattle.pbf_dense.specs.Info.{user_text};
 
 use crate::dense_info::{CHANGESET, TIMESTAMP, UID, USER_SID, VERSION, VISIBLE};
 use crate::dense_nodes::DENSEINFO;
 use crate::entries::{next_number, next_sum, pass_numbers};
+use crate::user_texts::UserTexts;
 use osm_entity::{MetaRef, STORED_LIMIT, UID_LIMIT};
-use pbf_strings::Table;
 use pbf_wire::{Column, Field, Message, Payload, Sums, last_field, low_i32};
-
-/// The text of an index, if there is one; the empty text if it is negative or the table has none.
-fn user_text<'a>(table: &'a Table<'a>, index: Option<i64>) -> Option<&'a [u8]>
-    ensures { option_map (λ text. text.now) result ≡ option_map (user_text table.now) index }
-{
-    let index = index?;
-    if index < 0 {
-        return Some(&[]);
-    }
-    Some(table.text(index as usize))
-}
 
 /// The next value of a column of uids.
 #[inline(always)]
@@ -95,15 +83,16 @@ impl<'a> InfoColumns<'a> {
 
     /// Puts the metadata of the next node in this place.
     #[inline(always)]
-    pub(crate) fn take_in(&mut self, table: &'a Table<'a>, meta: &mut MetaRef<'a>)
-        ensures meta { meta_of meta.new ≡ meta_at table.now (info_left self.old) 0 }
+    pub(crate) fn take_in(&mut self, texts: &mut UserTexts<'a>, meta: &mut MetaRef<'a>)
+        ensures meta { meta_of meta.new ≡ meta_at texts.old.table.now (info_left self.old) 0 }
+        ensures table { texts.new.table ≡ texts.old.table }
         ensures rest { info_left self.new ≡ info_rest (info_left self.old) }
     {
         meta.version = next_number(&mut self.versions).map(|number| low_i32(number));
         meta.timestamp = next_sum(&mut self.timestamps);
         meta.changeset = next_sum(&mut self.changesets);
         meta.uid = next_uid(&mut self.uids);
-        meta.user = user_text(table, next_sum(&mut self.users));
+        meta.user = texts.text(next_sum(&mut self.users));
         meta.visible = next_number(&mut self.visible).map(|number| number != 0);
     }
 

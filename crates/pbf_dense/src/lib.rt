@@ -12,6 +12,7 @@ mod judge;
 pub mod laws;
 mod phase;
 mod places;
+mod user_texts;
 mod within;
 
 pub use dense::Dense;

@@ -12,6 +12,7 @@ pub mod Wire
 pub mod Signed
 pub mod Sums
 pub mod Spans
+pub mod Passing
 pub mod Packed
 pub mod Writing
 pub mod Message

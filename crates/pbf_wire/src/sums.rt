@@ -61,6 +61,7 @@ impl<'a> Sums<'a> {
     ghost use Rattle.pbf_wire.specs.Signed.{unzigzag, low_sint32};
     ghost use Rattle.pbf_wire.specs.Sums.{sums_within};
     ghost use Rattle.pbf_wire.specs.Cursors.{numbers_left, sums_left};
+    ghost use Rattle.pbf_wire.specs.Passing.{PassesSome};
     ghost use Rattle.pbf_wire.specs.Spans.{ArePassed};
 
     /// The values of a column of `sint64`.
@@ -160,8 +161,7 @@ impl<'a> Sums<'a> {
     /// Skips values, eight at a time, as long as they are the last one again, and returns how many of `count` are still to be skipped.
     #[inline(always)]
     fn pass_equal(&mut self, count: usize) -> usize
-        ensures passed { drop result (sums_left self.new) ≡ drop count (sums_left self.old) }
-        ensures fewer { result ≤ count }
+        ensures { PassesSome self.old self.new count result }
     {
         let mut left = count;
         'values: while left >= 8 {
@@ -176,8 +176,7 @@ impl<'a> Sums<'a> {
     /// Skips values as long as that is quick, and returns how many of `count` are still to be skipped. They are read from a copy,
     /// which stays in registers.
     fn pass_quick(&mut self, count: usize) -> usize
-        ensures passed { drop result (sums_left self.new) ≡ drop count (sums_left self.old) }
-        ensures fewer { result ≤ count }
+        ensures { PassesSome self.old self.new count result }
     {
         let mut rest = *self;
         let mut left = count;
