@@ -1,6 +1,5 @@
 //! Ids that are looked up one after another, in a set that no longer grows or in one that may still.
 
-ghost use Rattle.std.specs.Prelude.{◌≡◌};
 ghost use Rattle.std.specs.FinSet as set;
 ghost use Rattle.std.specs.Ordering.{int_cmp};
 ghost use Rattle.osm_ids.specs.Cursors.{IsKnown, Lacks};

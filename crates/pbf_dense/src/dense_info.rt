@@ -1,6 +1,6 @@
 //! The rules of a DenseInfo, phase by phase. It has none of weight: the weight of a node counts the text of its user.
 
-ghost use Rattle.std.specs.Prelude.{◌≡◌, ◌≤◌, ◌^◌};
+ghost use Rattle.std.specs.Prelude.{◌≡◌, ◌≤◌};
 ghost use Rattle.pbf_wire.specs.Least.{least};
 ghost use Rattle.pbf_wire.specs.Faults.{found_in};
 ghost use Rattle.pbf_dense.specs.Judged.{goes_with, info_counts, range_faults, dense_info_values};

@@ -1,6 +1,6 @@
 //! The rules of a DenseNodes, phase by phase. Each phase applies those of the DenseInfos in it too.
 
-ghost use Rattle.std.specs.Prelude.{◌≡◌, ◌≤◌, ◌^◌, ℕ, false, map};
+ghost use Rattle.std.specs.Prelude.{◌≡◌, ◌≤◌, ℕ, false, map};
 ghost use Rattle.pbf_wire.specs.Columns.{joined};
 ghost use Rattle.pbf_wire.specs.Cursors.{numbers_left};
 ghost use Rattle.pbf_wire.specs.Least.{least};

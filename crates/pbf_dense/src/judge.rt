@@ -1,6 +1,6 @@
 //! The judgement of a dense message, and its reading if it has no fault.
 
-ghost use Rattle.std.specs.Prelude.{◌≡◌, ◌+◌, ◌≤◌, ◌^◌, length};
+ghost use Rattle.std.specs.Prelude.{◌≡◌, ◌+◌, ◌≤◌, length};
 ghost use Rattle.pbf_wire.specs.Least.{least};
 ghost use Rattle.pbf_wire.specs.Wire.{ok_unless};
 ghost use Rattle.pbf_dense.specs.declared.phase.Phase.TheVariants as phase;

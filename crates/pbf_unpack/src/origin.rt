@@ -1,6 +1,5 @@
 //! From a place in the raw file back to the packed one.
 
-
 use crate::feed::{Origin, UnpackedFeed};
 use crate::reports::Place;
 use pbf_frame::Feed;

@@ -1,6 +1,6 @@
 //! The fields of a message, one after the other.
 
-ghost use Rattle.std.specs.Prelude.{◌≡◌, ◌==◌, ◌+◌, ◌≤◌, ◌<◌, ◌^◌, Ok, IfOk, if◌then◌else◌, length};
+ghost use Rattle.std.specs.Prelude.{◌≡◌, ◌==◌, ◌+◌, ◌≤◌, ◌<◌, Ok, IfOk, if◌then◌else◌, length};
 ghost use Rattle.pbf_wire.specs.Occurrence.{body_at, occurrence_at};
 ghost use Rattle.pbf_wire.specs.Payload.{content, end_of};
 ghost use Rattle.pbf_wire.specs.Fields.{occurrence, seen};

@@ -2,7 +2,7 @@
 //!
 //! A message of which these calls read one field may have a wire fault; its fields before the fault count.
 
-ghost use Rattle.std.specs.Prelude.{◌≡◌, ◌+◌, ◌+ℤ◌, ◌≤◌, ◌^◌, pos, false, [], IsTrue};
+ghost use Rattle.std.specs.Prelude.{◌≡◌, ◌+◌, ◌+ℤ◌, ◌≤◌, pos, false, [], IsTrue};
 ghost use Rattle.std.specs.List.{flat_map};
 ghost use Rattle.pbf_wire.specs.declared.fault.Reason.TheVariants.{StringIndex};
 ghost use Rattle.pbf_wire.specs.Occurrence.{found};

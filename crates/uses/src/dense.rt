@@ -1,6 +1,6 @@
 //! A caller of `pbf_dense`.
 
-ghost use Rattle.std.specs.Prelude.{◌≡◌, ◌+◌, ◌≤◌, ◌^◌, IfOk, length, slice_get};
+ghost use Rattle.std.specs.Prelude.{◌≡◌, ◌+◌, ◌≤◌, IfOk, length, slice_get};
 ghost use Rattle.std.specs.Option.{option_map};
 ghost use Rattle.pbf_dense.specs.Nodes.{nodes};
 ghost use Rattle.pbf_wire.specs.Faults.{fields_in};

@@ -1,6 +1,6 @@
 //! A caller of `pbf_wire`.
 
-ghost use Rattle.std.specs.Prelude.{◌+◌, ◌≤◌, ◌^◌, length};
+ghost use Rattle.std.specs.Prelude.{◌+◌, ◌≤◌, length};
 ghost use Rattle.pbf_wire.specs.declared.limits.TheConstants.{OFFSET_LIMIT};
 
 use pbf_wire::{Column, Fault, Kind, judge_wire};

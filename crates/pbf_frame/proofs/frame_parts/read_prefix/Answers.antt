@@ -13,7 +13,7 @@ returns-then-read-lt4-clause-reads g c =
     record {
       given = search rules;
       refused = rw (c.refused-then-read-lt4.ensures) (at_end _ _ _ _ read _ c.in_ok-read.ensures.supplied.told c.in_ok-read.ensures.supplied.logged (c.in_ok-read.ensures.end (omega (arith, c.if-read-lt4.true)))
-    (prefix_short c.args.start.had_header c.args.start.place read (omega (arith, long, c.if-read-eq0.false)) (omega (arith, long, c.if-read-lt4.true))));
+          (prefix_short c.args.start.had_header c.args.start.place read (omega (arith, long, c.if-read-eq0.false)) (omega (arith, long, c.if-read-lt4.true))));
       uses = search rules;
     }
 
@@ -26,8 +26,8 @@ returns-then-read_u32-ge-HEADER_LIMIT-clause-reads g c =
     record {
       given = search rules;
       refused = rw (c.refused-then-read_u32-ge-HEADER_LIMIT.ensures) (whatever_follows _ _ _ _ prefix _
-    (c.in_ok-read.ensures.supplied.told ∙ ap (λ (l : List ℕ). prepend l (g.F.Feed.remaining c.fill.new.feed)) whole)
-    (subst (λ (l : List ℕ). Passes (g.F.Feed.has_passed c.args.feed.now) l (g.F.Feed.has_passed c.fill.new.feed)) whole c.in_ok-read.ensures.supplied.logged)
-    (λ rest. prefix_large c.args.start.had_header c.args.start.place prefix rest long large));
+          (c.in_ok-read.ensures.supplied.told ∙ ap (λ (l : List ℕ). prepend l (g.F.Feed.remaining c.fill.new.feed)) whole)
+          (subst (λ (l : List ℕ). Passes (g.F.Feed.has_passed c.args.feed.now) l (g.F.Feed.has_passed c.fill.new.feed)) whole c.in_ok-read.ensures.supplied.logged)
+          (λ rest. prefix_large c.args.start.had_header c.args.start.place prefix rest long large));
       uses = search rules;
     }

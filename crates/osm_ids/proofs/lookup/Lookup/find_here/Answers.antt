@@ -21,8 +21,8 @@ returns-then-is_within c =
     let same = to_z-of_z w64 id c.ranges.id in
     record {
       found = sym (c.self.invariant.1.known id (subst (λ z. known.span.above <ℤ z) same within.0) (subst (λ z. z <ℤ known.span.below) same within.1))
-      ∙ sym (contains-ids_of (ids_in c.self.inside.index.now c.self.inside.bytes.now) id)
-      ∙ ap (λ s. set.contains s id) c.self.view_is;
+          ∙ sym (contains-ids_of (ids_in c.self.inside.index.now c.self.inside.bytes.now) id)
+          ∙ ap (λ s. set.contains s id) c.self.view_is;
       same = search rules;
     }
 
@@ -35,8 +35,8 @@ returns-then-begun-eq0 c =
     let point : IsPassedAt index id c.starts_near-begun.result = passed index bytes _ id _ _ sealed (to_z-of_z w64 id c.ranges.id) c.starts_near-begun.ensures.point in
     record {
       found = sym (none_at_all index bytes _ id _ sealed point c.if-begun-eq0.true)
-      ∙ sym (contains-ids_of (ids_in index bytes) id)
-      ∙ ap (λ s. set.contains s id) c.self.view_is;
+          ∙ sym (contains-ids_of (ids_in index bytes) id)
+          ∙ ap (λ s. set.contains s id) c.self.view_is;
       same = search rules;
     }
 
@@ -54,8 +54,8 @@ returns-in-Some c =
     let point : IsPassedAt index id c.starts_near-begun.result = passed index bytes _ id _ _ sealed (to_z-of_z w64 id c.ranges.id) c.starts_near-begun.ensures.point in
     record {
       found = sym (c.in-Some.ensures.there bytes _ id sealed point)
-      ∙ sym (contains-ids_of (ids_in index bytes) id)
-      ∙ ap (λ s. set.contains s id) c.self.view_is;
+          ∙ sym (contains-ids_of (ids_in index bytes) id)
+          ∙ ap (λ s. set.contains s id) c.self.view_is;
       same = search rules;
     }
 
@@ -98,10 +98,10 @@ returns c =
     let fits : SFits w64 last = search rules in
     record {
       found = same_bits (of_z w64 last) id (omega (arith, Fits-of_z fits)) c.ranges.id
-      ∙ ap (λ z. int_eq id z) (to_z-of_z w64 last fits)
-      ∙ found_in_set index bytes begun place.page.now place.cursor id _ last chosen.reads point same c.read_up_to-cursor.ensures.found
-      ∙ sym (contains-ids_of (ids_in index bytes) id)
-      ∙ ap (λ s. set.contains s id) c.self.view_is;
+          ∙ ap (λ z. int_eq id z) (to_z-of_z w64 last fits)
+          ∙ found_in_set index bytes begun place.page.now place.cursor id _ last chosen.reads point same c.read_up_to-cursor.ensures.found
+          ∙ sym (contains-ids_of (ids_in index bytes) id)
+          ∙ ap (λ s. set.contains s id) c.self.view_is;
       same = search rules;
     }
 

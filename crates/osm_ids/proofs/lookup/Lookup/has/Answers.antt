@@ -16,8 +16,8 @@ returns-then-is_within c =
     let same = to_z-of_z w64 id c.ranges.id in
     record {
       found = sym (c.self.invariant.1.known id (subst (λ z. known.span.above <ℤ z) same within.0) (subst (λ z. z <ℤ known.span.below) same within.1))
-      ∙ sym (contains-ids_of (ids_in c.self.inside.index.now c.self.inside.bytes.now) id)
-      ∙ ap (λ s. set.contains s id) c.self.view_is;
+          ∙ sym (contains-ids_of (ids_in c.self.inside.index.now c.self.inside.bytes.now) id)
+          ∙ ap (λ s. set.contains s id) c.self.view_is;
       same = search rules;
     }
 
@@ -30,9 +30,9 @@ returns-in-Some c =
     let there = subst (λ z. list_any (int_eq z) stood.ids ≡ true) same (c.in-Some.ensures.found stood.ids stood.reached) in
     record {
       found = sym there
-      ∙ stood.answer id (stood.inside id there)
-      ∙ sym (contains-ids_of (ids_in c.self.inside.index.now c.self.inside.bytes.now) id)
-      ∙ ap (λ s. set.contains s id) c.self.view_is;
+          ∙ stood.answer id (stood.inside id there)
+          ∙ sym (contains-ids_of (ids_in c.self.inside.index.now c.self.inside.bytes.now) id)
+          ∙ ap (λ s. set.contains s id) c.self.view_is;
       same = search rules;
     }
 
