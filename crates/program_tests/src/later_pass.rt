@@ -9,7 +9,7 @@ use std::hash::{BuildHasherDefault, FoldHasher};
 use std::test::Fail;
 
 /// A frame of one plain node, without its last byte, of the longitude.
-const PLAIN_NODE: [u8; 30] = [
+pub(crate) const PLAIN_NODE: [u8; 30] = [
     0x00, 0x00, 0x00, 0x0b, 0x0a, 0x07, 0x4f, 0x53, 0x4d, 0x44, 0x61, 0x74, 0x61, 0x18, 0x10, 0x0a,
     0x0e, 0x0a, 0x02, 0x0a, 0x00, 0x12, 0x08, 0x0a, 0x06, 0x08, 0x14, 0x40, 0x02, 0x48,
 ];
@@ -22,7 +22,7 @@ const GRANULARITY: [u8; 45] = [
 ];
 
 /// A file of a header and this frame, whose last byte comes apart.
-fn file(alloc: Global, frame: &[u8], last: u8) -> Result<Vec<u8>, AllocError> {
+pub(crate) fn file(alloc: Global, frame: &[u8], last: u8) -> Result<Vec<u8>, AllocError> {
     let mut bytes = Vec::from_slice(alloc, &HEADER_ALONE)?;
     bytes.extend_from_slice(frame)?;
     bytes.push(last)?;

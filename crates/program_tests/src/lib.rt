@@ -10,6 +10,8 @@ mod later_pass;
 #[cfg(test)]
 mod show;
 #[cfg(test)]
+mod sorted;
+#[cfg(test)]
 mod steps;
 #[cfg(test)]
 mod words;
