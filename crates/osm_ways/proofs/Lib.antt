@@ -4,5 +4,6 @@ pub mod Levels
 pub mod ParentLaws
 pub mod Passes
 pub mod Shown
+pub mod Taken
 pub mod Decoding
 pub mod FirstLemmas

@@ -161,7 +161,7 @@ module _ (seen : List Seen) where
   after_nodes : set.contains (node_pass seen) ≡ box_ids seen
   after_nodes = λ i id. (contains-node_pass set.empty seen id ∙ ap (λ b. b || box_ids seen id) (set.contains-empty int_cmp id)) i
 
-  box_ids-after : set.contains (way_pass seen).box_ids ≡ box_ids seen
+  pub box_ids-after : set.contains (way_pass seen).box_ids ≡ box_ids seen
   box_ids-after = ap set.contains (box_ids-way_pass (start_ways (node_pass seen)) seen) ∙ after_nodes
 
   node_ids-after : set.contains (way_pass seen).node_ids ≡ node_ids seen
@@ -169,7 +169,7 @@ module _ (seen : List Seen) where
       (λ i id. node_ids-way_pass (start_ways (node_pass seen)) seen id i)
       ∙ (λ i id. after_nodes i id || list_any (is_kept_ref (after_nodes i) id) seen)
 
-  way_ids-after : set.contains (way_pass seen).way_ids ≡ way_ids seen
+  pub way_ids-after : set.contains (way_pass seen).way_ids ≡ way_ids seen
   way_ids-after =
       (λ i id. (way_ids-way_pass (start_ways (node_pass seen)) seen id ∙ ap (λ b. b || list_any (is_kept_id (set.contains (node_pass seen)) id) seen) (set.contains-empty int_cmp id)) i)
       ∙ (λ i id. list_any (is_kept_id (after_nodes i) id) seen)

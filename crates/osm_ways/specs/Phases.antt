@@ -1,5 +1,5 @@
 -- What the passes do with each entity of a list, and the sets that they gather.
-use Rattle.std.specs.Prelude.{◌≡◌, ℤ, Bool, if◌then◌else◌, List, refl, Option, Some, None, Result, OnOk, OnErr}
+use Rattle.std.specs.Prelude.{◌≡◌, ℤ, Bool, ◌&&◌, if◌then◌else◌, List, refl, Option, Some, None, Result, OnOk, OnErr}
 use Rattle.std.specs.Coded.{Coded, code_by, coded×, coded_ℤ}
 use Rattle.std.specs.List.{fold}
 use Rattle.std.specs.Ordering.{int_cmp}
@@ -132,3 +132,9 @@ relation_pass seen = fold relation_step (start_relations (way_pass seen)) seen
 
 abbrev pub is_chosen : KeptSets → Seen → Bool
 is_chosen sets = is_kept (set.contains sets.ways.box_ids) (set.contains sets.ways.node_ids) (set.contains sets.ways.way_ids) (set.contains sets.relation_ids)
+
+-- the same, but of ways only those whose id the sets have: in the list that they were gathered from these are all that they choose
+abbrev pub is_taken : KeptSets → Seen → Bool
+is_taken sets (a_node id inside) = is_chosen sets (a_node id inside)
+is_taken sets (a_way id refs) = set.contains sets.ways.way_ids id && is_chosen sets (a_way id refs)
+is_taken sets (a_relation id members) = is_chosen sets (a_relation id members)

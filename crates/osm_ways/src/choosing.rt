@@ -7,11 +7,11 @@ ghost use Rattle.osm_entity.specs.Views.{way_of, relation_of};
 ghost use Rattle.osm_ids.specs.Cursors.{Lacks};
 ghost use Rattle.osm_ids.specs.Looking.{LooksUp};
 ghost use Rattle.osm_ways.specs.Selection.{is_selecting, is_kept_way};
-ghost use Rattle.osm_ways.specs.Seen.{seen_way, seen_member, seen_relation};
-ghost use Rattle.osm_ways.specs.Phases.{is_chosen, ids_or_none};
+ghost use Rattle.osm_ways.specs.Seen.{seen_way, seen_refs, seen_member, seen_relation};
+ghost use Rattle.osm_ways.specs.Phases.{is_chosen, is_taken, ids_or_none};
 
 use crate::parents::ChosenParents;
-use crate::phases::{Chosen, is_kept_by};
+use crate::phases::{Chosen, SeenWay, is_kept_by};
 use osm_entity::{MemberKind, MemberRef, Refs, RelationRef, WayRef};
 use osm_ids::Lookup;
 use pbf_wire::Span;
@@ -87,6 +87,15 @@ impl<'a> Chooser<'a> {
             self.old self.new result }
     {
         is_kept_by(&mut self.box_ids, refs)
+    }
+
+    /// Whether the way is kept, in the file that the choice was made from: by its id first, so that of a way whose id was not chosen
+    /// no ref is looked up. Of two ways of one id each is judged by itself.
+    #[inline(always)]
+    pub fn takes_way(&mut self, way: SeenWay<'_>) -> bool
+        ensures { LooksUp (is_taken self.old (seen_refs way.entry)) self.old self.new result }
+    {
+        self.way_ids.has(way.id) && self.keeps_refs(way.refs)
     }
 
     /// Whether the relation is kept: a node or a way among its members is, or a relation, with all parents. Of two relations of one

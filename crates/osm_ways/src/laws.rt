@@ -2,6 +2,7 @@
 //! takes the lemma of that name from this crate's `proofs/`.
 
 ghost use Rattle.std.specs.Prelude.{◌≡◌, true, false, List, map};
+ghost use Rattle.std.specs.List.{filter};
 ghost use Rattle.std.specs.Ordering.{int_cmp};
 ghost use Rattle.std.specs.FinSet as set;
 ghost use Rattle.osm_box.specs.declared.bounding_box.BoundingBox.{BoundingBox};
@@ -11,7 +12,7 @@ ghost use Rattle.osm_ways.specs.Selection.{Seen, node_ids, way_ids, keeps, extra
 ghost use Rattle.osm_ways.specs.Seen.{seen_entity, seen_decoded};
 ghost use Rattle.osm_ways.specs.Parents.{IsLeastSelected, relation_ids, keeps_with_parents, extract_with_parents, links_in, start_in};
 ghost use Rattle.osm_ways.specs.First.{first_pass};
-ghost use Rattle.osm_ways.specs.Phases.{start_ways, node_pass, way_pass, relation_pass, without_parents, is_chosen};
+ghost use Rattle.osm_ways.specs.Phases.{start_ways, node_pass, way_pass, relation_pass, without_parents, is_chosen, is_taken};
 
 /// An extract of an extract is the extract, with and without parents.
 pub fn extract_twice_is_once<X>()
@@ -60,6 +61,15 @@ pub fn passes_are_extract()
         → IsLeast (set.contains (relation_pass seen).links) (relation_pass seen).start ids
         → is_chosen (record { ways = (relation_pass seen).ways; relation_ids = ids })
         ≡ keeps_with_parents seen }
+{}
+
+/// Of the list that the sets were gathered from they take by id and refs what they choose by the refs.
+pub fn taken_are_chosen<X>()
+    ensures { (look : X → Seen) (ids : set.FinSet int_cmp) (xs : List X)
+        → filter (λ x. is_taken (record { ways = way_pass (map look xs); relation_ids = ids })
+        (look x)) xs
+        ≡ filter (λ x. is_chosen (record { ways = way_pass (map look xs); relation_ids = ids })
+        (look x)) xs }
 {}
 
 /// The extract of stored entities is that of decoded ones: the selection sees both alike.

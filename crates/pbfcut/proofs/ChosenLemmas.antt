@@ -26,7 +26,7 @@ use Rattle.pbfcut.specs.declared.extracting.Choice.{Choice as Choosing}
 use Rattle.pbfcut.specs.declared.repeat.LaterPass.{LaterPass}
 use Rattle.pbfcut.specs.Extracting.{Choice, complete_ways, all_parents, AddsParents, IsChoice, IsChoiceWithParents}
 use Rattle.pbfcut.specs.Kept.{IsWritable, extract_of}
-use Rattle.pbfcut.specs.Pick.{picked_by}
+use Rattle.pbfcut.specs.Pick.{taken_by}
 use Rattle.pbfcut.specs.Repeat.{IsPass, StopsLater, digest_of}
 use Rattle.pbfcut.specs.Theorem.{IsExtraction}
 use Rattle.pbfcut.specs.Write.{WritesChoice}
@@ -50,14 +50,14 @@ later_halts f again old new wrote refused (halt.Stopped s) stops = no_refusal f 
 -- what it wrote is the extract of a file, if it wrote from that file, and a prefix of it went out otherwise
 module _ {K D : Type 0} (k : feed.Ghosts K) (last_old last_new : K) (d : drain.Ghosts D) (old new : D) (choose : Choice) (select : List Decoded → List Decoded) (selection : IsSelection choose select) (area : BoundingBox) (edges : EdgesTyped (edges_of area)) (again : LaterPass) (sets : KeptSets) (h : HeaderSpec)
     (r : Result InputReceipt Halt) (wrote : WritesChoice k last_old last_new d old new again sets h r) where
-  pub wrote_extract : (passes : Passes) → again.passes ≡ passes → IfOk r (λ receipt. GaveFile k last_old last_new (digest_if passes.hashes receipt.input) (λ e. Took d old new (λ written. (b : List ℕ) → Selects b choose area (picked_by sets) h → b ≡ e → IsExtraction choose select area b receipt.counts written)))
+  pub wrote_extract : (passes : Passes) → again.passes ≡ passes → IfOk r (λ receipt. GaveFile k last_old last_new (digest_if passes.hashes receipt.input) (λ e. Took d old new (λ written. (b : List ℕ) → Selects b choose area (taken_by sets) h → b ≡ e → IsExtraction choose select area b receipt.counts written)))
   wrote_extract passes is = if_ok_both r _ _ _ (λ receipt input packed.
       let same : digest_of again ≡ digest_if passes.hashes receipt.input = ap (λ (p : Passes). digest_if p.hashes again.digest) is ∙ ap (λ (l : List ℕ). digest_if passes.hashes l) (sym input) in
-      subst (λ (digest : Option (List ℕ)). GaveFile k last_old last_new digest (λ e. Took d old new (λ written. (b : List ℕ) → Selects b choose area (picked_by sets) h → b ≡ e → IsExtraction choose select area b receipt.counts written))) same
-      (gave_file_less k last_old last_new (digest_of again) _ _ (λ e took. took_weaker d old new _ _ (λ written packed b selects is. extracted choose select selection area edges b (picked_by sets) h selects receipt.counts (judged_file (Some e)) written (ap (λ (l : List ℕ). judged_file (Some l)) (sym is)) packed) took) packed)) wrote.input wrote.packed
+      subst (λ (digest : Option (List ℕ)). GaveFile k last_old last_new digest (λ e. Took d old new (λ written. (b : List ℕ) → Selects b choose area (taken_by sets) h → b ≡ e → IsExtraction choose select area b receipt.counts written))) same
+      (gave_file_less k last_old last_new (digest_of again) _ _ (λ e took. took_weaker d old new _ _ (λ written packed b selects is. extracted choose select selection area edges b (taken_by sets) h selects receipt.counts (judged_file (Some e)) written (ap (λ (l : List ℕ). judged_file (Some l)) (sym is)) packed) took) packed)) wrote.input wrote.packed
 
-  pub wrote_front : OnErr r ((b : List ℕ) → k.remaining last_old ≡ Some b → Selects b choose area (picked_by sets) h → IsFront (d.taken old) (d.taken new) (extract_of choose area b))
-  wrote_front = on_err_weaker r (λ front b is selects. extracts_front choose select selection area edges b (picked_by sets) h selects (judged_file (k.remaining last_old)) (d.taken old) (d.taken new) (ap judged_file is) front) wrote.front
+  pub wrote_front : OnErr r ((b : List ℕ) → k.remaining last_old ≡ Some b → Selects b choose area (taken_by sets) h → IsFront (d.taken old) (d.taken new) (extract_of choose area b))
+  wrote_front = on_err_weaker r (λ front b is selects. extracts_front choose select selection area edges b (taken_by sets) h selects (judged_file (k.remaining last_old)) (d.taken old) (d.taken new) (ap judged_file is) front) wrote.front
 
 -- of a call without parents, whose second feed gave a file, or maybe not
 module _ {F K D : Type 0} (f : feed.Ghosts F) (first now : F) (k : feed.Ghosts K) (last_old last_new : K) (d : drain.Ghosts D) (old new : D) (area : BoundingBox) (edges : EdgesTyped (edges_of area)) (passes : Passes) (again : LaterPass) (is : again.passes ≡ passes) (sets : KeptSets) (h : HeaderSpec)

@@ -20,7 +20,7 @@ use Rattle.pbfcut.specs.Kept.{verdict_on, conversion_of, IsWritable}
 use Rattle.pbf_pass.proofs.GivenLemmas.{Tells}
 use Rattle.pbf_pass.proofs.LimitLemmas.{held_is, judged_sound}
 use Rattle.pbfcut.proofs.KeptLaw.{IsKept, same_verdict, conversion_kept}
-use Rattle.pbfcut.specs.Pick.{everything, pick_of}
+use Rattle.pbfcut.specs.Pick.{everything, take_of}
 use Rattle.pbfcut.specs.Write.{Packed, PacksFront}
 use Rattle.pbf_pass.specs.Pass.{TakesFile, file_header}
 
@@ -39,12 +39,12 @@ all_picked : (es : List EntitySpec) → filter everything es ≡ es
 all_picked [] = refl
 all_picked (e ∷ es) = ap (λ (l : List EntitySpec). e ∷ l) (all_picked es)
 
-pick_everything : pick_of None ≡ everything
-unfolding pick_of
-pick_everything = refl
+take_everything : take_of None ≡ everything
+unfolding take_of
+take_everything = refl
 
-pub everything_picked : (es : List EntitySpec) → filter (pick_of None) es ≡ es
-everything_picked es = ap (λ p. filter p es) pick_everything ∙ all_picked es
+pub everything_picked : (es : List EntitySpec) → filter (take_of None) es ≡ es
+everything_picked es = ap (λ p. filter p es) take_everything ∙ all_picked es
 
 -- ---- a whole call
 
@@ -67,10 +67,10 @@ passed gathered before now b pass h known is p held within =
     }
 
 -- the bytes that are to be written
-answer_is : (frames : List FrameSpec) (at : ℕ) (h : HeaderSpec) → file_header frames ≡ Some (at, h) → written_file h (filter (pick_of None) (stored_entities frames)) ≡ answer_bytes (frames, None)
+answer_is : (frames : List FrameSpec) (at : ℕ) (h : HeaderSpec) → file_header frames ≡ Some (at, h) → written_file h (filter (take_of None) (stored_entities frames)) ≡ answer_bytes (frames, None)
 answer_is frames at h e = ap (λ (l : List EntitySpec). written_file h l) (everything_picked (stored_entities frames)) ∙ ap (λ (o : Option (ℕ × HeaderSpec)). conversion o (stored_entities frames)) (sym e)
 
-pub converted : (b : List ℕ) (pass : Pass) (h : HeaderSpec) (counts : Counts) (known : Option Verdict) (written : List ℕ) → known ≡ judged_file (Some b) → Passed b pass h → Packed (pick_of None) h counts known written
+pub converted : (b : List ℕ) (pass : Pass) (h : HeaderSpec) (counts : Counts) (known : Option Verdict) (written : List ℕ) → known ≡ judged_file (Some b) → Passed b pass h → Packed (take_of None) h counts known written
     → IsConverted b counts written
 converted b pass h counts known written is p went =
     let packed = went p.frames (is ∙ p.judged) in
@@ -96,6 +96,6 @@ can_told (Some b) file tells sound =
     let v = verdict_on b in
     (v.0, ap (λ (o : Option Fault). let w : Verdict = (v.0, o) in w) (subst (λ (l : List ℕ). IsWritable l) (tells b refl) sound))
 
-pub converts_front : (b : List ℕ) (pass : Pass) (h : HeaderSpec) (known : Option Verdict) (old new : Option (List ℕ)) → known ≡ judged_file (Some b) → Passed b pass h → PacksFront (pick_of None) h known old new → IsFront old new (conversion_of b)
+pub converts_front : (b : List ℕ) (pass : Pass) (h : HeaderSpec) (known : Option Verdict) (old new : Option (List ℕ)) → known ≡ judged_file (Some b) → Passed b pass h → PacksFront (take_of None) h known old new → IsFront old new (conversion_of b)
 converts_front b pass h known old new is p front =
     subst (λ (l : List ℕ). IsFront old new l) (answer_is p.frames pass.header_at h p.header ∙ ap answer_bytes (sym (same_verdict b p.frames p.writable))) (front p.frames (is ∙ p.judged))

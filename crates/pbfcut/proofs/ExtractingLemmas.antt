@@ -11,12 +11,13 @@ use Rattle.std.specs.Int.Signed.{mag}
 use Rattle.osm_entity.specs.Entity.{EntitySpec, Decoded, node, way, relation}
 use Rattle.osm_ids.specs.Links.{IsLeast}
 use Rattle.osm_ways.specs.Parents.{keeps_with_parents}
-use Rattle.osm_ways.specs.Phases.{NodeSets, WaySets, RelationSets, KeptSets, node_step, way_step, relation_step, start_nodes, start_ways, start_relations, node_pass, without_parents, way_pass, relation_pass, is_chosen}
+use Rattle.osm_ways.specs.Phases.{NodeSets, WaySets, RelationSets, KeptSets, node_step, way_step, relation_step, start_nodes, start_ways, start_relations, node_pass, without_parents, way_pass, relation_pass, is_chosen, is_taken}
 use Rattle.osm_ways.specs.First.{FirstSets, start_first, first_step}
 use Rattle.osm_ways.proofs.FirstLemmas.{first_in_order, first_broken}
 use Rattle.osm_ways.specs.Seen.{seen_entity}
 use Rattle.osm_ways.specs.Selection.{Seen, keeps}
-use Rattle.osm_ways.proofs.Passes.{chosen_is_kept, chosen_with_parents}
+use Rattle.osm_ways.proofs.Passes.{chosen_is_kept, chosen_with_parents, ways_stay}
+use Rattle.osm_ways.proofs.Taken.{taken_are_chosen}
 use Rattle.osm_pack.specs.Cuts.{written_file}
 use Rattle.pbf_header.specs.Header.{HeaderSpec}
 use Rattle.pbf_header.specs.WrittenHeader.{header_out_for_box, edges_of, EdgesTyped}
@@ -51,7 +52,7 @@ use Rattle.pbfcut.specs.Choosing.{StopsFirst, StopsChoosing}
 use Rattle.pbfcut.proofs.ChangedLemmas.{never_changed}
 use Rattle.pbf_pass.specs.Unjudged.{GathersFile}
 use Rattle.pbf_pass.specs.Judged.{judged_file}
-use Rattle.pbfcut.specs.Pick.{Pick, picked_by}
+use Rattle.pbfcut.specs.Pick.{Pick, taken_by}
 use Rattle.pbfcut.specs.Write.{Packed, PacksFront}
 use Rattle.pbfcut.proofs.ConvertingLemmas.{known_says}
 use Rattle.pbf_pass.proofs.LimitLemmas.{held_is, judged_sound}
@@ -74,19 +75,22 @@ ways_folded area sets (relation r ∷ es) = ways_folded area sets es
 pub sets_are : (area : BoundingBox) (es : List EntitySpec) → fold with_way (start_ways (fold with_node (start_nodes area) es).box_ids) es ≡ way_pass (map (seen_entity area) es)
 sets_are area es = ap (λ ids. fold with_way (start_ways ids) es) (nodes_folded (start_nodes area) es) ∙ ways_folded area (start_ways (node_pass (map (seen_entity area) es))) es
 
-picked_is_chosen : (area : BoundingBox) (sets : KeptSets) (e : EntitySpec) → picked_by sets e ≡ is_chosen sets (seen_entity area e)
-picked_is_chosen area sets (node n) = refl
-picked_is_chosen area sets (way w) = refl
-picked_is_chosen area sets (relation r) = refl
+taken_is : (area : BoundingBox) (sets : KeptSets) (e : EntitySpec) → taken_by sets e ≡ is_taken sets (seen_entity area e)
+taken_is area sets (node n) = refl
+taken_is area sets (way w) = refl
+taken_is area sets (relation r) = refl
 
--- sets that keep what a whole list does
-picked_as : (area : BoundingBox) (es : List EntitySpec) (sets : KeptSets) (keep : List Seen → Seen → Bool) → is_chosen sets ≡ keep (map (seen_entity area) es) → filter (picked_by sets) es ≡ filter (λ e. keep (map (seen_entity area) es) (seen_entity area e)) es
-picked_as area es sets keep all =
-    filter_agree (picked_by sets) (λ e. keep (map (seen_entity area) es) (seen_entity area e)) (λ e. picked_is_chosen area sets e ∙ ap (λ (k : Seen → Bool). k (seen_entity area e)) all) es
+-- sets that were gathered from a whole list, and keep what it does
+taken_as : (area : BoundingBox) (es : List EntitySpec) (sets : KeptSets) (keep : List Seen → Seen → Bool) → sets.ways ≡ way_pass (map (seen_entity area) es) → is_chosen sets ≡ keep (map (seen_entity area) es)
+    → filter (taken_by sets) es ≡ filter (λ e. keep (map (seen_entity area) es) (seen_entity area e)) es
+taken_as area es sets keep ways all =
+    filter_agree (taken_by sets) (λ e. is_taken sets (seen_entity area e)) (taken_is area sets) es
+    ∙ subst (λ (w : WaySets). filter (λ e. is_taken (record { ways = w; relation_ids = sets.relation_ids }) (seen_entity area e)) es ≡ filter (λ e. is_chosen (record { ways = w; relation_ids = sets.relation_ids }) (seen_entity area e)) es) (sym ways) (taken_are_chosen (seen_entity area) sets.relation_ids es)
+    ∙ ap (λ (k : Seen → Bool). filter (λ e. k (seen_entity area e)) es) all
 
 -- what the sets keep is the complete-ways extract
-pub picked_are : (area : BoundingBox) (es : List EntitySpec) → filter (picked_by (without_parents (way_pass (map (seen_entity area) es)))) es ≡ complete_ways area es
-picked_are area es = picked_as area es (without_parents (way_pass (map (seen_entity area) es))) keeps (chosen_is_kept (map (seen_entity area) es))
+pub taken_are : (area : BoundingBox) (es : List EntitySpec) → filter (taken_by (without_parents (way_pass (map (seen_entity area) es)))) es ≡ complete_ways area es
+taken_are area es = taken_as area es (without_parents (way_pass (map (seen_entity area) es))) keeps refl (chosen_is_kept (map (seen_entity area) es))
 
 -- ---- the bytes that are to be written
 
@@ -106,7 +110,7 @@ pub record Selects (b : List ℕ) (choose : Choice) (area : BoundingBox) (pick :
   pub picked : filter pick (stored_entities frames) ≡ choose (stored_entities frames)
 
 -- the passes for nodes and for ways choose the complete-ways extract
-pub selects_ways : (area : BoundingBox) (b : List ℕ) (first second : Option Verdict) (sets : WaySets) (h : HeaderSpec) → first ≡ judged_file (Some b) → second ≡ judged_file (Some b) → Chooses area first second sets h → Selects b (complete_ways area) area (picked_by (without_parents sets)) h
+pub selects_ways : (area : BoundingBox) (b : List ℕ) (first second : Option Verdict) (sets : WaySets) (h : HeaderSpec) → first ≡ judged_file (Some b) → second ≡ judged_file (Some b) → Chooses area first second sets h → Selects b (complete_ways area) area (taken_by (without_parents sets)) h
 selects_ways area b first second sets h is too c =
     let judged = known_says b (c.frames, None) (subst (λ (k : Option Verdict). Says k (c.frames, None)) is c.judged) in
     let gathered = c.chosen c.frames (too ∙ judged) ∙ sets_are area (stored_entities c.frames) in
@@ -115,7 +119,7 @@ selects_ways area b first second sets h is too c =
       judged = judged;
       writable = judged_sound b c.frames judged c.within;
       bytes = header_from area (file_header c.frames) h c.header (complete_ways area) (stored_entities c.frames);
-      picked = ap (λ (s : WaySets). filter (picked_by (without_parents s)) (stored_entities c.frames)) gathered ∙ picked_are area (stored_entities c.frames);
+      picked = ap (λ (s : WaySets). filter (taken_by (without_parents s)) (stored_entities c.frames)) gathered ∙ taken_are area (stored_entities c.frames);
     }
 
 -- ---- the box
@@ -240,10 +244,10 @@ stops_choosing f first now g second later hashes h s = record {
 }
 
 -- a selection by what was chosen
-pub selects_chosen : (sets : KeptSets) (area : BoundingBox) (b first second : List ℕ) (h : HeaderSpec) → first ≡ b → second ≡ b → IsChoice area first second sets h → Selects b (complete_ways area) area (picked_by sets) h
+pub selects_chosen : (sets : KeptSets) (area : BoundingBox) (b first second : List ℕ) (h : HeaderSpec) → first ≡ b → second ≡ b → IsChoice area first second sets h → Selects b (complete_ways area) area (taken_by sets) h
 selects_chosen sets area b first second h is too c =
     let judged = λ (l : List ℕ). judged_file (Some l) in
-    subst (λ (s : KeptSets). Selects b (complete_ways area) area (picked_by s) h) (sym c.kept) (selects_ways area b _ _ c.ways h (ap judged is) (ap judged too) c.chosen)
+    subst (λ (s : KeptSets). Selects b (complete_ways area) area (taken_by s) h) (sym c.kept) (selects_ways area b _ _ c.ways h (ap judged is) (ap judged too) c.chosen)
 
 -- ---- with all parents
 
@@ -255,13 +259,13 @@ relations_folded area sets (relation r ∷ es) = relations_folded area (with_rel
 
 -- what the sets keep is the extract with all parents
 parents_are : (area : BoundingBox) (es : List EntitySpec) (sets : KeptSets) → sets.ways ≡ (relation_pass (map (seen_entity area) es)).ways
-    → IsLeast (set.contains (relation_pass (map (seen_entity area) es)).links) (relation_pass (map (seen_entity area) es)).start sets.relation_ids → filter (picked_by sets) es ≡ all_parents area es
+    → IsLeast (set.contains (relation_pass (map (seen_entity area) es)).links) (relation_pass (map (seen_entity area) es)).start sets.relation_ids → filter (taken_by sets) es ≡ all_parents area es
 parents_are area es sets ways least =
     let seen = map (seen_entity area) es in
-    picked_as area es sets keeps_with_parents (ap (λ (w : WaySets). is_chosen (record { ways = w; relation_ids = sets.relation_ids })) ways ∙ chosen_with_parents seen sets.relation_ids least)
+    taken_as area es sets keeps_with_parents (ways ∙ ways_stay seen) (ap (λ (w : WaySets). is_chosen (record { ways = w; relation_ids = sets.relation_ids })) ways ∙ chosen_with_parents seen sets.relation_ids least)
 
 pub selects_parents : (sets : KeptSets) (area : BoundingBox) (b : List ℕ) (first second third : Option Verdict) (h : HeaderSpec) → first ≡ judged_file (Some b) → second ≡ judged_file (Some b) → third ≡ judged_file (Some b)
-    → ChoosesParents area first second third sets h → Selects b (all_parents area) area (picked_by sets) h
+    → ChoosesParents area first second third sets h → Selects b (all_parents area) area (taken_by sets) h
 selects_parents sets area b first second third h is too more p =
     let c = p.chosen in
     let es = stored_entities c.frames in

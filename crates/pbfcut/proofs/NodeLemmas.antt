@@ -14,16 +14,18 @@ use Rattle.osm_pack.specs.Packing.{Packing, IsPacking, has_header}
 use Rattle.pbfcut.specs.declared.pick.EntityPacker.{EntityPacker}
 use Rattle.pbfcut.specs.declared.pick.Picker.{Picker}
 use Rattle.osm_ways.specs.Phases.{KeptSets}
-use Rattle.pbfcut.specs.Pick.{everything, picked_by_some, id_picked, picks_of, picks_id, PacksEach, KeepsPacker}
+use Rattle.pbfcut.specs.Pick.{everything, picks_by, id_picked, picks_of, picks_id, PacksEach, KeepsPacker}
 use Rattle.pbfcut.proofs.PackingLemmas.{PackedEach, each_left, each_picked, each_more, each_later}
 
-some_by_id : (sets : Option KeptSets) (n : NodeSpec) → picked_by_some sets (node n) ≡ id_picked sets n.id
-some_by_id None n = refl
-some_by_id (Some sets) n = refl
+some_by_id : (by_ids : Bool) (sets : Option KeptSets) (n : NodeSpec) → picks_by by_ids sets (node n) ≡ id_picked sets n.id
+some_by_id true None n = refl
+some_by_id true (Some sets) n = refl
+some_by_id false None n = refl
+some_by_id false (Some sets) n = refl
 
 picked_by_id : (p : Picker) (n : NodeSpec) → picks_of p (node n) ≡ picks_id p n.id
 unfolding picks_of picks_id
-picked_by_id p n = some_by_id p.chooser n
+picked_by_id p n = some_by_id p.by_ids p.chooser n
 
 -- ---- nodes that aren't picked, by their ids
 

@@ -6,7 +6,7 @@ use Rattle.std.specs.List.{AllByRecursion, filter}
 use Rattle.std.specs.Option.{option_map}
 use Rattle.osm_entity.specs.Entity.{EntitySpec, node, way, relation}
 use Rattle.osm_entity.specs.Ranges.{EntityFits}
-use Rattle.osm_ways.specs.Phases.{KeptSets, is_chosen}
+use Rattle.osm_ways.specs.Phases.{KeptSets, is_chosen, is_taken}
 use Rattle.osm_ways.specs.Seen.{seen_way, seen_relation}
 use Rattle.osm_pack.specs.declared.open_block.TheConstants.{MOST_HELD}
 use Rattle.osm_pack.specs.Cuts.{written_entities, pending_after, written_after}
@@ -56,8 +56,26 @@ picked_by_some (Some sets) = picked_by sets
 unfoldable pub pick_of : Option (Bor Chosen) → Pick
 pick_of chosen = picked_by_some (option_map (λ c. c.now) chosen)
 
+-- the same in the file that the sets were chosen from, where a kept way's id is in them
+abbrev pub taken_by : KeptSets → Pick
+taken_by sets (node n) = set.contains sets.ways.node_ids n.id
+taken_by sets (way w) = is_taken sets (seen_way w)
+taken_by sets (relation r) = is_taken sets (seen_relation r)
+
+abbrev pub taken_by_some : Option KeptSets → Pick
+taken_by_some None = everything
+taken_by_some (Some sets) = taken_by sets
+
+unfoldable pub take_of : Option (Bor Chosen) → Pick
+take_of chosen = taken_by_some (option_map (λ c. c.now) chosen)
+
+-- of ways by their ids first, or only by their refs
+abbrev pub picks_by : (by_ids : Bool) → Option KeptSets → Pick
+picks_by true sets = taken_by_some sets
+picks_by false sets = picked_by_some sets
+
 unfoldable pub picks_of : Picker → Pick
-picks_of picker = picked_by_some picker.chooser
+picks_of picker = picks_by picker.by_ids picker.chooser
 
 -- which nodes are, by their id
 abbrev pub id_picked : Option KeptSets → ℤ → Bool

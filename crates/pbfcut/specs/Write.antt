@@ -27,7 +27,7 @@ use Rattle.pbf_pass.specs.Stops.{ReadFailed, WriteFailed}
 use Rattle.pbfcut.specs.declared.repeat.LaterPass.{LaterPass}
 use Rattle.pbfcut.specs.declared.write.OutputPlan.{OutputPlan}
 use Rattle.pbfcut.specs.declared.pick.EntityPacker.{EntityPacker}
-use Rattle.pbfcut.specs.Pick.{Pick, Packs, Begins, KeepsPacker, pick_of, picked_in, picked_by, picks_of}
+use Rattle.pbfcut.specs.Pick.{Pick, Packs, Begins, KeepsPacker, take_of, picked_in, taken_by, picks_of}
 use Rattle.pbfcut.specs.Repeat.{StopsLater, digest_of}
 
 -- ---- one payload, and one frame
@@ -88,8 +88,8 @@ PacksFront pick h known old new = (frames : List FrameSpec) → known ≡ Some (
 -- the feed gave a file, and the drain took its header and what is picked of it; or a prefix of that, if the pass stopped: at a fault, since the
 -- bytes changed, or for a device
 pub record WritesUnjudged {F D : Type 0} (f : feed.Ghosts F) (old new : F) (d : drain.Ghosts D) (before now : D) (plan : OutputPlan) (result : Result InputReceipt Stop) : Type 0 where
-  pub packed : IfOk result (λ wrote. GaveFile f old new (digest_if plan.pass.passes.hashes wrote.input) (λ file. Took d before now (Packed (pick_of plan.chosen) (header_of plan.header.now) wrote.counts (judged_file (Some file)))))
-  pub beginning : OnErr result (PacksFront (pick_of plan.chosen) (header_of plan.header.now) (judged_file (f.remaining old)) (d.taken before) (d.taken now))
+  pub packed : IfOk result (λ wrote. GaveFile f old new (digest_if plan.pass.passes.hashes wrote.input) (λ file. Took d before now (Packed (take_of plan.chosen) (header_of plan.header.now) wrote.counts (judged_file (Some file)))))
+  pub beginning : OnErr result (PacksFront (take_of plan.chosen) (header_of plan.header.now) (judged_file (f.remaining old)) (d.taken before) (d.taken now))
   pub faulty : IfErr result (ReadsFaulty f old new)
   pub stops : IfErr result (StopsUnjudged plan.pass.number (judged_file (f.remaining old)) (ReadFailed f old new) (WriteFailed d before now))
   pub keeps : KeepsFeed f old new
@@ -97,8 +97,8 @@ pub record WritesUnjudged {F D : Type 0} (f : feed.Ghosts F) (old new : F) (d : 
 
 -- the same once they are: it has to be the first pass's file
 pub record WritesAgain {F D : Type 0} (f : feed.Ghosts F) (old new : F) (d : drain.Ghosts D) (before now : D) (plan : OutputPlan) (result : Result Counts Stop) : Type 0 where
-  pub packed : IfOk result (λ counts. GaveFile f old new (digest_of plan.pass) (λ file. Took d before now (Packed (pick_of plan.chosen) (header_of plan.header.now) counts (judged_file (Some file)))))
-  pub beginning : OnErr result (PacksFront (pick_of plan.chosen) (header_of plan.header.now) (judged_file (f.remaining old)) (d.taken before) (d.taken now))
+  pub packed : IfOk result (λ counts. GaveFile f old new (digest_of plan.pass) (λ file. Took d before now (Packed (take_of plan.chosen) (header_of plan.header.now) counts (judged_file (Some file)))))
+  pub beginning : OnErr result (PacksFront (take_of plan.chosen) (header_of plan.header.now) (judged_file (f.remaining old)) (d.taken before) (d.taken now))
   pub stops : IfErr result (StopsLater f plan.pass old new (WriteFailed d before now))
   pub keeps : KeepsFeed f old new
   pub out : KeepsDrain d before now
@@ -109,8 +109,8 @@ pub record WritesAgain {F D : Type 0} (f : feed.Ghosts F) (old new : F) (d : dra
 -- stopped, which is no refusal
 pub record WritesChoice {F D : Type 0} (f : feed.Ghosts F) (old new : F) (d : drain.Ghosts D) (before now : D) (again : LaterPass) (sets : KeptSets) (h : HeaderSpec) (result : Result InputReceipt Halt) : Type 0 where
   pub input : IfOk result (λ receipt. receipt.input ≡ again.digest)
-  pub packed : IfOk result (λ receipt. GaveFile f old new (digest_of again) (λ file. Took d before now (Packed (picked_by sets) h receipt.counts (judged_file (Some file)))))
-  pub front : OnErr result (PacksFront (picked_by sets) h (judged_file (f.remaining old)) (d.taken before) (d.taken now))
+  pub packed : IfOk result (λ receipt. GaveFile f old new (digest_of again) (λ file. Took d before now (Packed (taken_by sets) h receipt.counts (judged_file (Some file)))))
+  pub front : OnErr result (PacksFront (taken_by sets) h (judged_file (f.remaining old)) (d.taken before) (d.taken now))
   pub stops : IfErr result (λ halt. StopsLater f again old new (WriteFailed d before now) (stop_of halt))
   pub keeps : KeepsFeed f old new
   pub out : KeepsDrain d before now

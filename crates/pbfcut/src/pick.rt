@@ -11,11 +11,11 @@ ghost use Rattle.pbf_block.specs.Runs.{way_from, joined_runs, run_entities, runs
 ghost use Rattle.pbf_pass.specs.Counting.{counts_of};
 ghost use Rattle.pbf_pass.specs.Judged.{fault_in};
 ghost use Rattle.pbf_pass.specs.Payload.{primitive_block, lent_by};
-ghost use Rattle.pbfcut.specs.Pick.{everything, pick_of, picks_of, picked_in, picks_id, picked_by, picked_by_some, IsReadyToPack, PacksAll, PacksEach, KeepsPacker, PacksPayload, FailsToPackPayload, JudgesAndPacks};
+ghost use Rattle.pbfcut.specs.Pick.{everything, pick_of, take_of, picks_of, picked_in, picks_id, picked_by, picked_by_some, IsReadyToPack, PacksAll, PacksEach, KeepsPacker, PacksPayload, FailsToPackPayload, JudgesAndPacks};
 
 use osm_entity::{EntityRef, NodeRef};
 use osm_pack::Packer;
-use osm_ways::{Chooser, Chosen, ChosenParents};
+use osm_ways::{Chooser, Chosen, ChosenParents, SeenWay};
 use pbf_block::{Block, Counts, Kinds, Run, Runs, UnmadeWay};
 use pbf_dense::Dense;
 use pbf_frame::{Drain, Feed, Frame, FrameKind, FrameReader, Stop};
@@ -24,11 +24,23 @@ use pbf_wire::{EMPTY_SPAN, Span};
 use std::alloc::Global;
 use std::hash::BuildHasher;
 
+/// What was chosen, to test many entities one after another.
+fn chooser_of(chosen: Option<&Chosen>) -> Option<Chooser<'_>>
+    ensures { result ≡ option_map (λ c. c.now) chosen.entry }
+{
+    match chosen {
+        None => None,
+        Some(chosen) => Some(chosen.chooser()),
+    }
+}
+
 /// Which entities are written, for many of them one after another: the look-ups of ids that lie close together are cheap.
 #[derive(Drop)]
-struct Picker<'a> {
+pub(crate) struct Picker<'a> {
     /// What was chosen; all of them if nothing was.
     chooser: Option<Chooser<'a>>,
+    /// Whether ways are looked up by their ids first, as can be done in the file that was chosen from.
+    by_ids: bool,
 }
 
 impl<'a> Picker<'a> {
@@ -37,11 +49,20 @@ impl<'a> Picker<'a> {
     fn of(chosen: Option<&'a Chosen>) -> Picker<'a>
         ensures { picks_of result ≡ pick_of chosen.entry }
     {
-        match chosen {
-            None => Picker { chooser: None },
-            Some(chosen) => Picker {
-                chooser: Some(chosen.chooser()),
-            },
+        Picker {
+            chooser: chooser_of(chosen),
+            by_ids: false,
+        }
+    }
+
+    /// The same in the file that was chosen from.
+    #[tactic(auto, unfolding(crate::specs::Pick::take_of, crate::specs::Pick::picks_of))]
+    pub(crate) fn of_taken(chosen: Option<&'a Chosen>) -> Picker<'a>
+        ensures { picks_of result ≡ take_of chosen.entry }
+    {
+        Picker {
+            chooser: chooser_of(chosen),
+            by_ids: true,
         }
     }
 
@@ -55,6 +76,7 @@ impl<'a> Picker<'a> {
             None => true,
             Some(chooser) => match entity {
                 EntityRef::Node(node) => chooser.keeps_node(node.id()),
+                EntityRef::Way(way) if self.by_ids => chooser.takes_way(SeenWay::of(way)),
                 EntityRef::Way(way) => chooser.keeps_way(way),
                 EntityRef::Relation(relation) => chooser.keeps_relation(relation),
             },
@@ -69,6 +91,10 @@ impl<'a> Picker<'a> {
     {
         match &mut self.chooser {
             None => true,
+            Some(chooser) if self.by_ids => {
+                let (id, refs) = unmade.id_and_refs();
+                chooser.takes_way(SeenWay { id, refs })
+            }
             Some(chooser) => chooser.keeps_refs(unmade.refs()),
         }
     }
@@ -136,20 +162,20 @@ pub(crate) struct EntityPacker<'a> {
 }
 
 impl<'a> EntityPacker<'a> {
-    /// Of those that were chosen, or of all if nothing was; so many were packed before, in the pass of this number.
+    /// Of those that are picked; so many were packed before, in the pass of this number.
     pub(crate) fn new(
         alloc: Global,
-        chosen: Option<&'a Chosen>,
+        picker: Picker<'a>,
         counts: Counts,
         number: u8,
     ) -> EntityPacker<'a>
-        ensures picker { picks_of result.picker ≡ pick_of chosen.entry }
+        ensures picker { result.picker ≡ picker.entry }
         ensures counts { result.counts ≡ counts }
         ensures number { result.number ≡ number }
     {
         EntityPacker {
             alloc,
-            picker: Picker::of(chosen),
+            picker,
             counts,
             number,
         }
@@ -368,7 +394,7 @@ pub fn step_pack<F: Feed, D: Drain, S: BuildHasher>(
     let Some(frame) = reader.next()? else {
         return Ok(false);
     };
-    let mut entities = EntityPacker::new(alloc, chosen, Counts::none(), 0);
+    let mut entities = EntityPacker::new(alloc, Picker::of(chosen), Counts::none(), 0);
     let outcome = entities.pack_payload(&frame, pass, packer);
     packer.held_is_bounded();
     outcome?;

@@ -5,10 +5,10 @@ ghost use Rattle.std.specs.Prelude.{◌∷◌, ◌≡◌};
 ghost use Rattle.pbf_header.specs.Header.{header_of};
 ghost use Rattle.pbf_pass.specs.HeaderLimit.{HasShortTexts};
 ghost use Rattle.pbf_pass.specs.Payload.{primitive_block, lent_by};
-ghost use Rattle.pbfcut.specs.Pick.{pick_of, IsFreshPacker, IsReadyToPack};
+ghost use Rattle.pbfcut.specs.Pick.{take_of, IsFreshPacker, IsReadyToPack};
 ghost use Rattle.pbfcut.specs.Write.{PacksUnjudged, PacksNext, FailsAtNext, WritesUnjudged, WritesAgain};
 
-use crate::pick::EntityPacker;
+use crate::pick::{EntityPacker, Picker};
 use crate::repeat::LaterPass;
 use osm_pack::Packer;
 use osm_ways::Chosen;
@@ -67,11 +67,11 @@ struct Writer<'a, D: Drain, S: BuildHasher> {
 }
 
 impl<D: Drain, S: BuildHasher> Visit for Writer<'_, D, S> {
-    ghost took = { λ old f new. PacksNext D.Drain (pick_of old.chosen)
+    ghost took = { λ old f new. PacksNext D.Drain (take_of old.chosen)
         old.packer.now new.packer.now old.counts new.counts f
-        × (pick_of new.chosen ≡ pick_of old.chosen) × (new.number ≡ old.number) };
+        × (take_of new.chosen ≡ take_of old.chosen) × (new.number ≡ old.number) };
 
-    ghost failed = { λ old f new stop. FailsAtNext D.Drain old.number (pick_of old.chosen)
+    ghost failed = { λ old f new stop. FailsAtNext D.Drain old.number (take_of old.chosen)
         old.packer.now new.packer.now f stop };
 
     ghost ready = { λ v. IsReadyToPack v.packer.now };
@@ -79,7 +79,8 @@ impl<D: Drain, S: BuildHasher> Visit for Writer<'_, D, S> {
     ghost lender = { λ v. v.packer.ghost_name ∷ D.lender v.packer.now.drain };
 
     fn visit(&mut self, alloc: Global, frame: &Frame<'_>) -> Result<(), Stop> {
-        let mut entities = EntityPacker::new(alloc, self.chosen, self.counts, self.number);
+        let picker = Picker::of_taken(self.chosen);
+        let mut entities = EntityPacker::new(alloc, picker, self.counts, self.number);
         pack_payload(frame, &mut entities, self.packer)?;
         self.counts = entities.counts;
         Ok(())

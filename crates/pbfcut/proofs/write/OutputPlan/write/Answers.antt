@@ -1,7 +1,7 @@
 use Rattle.std.proofs.Common.{refl, rules}
 use Rattle.std.proofs.lemmas.Result.{err_from_is_err_and}
 use Rattle.pbf_header.specs.Header.{header_of}
-use Rattle.pbfcut.specs.Pick.{pick_of}
+use Rattle.pbfcut.specs.Pick.{take_of}
 use Rattle.pbf_pass.specs.Judged.{judged_file}
 use Rattle.pbf_pass.specs.Stops.{WriteFailed}
 use Rattle.pbf_pass.proofs.GivenLemmas.{tells_file}
@@ -16,7 +16,7 @@ returns-in_err-compare-in-Ok g c =
     let took = given.holding in
     rw (p.1, p.2) (record {
       packed = tt;
-      beginning = packed_front (pick_of c.args.self.chosen) (header_of c.args.self.header.now) _ _ _ _ took.written
+      beginning = packed_front (take_of c.args.self.chosen) (header_of c.args.self.header.now) _ _ _ _ took.written
           (packed_told _ _ _ _ given.file took.written (tells_file g.F.Feed _ _ _ _ given) took.holding) took.added.told;
       stops = digest_as_change g.F.Feed c.args.self.pass c.args.feed.now c.write_unjudged.new.feed (WriteFailed g.D.Drain c.args.drain.now c.write_unjudged.new.drain) c.args.self.pass.passes.hashes c.in-Ok.wrote.input _ _ refl given c.in_err-compare-in-Ok.ensures.other;
       keeps = search rules;
