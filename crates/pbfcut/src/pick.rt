@@ -7,7 +7,7 @@ ghost use Rattle.osm_entity.specs.Views.{entity_of, node_of};
 ghost use Rattle.osm_pack.specs.Packing.{has_header};
 ghost use Rattle.pbf_wire.specs.Spans.{is_in};
 ghost use Rattle.pbf_dense.specs.Cursors.{dense_left};
-ghost use Rattle.pbf_block.specs.Runs.{way_from, joined_runs, run_entities, runs_left};
+ghost use Rattle.pbf_block.specs.Runs.{entity_from, way_from, joined_runs, run_entities, runs_left};
 ghost use Rattle.pbf_pass.specs.Counting.{counts_of};
 ghost use Rattle.pbf_pass.specs.Judged.{fault_in};
 ghost use Rattle.pbf_pass.specs.Payload.{primitive_block, lent_by};
@@ -16,7 +16,7 @@ ghost use Rattle.pbfcut.specs.Pick.{everything, pick_of, picks_of, picked_in, pi
 use osm_entity::{EntityRef, NodeRef};
 use osm_pack::Packer;
 use osm_ways::{Chooser, Chosen, ChosenParents};
-use pbf_block::{Block, Counts, Kinds, Run, Runs, UnmadeWay};
+use pbf_block::{Block, Counts, Kinds, Run, Runs, UnmadeEntity, UnmadeWay};
 use pbf_dense::Dense;
 use pbf_frame::{Drain, Feed, Frame, FrameKind, FrameReader, Stop};
 use pbf_pass::Pass;
@@ -211,6 +211,34 @@ impl<'a> EntityPacker<'a> {
         }
     }
 
+    /// Makes a node or a relation, and packs it if it is picked. It is a call, so that its room is cleared only here, and not for each run.
+    #[inline(never)]
+    fn pack_one<D: Drain, S: BuildHasher>(
+        &mut self,
+        unmade: &UnmadeEntity<'_>,
+        packer: &mut Packer<D, S>,
+    ) -> Result<(), Stop>
+        requires { IsReadyToPack packer.old }
+        ensures { PacksEach D.Drain (picks_of self.old.picker) (entity_from unmade.now ∷ [])
+            self.old self.new packer.old packer.new result }
+    {
+        self.pack_entity(&unmade.make(), packer)
+    }
+
+    /// Makes a way, and packs it, whether it is picked or not. It is a call for the same reason.
+    #[inline(never)]
+    fn pack_made<D: Drain, S: BuildHasher>(
+        &mut self,
+        unmade: &UnmadeWay<'_>,
+        packer: &mut Packer<D, S>,
+    ) -> Result<(), Stop>
+        requires { IsReadyToPack packer.old }
+        ensures { PacksEach D.Drain everything (way (way_from unmade.now) ∷ [])
+            self.old self.new packer.old packer.new result }
+    {
+        self.pack(&EntityRef::Way(unmade.make()), packer)
+    }
+
     /// Packs a way if it is picked, which is made only then.
     fn pack_way<D: Drain, S: BuildHasher>(
         &mut self,
@@ -223,7 +251,7 @@ impl<'a> EntityPacker<'a> {
     {
         let is_picked = self.picker.picks_way(unmade);
         if is_picked {
-            self.pack(&EntityRef::Way(unmade.make()), packer)
+            self.pack_made(unmade, packer)
         } else {
             Ok(())
         }
@@ -271,7 +299,7 @@ impl<'a> EntityPacker<'a> {
     {
         match run {
             Run::Nothing => Ok(()),
-            Run::One(unmade) => self.pack_entity(&unmade.make(), packer),
+            Run::One(unmade) => self.pack_one(unmade, packer),
             Run::Way(unmade) => self.pack_way(unmade, packer),
             Run::Dense(dense) => self.pack_nodes(&dense.nodes(), packer),
         }
