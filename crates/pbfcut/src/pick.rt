@@ -1,12 +1,12 @@
 //! Entities that are picked, on their way into the drain, and the steps that judge them.
 
-ghost use Rattle.std.specs.Prelude.{true, false, ℤ, [], ◌∷◌, ◌≡◌, None, IfErr, OnOk, MatchOption, map, filter, take};
+ghost use Rattle.std.specs.Prelude.{true, false, ℤ, [], ◌∷◌, ◌≡◌, None, IfSome, IfErr, OnOk, MatchOption, map, filter, take};
 ghost use Rattle.std.specs.Option.{option_map};
 ghost use Rattle.osm_entity.specs.Entity.{node, way};
 ghost use Rattle.osm_entity.specs.Views.{entity_of, node_of};
 ghost use Rattle.osm_pack.specs.Packing.{has_header};
 ghost use Rattle.pbf_wire.specs.Spans.{is_in};
-ghost use Rattle.pbf_dense.specs.Cursors.{dense_left};
+ghost use Rattle.pbf_dense.specs.Cursors.{AreIdsAfter, dense_left};
 ghost use Rattle.pbf_block.specs.Runs.{entity_from, way_from, joined_runs, run_entities, runs_left};
 ghost use Rattle.pbf_pass.specs.Counting.{counts_of};
 ghost use Rattle.pbf_pass.specs.Judged.{fault_in};
@@ -20,7 +20,7 @@ use pbf_block::{Block, Counts, Kinds, Run, Runs, UnmadeEntity, UnmadeWay};
 use pbf_dense::Dense;
 use pbf_frame::{Drain, Feed, Frame, FrameKind, FrameReader, Stop};
 use pbf_pass::Pass;
-use pbf_wire::{EMPTY_SPAN, Span};
+use pbf_wire::{EMPTY_SPAN, Span, Sums};
 use std::alloc::Global;
 use std::hash::BuildHasher;
 
@@ -100,24 +100,33 @@ impl<'a> Picker<'a> {
 /// At most this many nodes are skipped at a time.
 const MOST_PASSED: usize = 8_000;
 
-/// How many nodes, of those that are still to come, come before the next that is picked, or some of them; `None` if none of them is
-/// picked. Only their ids are read.
-fn unpicked(dense: &Dense<'_>, picker: &mut Picker<'_>) -> Option<usize>
+/// Ids of nodes that are still to come, and how many come before them.
+#[derive(Clone, Copy)]
+struct IdsAhead<'a> {
+    count: usize,
+    ids: Sums<'a>,
+}
+
+/// How many nodes, of those that are still to come, come before the next that is picked, or some of them, and the ids from there on; `None`
+/// if none of them is picked. Only their ids are read.
+fn unpicked<'a>(dense: &Dense<'a>, picker: &mut Picker<'_>) -> Option<IdsAhead<'a>>
     ensures none { MatchOption result
         (filter (picks_of picker.old) (map node (dense_left dense.now)) ≡ [])
-        (λ count. filter (picks_of picker.old)
-        (map node (take count (dense_left dense.now))) ≡ []) }
+        (λ ahead. filter (picks_of picker.old)
+        (map node (take ahead.count (dense_left dense.now))) ≡ []) }
+    ensures ahead { IfSome result (λ ahead. AreIdsAfter ahead.count dense.now ahead.ids) }
     ensures same { picker.new ≡ picker.old }
 {
     let mut ids = dense.ids();
     let mut count = 0;
     'ids: loop {
         count += ids.pass_inside(picker.absent(), MOST_PASSED - count);
+        let here = ids;
         let Some(id) = ids.next() else {
             return None;
         };
         if count == MOST_PASSED || picker.picks_id(id) {
-            return Some(count);
+            return Some(IdsAhead { count, ids: here });
         }
         count += 1;
     }
@@ -278,10 +287,10 @@ impl<'a> EntityPacker<'a> {
             if self.picker.picks_id(view.id()) {
                 self.pack_node(view, packer)?;
             } else {
-                let Some(count) = unpicked(&nodes, &mut self.picker) else {
+                let Some(ahead) = unpicked(&nodes, &mut self.picker) else {
                     return Ok(());
                 };
-                nodes.pass(count);
+                nodes.pass_to(&ahead.ids, ahead.count);
             }
         }
         Ok(())
