@@ -1,6 +1,7 @@
 -- What the cursors over dense nodes have still to give.
-use Rattle.std.specs.Prelude.{List, map}
+use Rattle.std.specs.Prelude.{◌≡◌, ℕ, List, drop, map}
 use Rattle.pbf_wire.specs.Cursors.{numbers_left, sums_left}
+use Rattle.pbf_wire.specs.declared.sums.Sums.{Sums}
 use Rattle.osm_entity.specs.Entity.{NodeSpec}
 use Rattle.osm_entity.specs.Sources.{low_32}
 use Rattle.pbf_dense.specs.Info.{InfoSpec}
@@ -21,3 +22,7 @@ info_left columns = record {
 -- the nodes that are still to come
 unfoldable pub dense_left : Dense → List NodeSpec
 dense_left dense = nodes_of_columns dense.texts.table.now dense.scale (sums_left dense.ids) (sums_left dense.lats) (sums_left dense.lons) (info_left dense.info) (map low_32 (numbers_left dense.keys_vals))
+
+-- a cursor over the ids has passed so many of those that are still to come
+unfoldable pub AreIdsAfter : ℕ → Dense → Sums → Type 0
+AreIdsAfter count dense ids = sums_left ids ≡ drop count (sums_left dense.ids)

@@ -146,7 +146,7 @@ impl<'a> Dense<'a> {
     ghost use Rattle.osm_entity.specs.Views.{node_of};
     ghost use Rattle.pbf_dense.specs.Judged.{id_count, dense_wire};
     ghost use Rattle.pbf_dense.specs.Nodes.{nodes, nodes_along};
-    ghost use Rattle.pbf_dense.specs.Cursors.{dense_left};
+    ghost use Rattle.pbf_dense.specs.Cursors.{dense_left, AreIdsAfter};
     ghost use Rattle.pbf_dense.specs.Places.{node_place, places_left, BeginWithIds};
     ghost use Rattle.pbf_dense.specs.Within.{ids_within, ids_within_left};
 
@@ -206,29 +206,33 @@ impl<'a> Dense<'a> {
     }
 
     /// The ids of the nodes that are still to come, and then maybe more ids, which have no place. Nothing else is read.
-    #[tactic(auto, using(crate::proofs::PlaceLemmas::ids_begin), unfolding(crate::specs::Cursors::dense_left))]
+    #[tactic(auto, using(crate::proofs::PlaceLemmas::ids_begin), unfolding(crate::specs::Cursors::dense_left, crate::specs::Cursors::AreIdsAfter))]
     pub fn ids(&self) -> Sums<'a>
-        ensures { BeginWithIds (sums_left result) (dense_left self.now) }
+        ensures begin { BeginWithIds (sums_left result) (dense_left self.now) }
+        ensures start { AreIdsAfter 0 self.now result }
     {
         self.ids
     }
 
-    /// Skips as many nodes, or all if there are fewer. None is made: each column is moved on by itself.
+    /// Skips as many nodes, or all if there are fewer, by a cursor that has read the ids up to there. None is made, and no id is read again:
+    /// each other column is moved on by itself.
     #[inline(always)]
-    pub fn pass(&mut self, count: usize)
-        ensures { dense_left self.new ≡ drop count (dense_left self.old) }
+    pub fn pass_to(&mut self, ids: &Sums<'a>, count: usize)
+        ensures { AreIdsAfter count self.old ids.now
+            → dense_left self.new ≡ drop count (dense_left self.old) }
     {
         if count > 0 {
-            self.move_on(count);
+            self.follow(ids, count);
         }
     }
 
-    /// Like [`Dense::pass`], if there are some to skip.
+    /// Like [`Dense::pass_to`], if there are some to skip.
     #[inline(never)]
-    fn move_on(&mut self, count: usize)
-        ensures { dense_left self.new ≡ drop count (dense_left self.old) }
+    fn follow(&mut self, ids: &Sums<'a>, count: usize)
+        ensures { AreIdsAfter count self.old ids.now
+            → dense_left self.new ≡ drop count (dense_left self.old) }
     {
-        self.ids.pass(count);
+        self.ids = *ids;
         self.lats.pass(count);
         self.lons.pass(count);
         self.info.pass(count);

@@ -7,7 +7,7 @@ ghost use Rattle.osm_entity.specs.Views.{entity_of};
 ghost use Rattle.osm_ways.specs.Seen.{seen_refs, seen_way};
 ghost use Rattle.pbf_block.specs.Kinds.{is_among};
 ghost use Rattle.pbf_block.specs.PrimitiveBlock.{entities};
-ghost use Rattle.pbf_block.specs.Runs.{way_from, joined_runs, run_entities, runs_left};
+ghost use Rattle.pbf_block.specs.Runs.{entity_from, way_from, joined_runs, run_entities, runs_left};
 ghost use Rattle.pbf_dense.specs.Cursors.{dense_left};
 ghost use Rattle.pbf_dense.specs.Within.{ids_within_left};
 ghost use Rattle.pbf_wire.specs.declared.fault.Fault.{Fault};
@@ -24,7 +24,7 @@ use crate::receipt::{Halt, Passes};
 use crate::visit::{FileRead, Visit, pass_over, step};
 use osm_entity::EntityRef;
 use osm_ways::{NodePhase, RelationPhase, SeenWay, WayPhase};
-use pbf_block::{Block, Counts, Kinds, Run, Runs, UnmadeWay};
+use pbf_block::{Block, Counts, Kinds, Run, Runs, UnmadeEntity, UnmadeWay};
 use pbf_dense::{Dense, IdsWithin};
 use pbf_frame::{Feed, Frame, FrameKind, FrameReader, Stop};
 use pbf_header::Header;
@@ -205,6 +205,14 @@ fn take_places(phase: &mut NodePhase, dense: &Dense<'_>) -> Result<(), AllocErro
     }
 }
 
+/// Makes a node or a relation, and gathers it. It is a call, so that its room is cleared only here, and not for each run.
+#[inline(never)]
+fn gather_one<G: Gather>(unmade: &UnmadeEntity<'_>, gathering: &mut G) -> Result<(), AllocError>
+    ensures { OnOk result (gathering.new ≡ G.gathered gathering.old (entity_from unmade.now)) }
+{
+    gathering.gather(&unmade.make())
+}
+
 /// Gathers the entities of a run.
 #[inline(always)]
 fn gather_run<G: Gather>(run: &Run<'_>, gathering: &mut G) -> Result<(), AllocError>
@@ -212,7 +220,7 @@ fn gather_run<G: Gather>(run: &Run<'_>, gathering: &mut G) -> Result<(), AllocEr
 {
     match run {
         Run::Nothing => Ok(()),
-        Run::One(unmade) => gathering.gather(&unmade.make()),
+        Run::One(unmade) => gather_one(unmade, gathering),
         Run::Way(way) => gathering.gather_way(way),
         Run::Dense(dense) => gathering.gather_dense(&dense.nodes()),
     }

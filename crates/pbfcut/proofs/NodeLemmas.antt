@@ -43,6 +43,13 @@ fewer_left all left id m turn =
     let counts : length all - m ≡ suc (length left) = sym (length-drop m all) ∙ ap length turn in
     omega (arith, counts)
 
+-- nodes that are skipped after one that was made leave fewer
+pub passed_left : (left ns rest : List NodeSpec) (n : NodeSpec) (count : ℕ) → left ≡ n ∷ ns → rest ≡ drop count ns → length rest < length left
+passed_left left ns rest n count is passed =
+    let fewer : length rest ≡ length ns - count = ap length passed ∙ length-drop count ns in
+    let all : length left ≡ suc (length ns) = ap length is in
+    omega (arith, fewer, all)
+
 no_first : (n : NodeSpec) (ns : List NodeSpec) → n ∷ ns ≡ [] → ⊥
 no_first n ns e = absurd cc
 

@@ -1,13 +1,13 @@
 //! Entities that are picked, on their way into the drain, and the steps that judge them.
 
-ghost use Rattle.std.specs.Prelude.{true, false, ℤ, [], ◌∷◌, ◌≡◌, None, IfErr, OnOk, MatchOption, map, filter, take};
+ghost use Rattle.std.specs.Prelude.{true, false, ℤ, [], ◌∷◌, ◌≡◌, None, IfSome, IfErr, OnOk, MatchOption, map, filter, take};
 ghost use Rattle.std.specs.Option.{option_map};
 ghost use Rattle.osm_entity.specs.Entity.{node, way};
 ghost use Rattle.osm_entity.specs.Views.{entity_of, node_of};
 ghost use Rattle.osm_pack.specs.Packing.{has_header};
 ghost use Rattle.pbf_wire.specs.Spans.{is_in};
-ghost use Rattle.pbf_dense.specs.Cursors.{dense_left};
-ghost use Rattle.pbf_block.specs.Runs.{way_from, joined_runs, run_entities, runs_left};
+ghost use Rattle.pbf_dense.specs.Cursors.{AreIdsAfter, dense_left};
+ghost use Rattle.pbf_block.specs.Runs.{entity_from, way_from, joined_runs, run_entities, runs_left};
 ghost use Rattle.pbf_pass.specs.Counting.{counts_of};
 ghost use Rattle.pbf_pass.specs.Judged.{fault_in};
 ghost use Rattle.pbf_pass.specs.Payload.{primitive_block, lent_by};
@@ -16,11 +16,11 @@ ghost use Rattle.pbfcut.specs.Pick.{everything, pick_of, take_of, picks_of, pick
 use osm_entity::{EntityRef, NodeRef};
 use osm_pack::Packer;
 use osm_ways::{Chooser, Chosen, ChosenParents, SeenWay};
-use pbf_block::{Block, Counts, Kinds, Run, Runs, UnmadeWay};
+use pbf_block::{Block, Counts, Kinds, Run, Runs, UnmadeEntity, UnmadeWay};
 use pbf_dense::Dense;
 use pbf_frame::{Drain, Feed, Frame, FrameKind, FrameReader, Stop};
 use pbf_pass::Pass;
-use pbf_wire::{EMPTY_SPAN, Span};
+use pbf_wire::{EMPTY_SPAN, Span, Sums};
 use std::alloc::Global;
 use std::hash::BuildHasher;
 
@@ -126,24 +126,33 @@ impl<'a> Picker<'a> {
 /// At most this many nodes are skipped at a time.
 const MOST_PASSED: usize = 8_000;
 
-/// How many nodes, of those that are still to come, come before the next that is picked, or some of them; `None` if none of them is
-/// picked. Only their ids are read.
-fn unpicked(dense: &Dense<'_>, picker: &mut Picker<'_>) -> Option<usize>
+/// Ids of nodes that are still to come, and how many come before them.
+#[derive(Clone, Copy)]
+struct IdsAhead<'a> {
+    count: usize,
+    ids: Sums<'a>,
+}
+
+/// How many nodes, of those that are still to come, come before the next that is picked, or some of them, and the ids from there on; `None`
+/// if none of them is picked. Only their ids are read.
+fn unpicked<'a>(dense: &Dense<'a>, picker: &mut Picker<'_>) -> Option<IdsAhead<'a>>
     ensures none { MatchOption result
         (filter (picks_of picker.old) (map node (dense_left dense.now)) ≡ [])
-        (λ count. filter (picks_of picker.old)
-        (map node (take count (dense_left dense.now))) ≡ []) }
+        (λ ahead. filter (picks_of picker.old)
+        (map node (take ahead.count (dense_left dense.now))) ≡ []) }
+    ensures ahead { IfSome result (λ ahead. AreIdsAfter ahead.count dense.now ahead.ids) }
     ensures same { picker.new ≡ picker.old }
 {
     let mut ids = dense.ids();
     let mut count = 0;
     'ids: loop {
         count += ids.pass_inside(picker.absent(), MOST_PASSED - count);
+        let here = ids;
         let Some(id) = ids.next() else {
             return None;
         };
         if count == MOST_PASSED || picker.picks_id(id) {
-            return Some(count);
+            return Some(IdsAhead { count, ids: here });
         }
         count += 1;
     }
@@ -237,6 +246,34 @@ impl<'a> EntityPacker<'a> {
         }
     }
 
+    /// Makes a node or a relation, and packs it if it is picked. It is a call, so that its room is cleared only here, and not for each run.
+    #[inline(never)]
+    fn pack_one<D: Drain, S: BuildHasher>(
+        &mut self,
+        unmade: &UnmadeEntity<'_>,
+        packer: &mut Packer<D, S>,
+    ) -> Result<(), Stop>
+        requires { IsReadyToPack packer.old }
+        ensures { PacksEach D.Drain (picks_of self.old.picker) (entity_from unmade.now ∷ [])
+            self.old self.new packer.old packer.new result }
+    {
+        self.pack_entity(&unmade.make(), packer)
+    }
+
+    /// Makes a way, and packs it, whether it is picked or not. It is a call for the same reason.
+    #[inline(never)]
+    fn pack_made<D: Drain, S: BuildHasher>(
+        &mut self,
+        unmade: &UnmadeWay<'_>,
+        packer: &mut Packer<D, S>,
+    ) -> Result<(), Stop>
+        requires { IsReadyToPack packer.old }
+        ensures { PacksEach D.Drain everything (way (way_from unmade.now) ∷ [])
+            self.old self.new packer.old packer.new result }
+    {
+        self.pack(&EntityRef::Way(unmade.make()), packer)
+    }
+
     /// Packs a way if it is picked, which is made only then.
     fn pack_way<D: Drain, S: BuildHasher>(
         &mut self,
@@ -249,7 +286,7 @@ impl<'a> EntityPacker<'a> {
     {
         let is_picked = self.picker.picks_way(unmade);
         if is_picked {
-            self.pack(&EntityRef::Way(unmade.make()), packer)
+            self.pack_made(unmade, packer)
         } else {
             Ok(())
         }
@@ -276,10 +313,10 @@ impl<'a> EntityPacker<'a> {
             if self.picker.picks_id(view.id()) {
                 self.pack_node(view, packer)?;
             } else {
-                let Some(count) = unpicked(&nodes, &mut self.picker) else {
+                let Some(ahead) = unpicked(&nodes, &mut self.picker) else {
                     return Ok(());
                 };
-                nodes.pass(count);
+                nodes.pass_to(&ahead.ids, ahead.count);
             }
         }
         Ok(())
@@ -297,7 +334,7 @@ impl<'a> EntityPacker<'a> {
     {
         match run {
             Run::Nothing => Ok(()),
-            Run::One(unmade) => self.pack_entity(&unmade.make(), packer),
+            Run::One(unmade) => self.pack_one(unmade, packer),
             Run::Way(unmade) => self.pack_way(unmade, packer),
             Run::Dense(dense) => self.pack_nodes(&dense.nodes(), packer),
         }

@@ -5,6 +5,7 @@ use mir.Val.{SFits, to_z, of_z}
 use Rattle.pbf_wire.specs.Cursors.{sums_left}
 use Rattle.pbf_dense.specs.Cursors.{dense_left}
 use Rattle.pbf_dense.specs.Places.{BeginWithIds}
+use Rattle.pbf_dense.proofs.PlaceLemmas.{passed_ids, read_id}
 use Rattle.pbfcut.specs.declared.pick.Picker.{Picker}
 use Rattle.pbfcut.specs.Pick.{picks_id}
 use Rattle.pbfcut.proofs.NodeLemmas.{NoneInside, one_more, more_inside, none_more, fewer_left}
@@ -32,6 +33,7 @@ ids-preserved c =
       picker = c.picks_id.ensures.same ∙ so_far.picker;
       few = omega (arith, so_far.few, c.pass_inside-count.ensures.fewer, c.if-count-eq-MOST_PASSED.false);
       ids_are = more.1;
+      after = read_id c.args.dense.now c.pass_inside-count.new.self c.next.new.self (c.ids.count + m) id (passed_ids c.args.dense.now c.ids.ids c.pass_inside-count.new.self c.ids.count m so_far.after c.pass_inside-count.ensures.past.passed) c.in-Some.ensures.steps;
       none = more.0;
     }
 
@@ -50,3 +52,7 @@ returns-then-count-eq-MOST_PASSED-clause-none c =
     let so_far = c.ids.invariant in
     let absent = subst (λ (p : Picker). NoneInside p c.absent.result) so_far.picker c.absent.ensures in
     (more_inside c.args.picker.now c.ids.count c.pass_inside-count.result (sums_left c.ids.ids) (dense_left c.args.dense.now) c.absent.result absent c.pass_inside-count.ensures.past.alike so_far.ids_are so_far.none).0
+
+pub returns-then-count-eq-MOST_PASSED-clause-ahead : goal.returns-then-count-eq-MOST_PASSED-clause-ahead
+returns-then-count-eq-MOST_PASSED-clause-ahead c =
+    passed_ids c.args.dense.now c.ids.ids c.pass_inside-count.new.self c.ids.count c.pass_inside-count.result c.ids.invariant.after c.pass_inside-count.ensures.past.passed

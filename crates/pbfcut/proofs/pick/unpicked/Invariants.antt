@@ -1,6 +1,6 @@
 use Rattle.std.proofs.Common.{◌≡◌, ◌≤◌, drop, length}
 use Rattle.pbf_wire.specs.Cursors.{sums_left}
-use Rattle.pbf_dense.specs.Cursors.{dense_left}
+use Rattle.pbf_dense.specs.Cursors.{AreIdsAfter, dense_left}
 use Rattle.pbf_dense.specs.Places.{BeginWithIds}
 use Rattle.pbfcut.proofs.NodeLemmas.{NonePicked}
 use Rattle.pbfcut.proofs.pick.unpicked.Given as goal
@@ -11,6 +11,7 @@ invariant-ids l = record {
   picker : l.picker ≡ l.fn.picker;
   few : l.count ≤ 8000;
   ids_are : BeginWithIds (sums_left l.ids) (drop l.count (dense_left l.dense));
+  after : AreIdsAfter l.count l.dense l.ids;
   none : NonePicked l.fn.picker l.count (dense_left l.dense);
 }
 

@@ -9,7 +9,7 @@ use Rattle.osm_entity.specs.Views.{node_of}
 use Rattle.pbf_dense.specs.Cursors.{dense_left}
 use Rattle.pbfcut.specs.declared.pick.Picker.{Picker}
 use Rattle.pbfcut.specs.Pick.{picks_of, picks_id}
-use Rattle.pbfcut.proofs.NodeLemmas.{NonePicked, at_first, all_gone, some_passed, rest_passed, one_packed, one_stops}
+use Rattle.pbfcut.proofs.NodeLemmas.{NonePicked, at_first, all_gone, some_passed, rest_passed, passed_left, one_packed, one_stops}
 use Rattle.pbfcut.proofs.pick.EntityPacker.pack_nodes.Goals as goal
 
 pub nodes-init : goal.nodes-init
@@ -44,9 +44,13 @@ nodes-preserved g c =
     let ns = dense_left c.next_in.new.self in
     let fits : SFits w64 c.id.result = search rules in
     let here = ap (λ (z : ℤ). picks_id c.nodes.self.picker z) (sym c.id.ensures ∙ sym (to_z-of_z w64 c.id.result fits)) ∙ (sym c.picks_id.ensures.picked ∙ c.if-picks_id.false) in
-    let later = subst (λ (p : Picker). NonePicked p c.in-Some-unpicked.count ns) c.picks_id.ensures.same c.in-Some-unpicked.ensures.none in
+    let later = subst (λ (p : Picker). NonePicked p c.in-Some-unpicked.ahead.count ns) c.picks_id.ensures.same c.in-Some-unpicked.ensures.none in
     let same = ap (λ (p : Picker). record c.nodes.self { picker = p }) (c.unpicked.ensures.same ∙ c.picks_id.ensures.same) in
-    some_passed g.D.Drain c.args.self.now (dense_left c.args.dense.now) c.args.packer.now (dense_left c.nodes.nodes) ns _ (node_of c.in-Some.view) c.in-Some-unpicked.count c.nodes.self _ c.nodes.packer (rw c.in-Some.is at c.next_in.ensures) c.pass.ensures here later same c.nodes.invariant
+    some_passed g.D.Drain c.args.self.now (dense_left c.args.dense.now) c.args.packer.now (dense_left c.nodes.nodes) ns _ (node_of c.in-Some.view) c.in-Some-unpicked.ahead.count c.nodes.self _ c.nodes.packer (rw c.in-Some.is at c.next_in.ensures) (c.pass_to.ensures c.in-Some-unpicked.ensures.ahead) here later same c.nodes.invariant
+
+pub nodes-smaller : goal.nodes-smaller
+nodes-smaller g c =
+    passed_left (dense_left c.nodes.nodes) (dense_left c.next_in.new.self) _ (node_of c.in-Some.view) c.in-Some-unpicked.ahead.count (rw c.in-Some.is at c.next_in.ensures) (c.pass_to.ensures c.in-Some-unpicked.ensures.ahead)
 
 pub returns : goal.returns
 returns g c =
