@@ -6,6 +6,7 @@ pub mod Laid
 pub mod Found
 pub mod Laying
 pub mod OrderLemmas
+pub mod Remembering
 pub mod MergeLemmas
 pub mod Reading
 pub mod Walking

@@ -10,6 +10,7 @@ use Rattle.osm_ids.specs.declared.lookup.Known.{Known}
 use Rattle.osm_ids.specs.declared.lookup.Place.{Place}
 use Rattle.osm_ids.specs.declared.page.Cursor.{Cursor}
 use Rattle.osm_ids.specs.declared.pages.PageStart.{PageStart}
+use Rattle.osm_ids.specs.Order.{IsReached}
 use Rattle.osm_ids.specs.Pages.{Page, page_bytes, Rises, AllFit, IsSealed, ids_in}
 
 -- `passed` is among the ids, and of them each one above it, or at or above `last`, is `last` or one of those that the bytes from here on spell
@@ -62,6 +63,10 @@ AreKnown index bytes known = (id : ℤ) → known.span.above <ℤ id → id <ℤ
 -- of the ids of a span, a set has all, or none
 abbrev pub IsKnown : set.FinSet int_cmp → Known → Type 0
 IsKnown ids known = (id : ℤ) → known.span.above <ℤ id → id <ℤ known.span.below → set.contains ids id ≡ known.there
+
+-- and none of them is above all of the set, so that this stays true when a greater id comes
+abbrev pub IsKnownBelow : set.FinSet int_cmp → Known → Type 0
+IsKnownBelow ids known = (id : ℤ) → known.span.above <ℤ id → id <ℤ known.span.below → (set.contains ids id ≡ known.there) × IsReached ids id
 
 -- a set has none of these ids
 abbrev pub Lacks : set.FinSet int_cmp → Span → Type 0

@@ -226,7 +226,7 @@ fn short_step_to(page: &[u8], from: Cursor, id: i64) -> Option<Cursor>
 }
 
 /// Whether the id is one of these.
-fn is_within(known: Known, id: i64) -> bool
+pub(crate) fn is_within(known: Known, id: i64) -> bool
     ensures { IsTrue result → (known.span.above <ℤ id) × (id <ℤ known.span.below) }
 {
     known.span.has(id)

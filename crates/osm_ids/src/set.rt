@@ -4,6 +4,7 @@ ghost use Rattle.std.specs.Prelude.{◌≡◌, not, IfOk, IfErr, OnOk, OnErr};
 ghost use Rattle.std.specs.FinSet as set;
 ghost use Rattle.osm_ids.specs.Pages.{IsRising};
 ghost use Rattle.osm_ids.specs.Cursors.{IsKnown};
+ghost use Rattle.osm_ids.specs.Order.{IsReached};
 
 use crate::lookup::Known;
 use crate::merge::Merged;
@@ -61,7 +62,18 @@ impl IdSet {
             self.laid.lay(id)?;
             return Ok(true);
         }
-        if self.laid.ids().has(id) {
+        self.add_late(id)
+    }
+
+    /// Adds an id that is no greater than all others.
+    #[inline(never)]
+    fn add_late(&mut self, id: i64) -> Result<bool, AllocError>
+        requires { IsReached self.old id }
+        ensures new { IfOk result (λ new. new ≡ not (set.contains self.old id)) }
+        ensures ok { OnOk result (self.new ≡ set.insert self.old id) }
+        ensures err { OnErr result (self.new ≡ self.old) }
+    {
+        if self.laid.has(id) {
             return Ok(false);
         }
         Ok(self.late.insert(id)?)

@@ -12,4 +12,4 @@ returns-then-count-eq0-clause-above c = λ _.
 pub returns-else-count-eq0-clause-reached : goal.returns-else-count-eq0-clause-reached
 returns-else-count-eq0-clause-reached c = λ e.
     let low : c.args.id ≤ℤ c.self.inside.last = grind (arith, ints, to_z-of_z w64 c.args.id c.ranges.id) in
-    subst (λ (s : Ids). IsReached s c.args.id) c.self.view_is (greatest_reaches c.self.inside.ids c.self.inside.last c.args.id c.self.invariant (omega (arith, c.count.ensures, c.if-count-eq0.false)) low)
+    subst (λ (s : Ids). IsReached s c.args.id) c.self.view_is (greatest_reaches c.self.inside.ids c.self.inside.last c.args.id c.self.invariant.0 (omega (arith, c.count.ensures, c.if-count-eq0.false)) low)
