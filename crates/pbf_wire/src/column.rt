@@ -7,7 +7,7 @@ ghost use Rattle.pbf_wire.specs.declared.limits.TheConstants.{OFFSET_LIMIT};
 use crate::field::Payload;
 use crate::fields::{Fields, FoundFields};
 use crate::short::{MOST_BYTES, count_left_if_small, count_short};
-use crate::varint::{first_varint, short_varint};
+use crate::varint::{far_varint, first_varint, short_varint};
 
 /// The first number of a packed column, and the bytes after it; `None` if the bytes don't begin with a varint.
 pub fn first_number(packed: &[u8]) -> Option<(u64, &[u8])>
@@ -29,6 +29,16 @@ fn first_short(packed: &[u8]) -> Option<(u64, &[u8])>
 {
     let (value, length) = short_varint(packed)?;
     Some((value, &packed[length..]))
+}
+
+/// Like [`first_number`], if it takes four or five bytes.
+#[inline(always)]
+fn first_far(packed: &[u8]) -> Option<(u64, &[u8])>
+    ensures { MatchOption result ⊤ (λ found. (read_entries (entries packed.now)
+        ≡ found.0 ∷ read_entries (entries found.1.now)) × (found.0 < 2 ^ 35)) }
+{
+    let (number, length) = far_varint(packed)?;
+    Some((number, &packed[length..]))
 }
 
 /// Whether the first eight bytes are there and are all 0.
@@ -195,6 +205,18 @@ impl<'a> Column<'a> {
             (λ value. (numbers_left self.old ≡ value ∷ numbers_left self.new) × (value < 2 ^ 21)) }
     {
         let (value, rest) = first_short(self.packed)?;
+        self.packed = rest;
+        Some(value)
+    }
+
+    /// The next number, if it takes four or five bytes of the packed occurrence that was begun. The place is left as it is.
+    #[inline(always)]
+    #[tactic(auto, unfolding(crate::specs::Cursors::column_left))]
+    pub(crate) fn next_far(&mut self) -> Option<u64>
+        ensures { MatchOption result (self.new ≡ self.old)
+            (λ value. (numbers_left self.old ≡ value ∷ numbers_left self.new) × (value < 2 ^ 35)) }
+    {
+        let (value, rest) = first_far(self.packed)?;
         self.packed = rest;
         Some(value)
     }

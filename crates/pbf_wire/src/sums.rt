@@ -37,6 +37,9 @@ fn room_of(total: i64, limit: i64) -> u32
     }
 }
 
+/// An entry of at most five bytes is at most so many times 2^20 from 0.
+const FAR_ROOM: u32 = 1 << 14;
+
 /// A cursor over the values of a delta column: the running sums of its entries, up to the first that isn't strictly between
 /// `-limit` and `limit`. It does not allocate, and a copy of it continues by itself.
 #[derive(Clone, Copy)]
@@ -75,7 +78,7 @@ impl<'a> Sums<'a> {
             total: 0,
             limit,
             narrow: false,
-            room: 0,
+            room: room_of(0, limit),
         }
     }
 
@@ -90,7 +93,7 @@ impl<'a> Sums<'a> {
             total: 0,
             limit,
             narrow: true,
-            room: 0,
+            room: room_of(0, limit),
         }
     }
 
@@ -122,12 +125,44 @@ impl<'a> Sums<'a> {
         Some(self.total)
     }
 
+    /// Adds the entry of a number of four or five bytes to the sum. It takes the room of 2^14 entries of at most three bytes.
+    #[inline(always)]
+    fn add_far(&mut self, number: u64)
+        requires room { 2 ^ 14 ≤ self.old.room }
+        requires far { number < 2 ^ 35 }
+        ensures total { self.new.total ≡ self.old.total +ℤ unzigzag number }
+        ensures entries { self.new.entries ≡ self.old.entries }
+        ensures same { (self.new.limit ≡ self.old.limit) × (self.new.narrow ≡ self.old.narrow) }
+    {
+        self.room -= FAR_ROOM;
+        self.total += unzigzag(number);
+    }
+
+    /// The next value, if its entry takes four or five bytes and all bits of it count, and there is room for it.
+    #[inline(always)]
+    fn next_far(&mut self) -> Option<i64>
+        ensures { MatchOption result (sums_left self.new ≡ sums_left self.old)
+            (λ value. sums_left self.old ≡ value ∷ sums_left self.new) }
+    {
+        if self.narrow || self.room < FAR_ROOM {
+            return None;
+        }
+        let Some(number) = self.entries.next_far() else {
+            return None;
+        };
+        self.add_far(number);
+        Some(self.total)
+    }
+
     /// The next value, whatever its entry takes.
     #[inline(never)]
     #[tactic(auto, unfolding(crate::specs::Occurrence::items_past))]
     fn next_any(&mut self) -> Option<i64>
         ensures { YieldsFirst sums_left self.old result self.new }
     {
+        if let Some(value) = self.next_far() {
+            return Some(value);
+        }
         let number = self.entries.next()?;
         let Some(total) = added(self.total, delta_in(self.narrow, number), self.limit) else {
             self.entries = Column::over(Fields::new(&[], 0), 0);

@@ -25,33 +25,46 @@ fn any_varint(bytes: &[u8]) -> (u64, usize)
     (0, 0)
 }
 
-/// Like [`any_varint`], for numbers that take four bytes or more: most of them take four or five.
-#[inline(never)]
-fn longer_varint(bytes: &[u8]) -> (u64, usize)
-    ensures exact { number_or_reason bytes.now result ≡ varint_at bytes.now }
-    ensures taken { result.1 ≤ length bytes.now }
+/// The number that the bytes begin with, and how many bytes it takes, if they are four or five: most numbers that take more than three
+/// take so many. It is inlined.
+#[inline(always)]
+pub(crate) fn far_varint(bytes: &[u8]) -> Option<(u64, usize)>
+    ensures { MatchOption result ⊤ (λ found. (varint_at bytes.now ≡ Ok found) × (0 < found.1)
+        × (found.1 ≤ length bytes.now) × (found.0 < 2 ^ 35)) }
 {
     let [first, second, third, fourth, ..] = bytes else {
-        return any_varint(bytes);
+        return None;
     };
     if *first < 128 || *second < 128 || *third < 128 {
-        return any_varint(bytes);
+        return None;
     }
     // Each step subtracts the top bit of the byte before, which only says that the number continues.
     let two = u64::from(*first) - 128 + u64::from(*second) * 128;
     let three = two - 128 * 128 + u64::from(*third) * (128 * 128);
     let four = three - 128 * 128 * 128 + u64::from(*fourth) * (128 * 128 * 128);
     if *fourth < 128 {
-        return (four, 4);
+        return Some((four, 4));
     }
     let [_, _, _, _, fifth, ..] = bytes else {
-        return any_varint(bytes);
+        return None;
     };
     if *fifth < 128 {
         let five = four - 128 * 128 * 128 * 128 + u64::from(*fifth) * (128 * 128 * 128 * 128);
-        return (five, 5);
+        return Some((five, 5));
     }
-    any_varint(bytes)
+    None
+}
+
+/// Like [`any_varint`], for numbers that take four bytes or more: most of them take four or five.
+#[inline(never)]
+fn longer_varint(bytes: &[u8]) -> (u64, usize)
+    ensures exact { number_or_reason bytes.now result ≡ varint_at bytes.now }
+    ensures taken { result.1 ≤ length bytes.now }
+{
+    match far_varint(bytes) {
+        Some(found) => found,
+        None => any_varint(bytes),
+    }
 }
 
 /// The number that the bytes begin with, and how many bytes it takes, if they are at most three: nearly all numbers of a file
