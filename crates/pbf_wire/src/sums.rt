@@ -180,6 +180,19 @@ impl<'a> Sums<'a> {
         Some(total)
     }
 
+    /// Skips the next value, if its entry takes at most five bytes and there is room for it.
+    #[inline(always)]
+    fn pass_one(&mut self) -> bool
+        ensures passed { IsTrue result
+            → (n : ℕ) → drop (n + 1) (sums_left self.old) ≡ drop n (sums_left self.new) }
+        ensures kept { result ≡ false → sums_left self.new ≡ sums_left self.old }
+    {
+        if self.next_short().is_some() {
+            return true;
+        }
+        self.next_far().is_some()
+    }
+
     /// Skips the next value, if it is the last one again, by a 0 of one byte in the packed occurrence that was begun.
     #[inline(always)]
     fn pass_same(&mut self) -> bool
@@ -281,7 +294,7 @@ impl<'a> Sums<'a> {
                 left = rest.pass_equal(left - 1);
                 continue;
             }
-            if rest.next_short().is_none() {
+            if !rest.pass_one() {
                 break;
             }
             left -= 1;
