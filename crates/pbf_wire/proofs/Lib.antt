@@ -8,6 +8,7 @@ pub mod Written
 pub mod SumLemmas
 pub mod SumRoomLemmas
 pub mod SpanLemmas
+pub mod RisingRuns
 pub mod PackedLemmas
 pub mod WritingLemmas
 pub mod CountLemmas

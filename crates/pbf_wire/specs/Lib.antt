@@ -18,3 +18,4 @@ pub mod Writing
 pub mod Message
 pub mod Faults
 pub mod Short
+pub mod Rising

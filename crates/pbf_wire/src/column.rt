@@ -6,6 +6,7 @@ ghost use Rattle.pbf_wire.specs.declared.limits.TheConstants.{OFFSET_LIMIT};
 
 use crate::field::Payload;
 use crate::fields::{Fields, FoundFields};
+use crate::runs::rise_of;
 use crate::short::{MOST_BYTES, count_left_if_small, count_short};
 use crate::varint::{far_varint, first_varint, short_varint};
 
@@ -67,8 +68,9 @@ pub struct Column<'a> {
 }
 
 impl<'a> Column<'a> {
-    ghost use Rattle.std.specs.Prelude.{◌+◌};
+    ghost use Rattle.std.specs.Prelude.{◌+◌, ◌++◌};
     ghost use Rattle.std.specs.List.{AllByRecursion};
+    ghost use Rattle.pbf_wire.specs.Rising.{AreRising};
     ghost use Rattle.pbf_wire.specs.Occurrence.{items, found};
     ghost use Rattle.pbf_wire.specs.Columns.{joined};
     ghost use Rattle.pbf_wire.specs.Cursors.{fields_left, column_left, numbers_left, place_of_number};
@@ -269,6 +271,21 @@ impl<'a> Column<'a> {
         }
         self.packed = &self.packed[8..];
         true
+    }
+
+    /// Skips the next sixteen numbers, if each takes one byte of the packed occurrence that was begun and is even, and returns half their
+    /// sum. Otherwise nothing changes. The place is left as it is.
+    #[inline(always)]
+    #[tactic(auto, unfolding(crate::specs::Cursors::column_left))]
+    pub(crate) fn pass_rising(&mut self) -> Option<u16>
+        ensures rising { MatchOption result ⊤
+            (λ rise. AreRising (take 16 self.old.packed.now) rise) }
+        ensures passed { MatchOption result (self.new ≡ self.old)
+            (λ _. numbers_left self.old ≡ take 16 self.old.packed.now ++ numbers_left self.new) }
+    {
+        let rise = rise_of(self.packed.first_chunk::<16>()?)?;
+        self.packed = &self.packed[16..];
+        Some(rise)
     }
 
     /// The next number, by what is left of the packed occurrence that was begun, and then by the fields after it.

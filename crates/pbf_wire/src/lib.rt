@@ -20,6 +20,7 @@ mod least;
 mod limits;
 mod message;
 mod reading;
+mod runs;
 mod short;
 mod signed;
 mod span;

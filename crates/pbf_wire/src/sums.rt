@@ -40,6 +40,12 @@ fn room_of(total: i64, limit: i64) -> u32
 /// An entry of at most five bytes is at most so many times 2^20 from 0.
 const FAR_ROOM: u32 = 1 << 14;
 
+/// The span that has all values.
+const WHOLE_SPAN: Span = Span {
+    above: i64::MIN,
+    below: i64::MAX,
+};
+
 /// A cursor over the values of a delta column: the running sums of its entries, up to the first that isn't strictly between
 /// `-limit` and `limit`. It does not allocate, and a copy of it continues by itself.
 #[derive(Clone, Copy)]
@@ -58,7 +64,7 @@ pub struct Sums<'a> {
 }
 
 impl<'a> Sums<'a> {
-    ghost use Rattle.std.specs.Prelude.{◌+◌, ◌≤◌, ◌∷◌, ℕ, ⊤, true, false, IsTrue, MatchOption, drop, length, map};
+    ghost use Rattle.std.specs.Prelude.{◌+◌, ◌-◌, ◌≤◌, ◌∷◌, List, ℕ, ℤ, ⊤, true, false, IsTrue, MatchOption, drop, length, map};
     ghost use Rattle.std.specs.Iterator.{YieldsFirst};
     ghost use Rattle.std.specs.List.{AllByRecursion};
     ghost use Rattle.pbf_wire.specs.Signed.{unzigzag, low_sint32};
@@ -174,6 +180,19 @@ impl<'a> Sums<'a> {
         Some(total)
     }
 
+    /// Skips the next value, if its entry takes at most five bytes and there is room for it.
+    #[inline(always)]
+    fn pass_one(&mut self) -> bool
+        ensures passed { IsTrue result
+            → (n : ℕ) → drop (n + 1) (sums_left self.old) ≡ drop n (sums_left self.new) }
+        ensures kept { result ≡ false → sums_left self.new ≡ sums_left self.old }
+    {
+        if self.next_short().is_some() {
+            return true;
+        }
+        self.next_far().is_some()
+    }
+
     /// Skips the next value, if it is the last one again, by a 0 of one byte in the packed occurrence that was begun.
     #[inline(always)]
     fn pass_same(&mut self) -> bool
@@ -208,19 +227,74 @@ impl<'a> Sums<'a> {
         left
     }
 
+    /// Adds the sum of sixteen entries of one byte that aren't negative.
+    #[inline(always)]
+    fn add_rise(&mut self, rise: u16)
+        requires { 16 ≤ self.old.room }
+        ensures total { self.new.total ≡ self.old.total +ℤ pos rise }
+        ensures entries { self.new.entries ≡ self.old.entries }
+        ensures same { (self.new.limit ≡ self.old.limit) × (self.new.narrow ≡ self.old.narrow) }
+    {
+        self.room -= 16;
+        self.total += i64::from(rise);
+    }
+
+    /// Skips the next sixteen values, if they rise by entries of one byte and a span has them all. Of these only the sum is needed: all
+    /// values are between the one before them and their last.
+    #[inline(always)]
+    fn pass_rising(&mut self, span: Span) -> bool
+        ensures passed { IsTrue result → (values : List ℤ) (n : ℕ)
+            → ArePassed span true values (sums_left self.old) n
+            → ArePassed span true values (sums_left self.new) (n + 16) }
+        ensures kept { result ≡ false → sums_left self.new ≡ sums_left self.old }
+    {
+        let mut next = *self;
+        let Some(rise) = next.entries.pass_rising() else {
+            return false;
+        };
+        if next.room < 16 || next.total <= span.above {
+            return false;
+        }
+        next.add_rise(rise);
+        if span.below <= next.total {
+            return false;
+        }
+        *self = next;
+        true
+    }
+
+    /// Skips values that a span has, sixteen at a time, as long as they rise by entries of one byte, and returns how many of `most` are
+    /// left. If the values to be skipped are those that it lacks, none is.
+    #[inline(always)]
+    fn pass_runs(&mut self, span: Span, is_there: bool, most: usize) -> usize
+        ensures past { ArePassed span is_there (sums_left self.old) (sums_left self.new)
+            (most - result) }
+        ensures fewer { result ≤ most }
+    {
+        self.entries.numbers_are_few();
+        let mut left = most;
+        'runs: while is_there && left >= 16 {
+            if !self.pass_rising(span) {
+                break;
+            }
+            left -= 16;
+        }
+        left
+    }
+
     /// Skips values as long as that is quick, and returns how many of `count` are still to be skipped. They are read from a copy,
     /// which stays in registers.
     fn pass_quick(&mut self, count: usize) -> usize
         ensures { PassesSome self.old self.new count result }
     {
         let mut rest = *self;
-        let mut left = count;
+        let mut left = rest.pass_runs(WHOLE_SPAN, true, count);
         'entries: while left > 0 {
             if rest.pass_same() {
                 left = rest.pass_equal(left - 1);
                 continue;
             }
-            if rest.next_short().is_none() {
+            if !rest.pass_one() {
                 break;
             }
             left -= 1;
@@ -252,9 +326,8 @@ impl<'a> Sums<'a> {
         ensures past { ArePassed span is_there (sums_left self.old) (sums_left self.new) result }
         ensures fewer { result ≤ most }
     {
-        self.entries.numbers_are_few();
         let mut rest = *self;
-        let mut left = most;
+        let mut left = rest.pass_runs(span, is_there, most);
         'alike: while left > 0 {
             let mut next = rest;
             let Some(value) = next.next_short() else {

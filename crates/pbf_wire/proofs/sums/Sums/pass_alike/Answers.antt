@@ -3,13 +3,11 @@ use Rattle.std.proofs.lemmas.Int.{to_z-of_z}
 use mir.Val.{SFits}
 use Rattle.pbf_wire.specs.Cursors.{sums_left}
 use Rattle.pbf_wire.specs.Spans.{is_in, ArePassed}
-use Rattle.pbf_wire.proofs.SpanLemmas.{one_past, same_test, values_fit}
+use Rattle.pbf_wire.proofs.SpanLemmas.{one_past, same_test}
 use Rattle.pbf_wire.proofs.sums.Sums.pass_alike.Goals as goal
 
 pub alike-init : goal.alike-init
-alike-init c =
-    let all = c.args.self.now in
-    record { past = record { passed = search rules; alike = search rules; there = omega arith; few = values_fit all c.numbers_are_few.ensures }; fewer = omega arith }
+alike-init c = record { past = c.pass_runs-left.ensures.past; fewer = c.pass_runs-left.ensures.fewer }
 
 pub alike-preserved : goal.alike-preserved
 alike-preserved c =

@@ -1,0 +1,137 @@
+-- Entries of one byte that aren't negative, sixteen at once.
+use Rattle.std.proofs.Common.{◌≡◌, ◌<◌, ◌≤◌, ◌+◌, ◌-◌, ◌*◌, ◌/◌, ◌%◌, ◌^◌, ℕ, zero, suc, Bool, true, false, cond, leb, List, [], ◌∷◌, ◌++◌, length, map, take, drop, replicate, bit_and, ℤ, pos, negsuc, ◌+ℤ◌, ◌<ℤ◌, refl, sym, ap, subst, ◌∙◌, arith, w8, w64, to_z, of_z, take-append-drop}
+use Rattle.std.specs.List.{AllByRecursion, fold, sum}
+use Rattle.std.specs.Simd.Lanes.{mask_l, sum_l, fold_l, zip2, top}
+use Rattle.std.proofs.lemmas.Bool.{eq-eqb}
+use Rattle.std.proofs.lemmas.Bool.Decides.{nat_tests}
+use Rattle.std.proofs.lemmas.Int.{ints, to_z-of_z}
+use Rattle.std.proofs.lemmas.List.{length-map, map-id}
+use Rattle.std.proofs.lemmas.Nat.{and_mask}
+use Rattle.std.proofs.lemmas.Simd.{fold-sum, mask_l-mod, tops_compared, zip2_splat_left}
+use mir.Val.{bits, hbits, SFits}
+use Rattle.pbf_wire.specs.Columns.{entries, read_entries, placed}
+use Rattle.pbf_wire.specs.Cursors.{numbers_left, sums_left}
+use Rattle.pbf_wire.specs.Rising.{IsHalved, AreRising}
+use Rattle.pbf_wire.specs.Signed.{delta_in, unzigzag}
+use Rattle.pbf_wire.specs.Spans.{ArePassed}
+use Rattle.pbf_wire.specs.Sums.{HasRoom, sums_within}
+use Rattle.pbf_wire.specs.declared.column.Column.{Column}
+use Rattle.pbf_wire.specs.declared.span.Span.{Span}
+use Rattle.pbf_wire.specs.declared.sums.Sums.{Sums}
+use Rattle.pbf_wire.proofs.Columns.{entries_ok}
+use Rattle.pbf_wire.proofs.SpanLemmas.{one_past, span_has}
+use Rattle.pbf_wire.proofs.SumRoomLemmas.{room_after, value_after}
+use Rattle.pbf_wire.proofs.Varints.{one_byte}
+
+-- ---- lanes
+
+fold_is : (a : ℕ) (xs : List ℕ) → fold (λ s x. s + x) a xs ≡ a + sum_l xs
+fold_is a [] = omega arith
+fold_is a (x ∷ xs) = fold_is (a + x) xs ∙ omega arith
+
+sum_is : (xs : List ℕ) → sum_l xs ≡ sum xs
+sum_is xs = omega (arith, fold_is 0 xs)
+
+sum_cons : (x : ℕ) (xs : List ℕ) → sum (x ∷ xs) ≡ x + sum xs
+sum_cons x xs = sym (sum_is (x ∷ xs)) ∙ ap (λ n. x + n) (sum_is xs)
+
+pub wide_sum : (xs : List ℕ) → fold_l (λ s x. s + x) 0 (map (λ x. x) xs) ≡ sum xs
+wide_sum xs = omega (arith, fold-sum 0 (map (λ x. x) xs), ap sum_l (map-id xs), sum_is xs)
+
+-- the tests of sixteen lanes, as a mask
+pub mask_is : (bound : ℕ) (xs : List ℕ) → length xs ≡ 16 → mask_l (map (top (hbits w8)) (zip2 (λ a b. cond (leb a b) (2 ^ bits w8 - 1) 0) (replicate 16 bound) xs)) % 2 ^ 64 ≡ mask_l (map (λ b. leb bound b) xs)
+mask_is bound xs long = ap (λ ms. mask_l ms % 2 ^ 64) (tops_compared w8 leb (replicate 16 bound) xs ∙ zip2_splat_left leb bound 16 xs long) ∙ mask_l-mod (map (λ b. leb bound b) xs) 64 (omega (arith, long, length-map xs (λ b. leb bound b)))
+
+none_above : (bound : ℕ) (xs : List ℕ) → mask_l (map (λ b. leb bound b) xs) ≡ 0 → AllByRecursion (λ b. b < bound) xs
+none_above bound [] none = tt
+none_above bound (x ∷ xs) none = by (leb bound x) refl (none_above bound xs)
+  where
+    by : (t : Bool) → leb bound x ≡ t → (mask_l (map (λ b. leb bound b) xs) ≡ 0 → AllByRecursion (λ b. b < bound) xs) → (x < bound) × AllByRecursion (λ b. b < bound) xs
+    by true e more = absurd (let m = ap (λ t. cond {A = ℕ} t 1 0 + 2 * mask_l (map (λ b. leb bound b) xs)) e in omega (arith, none, m))
+    by false e more = (grind (arith, nat_tests, e), more (let m = ap (λ t. cond {A = ℕ} t 1 0 + 2 * mask_l (map (λ b. leb bound b) xs)) e in omega (arith, none, m)))
+
+pub all_below : (bound : ℕ) (xs : List ℕ) → length xs ≡ 16 → mask_l (map (top (hbits w8)) (zip2 (λ a b. cond (leb a b) (2 ^ bits w8 - 1) 0) (replicate 16 bound) xs)) % 2 ^ 64 ≡ 0 → AllByRecursion (λ b. b < bound) xs
+all_below bound xs long none = none_above bound xs (sym (mask_is bound xs long) ∙ none)
+
+-- bytes below 128 whose lowest bits are 0
+pub all_halved : (xs : List ℕ) (n : ℕ) → length xs ≡ n → AllByRecursion (λ b. b < 128) xs → AllByRecursion (λ b. b < 1) (zip2 bit_and xs (replicate n 1)) → AllByRecursion IsHalved xs
+all_halved [] n long small even = tt
+all_halved (x ∷ xs) zero long small even = absurd (omega arith)
+all_halved (x ∷ xs) (suc n) long small even = ((small.0, omega (arith, and_mask x 1, even.0)), all_halved xs n (omega (arith, long)) small.1 even.1)
+
+pub run_small : (xs : List ℕ) → AllByRecursion IsHalved xs → sum_l xs ≤ 127 * length xs
+run_small [] h = omega arith
+run_small (x ∷ xs) h = omega (arith, h.0.0, run_small xs h.1)
+
+-- ---- as numbers
+
+first_read : (b : ℕ) (bytes : List ℕ) → b < 128 → read_entries (entries (b ∷ bytes)) ≡ b ∷ read_entries (entries bytes)
+first_read b bytes small = ap read_entries (entries_ok (b ∷ bytes) b 1 (omega arith) (omega arith) (one_byte (b ∷ bytes) (omega arith) small))
+
+all_read : (front rest : List ℕ) → AllByRecursion IsHalved front → read_entries (entries (front ++ rest)) ≡ front ++ read_entries (entries rest)
+all_read [] rest h = refl
+all_read (b ∷ bs) rest h = first_read b (bs ++ rest) h.0.0 ∙ ap (λ (ns : List ℕ). b ∷ ns) (all_read bs rest h.1)
+
+pub run_read : (bytes front : List ℕ) (rise : ℕ) → front ≡ take 16 bytes → AreRising front rise → read_entries (entries bytes) ≡ front ++ read_entries (entries (drop 16 bytes))
+run_read bytes front rise is h =
+    ap (λ (w : List ℕ). read_entries (entries w)) (sym (take-append-drop 16 bytes) ∙ ap (λ (w : List ℕ). w ++ drop 16 bytes) (sym is))
+    ∙ all_read front (drop 16 bytes) h.each
+
+-- before those that follow in the occurrence, and after it
+pub placed_run : (front ns : List ℕ) (place : ℕ) (more : List (ℕ × ℕ)) → map {B = ℕ} (λ p. p.0) (placed place (front ++ ns) ++ more) ≡ front ++ map (λ p. p.0) (placed place ns ++ more)
+placed_run [] ns place more = refl
+placed_run (b ∷ bs) ns place more = ap (λ (xs : List ℕ). b ∷ xs) (placed_run bs ns place more)
+
+-- ---- as entries
+
+abbrev values : ℤ → ℤ → Bool → List ℕ → List ℤ
+values limit total narrow ns = sums_within limit total (map (delta_in narrow) ns)
+
+half_is : (b : ℕ) → b % 2 ≡ 0 → unzigzag b ≡ pos (b / 2)
+half_is b even = ap (λ (t : Bool). cond t (pos (b / 2)) (negsuc (b / 2))) (eq-eqb _ _ even)
+
+run_past : (bytes more : List ℕ) (span : Span) (vs : List ℤ) (limit total : ℤ) (room n : ℕ) (narrow : Bool) → HasRoom limit total room → length bytes ≤ room → AllByRecursion IsHalved bytes → span.above <ℤ total → (total +ℤ pos (sum bytes / 2)) <ℤ span.below
+    → ArePassed span true vs (values limit total narrow (bytes ++ more)) n → ArePassed span true vs (values limit (total +ℤ pos (sum bytes / 2)) narrow more) (n + length bytes)
+run_past [] more span vs limit total room n narrow roomy some each above below past =
+    let still : total ≡ total +ℤ pos (sum [] / 2) = omega (arith, ints) in
+    let none : n ≡ n + length {A = ℕ} [] = omega arith in
+    subst (λ m. ArePassed span true vs (values limit (total +ℤ pos (sum [] / 2)) narrow more) m) none (subst (λ t. ArePassed span true vs (values limit t narrow more) n) still past)
+run_past (b ∷ bs) more span vs limit total room n narrow roomy some each above below past =
+    let half = half_is b each.0.1 in
+    let value = total +ℤ unzigzag b in
+    let first : 0 < room = omega (arith, some) in
+    let small : b < 2 ^ 21 = omega (arith, each.0.0) in
+    let is = value_after limit total room b narrow (bs ++ more) roomy first small in
+    let sums = sum_cons b bs in
+    let even = each.0.1 in
+    let low : span.above <ℤ value = omega (arith, ints, half, above) in
+    let end : value +ℤ pos (sum bs / 2) ≡ total +ℤ pos (sum (b ∷ bs) / 2) = omega (arith, ints, half, sums, even) in
+    let high : (value +ℤ pos (sum bs / 2)) <ℤ span.below = omega (arith, ints, end, below) in
+    let here : value <ℤ span.below = omega (arith, ints, high) in
+    let next = one_past span true vs _ value n (subst (λ zs. ArePassed span true vs zs n) is past) (span_has span value low here) in
+    let count : suc n + length bs ≡ n + length (b ∷ bs) = omega arith in
+    let more_past = run_past bs more span vs limit value (room - 1) (suc n) narrow (room_after limit total room b roomy first small) (omega (arith, some)) each.1 low high next in
+    subst (λ m. ArePassed span true vs (values limit (total +ℤ pos (sum (b ∷ bs) / 2)) narrow more) m) count (subst (λ t. ArePassed span true vs (values limit t narrow more) (suc n + length bs)) end more_past)
+
+-- ---- of cursors
+
+pub run_is : (old new : Sums) (entries : Column) (front : List ℕ) (rise : ℕ) (span : Span) (vs : List ℤ) (n : ℕ) → 16 ≤ old.room → AreRising front rise → numbers_left old.entries ≡ front ++ numbers_left entries → span.above <ℤ old.total → new.total <ℤ span.below
+    → new.total ≡ old.total +ℤ pos rise → new.entries ≡ entries → new.limit ≡ old.limit → new.narrow ≡ old.narrow → ArePassed span true vs (sums_left old) n → ArePassed span true vs (sums_left new) (n + 16)
+run_is old new entries front rise span vs n some h numbers above below total_is entries_are limit_is narrow_is past =
+    let end : new.total ≡ old.total +ℤ pos (sum front / 2) = total_is ∙ ap (λ (r : ℕ). old.total +ℤ pos r) h.all in
+    let before : ArePassed span true vs (values old.limit old.total old.narrow (front ++ numbers_left entries)) n = subst (λ ns. ArePassed span true vs (values old.limit old.total old.narrow ns) n) numbers past in
+    let after = run_past front (numbers_left entries) span vs old.limit old.total old.room n old.narrow old.roomy (omega (arith, some, h.many)) h.each above (subst (λ z. z <ℤ span.below) end below) before in
+    let counted = subst (λ m. ArePassed span true vs (values old.limit (old.total +ℤ pos (sum front / 2)) old.narrow (numbers_left entries)) (n + m)) h.many after in
+    rw (end, entries_are, limit_is, narrow_is) counted
+
+pub rise_stored : (limit total rise : ℤ) (room n : ℕ) → SFits w64 limit → SFits w64 total → HasRoom limit total room → 16 ≤ room → n < 2 ^ 16 → rise ≡ pos n
+    → to_z w64 (of_z w64 (to_z w64 (of_z w64 total) +ℤ to_z w64 (of_z w64 rise))) ≡ total +ℤ rise
+rise_stored limit total rise room n limit_fits total_fits h some small e =
+    let rise_fits : SFits w64 rise = omega (arith, ints, small, e) in
+    let fits : SFits w64 (total +ℤ rise) = omega (arith, ints, h.above, h.below, small, limit_fits, total_fits, some, e) in
+    rw (to_z-of_z w64 total total_fits, to_z-of_z w64 rise rise_fits) (to_z-of_z w64 (total +ℤ rise) fits)
+
+pub room_after_rise : (limit total rise : ℤ) (room n : ℕ) → SFits w64 limit → SFits w64 total → HasRoom limit total room → 16 ≤ room → n < 2 ^ 16 → rise ≡ pos n
+    → HasRoom limit (to_z w64 (of_z w64 (to_z w64 (of_z w64 total) +ℤ to_z w64 (of_z w64 rise)))) (room - 16)
+room_after_rise limit total rise room n limit_fits total_fits h some small e =
+    rw (rise_stored limit total rise room n limit_fits total_fits h some small e) (record { above = omega (arith, ints, h.above, h.below, small, some, e); below = omega (arith, ints, h.above, h.below, small, some, e) })

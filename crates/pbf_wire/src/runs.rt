@@ -1,0 +1,45 @@
+//! Sixteen numbers of one byte at once.
+
+ghost use Rattle.std.specs.Prelude.{◌≡◌, ◌<◌, ⊤, IsTrue, MatchOption, length};
+ghost use Rattle.std.specs.List.{AllByRecursion, sum};
+ghost use Rattle.pbf_wire.specs.Rising.{AreRising, IsHalved};
+
+use std::simd::prelude::*;
+
+/// Whether all lanes are below a number.
+#[inline(always)]
+fn are_below(lanes: u8x16, bound: u8) -> bool
+    requires { length lanes ≡ 16 }
+    ensures { IsTrue result → AllByRecursion (λ lane. lane < bound) lanes }
+{
+    lanes.simd_ge(u8x16::splat(bound)).to_bitmask() == 0
+}
+
+/// Whether all bytes are below 128 and even.
+#[inline(always)]
+fn are_halved(block: &[u8; 16]) -> bool
+    ensures { IsTrue result → AllByRecursion IsHalved block.now }
+{
+    let lanes = u8x16::from_array(*block);
+    are_below(lanes, 128) && are_below(lanes & u8x16::splat(1), 1)
+}
+
+/// The sum of such bytes.
+#[inline(always)]
+fn sum_of(block: &[u8; 16]) -> u16
+    requires { AllByRecursion IsHalved block.now }
+    ensures { result ≡ sum block.now }
+{
+    u8x16::from_array(*block).cast::<u16>().strict_reduce_sum()
+}
+
+/// Half the sum of the bytes, if each is below 128 and even: so each is a number of one byte, which means an entry that isn't negative.
+#[inline(always)]
+pub(crate) fn rise_of(block: &[u8; 16]) -> Option<u16>
+    ensures { MatchOption result ⊤ (λ rise. AreRising block.now rise) }
+{
+    if !are_halved(block) {
+        return None;
+    }
+    Some(sum_of(block) / 2)
+}
