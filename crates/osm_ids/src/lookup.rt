@@ -154,35 +154,17 @@ impl<'a> Lookup<'a> {
         self.find(id)
     }
 
-    /// Whether the set has the id, looked up from the place whose page it is in, if it is one of the two.
+    /// Whether the set has the id, looked up from the place whose page it is in, if it is one of the two. It stays at the id, and where
+    /// the set lacks it at the next one, so that a greater id is read from there on.
     #[inline(never)]
     fn find(&mut self, id: i64) -> bool
         ensures { LooksUp (set.contains self.old id) self.old self.new result }
     {
-        self.turn_to(id);
-        self.find_here(id)
-    }
-
-    /// Goes on at the other place, if the id isn't in the page that was read last.
-    fn turn_to(&mut self, id: i64)
-        ensures { self.new ≡ self.old }
-    {
-        if !are_begun(self.index, self.here.begun, id) {
-            let here = self.here;
-            self.here = self.other;
-            self.other = here;
-        }
-    }
-
-    /// Whether the set has the id. It stays at the id, and where the set lacks it at the next one, so that a greater id is read
-    /// from there on.
-    fn find_here(&mut self, id: i64) -> bool
-        ensures { LooksUp (set.contains self.old id) self.old self.new result }
-    {
+        let is_near = turn_to(self.index, &mut self.here, &mut self.other, id);
         if is_within(self.here.known, id) {
             return self.here.known.there;
         }
-        let begun = starts_near(self.index, self.here.begun, id);
+        let begun = starts_from(self.index, self.here.begun, is_near, id);
         if begun == 0 {
             self.here.known = known_first(self.index);
             return false;
@@ -205,6 +187,28 @@ impl<'a> Lookup<'a> {
         };
         cursor.last == id
     }
+}
+
+/// Goes on at the other place, if the id isn't in the page that was read last but in that of the other place, or is known there. It
+/// returns whether the id is in the page that is read on. If neither place has it, what was read last becomes the other place.
+fn turn_to<'a>(index: &[PageStart], here: &mut Place<'a>, other: &mut Place<'a>, id: i64) -> bool
+    ensures places { (bytes : List ℕ) → IsPlace index.now bytes here.old
+        → IsPlace index.now bytes other.old
+        → IsPlace index.now bytes here.new × IsPlace index.now bytes other.new }
+    ensures near { IsTrue result → CountsPassed index.now id here.new.begun }
+{
+    if are_begun(index, here.begun, id) {
+        return true;
+    }
+    let is_near = are_begun(index, other.begun, id);
+    if is_near || is_within(other.known, id) {
+        let last = *here;
+        *here = *other;
+        *other = last;
+        return is_near;
+    }
+    *other = *here;
+    false
 }
 
 /// The cursor one id further on, if that is the wanted id and its difference takes one byte, as most do in a dense set. `None`
@@ -354,13 +358,21 @@ fn part(bytes: &[u8], from: usize, to: usize) -> &[u8]
     &bytes[from..to]
 }
 
-/// How many pages begin at or below the id. It is tried first whether they are as many as `near`, or one more.
+/// How many pages begin at or below the id: as many as `near`, if that is said.
+fn starts_from(starts: &[PageStart], near: usize, is_near: bool, id: i64) -> usize
+    requires { IsTrue is_near → CountsPassed starts.now id near }
+    ensures { CountsPassed starts.now id result }
+{
+    if is_near {
+        return near;
+    }
+    starts_near(starts, near, id)
+}
+
+/// How many pages begin at or below the id. It is tried first whether they are one more than `near`.
 fn starts_near(starts: &[PageStart], near: usize, id: i64) -> usize
     ensures { CountsPassed starts.now id result }
 {
-    if are_begun(starts, near, id) {
-        return near;
-    }
     if near < starts.len() && are_begun(starts, near + 1, id) {
         return near + 1;
     }

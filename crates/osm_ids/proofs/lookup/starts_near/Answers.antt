@@ -9,12 +9,6 @@ returns-then-are_begun c = record {
   point = passed_same c.args.starts.now c.args.id _ _ (to_z-of_z w64 c.args.id c.ranges.id) (c.if-are_begun.ensures.point refl);
 }
 
-pub returns-then-are_begun-2 : goal.returns-then-are_begun-2
-returns-then-are_begun-2 c = record {
-  within = search rules;
-  point = passed_same c.args.starts.now c.args.id _ _ (to_z-of_z w64 c.args.id c.ranges.id) (c.if-are_begun-2.ensures.point refl);
-}
-
 pub returns : goal.returns
 returns c = record {
   within = search rules;

@@ -1,26 +1,28 @@
-use Rattle.std.proofs.Common.{sym, ap, subst, ◌∙◌, ◌<◌, ◌<ℤ◌, arith, rules, refl, of_z, w64}
+use Rattle.std.proofs.Common.{sym, ap, subst, ◌∙◌, ◌<◌, ◌≤◌, ◌<ℤ◌, length, arith, rules, refl, of_z, w64}
 use mir.Val.{SFits}
 use Rattle.std.specs.FinSet as set
 use Rattle.std.specs.Ordering.{int_eq}
 use Rattle.std.proofs.lemmas.Int.{to_z-of_z}
 use Rattle.std.proofs.Math.Facts.{Fits-of_z}
+use Rattle.osm_ids.specs.declared.lookup.Place.{Place}
 use Rattle.osm_ids.specs.Pages.{ids_in}
 use Rattle.osm_ids.specs.Cursors.{IsPassedAt}
 use Rattle.osm_ids.proofs.Sets.{contains-ids_of}
 use Rattle.osm_ids.proofs.Reading.{same_bits}
 use Rattle.osm_ids.proofs.Found.{none_at_all, passed, found_in_set, stands_on}
 use Rattle.osm_ids.proofs.Places.{IsChosen, chosen_first, chosen_still}
-use Rattle.osm_ids.proofs.lookup.Lookup.find_here.Goals as goal
-use Rattle.osm_ids.proofs.lookup.Lookup.find_here.Goals.{then-begun-self+then-is_ahead, else-begun-self}
+use Rattle.osm_ids.proofs.lookup.Lookup.find.Goals as goal
+use Rattle.osm_ids.proofs.lookup.Lookup.find.Goals.{then-begun-self+then-is_ahead, else-begun-self}
 
 pub returns-then-is_within : goal.returns-then-is_within
 returns-then-is_within c =
+    let held = c.turn_to-is_near.ensures.places c.self.inside.bytes.now c.self.invariant.1 c.self.invariant.2 in
     let id = c.args.id in
-    let known = c.self.inside.here.known in
+    let known = c.turn_to-is_near.new.here.known in
     let within = c.if-is_within.ensures refl in
     let same = to_z-of_z w64 id c.ranges.id in
     record {
-      found = sym (c.self.invariant.1.known id (subst (λ z. known.span.above <ℤ z) same within.0) (subst (λ z. z <ℤ known.span.below) same within.1))
+      found = sym (held.0.known id (subst (λ z. known.span.above <ℤ z) same within.0) (subst (λ z. z <ℤ known.span.below) same within.1))
           ∙ sym (contains-ids_of (ids_in c.self.inside.index.now c.self.inside.bytes.now) id)
           ∙ ap (λ s. set.contains s id) c.self.view_is;
       same = search rules;
@@ -32,7 +34,7 @@ returns-then-begun-eq0 c =
     let bytes = c.self.inside.bytes.now in
     let sealed = c.self.invariant.0.1 in
     let id = c.args.id in
-    let point : IsPassedAt index id c.starts_near-begun.result = passed index bytes _ id _ _ sealed (to_z-of_z w64 id c.ranges.id) c.starts_near-begun.ensures.point in
+    let point : IsPassedAt index id c.starts_from-begun.result = passed index bytes _ id _ _ sealed (to_z-of_z w64 id c.ranges.id) c.starts_from-begun.ensures.point in
     record {
       found = sym (none_at_all index bytes _ id _ sealed point c.if-begun-eq0.true)
           ∙ sym (contains-ids_of (ids_in index bytes) id)
@@ -42,8 +44,14 @@ returns-then-begun-eq0 c =
 
 pub invariant_of-self : goal.invariant_of-self
 invariant_of-self c =
-    let place = c.self.invariant.1 in
-    (c.self.invariant.0, record { within = place.within; stands = place.stands; known = c.known_first-self-inside.ensures c.self.inside.bytes.now _ c.self.invariant.0.1; some = place.some }, c.self.invariant.2)
+    let held = c.turn_to-is_near.ensures.places c.self.inside.bytes.now c.self.invariant.1 c.self.invariant.2 in
+    (c.self.invariant.0, held.0, held.1)
+
+pub invariant_of-self-then-begun-eq0 : goal.invariant_of-self-then-begun-eq0
+invariant_of-self-then-begun-eq0 c =
+    let held = c.turn_to-is_near.ensures.places c.self.inside.bytes.now c.self.invariant.1 c.self.invariant.2 in
+    let place = held.0 in
+    (c.self.invariant.0, record { within = place.within; stands = place.stands; known = c.known_first-self-inside.ensures c.self.inside.bytes.now _ c.self.invariant.0.1; some = place.some }, held.1)
 
 pub returns-in-Some : goal.returns-in-Some
 returns-in-Some c =
@@ -51,7 +59,7 @@ returns-in-Some c =
     let bytes = c.self.inside.bytes.now in
     let sealed = c.self.invariant.0.1 in
     let id = c.args.id in
-    let point : IsPassedAt index id c.starts_near-begun.result = passed index bytes _ id _ _ sealed (to_z-of_z w64 id c.ranges.id) c.starts_near-begun.ensures.point in
+    let point : IsPassedAt index id c.starts_from-begun.result = passed index bytes _ id _ _ sealed (to_z-of_z w64 id c.ranges.id) c.starts_from-begun.ensures.point in
     record {
       found = sym (c.in-Some.ensures.there bytes _ id sealed point)
           ∙ sym (contains-ids_of (ids_in index bytes) id)
@@ -61,37 +69,39 @@ returns-in-Some c =
 
 pub invariant_of-self-in-Some : goal.invariant_of-self-in-Some
 invariant_of-self-in-Some c =
+    let held = c.turn_to-is_near.ensures.places c.self.inside.bytes.now c.self.invariant.1 c.self.invariant.2 in
     let index = c.self.inside.index.now in
     let bytes = c.self.inside.bytes.now in
     let id = c.args.id in
     let same = to_z-of_z w64 id c.ranges.id in
-    let begun = c.starts_near-begun.result in
+    let begun = c.starts_from-begun.result in
     let some : 0 < begun = omega (arith, c.if-begun-eq0.false) in
-    let le = c.starts_near-begun.ensures.within in
-    let point : IsPassedAt index id begun = passed index bytes _ id _ _ c.self.invariant.0.1 same c.starts_near-begun.ensures.point in
+    let le = c.starts_from-begun.ensures.within in
+    let point : IsPassedAt index id begun = passed index bytes _ id _ _ c.self.invariant.0.1 same c.starts_from-begun.ensures.point in
     let chosen : IsChosen index bytes begun c.if-begun-self.place id = elim c.if-begun-self.branch [
       | then-begun-self+then-is_ahead w ↦
-          subst (λ p. IsChosen index bytes begun p id) (sym w.place-is) (chosen_still index bytes begun c.self.inside.here id _ w.if-begun-self.true same some c.self.invariant.1 (w.if-is_ahead.ensures refl))
+          subst (λ p. IsChosen index bytes begun p id) (sym w.place-is) (chosen_still index bytes begun c.turn_to-is_near.new.here id _ w.if-begun-self.true same some held.0 (w.if-is_ahead.ensures refl))
       | else-begun-self w ↦
           subst (λ p. IsChosen index bytes begun p id) (sym w.place-is) (chosen_first index bytes begun w.first_place-place.result id some le point w.first_place-place.ensures.begun w.first_place-place.ensures.place w.first_place-place.ensures.first)
     ] in
-    (c.self.invariant.0, record { within = chosen.held.within; stands = chosen.held.stands; known = c.in-Some.ensures.known bytes _ c.self.invariant.0.1; some = chosen.held.some }, c.self.invariant.2)
+    (c.self.invariant.0, record { within = chosen.held.within; stands = chosen.held.stands; known = c.in-Some.ensures.known bytes _ c.self.invariant.0.1; some = chosen.held.some }, held.1)
 
 pub returns : goal.returns
 returns c =
+    let held = c.turn_to-is_near.ensures.places c.self.inside.bytes.now c.self.invariant.1 c.self.invariant.2 in
     let index = c.self.inside.index.now in
     let bytes = c.self.inside.bytes.now in
     let id = c.args.id in
     let same = to_z-of_z w64 id c.ranges.id in
-    let begun = c.starts_near-begun.result in
+    let begun = c.starts_from-begun.result in
     let some : 0 < begun = omega (arith, c.if-begun-eq0.false) in
-    let le = c.starts_near-begun.ensures.within in
+    let le = c.starts_from-begun.ensures.within in
     let place = c.if-begun-self.place in
     let last = c.read_up_to-cursor.result.last in
-    let point : IsPassedAt index id begun = passed index bytes _ id _ _ c.self.invariant.0.1 same c.starts_near-begun.ensures.point in
+    let point : IsPassedAt index id begun = passed index bytes _ id _ _ c.self.invariant.0.1 same c.starts_from-begun.ensures.point in
     let chosen : IsChosen index bytes begun place id = elim c.if-begun-self.branch [
       | then-begun-self+then-is_ahead w ↦
-          subst (λ p. IsChosen index bytes begun p id) (sym w.place-is) (chosen_still index bytes begun c.self.inside.here id _ w.if-begun-self.true same some c.self.invariant.1 (w.if-is_ahead.ensures refl))
+          subst (λ p. IsChosen index bytes begun p id) (sym w.place-is) (chosen_still index bytes begun c.turn_to-is_near.new.here id _ w.if-begun-self.true same some held.0 (w.if-is_ahead.ensures refl))
       | else-begun-self w ↦
           subst (λ p. IsChosen index bytes begun p id) (sym w.place-is) (chosen_first index bytes begun w.first_place-place.result id some le point w.first_place-place.ensures.begun w.first_place-place.ensures.place w.first_place-place.ensures.first)
     ] in
@@ -107,18 +117,19 @@ returns c =
 
 pub invariant_of-self-2 : goal.invariant_of-self-2
 invariant_of-self-2 c =
+    let held = c.turn_to-is_near.ensures.places c.self.inside.bytes.now c.self.invariant.1 c.self.invariant.2 in
     let index = c.self.inside.index.now in
     let bytes = c.self.inside.bytes.now in
     let id = c.args.id in
     let same = to_z-of_z w64 id c.ranges.id in
-    let begun = c.starts_near-begun.result in
+    let begun = c.starts_from-begun.result in
     let some : 0 < begun = omega (arith, c.if-begun-eq0.false) in
-    let le = c.starts_near-begun.ensures.within in
+    let le = c.starts_from-begun.ensures.within in
     let place = c.if-begun-self.place in
-    let point : IsPassedAt index id begun = passed index bytes _ id _ _ c.self.invariant.0.1 same c.starts_near-begun.ensures.point in
+    let point : IsPassedAt index id begun = passed index bytes _ id _ _ c.self.invariant.0.1 same c.starts_from-begun.ensures.point in
     let chosen : IsChosen index bytes begun place id = elim c.if-begun-self.branch [
       | then-begun-self+then-is_ahead w ↦
-          subst (λ p. IsChosen index bytes begun p id) (sym w.place-is) (chosen_still index bytes begun c.self.inside.here id _ w.if-begun-self.true same some c.self.invariant.1 (w.if-is_ahead.ensures refl))
+          subst (λ p. IsChosen index bytes begun p id) (sym w.place-is) (chosen_still index bytes begun c.turn_to-is_near.new.here id _ w.if-begun-self.true same some held.0 (w.if-is_ahead.ensures refl))
       | else-begun-self w ↦
           subst (λ p. IsChosen index bytes begun p id) (sym w.place-is) (chosen_first index bytes begun w.first_place-place.result id some le point w.first_place-place.ensures.begun w.first_place-place.ensures.place w.first_place-place.ensures.first)
     ] in
@@ -126,4 +137,12 @@ invariant_of-self-2 c =
     let on = c.read_up_to-cursor.ensures.on in
     let stood = stands_on index bytes begun place.page.now place.cursor cursor chosen.reads.stood on in
     let known = c.known_near-known.ensures bytes place.page.now _ c.self.invariant.0.1 stood (c.read_up_to-cursor.ensures.all chosen.reads.stood.ids chosen.reads.stood.reached) in
-    (c.self.invariant.0, record { within = c.read_up_to-cursor.ensures.within; stands = λ begins. stands_on index bytes place.begun place.page.now place.cursor cursor (chosen.held.stands begins) on; known = known; some = λ _. omega (arith, chosen.same, some) }, c.self.invariant.2)
+    (c.self.invariant.0, record { within = c.read_up_to-cursor.ensures.within; stands = λ begins. stands_on index bytes place.begun place.page.now place.cursor cursor (chosen.held.stands begins) on; known = known; some = λ _. omega (arith, chosen.same, some) }, held.1)
+
+pub read_up_to-cursor-requires : goal.read_up_to-cursor-requires
+read_up_to-cursor-requires c =
+    let held = c.turn_to-is_near.ensures.places c.self.inside.bytes.now c.self.invariant.1 c.self.invariant.2 in
+    elim c.if-begun-self.branch [
+      | then-begun-self+then-is_ahead w ↦ subst (λ (p : Place). p.cursor.at ≤ length p.page.now) (sym w.place-is) held.0.within
+      | else-begun-self w ↦ subst (λ (p : Place). p.cursor.at ≤ length p.page.now) (sym w.place-is) w.first_place-place.ensures.place.within
+    ]
