@@ -168,6 +168,15 @@ impl<'a> Column<'a> {
         let _bytes = self.packed.len() + self.fields.0.len();
     }
 
+    /// Whether no byte is left: then no number is.
+    #[inline(always)]
+    #[tactic(auto, unfolding(crate::specs::Cursors::column_left))]
+    pub(crate) fn is_done(&self) -> bool
+        ensures { IsTrue result → column_left self.now ≡ [] }
+    {
+        self.packed.is_empty() && self.fields.0.is_done()
+    }
+
     /// How many numbers are still to come, if a quick test shows that they are few and small: at most 2^26, each below 2^35. None is
     /// decoded.
     #[inline(always)]

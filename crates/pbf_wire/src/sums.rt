@@ -400,9 +400,12 @@ impl<'a> Iterator for Sums<'a> {
 
     #[inline(always)]
     fn next(&mut self) -> Option<i64> {
-        match self.next_short() {
-            Some(value) => Some(value),
-            None => self.next_any(),
+        if let Some(value) = self.next_short() {
+            return Some(value);
         }
+        if self.entries.is_done() {
+            return None;
+        }
+        self.next_any()
     }
 }
