@@ -2,7 +2,7 @@
 
 use crate::check::counts;
 use crate::later_pass::{PLAIN_NODE, file};
-use osm_entity::BoundingBox;
+use crate::steps::AREA;
 use pbf_frame::{Pieces, Sink};
 use pbfcut::extract_sorted;
 use std::alloc::{AllocError, Global};
@@ -11,12 +11,6 @@ use std::test::Fail;
 
 /// Whether one node is written of these bytes, while no read of the second feed succeeds.
 fn cuts(alloc: Global, bytes: &[u8]) -> Result<bool, AllocError> {
-    let area = BoundingBox {
-        left: 0,
-        bottom: 0,
-        right: 1_000,
-        top: 1_000,
-    };
     let mut first = Pieces::new(bytes, &[], None);
     let mut second = Pieces::new(&[], &[], Some(0));
     let mut third = Pieces::new(bytes, &[], None);
@@ -27,7 +21,7 @@ fn cuts(alloc: Global, bytes: &[u8]) -> Result<bool, AllocError> {
         &mut first,
         &mut second,
         &mut third,
-        area,
+        AREA,
         &mut sink,
         hasher,
     );

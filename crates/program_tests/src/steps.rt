@@ -26,8 +26,8 @@ const DIGEST: [u8; 32] = [
     0xe7, 0x7e, 0x7f, 0x18, 0x2c, 0xd6, 0x5f, 0xa1, 0x4a, 0xba, 0xfa, 0x1f, 0x91, 0xa0, 0x99, 0x59,
 ];
 
-/// It has the node.
-const AREA: BoundingBox = BoundingBox {
+/// A box near the place 0, 0: it has the node.
+pub(crate) const AREA: BoundingBox = BoundingBox {
     left: 0,
     bottom: 0,
     right: 1_000,

@@ -1,7 +1,7 @@
 //! What no clause says of the steps that write: that they go through a file. One that always gives up for want of memory meets its
 //! contract.
 
-use osm_entity::BoundingBox;
+use crate::steps::AREA;
 use osm_pack::Packer;
 use osm_ways::{ChosenParents, NodePhase};
 use pbf_frame::{FrameReader, Pieces, Sink};
@@ -46,13 +46,7 @@ fn puts_header(told: &Judged, packer: &mut Writer) -> bool {
 
 /// What was chosen of nothing.
 fn nothing(alloc: Global) -> Result<ChosenParents, AllocError> {
-    let area = BoundingBox {
-        left: 0,
-        bottom: 0,
-        right: 1_000,
-        top: 1_000,
-    };
-    let ways = NodePhase::new(alloc, area).end_nodes()?;
+    let ways = NodePhase::new(alloc, AREA).end_nodes()?;
     ways.end_ways()?.with_parents().end_relations()
 }
 
