@@ -4,7 +4,7 @@
 //! `int32`, `int64`, `uint32`, enums and `bool` by two's complement, of which the types of 32 bits take the low half.
 
 ghost use Rattle.std.specs.Prelude.{◌≡◌, ◌%◌, ◌^◌};
-ghost use Rattle.pbf_wire.specs.Signed.{zigzag, unzigzag, low_i32, low_i64, sign_extended};
+ghost use Rattle.pbf_wire.specs.Signed.{zigzag, unzigzag, low_i32, low_i64, sign_extended, delta_in};
 
 /// What is written for a `sint64`: the numbers in order of their size, 0, -1, 1, -2, and so on.
 pub fn zigzag(number: i64) -> u64
@@ -60,4 +60,15 @@ pub fn sign_extended(number: i64) -> u64
     ensures { result ≡ sign_extended number }
 {
     number.cast_unsigned()
+}
+
+/// The entry that a number of a delta column means.
+pub(crate) fn delta_in(narrow: bool, number: u64) -> i64
+    ensures { result ≡ delta_in narrow number }
+{
+    if narrow {
+        i64::from(low_sint32(number))
+    } else {
+        unzigzag(number)
+    }
 }

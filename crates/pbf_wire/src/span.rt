@@ -13,6 +13,12 @@ pub struct Span {
 /// The span without a number.
 pub const EMPTY_SPAN: Span = Span { above: 0, below: 0 };
 
+/// The span that has all numbers of a column.
+pub(crate) const WHOLE_SPAN: Span = Span {
+    above: i64::MIN,
+    below: i64::MAX,
+};
+
 impl Span {
     /// Whether a number is one of these.
     #[inline(always)]

@@ -2,7 +2,7 @@
 
 ghost use Rattle.std.specs.Prelude.{◌≡◌, pos, ◌+ℤ◌, ◌≤ℤ◌, MatchOption, IfNone};
 ghost use Rattle.pbf_wire.specs.Signed.{IsWithin};
-ghost use Rattle.pbf_wire.specs.Sums.{Total, added};
+ghost use Rattle.pbf_wire.specs.Sums.{HasRoom, Total, added};
 
 use std::marker::Model;
 
@@ -39,6 +39,23 @@ pub(crate) fn added(total: i64, number: i64, limit: i64) -> Option<i64>
         None
     }
 }
+
+/// How many entries of at most three bytes can be added to a sum before one may be out of range, or 2^32 - 1 if there are more. Each
+/// is at most 2^20 from 0.
+pub(crate) fn room_of(total: i64, limit: i64) -> u32
+    requires { IsWithin limit total }
+    ensures { HasRoom limit total result }
+{
+    let room = (limit.unsigned_abs() - 1 - total.unsigned_abs()) >> 20;
+    if room < 1 << 32 {
+        room as u32
+    } else {
+        u32::MAX
+    }
+}
+
+/// An entry of at most five bytes is at most so many times 2^20 from 0.
+pub(crate) const FAR_ROOM: u32 = 1 << 14;
 
 impl Sum {
     /// The sum of nothing, which is 0.

@@ -1,50 +1,16 @@
 //! The values of a delta column.
 
 ghost use Rattle.std.specs.Prelude.{◌≡◌, ◌<◌, ◌≤ℤ◌, ◌+ℤ◌, ◌^◌, pos};
-ghost use Rattle.pbf_wire.specs.Signed.{IsWithin, delta_in};
+ghost use Rattle.pbf_wire.specs.Signed.{IsWithin};
 ghost use Rattle.pbf_wire.specs.Sums.{HasRoom};
 ghost use Rattle.pbf_wire.specs.declared.limits.TheConstants.{SUM_LIMIT};
 
 use crate::column::Column;
 use crate::fields::Fields;
 use crate::limits::STORED_LIMIT;
-use crate::signed::{low_sint32, unzigzag};
-use crate::span::Span;
-use crate::sum::added;
-
-/// The entry that a number of the column means.
-pub(crate) fn delta_in(narrow: bool, number: u64) -> i64
-    ensures { result ≡ delta_in narrow number }
-{
-    if narrow {
-        i64::from(low_sint32(number))
-    } else {
-        unzigzag(number)
-    }
-}
-
-/// How many entries of at most three bytes can be added to a sum before one may be out of range, or 2^32 - 1 if there are more. Each
-/// is at most 2^20 from 0.
-fn room_of(total: i64, limit: i64) -> u32
-    requires { IsWithin limit total }
-    ensures { HasRoom limit total result }
-{
-    let room = (limit.unsigned_abs() - 1 - total.unsigned_abs()) >> 20;
-    if room < 1 << 32 {
-        room as u32
-    } else {
-        u32::MAX
-    }
-}
-
-/// An entry of at most five bytes is at most so many times 2^20 from 0.
-const FAR_ROOM: u32 = 1 << 14;
-
-/// The span that has all values.
-const WHOLE_SPAN: Span = Span {
-    above: i64::MIN,
-    below: i64::MAX,
-};
+use crate::signed::{delta_in, unzigzag};
+use crate::span::{Span, WHOLE_SPAN};
+use crate::sum::{FAR_ROOM, added, room_of};
 
 /// A cursor over the values of a delta column: the running sums of its entries, up to the first that isn't strictly between
 /// `-limit` and `limit`. It does not allocate, and a copy of it continues by itself.

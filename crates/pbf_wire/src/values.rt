@@ -21,9 +21,8 @@ use crate::least::lesser;
 use crate::limits::{STORED_LIMIT, SUM_LIMIT};
 use crate::message::Message;
 use crate::short::{MOST_BYTES, count_left_if_small};
-use crate::signed::low_u32;
+use crate::signed::{delta_in, low_u32};
 use crate::sum::Sum;
-use crate::sums::delta_in;
 
 /// The fault at `place`, if the low 32 bits of the number aren't below `limit`.
 fn judge_low(place: u64, number: u64, limit: u64, reason: Reason) -> Option<Fault>
