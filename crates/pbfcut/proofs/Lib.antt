@@ -13,3 +13,4 @@ pub mod ExtractingLemmas
 pub mod ChosenLemmas
 pub mod KeptLaw
 pub mod NodeLemmas
+pub mod NumberLemmas

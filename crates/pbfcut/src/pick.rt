@@ -1,9 +1,12 @@
 //! Entities that are picked, on their way into the drain, and the steps that judge them.
 
-ghost use Rattle.std.specs.Prelude.{true, false, ℤ, [], ◌∷◌, ◌≡◌, None, IfSome, IfErr, OnOk, MatchOption, map, filter, take};
+ghost use Rattle.std.specs.Prelude.{true, false, ℤ, [], ◌∷◌, ◌≡◌, None, IfSome, IfErr, OnOk, SomeIff, MatchOption, map, filter, take};
+ghost use Rattle.std.specs.List.{AllByRecursion};
 ghost use Rattle.std.specs.Option.{option_map};
 ghost use Rattle.osm_entity.specs.Entity.{node, way};
+ghost use Rattle.osm_entity.specs.Ranges.{NodeFits};
 ghost use Rattle.osm_entity.specs.Views.{entity_of, node_of};
+ghost use Rattle.osm_entity.specs.Weight.{node_weight};
 ghost use Rattle.osm_pack.specs.Packing.{has_header};
 ghost use Rattle.pbf_wire.specs.Spans.{is_in};
 ghost use Rattle.pbf_dense.specs.Cursors.{AreIdsAfter, dense_left};
@@ -11,9 +14,10 @@ ghost use Rattle.pbf_block.specs.Runs.{entity_from, way_from, joined_runs, run_e
 ghost use Rattle.pbf_pass.specs.Counting.{counts_of};
 ghost use Rattle.pbf_pass.specs.Judged.{fault_in};
 ghost use Rattle.pbf_pass.specs.Payload.{primitive_block, lent_by};
+ghost use Rattle.pbfcut.specs.Numbers.{NumbersFit};
 ghost use Rattle.pbfcut.specs.Pick.{everything, pick_of, take_of, picks_of, picked_in, picks_id, picked_by, picked_by_some, IsReadyToPack, PacksAll, PacksEach, KeepsPacker, PacksPayload, FailsToPackPayload, JudgesAndPacks};
 
-use osm_entity::{EntityRef, NodeRef};
+use osm_entity::{EntityRef, HIGHEST_WEIGHT, NodeRef};
 use osm_pack::Packer;
 use osm_ways::{Chooser, Chosen, ChosenParents, SeenWay};
 use pbf_block::{Block, Counts, Kinds, Run, Runs, UnmadeEntity, UnmadeWay};
@@ -158,6 +162,23 @@ fn unpicked<'a>(dense: &Dense<'a>, picker: &mut Picker<'_>) -> Option<IdsAhead<'
     }
 }
 
+/// What a node counts for in a block, if it can be written, and otherwise `None`. The columns that it was read from have no number out of
+/// its range, so that none is tested here.
+#[inline(always)]
+fn weight_if_light(view: &NodeRef<'_>) -> Option<u64>
+    requires { NumbersFit (node_of view.now) }
+    ensures { SomeIff result (NodeFits (node_of view.now)) (node_weight (node_of view.now)) }
+{
+    if !view.scale().fits() {
+        return None;
+    }
+    let weight = view.weight();
+    if weight > HIGHEST_WEIGHT {
+        return None;
+    }
+    Some(weight)
+}
+
 /// Packs those entities of a payload that are picked, one after another, and counts them.
 #[derive(Drop)]
 pub(crate) struct EntityPacker<'a> {
@@ -209,18 +230,19 @@ impl<'a> EntityPacker<'a> {
         Ok(())
     }
 
-    /// Packs a node, whether it is picked or not.
+    /// Packs a node whose numbers are in their ranges, whether it is picked or not.
     #[inline(always)]
     fn pack_node<D: Drain, S: BuildHasher>(
         &mut self,
         view: &NodeRef<'_>,
         packer: &mut Packer<D, S>,
     ) -> Result<(), Stop>
-        requires { IsReadyToPack packer.old }
+        requires numbers { NumbersFit (node_of view.now) }
+        requires ready { IsReadyToPack packer.old }
         ensures { PacksEach D.Drain everything (node (node_of view.now) ∷ [])
             self.old self.new packer.old packer.new result }
     {
-        let Some(weight) = view.weight_if_fits() else {
+        let Some(weight) = weight_if_light(view) else {
             return Err(Stop::Changed(self.number));
         };
         packer.push_node(view, weight)?;
@@ -299,7 +321,8 @@ impl<'a> EntityPacker<'a> {
         dense: &Dense<'_>,
         packer: &mut Packer<D, S>,
     ) -> Result<(), Stop>
-        requires { IsReadyToPack packer.old }
+        requires numbers { AllByRecursion NumbersFit (dense_left dense.now) }
+        requires ready { IsReadyToPack packer.old }
         ensures { PacksEach D.Drain (picks_of self.old.picker) (map node (dense_left dense.now))
             self.old self.new packer.old packer.new result }
     {

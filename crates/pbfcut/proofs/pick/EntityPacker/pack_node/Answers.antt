@@ -8,8 +8,8 @@ use Rattle.pbfcut.proofs.pick.EntityPacker.pack_node.Goals as goal
 pub returns-in_default : goal.returns-in_default
 returns-in_default g c = record {
   packed = tt;
-  stopped = unfit_one g.D.Drain c.args.self.now.number (node (node_of c.args.view.now)) c.args.packer.now (rw c.in_default.is at c.weight_if_fits.ensures);
-  keeps = keeps_same g.D.Drain c.args.packer.now c.requires.0;
+  stopped = unfit_one g.D.Drain c.args.self.now.number (node (node_of c.args.view.now)) c.args.packer.now (rw c.in_default.is at c.weight_if_light.ensures);
+  keeps = keeps_same g.D.Drain c.args.packer.now c.requires.ready.0;
   same = (refl, refl);
 }
 
@@ -19,7 +19,7 @@ returns-in_err-push_node g c =
     let push = c.in_err-push_node.ensures in
     rw (p.1, p.2) (record {
       packed = tt;
-      stopped = stops_one g.D.Drain c.args.self.now.number (node (node_of c.args.view.now)) c.args.packer.now _ _ c.in-Some.ensures.0 (push.front c.requires.1) (push.uses.stops c.requires.1);
+      stopped = stops_one g.D.Drain c.args.self.now.number (node (node_of c.args.view.now)) c.args.packer.now _ _ c.in-Some.ensures.0 (push.front c.requires.ready.1) (push.uses.stops c.requires.ready.1);
       keeps = record { header = push.header; drain_kept = push.uses.keeps };
       same = (refl, refl);
     })

@@ -10,10 +10,16 @@ use Rattle.pbf_dense.specs.Cursors.{dense_left}
 use Rattle.pbfcut.specs.declared.pick.Picker.{Picker}
 use Rattle.pbfcut.specs.Pick.{picks_of, picks_id}
 use Rattle.pbfcut.proofs.NodeLemmas.{NonePicked, at_first, all_gone, some_passed, rest_passed, passed_left, one_packed, one_stops}
+use Rattle.pbfcut.proofs.NumberLemmas.{next_fits}
 use Rattle.pbfcut.proofs.pick.EntityPacker.pack_nodes.Goals as goal
 
 pub nodes-init : goal.nodes-init
-nodes-init g c = at_first g.D.Drain c.args.self.now (dense_left c.args.dense.now) c.args.packer.now c.requires.0 c.requires.1
+nodes-init g c = at_first g.D.Drain c.args.self.now (dense_left c.args.dense.now) c.args.packer.now c.requires.ready.0 c.requires.ready.1
+
+pub pack_node-requires-clause-numbers : goal.pack_node-requires-clause-numbers
+pack_node-requires-clause-numbers g c =
+    let so_far = c.nodes.invariant in
+    next_fits (dense_left c.args.dense.now) so_far.gone (dense_left c.nodes.nodes) (dense_left c.next_in.new.self) (node_of c.in-Some.view) so_far.split (rw c.in-Some.is at c.next_in.ensures) c.requires.numbers
 
 pub nodes-preserved-in-Continue-1 : goal.nodes-preserved-in-Continue-1
 nodes-preserved-in-Continue-1 g c =

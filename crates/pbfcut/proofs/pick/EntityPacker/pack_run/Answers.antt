@@ -1,0 +1,10 @@
+use Rattle.std.proofs.Common.{List, subst, sym}
+use Rattle.std.specs.List.{AllByRecursion}
+use Rattle.osm_entity.specs.Entity.{NodeSpec}
+use Rattle.pbfcut.specs.Numbers.{NumbersFit}
+use Rattle.pbfcut.proofs.NumberLemmas.{numbers_fit}
+use Rattle.pbfcut.proofs.pick.EntityPacker.pack_run.Goals as goal
+
+pub pack_nodes-requires-clause-numbers : goal.pack_nodes-requires-clause-numbers
+pack_nodes-requires-clause-numbers g c =
+    subst (λ (l : List NodeSpec). AllByRecursion NumbersFit l) (sym c.nodes.ensures) (numbers_fit _ _ _)
