@@ -97,4 +97,7 @@ def main(spoil):
 
 
 if __name__ == "__main__":
-    sys.exit(main("--spoilt" in sys.argv[1:]))
+    words = sys.argv[1:]
+    if words not in ([], ["--spoilt"]):
+        sys.exit(__doc__.strip())
+    sys.exit(main(bool(words)))
