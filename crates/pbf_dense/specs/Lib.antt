@@ -7,3 +7,4 @@ pub mod Judged
 pub mod WrittenDense
 pub mod Places
 pub mod Within
+pub mod Steady

@@ -1,6 +1,7 @@
 //! Dense nodes, written.
 
-ghost use Rattle.std.specs.Prelude.{◌≡◌, ◌++◌, ◌∷◌, [], ◌-◌, ◌+◌, ◌≤◌, ◌^◌, min, ℕ, List, OnOk, IfOk, length, if◌then◌else◌};
+ghost use Rattle.std.specs.Prelude.{◌≡◌, ◌++◌, ◌∷◌, [], ◌-◌, ◌+◌, ◌≤◌, ◌^◌, min, ℕ, List, OnOk, IfOk, length, take, drop, if◌then◌else◌};
+ghost use Rattle.std.specs.List.{AllByRecursion, flat_map};
 ghost use Rattle.pbf_wire.specs.Message.{Column, Each, message, unless_empty};
 ghost use Rattle.pbf_wire.specs.Sums.{deltas};
 ghost use Rattle.pbf_strings.specs.TableOut.{texts_after};
@@ -9,8 +10,11 @@ ghost use Rattle.osm_entity.specs.EntityTexts.{tag_texts, node_texts};
 ghost use Rattle.osm_entity.specs.Ranges.{NodeFits};
 ghost use Rattle.osm_entity.specs.Views.{node_of};
 ghost use Rattle.pbf_dense.specs.WrittenDense.{HoldsNodes, are_some, run_of, columns_held, dense_message, dense_length};
+ghost use Rattle.pbf_dense.specs.Cursors.{dense_left};
+ghost use Rattle.pbf_dense.specs.Steady.{NumbersFit};
 ghost use Rattle.pbf_strings.specs.declared.table.TheConstants.{MOST_USED_TEXTS};
 
+use crate::dense::Dense;
 use crate::dense_nodes::{DENSEINFO, ID, KEYS_VALS, LAT, LON};
 use crate::info_out::InfoOut;
 use osm_entity::NodeRef;
@@ -119,6 +123,30 @@ impl DenseOut {
         self.lons.push_far(node.lon())?;
         self.tagged = self.tagged || is_tagged(node);
         Ok(())
+    }
+
+    /// Adds the next nodes of a dense message after the others, so many, which are taken from it, and their texts to the table: of each node
+    /// those that [`DenseOut::push`] adds. The caller must prove that there are so many, that they fit, and that the table has room for their
+    /// texts, repeats counted. Numbers are copied as they are spelled where that is how they are written. After an `Err` nodes, table and
+    /// message are unspecified.
+    pub fn take<S: BuildHasher>(
+        &mut self,
+        nodes: &mut Dense<'_>,
+        count: usize,
+        table: &mut TableOut<S>,
+    ) -> Result<(), AllocError>
+        requires many { count ≤ length (dense_left nodes.old) }
+        requires fit { AllByRecursion NumbersFit (dense_left nodes.old) }
+        requires room { length table.old + length (flat_map node_texts
+            (take count (dense_left nodes.old))) ≤ MOST_USED_TEXTS }
+        ensures texts { OnOk result (table.new ≡ texts_after table.old
+            (flat_map node_texts (take count (dense_left nodes.old)))) }
+        ensures taken { (ns : List NodeSpec) → HoldsNodes self.old table.old ns
+            → OnOk result (HoldsNodes self.new table.new
+            (ns ++ take count (dense_left nodes.old))) }
+        ensures rest { OnOk result (dense_left nodes.new ≡ drop count (dense_left nodes.old)) }
+    {
+        loop {}
     }
 
     /// Appends the fields of the message, with these as those of its DenseInfo, and with the runs of tags if a node has one.

@@ -12,6 +12,7 @@ mod judge;
 pub mod laws;
 mod phase;
 mod places;
+mod steady;
 mod user_texts;
 mod within;
 
@@ -20,4 +21,5 @@ pub use dense_nodes::KEYS_VALS;
 pub use dense_out::DenseOut;
 pub use phase::Phase;
 pub use places::{Place, Places};
+pub use steady::NodesWeight;
 pub use within::IdsWithin;

@@ -180,7 +180,7 @@ impl<'a> Column<'a> {
     /// How many numbers are still to come, if a quick test shows that they are few and small: at most 2^26, each below 2^35. None is
     /// decoded.
     #[inline(always)]
-    pub(crate) fn count_if_small(&self) -> Option<usize>
+    pub fn count_if_small(&self) -> Option<usize>
         ensures counted { MatchOption result ⊤
             (λ count. (count ≡ length (column_left self.now)) × (count ≤ 2 ^ 26)) }
         ensures small { MatchOption result ⊤

@@ -1,8 +1,11 @@
 //! A column of plain numbers that is being written.
 
-ghost use Rattle.std.specs.Prelude.{◌≡◌, ◌∷◌, ◌++◌, [], length, OnOk, OnErr};
+ghost use Rattle.std.specs.Prelude.{◌≡◌, ◌<◌, ◌≤◌, ◌∷◌, ◌++◌, [], length, take, drop, IfOk, OnOk, OnErr};
+ghost use Rattle.std.specs.List.{AllByRecursion};
 ghost use Rattle.pbf_wire.specs.Columns.{packed};
+ghost use Rattle.pbf_wire.specs.Cursors.{numbers_left};
 
+use crate::column::Column;
 use crate::varint::put_varint;
 use std::alloc::{AllocError, Global};
 use std::marker::Model;
@@ -50,6 +53,20 @@ impl ColumnOut {
     {
         put_varint(&mut self.bytes, number)?;
         Ok(())
+    }
+
+    /// Adds the next numbers of another column, at most so many, as long as each takes one byte of the packed occurrence that was begun. They
+    /// are taken from it, and it is said how many they are. After an `Err` both are unspecified.
+    pub fn take_short(&mut self, numbers: &mut Column<'_>, most: usize) -> Result<usize, AllocError>
+        ensures few { IfOk result (λ count. count ≤ most) }
+        ensures taken { IfOk result
+            (λ count. self.new ≡ self.old ++ take count (numbers_left numbers.old)) }
+        ensures rest { IfOk result
+            (λ count. numbers_left numbers.new ≡ drop count (numbers_left numbers.old)) }
+        ensures short { IfOk result (λ count. AllByRecursion (λ n. n < 128)
+            (take count (numbers_left numbers.old))) }
+    {
+        loop {}
     }
 
     /// The packed column, each number in its shortest spelling.

