@@ -1,4 +1,5 @@
 pub mod CutLemmas
 pub mod CutLaws
 pub mod OpenLemmas
+pub mod ManyLemmas
 pub mod RunLemmas

@@ -176,7 +176,7 @@ before_way (relation r ∷ es) w h k = absurd (true≢false (sym (like_joins (re
 pub no_messages : (texts : List (List ℕ)) → messages_among texts [] ≡ []
 no_messages texts = rw (each_none 3, each_none 4) refl
 
-messages_node : (texts : List (List ℕ)) (es : List EntitySpec) (n : NodeSpec) → messages_among texts es ≡ messages_among texts (es ++ node n ∷ [])
+pub messages_node : (texts : List (List ℕ)) (es : List EntitySpec) (n : NodeSpec) → messages_among texts es ≡ messages_among texts (es ++ node n ∷ [])
 messages_node texts es n = rw (ways_node es n, relations_node es n) refl
 
 pushed : {X : Type 0} (number : ℕ) (f : X → List ℕ) (xs : List X) (x : X) → slot_bytes (Each number (map f xs)) ++ slot_bytes (Each number (f x ∷ [])) ≡ slot_bytes (Each number (map f (xs ++ x ∷ [])))

@@ -1,9 +1,9 @@
 -- What all entities of a block have in common.
-use Rattle.std.specs.Prelude.{Bool, true, false, ◌&&◌, Option, Some, None}
+use Rattle.std.specs.Prelude.{◌≡◌, Bool, true, false, ◌&&◌, Option, Some, None}
 use Rattle.std.specs.Option.{is_some}
 use Rattle.osm_entity.specs.declared.member.MemberKind.{MemberKind}
 use Rattle.osm_entity.specs.declared.member.MemberKind.TheVariants as kind
-use Rattle.osm_entity.specs.Entity.{MetaSpec, EntitySpec, node, way, relation}
+use Rattle.osm_entity.specs.Entity.{MetaSpec, NodeSpec, EntitySpec, node, way, relation}
 use Rattle.pbf_block.specs.WrittenBlock.{iff, same_scale}
 use Rattle.osm_pack.specs.declared.likeness.PresentFields.{PresentFields}
 use Rattle.osm_pack.specs.declared.likeness.Likeness.{Likeness}
@@ -28,6 +28,10 @@ likeness_of (node n) = record { kind = kind.Node; scale = n.scale; fields = pres
 likeness_of (way w) = record { kind = kind.Way; scale = w.scale; fields = no_fields }
 likeness_of (relation r) = record { kind = kind.Relation; scale = r.scale; fields = no_fields }
 
+-- two nodes are of one scale, and have the same fields
+abbrev pub IsLikeNode : NodeSpec → NodeSpec → Type 0
+IsLikeNode other n = likeness_of (node n) ≡ likeness_of (node other)
+
 abbrev pub same_kind : MemberKind → MemberKind → Bool
 same_kind kind.Node kind.Node = true
 same_kind kind.Way kind.Way = true
@@ -46,3 +50,8 @@ same_likeness s t = same_kind s.kind t.kind && (same_scale s.scale t.scale && sa
 abbrev pub is_like : Option Likeness → Likeness → Bool
 is_like None other = true
 is_like (Some likeness) other = same_likeness likeness other
+
+-- there are entities, and it is like theirs
+abbrev pub has_like : Option Likeness → Likeness → Bool
+has_like None other = false
+has_like (Some likeness) other = same_likeness likeness other

@@ -1,6 +1,6 @@
 -- A packer, as contracts see it.
-use Rattle.std.specs.Prelude.{◌≡◌, ℕ, Bool, true, List, Option, Some, None, Result, Err, OnOk, IfErr}
-use Rattle.osm_entity.specs.Entity.{EntitySpec}
+use Rattle.std.specs.Prelude.{◌≡◌, ◌≤◌, ◌++◌, ℕ, Bool, true, List, Option, Some, None, Result, Err, OnOk, IfOk, IfErr, map, take, drop}
+use Rattle.osm_entity.specs.Entity.{EntitySpec, NodeSpec, node}
 use Rattle.pbf_frame.specs.declared.device.Drain as drain
 use Rattle.pbf_frame.specs.declared.stop.Stop.{Stop}
 use Rattle.pbf_frame.specs.Devices.{IsFront}
@@ -45,6 +45,20 @@ pub record UsesPacker {D S H X : Type 0} (d : drain.Ghosts D) (old new : Packing
   pub stops : IsPacking old → IfErr result (IsPackStop (d.failures old.drain) (d.failures new.drain))
   pub keeps : KeepsDrain d old.drain new.drain
   pub spent : (stop : Stop) → HasStopped old stop → (result ≡ Err stop) × (new.drain ≡ old.drain)
+
+-- what a call that adds some of these nodes, at most so many, promises
+pub record PushesNodes {D S H : Type 0} (d : drain.Ghosts D) (most : ℕ) (ns left : List NodeSpec) (old new : Packing D S H) (result : Result ℕ Stop) : Type 0 where
+  -- there is a header still
+  pub header : has_header new ≡ true
+  pub few : IfOk result (λ count. count ≤ most)
+  -- so many of the nodes wait with the others, in whose block they may be; the rest of them are left
+  pub pending : (es : List EntitySpec) → Pending old es → IfOk result (λ count. Pending new (es ++ map node (take count ns)))
+  pub rest : IfOk result (λ count. left ≡ drop count ns)
+  -- nothing went out
+  pub kept : new.drain ≡ old.drain
+  -- the packer goes on
+  pub packing : OnOk result (IsPacking old × IsPacking new)
+  pub uses : UsesPacker d old new result
 
 -- what a call that adds an entity promises
 pub record Pushes {D S H X : Type 0} (d : drain.Ghosts D) (e : EntitySpec) (old new : Packing D S H) (result : Result X Stop) : Type 0 where

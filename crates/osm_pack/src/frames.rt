@@ -1,13 +1,17 @@
 //! Headers and blocks, written as frames.
 
-ghost use Rattle.std.specs.Prelude.{◌≡◌, ◌+◌, ◌≤◌, [], List, OnOk};
-ghost use Rattle.osm_entity.specs.Entity.{EntitySpec};
+ghost use Rattle.std.specs.Prelude.{◌≡◌, ◌+◌, ◌++◌, ◌≤◌, [], List, OnOk, IfOk, IfErr, map, take, drop};
+ghost use Rattle.std.specs.List.{AllByRecursion};
+ghost use Rattle.osm_entity.specs.Entity.{EntitySpec, node};
 ghost use Rattle.osm_entity.specs.Ranges.{EntityFits};
-ghost use Rattle.osm_entity.specs.Views.{entity_of};
+ghost use Rattle.osm_entity.specs.Views.{entity_of, node_of};
 ghost use Rattle.osm_entity.specs.Weight.{entity_weight, text_weight};
 ghost use Rattle.pbf_header.specs.Header.{header_of};
 ghost use Rattle.osm_pack.specs.Cuts.{block_frame, header_frame, then_pending, then_written, at_end};
-ghost use Rattle.osm_pack.specs.Open.{Holds, IsOpen, IsJoining};
+ghost use Rattle.osm_pack.specs.Open.{Holds, IsOpen, IsJoining, MayTake};
+ghost use Rattle.osm_pack.specs.Likenesses.{IsLikeNode};
+ghost use Rattle.pbf_dense.specs.Cursors.{dense_left};
+ghost use Rattle.pbf_frame.specs.declared.stop.Stop.TheVariants.{Memory};
 ghost use Rattle.osm_pack.specs.Pushing.{MakesRoom, Writes};
 ghost use Rattle.osm_pack.specs.View.{entity_shown};
 ghost use Rattle.osm_pack.specs.Stops.{UsesDrain};
@@ -16,6 +20,7 @@ ghost use Rattle.pbf_header.specs.declared.write.TheConstants.{MOST_HEADER_TEXT}
 use crate::likeness::Likeness;
 use crate::open_block::{Joining, OpenBlock};
 use osm_entity::{EntityRef, NodeRef, RelationRef, WayRef};
+use pbf_dense::Dense;
 use pbf_frame::{Drain, FrameKind, Stop, put_frame};
 use pbf_header::Header;
 use std::alloc::Global;
@@ -115,6 +120,33 @@ pub(crate) fn push_into<D: Drain, S: BuildHasher>(
     make_room(alloc, drain, block, joining)?;
     block.add(entity, joining)?;
     Ok(())
+}
+
+/// Adds some of the next nodes of a dense message to the open block, as [`OpenBlock::add_nodes`] does, if its entities are like this node,
+/// which all of them are like. Otherwise it adds none.
+pub(crate) fn add_into<S: BuildHasher>(
+    block: &mut OpenBlock<S>,
+    like: &NodeRef<'_>,
+    nodes: &mut Dense<'_>,
+    most: usize,
+) -> Result<usize, Stop>
+    requires open { IsOpen block.old }
+    requires taken { MayTake most (dense_left nodes.old) }
+    requires alike { AllByRecursion (IsLikeNode (node_of like.now)) (dense_left nodes.old) }
+    ensures open { OnOk result (IsOpen block.new) }
+    ensures few { IfOk result (λ count. count ≤ most) }
+    ensures added { (es : List EntitySpec) → Holds block.old es
+        → IfOk result (λ count. Holds block.new
+        (es ++ map node (take count (dense_left nodes.old)))) }
+    ensures rest { IfOk result
+        (λ count. dense_left nodes.new ≡ drop count (dense_left nodes.old)) }
+    ensures memory { IfErr result (λ stop. stop ≡ Memory) }
+{
+    if !block.has_like(Likeness::of(EntityView::Node(like))) {
+        return Ok(0);
+    }
+    let count = block.add_nodes(nodes, most)?;
+    Ok(count)
 }
 
 /// Writes a header.

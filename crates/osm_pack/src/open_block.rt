@@ -1,6 +1,7 @@
 //! The block that is open.
 
-ghost use Rattle.std.specs.Prelude.{ℕ, ◌≡◌, ◌↔◌, ◌+◌, ◌-◌, ◌≤◌, ◌<◌, ◌^◌, min, ◌&&◌, ◌++◌, ◌∷◌, [], List, true, nat_le, length, IsTrue, IfOk, OnOk};
+ghost use Rattle.std.specs.Prelude.{ℕ, ◌≡◌, ◌↔◌, ◌+◌, ◌-◌, ◌≤◌, ◌<◌, ◌^◌, min, ◌&&◌, ◌++◌, ◌∷◌, [], List, true, nat_le, length, IsTrue, IfOk, OnOk, map, take, drop};
+ghost use Rattle.std.specs.List.{AllByRecursion};
 ghost use Rattle.osm_entity.specs.Entity.{EntitySpec, node, way, relation};
 ghost use Rattle.osm_entity.specs.EntityTexts.{way_texts, relation_texts};
 ghost use Rattle.osm_entity.specs.Views.{node_of, way_of, relation_of};
@@ -8,9 +9,10 @@ ghost use Rattle.pbf_wire.specs.Message.{Each, slot_bytes};
 ghost use Rattle.pbf_strings.specs.TableOut.{texts_after, table_message};
 ghost use Rattle.pbf_block.specs.WrittenEntity.{way_message, relation_message};
 ghost use Rattle.pbf_block.specs.WrittenBlock.{is_block, block_message, scale_among, texts_of_all, nodes_among};
+ghost use Rattle.pbf_dense.specs.Cursors.{dense_left};
 ghost use Rattle.pbf_dense.specs.WrittenDense.{columns_held, dense_length, dense_message};
-ghost use Rattle.osm_pack.specs.Open.{Holds, IsOpen, IsJoining, MayAdd, Makes, Encodes, Counts, Adds, IsClosing, block_held};
-ghost use Rattle.osm_pack.specs.Likenesses.{is_like};
+ghost use Rattle.osm_pack.specs.Open.{Holds, IsOpen, IsJoining, MayAdd, MayTake, Makes, Encodes, Counts, Adds, IsClosing, block_held};
+ghost use Rattle.osm_pack.specs.Likenesses.{is_like, has_like, likeness_of};
 ghost use Rattle.osm_pack.specs.View.{entity_shown};
 ghost use Rattle.osm_entity.specs.declared.weight.TheConstants.{HIGHEST_WEIGHT};
 ghost use Rattle.osm_pack.specs.declared.open_block.TheConstants.{MOST_HELD};
@@ -20,7 +22,7 @@ use crate::frames::EntityView;
 use crate::likeness::Likeness;
 use osm_entity::{HIGHEST_WEIGHT, NodeRef, RelationRef, Scale, WayRef};
 use pbf_block::{DEFAULT_SCALE, EntityOut, MOST_ENTITIES, put_block, put_dense};
-use pbf_dense::DenseOut;
+use pbf_dense::{Dense, DenseOut};
 use pbf_strings::TableOut;
 use std::alloc::{AllocError, Global};
 use std::hash::BuildHasher;
@@ -101,6 +103,16 @@ impl<S: BuildHasher> OpenBlock<S> {
         match self.likeness {
             Some(first) => first.same(likeness),
             None => true,
+        }
+    }
+
+    /// Whether there are entities, and one of this likeness is like them.
+    pub(crate) fn has_like(&self, likeness: Likeness) -> bool
+        ensures { result ≡ has_like self.now.likeness likeness }
+    {
+        match self.likeness {
+            Some(first) => first.same(likeness),
+            None => false,
         }
     }
 
@@ -204,6 +216,34 @@ impl<S: BuildHasher> OpenBlock<S> {
         self.put(entity)?;
         self.count_joined(joining);
         Ok(())
+    }
+
+    /// Adds some of the next nodes of a dense message after the others: as many as may join them, but at most so many, and says how many.
+    /// All of them are like those that are there. After an `Err` the block is unspecified.
+    #[inline(never)]
+    pub(crate) fn add_nodes(
+        &mut self,
+        nodes: &mut Dense<'_>,
+        most: usize,
+    ) -> Result<usize, AllocError>
+        requires open { IsOpen self.old }
+        requires taken { MayTake most (dense_left nodes.old) }
+        requires alike { AllByRecursion (λ n. has_like self.old.likeness (likeness_of (node n))
+            ≡ true) (dense_left nodes.old) }
+        ensures few { IfOk result (λ count. count ≤ most) }
+        ensures added { (es : List EntitySpec) → Holds self.old es
+            → IfOk result (λ count. Holds self.new
+            (es ++ map node (take count (dense_left nodes.old)))) }
+        ensures rest { IfOk result
+            (λ count. dense_left nodes.new ≡ drop count (dense_left nodes.old)) }
+    {
+        let most = most.min(MOST_ENTITIES.saturating_sub(self.count));
+        let room = HIGHEST_WEIGHT.saturating_sub(self.weight);
+        let joining = nodes.weigh(most, room);
+        self.nodes.take(nodes, joining.count, &mut self.texts)?;
+        self.count += joining.count;
+        self.weight += joining.weight;
+        Ok(joining.count)
     }
 
     /// The scale of all entities.

@@ -1,8 +1,9 @@
 //! Entities on their way into a drain.
 
-use crate::frames::{EntityView, Weighed, finish_into, push_into, put_header_into};
+use crate::frames::{EntityView, Weighed, add_into, finish_into, push_into, put_header_into};
 use crate::open_block::OpenBlock;
 use osm_entity::{EntityRef, NodeRef};
+use pbf_dense::Dense;
 use pbf_frame::{Drain, Stop};
 use pbf_header::Header;
 use std::alloc::Global;
@@ -53,7 +54,11 @@ impl<D: Drain, S: BuildHasher> Packer<D, S> {
     ghost use Rattle.osm_pack.specs.Cuts.{header_frame, at_end};
     ghost use Rattle.osm_pack.specs.declared.open_block.TheConstants.{MOST_HELD};
     ghost use Rattle.osm_pack.specs.View.{entity_shown};
-    ghost use Rattle.osm_pack.specs.Packing.{Pending, Pushes, UsesPacker, IsPacking, has_header, packer_held};
+    ghost use Rattle.std.specs.List.{AllByRecursion};
+    ghost use Rattle.pbf_dense.specs.Cursors.{dense_left};
+    ghost use Rattle.osm_pack.specs.Open.{MayTake};
+    ghost use Rattle.osm_pack.specs.Likenesses.{IsLikeNode};
+    ghost use Rattle.osm_pack.specs.Packing.{Pending, Pushes, PushesNodes, UsesPacker, IsPacking, has_header, packer_held};
 
     /// A packer over a drain, with no header and no entities yet. The input is untrusted, so the hasher should be seeded.
     pub fn new(alloc: Global, drain: D, hasher: S) -> Packer<D, S>
@@ -174,6 +179,35 @@ impl<D: Drain, S: BuildHasher> Packer<D, S> {
             return Err(stop);
         }
         let outcome = push_into(self.alloc, &mut self.drain, &mut self.block, weighed);
+        if let Err(stop) = outcome {
+            self.stop = Some(stop);
+            self.block.clear(self.alloc);
+        }
+        outcome
+    }
+
+    /// Adds some of the next nodes of a dense message after the others, without a write: as many as may wait with those that do, but at most so
+    /// many, which are taken from the message, and says how many they are. If those that wait are not like `like` it adds none. The caller must
+    /// prove that there are so many nodes, that their numbers are in their ranges and that all are like `like`, and that a header was put.
+    ///
+    /// It stops only if memory is refused; the packer is spent then.
+    pub fn push_nodes(
+        &mut self,
+        like: &NodeRef<'_>,
+        nodes: &mut Dense<'_>,
+        most: usize,
+    ) -> Result<usize, Stop>
+        requires begun { has_header self.old ≡ true }
+        requires taken { MayTake most (dense_left nodes.old) }
+        requires alike { AllByRecursion (IsLikeNode (node_of like.now)) (dense_left nodes.old) }
+        // So many of the nodes wait with the others, and nothing went out.
+        ensures { PushesNodes D.Drain most (dense_left nodes.old) (dense_left nodes.new)
+            self.old self.new result }
+    {
+        if let Some(stop) = self.stop {
+            return Err(stop);
+        }
+        let outcome = add_into(&mut self.block, like, nodes, most);
         if let Err(stop) = outcome {
             self.stop = Some(stop);
             self.block.clear(self.alloc);
