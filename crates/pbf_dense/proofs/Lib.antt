@@ -16,3 +16,4 @@ pub mod FitsLemmas
 pub mod PlaceLemmas
 pub mod EntryLemmas
 pub mod WithinLemmas
+pub mod NumberLemmas

@@ -167,6 +167,13 @@ impl<'a> Dense<'a> {
         }
     }
 
+    /// The scale of the nodes.
+    pub fn scale(&self) -> Scale
+        ensures { result ≡ self.now.scale }
+    {
+        self.scale
+    }
+
     /// The places of the nodes that are still to come, in order, each with its id. Tags and metadata aren't read.
     #[tactic(auto, using(crate::proofs::PlaceLemmas::places_are), unfolding(crate::specs::Cursors::dense_left, crate::specs::Places::places_left))]
     pub fn places(&self) -> Places<'a>

@@ -13,4 +13,4 @@ pub mod ExtractingLemmas
 pub mod ChosenLemmas
 pub mod KeptLaw
 pub mod NodeLemmas
-pub mod NumberLemmas
+pub mod ManyLemmas

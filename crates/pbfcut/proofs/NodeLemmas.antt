@@ -1,5 +1,5 @@
 -- The nodes of a dense message, if their ids decide which are picked.
-use Rattle.std.proofs.Common.{◌≡◌, ℕ, zero, suc, ◌+◌, ◌-◌, ◌<◌, length, arith, ℤ, Bool, true, false, cond, Ok, Err, List, [], ◌∷◌, ◌++◌, map, append_assoc, append-nil, take-append-drop, take, drop, add-one, Option, Some, None, subst, refl, sym, ap, ap₂, ◌∙◌}
+use Rattle.std.proofs.Common.{◌≡◌, ℕ, zero, suc, ◌+◌, ◌-◌, ◌<◌, length, length-append, arith, ℤ, Bool, true, false, cond, Ok, Err, List, [], ◌∷◌, ◌++◌, map, append_assoc, append-nil, take-append-drop, take, drop, add-one, Option, Some, None, subst, refl, sym, ap, ap₂, ◌∙◌}
 use Rattle.std.specs.List.{filter}
 use Rattle.std.proofs.Math.Seq.{take-add}
 use Rattle.std.proofs.lemmas.List.{map-append, drop-drop, length-drop}
@@ -14,6 +14,7 @@ use Rattle.osm_pack.specs.Packing.{Packing, IsPacking, has_header}
 use Rattle.pbfcut.specs.declared.pick.EntityPacker.{EntityPacker}
 use Rattle.pbfcut.specs.declared.pick.Picker.{Picker}
 use Rattle.osm_ways.specs.Phases.{KeptSets}
+use Rattle.pbfcut.specs.Many.{PacksSome}
 use Rattle.pbfcut.specs.Pick.{everything, picks_by, id_picked, picks_of, picks_id, PacksEach, KeepsPacker}
 use Rattle.pbfcut.proofs.PackingLemmas.{PackedEach, each_left, each_picked, each_more, each_later}
 
@@ -23,14 +24,14 @@ some_by_id true (Some sets) n = refl
 some_by_id false None n = refl
 some_by_id false (Some sets) n = refl
 
-picked_by_id : (p : Picker) (n : NodeSpec) → picks_of p (node n) ≡ picks_id p n.id
+pub picked_by_id : (p : Picker) (n : NodeSpec) → picks_of p (node n) ≡ picks_id p n.id
 unfolding picks_of picks_id
 picked_by_id p n = some_by_id p.by_ids p.chooser n
 
 -- ---- nodes that aren't picked, by their ids
 
 -- an id that comes next is that of the next node, if there is one
-first_id : (id : ℤ) (ids : List ℤ) (n : NodeSpec) (ns : List NodeSpec) → BeginWithIds (id ∷ ids) (n ∷ ns) → (id ≡ n.id) × BeginWithIds ids ns
+pub first_id : (id : ℤ) (ids : List ℤ) (n : NodeSpec) (ns : List NodeSpec) → BeginWithIds (id ∷ ids) (n ∷ ns) → (id ≡ n.id) × BeginWithIds ids ns
 first_id id ids n ns (more, is) = (cc, (more, cc))
 
 no_node : (ids : List ℤ) (ns : List NodeSpec) → ids ≡ [] → BeginWithIds ids ns → ns ≡ []
@@ -49,6 +50,12 @@ passed_left left ns rest n count is passed =
     let fewer : length rest ≡ length ns - count = ap length passed ∙ length-drop count ns in
     let all : length left ≡ suc (length ns) = ap length is in
     omega (arith, fewer, all)
+
+-- nodes that are taken together after one that was made leave no more
+pub taken_left : (left ns gone others rest : List NodeSpec) (n : NodeSpec) → left ≡ n ∷ ns → gone ++ others ≡ ns → rest ≡ others → length rest < length left
+taken_left left ns gone others rest n is split same =
+    let parts = sym (length-append gone others) ∙ ap length split in
+    omega (arith, parts, ap length same, ap length is)
 
 no_first : (n : NodeSpec) (ns : List NodeSpec) → n ∷ ns ≡ [] → ⊥
 no_first n ns e = absurd cc
@@ -165,6 +172,21 @@ module _ {D S H : Type 0} (d : drain.Ghosts D) (first : EntityPacker) (all : Lis
       let split = sym (map-append node on.gone (n ∷ ns)) ∙ ap (map node) (ap (λ (l : List NodeSpec). on.gone ++ l) (sym is) ∙ on.split) in
       each_later d (map node on.gone) (node n ∷ []) (map node ns) (map node all) first mid now old packer next tt s split on.each
       (each_picked d (picks_of mid.picker) (node n) mid then now packer next (Err s) same (picked_by_id mid.picker n ∙ picked) stops)
+
+  -- some of those after the next were packed with it
+  pub many_packed : {X : Type 0} (ns left : List NodeSpec) (mid now : EntityPacker) (packer next : Packing D S H) (x : X) → OnNodes ns mid packer → PacksSome d ns left mid now packer next (Ok x) → OnNodes left now next
+  many_packed ns left mid now packer next x on some = record {
+    gone = on.gone ++ some.gone;
+    split = ap (λ (l : List NodeSpec). (on.gone ++ some.gone) ++ l) some.rest ∙ (append_assoc on.gone some.gone some.others ∙ (ap (λ (l : List NodeSpec). on.gone ++ l) some.split ∙ on.split));
+    each = more_gone on.gone some.gone mid now packer next x tt on.each some.each;
+  }
+
+  pub many_stop : {X : Type 0} (ns left : List NodeSpec) (mid now : EntityPacker) (packer next : Packing D S H) (s : Stop) → OnNodes ns mid packer → PacksSome {X = X} d ns left mid now packer next (Err s)
+      → PacksEach {X = X} d (picks_of first.picker) (map node all) first now old next (Err s)
+  many_stop {X} ns left mid now packer next s on some =
+      let parts = sym (map-append node on.gone (some.gone ++ some.others) ∙ ap (λ (l : List EntitySpec). map node on.gone ++ l) (map-append node some.gone some.others)) in
+      let split = parts ∙ ap (map node) (ap (λ (l : List NodeSpec). on.gone ++ l) some.split ∙ on.split) in
+      each_later d (map node on.gone) (map node some.gone) (map node some.others) (map node all) first mid now old packer next tt s split on.each some.each
 
   -- no node is left
   pub all_gone : {Y : Type 0} (left : List NodeSpec) (now : EntityPacker) (new : Packing D S H) (y : Y) → left ≡ [] → OnNodes left now new → PacksEach d (picks_of first.picker) (map node all) first now old new (Ok y)

@@ -2,7 +2,7 @@ pub mod Blobs
 pub mod Listing
 pub mod FileFaults
 pub mod Pick
-pub mod Numbers
+pub mod Many
 pub mod Write
 pub mod Repeat
 pub mod Showing

@@ -1,6 +1,7 @@
 //! Entities that are picked, on their way into the drain, and the steps that judge them.
 
-ghost use Rattle.std.specs.Prelude.{true, false, ℤ, [], ◌∷◌, ◌≡◌, None, IfSome, IfErr, OnOk, SomeIff, MatchOption, map, filter, take};
+ghost use Rattle.std.specs.Prelude.{true, false, ℤ, [], ◌∷◌, ◌≡◌, ◌≤◌, ◌-◌, None, IfSome, IfErr, IsTrue, OnOk, SomeIff, MatchOption, map, filter, take, drop};
+ghost use Rattle.std.specs.Iterator.{YieldsFirstBy};
 ghost use Rattle.std.specs.List.{AllByRecursion};
 ghost use Rattle.std.specs.Option.{option_map};
 ghost use Rattle.osm_entity.specs.Entity.{node, way};
@@ -14,7 +15,8 @@ ghost use Rattle.pbf_block.specs.Runs.{entity_from, way_from, joined_runs, run_e
 ghost use Rattle.pbf_pass.specs.Counting.{counts_of};
 ghost use Rattle.pbf_pass.specs.Judged.{fault_in};
 ghost use Rattle.pbf_pass.specs.Payload.{primitive_block, lent_by};
-ghost use Rattle.pbfcut.specs.Numbers.{NumbersFit};
+ghost use Rattle.pbf_dense.specs.Steady.{NumbersFit};
+ghost use Rattle.pbfcut.specs.Many.{AreEven, AreEvenAfter, PacksSome};
 ghost use Rattle.pbfcut.specs.Pick.{everything, pick_of, take_of, picks_of, picked_in, picks_id, picked_by, picked_by_some, IsReadyToPack, PacksAll, PacksEach, KeepsPacker, PacksPayload, FailsToPackPayload, JudgesAndPacks};
 
 use osm_entity::{EntityRef, HIGHEST_WEIGHT, NodeRef};
@@ -115,6 +117,14 @@ impl<'a> Picker<'a> {
         }
     }
 
+    /// Whether all nodes are written, whatever their ids are.
+    #[tactic(auto, unfolding(crate::specs::Pick::picks_id))]
+    fn picks_all(&self) -> bool
+        ensures { IsTrue result → (id : ℤ) → picks_id self.now id ≡ true }
+    {
+        self.chooser.is_none()
+    }
+
     /// Ids of which no node is written, as far as the last look-ups showed: none if they showed nothing.
     #[tactic(auto, unfolding(crate::specs::Pick::picks_id))]
     fn absent(&self) -> Span
@@ -126,6 +136,9 @@ impl<'a> Picker<'a> {
         }
     }
 }
+
+/// So few nodes are packed one by one: it costs something to begin with many.
+const FEW: usize = 4;
 
 /// At most this many nodes are skipped at a time.
 const MOST_PASSED: usize = 8_000;
@@ -160,6 +173,84 @@ fn unpicked<'a>(dense: &Dense<'a>, picker: &mut Picker<'_>) -> Option<IdsAhead<'
         }
         count += 1;
     }
+}
+
+/// How many nodes of a message are alike, of a scale that can be written: all that are still to come; or 0, which says nothing.
+fn count_alike(dense: &Dense<'_>) -> usize
+    ensures { AreEven result (dense_left dense.now) }
+{
+    if !dense.scale().fits() {
+        return 0;
+    }
+    let Some(count) = dense.steady_count() else {
+        return 0;
+    };
+    count
+}
+
+/// The nodes of a message that are still to come, and how many of them are known to be alike: all, or 0 if nothing is known.
+#[derive(Clone, Copy)]
+struct NodesLeft<'a> {
+    nodes: Dense<'a>,
+    alike: usize,
+}
+
+impl<'a> NodesLeft<'a> {
+    /// Those of a message of which none was taken yet.
+    fn of(dense: &Dense<'a>) -> NodesLeft<'a>
+        ensures nodes { result.nodes ≡ dense.now }
+        ensures even { AreEven result.alike (dense_left dense.now) }
+    {
+        NodesLeft {
+            nodes: *dense,
+            alike: count_alike(dense),
+        }
+    }
+
+    /// Puts the next node in this place, or `None`, as [`Dense::next_in`] does.
+    #[inline(always)]
+    fn next_in(&mut self, place: &mut Option<NodeRef<'a>>)
+        ensures next { YieldsFirstBy node_of dense_left self.old.nodes place.new self.new.nodes }
+        ensures alike { self.new.alike ≡ self.old.alike - 1 }
+    {
+        self.nodes.next_in(place);
+        self.alike = self.alike.saturating_sub(1);
+    }
+
+    /// Skips as many nodes as come before these ids.
+    #[inline(always)]
+    fn pass_to(&mut self, ahead: &IdsAhead<'a>)
+        ensures passed { AreIdsAfter ahead.now.count self.old.nodes ahead.now.ids
+            → dense_left self.new.nodes ≡ drop ahead.now.count (dense_left self.old.nodes) }
+        ensures alike { self.new.alike ≡ self.old.alike - ahead.now.count }
+    {
+        self.nodes.pass_to(&ahead.ids, ahead.count);
+        self.alike = self.alike.saturating_sub(ahead.count);
+    }
+}
+
+/// How many of the next nodes are picked one after the other, at most so many. Only their ids are read.
+fn picked_run(dense: &Dense<'_>, picker: &mut Picker<'_>, most: usize) -> usize
+    ensures few { result ≤ most }
+    ensures picked { AllByRecursion (λ n. picks_id picker.old n.id ≡ true)
+        (take result (dense_left dense.now)) }
+    ensures same { picker.new ≡ picker.old }
+{
+    if picker.picks_all() {
+        return most;
+    }
+    let mut ids = dense.ids();
+    let mut count = 0;
+    'ids: while count < most {
+        let Some(id) = ids.next() else {
+            break;
+        };
+        if !picker.picks_id(id) {
+            break;
+        }
+        count += 1;
+    }
+    count
 }
 
 /// What a node counts for in a block, if it can be written, and otherwise `None`. The columns that it was read from have no number out of
@@ -314,8 +405,34 @@ impl<'a> EntityPacker<'a> {
         }
     }
 
+    /// Packs nodes that come after one that was packed: as many together as are picked and may wait with it in its block, if all that are
+    /// still to come are alike.
+    #[inline(never)]
+    fn pack_many<D: Drain, S: BuildHasher>(
+        &mut self,
+        like: &NodeRef<'_>,
+        left: &mut NodesLeft<'_>,
+        packer: &mut Packer<D, S>,
+    ) -> Result<(), Stop>
+        requires numbers { AllByRecursion NumbersFit (dense_left left.old.nodes) }
+        requires even { AreEvenAfter (node_of like.now) left.old.alike (dense_left left.old.nodes) }
+        requires ready { IsReadyToPack packer.old }
+        ensures packs { PacksSome D.Drain (dense_left left.old.nodes) (dense_left left.new.nodes)
+            self.old self.new packer.old packer.new result }
+        ensures even { OnOk result (AreEven left.new.alike (dense_left left.new.nodes)) }
+    {
+        let most = picked_run(&left.nodes, &mut self.picker, left.alike);
+        if most < FEW {
+            return Ok(());
+        }
+        let count = packer.push_nodes(like, &mut left.nodes, most)?;
+        left.alike -= count;
+        self.counts.nodes = self.counts.nodes.saturating_add(count as u64);
+        Ok(())
+    }
+
     /// Packs those nodes of a dense message that are picked. After one that is not, all up to the next that is are skipped together, and
-    /// not made; if there is none, nothing more is read.
+    /// not made; if there is none, nothing more is read. After one that is, those that follow are taken over together where that can be done.
     fn pack_nodes<D: Drain, S: BuildHasher>(
         &mut self,
         dense: &Dense<'_>,
@@ -326,20 +443,21 @@ impl<'a> EntityPacker<'a> {
         ensures { PacksEach D.Drain (picks_of self.old.picker) (map node (dense_left dense.now))
             self.old self.new packer.old packer.new result }
     {
-        let mut nodes = *dense;
+        let mut left = NodesLeft::of(dense);
         let mut place = None;
         'nodes: loop {
-            nodes.next_in(&mut place);
+            left.next_in(&mut place);
             let Some(view) = &place else {
                 break;
             };
             if self.picker.picks_id(view.id()) {
                 self.pack_node(view, packer)?;
+                self.pack_many(view, &mut left, packer)?;
             } else {
-                let Some(ahead) = unpicked(&nodes, &mut self.picker) else {
+                let Some(ahead) = unpicked(&left.nodes, &mut self.picker) else {
                     return Ok(());
                 };
-                nodes.pass_to(&ahead.ids, ahead.count);
+                left.pass_to(&ahead);
             }
         }
         Ok(())

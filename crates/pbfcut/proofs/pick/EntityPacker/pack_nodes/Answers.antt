@@ -9,24 +9,33 @@ use Rattle.osm_entity.specs.Views.{node_of}
 use Rattle.pbf_dense.specs.Cursors.{dense_left}
 use Rattle.pbfcut.specs.declared.pick.Picker.{Picker}
 use Rattle.pbfcut.specs.Pick.{picks_of, picks_id}
-use Rattle.pbfcut.proofs.NodeLemmas.{NonePicked, at_first, all_gone, some_passed, rest_passed, passed_left, one_packed, one_stops}
-use Rattle.pbfcut.proofs.NumberLemmas.{next_fits}
+use Rattle.pbfcut.specs.Many.{AreEven}
+use Rattle.pbfcut.proofs.NodeLemmas.{NonePicked, OnNodes, at_first, all_gone, some_passed, rest_passed, passed_left, taken_left, one_packed, one_stops, many_packed, many_stop}
+use Rattle.pbfcut.proofs.ManyLemmas.{even_next, even_after, left_fit}
 use Rattle.pbfcut.proofs.pick.EntityPacker.pack_nodes.Goals as goal
 
 pub nodes-init : goal.nodes-init
-nodes-init g c = at_first g.D.Drain c.args.self.now (dense_left c.args.dense.now) c.args.packer.now c.requires.ready.0 c.requires.ready.1
+nodes-init g c =
+    let same = ap dense_left c.of-left.ensures.nodes in
+    record {
+      on = subst (λ l. OnNodes g.D.Drain c.args.self.now (dense_left c.args.dense.now) c.args.packer.now l c.args.self.now c.args.packer.now) (sym same)
+          (at_first g.D.Drain c.args.self.now (dense_left c.args.dense.now) c.args.packer.now c.requires.ready.0 c.requires.ready.1);
+      even = subst (λ l. AreEven c.of-left.result.alike l) (sym same) c.of-left.ensures.even;
+    }
 
 pub pack_node-requires-clause-numbers : goal.pack_node-requires-clause-numbers
 pack_node-requires-clause-numbers g c =
-    let so_far = c.nodes.invariant in
-    next_fits (dense_left c.args.dense.now) so_far.gone (dense_left c.nodes.nodes) (dense_left c.next_in.new.self) (node_of c.in-Some.view) so_far.split (rw c.in-Some.is at c.next_in.ensures) c.requires.numbers
+    let on = c.nodes.invariant.on in
+    (left_fit (dense_left c.args.dense.now) on.gone (dense_left c.nodes.left.nodes) (dense_left c.next_in.new.self.nodes) (node_of c.in-Some.view) on.split (rw c.in-Some.is at c.next_in.ensures.next) c.requires.numbers).0
 
-pub nodes-preserved-in-Continue-1 : goal.nodes-preserved-in-Continue-1
-nodes-preserved-in-Continue-1 g c =
-    let fits : SFits w64 c.id.result = search rules in
-    let here = ap (λ (z : ℤ). picks_id c.nodes.self.picker z) (sym c.id.ensures ∙ sym (to_z-of_z w64 c.id.result fits)) ∙ (sym c.picks_id.ensures.picked ∙ c.if-picks_id.true) in
-    let same = ap (λ (p : Picker). record c.nodes.self { picker = p }) c.picks_id.ensures.same in
-    one_packed g.D.Drain c.args.self.now (dense_left c.args.dense.now) c.args.packer.now (dense_left c.nodes.nodes) (dense_left c.next_in.new.self) (node_of c.in-Some.view) c.nodes.self _ c.pack_node.new.self c.nodes.packer c.pack_node.new.packer _ (rw c.in-Some.is at c.next_in.ensures) here same c.nodes.invariant c.in_ok-pack_node.ensures
+pub pack_many-requires-clause-numbers : goal.pack_many-requires-clause-numbers
+pack_many-requires-clause-numbers g c =
+    let on = c.nodes.invariant.on in
+    (left_fit (dense_left c.args.dense.now) on.gone (dense_left c.nodes.left.nodes) (dense_left c.next_in.new.self.nodes) (node_of c.in-Some.view) on.split (rw c.in-Some.is at c.next_in.ensures.next) c.requires.numbers).1
+
+pub pack_many-requires-clause-even : goal.pack_many-requires-clause-even
+pack_many-requires-clause-even g c =
+    even_next c.nodes.left.alike c.next_in.new.self.alike (dense_left c.nodes.left.nodes) (dense_left c.next_in.new.self.nodes) (node_of c.in-Some.view) (rw c.in-Some.is at c.next_in.ensures.next) c.next_in.ensures.alike c.nodes.invariant.even
 
 pub returns-in_err-pack_node : goal.returns-in_err-pack_node
 returns-in_err-pack_node g c =
@@ -34,30 +43,61 @@ returns-in_err-pack_node g c =
     let fits : SFits w64 c.id.result = search rules in
     let here = ap (λ (z : ℤ). picks_id c.nodes.self.picker z) (sym c.id.ensures ∙ sym (to_z-of_z w64 c.id.result fits)) ∙ (sym c.picks_id.ensures.picked ∙ c.if-picks_id.true) in
     let same = ap (λ (p : Picker). record c.nodes.self { picker = p }) c.picks_id.ensures.same in
-    rw (p.1, p.2) (one_stops g.D.Drain c.args.self.now (dense_left c.args.dense.now) c.args.packer.now (dense_left c.nodes.nodes) (dense_left c.next_in.new.self) (node_of c.in-Some.view) c.nodes.self _ c.pack_node.new.self c.nodes.packer c.pack_node.new.packer _ (rw c.in-Some.is at c.next_in.ensures) here same c.nodes.invariant c.in_err-pack_node.ensures)
+    rw (p.1, p.2) (one_stops g.D.Drain c.args.self.now (dense_left c.args.dense.now) c.args.packer.now (dense_left c.nodes.left.nodes) (dense_left c.next_in.new.self.nodes) (node_of c.in-Some.view) c.nodes.self _ c.pack_node.new.self c.nodes.packer c.pack_node.new.packer _ (rw c.in-Some.is at c.next_in.ensures.next) here same c.nodes.invariant.on c.in_err-pack_node.ensures)
+
+-- the next node is packed, and then others with it
+pub nodes-preserved-in-Continue-branch-2 : goal.nodes-preserved-in-Continue-branch-2
+nodes-preserved-in-Continue-branch-2 g c =
+    let fits : SFits w64 c.id.result = search rules in
+    let here = ap (λ (z : ℤ). picks_id c.nodes.self.picker z) (sym c.id.ensures ∙ sym (to_z-of_z w64 c.id.result fits)) ∙ (sym c.picks_id.ensures.picked ∙ c.if-picks_id.true) in
+    let same = ap (λ (p : Picker). record c.nodes.self { picker = p }) c.picks_id.ensures.same in
+    let one = one_packed g.D.Drain c.args.self.now (dense_left c.args.dense.now) c.args.packer.now (dense_left c.nodes.left.nodes) (dense_left c.next_in.new.self.nodes) (node_of c.in-Some.view) c.nodes.self _ c.pack_node.new.self c.nodes.packer c.pack_node.new.packer _ (rw c.in-Some.is at c.next_in.ensures.next) here same c.nodes.invariant.on c.in_ok-pack_node.ensures in
+    record {
+      on = many_packed g.D.Drain c.args.self.now (dense_left c.args.dense.now) c.args.packer.now (dense_left c.next_in.new.self.nodes) (dense_left c.pack_many.new.left.nodes) c.pack_node.new.self c.pack_many.new.self c.pack_node.new.packer c.pack_many.new.packer _ one c.in_ok-pack_many.ensures.packs;
+      even = c.in_ok-pack_many.ensures.even;
+    }
+
+pub nodes-smaller-in-Continue-branch-2 : goal.nodes-smaller-in-Continue-branch-2
+nodes-smaller-in-Continue-branch-2 g c =
+    let some = c.in_ok-pack_many.ensures.packs in
+    taken_left (dense_left c.nodes.left.nodes) (dense_left c.next_in.new.self.nodes) some.gone some.others (dense_left c.pack_many.new.left.nodes) (node_of c.in-Some.view) (rw c.in-Some.is at c.next_in.ensures.next) some.split some.rest
+
+pub returns-in_err-pack_many : goal.returns-in_err-pack_many
+returns-in_err-pack_many g c =
+    let p = err_from_is_err_and c.from_residual-in_err-pack_many.result c.from_residual-in_err-pack_many.ensures.1 in
+    let fits : SFits w64 c.id.result = search rules in
+    let here = ap (λ (z : ℤ). picks_id c.nodes.self.picker z) (sym c.id.ensures ∙ sym (to_z-of_z w64 c.id.result fits)) ∙ (sym c.picks_id.ensures.picked ∙ c.if-picks_id.true) in
+    let same = ap (λ (p : Picker). record c.nodes.self { picker = p }) c.picks_id.ensures.same in
+    let one = one_packed g.D.Drain c.args.self.now (dense_left c.args.dense.now) c.args.packer.now (dense_left c.nodes.left.nodes) (dense_left c.next_in.new.self.nodes) (node_of c.in-Some.view) c.nodes.self _ c.pack_node.new.self c.nodes.packer c.pack_node.new.packer _ (rw c.in-Some.is at c.next_in.ensures.next) here same c.nodes.invariant.on c.in_ok-pack_node.ensures in
+    rw (p.1, p.2) (many_stop g.D.Drain c.args.self.now (dense_left c.args.dense.now) c.args.packer.now (dense_left c.next_in.new.self.nodes) (dense_left c.pack_many.new.left.nodes) c.pack_node.new.self c.pack_many.new.self c.pack_node.new.packer c.pack_many.new.packer _ one c.in_err-pack_many.ensures.packs)
 
 pub returns-in_default-unpicked : goal.returns-in_default-unpicked
 returns-in_default-unpicked g c =
-    let ns = dense_left c.next_in.new.self in
+    let ns = dense_left c.next_in.new.self.nodes in
     let fits : SFits w64 c.id.result = search rules in
     let here = ap (λ (z : ℤ). picks_id c.nodes.self.picker z) (sym c.id.ensures ∙ sym (to_z-of_z w64 c.id.result fits)) ∙ (sym c.picks_id.ensures.picked ∙ c.if-picks_id.false) in
     let later = subst (λ (p : Picker). filter (picks_of p) (map node ns) ≡ []) c.picks_id.ensures.same c.in_default-unpicked.ensures.none in
     let same = ap (λ (p : Picker). record c.nodes.self { picker = p }) (c.unpicked.ensures.same ∙ c.picks_id.ensures.same) in
-    rest_passed g.D.Drain c.args.self.now (dense_left c.args.dense.now) c.args.packer.now (dense_left c.nodes.nodes) ns (node_of c.in-Some.view) c.nodes.self _ c.nodes.packer _ (rw c.in-Some.is at c.next_in.ensures) here later same c.nodes.invariant
+    rest_passed g.D.Drain c.args.self.now (dense_left c.args.dense.now) c.args.packer.now (dense_left c.nodes.left.nodes) ns (node_of c.in-Some.view) c.nodes.self _ c.nodes.packer _ (rw c.in-Some.is at c.next_in.ensures.next) here later same c.nodes.invariant.on
 
 pub nodes-preserved : goal.nodes-preserved
 nodes-preserved g c =
-    let ns = dense_left c.next_in.new.self in
+    let ns = dense_left c.next_in.new.self.nodes in
     let fits : SFits w64 c.id.result = search rules in
     let here = ap (λ (z : ℤ). picks_id c.nodes.self.picker z) (sym c.id.ensures ∙ sym (to_z-of_z w64 c.id.result fits)) ∙ (sym c.picks_id.ensures.picked ∙ c.if-picks_id.false) in
     let later = subst (λ (p : Picker). NonePicked p c.in-Some-unpicked.ahead.count ns) c.picks_id.ensures.same c.in-Some-unpicked.ensures.none in
     let same = ap (λ (p : Picker). record c.nodes.self { picker = p }) (c.unpicked.ensures.same ∙ c.picks_id.ensures.same) in
-    some_passed g.D.Drain c.args.self.now (dense_left c.args.dense.now) c.args.packer.now (dense_left c.nodes.nodes) ns _ (node_of c.in-Some.view) c.in-Some-unpicked.ahead.count c.nodes.self _ c.nodes.packer (rw c.in-Some.is at c.next_in.ensures) (c.pass_to.ensures c.in-Some-unpicked.ensures.ahead) here later same c.nodes.invariant
+    let passed = c.pass_to.ensures.passed c.in-Some-unpicked.ensures.ahead in
+    record {
+      on = some_passed g.D.Drain c.args.self.now (dense_left c.args.dense.now) c.args.packer.now (dense_left c.nodes.left.nodes) ns _ (node_of c.in-Some.view) c.in-Some-unpicked.ahead.count c.nodes.self _ c.nodes.packer (rw c.in-Some.is at c.next_in.ensures.next) passed here later same c.nodes.invariant.on;
+      even = even_after (node_of c.in-Some.view) c.next_in.new.self.alike c.pass_to.new.self.alike c.in-Some-unpicked.ahead.count ns (dense_left c.pass_to.new.self.nodes) passed c.pass_to.ensures.alike
+          (even_next c.nodes.left.alike c.next_in.new.self.alike (dense_left c.nodes.left.nodes) ns (node_of c.in-Some.view) (rw c.in-Some.is at c.next_in.ensures.next) c.next_in.ensures.alike c.nodes.invariant.even);
+    }
 
 pub nodes-smaller : goal.nodes-smaller
 nodes-smaller g c =
-    passed_left (dense_left c.nodes.nodes) (dense_left c.next_in.new.self) _ (node_of c.in-Some.view) c.in-Some-unpicked.ahead.count (rw c.in-Some.is at c.next_in.ensures) (c.pass_to.ensures c.in-Some-unpicked.ensures.ahead)
+    passed_left (dense_left c.nodes.left.nodes) (dense_left c.next_in.new.self.nodes) _ (node_of c.in-Some.view) c.in-Some-unpicked.ahead.count (rw c.in-Some.is at c.next_in.ensures.next) (c.pass_to.ensures.passed c.in-Some-unpicked.ensures.ahead)
 
 pub returns : goal.returns
 returns g c =
-    all_gone g.D.Drain c.args.self.now (dense_left c.args.dense.now) c.args.packer.now (dense_left c.nodes.nodes) c.nodes.self c.nodes.packer _ (rw c.in_default.is at c.next_in.ensures).0 c.nodes.invariant
+    all_gone g.D.Drain c.args.self.now (dense_left c.args.dense.now) c.args.packer.now (dense_left c.nodes.left.nodes) c.nodes.self c.nodes.packer _ (rw c.in_default.is at c.next_in.ensures.next).0 c.nodes.invariant.on

@@ -1,8 +1,8 @@
 use Rattle.std.proofs.Common.{List, subst, sym}
 use Rattle.std.specs.List.{AllByRecursion}
 use Rattle.osm_entity.specs.Entity.{NodeSpec}
-use Rattle.pbfcut.specs.Numbers.{NumbersFit}
-use Rattle.pbfcut.proofs.NumberLemmas.{numbers_fit}
+use Rattle.pbf_dense.specs.Steady.{NumbersFit}
+use Rattle.pbf_dense.proofs.NumberLemmas.{numbers_fit}
 use Rattle.pbfcut.proofs.pick.EntityPacker.pack_run.Goals as goal
 
 pub pack_nodes-requires-clause-numbers : goal.pack_nodes-requires-clause-numbers

@@ -12,7 +12,7 @@ use Rattle.osm_entity.specs.Ranges.{IsStored, IsUid, IfPresent}
 use Rattle.pbf_dense.specs.Info.{InfoSpec, info_along, info_rest}
 use Rattle.pbf_dense.specs.Runs.{after_run}
 use Rattle.pbf_dense.specs.Nodes.{nodes_along, nodes_of_columns}
-use Rattle.pbfcut.specs.Numbers.{NumbersFit}
+use Rattle.pbf_dense.specs.Steady.{NumbersFit}
 
 sums_fit : (limit start : ℤ) (ds : List ℤ) → AllByRecursion (IsWithin limit) (sums_within limit start ds)
 unfolding added
@@ -61,13 +61,3 @@ unfolding nodes_along info_along
 numbers_fit table scale os =
     columns_fit table scale _ _ _ _ _ (sums_fit _ _ _) (sums_fit _ _ _) (sums_fit _ _ _)
     (record { timestamps = sums_fit _ _ _; changesets = sums_fit _ _ _; uids = sums_fit _ _ _ })
-
--- ---- the next of them
-
-of_next : (gone ns : List NodeSpec) (n : NodeSpec) → AllByRecursion NumbersFit (gone ++ (n ∷ ns)) → NumbersFit n
-of_next [] ns n h = h.0
-of_next (x ∷ gone) ns n h = of_next gone ns n h.1
-
-pub next_fits : (all gone left ns : List NodeSpec) (n : NodeSpec) → gone ++ left ≡ all → left ≡ n ∷ ns → AllByRecursion NumbersFit all → NumbersFit n
-next_fits all gone left ns n split is h =
-    of_next gone ns n (subst (λ (l : List NodeSpec). AllByRecursion NumbersFit l) (sym split ∙ ap (λ (l : List NodeSpec). gone ++ l) is) h)
