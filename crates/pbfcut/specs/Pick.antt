@@ -7,6 +7,7 @@ use Rattle.std.specs.Option.{option_map}
 use Rattle.osm_entity.specs.Entity.{EntitySpec, node, way, relation}
 use Rattle.osm_entity.specs.Ranges.{EntityFits}
 use Rattle.osm_ways.specs.Phases.{KeptSets, is_chosen, is_taken}
+use Rattle.osm_ways.specs.Selection.{Seen}
 use Rattle.osm_ways.specs.Seen.{seen_way, seen_relation}
 use Rattle.osm_pack.specs.declared.open_block.TheConstants.{MOST_HELD}
 use Rattle.osm_pack.specs.Cuts.{written_entities, pending_after, written_after}
@@ -42,11 +43,15 @@ Pick = EntitySpec → Bool
 abbrev pub everything : Pick
 everything e = true
 
+-- nodes by the sets' ids, ways and relations by a test
+abbrev pub kept_by : (KeptSets → Seen → Bool) → KeptSets → Pick
+kept_by test sets (node n) = set.contains sets.ways.node_ids n.id
+kept_by test sets (way w) = test sets (seen_way w)
+kept_by test sets (relation r) = test sets (seen_relation r)
+
 -- what the sets keep
 abbrev pub picked_by : KeptSets → Pick
-picked_by sets (node n) = set.contains sets.ways.node_ids n.id
-picked_by sets (way w) = is_chosen sets (seen_way w)
-picked_by sets (relation r) = is_chosen sets (seen_relation r)
+picked_by = kept_by is_chosen
 
 -- by the sets that were chosen, or all if none were
 abbrev pub picked_by_some : Option KeptSets → Pick
@@ -58,9 +63,7 @@ pick_of chosen = picked_by_some (option_map (λ c. c.now) chosen)
 
 -- the same in the file that the sets were chosen from, where a kept way's id is in them
 abbrev pub taken_by : KeptSets → Pick
-taken_by sets (node n) = set.contains sets.ways.node_ids n.id
-taken_by sets (way w) = is_taken sets (seen_way w)
-taken_by sets (relation r) = is_taken sets (seen_relation r)
+taken_by = kept_by is_taken
 
 abbrev pub taken_by_some : Option KeptSets → Pick
 taken_by_some None = everything
