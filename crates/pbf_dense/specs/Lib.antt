@@ -8,3 +8,5 @@ pub mod WrittenDense
 pub mod Places
 pub mod Within
 pub mod Steady
+pub mod NodeTexts
+pub mod InfoTaken

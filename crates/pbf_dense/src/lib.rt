@@ -11,8 +11,12 @@ mod info_out;
 mod judge;
 pub mod laws;
 mod phase;
+mod numbers_out;
 mod places;
+mod run_out;
 mod steady;
+mod text_source;
+mod user_indexes;
 mod user_texts;
 mod within;
 
