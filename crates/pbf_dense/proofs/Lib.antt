@@ -18,3 +18,4 @@ pub mod EntryLemmas
 pub mod WithinLemmas
 pub mod TextLemmas
 pub mod InfoTakenLemmas
+pub mod NodesTakenLemmas

@@ -10,3 +10,4 @@ pub mod Within
 pub mod Steady
 pub mod NodeTexts
 pub mod InfoTaken
+pub mod ColumnsTaken
