@@ -35,9 +35,9 @@ some_taken written old new from rest some count few same e f =
     let parts : take count from ≡ take some from ++ take more (drop some from) = ap (λ (n : ℕ). take n from) all ∙ take-add some more from in
     record {
       added = ap₂ (λ (a b : List ℕ). a ++ map written (take more b)) e f
-      ∙ append_assoc old (take some from) (map written (take more (drop some from)))
-      ∙ ap (λ (w : List ℕ). old ++ (w ++ map written (take more (drop some from)))) (sym same)
-      ∙ ap (λ (w : List ℕ). old ++ w) (sym (map-append written (take some from) (take more (drop some from))) ∙ ap (map written) (sym parts));
+          ∙ append_assoc old (take some from) (map written (take more (drop some from)))
+          ∙ ap (λ (w : List ℕ). old ++ (w ++ map written (take more (drop some from)))) (sym same)
+          ∙ ap (λ (w : List ℕ). old ++ w) (sym (map-append written (take some from) (take more (drop some from))) ∙ ap (map written) (sym parts));
       passed = ap (drop more) f ∙ drop-drop more some from ∙ ap (λ (n : ℕ). drop n from) (sym all);
     }
 

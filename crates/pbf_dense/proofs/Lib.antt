@@ -19,3 +19,4 @@ pub mod WithinLemmas
 pub mod TextLemmas
 pub mod InfoTakenLemmas
 pub mod NodesTakenLemmas
+pub mod NumberLemmas

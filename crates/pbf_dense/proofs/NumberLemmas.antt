@@ -1,0 +1,77 @@
+-- The numbers of a dense message's nodes are in their ranges, whatever is wrong with it: its columns end before one that isn't.
+use Rattle.std.proofs.Common.{◌≡◌, ℕ, ℤ, List, [], ◌∷◌, ◌++◌, drop, subst, sym, ap, ◌∙◌}
+use Rattle.std.specs.Prelude.{slice_get}
+use Rattle.std.specs.List.{AllByRecursion}
+use Rattle.pbf_wire.specs.Occurrence.{Occurrence}
+use Rattle.pbf_wire.specs.Signed.{IsWithin}
+use Rattle.pbf_wire.specs.Sums.{sums_within}
+use Rattle.osm_entity.specs.declared.scale.Scale.{Scale}
+use Rattle.osm_entity.specs.Entity.{NodeSpec}
+use Rattle.osm_entity.specs.Ranges.{IsStored, IsUid, IfPresent}
+use Rattle.pbf_dense.specs.Cursors.{dense_left}
+use Rattle.pbf_dense.specs.Info.{InfoSpec, info_along, info_rest}
+use Rattle.pbf_dense.specs.Runs.{after_run}
+use Rattle.pbf_dense.specs.Nodes.{nodes_along, nodes_of_columns}
+use Rattle.pbf_dense.specs.Steady.{NumbersFit}
+use Rattle.pbf_dense.specs.declared.dense.Dense.{Dense}
+use Rattle.pbf_dense.proofs.InfoLemmas.{sums_are_within}
+use Rattle.pbf_dense.proofs.InfoTakenLemmas.{stored_all}
+
+-- the columns of metadata
+record InfoFits (info : InfoSpec) : Type 0 where
+  timestamps : AllByRecursion IsStored info.timestamps
+  changesets : AllByRecursion IsStored info.changesets
+  uids : AllByRecursion IsUid info.uids
+
+first : (P : ℤ → Type 0) (zs : List ℤ) → AllByRecursion P zs → IfPresent P (slice_get zs 0)
+first P [] h = tt
+first P (z ∷ zs) h = h.0
+
+later : (P : ℤ → Type 0) (zs : List ℤ) → AllByRecursion P zs → AllByRecursion P (drop 1 zs)
+later P [] h = tt
+later P (z ∷ zs) h = h.1
+
+columns_fit : (table : List (List ℕ)) (scale : Scale) (ids lats lons : List ℤ) (info : InfoSpec) (keys_vals : List ℕ)
+    → AllByRecursion IsStored ids → AllByRecursion IsStored lats → AllByRecursion IsStored lons → InfoFits info → AllByRecursion NumbersFit (nodes_of_columns table scale ids lats lons info keys_vals)
+columns_fit table scale [] lats lons info keys_vals a b c h = tt
+columns_fit table scale (id ∷ ids) [] lons info keys_vals a b c h = tt
+columns_fit table scale (id ∷ ids) (lat ∷ lats) [] info keys_vals a b c h = tt
+columns_fit table scale (id ∷ ids) (lat ∷ lats) (lon ∷ lons) info keys_vals a b c h = (
+  record {
+    id = a.0;
+    lat = b.0;
+    lon = c.0;
+    meta = record { timestamp = first IsStored info.timestamps h.timestamps; changeset = first IsStored info.changesets h.changesets; uid = first IsUid info.uids h.uids };
+  },
+  columns_fit table scale ids lats lons (info_rest info) (after_run keys_vals) a.1 b.1 c.1 (record {
+    timestamps = later IsStored info.timestamps h.timestamps;
+    changesets = later IsStored info.changesets h.changesets;
+    uids = later IsUid info.uids h.uids;
+  }),
+)
+
+-- those of the nodes that are still to come
+pub dense_fits : (dense : Dense) → AllByRecursion NumbersFit (dense_left dense)
+unfolding dense_left
+dense_fits dense =
+    columns_fit _ _ _ _ _ _ _ (stored_all _ _ dense.ids_stored) (stored_all _ _ dense.lats_stored) (stored_all _ _ dense.lons_stored)
+    (record { timestamps = stored_all _ _ dense.info.timestamps_stored; changesets = stored_all _ _ dense.info.changesets_stored; uids = stored_all _ _ dense.info.narrow })
+
+sums_fit : (limit start : ℤ) (ds : List ℤ) → AllByRecursion (IsWithin limit) (sums_within limit start ds)
+sums_fit limit start ds = stored_all limit (sums_within limit start ds) (sums_are_within limit start ds)
+
+pub numbers_fit : (table : List (List ℕ)) (scale : Scale) (os : List Occurrence) → AllByRecursion NumbersFit (nodes_along table scale os)
+unfolding nodes_along info_along
+numbers_fit table scale os =
+    columns_fit table scale _ _ _ _ _ (sums_fit _ _ _) (sums_fit _ _ _) (sums_fit _ _ _)
+    (record { timestamps = sums_fit _ _ _; changesets = sums_fit _ _ _; uids = sums_fit _ _ _ })
+
+-- ---- the next of them
+
+of_next : (gone ns : List NodeSpec) (n : NodeSpec) → AllByRecursion NumbersFit (gone ++ (n ∷ ns)) → NumbersFit n
+of_next [] ns n h = h.0
+of_next (x ∷ gone) ns n h = of_next gone ns n h.1
+
+pub next_fits : (all gone left ns : List NodeSpec) (n : NodeSpec) → gone ++ left ≡ all → left ≡ n ∷ ns → AllByRecursion NumbersFit all → NumbersFit n
+next_fits all gone left ns n split is h =
+    of_next gone ns n (subst (λ (l : List NodeSpec). AllByRecursion NumbersFit l) (sym split ∙ ap (λ (l : List NodeSpec). gone ++ l) is) h)
