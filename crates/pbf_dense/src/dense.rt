@@ -219,8 +219,8 @@ impl<'a> Dense<'a> {
         self.ids
     }
 
-    /// Skips as many nodes, or all if there are fewer, by a cursor that has read the ids up to there. None is made, and no id is read again:
-    /// each other column is moved on by itself.
+    /// Skips as many nodes, or all if there are fewer, by a cursor that has read the ids up to there, as the caller must prove. None is
+    /// made, and no id is read again: each other column is moved on by itself.
     #[inline(always)]
     pub fn pass_to(&mut self, ids: &Sums<'a>, count: usize)
         requires { AreIdsAfter count self.old ids.now }

@@ -126,10 +126,10 @@ impl DenseOut {
         Ok(())
     }
 
-    /// Adds the next nodes of a dense message after the others, so many, which are taken from it, and their texts to the table: of each node
-    /// those that [`DenseOut::push`] adds. The caller must prove that there are so many, and that the table has room for their texts, repeats
-    /// counted. Numbers are copied as they are spelled where that is how they are written. After an `Err` nodes, table and message are
-    /// unspecified.
+    /// Adds the next nodes of a dense message after the others, so many, which are taken from it, and their texts to the table: of each
+    /// node those that [`DenseOut::push`] adds. The caller must prove that there are so many, that the table has room for their texts,
+    /// repeats counted, and, for a message that can be read, that all nodes have the same fields of metadata. Numbers are copied as they
+    /// are spelled if that is how they are written. After an `Err` nodes, table and message are unspecified.
     pub fn take<S: BuildHasher>(
         &mut self,
         nodes: &mut Dense<'_>,

@@ -36,7 +36,8 @@ pub(crate) fn take_versions(
 ) -> Result<(), AllocError>
     ensures added { OnOk result (column.new
         ≡ column.old ++ map written_version (take count (numbers_left versions.old))) }
-    ensures rest { OnOk result (numbers_left versions.new ≡ drop count (numbers_left versions.old)) }
+    ensures rest { OnOk result
+        (numbers_left versions.new ≡ drop count (numbers_left versions.old)) }
 {
     let mut left = count;
     'versions: while left > 0 {

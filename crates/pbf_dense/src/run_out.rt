@@ -79,8 +79,8 @@ fn take_each_tag<S: BuildHasher>(
     Ok(tagged)
 }
 
-/// Like [`take_each_tag`], and quick if there is no tag, as of most nodes. If there is one, a copy of the cursor is read on, so that it stays in
-/// registers where nodes are taken.
+/// Like [`take_each_tag`], and quick if there is no tag, as of most nodes. If there is one, a copy of the cursor is read on, so that
+/// the cursor of a loop stays in registers.
 #[inline(always)]
 pub(crate) fn take_run<S: BuildHasher>(
     runs: &mut ColumnOut,

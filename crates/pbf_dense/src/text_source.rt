@@ -33,13 +33,16 @@ impl<'a> TextSource<'a> {
         table: &mut TableOut<S>,
     ) -> Result<bool, AllocError>
         requires { length table.old + length (texts_used (texts_along self.old.texts.now count
-            (sums_left self.old.users) (map low_32 (numbers_left self.old.keys_vals)))) ≤ MOST_USED_TEXTS }
+            (sums_left self.old.users) (map low_32 (numbers_left self.old.keys_vals))))
+            ≤ MOST_USED_TEXTS }
         ensures taken { IfOk result (λ tagged. TakesTexts (texts_along self.old.texts.now count
-            (sums_left self.old.users) (map low_32 (numbers_left self.old.keys_vals))) table.old table.new
+            (sums_left self.old.users) (map low_32 (numbers_left self.old.keys_vals)))
+            table.old table.new
             (columns_with runs.old users.old false) (columns_with runs.new users.new tagged)) }
         ensures runs { OnOk result (map low_32 (numbers_left self.new.keys_vals)
             ≡ after_runs count (map low_32 (numbers_left self.old.keys_vals))) }
-        ensures users { OnOk result (sums_left self.new.users ≡ drop count (sums_left self.old.users)) }
+        ensures users { OnOk result
+            (sums_left self.new.users ≡ drop count (sums_left self.old.users)) }
     {
         let texts = self.texts;
         let mut keys_vals = self.keys_vals;

@@ -29,7 +29,8 @@ impl<'a> UserIndexes<'a> {
     /// Of a table of which no user was looked up yet.
     pub(crate) fn new(texts: &'a Table<'a>) -> UserIndexes<'a>
         ensures texts { result.texts ≡ texts.entry }
-        ensures known { (written : List (List ℕ)) → IsKnown texts.now written result.user result.index }
+        ensures known { (written : List (List ℕ))
+            → IsKnown texts.now written result.user result.index }
     {
         UserIndexes {
             texts,
