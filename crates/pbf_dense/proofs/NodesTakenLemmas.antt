@@ -1,23 +1,24 @@
 -- Nodes that are taken over column by column.
-use Rattle.std.proofs.Common.{◌≡◌, ℕ, zero, suc, ℤ, pos, ◌+◌, ◌<◌, ◌≤◌, Bool, true, false, ◌||◌, List, [], ◌∷◌, ◌++◌, length, map, take, drop, Option, Some, None, refl, sym, ap, ap₂, ◌∙◌, arith, append_assoc, subst}
+use Rattle.std.proofs.Common.{◌≡◌, ℕ, zero, suc, ℤ, ◌+◌, ◌≤◌, Bool, false, ◌||◌, List, [], ◌∷◌, ◌++◌, length, map, take, drop, Option, refl, sym, ap, ap₂, ◌∙◌, arith, subst}
 use Rattle.std.specs.Prelude.{slice_get, not, ◌==◌}
 use Rattle.std.specs.List.{flat_map, filter_map, list_any, cons_option}
-use Rattle.std.specs.Option.{option_map, option_to_list}
+use Rattle.std.specs.Option.{option_map}
 use Rattle.std.proofs.lemmas.List.{map-append}
 use Rattle.std.proofs.lemmas.List.Elements.{filter_map-append}
 use Rattle.std.proofs.lemmas.Grind.{flat_map-append}
 use Rattle.pbf_wire.specs.Signed.{low_i32, sign_extended}
-use Rattle.pbf_strings.specs.TableOut.{texts_after, index_in}
+use Rattle.pbf_strings.specs.TableOut.{texts_after}
 use Rattle.pbf_strings.proofs.UsedTexts.{used_later}
 use Rattle.osm_entity.specs.declared.scale.Scale.{Scale}
-use Rattle.osm_entity.specs.Entity.{TagSpec, MetaSpec, NodeSpec}
-use Rattle.osm_entity.specs.EntityTexts.{tag_texts, node_texts}
+use Rattle.osm_entity.specs.Entity.{MetaSpec, NodeSpec}
+use Rattle.osm_entity.specs.EntityTexts.{node_texts}
 use Rattle.osm_entity.specs.Sources.{tag_of, run}
-use Rattle.pbf_dense.specs.Info.{user_text, InfoSpec, meta_at, info_rest, info_past}
+use Rattle.pbf_dense.specs.Info.{user_text, InfoSpec, info_rest, info_past}
 use Rattle.pbf_dense.specs.Runs.{after_run, after_runs}
 use Rattle.pbf_dense.specs.Nodes.{nodes_of_columns}
-use Rattle.pbf_dense.specs.WrittenDense.{DenseColumns, bit_of, run_of, are_some, has_tag, columns_of}
+use Rattle.pbf_dense.specs.WrittenDense.{DenseColumns, bit_of, run_of, has_tag, columns_of}
 use Rattle.pbf_dense.specs.NodeTexts.{NodeTexts, texts_along, texts_used, runs_for, user_index, users_for, any_tagged, TextColumns, columns_with, TakesTexts}
+use Rattle.pbf_dense.proofs.DenseOutLemmas.{or_after}
 use Rattle.pbf_dense.specs.InfoTaken.{written_version, written_flag, TakesInfo}
 
 -- ---- what so many nodes have
@@ -101,10 +102,6 @@ more_mapped {Y = Y} f ns more old new taken e h t = h ∙ ap₂ (λ (a b : List 
 more_present : {Y : Type 0} (f : MetaSpec → Option Y) (ns more : List NodeSpec) (old new taken : List Y) → old ≡ filter_map f (metas_of ns) → new ≡ old ++ taken → filter_map f (metas_of more) ≡ taken → new ≡ filter_map f (metas_of (ns ++ more))
 more_present {Y = Y} f ns more old new taken e h t =
     h ∙ ap₂ (λ (a b : List Y). a ++ b) e (sym t) ∙ sym (filter_map-append f (metas_of ns) (metas_of more)) ∙ ap (λ (ms : List MetaSpec). filter_map f ms) (sym (map-append (λ (n : NodeSpec). n.meta) ns more))
-
-or_after : (a b c : Bool) → ((a || b) || c) ≡ (a || (b || c))
-or_after true b c = refl
-or_after false b c = refl
 
 any_both : (ns more : List NodeSpec) → (list_any has_tag ns || list_any has_tag more) ≡ list_any has_tag (ns ++ more)
 any_both [] more = refl

@@ -1,7 +1,7 @@
 -- The texts of nodes that are taken over, node by node.
 use Rattle.std.proofs.Common.{◌≡◌, ℕ, zero, suc, ℤ, pos, ◌+◌, ◌-◌, ◌<◌, ◌≤◌, Bool, true, false, ◌||◌, List, [], ◌∷◌, ◌++◌, length, length-append, map, drop, Option, Some, None, refl, sym, ap, ◌∙◌, arith, append_assoc, append-nil, subst}
 use Rattle.std.specs.Prelude.{slice_get, Ok}
-use Rattle.std.specs.List.{filter_map, cons_option, list_any}
+use Rattle.std.specs.List.{cons_option}
 use Rattle.std.specs.Option.{option_map, option_to_list}
 use Rattle.pbf_strings.specs.TableOut.{with_text, texts_after, has_text, index_in, GivesIndex}
 use Rattle.pbf_strings.proofs.UsedTexts.{any_with, has_after, index_after, index_later, length_after, recent_gives, used_both, used_later}
@@ -12,6 +12,8 @@ use Rattle.osm_entity.proofs.TagLemmas.{run_ends, run_cut, run_goes_on}
 use Rattle.pbf_dense.specs.Info.{user_text}
 use Rattle.pbf_dense.specs.Runs.{after_run}
 use Rattle.pbf_dense.specs.WrittenDense.{are_some, run_of}
+use Rattle.pbf_dense.proofs.DenseOutLemmas.{or_none, or_after}
+use Rattle.pbf_dense.proofs.MovingLemmas.{drop_one}
 use Rattle.pbf_dense.specs.NodeTexts.{NodeTexts, texts_along, texts_used, runs_for, user_index, users_for, any_tagged, TextColumns, TakesTexts, IsKnown}
 
 -- of all nodes these are left: their texts and numbers go on from this state
@@ -25,10 +27,6 @@ pub record TextsGoOn (start : List (List ℕ)) (all : List NodeTexts) (before : 
 pub none_taken : (start : List (List ℕ)) (all : List NodeTexts) (before : TextColumns) → length start + length (texts_used all) ≤ 1048575 → TextsGoOn start all before start before all
 none_taken start all before room = record { texts_are = refl; runs_are = λ used. refl; users_are = λ used. refl; tagged_is = refl; room = room }
 
-or_false : (b : Bool) → (b || false) ≡ b
-or_false true = refl
-or_false false = refl
-
 pub all_taken : (start : List (List ℕ)) (all : List NodeTexts) (before : TextColumns) (texts : List (List ℕ)) (now : TextColumns) (left : List NodeTexts)
     → TextsGoOn start all before texts now left → left ≡ [] → TakesTexts all start texts before now
 all_taken start all before texts now left h e =
@@ -37,12 +35,8 @@ all_taken start all before texts now left h e =
       texts = d.texts_are;
       runs = λ used. sym (append-nil now.runs) ∙ d.runs_are used;
       users = λ used. sym (append-nil now.users) ∙ d.users_are used;
-      tagged = sym (or_false now.tagged) ∙ d.tagged_is;
+      tagged = sym (or_none now.tagged) ∙ d.tagged_is;
     }
-
-or_both : (a b c : Bool) → ((a || b) || c) ≡ (a || (b || c))
-or_both true b c = refl
-or_both false b c = refl
 
 one_more : {Y : Type 0} (ys : List Y) (o : Option Y) (rest : List Y) → (ys ++ option_to_list o) ++ rest ≡ ys ++ cons_option o rest
 one_more ys None rest = ap (λ zs. zs ++ rest) (append-nil ys)
@@ -74,7 +68,7 @@ node_taken start all before texts middle later now next was left n h is em el ru
           ap (λ (xs : List ℤ). xs ++ users_for all_texts left) (users (texts_used left ++ used))
           ∙ one_more now.users (user_index all_texts n.user) (users_for all_texts left)
           ∙ subst (λ (ts : List (List ℕ)). now.users ++ users_for ts (n ∷ left) ≡ before.users ++ users_for ts all) (after used) (d.users_are used);
-      tagged_is = ap (λ (b : Bool). b || any_tagged left) tagged ∙ or_both now.tagged (are_some n.tags) (any_tagged left) ∙ d.tagged_is;
+      tagged_is = ap (λ (b : Bool). b || any_tagged left) tagged ∙ or_after now.tagged (are_some n.tags) (any_tagged left) ∙ d.tagged_is;
       room =
           let q = d.room in
           let l = length_after own texts in
@@ -112,16 +106,11 @@ one_along table (suc n) users more_users keys_vals rest some e f =
 pub none_along : (table : List (List ℕ)) (left : ℕ) (users : List ℤ) (keys_vals : List ℕ) → left ≡ 0 → texts_along table left users keys_vals ≡ []
 none_along table left users keys_vals e = ap (λ (n : ℕ). texts_along table n users keys_vals) e
 
-drop_some : (n : ℕ) (zs : List ℤ) → drop n (drop 1 zs) ≡ drop (suc n) zs
-drop_some zero [] = refl
-drop_some (suc n) [] = refl
-drop_some n (z ∷ zs) = refl
-
 pub one_passed : (left : ℕ) (zs : List ℤ) → 0 < left → drop (left - 1) (drop 1 zs) ≡ drop left zs
 one_passed zero zs some = absurd (omega arith)
 one_passed (suc n) zs some =
     let less : suc n - 1 ≡ n = omega arith in
-    ap (λ (m : ℕ). drop m (drop 1 zs)) less ∙ drop_some n zs
+    ap (λ (m : ℕ). drop m (drop 1 zs)) less ∙ sym (drop_one n zs)
 
 -- ---- the last user
 

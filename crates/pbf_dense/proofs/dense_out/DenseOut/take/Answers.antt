@@ -1,15 +1,13 @@
-use Rattle.std.proofs.Common.{◌≡◌, ℕ, ℤ, List, Bool, ◌+◌, ◌≤◌, ◌||◌, ◌++◌, length, map, take, false, refl, sym, ap, subst, ◌∙◌, rules}
-use Rattle.std.specs.List.{flat_map}
+use Rattle.std.proofs.Common.{◌≡◌, ℕ, ℤ, List, Bool, ◌+◌, ◌≤◌, ◌||◌, length, map, take, sym, ap, subst, ◌∙◌, rules}
 use Rattle.pbf_wire.specs.Cursors.{numbers_left, sums_left}
 use Rattle.osm_entity.specs.Sources.{low_32}
-use Rattle.osm_entity.specs.EntityTexts.{node_texts}
 use Rattle.pbf_strings.specs.TableOut.{texts_after}
 use Rattle.pbf_dense.specs.Cursors.{dense_left, info_left}
-use Rattle.pbf_dense.specs.NodeTexts.{NodeTexts, texts_used, columns_with, TakesTexts}
+use Rattle.pbf_dense.specs.NodeTexts.{texts_used, columns_with}
 use Rattle.pbf_dense.specs.Info.{InfoSpec}
 use Rattle.pbf_dense.specs.WrittenDense.{columns_held, info_held}
 use Rattle.pbf_dense.proofs.MovingLemmas.{moving_on}
-use Rattle.pbf_dense.proofs.NodesTakenLemmas.{first_nodes, texts_of, used_by, nodes_taken, written_after, rest_is}
+use Rattle.pbf_dense.proofs.NodesTakenLemmas.{first_nodes, used_by, nodes_taken, written_after, rest_is}
 use Rattle.pbf_dense.proofs.dense_out.DenseOut.take.Goals.{then-self, else-self}
 use Rattle.pbf_dense.proofs.dense_out.DenseOut.take.Goals as goal
 

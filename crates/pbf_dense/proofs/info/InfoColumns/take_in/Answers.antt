@@ -1,4 +1,4 @@
-use Rattle.std.proofs.Common.{pos, ◌^◌}
+use Rattle.std.proofs.Common.{pos}
 use Rattle.pbf_wire.specs.Cursors.{sums_left}
 use Rattle.pbf_wire.specs.declared.limits.TheConstants.{SUM_LIMIT}
 use Rattle.pbf_dense.proofs.InfoLemmas.{still_within}

@@ -1,4 +1,4 @@
-use Rattle.std.proofs.Common.{◌≡◌, ℕ, ℤ, List, ◌∷◌, ◌++◌, ◌||◌, ◌-◌, ◌+◌, ◌≤◌, length, map, drop, refl, sym, ap, subst, ◌∙◌, rules, arith}
+use Rattle.std.proofs.Common.{◌≡◌, ℕ, List, ◌++◌, ◌||◌, ◌-◌, ◌+◌, ◌≤◌, length, map, drop, refl, sym, ap, subst, ◌∙◌, rules, arith}
 use Rattle.std.specs.Prelude.{slice_get}
 use Rattle.std.specs.Option.{option_map, option_to_list}
 use Rattle.pbf_wire.specs.Cursors.{numbers_left, sums_left}
@@ -6,7 +6,7 @@ use Rattle.pbf_strings.specs.TableOut.{texts_after}
 use Rattle.osm_entity.specs.EntityTexts.{tag_texts}
 use Rattle.osm_entity.specs.Sources.{low_32}
 use Rattle.pbf_dense.specs.Info.{user_text}
-use Rattle.pbf_dense.specs.NodeTexts.{texts_along, user_index, columns_with, IsKnown}
+use Rattle.pbf_dense.specs.NodeTexts.{user_index, columns_with, IsKnown}
 use Rattle.pbf_dense.specs.Runs.{after_runs}
 use Rattle.pbf_dense.specs.WrittenDense.{are_some}
 use Rattle.pbf_dense.proofs.MovingLemmas.{one_run}

@@ -1,4 +1,4 @@
-use Rattle.std.proofs.Common.{◌≡◌, List, ℕ, ℤ, ◌∷◌, [], ◌++◌, ap, subst, ◌∙◌, rules, w64}
+use Rattle.std.proofs.Common.{◌≡◌, ℤ, ◌∷◌, [], ◌++◌, ap, subst, ◌∙◌, rules, w64}
 use mir.Val.{SFits}
 use Rattle.std.proofs.lemmas.Int.{to_z-of_z}
 use Rattle.pbf_strings.specs.TableOut.{with_text, index_in}
