@@ -68,11 +68,11 @@ runs_one : (texts : List (List ℕ)) (ns : List NodeSpec) (n : NodeSpec) (old ne
 runs_one texts ns n old new e h =
     h ∙ (ap (λ (w : List ℕ). w ++ run_of texts n.tags) e ∙ (ap (λ (w : List ℕ). flat_map (λ n. run_of texts n.tags) ns ++ w) (sym (append-nil (run_of texts n.tags))) ∙ sym (flat_map-append (λ n. run_of texts n.tags) ns (n ∷ []))))
 
-or_none : (b : Bool) → (b || false) ≡ b
+pub or_none : (b : Bool) → (b || false) ≡ b
 or_none true = refl
 or_none false = refl
 
-or_after : (a b c : Bool) → ((a || b) || c) ≡ (a || (b || c))
+pub or_after : (a b c : Bool) → ((a || b) || c) ≡ (a || (b || c))
 or_after true b c = refl
 or_after false b c = refl
 

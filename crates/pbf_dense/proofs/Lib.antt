@@ -16,4 +16,7 @@ pub mod FitsLemmas
 pub mod PlaceLemmas
 pub mod EntryLemmas
 pub mod WithinLemmas
+pub mod TextLemmas
+pub mod InfoTakenLemmas
+pub mod NodesTakenLemmas
 pub mod NumberLemmas

@@ -1,27 +1,21 @@
 -- The numbers of a dense message's nodes are in their ranges, whatever is wrong with it: its columns end before one that isn't.
-use Rattle.std.proofs.Common.{◌≡◌, ℕ, ℤ, ◌+ℤ◌, Bool, true, false, List, [], ◌∷◌, ◌++◌, drop, subst, refl, sym, ap, ◌∙◌}
+use Rattle.std.proofs.Common.{◌≡◌, ℕ, ℤ, List, [], ◌∷◌, ◌++◌, drop, subst, sym, ap, ◌∙◌}
 use Rattle.std.specs.Prelude.{slice_get}
 use Rattle.std.specs.List.{AllByRecursion}
 use Rattle.pbf_wire.specs.Occurrence.{Occurrence}
-use Rattle.pbf_wire.specs.Signed.{IsWithin, is_within}
-use Rattle.pbf_wire.specs.Sums.{added, sums_within}
-use Rattle.pbf_wire.proofs.SumLemmas.{within_is}
+use Rattle.pbf_wire.specs.Signed.{IsWithin}
+use Rattle.pbf_wire.specs.Sums.{sums_within}
 use Rattle.osm_entity.specs.declared.scale.Scale.{Scale}
 use Rattle.osm_entity.specs.Entity.{NodeSpec}
 use Rattle.osm_entity.specs.Ranges.{IsStored, IsUid, IfPresent}
+use Rattle.pbf_dense.specs.Cursors.{dense_left}
 use Rattle.pbf_dense.specs.Info.{InfoSpec, info_along, info_rest}
 use Rattle.pbf_dense.specs.Runs.{after_run}
 use Rattle.pbf_dense.specs.Nodes.{nodes_along, nodes_of_columns}
 use Rattle.pbf_dense.specs.Steady.{NumbersFit}
-
-sums_fit : (limit start : ℤ) (ds : List ℤ) → AllByRecursion (IsWithin limit) (sums_within limit start ds)
-unfolding added
-sums_fit limit start [] = tt
-sums_fit limit start (d ∷ ds) = by (is_within limit (start +ℤ d)) refl (sums_fit limit (start +ℤ d) ds)
-  where
-    by : (b : Bool) → is_within limit (start +ℤ d) ≡ b → AllByRecursion (IsWithin limit) (sums_within limit (start +ℤ d) ds) → AllByRecursion (IsWithin limit) (sums_within limit start (d ∷ ds))
-    by true e rest = rw (e, sums_within) (within_is limit (start +ℤ d) e, rest)
-    by false e rest = rw (e, sums_within) tt
+use Rattle.pbf_dense.specs.declared.dense.Dense.{Dense}
+use Rattle.pbf_dense.proofs.InfoLemmas.{sums_are_within}
+use Rattle.pbf_dense.proofs.InfoTakenLemmas.{stored_all}
 
 -- the columns of metadata
 record InfoFits (info : InfoSpec) : Type 0 where
@@ -56,8 +50,28 @@ columns_fit table scale (id ∷ ids) (lat ∷ lats) (lon ∷ lons) info keys_val
   }),
 )
 
+-- those of the nodes that are still to come
+pub dense_fits : (dense : Dense) → AllByRecursion NumbersFit (dense_left dense)
+unfolding dense_left
+dense_fits dense =
+    columns_fit _ _ _ _ _ _ _ (stored_all _ _ dense.ids_stored) (stored_all _ _ dense.lats_stored) (stored_all _ _ dense.lons_stored)
+    (record { timestamps = stored_all _ _ dense.info.timestamps_stored; changesets = stored_all _ _ dense.info.changesets_stored; uids = stored_all _ _ dense.info.narrow })
+
+sums_fit : (limit start : ℤ) (ds : List ℤ) → AllByRecursion (IsWithin limit) (sums_within limit start ds)
+sums_fit limit start ds = stored_all limit (sums_within limit start ds) (sums_are_within limit start ds)
+
 pub numbers_fit : (table : List (List ℕ)) (scale : Scale) (os : List Occurrence) → AllByRecursion NumbersFit (nodes_along table scale os)
 unfolding nodes_along info_along
 numbers_fit table scale os =
     columns_fit table scale _ _ _ _ _ (sums_fit _ _ _) (sums_fit _ _ _) (sums_fit _ _ _)
     (record { timestamps = sums_fit _ _ _; changesets = sums_fit _ _ _; uids = sums_fit _ _ _ })
+
+-- ---- the next of them
+
+of_next : (gone ns : List NodeSpec) (n : NodeSpec) → AllByRecursion NumbersFit (gone ++ (n ∷ ns)) → NumbersFit n
+of_next [] ns n h = h.0
+of_next (x ∷ gone) ns n h = of_next gone ns n h.1
+
+pub next_fits : (all gone left ns : List NodeSpec) (n : NodeSpec) → gone ++ left ≡ all → left ≡ n ∷ ns → AllByRecursion NumbersFit all → NumbersFit n
+next_fits all gone left ns n split is h =
+    of_next gone ns n (subst (λ (l : List NodeSpec). AllByRecursion NumbersFit l) (sym split ∙ ap (λ (l : List NodeSpec). gone ++ l) is) h)

@@ -8,3 +8,6 @@ pub mod WrittenDense
 pub mod Places
 pub mod Within
 pub mod Steady
+pub mod NodeTexts
+pub mod InfoTaken
+pub mod ColumnsTaken

@@ -1,8 +1,11 @@
 //! The nodes of a dense message.
 
-ghost use Rattle.std.specs.Prelude.{◌≡◌, [], ⊤, MatchOption, map};
+ghost use Rattle.std.specs.Prelude.{◌≡◌, [], ⊤, MatchOption, map, pos, true};
+ghost use Rattle.std.specs.List.{list_all};
 ghost use Rattle.std.specs.Option.{IsSome};
-ghost use Rattle.pbf_wire.specs.Cursors.{numbers_left};
+ghost use Rattle.pbf_wire.specs.Cursors.{numbers_left, sums_left};
+ghost use Rattle.pbf_wire.specs.Signed.{is_within};
+ghost use Rattle.pbf_wire.specs.declared.limits.TheConstants.{SUM_LIMIT};
 ghost use Rattle.osm_entity.specs.Sources.{low_32, tags_left};
 ghost use Rattle.pbf_dense.specs.Runs.{after_runs};
 ghost use Rattle.pbf_dense.specs.Taking.{PassesRun, TakesTags};
@@ -129,19 +132,21 @@ fn fill_if_empty(place: &mut Option<NodeRef<'_>>, scale: Scale)
 /// The nodes of a dense message that are still to come: an iterator over its columns, which does not allocate.
 #[derive(Clone, Copy)]
 pub struct Dense<'a> {
-    ids: Sums<'a>,
-    lats: Sums<'a>,
-    lons: Sums<'a>,
-    info: InfoColumns<'a>,
-    keys_vals: Column<'a>,
-    texts: UserTexts<'a>,
+    pub(crate) ids: Sums<'a>,
+    pub(crate) lats: Sums<'a>,
+    pub(crate) lons: Sums<'a>,
+    pub(crate) info: InfoColumns<'a>,
+    pub(crate) keys_vals: Column<'a>,
+    pub(crate) texts: UserTexts<'a>,
     scale: Scale,
+    ghost ids_stored: { list_all (is_within (pos SUM_LIMIT)) (sums_left ids) ≡ true },
+    ghost lats_stored: { list_all (is_within (pos SUM_LIMIT)) (sums_left lats) ≡ true },
+    ghost lons_stored: { list_all (is_within (pos SUM_LIMIT)) (sums_left lons) ≡ true },
 }
 
 impl<'a> Dense<'a> {
     ghost use Rattle.std.specs.Prelude.{ℕ, List, length, drop};
     ghost use Rattle.std.specs.Iterator.{YieldsFirstBy};
-    ghost use Rattle.pbf_wire.specs.Cursors.{sums_left};
     ghost use Rattle.pbf_wire.specs.Faults.{found_in};
     ghost use Rattle.osm_entity.specs.Views.{node_of};
     ghost use Rattle.pbf_dense.specs.Judged.{id_count, dense_wire};
@@ -152,7 +157,7 @@ impl<'a> Dense<'a> {
 
     /// The nodes of a dense message, whatever is wrong with it: as long as there are an id, a latitude and a longitude, up to a
     /// sum that is out of range. Goes through the message's fields once for each of its columns and does not allocate.
-    #[tactic(auto, unfolding(crate::specs::Cursors::dense_left, crate::specs::Nodes::nodes_along))]
+    #[tactic(auto, using(crate::proofs::InfoLemmas::sums_are_within), unfolding(crate::specs::Cursors::dense_left, crate::specs::Nodes::nodes_along))]
     pub fn over(message: Message<'a>, table: &'a Table<'a>, scale: Scale) -> Dense<'a>
         ensures { dense_left result ≡ nodes_along table.now scale (found_in message.entry) }
     {
@@ -221,12 +226,12 @@ impl<'a> Dense<'a> {
         self.ids
     }
 
-    /// Skips as many nodes, or all if there are fewer, by a cursor that has read the ids up to there. None is made, and no id is read again:
-    /// each other column is moved on by itself.
+    /// Skips as many nodes, or all if there are fewer, by a cursor that has read the ids up to there, as the caller must prove. None is
+    /// made, and no id is read again: each other column is moved on by itself.
     #[inline(always)]
     pub fn pass_to(&mut self, ids: &Sums<'a>, count: usize)
-        ensures { AreIdsAfter count self.old ids.now
-            → dense_left self.new ≡ drop count (dense_left self.old) }
+        requires { AreIdsAfter count self.old ids.now }
+        ensures { dense_left self.new ≡ drop count (dense_left self.old) }
     {
         if count > 0 {
             self.follow(ids, count);
@@ -235,9 +240,10 @@ impl<'a> Dense<'a> {
 
     /// Like [`Dense::pass_to`], if there are some to skip.
     #[inline(never)]
+    #[tactic(auto, using(crate::proofs::InfoLemmas::still_within), unfolding(crate::specs::Cursors::AreIdsAfter))]
     fn follow(&mut self, ids: &Sums<'a>, count: usize)
-        ensures { AreIdsAfter count self.old ids.now
-            → dense_left self.new ≡ drop count (dense_left self.old) }
+        requires { AreIdsAfter count self.old ids.now }
+        ensures { dense_left self.new ≡ drop count (dense_left self.old) }
     {
         self.ids = *ids;
         self.lats.pass(count);
@@ -248,7 +254,7 @@ impl<'a> Dense<'a> {
 
     /// Puts the next node in this place, or `None`, as [`Dense::next`] gives it. The room of a node is large, and a loop that keeps its
     /// place need neither clear nor copy it: each part is written where it is to be, and of tags that are none nothing is.
-    #[tactic(auto, using(crate::proofs::MovingLemmas::no_lats, crate::proofs::MovingLemmas::no_lons), unfolding(crate::specs::Cursors::dense_left))]
+    #[tactic(auto, using(crate::proofs::MovingLemmas::no_lats, crate::proofs::MovingLemmas::no_lons, crate::proofs::InfoLemmas::later_within), unfolding(crate::specs::Cursors::dense_left))]
     pub fn next_in(&mut self, place: &mut Option<NodeRef<'a>>)
         ensures { YieldsFirstBy node_of dense_left self.old place.new self.new }
     {

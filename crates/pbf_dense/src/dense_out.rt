@@ -1,7 +1,7 @@
 //! Dense nodes, written.
 
 ghost use Rattle.std.specs.Prelude.{◌≡◌, ◌++◌, ◌∷◌, [], ◌-◌, ◌+◌, ◌≤◌, ◌^◌, min, ℕ, List, OnOk, IfOk, length, take, drop, if◌then◌else◌};
-ghost use Rattle.std.specs.List.{AllByRecursion, flat_map};
+ghost use Rattle.std.specs.List.{flat_map};
 ghost use Rattle.pbf_wire.specs.Message.{Column, Each, message, unless_empty};
 ghost use Rattle.pbf_wire.specs.Sums.{deltas};
 ghost use Rattle.pbf_strings.specs.TableOut.{texts_after};
@@ -11,12 +11,13 @@ ghost use Rattle.osm_entity.specs.Ranges.{NodeFits};
 ghost use Rattle.osm_entity.specs.Views.{node_of};
 ghost use Rattle.pbf_dense.specs.WrittenDense.{HoldsNodes, are_some, run_of, columns_held, dense_message, dense_length};
 ghost use Rattle.pbf_dense.specs.Cursors.{dense_left};
-ghost use Rattle.pbf_dense.specs.Steady.{NumbersFit};
+ghost use Rattle.pbf_dense.specs.ColumnsTaken.{TakesColumns};
 ghost use Rattle.pbf_strings.specs.declared.table.TheConstants.{MOST_USED_TEXTS};
 
 use crate::dense::Dense;
 use crate::dense_nodes::{DENSEINFO, ID, KEYS_VALS, LAT, LON};
 use crate::info_out::InfoOut;
+use crate::text_source::TextSource;
 use osm_entity::NodeRef;
 use pbf_strings::TableOut;
 use pbf_wire::{ColumnOut, DeltaOut, put_column, put_unless_empty};
@@ -125,10 +126,10 @@ impl DenseOut {
         Ok(())
     }
 
-    /// Adds the next nodes of a dense message after the others, so many, which are taken from it, and their texts to the table: of each node
-    /// those that [`DenseOut::push`] adds. The caller must prove that there are so many, that they fit, and that the table has room for their
-    /// texts, repeats counted. Numbers are copied as they are spelled where that is how they are written. After an `Err` nodes, table and
-    /// message are unspecified.
+    /// Adds the next nodes of a dense message after the others, so many, which are taken from it, and their texts to the table: of each
+    /// node those that [`DenseOut::push`] adds. The caller must prove that there are so many, that the table has room for their texts,
+    /// repeats counted, and, for a message that can be read, that all nodes have the same fields of metadata. Numbers are copied as they
+    /// are spelled if that is how they are written. After an `Err` nodes, table and message are unspecified.
     pub fn take<S: BuildHasher>(
         &mut self,
         nodes: &mut Dense<'_>,
@@ -136,7 +137,6 @@ impl DenseOut {
         table: &mut TableOut<S>,
     ) -> Result<(), AllocError>
         requires many { count ≤ length (dense_left nodes.old) }
-        requires fit { AllByRecursion NumbersFit (dense_left nodes.old) }
         requires room { length table.old + length (flat_map node_texts
             (take count (dense_left nodes.old))) ≤ MOST_USED_TEXTS }
         ensures texts { OnOk result (table.new ≡ texts_after table.old
@@ -146,7 +146,37 @@ impl DenseOut {
             (ns ++ take count (dense_left nodes.old))) }
         ensures rest { OnOk result (dense_left nodes.new ≡ drop count (dense_left nodes.old)) }
     {
-        loop {}
+        let mut source = TextSource {
+            keys_vals: nodes.keys_vals,
+            users: nodes.info.users,
+            texts: nodes.texts.table,
+        };
+        let tagged = source.take(&mut self.runs, &mut self.info.users, count, table)?;
+        self.take_numbers(nodes, count)?;
+        nodes.keys_vals = source.keys_vals;
+        nodes.info.users = source.users;
+        self.tagged = self.tagged || tagged;
+        Ok(())
+    }
+
+    /// Takes the numbers of as many nodes over: of each its id, its place, and its metadata but for its user.
+    #[tactic(auto, using(crate::proofs::InfoLemmas::still_within, crate::proofs::InfoTakenLemmas::stored_all))]
+    fn take_numbers(&mut self, nodes: &mut Dense<'_>, count: usize) -> Result<(), AllocError>
+        ensures { OnOk result (TakesColumns count nodes.old nodes.new self.old self.new) }
+    {
+        let mut ids = nodes.ids;
+        let mut lats = nodes.lats;
+        let mut lons = nodes.lons;
+        let mut info = nodes.info;
+        self.ids.take(&mut ids, count)?;
+        self.lats.take(&mut lats, count)?;
+        self.lons.take(&mut lons, count)?;
+        self.info.take(&mut info, count)?;
+        nodes.ids = ids;
+        nodes.lats = lats;
+        nodes.lons = lons;
+        nodes.info = info;
+        Ok(())
     }
 
     /// Appends the fields of the message, with these as those of its DenseInfo, and with the runs of tags if a node has one.

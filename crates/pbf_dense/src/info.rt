@@ -5,6 +5,7 @@ ghost use Rattle.std.specs.Option.{option_map};
 ghost use Rattle.std.specs.List.{list_all};
 ghost use Rattle.pbf_wire.specs.Signed.{is_within};
 ghost use Rattle.pbf_wire.specs.Cursors.{sums_left};
+ghost use Rattle.pbf_wire.specs.declared.limits.TheConstants.{SUM_LIMIT};
 
 use crate::dense_info::{CHANGESET, TIMESTAMP, UID, USER_SID, VERSION, VISIBLE};
 use crate::dense_nodes::DENSEINFO;
@@ -29,12 +30,14 @@ fn next_uid(uids: &mut Sums<'_>) -> Option<i32>
 /// What is left of the columns of metadata, each of which is empty or goes with the nodes.
 #[derive(Clone, Copy)]
 pub(crate) struct InfoColumns<'a> {
-    versions: Column<'a>,
-    timestamps: Sums<'a>,
-    changesets: Sums<'a>,
-    uids: Sums<'a>,
-    users: Sums<'a>,
-    visible: Column<'a>,
+    pub(crate) versions: Column<'a>,
+    pub(crate) timestamps: Sums<'a>,
+    pub(crate) changesets: Sums<'a>,
+    pub(crate) uids: Sums<'a>,
+    pub(crate) users: Sums<'a>,
+    pub(crate) visible: Column<'a>,
+    ghost timestamps_stored: { list_all (is_within (pos SUM_LIMIT)) (sums_left timestamps) ≡ true },
+    ghost changesets_stored: { list_all (is_within (pos SUM_LIMIT)) (sums_left changesets) ≡ true },
     ghost narrow: { list_all (is_within (pos (2 ^ 30))) (sums_left uids) ≡ true },
 }
 
@@ -83,6 +86,7 @@ impl<'a> InfoColumns<'a> {
 
     /// Puts the metadata of the next node in this place.
     #[inline(always)]
+    #[tactic(auto, using(crate::proofs::InfoLemmas::still_within))]
     pub(crate) fn take_in(&mut self, texts: &mut UserTexts<'a>, meta: &mut MetaRef<'a>)
         ensures meta { meta_of meta.new ≡ meta_at texts.old.table.now (info_left self.old) 0 }
         ensures table { texts.new.table ≡ texts.old.table }

@@ -5,9 +5,13 @@ ghost use Rattle.std.specs.Option.{option_map, option_to_list};
 ghost use Rattle.pbf_wire.specs.Signed.{sign_extended};
 ghost use Rattle.osm_entity.specs.Ranges.{IsStored, IfPresent, MetaFits};
 ghost use Rattle.osm_entity.specs.Views.{meta_of};
+ghost use Rattle.pbf_dense.specs.Cursors.{info_left};
+ghost use Rattle.pbf_dense.specs.InfoTaken.{TakesInfo};
 ghost use Rattle.pbf_dense.specs.WrittenDense.{bit_of, info_columns, dense_info_message, info_held, info_length};
 
 use crate::dense_info::{CHANGESET, TIMESTAMP, UID, USER_SID, VERSION, VISIBLE};
+use crate::info::InfoColumns;
+use crate::numbers_out::{take_flags, take_versions};
 use osm_entity::MetaRef;
 use pbf_wire::{ColumnOut, DeltaOut, put_column, sign_extended};
 use std::alloc::{AllocError, Global};
@@ -19,7 +23,7 @@ pub(crate) struct InfoOut {
     timestamps: DeltaOut,
     changesets: DeltaOut,
     uids: DeltaOut,
-    users: DeltaOut,
+    pub(crate) users: DeltaOut,
     visible: ColumnOut,
 }
 
@@ -81,6 +85,37 @@ impl InfoOut {
         push_value(&mut self.uids, meta.uid.map(i64::from))?;
         push_value(&mut self.users, user.map(i64::from))?;
         push_number(&mut self.visible, meta.visible.map(u64::from))?;
+        Ok(())
+    }
+
+    /// Takes the metadata of as many nodes over, but for their users.
+    #[tactic(auto, using(crate::proofs::InfoLemmas::still_within, crate::proofs::InfoTakenLemmas::stored_all, crate::proofs::InfoTakenLemmas::uids_stored))]
+    pub(crate) fn take(
+        &mut self,
+        info: &mut InfoColumns<'_>,
+        count: usize,
+    ) -> Result<(), AllocError>
+        ensures { OnOk result (TakesInfo count (info_left info.old) (info_left info.new)
+            (info_held self.old) (info_held self.new)) }
+    {
+        let mut versions = info.versions;
+        let mut timestamps = info.timestamps;
+        let mut changesets = info.changesets;
+        let mut uids = info.uids;
+        let mut visible = info.visible;
+        take_versions(&mut self.versions, &mut versions, count)?;
+        self.timestamps.take(&mut timestamps, count)?;
+        self.changesets.take(&mut changesets, count)?;
+        self.uids.take(&mut uids, count)?;
+        take_flags(&mut self.visible, &mut visible, count)?;
+        *info = InfoColumns {
+            versions,
+            timestamps,
+            changesets,
+            uids,
+            users: info.users,
+            visible,
+        };
         Ok(())
     }
 

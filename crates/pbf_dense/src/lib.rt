@@ -10,9 +10,13 @@ mod info;
 mod info_out;
 mod judge;
 pub mod laws;
+mod numbers_out;
 mod phase;
 mod places;
+mod run_out;
 mod steady;
+mod text_source;
+mod user_indexes;
 mod user_texts;
 mod within;
 

@@ -7,7 +7,7 @@ ghost use Rattle.pbf_dense.specs.Info.{user_text};
 use pbf_strings::Table;
 
 /// The text of an index; the empty text if it is negative or the table has none.
-fn text_of<'a>(table: &'a Table<'a>, index: i64) -> &'a [u8]
+pub(crate) fn text_of<'a>(table: &'a Table<'a>, index: i64) -> &'a [u8]
     ensures { result.now ≡ user_text table.now index }
 {
     if index < 0 {

@@ -1,0 +1,83 @@
+-- Columns of metadata that are taken over.
+use Rattle.std.proofs.Common.{◌≡◌, ℕ, zero, suc, ℤ, pos, ◌+◌, ◌-◌, ◌%◌, ◌^◌, ◌<◌, ◌≤◌, true, ltb, List, [], ◌∷◌, ◌++◌, map, take, drop, refl, sym, ap, ap₂, ◌∙◌, arith, rules, append_assoc, append-nil, subst}
+use Rattle.std.specs.List.{AllByRecursion, list_all}
+use Rattle.std.proofs.Math.Seq.{take-add, take-nil, drop-nil}
+use Rattle.std.proofs.lemmas.Bool.Decides.{nat_tests}
+use Rattle.std.proofs.lemmas.List.{map-append, drop-drop}
+use Rattle.std.proofs.lemmas.Int.{ints}
+use Rattle.pbf_wire.specs.Signed.{IsWithin, is_within}
+use Rattle.pbf_wire.proofs.SumLemmas.{within_is}
+use Rattle.pbf_dense.specs.InfoTaken.{written_version, TakesNumbers}
+
+-- ---- numbers
+
+pub none_taken : (written : ℕ → ℕ) (old from : List ℕ) (count : ℕ) → TakesNumbers written old old from from count count
+none_taken written old from count = record { added = refl; passed = refl }
+
+pub both_taken : (written : ℕ → ℕ) (old middle new from between rest : List ℕ) (count some left : ℕ) → TakesNumbers written old middle from between count some → TakesNumbers written middle new between rest some left → TakesNumbers written old new from rest count left
+both_taken written old middle new from between rest count some left h k = record { added = k.added ∙ h.added; passed = k.passed ∙ h.passed }
+
+-- all are taken, or there are no more
+pub all_taken : (written : ℕ → ℕ) (old new from rest : List ℕ) (count left : ℕ) → TakesNumbers written old new from rest count left → left ≡ 0 → new ≡ old ++ map written (take count from)
+all_taken written old new from rest count left h none =
+    let d = subst (λ (n : ℕ). TakesNumbers written old new from rest count n) none h in sym (append-nil new) ∙ d.added
+
+pub all_passed : (written : ℕ → ℕ) (old new from rest : List ℕ) (count left : ℕ) → TakesNumbers written old new from rest count left → left ≡ 0 → rest ≡ drop count from
+all_passed written old new from rest count left h none =
+    let d = subst (λ (n : ℕ). TakesNumbers written old new from rest count n) none h in d.passed
+
+-- so many at once, which are written as they are
+pub some_taken : (written : ℕ → ℕ) (old new from rest : List ℕ) (some count : ℕ) → some ≤ count → map written (take some from) ≡ take some from → new ≡ old ++ take some from → rest ≡ drop some from → TakesNumbers written old new from rest count (count - some)
+some_taken written old new from rest some count few same e f =
+    let more = count - some in
+    let all : count ≡ some + more = omega (arith, few) in
+    let parts : take count from ≡ take some from ++ take more (drop some from) = ap (λ (n : ℕ). take n from) all ∙ take-add some more from in
+    record {
+      added = ap₂ (λ (a b : List ℕ). a ++ map written (take more b)) e f
+          ∙ append_assoc old (take some from) (map written (take more (drop some from)))
+          ∙ ap (λ (w : List ℕ). old ++ (w ++ map written (take more (drop some from)))) (sym same)
+          ∙ ap (λ (w : List ℕ). old ++ w) (sym (map-append written (take some from) (take more (drop some from))) ∙ ap (map written) (sym parts));
+      passed = ap (drop more) f ∙ drop-drop more some from ∙ ap (λ (n : ℕ). drop n from) (sym all);
+    }
+
+-- one that is there
+pub one_taken : (written : ℕ → ℕ) (old new from rest : List ℕ) (number count : ℕ) → 0 < count → from ≡ number ∷ rest → new ≡ old ++ written number ∷ [] → TakesNumbers written old new from rest count (count - 1)
+one_taken written old new from rest number zero some e f = absurd (omega arith)
+one_taken written old new from rest number (suc n) some e f =
+    let less : suc n - 1 ≡ n = omega arith in
+    rw (e, f, less) (record { added = append_assoc old (written number ∷ []) (map written (take n rest)); passed = refl })
+
+-- none is there
+pub none_there : (written : ℕ → ℕ) (old from rest : List ℕ) (count : ℕ) → from ≡ [] → rest ≡ [] → TakesNumbers written old old from rest count 0
+none_there written old from rest count e f = rw (e, f) (record {
+  added = ap (λ (w : List ℕ). old ++ map written w) (sym (take-nil count));
+  passed = sym (drop-nil count);
+})
+
+-- ---- small versions are written as they are
+
+small_same : (n : ℕ) → n < 128 → written_version n ≡ n
+small_same n lt =
+    let m : n % 2 ^ 32 ≡ n = omega arith in
+    let e : ltb n (2 ^ 31) ≡ true = grind (arith, nat_tests) in
+    rw (m, e) refl
+
+pub all_same : (ns : List ℕ) → AllByRecursion (λ n. n < 128) ns → map written_version ns ≡ ns
+all_same [] h = refl
+all_same (n ∷ ns) h = ap₂ (λ (x : ℕ) (xs : List ℕ). x ∷ xs) (small_same n h.0) (all_same ns h.1)
+
+-- ---- values in range
+
+pub stored_all : (limit : ℤ) (zs : List ℤ) → list_all (is_within limit) zs ≡ true → AllByRecursion (IsWithin limit) zs
+stored_all limit [] h = tt
+stored_all limit (z ∷ zs) h = (within_is limit z (search rules), stored_all limit zs (search rules))
+
+wider : (z : ℤ) → IsWithin (pos (2 ^ 30)) z → IsWithin (pos (2 ^ 62)) z
+wider z h = record { above = omega (arith, ints, h.above); below = omega (arith, ints, h.below) }
+
+pub all_wider : (zs : List ℤ) → AllByRecursion (IsWithin (pos (2 ^ 30))) zs → AllByRecursion (IsWithin (pos (2 ^ 62))) zs
+all_wider [] h = tt
+all_wider (z ∷ zs) h = (wider z h.0, all_wider zs h.1)
+
+pub uids_stored : (zs : List ℤ) → list_all (is_within (pos (2 ^ 30))) zs ≡ true → AllByRecursion (IsWithin (pos (2 ^ 62))) zs
+uids_stored zs h = all_wider zs (stored_all (pos (2 ^ 30)) zs h)
