@@ -78,7 +78,7 @@ holds_push bytes last values value h p = record {
   within = all_push IsSmall values value h.within p;
 }
 
-values_held : (bytes : List ℕ) (last : ℤ) (values : List ℤ) → HoldsDeltas bytes last values → values_of bytes ≡ values
+pub values_held : (bytes : List ℕ) (last : ℤ) (values : List ℤ) → HoldsDeltas bytes last values → values_of bytes ≡ values
 values_held bytes last values h =
     ap values_of h.bytes_are ∙ ap (λ (ns : List ℕ). sums_from (pos 0) (map unzigzag ns)) (column_read (deltas values) (deltas_fit values h.within)) ∙ sums_undo_deltas values
 

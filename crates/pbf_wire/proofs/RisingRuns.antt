@@ -32,7 +32,7 @@ fold_is a (x ∷ xs) = fold_is (a + x) xs ∙ omega arith
 sum_is : (xs : List ℕ) → sum_l xs ≡ sum xs
 sum_is xs = omega (arith, fold_is 0 xs)
 
-sum_cons : (x : ℕ) (xs : List ℕ) → sum (x ∷ xs) ≡ x + sum xs
+pub sum_cons : (x : ℕ) (xs : List ℕ) → sum (x ∷ xs) ≡ x + sum xs
 sum_cons x xs = sym (sum_is (x ∷ xs)) ∙ ap (λ n. x + n) (sum_is xs)
 
 pub wide_sum : (xs : List ℕ) → fold_l (λ s x. s + x) 0 (map (λ x. x) xs) ≡ sum xs
@@ -87,7 +87,7 @@ placed_run (b ∷ bs) ns place more = ap (λ (xs : List ℕ). b ∷ xs) (placed_
 abbrev values : ℤ → ℤ → Bool → List ℕ → List ℤ
 values limit total narrow ns = sums_within limit total (map (delta_in narrow) ns)
 
-half_is : (b : ℕ) → b % 2 ≡ 0 → unzigzag b ≡ pos (b / 2)
+pub half_is : (b : ℕ) → b % 2 ≡ 0 → unzigzag b ≡ pos (b / 2)
 half_is b even = ap (λ (t : Bool). cond t (pos (b / 2)) (negsuc (b / 2))) (eq-eqb _ _ even)
 
 run_past : (bytes more : List ℕ) (span : Span) (vs : List ℤ) (limit total : ℤ) (room n : ℕ) (narrow : Bool) → HasRoom limit total room → length bytes ≤ room → AllByRecursion IsHalved bytes → span.above <ℤ total → (total +ℤ pos (sum bytes / 2)) <ℤ span.below

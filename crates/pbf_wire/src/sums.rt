@@ -16,15 +16,15 @@ use crate::sum::{FAR_ROOM, added, room_of};
 /// `-limit` and `limit`. It does not allocate, and a copy of it continues by itself.
 #[derive(Clone, Copy)]
 pub struct Sums<'a> {
-    entries: Column<'a>,
+    pub(crate) entries: Column<'a>,
     /// The last value given, 0 before the first.
-    total: i64,
-    limit: i64,
+    pub(crate) total: i64,
+    pub(crate) limit: i64,
     /// Whether the entries are `sint32`, of which the low 32 bits count.
-    narrow: bool,
+    pub(crate) narrow: bool,
     /// How many entries of at most three bytes can still be added without a test of the limit. In 32 bits, which lie free beside
     /// `narrow`: a larger cursor would be copied by a call.
-    room: u32,
+    pub(crate) room: u32,
     ghost positive: { pos 1 ≤ℤ limit },
     ghost roomy: { HasRoom limit total room },
 }
