@@ -12,6 +12,7 @@ pub mod SpanLemmas
 pub mod RisingRuns
 pub mod PackedLemmas
 pub mod TakingLemmas
+pub mod SingleLemmas
 pub mod WritingLemmas
 pub mod CountLemmas
 pub mod ReasonLemmas

@@ -41,7 +41,7 @@ is_packed_push bytes ns n h lt = record {
   fit = all_push (λ n. n < 2 ^ 64) ns n h.fit lt;
 }
 
-is_read : (bytes ns : List ℕ) → IsPacked bytes ns → numbers_of bytes ≡ ns
+pub is_read : (bytes ns : List ℕ) → IsPacked bytes ns → numbers_of bytes ≡ ns
 is_read bytes ns h = ap numbers_of h.bytes_are ∙ column_read ns h.fit
 
 -- what `push` leaves, if the numbers are read from the bytes

@@ -7,7 +7,7 @@ ghost use Rattle.pbf_wire.specs.declared.limits.TheConstants.{OFFSET_LIMIT};
 
 use crate::field::Payload;
 use crate::fields::{Fields, FoundFields};
-use crate::runs::rise_of;
+use crate::runs::{after_singles, rise_of};
 use crate::short::{MOST_BYTES, count_left_if_small, count_short};
 use crate::varint::{far_varint, first_varint, short_varint, spelled_varint};
 
@@ -338,6 +338,21 @@ impl<'a> Column<'a> {
         let rise = rise_of(self.packed.first_chunk::<16>()?)?;
         self.packed = &self.packed[16..];
         Some(rise)
+    }
+
+    /// Skips the next numbers, at most so many, as long as each takes one byte of the packed occurrence that was begun, and returns those
+    /// bytes, which are the numbers. The place is left as it is.
+    #[inline(always)]
+    pub(crate) fn pass_singles(&mut self, most: usize) -> &'a [u8]
+        ensures few { length result.now ≤ most }
+        ensures single { AllByRecursion (λ b. b < 128) result.now }
+        ensures passed { numbers_left self.old ≡ result.now ++ numbers_left self.new }
+    {
+        let within = &self.packed[..most.min(self.packed.len())];
+        let count = within.len() - after_singles(within).len();
+        let singles = &self.packed[..count];
+        self.packed = &self.packed[count..];
+        singles
     }
 
     /// The next number, by what is left of the packed occurrence that was begun, and then by the fields after it.

@@ -151,6 +151,8 @@ impl<'a> Sums<'a> {
     fn pass_one(&mut self) -> bool
         ensures passed { IsTrue result
             → (n : ℕ) → drop (n + 1) (sums_left self.old) ≡ drop n (sums_left self.new) }
+        ensures there { IsTrue result
+            → length (sums_left self.old) ≡ length (sums_left self.new) + 1 }
         ensures kept { result ≡ false → sums_left self.new ≡ sums_left self.old }
     {
         if self.next_short().is_some() {
@@ -173,6 +175,8 @@ impl<'a> Sums<'a> {
     fn pass_eight(&mut self) -> bool
         ensures passed { IsTrue result
             → (n : ℕ) → drop (n + 8) (sums_left self.old) ≡ drop n (sums_left self.new) }
+        ensures there { IsTrue result
+            → length (sums_left self.old) ≡ length (sums_left self.new) + 8 }
         ensures kept { result ≡ false → sums_left self.new ≡ sums_left self.old }
     {
         self.entries.pass_zeros()
@@ -269,9 +273,10 @@ impl<'a> Sums<'a> {
         left
     }
 
-    /// Skips as many values, or all if there are fewer.
-    pub fn pass(&mut self, count: usize)
-        ensures { sums_left self.new ≡ drop count (sums_left self.old) }
+    /// Like [`Sums::pass`], and returns 0 if there are so many.
+    fn pass_there(&mut self, count: usize) -> usize
+        ensures passed { sums_left self.new ≡ drop count (sums_left self.old) }
+        ensures there { result ≡ 0 → count ≤ length (sums_left self.old) }
     {
         let mut left = count;
         'values: while left > 0 {
@@ -283,6 +288,14 @@ impl<'a> Sums<'a> {
                 left -= 1;
             }
         }
+        left
+    }
+
+    /// Skips as many values, or all if there are fewer.
+    pub fn pass(&mut self, count: usize)
+        ensures { sums_left self.new ≡ drop count (sums_left self.old) }
+    {
+        let _left = self.pass_there(count);
     }
 
     /// Skips values as long as a span has them, or lacks them, and that is quick, but at most so many. They are read from a copy, which
@@ -344,17 +357,18 @@ impl<'a> Sums<'a> {
     pub fn has(&self, count: usize) -> bool
         ensures { IsTrue result → count ≤ length (sums_left self.now) }
     {
-        loop {}
+        let mut rest = *self;
+        rest.pass_there(count) == 0
     }
 
     /// How many values are still to come, if a quick test shows that each is strictly between -2^62 and 2^62; `None` says nothing. The
-    /// test is for columns of `sint64` of which no value was taken yet, and passes if the entries are few and small. No entry is decoded.
+    /// test is for columns of that limit of which no value was taken yet, and passes if the entries are few and small. No entry is decoded.
     pub fn count_if_small(&self) -> Option<usize>
         ensures counted { MatchOption result ⊤ (λ count. count ≡ length (sums_left self.now)) }
         ensures within { MatchOption result ⊤
             (λ _. AllByRecursion (IsWithin (pos SUM_LIMIT)) (sums_left self.now)) }
     {
-        if self.narrow || self.total != 0 || self.limit != STORED_LIMIT {
+        if self.total != 0 || self.limit != STORED_LIMIT {
             return None;
         }
         self.entries.count_if_small()
