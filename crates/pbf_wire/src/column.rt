@@ -51,8 +51,8 @@ fn first_spelled(packed: &[u8]) -> Option<(u64, &[u8])>
     ensures spelled { MatchOption result ⊤
         (λ found. packed.now ≡ shortest found.0 ++ found.1.now) }
 {
-    let (number, length) = spelled_varint(packed)?;
-    Some((number, &packed[length..]))
+    let (spelled, length) = spelled_varint(packed)?;
+    Some((spelled, &packed[length..]))
 }
 
 /// Whether the first eight bytes are there and are all 0.

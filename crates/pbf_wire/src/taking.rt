@@ -1,8 +1,8 @@
 //! Values that are taken over as they are spelled.
 
+use crate::signed::unzigzag;
 use crate::sum::{added, room_of};
 use crate::sums::Sums;
-use crate::signed::unzigzag;
 
 /// What was taken: the bytes of the entries, and how many values are still to be taken.
 #[derive(Clone, Copy)]

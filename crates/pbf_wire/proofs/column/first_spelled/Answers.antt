@@ -7,8 +7,8 @@ use Rattle.pbf_wire.proofs.column.first_spelled.Goals as goal
 
 pub returns-clause-number : goal.returns-clause-number
 returns-clause-number c =
-    let e = c.in_ok-number.ensures.number in
-    (rw take_rest (ap read_entries (entries_ok c.args.packed.now c.in_ok-number.number c.in_ok-number.length e.1 e.2 e.0)), e.3)
+    let e = c.in_ok-spelled.ensures.number in
+    (rw take_rest (ap read_entries (entries_ok c.args.packed.now c.in_ok-spelled.spelled c.in_ok-spelled.length e.1 e.2 e.0)), e.3)
 
 pub returns-clause-spelled : goal.returns-clause-spelled
-returns-clause-spelled c = rw take_rest (after_shortest c.args.packed.now c.in_ok-number.number c.in_ok-number.length c.in_ok-number.ensures.spelled)
+returns-clause-spelled c = rw take_rest (after_shortest c.args.packed.now c.in_ok-spelled.spelled c.in_ok-spelled.length c.in_ok-spelled.ensures.spelled)
