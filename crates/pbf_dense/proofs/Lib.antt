@@ -16,3 +16,5 @@ pub mod FitsLemmas
 pub mod PlaceLemmas
 pub mod EntryLemmas
 pub mod WithinLemmas
+pub mod SteadyLemmas
+pub mod SteadyWeights

@@ -19,7 +19,7 @@ no_lons table scale (id ∷ ids) (lat ∷ lats) info keys_vals = refl
 -- ---- many nodes at once
 
 -- one entry first, and then n more
-drop_one : {A : Type 0} (n : ℕ) (xs : List A) → drop (suc n) xs ≡ drop n (drop 1 xs)
+pub drop_one : {A : Type 0} (n : ℕ) (xs : List A) → drop (suc n) xs ≡ drop n (drop 1 xs)
 drop_one zero [] = refl
 drop_one (suc n) [] = refl
 drop_one n (x ∷ xs) = refl

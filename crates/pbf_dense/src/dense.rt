@@ -129,12 +129,12 @@ fn fill_if_empty(place: &mut Option<NodeRef<'_>>, scale: Scale)
 /// The nodes of a dense message that are still to come: an iterator over its columns, which does not allocate.
 #[derive(Clone, Copy)]
 pub struct Dense<'a> {
-    ids: Sums<'a>,
-    lats: Sums<'a>,
-    lons: Sums<'a>,
-    info: InfoColumns<'a>,
-    keys_vals: Column<'a>,
-    texts: UserTexts<'a>,
+    pub(crate) ids: Sums<'a>,
+    pub(crate) lats: Sums<'a>,
+    pub(crate) lons: Sums<'a>,
+    pub(crate) info: InfoColumns<'a>,
+    pub(crate) keys_vals: Column<'a>,
+    pub(crate) texts: UserTexts<'a>,
     scale: Scale,
 }
 
