@@ -45,9 +45,10 @@ module _ (table : List (List ℕ)) (scale : Scale) where
     along there (id ∷ ids) [] lons info keys_vals h = tt
     along there (id ∷ ids) (lat ∷ lats) [] info keys_vals h = tt
     along there (id ∷ ids) (lat ∷ lats) (lon ∷ lons) info keys_vals h =
-        let later = later_there there (length ids) (get info) h in
-        (seen info ∙ first_there there (length ids) (get info) h,
-        along there ids lats lons (info_rest info) (after_run keys_vals) (subst (Lasts there (length ids)) (sym (rests info)) later))
+        let later = later_there there (length ids) (get info) h in (
+          seen info ∙ first_there there (length ids) (get info) h,
+          along there ids lats lons (info_rest info) (after_run keys_vals) (subst (Lasts there (length ids)) (sym (rests info)) later),
+        )
 
     pub in_all_or_none : (ids lats lons : List ℤ) (info : InfoSpec) (keys_vals : List ℕ) → InEachOrNone (length ids) (get info) → InAllOrNone field (metas ids lats lons info keys_vals)
     in_all_or_none ids lats lons info keys_vals h = elim h [

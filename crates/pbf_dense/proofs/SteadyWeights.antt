@@ -1,18 +1,19 @@
 -- What nodes weigh together, by the columns of users and of tags.
-use Rattle.std.proofs.Common.{◌≡◌, ◌+◌, ◌-◌, ◌*◌, ◌^◌, ◌<◌, ◌≤◌, min, ℕ, zero, suc, ℤ, List, [], ◌∷◌, length, take, drop, map, refl, sym, ap, subst, ◌∙◌, arith, add-one}
+use Rattle.std.proofs.Common.{◌≡◌, ◌+◌, ◌-◌, ◌*◌, ◌^◌, ◌<◌, ◌≤◌, min, ℕ, zero, suc, ℤ, List, [], ◌∷◌, ◌++◌, length, take, drop, map, refl, sym, ap, subst, ◌∙◌, arith, add-one}
 use Rattle.std.specs.List.{sum_by}
 use Rattle.std.proofs.lemmas.List.Sums.{sum_by-cons}
 use Rattle.pbf_wire.specs.Cursors.{numbers_left, sums_left}
+use Rattle.pbf_wire.specs.Passing.{eight_of}
 use Rattle.osm_entity.specs.declared.scale.Scale.{Scale}
 use Rattle.osm_entity.specs.Entity.{NodeSpec}
 use Rattle.osm_entity.specs.Sources.{low_32, tag_of, run}
 use Rattle.osm_entity.specs.Weight.{node_weight, tags_weight}
 use Rattle.pbf_strings.specs.Texts.{text}
 use Rattle.pbf_dense.specs.Cursors.{dense_left, info_left}
-use Rattle.pbf_dense.specs.Info.{InfoSpec, meta_at, info_rest}
+use Rattle.pbf_dense.specs.Info.{InfoSpec, meta_at, info_rest, user_text}
 use Rattle.pbf_dense.specs.Nodes.{nodes_of_columns}
 use Rattle.pbf_dense.specs.Runs.{after_run, after_runs}
-use Rattle.pbf_dense.specs.Steady.{first_weight}
+use Rattle.pbf_dense.specs.Steady.{AreEight, first_weight}
 use Rattle.pbf_dense.specs.declared.dense.Dense.{Dense}
 use Rattle.pbf_dense.proofs.EntryLemmas.{passed_one}
 use Rattle.pbf_dense.proofs.MovingLemmas.{drop_one, run_first, node_made}
@@ -79,6 +80,38 @@ module _ (table : List (List ℕ)) where
         passed = moved ∙ ap (drop 1) h.passed ∙ passed_one count users;
         runs = rw add-one (run ∙ ap after_run h.runs);
       }
+
+  -- eight nodes more, which have no tags and the same user
+  module _ (user : ℤ) where
+    abbrev bare : ℕ
+    bare = 160 + length (user_text table user)
+
+    module _ (users : List ℤ) (keys_vals : List ℕ) where
+      one_bare : (later : List ℤ) (rest : List ℕ) (count weight : ℕ) → AreWeighed users keys_vals (user ∷ later) (0 ∷ rest) count weight → AreWeighed users keys_vals later rest (count + 1) (weight + bare)
+      one_bare later rest count weight h = one_weighed users (user ∷ later) later keys_vals (0 ∷ rest) rest count weight bare h (omega arith) refl refl
+
+      two_bare : (later : List ℤ) (rest : List ℕ) (count weight : ℕ) → AreWeighed users keys_vals (user ∷ user ∷ later) (0 ∷ 0 ∷ rest) count weight → AreWeighed users keys_vals later rest (count + 2) (weight + 2 * bare)
+      two_bare later rest count weight h =
+          let both : count + 1 + 1 ≡ count + 2 = omega arith in
+          let sum : weight + bare + bare ≡ weight + 2 * bare = omega arith in
+          subst (λ n. AreWeighed users keys_vals later rest n (weight + 2 * bare)) both (subst (AreWeighed users keys_vals later rest (count + 1 + 1)) sum (one_bare later rest (count + 1) (weight + bare) (one_bare (user ∷ later) (0 ∷ rest) count weight h)))
+
+      four_bare : (later : List ℤ) (rest : List ℕ) (count weight : ℕ) → AreWeighed users keys_vals (user ∷ user ∷ user ∷ user ∷ later) (0 ∷ 0 ∷ 0 ∷ 0 ∷ rest) count weight → AreWeighed users keys_vals later rest (count + 4) (weight + 4 * bare)
+      four_bare later rest count weight h =
+          let both : count + 2 + 2 ≡ count + 4 = omega arith in
+          let sum : weight + 2 * bare + 2 * bare ≡ weight + 4 * bare = omega arith in
+          subst (λ n. AreWeighed users keys_vals later rest n (weight + 4 * bare)) both (subst (AreWeighed users keys_vals later rest (count + 2 + 2)) sum (two_bare later rest (count + 2) (weight + 2 * bare) (two_bare (user ∷ user ∷ later) (0 ∷ 0 ∷ rest) count weight h)))
+
+      eight_bare : (later : List ℤ) (rest : List ℕ) (count weight : ℕ) → AreWeighed users keys_vals (eight_of user ++ later) (eight_of 0 ++ rest) count weight → AreWeighed users keys_vals later rest (count + 8) (weight + 8 * bare)
+      eight_bare later rest count weight h =
+          let both : count + 4 + 4 ≡ count + 8 = omega arith in
+          let sum : weight + 4 * bare + 4 * bare ≡ weight + 8 * bare = omega arith in
+          subst (λ n. AreWeighed users keys_vals later rest n (weight + 8 * bare)) both (subst (AreWeighed users keys_vals later rest (count + 4 + 4)) sum (four_bare later rest (count + 4) (weight + 4 * bare) (four_bare (user ∷ user ∷ user ∷ user ∷ later) (0 ∷ 0 ∷ 0 ∷ 0 ∷ rest) count weight h)))
+
+  pub eight_weighed : (users later next : List ℤ) (keys_vals rest after : List ℕ) (count weight eight : ℕ) → AreWeighed users keys_vals later rest count weight → AreEight table later next rest after eight → AreWeighed users keys_vals next after (count + 8) (weight + eight)
+  eight_weighed users later next keys_vals rest after count weight eight h e =
+      let here = subst (λ us. AreWeighed users keys_vals us (eight_of 0 ++ after) count weight) e.users_are (subst (λ ks. AreWeighed users keys_vals later ks count weight) e.runs_are h) in
+      subst (λ w. AreWeighed users keys_vals next after (count + 8) (weight + w)) (sym e.weight_is) (eight_bare e.user users keys_vals next after count weight here)
 
 -- the columns of a dense message
 pub nodes_weighed : (dense : Dense) (later : List ℤ) (rest : List ℕ) (count weight : ℕ) → count ≤ length (dense_left dense) → AreWeighed dense.texts.table.now (sums_left dense.info.users) (map low_32 (numbers_left dense.keys_vals)) later rest count weight

@@ -104,10 +104,10 @@ struct Weights<'a> {
 }
 
 impl<'a> Weights<'a> {
-    ghost use Rattle.std.specs.Prelude.{◌≡◌, ◌-◌, ◌^◌, drop, map, min};
+    ghost use Rattle.std.specs.Prelude.{◌≡◌, ◌-◌, ◌^◌, ◌<◌, ◌≤◌, ⊤, MatchOption, None, drop, map, min};
     ghost use Rattle.pbf_wire.specs.Cursors.{numbers_left, sums_left};
     ghost use Rattle.osm_entity.specs.Sources.{low_32};
-    ghost use Rattle.pbf_dense.specs.Steady.{first_weight, user_weight};
+    ghost use Rattle.pbf_dense.specs.Steady.{AreEight, first_weight, user_weight};
     ghost use Rattle.pbf_dense.specs.Runs.{after_run};
 
     /// What the text of the next node's user weighs.
@@ -137,6 +137,36 @@ impl<'a> Weights<'a> {
         let user = self.next_user();
         let tags = weigh_tags(&mut self.keys_vals, self.texts.table);
         user.saturating_add(160).saturating_add(tags)
+    }
+
+    /// What the next eight nodes weigh together, if it is seen at once that they have no tags and the user of the node before, and if they
+    /// are no more than `most` and weigh no more than `room`. They are skipped then.
+    #[inline(always)]
+    fn next_eight(&mut self, most: usize, room: u64) -> Option<u64>
+        requires { room < 2 ^ 64 - 1 }
+        ensures few { MatchOption result ⊤ (λ weight. (8 ≤ most) × (weight ≤ room)) }
+        ensures eight { MatchOption result ⊤ (λ weight. AreEight self.old.texts.table.now
+            (sums_left self.old.users) (sums_left self.new.users)
+            (map low_32 (numbers_left self.old.keys_vals))
+            (map low_32 (numbers_left self.new.keys_vals)) weight) }
+        ensures table { self.new.texts.table ≡ self.old.texts.table }
+        ensures kept { result ≡ None → self.new ≡ self.old }
+    {
+        let mut next = *self;
+        if most < 8 || !next.keys_vals.pass_zeros() {
+            return None;
+        }
+        if !next.users.pass_eight() {
+            return None;
+        }
+        let user = next.users.last_value();
+        let text = next.texts.text(Some(user))?;
+        let weight = (text.len() as u64).saturating_add(160).saturating_mul(8);
+        if weight > room {
+            return None;
+        }
+        *self = next;
+        Some(weight)
     }
 }
 
@@ -183,6 +213,11 @@ impl<'a> Dense<'a> {
         let mut count = 0;
         let mut weight = 0;
         'nodes: while count < most {
+            if let Some(eight) = weights.next_eight(most - count, most_weight - weight) {
+                count += 8;
+                weight += eight;
+                continue;
+            }
             let next = weights.next();
             if next > most_weight - weight {
                 break;

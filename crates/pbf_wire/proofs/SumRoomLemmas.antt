@@ -134,7 +134,7 @@ module _ (limit total : ℤ) (room : ℕ) (narrow : Bool) (roomy : HasRoom limit
   four_times : (ns : List ℕ) → values (0 ∷ 0 ∷ 0 ∷ 0 ∷ ns) ≡ total ∷ total ∷ total ∷ total ∷ values ns
   four_times ns = twice (0 ∷ 0 ∷ ns) ∙ ap (λ (zs : List ℤ). total ∷ total ∷ zs) (twice ns)
 
-  eight_times : (ns : List ℕ) → values (0 ∷ 0 ∷ 0 ∷ 0 ∷ 0 ∷ 0 ∷ 0 ∷ 0 ∷ ns) ≡ total ∷ total ∷ total ∷ total ∷ total ∷ total ∷ total ∷ total ∷ values ns
+  pub eight_times : (ns : List ℕ) → values (0 ∷ 0 ∷ 0 ∷ 0 ∷ 0 ∷ 0 ∷ 0 ∷ 0 ∷ ns) ≡ total ∷ total ∷ total ∷ total ∷ total ∷ total ∷ total ∷ total ∷ values ns
   eight_times ns = four_times (0 ∷ 0 ∷ 0 ∷ 0 ∷ ns) ∙ ap (λ (zs : List ℤ). total ∷ total ∷ total ∷ total ∷ zs) (four_times ns)
 
   pub eight_passed : (n : ℕ) (ns : List ℕ) → drop (n + 8) (values (0 ∷ 0 ∷ 0 ∷ 0 ∷ 0 ∷ 0 ∷ 0 ∷ 0 ∷ ns)) ≡ drop n (values ns)

@@ -30,13 +30,13 @@ pub struct Sums<'a> {
 }
 
 impl<'a> Sums<'a> {
-    ghost use Rattle.std.specs.Prelude.{◌+◌, ◌-◌, ◌≤◌, ◌∷◌, List, ℕ, ℤ, ⊤, true, false, IsTrue, MatchOption, drop, length, map};
+    ghost use Rattle.std.specs.Prelude.{◌+◌, ◌-◌, ◌≤◌, ◌∷◌, ◌++◌, List, ℕ, ℤ, ⊤, true, false, IsTrue, MatchOption, drop, length, map};
     ghost use Rattle.std.specs.Iterator.{YieldsFirst};
     ghost use Rattle.std.specs.List.{AllByRecursion};
     ghost use Rattle.pbf_wire.specs.Signed.{unzigzag, low_sint32};
     ghost use Rattle.pbf_wire.specs.Sums.{sums_within};
-    ghost use Rattle.pbf_wire.specs.Cursors.{numbers_left, sums_left};
-    ghost use Rattle.pbf_wire.specs.Passing.{PassesSome};
+    ghost use Rattle.pbf_wire.specs.Cursors.{numbers_left, sums_left, last_given};
+    ghost use Rattle.pbf_wire.specs.Passing.{PassesSome, eight_of};
     ghost use Rattle.pbf_wire.specs.Spans.{ArePassed};
 
     /// The values of a column of `sint64`.
@@ -170,9 +170,22 @@ impl<'a> Sums<'a> {
         self.entries.pass_short_zero()
     }
 
-    /// Skips the next eight values, if each is the last one again by a 0 of one byte.
+    /// The last value given, 0 before the first.
     #[inline(always)]
-    fn pass_eight(&mut self) -> bool
+    pub fn last_value(&self) -> i64
+        ensures { result ≡ last_given self.now }
+    {
+        let Sums { total, .. } = *self;
+        total
+    }
+
+    /// Skips the next eight values, if each is the last one again by a 0 of one byte of the packed occurrence that was begun. Otherwise
+    /// the values that are left stay the same.
+    #[inline(always)]
+    pub fn pass_eight(&mut self) -> bool
+        ensures same { IsTrue result
+            → sums_left self.old ≡ eight_of (last_given self.old) ++ sums_left self.new }
+        ensures last { last_given self.new ≡ last_given self.old }
         ensures passed { IsTrue result
             → (n : ℕ) → drop (n + 8) (sums_left self.old) ≡ drop n (sums_left self.new) }
         ensures there { IsTrue result
