@@ -1,11 +1,10 @@
 -- The block that is open: what it holds of its entities.
-use Rattle.std.specs.Prelude.{◌≡◌, ℕ, ◌+◌, ◌≤◌, List, [], ◌∷◌, ◌++◌, length, true, Option, Some, None, unwrap_or, Result, OnOk}
-use Rattle.std.specs.List.{sum_by, AllByRecursion}
+use Rattle.std.specs.Prelude.{◌≡◌, ℕ, ◌+◌, List, [], ◌∷◌, ◌++◌, length, true, Option, Some, None, unwrap_or, Result, OnOk}
+use Rattle.std.specs.List.{sum_by}
 use Rattle.pbf_strings.specs.TableOut.{texts_after, table_message, text_held}
-use Rattle.osm_entity.specs.Entity.{EntitySpec, NodeSpec}
+use Rattle.osm_entity.specs.Entity.{EntitySpec}
 use Rattle.osm_entity.specs.Ranges.{EntityFits}
 use Rattle.osm_entity.specs.Weight.{entity_weight}
-use Rattle.pbf_dense.specs.Steady.{NumbersFit}
 use Rattle.pbf_dense.specs.WrittenDense.{HoldsNodes, columns_held, dense_length}
 use Rattle.pbf_block.specs.WrittenBlock.{is_block, texts_of_all, nodes_among, messages_among, group_message}
 use Rattle.pbf_block.specs.WrittenEntity.{writer_length}
@@ -50,11 +49,6 @@ pub record MayAdd {S H : Type 0} (b : OpenBlock S H) (e : EntitySpec) : Type 0 w
   pub «open» : IsOpen b
   pub fits : EntityFits e
   pub joins : Joins b e
-
--- of these nodes, which are in their ranges, so many may be taken
-pub record MayTake (most : ℕ) (ns : List NodeSpec) : Type 0 where
-  pub many : most ≤ length ns
-  pub fit : AllByRecursion NumbersFit ns
 
 -- the message of an entity with these texts is made in the writer, and nothing else is done
 pub record Makes {S H : Type 0} (old new : OpenBlock S H) (used : List (List ℕ)) : Type 0 where

@@ -1,6 +1,6 @@
 //! Headers and blocks, written as frames.
 
-ghost use Rattle.std.specs.Prelude.{◌≡◌, ◌+◌, ◌++◌, ◌≤◌, [], List, OnOk, IfOk, IfErr, map, take, drop};
+ghost use Rattle.std.specs.Prelude.{◌≡◌, ◌+◌, ◌++◌, ◌≤◌, [], List, OnOk, IfOk, IfErr, length, map, take, drop};
 ghost use Rattle.std.specs.List.{AllByRecursion};
 ghost use Rattle.osm_entity.specs.Entity.{EntitySpec, node};
 ghost use Rattle.osm_entity.specs.Ranges.{EntityFits};
@@ -8,7 +8,7 @@ ghost use Rattle.osm_entity.specs.Views.{entity_of, node_of};
 ghost use Rattle.osm_entity.specs.Weight.{entity_weight, text_weight};
 ghost use Rattle.pbf_header.specs.Header.{header_of};
 ghost use Rattle.osm_pack.specs.Cuts.{block_frame, header_frame, then_pending, then_written, at_end};
-ghost use Rattle.osm_pack.specs.Open.{Holds, IsOpen, IsJoining, MayTake};
+ghost use Rattle.osm_pack.specs.Open.{Holds, IsOpen, IsJoining};
 ghost use Rattle.osm_pack.specs.Likenesses.{IsLikeNode};
 ghost use Rattle.pbf_dense.specs.Cursors.{dense_left};
 ghost use Rattle.pbf_frame.specs.declared.stop.Stop.TheVariants.{Memory};
@@ -131,7 +131,7 @@ pub(crate) fn add_into<S: BuildHasher>(
     most: usize,
 ) -> Result<usize, Stop>
     requires open { IsOpen block.old }
-    requires taken { MayTake most (dense_left nodes.old) }
+    requires many { most ≤ length (dense_left nodes.old) }
     requires alike { AllByRecursion (IsLikeNode (node_of like.now)) (dense_left nodes.old) }
     ensures open { OnOk result (IsOpen block.new) }
     ensures few { IfOk result (λ count. count ≤ most) }

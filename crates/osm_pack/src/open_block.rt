@@ -11,7 +11,7 @@ ghost use Rattle.pbf_block.specs.WrittenEntity.{way_message, relation_message};
 ghost use Rattle.pbf_block.specs.WrittenBlock.{is_block, block_message, scale_among, texts_of_all, nodes_among};
 ghost use Rattle.pbf_dense.specs.Cursors.{dense_left};
 ghost use Rattle.pbf_dense.specs.WrittenDense.{columns_held, dense_length, dense_message};
-ghost use Rattle.osm_pack.specs.Open.{Holds, IsOpen, IsJoining, MayAdd, MayTake, Makes, Encodes, Counts, Adds, IsClosing, block_held};
+ghost use Rattle.osm_pack.specs.Open.{Holds, IsOpen, IsJoining, MayAdd, Makes, Encodes, Counts, Adds, IsClosing, block_held};
 ghost use Rattle.osm_pack.specs.Likenesses.{is_like, has_like, likeness_of};
 ghost use Rattle.osm_pack.specs.View.{entity_shown};
 ghost use Rattle.osm_entity.specs.declared.weight.TheConstants.{HIGHEST_WEIGHT};
@@ -227,7 +227,7 @@ impl<S: BuildHasher> OpenBlock<S> {
         most: usize,
     ) -> Result<usize, AllocError>
         requires open { IsOpen self.old }
-        requires taken { MayTake most (dense_left nodes.old) }
+        requires many { most ≤ length (dense_left nodes.old) }
         requires alike { AllByRecursion (λ n. has_like self.old.likeness (likeness_of (node n))
             ≡ true) (dense_left nodes.old) }
         ensures few { IfOk result (λ count. count ≤ most) }

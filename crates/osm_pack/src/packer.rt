@@ -42,7 +42,7 @@ impl<D: Drain, S: BuildHasher> Model for Packer<D, S> {
 }
 
 impl<D: Drain, S: BuildHasher> Packer<D, S> {
-    ghost use Rattle.std.specs.Prelude.{◌≡◌, ◌+◌, ◌≤◌, [], List, true, false, OnOk};
+    ghost use Rattle.std.specs.Prelude.{◌≡◌, ◌+◌, ◌≤◌, [], List, true, false, OnOk, length};
     ghost use Rattle.osm_entity.specs.Entity.{EntitySpec, node};
     ghost use Rattle.osm_entity.specs.Ranges.{EntityFits, NodeFits};
     ghost use Rattle.osm_entity.specs.Views.{entity_of, node_of};
@@ -56,7 +56,6 @@ impl<D: Drain, S: BuildHasher> Packer<D, S> {
     ghost use Rattle.osm_pack.specs.View.{entity_shown};
     ghost use Rattle.std.specs.List.{AllByRecursion};
     ghost use Rattle.pbf_dense.specs.Cursors.{dense_left};
-    ghost use Rattle.osm_pack.specs.Open.{MayTake};
     ghost use Rattle.osm_pack.specs.Likenesses.{IsLikeNode};
     ghost use Rattle.osm_pack.specs.Packing.{Pending, Pushes, PushesNodes, UsesPacker, IsPacking, has_header, packer_held};
 
@@ -198,7 +197,7 @@ impl<D: Drain, S: BuildHasher> Packer<D, S> {
         most: usize,
     ) -> Result<usize, Stop>
         requires begun { has_header self.old ≡ true }
-        requires taken { MayTake most (dense_left nodes.old) }
+        requires many { most ≤ length (dense_left nodes.old) }
         requires alike { AllByRecursion (IsLikeNode (node_of like.now)) (dense_left nodes.old) }
         // So many of the nodes wait with the others, and nothing went out.
         ensures { PushesNodes D.Drain most (dense_left nodes.old) (dense_left nodes.new)

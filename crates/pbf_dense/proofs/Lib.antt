@@ -20,3 +20,5 @@ pub mod TextLemmas
 pub mod InfoTakenLemmas
 pub mod NodesTakenLemmas
 pub mod NumberLemmas
+pub mod SteadyLemmas
+pub mod SteadyWeights

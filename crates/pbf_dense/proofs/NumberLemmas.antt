@@ -56,22 +56,3 @@ unfolding dense_left
 dense_fits dense =
     columns_fit _ _ _ _ _ _ _ (stored_all _ _ dense.ids_stored) (stored_all _ _ dense.lats_stored) (stored_all _ _ dense.lons_stored)
     (record { timestamps = stored_all _ _ dense.info.timestamps_stored; changesets = stored_all _ _ dense.info.changesets_stored; uids = stored_all _ _ dense.info.narrow })
-
-sums_fit : (limit start : ℤ) (ds : List ℤ) → AllByRecursion (IsWithin limit) (sums_within limit start ds)
-sums_fit limit start ds = stored_all limit (sums_within limit start ds) (sums_are_within limit start ds)
-
-pub numbers_fit : (table : List (List ℕ)) (scale : Scale) (os : List Occurrence) → AllByRecursion NumbersFit (nodes_along table scale os)
-unfolding nodes_along info_along
-numbers_fit table scale os =
-    columns_fit table scale _ _ _ _ _ (sums_fit _ _ _) (sums_fit _ _ _) (sums_fit _ _ _)
-    (record { timestamps = sums_fit _ _ _; changesets = sums_fit _ _ _; uids = sums_fit _ _ _ })
-
--- ---- the next of them
-
-of_next : (gone ns : List NodeSpec) (n : NodeSpec) → AllByRecursion NumbersFit (gone ++ (n ∷ ns)) → NumbersFit n
-of_next [] ns n h = h.0
-of_next (x ∷ gone) ns n h = of_next gone ns n h.1
-
-pub next_fits : (all gone left ns : List NodeSpec) (n : NodeSpec) → gone ++ left ≡ all → left ≡ n ∷ ns → AllByRecursion NumbersFit all → NumbersFit n
-next_fits all gone left ns n split is h =
-    of_next gone ns n (subst (λ (l : List NodeSpec). AllByRecursion NumbersFit l) (sym split ∙ ap (λ (l : List NodeSpec). gone ++ l) is) h)

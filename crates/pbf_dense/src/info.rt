@@ -1,6 +1,6 @@
 //! The columns of a DenseInfo.
 
-ghost use Rattle.std.specs.Prelude.{◌≡◌, ◌^◌, pos, true, drop, slice_get};
+ghost use Rattle.std.specs.Prelude.{◌≡◌, ◌^◌, pos, true, drop, slice_get, IsTrue};
 ghost use Rattle.std.specs.Option.{option_map};
 ghost use Rattle.std.specs.List.{list_all};
 ghost use Rattle.pbf_wire.specs.Signed.{is_within};
@@ -10,6 +10,7 @@ ghost use Rattle.pbf_wire.specs.declared.limits.TheConstants.{SUM_LIMIT};
 use crate::dense_info::{CHANGESET, TIMESTAMP, UID, USER_SID, VERSION, VISIBLE};
 use crate::dense_nodes::DENSEINFO;
 use crate::entries::{next_number, next_sum, pass_numbers};
+use crate::steady::{numbers_go_with, sums_go_with};
 use crate::user_texts::UserTexts;
 use osm_entity::{MetaRef, STORED_LIMIT, UID_LIMIT};
 use pbf_wire::{Column, Field, Message, Payload, Sums, last_field, low_i32};
@@ -47,6 +48,7 @@ impl<'a> InfoColumns<'a> {
     ghost use Rattle.osm_entity.specs.Views.{meta_of};
     ghost use Rattle.pbf_dense.specs.Info.{meta_at, info_rest, info_past, info_along};
     ghost use Rattle.pbf_dense.specs.Cursors.{info_left};
+    ghost use Rattle.pbf_dense.specs.Steady.{IsInfoSteady};
 
     /// The columns of a DenseInfo.
     #[tactic(auto, using(crate::proofs::InfoLemmas::sums_are_within), unfolding(crate::specs::Info::info_along))]
@@ -111,5 +113,17 @@ impl<'a> InfoColumns<'a> {
         self.uids.pass(count);
         self.users.pass(count);
         pass_numbers(&mut self.visible, count);
+    }
+
+    /// Whether each column has an entry for each of so many nodes, or none; `false` says nothing.
+    pub(crate) fn is_steady(&self, count: usize) -> bool
+        ensures { IsTrue result → IsInfoSteady count (info_left self.now) }
+    {
+        numbers_go_with(&self.versions, count)
+            && sums_go_with(&self.timestamps, count)
+            && sums_go_with(&self.changesets, count)
+            && sums_go_with(&self.uids, count)
+            && sums_go_with(&self.users, count)
+            && numbers_go_with(&self.visible, count)
     }
 }

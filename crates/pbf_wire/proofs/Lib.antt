@@ -1,6 +1,7 @@
 pub mod Varints
 pub mod Spellings
 pub mod Shortest
+pub mod ShortestRead
 pub mod Items
 pub mod Cutting
 pub mod Columns
@@ -10,6 +11,8 @@ pub mod SumRoomLemmas
 pub mod SpanLemmas
 pub mod RisingRuns
 pub mod PackedLemmas
+pub mod TakingLemmas
+pub mod SingleLemmas
 pub mod WritingLemmas
 pub mod CountLemmas
 pub mod ReasonLemmas

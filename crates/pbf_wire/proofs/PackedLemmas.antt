@@ -41,7 +41,7 @@ is_packed_push bytes ns n h lt = record {
   fit = all_push (λ n. n < 2 ^ 64) ns n h.fit lt;
 }
 
-is_read : (bytes ns : List ℕ) → IsPacked bytes ns → numbers_of bytes ≡ ns
+pub is_read : (bytes ns : List ℕ) → IsPacked bytes ns → numbers_of bytes ≡ ns
 is_read bytes ns h = ap numbers_of h.bytes_are ∙ column_read ns h.fit
 
 -- what `push` leaves, if the numbers are read from the bytes
@@ -78,7 +78,7 @@ holds_push bytes last values value h p = record {
   within = all_push IsSmall values value h.within p;
 }
 
-values_held : (bytes : List ℕ) (last : ℤ) (values : List ℤ) → HoldsDeltas bytes last values → values_of bytes ≡ values
+pub values_held : (bytes : List ℕ) (last : ℤ) (values : List ℤ) → HoldsDeltas bytes last values → values_of bytes ≡ values
 values_held bytes last values h =
     ap values_of h.bytes_are ∙ ap (λ (ns : List ℕ). sums_from (pos 0) (map unzigzag ns)) (column_read (deltas values) (deltas_fit values h.within)) ∙ sums_undo_deltas values
 

@@ -32,7 +32,7 @@ fold_is a (x ∷ xs) = fold_is (a + x) xs ∙ omega arith
 sum_is : (xs : List ℕ) → sum_l xs ≡ sum xs
 sum_is xs = omega (arith, fold_is 0 xs)
 
-sum_cons : (x : ℕ) (xs : List ℕ) → sum (x ∷ xs) ≡ x + sum xs
+pub sum_cons : (x : ℕ) (xs : List ℕ) → sum (x ∷ xs) ≡ x + sum xs
 sum_cons x xs = sym (sum_is (x ∷ xs)) ∙ ap (λ n. x + n) (sum_is xs)
 
 pub wide_sum : (xs : List ℕ) → fold_l (λ s x. s + x) 0 (map (λ x. x) xs) ≡ sum xs
@@ -68,14 +68,18 @@ run_small (x ∷ xs) h = omega (arith, h.0.0, run_small xs h.1)
 first_read : (b : ℕ) (bytes : List ℕ) → b < 128 → read_entries (entries (b ∷ bytes)) ≡ b ∷ read_entries (entries bytes)
 first_read b bytes small = ap read_entries (entries_ok (b ∷ bytes) b 1 (omega arith) (omega arith) (one_byte (b ∷ bytes) (omega arith) small))
 
-all_read : (front rest : List ℕ) → AllByRecursion IsHalved front → read_entries (entries (front ++ rest)) ≡ front ++ read_entries (entries rest)
+pub all_read : (front rest : List ℕ) → AllByRecursion (λ b. b < 128) front → read_entries (entries (front ++ rest)) ≡ front ++ read_entries (entries rest)
 all_read [] rest h = refl
-all_read (b ∷ bs) rest h = first_read b (bs ++ rest) h.0.0 ∙ ap (λ (ns : List ℕ). b ∷ ns) (all_read bs rest h.1)
+all_read (b ∷ bs) rest h = first_read b (bs ++ rest) h.0 ∙ ap (λ (ns : List ℕ). b ∷ ns) (all_read bs rest h.1)
+
+single : (xs : List ℕ) → AllByRecursion IsHalved xs → AllByRecursion (λ b. b < 128) xs
+single [] h = tt
+single (x ∷ xs) h = (h.0.0, single xs h.1)
 
 pub run_read : (bytes front : List ℕ) (rise : ℕ) → front ≡ take 16 bytes → AreRising front rise → read_entries (entries bytes) ≡ front ++ read_entries (entries (drop 16 bytes))
 run_read bytes front rise is h =
     ap (λ (w : List ℕ). read_entries (entries w)) (sym (take-append-drop 16 bytes) ∙ ap (λ (w : List ℕ). w ++ drop 16 bytes) (sym is))
-    ∙ all_read front (drop 16 bytes) h.each
+    ∙ all_read front (drop 16 bytes) (single front h.each)
 
 -- before those that follow in the occurrence, and after it
 pub placed_run : (front ns : List ℕ) (place : ℕ) (more : List (ℕ × ℕ)) → map {B = ℕ} (λ p. p.0) (placed place (front ++ ns) ++ more) ≡ front ++ map (λ p. p.0) (placed place ns ++ more)
@@ -87,7 +91,7 @@ placed_run (b ∷ bs) ns place more = ap (λ (xs : List ℕ). b ∷ xs) (placed_
 abbrev values : ℤ → ℤ → Bool → List ℕ → List ℤ
 values limit total narrow ns = sums_within limit total (map (delta_in narrow) ns)
 
-half_is : (b : ℕ) → b % 2 ≡ 0 → unzigzag b ≡ pos (b / 2)
+pub half_is : (b : ℕ) → b % 2 ≡ 0 → unzigzag b ≡ pos (b / 2)
 half_is b even = ap (λ (t : Bool). cond t (pos (b / 2)) (negsuc (b / 2))) (eq-eqb _ _ even)
 
 run_past : (bytes more : List ℕ) (span : Span) (vs : List ℤ) (limit total : ℤ) (room n : ℕ) (narrow : Bool) → HasRoom limit total room → length bytes ≤ room → AllByRecursion IsHalved bytes → span.above <ℤ total → (total +ℤ pos (sum bytes / 2)) <ℤ span.below

@@ -293,11 +293,16 @@ record IsNear (distance : ℕ) (n : ℤ) : Type 0 where
   above : neg_ℤ (pos distance) ≤ℤ n
   below : n ≤ℤ pos distance
 
-small_delta : (v : ℕ) → v < 2 ^ 35 → IsNear (2 ^ 35) (unzigzag v)
-small_delta v lt = by (eqb (v % 2) 0) where
+small_number : (v : ℕ) → v < 2 ^ 35 → IsNear (2 ^ 35) (unzigzag v)
+small_number v lt = by (eqb (v % 2) 0) where
   by : (b : Bool) → IsNear (2 ^ 35) (if b then pos (v / 2) else negsuc (v / 2))
   by true = record { above = omega (arith, ints); below = omega (arith, ints) }
   by false = record { above = omega (arith, ints); below = omega (arith, ints) }
+
+-- of 32 bits no entry is further
+small_delta : (narrow : Bool) (v : ℕ) → v < 2 ^ 35 → IsNear (2 ^ 35) (delta_in narrow v)
+small_delta false v lt = small_number v lt
+small_delta true v lt = small_number (v % 2 ^ 32) (omega arith)
 
 abbrev limit : ℤ
 limit = pos (2 ^ 62)
@@ -305,7 +310,7 @@ limit = pos (2 ^ 62)
 none_out : (start : ℤ) (xs : List (ℕ × ℕ)) (distance : ℕ) → IsNear distance start → distance + 2 ^ 35 * length xs < 2 ^ 62 → AllSmallPlaced xs → running (is_within limit) OutOfRange false start xs ≡ []
 none_out start [] distance near room h = refl
 none_out start (x ∷ xs) distance near room h =
-    let step = small_delta x.0 h.0 in
+    let step = small_number x.0 h.0 in
     let sum = start +ℤ unzigzag x.0 in
     let next : IsNear (distance + 2 ^ 35) sum = record { above = omega (arith, ints, near.above, step.above); below = omega (arith, ints, near.below, step.below) } in
     let inside : IsWithin limit sum = record { above = omega (arith, ints, next.above); below = omega (arith, ints, next.below) } in
@@ -324,44 +329,43 @@ unfolding fields_left
 small_sums k fields few h = small_sums_in k fields.at fields.rest.now few h
 
 -- the values of such a column are as many as its numbers, and each is in range
-pub record HasAll (start : ℤ) (xs : List (ℕ × ℕ)) : Type 0 where
-  pub counted : length (sums_within limit start (map unzigzag (map (λ x. x.0) xs))) ≡ length xs
-  pub within : AllByRecursion (IsWithin limit) (sums_within limit start (map unzigzag (map (λ x. x.0) xs)))
+pub record HasAll (narrow : Bool) (start : ℤ) (xs : List (ℕ × ℕ)) : Type 0 where
+  pub counted : length (sums_within limit start (map (delta_in narrow) (map (λ x. x.0) xs))) ≡ length xs
+  pub within : AllByRecursion (IsWithin limit) (sums_within limit start (map (delta_in narrow) (map (λ x. x.0) xs)))
 
-all_there : (start : ℤ) (xs : List (ℕ × ℕ)) (distance : ℕ) → IsNear distance start → distance + 2 ^ 35 * length xs < 2 ^ 62 → AllSmallPlaced xs → HasAll start xs
-all_there start [] distance near room h = record { counted = refl; within = tt }
-all_there start (x ∷ xs) distance near room h =
-    let step = small_delta x.0 h.0 in
-    let sum = start +ℤ unzigzag x.0 in
+all_there : (narrow : Bool) (start : ℤ) (xs : List (ℕ × ℕ)) (distance : ℕ) → IsNear distance start → distance + 2 ^ 35 * length xs < 2 ^ 62 → AllSmallPlaced xs → HasAll narrow start xs
+all_there narrow start [] distance near room h = record { counted = refl; within = tt }
+all_there narrow start (x ∷ xs) distance near room h =
+    let step = small_delta narrow x.0 h.0 in
+    let sum = start +ℤ delta_in narrow x.0 in
     let next : IsNear (distance + 2 ^ 35) sum = record { above = omega (arith, ints, near.above, step.above); below = omega (arith, ints, near.below, step.below) } in
     let inside : IsWithin limit sum = record { above = omega (arith, ints, next.above); below = omega (arith, ints, next.below) } in
-    let more = all_there sum xs (distance + 2 ^ 35) next (omega (arith, room)) h.1 in
-    let is = ap (then_more limit (map unzigzag (map (λ x. x.0) xs))) (added_within limit start (unzigzag x.0) inside) in
+    let more = all_there narrow sum xs (distance + 2 ^ 35) next (omega (arith, room)) h.1 in
+    let is = ap (then_more limit (map (delta_in narrow) (map (λ x. x.0) xs))) (added_within limit start (delta_in narrow x.0) inside) in
     record {
       counted = omega (arith, ap (λ (zs : List ℤ). length zs) is, more.counted);
       within = subst (λ (zs : List ℤ). AllByRecursion (IsWithin limit) zs) (sym is) (inside, more.within);
     }
 
-pub small_values : (xs : List (ℕ × ℕ)) → length xs ≤ 2 ^ 26 → AllSmallPlaced xs → HasAll (pos 0) xs
-small_values xs few h = all_there (pos 0) xs 0 (record { above = omega (arith, ints); below = omega (arith, ints) }) (omega (arith, few)) h
+pub small_values : (narrow : Bool) (xs : List (ℕ × ℕ)) → length xs ≤ 2 ^ 26 → AllSmallPlaced xs → HasAll narrow (pos 0) xs
+small_values narrow xs few h = all_there narrow (pos 0) xs 0 (record { above = omega (arith, ints); below = omega (arith, ints) }) (omega (arith, few)) h
 
 -- a cursor over such a column from its start on
-module _ (values : Sums) (wide : values.narrow ≡ false) (none : values.total ≡ pos 0) (whole : values.limit ≡ pos (2 ^ 62)) where
+module _ (values : Sums) (none : values.total ≡ pos 0) (whole : values.limit ≡ pos (2 ^ 62)) where
   abbrev numbers : List (ℕ × ℕ)
   numbers = column_left values.entries
 
-  left_is : sums_left values ≡ sums_within limit (pos 0) (map unzigzag (map (λ x. x.0) numbers))
+  left_is : sums_left values ≡ sums_within limit (pos 0) (map (delta_in values.narrow) (map (λ x. x.0) numbers))
   left_is =
-      ap (λ b. sums_within values.limit values.total (map (delta_in b) (map (λ x. x.0) numbers))) wide
-      ∙ ap (λ total. sums_within values.limit total (map unzigzag (map (λ x. x.0) numbers))) none
-      ∙ ap (λ most. sums_within most (pos 0) (map unzigzag (map (λ x. x.0) numbers))) whole
+      ap (λ total. sums_within values.limit total (map (delta_in values.narrow) (map (λ x. x.0) numbers))) none
+      ∙ ap (λ most. sums_within most (pos 0) (map (delta_in values.narrow) (map (λ x. x.0) numbers))) whole
 
   pub values_counted : (r : Option ℕ) → MatchOption r ⊤ (λ n. (n ≡ length numbers) × (n ≤ 2 ^ 26)) → MatchOption r ⊤ (λ _. AllSmallPlaced numbers) → MatchOption r ⊤ (λ n. n ≡ length (sums_left values))
   values_counted None few h = tt
   values_counted (Some n) few h =
-      omega (arith, few.0, (small_values numbers (omega (arith, few.0, few.1)) h).counted, ap (λ (zs : List ℤ). length zs) left_is)
+      omega (arith, few.0, (small_values values.narrow numbers (omega (arith, few.0, few.1)) h).counted, ap (λ (zs : List ℤ). length zs) left_is)
 
   pub values_within : (r : Option ℕ) → MatchOption r ⊤ (λ n. (n ≡ length numbers) × (n ≤ 2 ^ 26)) → MatchOption r ⊤ (λ _. AllSmallPlaced numbers) → MatchOption r ⊤ (λ _. AllByRecursion (IsWithin (pos (2 ^ 62))) (sums_left values))
   values_within None few h = tt
   values_within (Some n) few h =
-      subst (λ (zs : List ℤ). AllByRecursion (IsWithin limit) zs) (sym left_is) (small_values numbers (omega (arith, few.0, few.1)) h).within
+      subst (λ (zs : List ℤ). AllByRecursion (IsWithin limit) zs) (sym left_is) (small_values values.narrow numbers (omega (arith, few.0, few.1)) h).within

@@ -1,5 +1,5 @@
 -- Sums that have room for entries of at most three bytes.
-use Rattle.std.proofs.Common.{◌≡◌, Bool, true, false, cond, ℕ, suc, ◌+◌, ◌-◌, ◌/◌, ◌%◌, ◌^◌, ◌<◌, ◌≤◌, eqb, ℤ, pos, negsuc, ◌+ℤ◌, List, ◌∷◌, drop, map, refl, ap, ◌∙◌, arith, to_z, of_z, w64}
+use Rattle.std.proofs.Common.{◌≡◌, Bool, true, false, cond, ℕ, suc, ◌+◌, ◌-◌, ◌/◌, ◌%◌, ◌^◌, ◌<◌, ◌≤◌, eqb, ℤ, pos, negsuc, ◌+ℤ◌, List, ◌∷◌, drop, length, map, refl, ap, ◌∙◌, arith, to_z, of_z, w64}
 use Rattle.std.specs.Prelude.{◌≤ℤ◌, neg_ℤ}
 use Rattle.std.proofs.lemmas.Int.{ints, to_z-of_z}
 use mir.Val.{SFits}
@@ -121,21 +121,26 @@ module _ (limit total : ℤ) (room : ℕ) (narrow : Bool) (roomy : HasRoom limit
   abbrev pub values : List ℕ → List ℤ
   values ns = sums_within limit total (map (delta_in narrow) ns)
 
-  once : (n : ℕ) (ns : List ℕ) → drop (suc n) (values (0 ∷ ns)) ≡ drop n (values ns)
-  once n ns =
+  once : (ns : List ℕ) → values (0 ∷ ns) ≡ total ∷ values ns
+  once ns =
       let still : total +ℤ pos 0 ≡ total = omega (arith, ints) in
       let within : IsWithin limit (total +ℤ pos 0) = rw still (room_within limit total room roomy) in
       let ds = map (delta_in narrow) ns in
-      ap (drop (suc n)) (ap (λ (d : ℤ). sums_within limit total (d ∷ ds)) (delta_short narrow 0 (omega arith)) ∙ ap (then_more limit ds) (added_within limit total (pos 0) within) ∙ ap (λ (t : ℤ). t ∷ sums_within limit t ds) still)
+      ap (λ (d : ℤ). sums_within limit total (d ∷ ds)) (delta_short narrow 0 (omega arith)) ∙ ap (then_more limit ds) (added_within limit total (pos 0) within) ∙ ap (λ (t : ℤ). t ∷ sums_within limit t ds) still
 
-  twice : (n : ℕ) (ns : List ℕ) → drop (suc (suc n)) (values (0 ∷ 0 ∷ ns)) ≡ drop n (values ns)
-  twice n ns = once (suc n) (0 ∷ ns) ∙ once n ns
+  twice : (ns : List ℕ) → values (0 ∷ 0 ∷ ns) ≡ total ∷ total ∷ values ns
+  twice ns = once (0 ∷ ns) ∙ ap (λ (zs : List ℤ). total ∷ zs) (once ns)
 
-  four_times : (n : ℕ) (ns : List ℕ) → drop (suc (suc (suc (suc n)))) (values (0 ∷ 0 ∷ 0 ∷ 0 ∷ ns)) ≡ drop n (values ns)
-  four_times n ns = twice (suc (suc n)) (0 ∷ 0 ∷ ns) ∙ twice n ns
+  four_times : (ns : List ℕ) → values (0 ∷ 0 ∷ 0 ∷ 0 ∷ ns) ≡ total ∷ total ∷ total ∷ total ∷ values ns
+  four_times ns = twice (0 ∷ 0 ∷ ns) ∙ ap (λ (zs : List ℤ). total ∷ total ∷ zs) (twice ns)
 
-  pub eight_times : (n : ℕ) (ns : List ℕ) → drop (n + 8) (values (0 ∷ 0 ∷ 0 ∷ 0 ∷ 0 ∷ 0 ∷ 0 ∷ 0 ∷ ns)) ≡ drop n (values ns)
-  eight_times n ns =
-      let all = values (0 ∷ 0 ∷ 0 ∷ 0 ∷ 0 ∷ 0 ∷ 0 ∷ 0 ∷ ns) in
+  pub eight_times : (ns : List ℕ) → values (0 ∷ 0 ∷ 0 ∷ 0 ∷ 0 ∷ 0 ∷ 0 ∷ 0 ∷ ns) ≡ total ∷ total ∷ total ∷ total ∷ total ∷ total ∷ total ∷ total ∷ values ns
+  eight_times ns = four_times (0 ∷ 0 ∷ 0 ∷ 0 ∷ ns) ∙ ap (λ (zs : List ℤ). total ∷ total ∷ total ∷ total ∷ zs) (four_times ns)
+
+  pub eight_passed : (n : ℕ) (ns : List ℕ) → drop (n + 8) (values (0 ∷ 0 ∷ 0 ∷ 0 ∷ 0 ∷ 0 ∷ 0 ∷ 0 ∷ ns)) ≡ drop n (values ns)
+  eight_passed n ns =
       let count : n + 8 ≡ suc (suc (suc (suc (suc (suc (suc (suc n))))))) = omega arith in
-      ap (λ k. drop k all) count ∙ four_times (suc (suc (suc (suc n)))) (0 ∷ 0 ∷ 0 ∷ 0 ∷ ns) ∙ four_times n ns
+      ap (drop (n + 8)) (eight_times ns) ∙ ap (λ k. drop k (total ∷ total ∷ total ∷ total ∷ total ∷ total ∷ total ∷ total ∷ values ns)) count
+
+  pub eight_there : (ns : List ℕ) → length (values (0 ∷ 0 ∷ 0 ∷ 0 ∷ 0 ∷ 0 ∷ 0 ∷ 0 ∷ ns)) ≡ length (values ns) + 8
+  eight_there ns = ap (λ (zs : List ℤ). length zs) (eight_times ns) ∙ omega arith

@@ -32,3 +32,7 @@ place_of_number column = column.place
 -- the values of a delta column that are left
 abbrev pub sums_left : Sums → List ℤ
 sums_left sums = sums_within sums.limit sums.total (map (delta_in sums.narrow) (numbers_left sums.entries))
+
+-- the last value given, 0 before the first
+abbrev pub last_given : Sums → ℤ
+last_given sums = sums.total

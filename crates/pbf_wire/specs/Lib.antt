@@ -14,6 +14,7 @@ pub mod Sums
 pub mod Spans
 pub mod Passing
 pub mod Packed
+pub mod Taking
 pub mod Writing
 pub mod Message
 pub mod Faults

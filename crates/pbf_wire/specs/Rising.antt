@@ -1,5 +1,5 @@
--- Entries of one byte that aren't negative, sixteen at once.
-use Rattle.std.specs.Prelude.{◌≡◌, ◌<◌, ◌/◌, ◌%◌, ℕ, List, length}
+-- Numbers of one byte, many at once.
+use Rattle.std.specs.Prelude.{◌≡◌, ◌<◌, ◌/◌, ◌%◌, ℕ, List, ◌++◌, length}
 use Rattle.std.specs.List.{AllByRecursion, sum}
 
 -- a number of one byte that means its half
@@ -11,3 +11,9 @@ pub record AreRising (numbers : List ℕ) (rise : ℕ) : Type 0 where
   pub many : length numbers ≡ 16
   pub each : AllByRecursion IsHalved numbers
   pub all : rise ≡ sum numbers / 2
+
+-- what is left of some bytes after bytes below 128: each of those is a number
+pub record AreSingle (bytes rest : List ℕ) : Type 0 where
+  pub front : List ℕ
+  pub parts : bytes ≡ front ++ rest
+  pub each : AllByRecursion (λ b. b < 128) front

@@ -1,14 +1,15 @@
 //! A column: the numbers of all occurrences of one field, packed or single, joined.
 
-ghost use Rattle.std.specs.Prelude.{◌≡◌, ◌<◌, ◌≤◌, ◌^◌, ◌∷◌, [], MatchOption, ⊤, IsTrue, false, length, take};
+ghost use Rattle.std.specs.Prelude.{◌≡◌, ◌<◌, ◌≤◌, ◌^◌, ◌∷◌, ◌++◌, [], MatchOption, ⊤, IsTrue, false, length, take};
+ghost use Rattle.pbf_wire.specs.Varint.{shortest};
 ghost use Rattle.pbf_wire.specs.Columns.{entries, read_entries};
 ghost use Rattle.pbf_wire.specs.declared.limits.TheConstants.{OFFSET_LIMIT};
 
 use crate::field::Payload;
 use crate::fields::{Fields, FoundFields};
-use crate::runs::rise_of;
+use crate::runs::{after_singles, rise_of};
 use crate::short::{MOST_BYTES, count_left_if_small, count_short};
-use crate::varint::{far_varint, first_varint, short_varint};
+use crate::varint::{far_varint, first_varint, short_varint, spelled_varint};
 
 /// The first number of a packed column, and the bytes after it; `None` if the bytes don't begin with a varint.
 pub fn first_number(packed: &[u8]) -> Option<(u64, &[u8])>
@@ -42,6 +43,18 @@ fn first_far(packed: &[u8]) -> Option<(u64, &[u8])>
     Some((number, &packed[length..]))
 }
 
+/// Like [`first_number`], if it takes at most five bytes and is spelled as it is written.
+#[inline(always)]
+fn first_spelled(packed: &[u8]) -> Option<(u64, &[u8])>
+    ensures number { MatchOption result ⊤ (λ found. (read_entries (entries packed.now)
+        ≡ found.0 ∷ read_entries (entries found.1.now)) × (found.0 < 2 ^ 35)) }
+    ensures spelled { MatchOption result ⊤
+        (λ found. packed.now ≡ shortest found.0 ++ found.1.now) }
+{
+    let (spelled, length) = spelled_varint(packed)?;
+    Some((spelled, &packed[length..]))
+}
+
 /// Whether the first eight bytes are there and are all 0.
 #[inline(always)]
 fn begins_with_zeros(bytes: &[u8]) -> bool
@@ -68,7 +81,7 @@ pub struct Column<'a> {
 }
 
 impl<'a> Column<'a> {
-    ghost use Rattle.std.specs.Prelude.{◌+◌, ◌++◌};
+    ghost use Rattle.std.specs.Prelude.{◌+◌, ◌-◌, drop};
     ghost use Rattle.std.specs.List.{AllByRecursion};
     ghost use Rattle.pbf_wire.specs.Rising.{AreRising};
     ghost use Rattle.pbf_wire.specs.Occurrence.{items, found};
@@ -232,6 +245,31 @@ impl<'a> Column<'a> {
         Some(value)
     }
 
+    /// The next number, if it takes at most five bytes of the packed occurrence that was begun and is spelled as it is written. The place
+    /// is left as it is.
+    #[inline(always)]
+    #[tactic(auto, unfolding(crate::specs::Cursors::column_left))]
+    pub(crate) fn next_spelled(&mut self) -> Option<u64>
+        ensures number { MatchOption result (self.new ≡ self.old)
+            (λ value. (numbers_left self.old ≡ value ∷ numbers_left self.new) × (value < 2 ^ 35)) }
+        ensures spelled { MatchOption result ⊤
+            (λ value. self.old.packed.now ≡ shortest value ++ self.new.packed.now) }
+    {
+        let (value, rest) = first_spelled(self.packed)?;
+        self.packed = rest;
+        Some(value)
+    }
+
+    /// The bytes of the packed occurrence that was begun, up to where a copy of the cursor is.
+    #[inline(always)]
+    pub(crate) fn bytes_until(&self, copy: &Column<'_>) -> &'a [u8]
+        requires { length copy.now.packed.now ≤ length self.now.packed.now }
+        ensures { result.now
+            ≡ take (length self.now.packed.now - length copy.now.packed.now) self.now.packed.now }
+    {
+        &self.packed[..self.packed.len() - copy.packed.len()]
+    }
+
     /// Like [`Column::pass_zero`]. The place is left as it is.
     #[inline(always)]
     #[tactic(auto, unfolding(crate::specs::Cursors::column_left))]
@@ -239,6 +277,7 @@ impl<'a> Column<'a> {
         ensures passed { IsTrue result
             → (column_left self.old ≡ (0, self.new.packed_place) ∷ column_left self.new) }
         ensures kept { result ≡ false → self.new ≡ self.old }
+        ensures spelled { IsTrue result → self.old.packed.now ≡ 0 ∷ self.new.packed.now }
     {
         let [first, rest @ ..] = self.packed else {
             return false;
@@ -274,6 +313,8 @@ impl<'a> Column<'a> {
         ensures passed { IsTrue result → numbers_left self.old
             ≡ 0 ∷ 0 ∷ 0 ∷ 0 ∷ 0 ∷ 0 ∷ 0 ∷ 0 ∷ numbers_left self.new }
         ensures kept { result ≡ false → self.new ≡ self.old }
+        ensures spelled { IsTrue result → self.old.packed.now
+            ≡ 0 ∷ 0 ∷ 0 ∷ 0 ∷ 0 ∷ 0 ∷ 0 ∷ 0 ∷ self.new.packed.now }
     {
         if !begins_with_zeros(self.packed) {
             return false;
@@ -291,10 +332,27 @@ impl<'a> Column<'a> {
             (λ rise. AreRising (take 16 self.old.packed.now) rise) }
         ensures passed { MatchOption result (self.new ≡ self.old)
             (λ _. numbers_left self.old ≡ take 16 self.old.packed.now ++ numbers_left self.new) }
+        ensures spelled { MatchOption result ⊤
+            (λ _. self.new.packed.now ≡ drop 16 self.old.packed.now) }
     {
         let rise = rise_of(self.packed.first_chunk::<16>()?)?;
         self.packed = &self.packed[16..];
         Some(rise)
+    }
+
+    /// Skips the next numbers, at most so many, as long as each takes one byte of the packed occurrence that was begun, and returns those
+    /// bytes, which are the numbers. The place is left as it is.
+    #[inline(always)]
+    pub(crate) fn pass_singles(&mut self, most: usize) -> &'a [u8]
+        ensures few { length result.now ≤ most }
+        ensures single { AllByRecursion (λ b. b < 128) result.now }
+        ensures passed { numbers_left self.old ≡ result.now ++ numbers_left self.new }
+    {
+        let within = &self.packed[..most.min(self.packed.len())];
+        let count = within.len() - after_singles(within).len();
+        let singles = &self.packed[..count];
+        self.packed = &self.packed[count..];
+        singles
     }
 
     /// The next number, by what is left of the packed occurrence that was begun, and then by the fields after it.

@@ -66,7 +66,9 @@ impl ColumnOut {
         ensures short { IfOk result (λ count. AllByRecursion (λ n. n < 128)
             (take count (numbers_left numbers.old))) }
     {
-        loop {}
+        let singles = numbers.pass_singles(most);
+        self.bytes.extend_from_slice(singles)?;
+        Ok(singles.len())
     }
 
     /// The packed column, each number in its shortest spelling.

@@ -1,6 +1,6 @@
 //! A column of differences that is being written.
 
-ghost use Rattle.std.specs.Prelude.{◌≡◌, ◌∷◌, ◌++◌, [], pos, length, take, drop, OnOk, OnErr};
+ghost use Rattle.std.specs.Prelude.{◌≡◌, ◌≤◌, ◌-◌, ◌∷◌, ◌++◌, [], pos, length, take, drop, IfOk, OnOk, OnErr};
 ghost use Rattle.std.specs.List.{AllByRecursion};
 ghost use Rattle.pbf_wire.specs.Columns.{packed};
 ghost use Rattle.pbf_wire.specs.Cursors.{sums_left};
@@ -77,6 +77,26 @@ impl DeltaOut {
         Ok(())
     }
 
+    /// Adds the next values of another column, at most so many, as long as its entries are spelled as they are to be written: their bytes
+    /// are copied. The values are taken from it, and it is said how many are still to be taken. The last value must be the same in both, or
+    /// none is taken.
+    fn take_spelled(&mut self, values: &mut Sums<'_>, count: usize) -> Result<usize, AllocError>
+        requires { AllByRecursion (IsWithin (pos SUM_LIMIT)) (sums_left values.old) }
+        ensures few { IfOk result (λ left. left ≤ count) }
+        ensures taken { IfOk result
+            (λ left. self.new ≡ self.old ++ take (count - left) (sums_left values.old)) }
+        ensures rest { IfOk result
+            (λ left. sums_left values.new ≡ drop (count - left) (sums_left values.old)) }
+    {
+        if self.last != values.total {
+            return Ok(count);
+        }
+        let spelled = values.take_spelled(count);
+        self.bytes.extend_from_slice(spelled.bytes)?;
+        self.last = values.total;
+        Ok(spelled.left)
+    }
+
     /// Adds the next values of another column, at most so many, which are taken from it. Where its entries are spelled as they are
     /// to be written their bytes are copied. After an `Err` both are unspecified.
     pub fn take(&mut self, values: &mut Sums<'_>, count: usize) -> Result<(), AllocError>
@@ -84,7 +104,18 @@ impl DeltaOut {
         ensures taken { OnOk result (self.new ≡ self.old ++ take count (sums_left values.old)) }
         ensures rest { OnOk result (sums_left values.new ≡ drop count (sums_left values.old)) }
     {
-        loop {}
+        let mut left = count;
+        'values: while left > 0 {
+            left = self.take_spelled(values, left)?;
+            if left > 0 {
+                let Some(value) = values.next() else {
+                    break;
+                };
+                self.push(value)?;
+                left -= 1;
+            }
+        }
+        Ok(())
     }
 
     /// The packed column: of each value the shortest spelling of the zigzag of its difference to the one before.

@@ -27,6 +27,7 @@ mod span;
 mod structure;
 mod sum;
 mod sums;
+mod taking;
 mod values;
 mod varint;
 mod writing;

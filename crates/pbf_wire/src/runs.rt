@@ -1,8 +1,8 @@
 //! Sixteen numbers of one byte at once.
 
-ghost use Rattle.std.specs.Prelude.{◌≡◌, ◌<◌, ⊤, IsTrue, MatchOption, length};
+ghost use Rattle.std.specs.Prelude.{◌≡◌, ◌<◌, ◌≤◌, ⊤, IsTrue, MatchOption, length, take};
 ghost use Rattle.std.specs.List.{AllByRecursion, sum};
-ghost use Rattle.pbf_wire.specs.Rising.{AreRising, IsHalved};
+ghost use Rattle.pbf_wire.specs.Rising.{AreRising, AreSingle, IsHalved};
 
 use std::simd::prelude::*;
 
@@ -42,4 +42,34 @@ pub(crate) fn rise_of(block: &[u8; 16]) -> Option<u16>
         return None;
     }
     Some(sum_of(block) / 2)
+}
+
+/// What is left of some bytes after blocks of bytes below 128.
+#[inline(always)]
+fn after_single_blocks(bytes: &[u8]) -> &[u8]
+    ensures { AreSingle bytes.now result.now }
+{
+    let mut rest = bytes;
+    'many: while let Some((block, after)) = rest.split_first_chunk::<16>() {
+        if !are_below(u8x16::from_array(*block), 128) {
+            break;
+        }
+        rest = after;
+    }
+    rest
+}
+
+/// What is left of some bytes after the first bytes below 128.
+#[inline(always)]
+pub(crate) fn after_singles(bytes: &[u8]) -> &[u8]
+    ensures { AreSingle bytes.now result.now }
+{
+    let mut rest = after_single_blocks(bytes);
+    'singles: while let [first, after @ ..] = rest {
+        if *first >= 128 {
+            break;
+        }
+        rest = after;
+    }
+    rest
 }

@@ -16,27 +16,27 @@ use crate::sum::{FAR_ROOM, added, room_of};
 /// `-limit` and `limit`. It does not allocate, and a copy of it continues by itself.
 #[derive(Clone, Copy)]
 pub struct Sums<'a> {
-    entries: Column<'a>,
+    pub(crate) entries: Column<'a>,
     /// The last value given, 0 before the first.
-    total: i64,
-    limit: i64,
+    pub(crate) total: i64,
+    pub(crate) limit: i64,
     /// Whether the entries are `sint32`, of which the low 32 bits count.
-    narrow: bool,
+    pub(crate) narrow: bool,
     /// How many entries of at most three bytes can still be added without a test of the limit. In 32 bits, which lie free beside
     /// `narrow`: a larger cursor would be copied by a call.
-    room: u32,
+    pub(crate) room: u32,
     ghost positive: { pos 1 ≤ℤ limit },
     ghost roomy: { HasRoom limit total room },
 }
 
 impl<'a> Sums<'a> {
-    ghost use Rattle.std.specs.Prelude.{◌+◌, ◌-◌, ◌≤◌, ◌∷◌, List, ℕ, ℤ, ⊤, true, false, IsTrue, MatchOption, drop, length, map};
+    ghost use Rattle.std.specs.Prelude.{◌+◌, ◌-◌, ◌≤◌, ◌∷◌, ◌++◌, List, ℕ, ℤ, ⊤, true, false, IsTrue, MatchOption, drop, length, map};
     ghost use Rattle.std.specs.Iterator.{YieldsFirst};
     ghost use Rattle.std.specs.List.{AllByRecursion};
     ghost use Rattle.pbf_wire.specs.Signed.{unzigzag, low_sint32};
     ghost use Rattle.pbf_wire.specs.Sums.{sums_within};
-    ghost use Rattle.pbf_wire.specs.Cursors.{numbers_left, sums_left};
-    ghost use Rattle.pbf_wire.specs.Passing.{PassesSome};
+    ghost use Rattle.pbf_wire.specs.Cursors.{numbers_left, sums_left, last_given};
+    ghost use Rattle.pbf_wire.specs.Passing.{PassesSome, eight_of};
     ghost use Rattle.pbf_wire.specs.Spans.{ArePassed};
 
     /// The values of a column of `sint64`.
@@ -151,6 +151,8 @@ impl<'a> Sums<'a> {
     fn pass_one(&mut self) -> bool
         ensures passed { IsTrue result
             → (n : ℕ) → drop (n + 1) (sums_left self.old) ≡ drop n (sums_left self.new) }
+        ensures there { IsTrue result
+            → length (sums_left self.old) ≡ length (sums_left self.new) + 1 }
         ensures kept { result ≡ false → sums_left self.new ≡ sums_left self.old }
     {
         if self.next_short().is_some() {
@@ -168,11 +170,26 @@ impl<'a> Sums<'a> {
         self.entries.pass_short_zero()
     }
 
-    /// Skips the next eight values, if each is the last one again by a 0 of one byte.
+    /// The last value given, 0 before the first.
     #[inline(always)]
-    fn pass_eight(&mut self) -> bool
+    pub fn last_value(&self) -> i64
+        ensures { result ≡ last_given self.now }
+    {
+        let Sums { total, .. } = *self;
+        total
+    }
+
+    /// Skips the next eight values, if each is the last one again by a 0 of one byte of the packed occurrence that was begun. Otherwise
+    /// the values that are left stay the same.
+    #[inline(always)]
+    pub fn pass_eight(&mut self) -> bool
+        ensures same { IsTrue result
+            → sums_left self.old ≡ eight_of (last_given self.old) ++ sums_left self.new }
+        ensures last { last_given self.new ≡ last_given self.old }
         ensures passed { IsTrue result
             → (n : ℕ) → drop (n + 8) (sums_left self.old) ≡ drop n (sums_left self.new) }
+        ensures there { IsTrue result
+            → length (sums_left self.old) ≡ length (sums_left self.new) + 8 }
         ensures kept { result ≡ false → sums_left self.new ≡ sums_left self.old }
     {
         self.entries.pass_zeros()
@@ -269,9 +286,10 @@ impl<'a> Sums<'a> {
         left
     }
 
-    /// Skips as many values, or all if there are fewer.
-    pub fn pass(&mut self, count: usize)
-        ensures { sums_left self.new ≡ drop count (sums_left self.old) }
+    /// Like [`Sums::pass`], and returns 0 if there are so many.
+    fn pass_there(&mut self, count: usize) -> usize
+        ensures passed { sums_left self.new ≡ drop count (sums_left self.old) }
+        ensures there { result ≡ 0 → count ≤ length (sums_left self.old) }
     {
         let mut left = count;
         'values: while left > 0 {
@@ -283,6 +301,14 @@ impl<'a> Sums<'a> {
                 left -= 1;
             }
         }
+        left
+    }
+
+    /// Skips as many values, or all if there are fewer.
+    pub fn pass(&mut self, count: usize)
+        ensures { sums_left self.new ≡ drop count (sums_left self.old) }
+    {
+        let _left = self.pass_there(count);
     }
 
     /// Skips values as long as a span has them, or lacks them, and that is quick, but at most so many. They are read from a copy, which
@@ -344,17 +370,18 @@ impl<'a> Sums<'a> {
     pub fn has(&self, count: usize) -> bool
         ensures { IsTrue result → count ≤ length (sums_left self.now) }
     {
-        loop {}
+        let mut rest = *self;
+        rest.pass_there(count) == 0
     }
 
     /// How many values are still to come, if a quick test shows that each is strictly between -2^62 and 2^62; `None` says nothing. The
-    /// test is for columns of `sint64` of which no value was taken yet, and passes if the entries are few and small. No entry is decoded.
+    /// test is for columns of that limit of which no value was taken yet, and passes if the entries are few and small. No entry is decoded.
     pub fn count_if_small(&self) -> Option<usize>
         ensures counted { MatchOption result ⊤ (λ count. count ≡ length (sums_left self.now)) }
         ensures within { MatchOption result ⊤
             (λ _. AllByRecursion (IsWithin (pos SUM_LIMIT)) (sums_left self.now)) }
     {
-        if self.narrow || self.total != 0 || self.limit != STORED_LIMIT {
+        if self.total != 0 || self.limit != STORED_LIMIT {
             return None;
         }
         self.entries.count_if_small()

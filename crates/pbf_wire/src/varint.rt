@@ -99,6 +99,33 @@ pub(crate) fn short_varint(bytes: &[u8]) -> Option<(u64, usize)>
     None
 }
 
+/// The number that the bytes begin with, and how many bytes it takes, if they are at most five.
+#[inline(always)]
+fn usual_varint(bytes: &[u8]) -> Option<(u64, usize)>
+    ensures { MatchOption result ⊤ (λ found. (varint_at bytes.now ≡ Ok found) × (0 < found.1)
+        × (found.1 ≤ length bytes.now) × (found.0 < 2 ^ 35)) }
+{
+    match short_varint(bytes) {
+        Some(found) => Some(found),
+        None => far_varint(bytes),
+    }
+}
+
+/// The number that the bytes begin with, and how many bytes it takes, if they are at most five and none of them is needless: the number
+/// is spelled as it is written.
+#[inline(always)]
+pub(crate) fn spelled_varint(bytes: &[u8]) -> Option<(u64, usize)>
+    ensures number { MatchOption result ⊤ (λ found. (varint_at bytes.now ≡ Ok found)
+        × (0 < found.1) × (found.1 ≤ length bytes.now) × (found.0 < 2 ^ 35)) }
+    ensures spelled { MatchOption result ⊤ (λ found. take found.1 bytes.now ≡ shortest found.0) }
+{
+    let (number, length) = usual_varint(bytes)?;
+    if length > 1 && bytes[length - 1] == 0 {
+        return None;
+    }
+    Some((number, length))
+}
+
 /// The number that the bytes begin with, and how many bytes it takes.
 #[inline(always)]
 pub(crate) fn first_varint(bytes: &[u8]) -> Result<(u64, usize), Reason>

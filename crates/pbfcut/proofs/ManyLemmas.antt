@@ -169,8 +169,7 @@ fewer_taken P (suc k) (suc m) (x ∷ xs) fewer all = (all.0, fewer_taken P k m x
 light_each : (es : List EntitySpec) (ns : List NodeSpec) → AllByRecursion NumbersFit ns → AllByRecursion (λ n. ScaleFits n.scale) ns → sum_by entity_weight (map node ns) ≤ 12000000 → AllByRecursion EntityFits (map node ns)
 light_each es [] numbers scaled light = tt
 light_each es (n ∷ ns) numbers scaled light =
-    let sum = sum_by-cons entity_weight (node n) (map node ns) in
-    (
+    let sum = sum_by-cons entity_weight (node n) (map node ns) in (
       record { id = numbers.0.id; lat = numbers.0.lat; lon = numbers.0.lon; meta = numbers.0.meta; scale = scaled.0; light = omega (arith, light, sum) },
       light_each es ns numbers.1 scaled.1 (omega (arith, light, sum)),
     )
@@ -178,15 +177,6 @@ light_each es (n ∷ ns) numbers scaled light =
 all_joined : {X : Type 0} (P : X → Type 0) (xs ys : List X) → AllByRecursion P xs → AllByRecursion P ys → AllByRecursion P (xs ++ ys)
 all_joined P [] ys h k = k
 all_joined P (x ∷ xs) ys h k = (h.0, all_joined P xs ys h.1 k)
-
--- those that are left fit, and the next of them does
-pub left_fit : (all gone left ns : List NodeSpec) (n : NodeSpec) → gone ++ left ≡ all → left ≡ n ∷ ns → AllByRecursion NumbersFit all → NumbersFit n × AllByRecursion NumbersFit ns
-left_fit all gone left ns n split is h =
-    behind gone (subst (λ (l : List NodeSpec). AllByRecursion NumbersFit l) (sym split ∙ ap (λ (l : List NodeSpec). gone ++ l) is) h)
-  where
-    behind : (gone : List NodeSpec) → AllByRecursion NumbersFit (gone ++ (n ∷ ns)) → NumbersFit n × AllByRecursion NumbersFit ns
-    behind [] h = h
-    behind (x ∷ gone) h = behind gone h.1
 
 pub scaled_taken : (k : ℕ) (likeness : Likeness) (ns : List NodeSpec) → ScaleFits likeness.scale → AllByRecursion (λ n. likeness_of (node n) ≡ likeness) ns → AllByRecursion (λ (n : NodeSpec). ScaleFits n.scale) (take k ns)
 scaled_taken zero likeness ns fits same = tt
@@ -214,8 +204,7 @@ module _ {D S H : Type 0} (d : drain.Ghosts D) where
 numbers_many : (ns : List NodeSpec) → (sum_by nodes_of (map node ns) ≡ length ns) × ((sum_by ways_of (map node ns) ≡ 0) × (sum_by relations_of (map node ns) ≡ 0))
 numbers_many [] = (refl, (refl, refl))
 numbers_many (n ∷ ns) =
-    let more = numbers_many ns in
-    (
+    let more = numbers_many ns in (
       omega (arith, more.0, sum_by-cons nodes_of (node n) (map node ns)),
       (omega (arith, more.1.0, sum_by-cons ways_of (node n) (map node ns)), omega (arith, more.1.1, sum_by-cons relations_of (node n) (map node ns))),
     )

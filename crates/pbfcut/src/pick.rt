@@ -220,8 +220,9 @@ impl<'a> NodesLeft<'a> {
     /// Skips as many nodes as come before these ids.
     #[inline(always)]
     fn pass_to(&mut self, ahead: &IdsAhead<'a>)
-        ensures passed { AreIdsAfter ahead.now.count self.old.nodes ahead.now.ids
-            → dense_left self.new.nodes ≡ drop ahead.now.count (dense_left self.old.nodes) }
+        requires { AreIdsAfter ahead.now.count self.old.nodes ahead.now.ids }
+        ensures passed { dense_left self.new.nodes
+            ≡ drop ahead.now.count (dense_left self.old.nodes) }
         ensures alike { self.new.alike ≡ self.old.alike - ahead.now.count }
     {
         self.nodes.pass_to(&ahead.ids, ahead.count);
@@ -414,7 +415,6 @@ impl<'a> EntityPacker<'a> {
         left: &mut NodesLeft<'_>,
         packer: &mut Packer<D, S>,
     ) -> Result<(), Stop>
-        requires numbers { AllByRecursion NumbersFit (dense_left left.old.nodes) }
         requires even { AreEvenAfter (node_of like.now) left.old.alike (dense_left left.old.nodes) }
         requires ready { IsReadyToPack packer.old }
         ensures packs { PacksSome D.Drain (dense_left left.old.nodes) (dense_left left.new.nodes)
@@ -438,8 +438,7 @@ impl<'a> EntityPacker<'a> {
         dense: &Dense<'_>,
         packer: &mut Packer<D, S>,
     ) -> Result<(), Stop>
-        requires numbers { AllByRecursion NumbersFit (dense_left dense.now) }
-        requires ready { IsReadyToPack packer.old }
+        requires { IsReadyToPack packer.old }
         ensures { PacksEach D.Drain (picks_of self.old.picker) (map node (dense_left dense.now))
             self.old self.new packer.old packer.new result }
     {

@@ -417,7 +417,7 @@ fn values_skipped_or_steady(rt: HostRuntime) {
     );
 }
 
-/// Only at the start of a column of `sint64`, below the limit 2^62, and if each number takes at most five bytes.
+/// Only at the start of a column whose limit is 2^62, and if each number takes at most five bytes.
 #[test]
 fn values_counted_without_decoding(rt: HostRuntime) {
     let ids = Column::new(&TWO_OCCURRENCES, 44, 1);
@@ -429,7 +429,7 @@ fn values_counted_without_decoding(rt: HostRuntime) {
             && first == Some(10)
             && begun.count_if_small().is_none()
             && Sums::new(ids, 11).count_if_small().is_none()
-            && Sums::narrow(ids, 1 << 62).count_if_small().is_none()
+            && Sums::narrow(ids, 1 << 62).count_if_small() == Some(3)
             && Sums::new(long, 1 << 62).count_if_small().is_none()
     );
 }

@@ -10,7 +10,7 @@ take-requires-clause-room g c =
     let was = c.requires.«open» in
     let ns = take c.weigh-joining.result.count (dense_left c.args.nodes.now) in
     let bounds = kept_bounds was.entities was.held.block in
-    let few = length-take-le c.weigh-joining.result.count (dense_left c.args.nodes.now) (omega (arith, c.weigh-joining.ensures.few, c.min-most.ensures, c.requires.taken.many)) in
+    let few = length-take-le c.weigh-joining.result.count (dense_left c.args.nodes.now) (omega (arith, c.weigh-joining.ensures.few, c.min-most.ensures, c.requires.many)) in
     let may : MayJoin c.args.self.now.count c.args.self.now.weight ns = record {
       few = omega (arith, bounds.0, was.held.count, few, c.weigh-joining.ensures.few, c.min-most.ensures, c.saturating_sub.ensures);
       light = omega (arith, bounds.1, was.held.weight, c.weigh-joining.ensures.light, c.weigh-joining.ensures.weight, c.saturating_sub-room.ensures);
@@ -21,7 +21,7 @@ pub returns-clause-added : goal.returns-clause-added
 returns-clause-added g c = λ es h.
     let ns = take c.weigh-joining.result.count (dense_left c.args.nodes.now) in
     let bounds = kept_bounds es h.block in
-    let few = length-take-le c.weigh-joining.result.count (dense_left c.args.nodes.now) (omega (arith, c.weigh-joining.ensures.few, c.min-most.ensures, c.requires.taken.many)) in
+    let few = length-take-le c.weigh-joining.result.count (dense_left c.args.nodes.now) (omega (arith, c.weigh-joining.ensures.few, c.min-most.ensures, c.requires.many)) in
     let may : MayJoin c.args.self.now.count c.args.self.now.weight ns = record {
       few = omega (arith, bounds.0, h.count, few, c.weigh-joining.ensures.few, c.min-most.ensures, c.saturating_sub.ensures);
       light = omega (arith, bounds.1, h.weight, c.weigh-joining.ensures.light, c.weigh-joining.ensures.weight, c.saturating_sub-room.ensures);

@@ -12,6 +12,6 @@ returns c =
     let none : values.total ≡ pos 0 = sym (to_z-of_z w64 values.total total_fits) ∙ ap (to_z w64) c.if-self-ne0.false in
     let whole : values.limit ≡ pos (2 ^ 62) = sym (to_z-of_z w64 values.limit limit_fits) ∙ ap (to_z w64) c.if-self-ne-STORED_LIMIT.false in
     record {
-      counted = values_counted values c.if-self.false none whole c.count_if_small.result c.count_if_small.ensures.counted c.count_if_small.ensures.small;
-      within = values_within values c.if-self.false none whole c.count_if_small.result c.count_if_small.ensures.counted c.count_if_small.ensures.small;
+      counted = values_counted values none whole c.count_if_small.result c.count_if_small.ensures.counted c.count_if_small.ensures.small;
+      within = values_within values none whole c.count_if_small.result c.count_if_small.ensures.counted c.count_if_small.ensures.small;
     }

@@ -4,6 +4,7 @@ use Rattle.std.proofs.lemmas.Result.{err_from_is_err_and}
 use Rattle.osm_entity.specs.Entity.{NodeSpec}
 use Rattle.osm_entity.specs.Views.{node_of}
 use Rattle.pbf_dense.specs.Cursors.{dense_left}
+use Rattle.pbf_dense.proofs.NumberLemmas.{dense_fits}
 use Rattle.osm_pack.proofs.ManyLemmas.{all_taken}
 use Rattle.pbfcut.specs.declared.pick.Picker.{Picker}
 use Rattle.pbfcut.specs.Pick.{picks_of}
@@ -51,6 +52,6 @@ returns-clause-packs g c =
       others = drop count all;
       split = take-append-drop count all;
       rest = push.rest;
-      each = each_many g.D.Drain ns c.args.self.now _ c.args.packer.now c.push_nodes.new.self tt (fewer_taken _ count c.picked_run-most.result all push.few c.picked_run-most.ensures.picked) (all_taken _ count all c.requires.numbers)
+      each = each_many g.D.Drain ns c.args.self.now _ c.args.packer.now c.push_nodes.new.self tt (fewer_taken _ count c.picked_run-most.result all push.few c.picked_run-most.ensures.picked) (all_taken _ count all (dense_fits c.args.left.now.nodes))
           (scaled_taken count one.likeness all one.scaled one.same.1) push.pending push.kept push.header push.packing.1 (omega (arith, long, c.saturating_add-self.ensures)) (refl, refl) (c.picked_run-most.ensures.same, refl);
     }

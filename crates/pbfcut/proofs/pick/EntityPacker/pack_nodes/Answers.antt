@@ -1,17 +1,19 @@
-use Rattle.std.proofs.Common.{◌≡◌, [], map, ℤ, rules, sym, ap, ◌∙◌, subst}
-use Rattle.std.specs.List.{filter}
+use Rattle.std.proofs.Common.{◌≡◌, [], List, map, ℤ, rules, sym, ap, ◌∙◌, subst}
+use Rattle.std.specs.List.{filter, AllByRecursion}
 use Rattle.std.proofs.lemmas.Int.{to_z-of_z}
 use Rattle.std.proofs.lemmas.Result.{err_from_is_err_and}
 use mir.Syntax.{w64}
 use mir.Val.{SFits}
-use Rattle.osm_entity.specs.Entity.{node}
+use Rattle.osm_entity.specs.Entity.{NodeSpec, node}
 use Rattle.osm_entity.specs.Views.{node_of}
 use Rattle.pbf_dense.specs.Cursors.{dense_left}
+use Rattle.pbf_dense.specs.Steady.{NumbersFit}
+use Rattle.pbf_dense.proofs.NumberLemmas.{dense_fits}
 use Rattle.pbfcut.specs.declared.pick.Picker.{Picker}
 use Rattle.pbfcut.specs.Pick.{picks_of, picks_id}
 use Rattle.pbfcut.specs.Many.{AreEven}
 use Rattle.pbfcut.proofs.NodeLemmas.{NonePicked, OnNodes, at_first, all_gone, some_passed, rest_passed, passed_left, taken_left, one_packed, one_stops, many_packed, many_stop}
-use Rattle.pbfcut.proofs.ManyLemmas.{even_next, even_after, left_fit}
+use Rattle.pbfcut.proofs.ManyLemmas.{even_next, even_after}
 use Rattle.pbfcut.proofs.pick.EntityPacker.pack_nodes.Goals as goal
 
 pub nodes-init : goal.nodes-init
@@ -19,19 +21,13 @@ nodes-init g c =
     let same = ap dense_left c.of-left.ensures.nodes in
     record {
       on = subst (λ l. OnNodes g.D.Drain c.args.self.now (dense_left c.args.dense.now) c.args.packer.now l c.args.self.now c.args.packer.now) (sym same)
-          (at_first g.D.Drain c.args.self.now (dense_left c.args.dense.now) c.args.packer.now c.requires.ready.0 c.requires.ready.1);
+          (at_first g.D.Drain c.args.self.now (dense_left c.args.dense.now) c.args.packer.now c.requires.0 c.requires.1);
       even = subst (λ l. AreEven c.of-left.result.alike l) (sym same) c.of-left.ensures.even;
     }
 
 pub pack_node-requires-clause-numbers : goal.pack_node-requires-clause-numbers
 pack_node-requires-clause-numbers g c =
-    let on = c.nodes.invariant.on in
-    (left_fit (dense_left c.args.dense.now) on.gone (dense_left c.nodes.left.nodes) (dense_left c.next_in.new.self.nodes) (node_of c.in-Some.view) on.split (rw c.in-Some.is at c.next_in.ensures.next) c.requires.numbers).0
-
-pub pack_many-requires-clause-numbers : goal.pack_many-requires-clause-numbers
-pack_many-requires-clause-numbers g c =
-    let on = c.nodes.invariant.on in
-    (left_fit (dense_left c.args.dense.now) on.gone (dense_left c.nodes.left.nodes) (dense_left c.next_in.new.self.nodes) (node_of c.in-Some.view) on.split (rw c.in-Some.is at c.next_in.ensures.next) c.requires.numbers).1
+    (subst (λ (l : List NodeSpec). AllByRecursion NumbersFit l) (rw c.in-Some.is at c.next_in.ensures.next) (dense_fits c.nodes.left.nodes)).0
 
 pub pack_many-requires-clause-even : goal.pack_many-requires-clause-even
 pack_many-requires-clause-even g c =
@@ -87,7 +83,7 @@ nodes-preserved g c =
     let here = ap (λ (z : ℤ). picks_id c.nodes.self.picker z) (sym c.id.ensures ∙ sym (to_z-of_z w64 c.id.result fits)) ∙ (sym c.picks_id.ensures.picked ∙ c.if-picks_id.false) in
     let later = subst (λ (p : Picker). NonePicked p c.in-Some-unpicked.ahead.count ns) c.picks_id.ensures.same c.in-Some-unpicked.ensures.none in
     let same = ap (λ (p : Picker). record c.nodes.self { picker = p }) (c.unpicked.ensures.same ∙ c.picks_id.ensures.same) in
-    let passed = c.pass_to.ensures.passed c.in-Some-unpicked.ensures.ahead in
+    let passed = c.pass_to.ensures.passed in
     record {
       on = some_passed g.D.Drain c.args.self.now (dense_left c.args.dense.now) c.args.packer.now (dense_left c.nodes.left.nodes) ns _ (node_of c.in-Some.view) c.in-Some-unpicked.ahead.count c.nodes.self _ c.nodes.packer (rw c.in-Some.is at c.next_in.ensures.next) passed here later same c.nodes.invariant.on;
       even = even_after (node_of c.in-Some.view) c.next_in.new.self.alike c.pass_to.new.self.alike c.in-Some-unpicked.ahead.count ns (dense_left c.pass_to.new.self.nodes) passed c.pass_to.ensures.alike
@@ -96,7 +92,7 @@ nodes-preserved g c =
 
 pub nodes-smaller : goal.nodes-smaller
 nodes-smaller g c =
-    passed_left (dense_left c.nodes.left.nodes) (dense_left c.next_in.new.self.nodes) _ (node_of c.in-Some.view) c.in-Some-unpicked.ahead.count (rw c.in-Some.is at c.next_in.ensures.next) (c.pass_to.ensures.passed c.in-Some-unpicked.ensures.ahead)
+    passed_left (dense_left c.nodes.left.nodes) (dense_left c.next_in.new.self.nodes) _ (node_of c.in-Some.view) c.in-Some-unpicked.ahead.count (rw c.in-Some.is at c.next_in.ensures.next) c.pass_to.ensures.passed
 
 pub returns : goal.returns
 returns g c =

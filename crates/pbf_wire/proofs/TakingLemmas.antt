@@ -1,0 +1,277 @@
+-- Values that are taken over as they are spelled.
+use Rattle.std.proofs.Common.{◌≡◌, ◌+◌, ◌-◌, ◌*◌, ◌/◌, ◌%◌, ◌^◌, ◌<◌, ◌≤◌, ℕ, zero, suc, Bool, true, false, cond, eqb, Some, ℤ, pos, negsuc, ◌+ℤ◌, ◌-ℤ◌, List, [], ◌∷◌, ◌++◌, length, map, take, drop, refl, sym, ap, ap₂, subst, ◌∙◌, arith, append_assoc, append-nil, length-append, take-append-drop}
+use Rattle.std.specs.Prelude.{IsTrue}
+use Rattle.std.specs.List.{AllByRecursion, sum}
+use Rattle.std.proofs.lemmas.Bool.Decides.{nat_tests}
+use Rattle.std.proofs.lemmas.Int.{ints}
+use Rattle.std.proofs.lemmas.Grind.{flat_map-append}
+use Rattle.std.proofs.Math.Seq.{take-add, take-nil, drop-nil}
+use Rattle.std.proofs.lemmas.List.{map-append, take_at, drop_at, drop-drop}
+use Rattle.pbf_wire.specs.Varint.{shortest}
+use Rattle.pbf_wire.specs.Columns.{packed}
+use Rattle.pbf_wire.specs.Cursors.{numbers_left, sums_left}
+use Rattle.pbf_wire.specs.Packed.{HoldsDeltas, last_from, values_of}
+use Rattle.pbf_wire.specs.Rising.{IsHalved, AreRising}
+use Rattle.pbf_wire.specs.Signed.{zigzag, unzigzag, delta_in, IsWithin}
+use Rattle.pbf_wire.specs.Sums.{added, deltas, differences, sums_within}
+use Rattle.pbf_wire.specs.Taking.{Left, left_of, written_after, AreSpelled}
+use Rattle.pbf_wire.specs.declared.column.Column.{Column}
+use Rattle.pbf_wire.specs.declared.sums.Sums.{Sums}
+use Rattle.pbf_wire.proofs.MessageLemmas.{all_append}
+use Rattle.pbf_wire.proofs.PackedLemmas.{values_held}
+use Rattle.pbf_wire.proofs.RisingRuns.{half_is, sum_cons}
+use Rattle.pbf_wire.proofs.Shortest.{one_byte}
+use Rattle.pbf_wire.proofs.SumLemmas.{IsSmall, added_within, then_more}
+use Rattle.pbf_wire.proofs.SumRoomLemmas.{room_within}
+
+-- ---- joined runs
+
+differences_append : (start : ℤ) (xs ys : List ℤ) → differences start (xs ++ ys) ≡ differences start xs ++ differences (last_from start xs) ys
+differences_append start [] ys = refl
+differences_append start (x ∷ xs) ys = ap (λ (ds : List ℤ). (x -ℤ start) ∷ ds) (differences_append x xs ys)
+
+last_append : (start : ℤ) (xs ys : List ℤ) → last_from start (xs ++ ys) ≡ last_from (last_from start xs) ys
+last_append start [] ys = refl
+last_append start (x ∷ xs) ys = last_append x xs ys
+
+written_append : (start : ℤ) (xs ys : List ℤ) → written_after start (xs ++ ys) ≡ written_after start xs ++ written_after (last_from start xs) ys
+written_append start xs ys =
+    ap (λ (ds : List ℤ). packed (map zigzag ds)) (differences_append start xs ys)
+    ∙ ap packed (map-append zigzag (differences start xs) (differences (last_from start xs) ys))
+    ∙ flat_map-append shortest (map zigzag (differences start xs)) (map zigzag (differences (last_from start xs) ys))
+
+pub none_taken : (left : Left) → AreSpelled left left 0
+none_taken left = record { taken = []; counted = refl; given = refl; bytes = refl; last = refl }
+
+pub then_taken : (a b c : Left) (m n : ℕ) → AreSpelled a b m → AreSpelled b c n → AreSpelled a c (m + n)
+then_taken a b c m n h k = record {
+  taken = h.taken ++ k.taken;
+  counted = length-append h.taken k.taken ∙ ap₂ (λ x y. x + y) h.counted k.counted;
+  given = h.given ∙ ap (λ (w : List ℤ). h.taken ++ w) k.given ∙ sym (append_assoc h.taken k.taken c.values);
+  bytes = h.bytes ∙ ap (λ (w : List ℕ). written_after a.last h.taken ++ w) (k.bytes ∙ ap (λ z. written_after z k.taken ++ c.bytes) h.last)
+      ∙ sym (append_assoc (written_after a.last h.taken) (written_after (last_from a.last h.taken) k.taken) c.bytes)
+      ∙ ap (λ (w : List ℕ). w ++ c.bytes) (sym (written_append a.last h.taken k.taken));
+  last = k.last ∙ ap (λ z. last_from z k.taken) h.last ∙ sym (last_append a.last h.taken k.taken);
+}
+
+-- ---- one value
+
+pub zigzag_unzigzag : (n : ℕ) → zigzag (unzigzag n) ≡ n
+zigzag_unzigzag n = by (eqb (n % 2) 0) refl where
+  by : (b : Bool) → eqb (n % 2) 0 ≡ b → zigzag (cond b (pos (n / 2)) (negsuc (n / 2))) ≡ n
+  by true e = let even : n % 2 ≡ 0 = grind (arith, nat_tests) in omega (arith, even)
+  by false e = let odd : n % 2 ≡ 1 = grind (arith, nat_tests) in omega (arith, odd)
+
+difference_is : (a d : ℤ) → (a +ℤ d) -ℤ a ≡ d
+difference_is a d = omega (arith, ints)
+
+one_taken : (old new : Left) (number : ℕ) → new.last ≡ old.last +ℤ unzigzag number → old.values ≡ new.last ∷ new.values → old.bytes ≡ shortest number ++ new.bytes → AreSpelled old new 1
+one_taken old new number sum values bytes =
+    let code : zigzag (new.last -ℤ old.last) ≡ number = ap (λ z. zigzag (z -ℤ old.last)) sum ∙ ap zigzag (difference_is old.last (unzigzag number)) ∙ zigzag_unzigzag number in
+    record {
+      taken = new.last ∷ [];
+      counted = refl;
+      given = values;
+      bytes = bytes ∙ ap (λ (w : List ℕ). w ++ new.bytes) (sym (append-nil (shortest number)) ∙ ap (λ n. shortest n ++ []) (sym code));
+      last = refl;
+    }
+
+-- ---- entries of one byte
+
+abbrev values : ℤ → ℤ → Bool → List ℕ → List ℤ
+values limit total narrow ns = sums_within limit total (map (delta_in narrow) ns)
+
+abbrev left_at : ℤ → ℤ → Bool → List ℕ → List ℕ → Left
+left_at limit total narrow bytes ns = record { bytes = bytes; values = values limit total narrow ns; last = total }
+
+-- an entry of which the low 32 bits are all
+delta_whole : (narrow : Bool) (n : ℕ) → n < 2 ^ 32 → delta_in narrow n ≡ unzigzag n
+delta_whole false n small = refl
+delta_whole true n small = ap unzigzag (omega arith)
+
+byte_taken : (limit total : ℤ) (narrow : Bool) (b : ℕ) (bytes ns : List ℕ) → b < 128 → IsWithin limit (total +ℤ unzigzag b)
+    → AreSpelled (left_at limit total narrow (b ∷ bytes) (b ∷ ns)) (left_at limit (total +ℤ unzigzag b) narrow bytes ns) 1
+byte_taken limit total narrow b bytes ns small within =
+    let ds = map (delta_in narrow) ns in
+    one_taken (left_at limit total narrow (b ∷ bytes) (b ∷ ns)) (left_at limit (total +ℤ unzigzag b) narrow bytes ns) b refl
+    (ap (λ (d : ℤ). sums_within limit total (d ∷ ds)) (delta_whole narrow b (omega (arith, small))) ∙ ap (then_more limit ds) (added_within limit total (unzigzag b) within))
+    (ap (λ (w : List ℕ). w ++ bytes) (sym (one_byte b small)))
+
+module _ (limit total : ℤ) (narrow : Bool) (within : IsWithin limit total) where
+  abbrev at : List ℕ → List ℕ → Left
+  at bytes ns = left_at limit total narrow bytes ns
+
+  zero_taken : (bytes ns : List ℕ) → AreSpelled (at (0 ∷ bytes) (0 ∷ ns)) (at bytes ns) 1
+  zero_taken bytes ns =
+      let still : total +ℤ pos 0 ≡ total = omega (arith, ints) in
+      subst (λ z. AreSpelled (at (0 ∷ bytes) (0 ∷ ns)) (left_at limit z narrow bytes ns) 1) still (byte_taken limit total narrow 0 bytes ns (omega arith) (subst (IsWithin limit) (sym still) within))
+
+  two_taken : (bytes ns : List ℕ) → AreSpelled (at (0 ∷ 0 ∷ bytes) (0 ∷ 0 ∷ ns)) (at bytes ns) 2
+  two_taken bytes ns = then_taken (at (0 ∷ 0 ∷ bytes) (0 ∷ 0 ∷ ns)) (at (0 ∷ bytes) (0 ∷ ns)) (at bytes ns) 1 1 (zero_taken (0 ∷ bytes) (0 ∷ ns)) (zero_taken bytes ns)
+
+  four_taken : (bytes ns : List ℕ) → AreSpelled (at (0 ∷ 0 ∷ 0 ∷ 0 ∷ bytes) (0 ∷ 0 ∷ 0 ∷ 0 ∷ ns)) (at bytes ns) 4
+  four_taken bytes ns = then_taken (at (0 ∷ 0 ∷ 0 ∷ 0 ∷ bytes) (0 ∷ 0 ∷ 0 ∷ 0 ∷ ns)) (at (0 ∷ 0 ∷ bytes) (0 ∷ 0 ∷ ns)) (at bytes ns) 2 2 (two_taken (0 ∷ 0 ∷ bytes) (0 ∷ 0 ∷ ns)) (two_taken bytes ns)
+
+  pub eight_taken : (bytes ns : List ℕ) → AreSpelled (at (0 ∷ 0 ∷ 0 ∷ 0 ∷ 0 ∷ 0 ∷ 0 ∷ 0 ∷ bytes) (0 ∷ 0 ∷ 0 ∷ 0 ∷ 0 ∷ 0 ∷ 0 ∷ 0 ∷ ns)) (at bytes ns) 8
+  eight_taken bytes ns =
+      then_taken (at (0 ∷ 0 ∷ 0 ∷ 0 ∷ 0 ∷ 0 ∷ 0 ∷ 0 ∷ bytes) (0 ∷ 0 ∷ 0 ∷ 0 ∷ 0 ∷ 0 ∷ 0 ∷ 0 ∷ ns)) (at (0 ∷ 0 ∷ 0 ∷ 0 ∷ bytes) (0 ∷ 0 ∷ 0 ∷ 0 ∷ ns)) (at bytes ns) 4 4
+      (four_taken (0 ∷ 0 ∷ 0 ∷ 0 ∷ bytes) (0 ∷ 0 ∷ 0 ∷ 0 ∷ ns)) (four_taken bytes ns)
+
+-- entries that rise, up to a total that is in range
+run_taken : (front bytes more : List ℕ) (limit total : ℤ) (narrow : Bool) → AllByRecursion IsHalved front → IsWithin limit total → IsWithin limit (total +ℤ pos (sum front / 2))
+    → AreSpelled (left_at limit total narrow (front ++ bytes) (front ++ more)) (left_at limit (total +ℤ pos (sum front / 2)) narrow bytes more) (length front)
+run_taken [] bytes more limit total narrow each here there =
+    let still : total ≡ total +ℤ pos (sum [] / 2) = omega (arith, ints) in
+    subst (λ z. AreSpelled (left_at limit total narrow bytes more) (left_at limit z narrow bytes more) 0) still (none_taken (left_at limit total narrow bytes more))
+run_taken (b ∷ bs) bytes more limit total narrow each here there =
+    let half = half_is b each.0.1 in
+    let value = total +ℤ unzigzag b in
+    let sums = sum_cons b bs in
+    let even = each.0.1 in
+    let end : value +ℤ pos (sum bs / 2) ≡ total +ℤ pos (sum (b ∷ bs) / 2) = omega (arith, ints, half, sums, even) in
+    let next : IsWithin limit value = record { above = omega (arith, ints, half, here.above); below = omega (arith, ints, end, there.below) } in
+    let one = byte_taken limit total narrow b (bs ++ bytes) (bs ++ more) each.0.0 next in
+    let rest = run_taken bs bytes more limit value narrow each.1 next (subst (IsWithin limit) (sym end) there) in
+    let count : 1 + length bs ≡ length (b ∷ bs) = omega arith in
+    subst (AreSpelled (left_at limit total narrow (b ∷ bs ++ bytes) (b ∷ bs ++ more)) (left_at limit (total +ℤ pos (sum (b ∷ bs) / 2)) narrow bytes more)) count
+    (then_taken (left_at limit total narrow (b ∷ bs ++ bytes) (b ∷ bs ++ more)) (left_at limit value narrow (bs ++ bytes) (bs ++ more)) (left_at limit (total +ℤ pos (sum (b ∷ bs) / 2)) narrow bytes more) 1 (length bs) one
+    (subst (λ z. AreSpelled (left_at limit value narrow (bs ++ bytes) (bs ++ more)) (left_at limit z narrow bytes more) (length bs)) end rest))
+
+-- ---- what a column holds after a run
+
+pub holds_more : (bytes : List ℕ) (last : ℤ) (values more : List ℤ) → HoldsDeltas bytes last values → AllByRecursion IsSmall more → HoldsDeltas (bytes ++ written_after last more) (last_from last more) (values ++ more)
+holds_more bytes last values more h small = record {
+  bytes_are = ap₂ (λ (w : List ℕ) (z : ℤ). w ++ written_after z more) h.bytes_are h.last_is ∙ sym (written_append (pos 0) values more);
+  last_is = ap (λ z. last_from z more) h.last_is ∙ sym (last_append (pos 0) values more);
+  within = all_append IsSmall values more h.within small;
+}
+
+-- ---- of cursors
+
+abbrev pub left_with : Sums → Column → ℤ → Left
+left_with sums entries total = left_at sums.limit total sums.narrow entries.packed.now (numbers_left entries)
+
+-- an entry of a column, the low 32 bits of which are all if only those count
+pub entry_taken : (old : Sums) (entries : Column) (number : ℕ) (total : ℤ) → (IsTrue old.narrow → number < 2 ^ 32) → numbers_left old.entries ≡ number ∷ numbers_left entries → old.entries.packed.now ≡ shortest number ++ entries.packed.now
+    → total ≡ old.total +ℤ unzigzag number → IsWithin old.limit total → AreSpelled (left_of old) (left_with old entries total) 1
+entry_taken old entries number total low numbers bytes is within =
+    let ds = map (delta_in old.narrow) (numbers_left entries) in
+    let whole : delta_in old.narrow number ≡ unzigzag number = by old.narrow low in
+    one_taken (left_of old) (left_with old entries total) number is
+    (ap (λ (ns : List ℕ). sums_within old.limit old.total (map (delta_in old.narrow) ns)) numbers
+    ∙ ap (λ (d : ℤ). sums_within old.limit old.total (d ∷ ds)) whole
+    ∙ ap (then_more old.limit ds) (added_within old.limit old.total (unzigzag number) (subst (IsWithin old.limit) is within))
+    ∙ ap (λ (z : ℤ). z ∷ sums_within old.limit z ds) (sym is))
+    bytes
+  where
+    by : (narrow : Bool) → (IsTrue narrow → number < 2 ^ 32) → delta_in narrow number ≡ unzigzag number
+    by false low = refl
+    by true low = delta_whole true number (low refl)
+
+pub zeros_taken : (old : Sums) (entries : Column) → numbers_left old.entries ≡ 0 ∷ 0 ∷ 0 ∷ 0 ∷ 0 ∷ 0 ∷ 0 ∷ 0 ∷ numbers_left entries → old.entries.packed.now ≡ 0 ∷ 0 ∷ 0 ∷ 0 ∷ 0 ∷ 0 ∷ 0 ∷ 0 ∷ entries.packed.now
+    → AreSpelled (left_of old) (left_with old entries old.total) 8
+zeros_taken old entries numbers bytes =
+    subst (λ (w : List ℕ). AreSpelled (left_at old.limit old.total old.narrow w (numbers_left old.entries)) (left_with old entries old.total) 8) (sym bytes)
+    (subst (λ (ns : List ℕ). AreSpelled (left_at old.limit old.total old.narrow (0 ∷ 0 ∷ 0 ∷ 0 ∷ 0 ∷ 0 ∷ 0 ∷ 0 ∷ entries.packed.now) ns) (left_with old entries old.total) 8) (sym numbers)
+    (eight_taken old.limit old.total old.narrow (room_within old.limit old.total old.room old.roomy) entries.packed.now (numbers_left entries)))
+
+pub rising_taken : (old : Sums) (entries : Column) (rise : ℕ) (total : ℤ) → AreRising (take 16 old.entries.packed.now) rise → numbers_left old.entries ≡ take 16 old.entries.packed.now ++ numbers_left entries → entries.packed.now ≡ drop 16 old.entries.packed.now
+    → total ≡ old.total +ℤ pos rise → IsWithin old.limit total → AreSpelled (left_of old) (left_with old entries total) 16
+rising_taken old entries rise total rising numbers bytes is within =
+    let front = take 16 old.entries.packed.now in
+    let whole : old.entries.packed.now ≡ front ++ entries.packed.now = sym (take-append-drop 16 old.entries.packed.now) ∙ ap (λ (w : List ℕ). front ++ w) (sym bytes) in
+    let end : total ≡ old.total +ℤ pos (sum front / 2) = is ∙ ap (λ (r : ℕ). old.total +ℤ pos r) rising.all in
+    let run = run_taken front entries.packed.now (numbers_left entries) old.limit old.total old.narrow rising.each (room_within old.limit old.total old.room old.roomy) (subst (IsWithin old.limit) end within) in
+    let counted = subst (λ n. AreSpelled (left_at old.limit old.total old.narrow (front ++ entries.packed.now) (front ++ numbers_left entries)) (left_with old entries (old.total +ℤ pos (sum front / 2))) n) rising.many run in
+    let ended = subst (λ z. AreSpelled (left_at old.limit old.total old.narrow (front ++ entries.packed.now) (front ++ numbers_left entries)) (left_with old entries z) 16) (sym end) counted in
+    subst (λ (w : List ℕ). AreSpelled (left_at old.limit old.total old.narrow w (numbers_left old.entries)) (left_with old entries total) 16) (sym whole)
+    (subst (λ (ns : List ℕ). AreSpelled (left_at old.limit old.total old.narrow (front ++ entries.packed.now) ns) (left_with old entries total) 16) (sym numbers) ended)
+
+-- one run more, of those that are counted down
+pub more_taken : (a b c : Left) (count left n : ℕ) → left ≤ count → n ≤ left → AreSpelled a b (count - left) → AreSpelled b c n → AreSpelled a c (count - (left - n))
+more_taken a b c count left n fewer enough h k = let all : count - left + n ≡ count - (left - n) = omega arith in subst (AreSpelled a c) all (then_taken a b c (count - left) n h k)
+
+pub start_taken : (left : Left) (count : ℕ) → AreSpelled left left (count - count)
+start_taken left count = let none : 0 ≡ count - count = omega arith in subst (AreSpelled left left) none (none_taken left)
+
+pub joined_taken : (a b c : Left) (count left after : ℕ) → left ≤ count → after ≤ left → AreSpelled a b (count - left) → AreSpelled b c (left - after) → AreSpelled a c (count - after)
+joined_taken a b c count left after fewer enough h k =
+    let all : count - left + (left - after) ≡ count - after = omega (arith, fewer, enough) in
+    subst (AreSpelled a c) all (then_taken a b c (count - left) (left - after) h k)
+
+-- the bytes that were passed are the front of those that there were
+pub front_passed : (a b : Left) (n : ℕ) → AreSpelled a b n → length b.bytes ≤ length a.bytes
+front_passed a b n h = omega (arith, ap length h.bytes, length-append (written_after a.last h.taken) b.bytes)
+
+module _ (a b : Left) (n : ℕ) (h : AreSpelled a b n) where
+  taken_are : h.taken ≡ take n a.values
+  taken_are = sym (ap (take n) h.given ∙ take_at h.taken b.values n h.counted)
+
+  pub rest_are : b.values ≡ drop n a.values
+  rest_are = sym (ap (drop n) h.given ∙ drop_at h.taken b.values n h.counted)
+
+  pub last_is : b.last ≡ last_from a.last (take n a.values)
+  last_is = h.last ∙ ap (last_from a.last) taken_are
+
+  pub front_is : (front : List ℕ) → front ≡ take (length a.bytes - length b.bytes) a.bytes → front ≡ written_after a.last (take n a.values)
+  front_is front is =
+      let written = written_after a.last h.taken in
+      let long : length written ≡ length a.bytes - length b.bytes = omega (arith, ap length h.bytes, length-append written b.bytes) in
+      is ∙ ap (take (length a.bytes - length b.bytes)) h.bytes ∙ take_at written b.bytes (length a.bytes - length b.bytes) long ∙ ap (written_after a.last) taken_are
+
+-- ---- what a column holds after it
+
+pub taken_values : (bytes : List ℕ) (last : ℤ) (more : List ℤ) → HoldsDeltas bytes last (values_of bytes) → AllByRecursion IsSmall more → values_of (bytes ++ written_after last more) ≡ values_of bytes ++ more
+taken_values bytes last more h small = values_held _ _ _ (holds_more bytes last (values_of bytes) more h small)
+
+pub taken_deltas : (bytes : List ℕ) (last : ℤ) (more : List ℤ) → HoldsDeltas bytes last (values_of bytes) → AllByRecursion IsSmall more → HoldsDeltas (bytes ++ written_after last more) (last_from last more) (values_of (bytes ++ written_after last more))
+taken_deltas bytes last more h small =
+    let all = bytes ++ written_after last more in
+    subst (HoldsDeltas all (last_from last more)) (sym (taken_values bytes last more h small)) (holds_more bytes last (values_of bytes) more h small)
+
+-- ---- values that move from one list to another
+
+all_take : {X : Type 0} (P : X → Type 0) (xs : List X) (n : ℕ) → AllByRecursion P xs → AllByRecursion P (take n xs)
+all_take P xs zero h = tt
+all_take P [] (suc n) h = tt
+all_take P (x ∷ xs) (suc n) h = (h.0, all_take P xs n h.1)
+
+pub small_front : (values : List ℤ) (n : ℕ) → AllByRecursion IsSmall values → AllByRecursion IsSmall (take n values)
+small_front values n h = all_take IsSmall values n h
+
+-- so many of the count are still to be moved
+pub record HaveMoved (all old new rest : List ℤ) (count left : ℕ) : Type 0 where
+  pub fewer : left ≤ count
+  pub taken : new ≡ old ++ take (count - left) all
+  pub dropped : rest ≡ drop (count - left) all
+
+pub none_moved : (all old : List ℤ) (count : ℕ) → HaveMoved all old old all count count
+none_moved all old count =
+    let none : count - count ≡ 0 = omega arith in
+    record { fewer = omega arith; taken = rw none (sym (append-nil old)); dropped = rw none refl }
+
+pub more_moved : (all old new rest later left_over : List ℤ) (count left after : ℕ) → HaveMoved all old new rest count left → after ≤ left → later ≡ new ++ take (left - after) rest → left_over ≡ drop (left - after) rest → HaveMoved all old later left_over count after
+more_moved all old new rest later left_over count left after h enough taken dropped =
+    let n = count - left in
+    let m = left - after in
+    let both : count - after ≡ n + m = omega (arith, h.fewer, enough) in
+    record {
+      fewer = omega (arith, h.fewer, enough);
+      taken = taken ∙ ap₂ (λ (x y : List ℤ). x ++ take m y) h.taken h.dropped ∙ append_assoc old (take n all) (take m (drop n all)) ∙ ap (λ (w : List ℤ). old ++ w) (sym (take-add n m all) ∙ ap (λ k. take k all) (sym both));
+      dropped = dropped ∙ ap (drop m) h.dropped ∙ drop-drop m n all ∙ ap (λ k. drop k all) (sym both);
+    }
+
+pub one_moved : (all old new rest later left_over : List ℤ) (value : ℤ) (count left : ℕ) → HaveMoved all old new rest count left → 0 < left → rest ≡ value ∷ left_over → later ≡ new ++ value ∷ [] → HaveMoved all old later left_over count (left - 1)
+one_moved all old new rest later left_over value count left h some first taken =
+    let one : left - (left - 1) ≡ 1 = omega (arith, some) in
+    more_moved all old new rest later left_over count left (left - 1) h (omega arith)
+    (rw (one, first) taken) (rw (one, first) refl)
+
+-- there are no more
+pub all_moved : (all old new rest : List ℤ) (count left : ℕ) → HaveMoved all old new rest count left → rest ≡ [] → (new ≡ old ++ take count all) × (rest ≡ drop count all)
+all_moved all old new rest count left h none =
+    let end = more_moved all old new rest new rest count left 0 h (omega arith)
+    (sym (ap (λ (w : List ℤ). new ++ take (left - 0) w) none ∙ ap (λ (w : List ℤ). new ++ w) (take-nil (left - 0)) ∙ append-nil new))
+    (none ∙ sym (ap (drop (left - 0)) none ∙ drop-nil (left - 0))) in
+    let whole : count - 0 ≡ count = omega arith in
+    (end.taken ∙ ap (λ k. old ++ take k all) whole, end.dropped ∙ ap (λ k. drop k all) whole)

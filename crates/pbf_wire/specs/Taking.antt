@@ -1,0 +1,29 @@
+-- Values that are taken over as they are spelled.
+use Rattle.std.specs.Prelude.{◌≡◌, ℕ, ℤ, List, ◌++◌, length, map}
+use Rattle.pbf_wire.specs.declared.sums.Sums.{Sums}
+use Rattle.pbf_wire.specs.Columns.{packed}
+use Rattle.pbf_wire.specs.Cursors.{sums_left}
+use Rattle.pbf_wire.specs.Packed.{last_from}
+use Rattle.pbf_wire.specs.Signed.{zigzag}
+use Rattle.pbf_wire.specs.Sums.{differences}
+
+-- what a cursor has still to give: the bytes of the occurrence that was begun, and the values; and the last one given
+pub record Left : Type 0 where
+  pub bytes : List ℕ
+  pub values : List ℤ
+  pub last : ℤ
+
+abbrev pub left_of : Sums → Left
+left_of sums = record { bytes = sums.entries.packed.now; values = sums_left sums; last = sums.total }
+
+-- the bytes that are written for these values after a last one
+abbrev pub written_after : ℤ → List ℤ → List ℕ
+written_after last values = packed (map zigzag (differences last values))
+
+-- so many values are taken, and with them the bytes that are written for them
+pub record AreSpelled (old new : Left) (count : ℕ) : Type 0 where
+  pub taken : List ℤ
+  pub counted : length taken ≡ count
+  pub given : old.values ≡ taken ++ new.values
+  pub bytes : old.bytes ≡ written_after old.last taken ++ new.bytes
+  pub last : new.last ≡ last_from old.last taken
