@@ -1,9 +1,9 @@
 -- Bytes that spell a number without a needless byte are its shortest spelling.
-use Rattle.std.proofs.Common.{◌≡◌, ℕ, zero, suc, ◌+◌, ◌-◌, ◌*◌, ◌/◌, ◌%◌, ◌^◌, ◌<◌, ◌≤◌, List, [], ◌∷◌, ◌++◌, length, get_or, take, drop, take-append-drop, refl, sym, ap, subst, ◌∙◌, arith, inl, inr, ◌⊎◌}
+use Rattle.std.proofs.Common.{◌≡◌, ℕ, zero, suc, ◌+◌, ◌-◌, ◌/◌, ◌%◌, ◌<◌, ◌≤◌, List, [], ◌∷◌, ◌++◌, length, get_or, take, drop, take-append-drop, refl, sym, ap, subst, ◌∙◌, arith, inl, inr, ◌⊎◌}
 use Rattle.std.specs.Prelude.{Ok}
 use Rattle.std.proofs.lemmas.Bool.{cases_lt}
 use Rattle.std.proofs.lemmas.List.{length-take-le, get_or-take, get_or_past}
-use Rattle.pbf_wire.specs.Varint.{EndsOnce, IsVarint, value_of, varint_at, spelled_within, shortest}
+use Rattle.pbf_wire.specs.Varint.{EndsOnce, value_of, varint_at, spelled_within, shortest}
 use Rattle.pbf_wire.proofs.Shortest.{value_of-cons, last_byte, first_byte}
 use Rattle.pbf_wire.proofs.Spellings.{varint_ok}
 

@@ -1,5 +1,5 @@
 -- Values that are taken over as they are spelled.
-use Rattle.std.proofs.Common.{◌≡◌, ◌+◌, ◌-◌, ◌*◌, ◌/◌, ◌%◌, ◌^◌, ◌<◌, ◌≤◌, ℕ, zero, suc, Bool, true, false, cond, eqb, Some, ℤ, pos, negsuc, ◌+ℤ◌, ◌-ℤ◌, List, [], ◌∷◌, ◌++◌, length, map, take, drop, refl, sym, ap, ap₂, subst, ◌∙◌, arith, append_assoc, append-nil, length-append, take-append-drop}
+use Rattle.std.proofs.Common.{◌≡◌, ◌+◌, ◌-◌, ◌/◌, ◌%◌, ◌^◌, ◌<◌, ◌≤◌, ℕ, zero, suc, Bool, true, false, cond, eqb, ℤ, pos, negsuc, ◌+ℤ◌, ◌-ℤ◌, List, [], ◌∷◌, ◌++◌, length, map, take, drop, refl, sym, ap, ap₂, subst, ◌∙◌, arith, append_assoc, append-nil, length-append, take-append-drop}
 use Rattle.std.specs.Prelude.{IsTrue}
 use Rattle.std.specs.List.{AllByRecursion, sum}
 use Rattle.std.proofs.lemmas.Bool.Decides.{nat_tests}
@@ -9,11 +9,11 @@ use Rattle.std.proofs.Math.Seq.{take-add, take-nil, drop-nil}
 use Rattle.std.proofs.lemmas.List.{map-append, take_at, drop_at, drop-drop}
 use Rattle.pbf_wire.specs.Varint.{shortest}
 use Rattle.pbf_wire.specs.Columns.{packed}
-use Rattle.pbf_wire.specs.Cursors.{numbers_left, sums_left}
+use Rattle.pbf_wire.specs.Cursors.{numbers_left}
 use Rattle.pbf_wire.specs.Packed.{HoldsDeltas, last_from, values_of}
 use Rattle.pbf_wire.specs.Rising.{IsHalved, AreRising}
 use Rattle.pbf_wire.specs.Signed.{zigzag, unzigzag, delta_in, IsWithin}
-use Rattle.pbf_wire.specs.Sums.{added, deltas, differences, sums_within}
+use Rattle.pbf_wire.specs.Sums.{differences, sums_within}
 use Rattle.pbf_wire.specs.Taking.{Left, left_of, written_after, AreSpelled}
 use Rattle.pbf_wire.specs.declared.column.Column.{Column}
 use Rattle.pbf_wire.specs.declared.sums.Sums.{Sums}

@@ -1,4 +1,3 @@
-use Rattle.std.proofs.Common.{take, ◌∷◌, []}
 use Rattle.std.proofs.lemmas.List.{take_rest}
 use Rattle.pbf_wire.proofs.SingleLemmas.{first_single}
 use Rattle.pbf_wire.proofs.runs.after_singles.Goals as goal

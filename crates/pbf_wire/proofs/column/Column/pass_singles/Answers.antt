@@ -1,4 +1,4 @@
-use Rattle.std.proofs.Common.{◌-◌, length, take, ap, refl, ◌∙◌, subst, sym}
+use Rattle.std.proofs.Common.{◌-◌, length, take, refl, subst, sym}
 use Rattle.std.proofs.lemmas.List.{take_rest}
 use Rattle.pbf_wire.specs.Cursors.{column_left}
 use Rattle.pbf_wire.proofs.SingleLemmas.{AllSingle, front_is, singles_passed}
