@@ -1,6 +1,6 @@
 -- Columns whose numbers take at most five bytes each have no wire fault, and their numbers and sums are small.
 use Rattle.std.proofs.Common.{◌≡◌, ℕ, zero, suc, ◌+◌, ◌-◌, ◌*◌, ◌/◌, ◌%◌, ◌^◌, ◌<◌, ◌≤◌, bit_and, bit_or, leb, eqb, ◌==◌, Bool, true, false, ℤ, pos, negsuc, ◌+ℤ◌, List, [], ◌∷◌, ◌++◌, length, map, get_or, take, drop, refl, sym, ap, subst, ◌∙◌, arith, eq-eqb, inl, inr, ◌⊎◌}
-use Rattle.std.specs.Prelude.{Ok, Option, None, Some, MatchOption, ⊤, count_by, nat_lt, IsBitSet, slice_index, ◌≤ℤ◌, neg_ℤ, not, if◌then◌else◌}
+use Rattle.std.specs.Prelude.{unsigned_abs, Ok, Option, None, Some, MatchOption, ⊤, count_by, nat_lt, IsBitSet, slice_index, ◌≤ℤ◌, neg_ℤ, not, if◌then◌else◌}
 use Rattle.std.specs.List.{prefix_len, AllByRecursion}
 use Rattle.std.specs.Int.{bit_at}
 use Rattle.std.proofs.lemmas.Nat.{bit_set_by_shift, and_mask, shr-shr}
@@ -289,9 +289,9 @@ numbers_fit column =
 -- ---- their sums
 
 -- not beyond this distance
-record IsNear (distance : ℕ) (n : ℤ) : Type 0 where
-  above : neg_ℤ (pos distance) ≤ℤ n
-  below : n ≤ℤ pos distance
+pub record IsNear (distance : ℕ) (n : ℤ) : Type 0 where
+  pub above : neg_ℤ (pos distance) ≤ℤ n
+  pub below : n ≤ℤ pos distance
 
 small_number : (v : ℕ) → v < 2 ^ 35 → IsNear (2 ^ 35) (unzigzag v)
 small_number v lt = by (eqb (v % 2) 0) where
@@ -347,25 +347,26 @@ all_there narrow start (x ∷ xs) distance near room h =
       within = subst (λ (zs : List ℤ). AllByRecursion (IsWithin limit) zs) (sym is) (inside, more.within);
     }
 
-pub small_values : (narrow : Bool) (xs : List (ℕ × ℕ)) → length xs ≤ 2 ^ 26 → AllSmallPlaced xs → HasAll narrow (pos 0) xs
-small_values narrow xs few h = all_there narrow (pos 0) xs 0 (record { above = omega (arith, ints); below = omega (arith, ints) }) (omega (arith, few)) h
+small_values : (narrow : Bool) (start : ℤ) (xs : List (ℕ × ℕ)) → IsNear (2 ^ 61 - 1) start → length xs ≤ 2 ^ 26 → AllSmallPlaced xs → HasAll narrow start xs
+small_values narrow start xs near few h = all_there narrow start xs (2 ^ 61 - 1) near (omega (arith, few)) h
 
--- a cursor over such a column from its start on
-module _ (values : Sums) (none : values.total ≡ pos 0) (whole : values.limit ≡ pos (2 ^ 62)) where
+pub start_near : (start : ℤ) → unsigned_abs start < 2 ^ 61 → IsNear (2 ^ 61 - 1) start
+start_near start low = record { above = omega (arith, ints, low); below = omega (arith, ints, low) }
+
+-- a cursor over such a column, whose last value isn't far from 0
+module _ (values : Sums) (near : IsNear (2 ^ 61 - 1) values.total) (whole : values.limit ≡ pos (2 ^ 62)) where
   abbrev numbers : List (ℕ × ℕ)
   numbers = column_left values.entries
 
-  left_is : sums_left values ≡ sums_within limit (pos 0) (map (delta_in values.narrow) (map (λ x. x.0) numbers))
-  left_is =
-      ap (λ total. sums_within values.limit total (map (delta_in values.narrow) (map (λ x. x.0) numbers))) none
-      ∙ ap (λ most. sums_within most (pos 0) (map (delta_in values.narrow) (map (λ x. x.0) numbers))) whole
+  left_is : sums_left values ≡ sums_within limit values.total (map (delta_in values.narrow) (map (λ x. x.0) numbers))
+  left_is = ap (λ most. sums_within most values.total (map (delta_in values.narrow) (map (λ x. x.0) numbers))) whole
 
   pub values_counted : (r : Option ℕ) → MatchOption r ⊤ (λ n. (n ≡ length numbers) × (n ≤ 2 ^ 26)) → MatchOption r ⊤ (λ _. AllSmallPlaced numbers) → MatchOption r ⊤ (λ n. n ≡ length (sums_left values))
   values_counted None few h = tt
   values_counted (Some n) few h =
-      omega (arith, few.0, (small_values values.narrow numbers (omega (arith, few.0, few.1)) h).counted, ap (λ (zs : List ℤ). length zs) left_is)
+      omega (arith, few.0, (small_values values.narrow values.total numbers near (omega (arith, few.0, few.1)) h).counted, ap (λ (zs : List ℤ). length zs) left_is)
 
   pub values_within : (r : Option ℕ) → MatchOption r ⊤ (λ n. (n ≡ length numbers) × (n ≤ 2 ^ 26)) → MatchOption r ⊤ (λ _. AllSmallPlaced numbers) → MatchOption r ⊤ (λ _. AllByRecursion (IsWithin (pos (2 ^ 62))) (sums_left values))
   values_within None few h = tt
   values_within (Some n) few h =
-      subst (λ (zs : List ℤ). AllByRecursion (IsWithin limit) zs) (sym left_is) (small_values values.narrow numbers (omega (arith, few.0, few.1)) h).within
+      subst (λ (zs : List ℤ). AllByRecursion (IsWithin limit) zs) (sym left_is) (small_values values.narrow values.total numbers near (omega (arith, few.0, few.1)) h).within

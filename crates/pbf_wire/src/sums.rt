@@ -12,6 +12,9 @@ use crate::signed::{delta_in, unzigzag};
 use crate::span::{Span, WHOLE_SPAN};
 use crate::sum::{FAR_ROOM, added, room_of};
 
+/// Few small entries, added to a number nearer to 0, stay within the limit of stored numbers.
+const NEAR: u64 = 1 << 61;
+
 /// A cursor over the values of a delta column: the running sums of its entries, up to the first that isn't strictly between
 /// `-limit` and `limit`. It does not allocate, and a copy of it continues by itself.
 #[derive(Clone, Copy)]
@@ -375,13 +378,14 @@ impl<'a> Sums<'a> {
     }
 
     /// How many values are still to come, if a quick test shows that each is strictly between -2^62 and 2^62; `None` says nothing. The
-    /// test is for columns of that limit of which no value was taken yet, and passes if the entries are few and small. No entry is decoded.
+    /// test is for columns of that limit, and passes if the entries are few and small and the last value isn't far from 0. No entry is
+    /// decoded.
     pub fn count_if_small(&self) -> Option<usize>
         ensures counted { MatchOption result ⊤ (λ count. count ≡ length (sums_left self.now)) }
         ensures within { MatchOption result ⊤
             (λ _. AllByRecursion (IsWithin (pos SUM_LIMIT)) (sums_left self.now)) }
     {
-        if self.total != 0 || self.limit != STORED_LIMIT {
+        if self.total.unsigned_abs() >= NEAR || self.limit != STORED_LIMIT {
             return None;
         }
         self.entries.count_if_small()

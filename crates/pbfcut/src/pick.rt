@@ -193,18 +193,36 @@ fn count_alike(dense: &Dense<'_>) -> usize
 struct NodesLeft<'a> {
     nodes: Dense<'a>,
     alike: usize,
+    /// Whether it was tested, or was found out otherwise, if they are alike.
+    tested: bool,
 }
 
 impl<'a> NodesLeft<'a> {
-    /// Those of a message of which none was taken yet.
+    /// Those of a message, of which nothing is known yet.
     fn of(dense: &Dense<'a>) -> NodesLeft<'a>
         ensures nodes { result.nodes ≡ dense.now }
         ensures even { AreEven result.alike (dense_left dense.now) }
     {
         NodesLeft {
             nodes: *dense,
-            alike: count_alike(dense),
+            alike: 0,
+            tested: false,
         }
+    }
+
+    /// Tests whether the nodes are alike, once the next few are picked: in many messages no few are that come one after the other.
+    #[inline(always)]
+    fn test_if_picked(&mut self, picker: &mut Picker<'_>)
+        requires { AreEven self.old.alike (dense_left self.old.nodes) }
+        ensures nodes { self.new.nodes ≡ self.old.nodes }
+        ensures even { AreEven self.new.alike (dense_left self.new.nodes) }
+        ensures same { picker.new ≡ picker.old }
+    {
+        if self.tested || picked_run(&self.nodes, picker, FEW) < FEW {
+            return;
+        }
+        self.tested = true;
+        self.alike = count_alike(&self.nodes);
     }
 
     /// Puts the next node in this place, or `None`, as [`Dense::next_in`] does.
@@ -445,6 +463,7 @@ impl<'a> EntityPacker<'a> {
         let mut left = NodesLeft::of(dense);
         let mut place = None;
         'nodes: loop {
+            left.test_if_picked(&mut self.picker);
             left.next_in(&mut place);
             let Some(view) = &place else {
                 break;
