@@ -1,7 +1,7 @@
 //! Values that are taken over as they are spelled.
 
 use crate::signed::unzigzag;
-use crate::sum::{added, room_of};
+use crate::sum::{added_near, room_of};
 use crate::sums::Sums;
 
 /// What was taken: the bytes of the entries, and how many values are still to be taken.
@@ -31,7 +31,7 @@ impl<'a> Sums<'a> {
         if self.narrow && number >= 1 << 32 {
             return false;
         }
-        let Some(total) = added(self.total, unzigzag(number), self.limit) else {
+        let Some(total) = added_near(self.total, unzigzag(number), self.limit) else {
             return false;
         };
         self.entries = entries;
@@ -59,7 +59,7 @@ impl<'a> Sums<'a> {
         let Some(rise) = entries.pass_rising() else {
             return false;
         };
-        let Some(total) = added(self.total, i64::from(rise), self.limit) else {
+        let Some(total) = added_near(self.total, i64::from(rise), self.limit) else {
             return false;
         };
         self.entries = entries;

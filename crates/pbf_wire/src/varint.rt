@@ -1,6 +1,6 @@
 //! Varints: numbers of 64 bits, seven bits a byte, the lowest first. The top bit is set on every byte but the last.
 
-ghost use Rattle.std.specs.Prelude.{◌≡◌, ◌≤◌, ◌<◌, ◌^◌, ℕ, IfOk, MatchOption, ⊤, Result, Ok, Err, ◌↔◌, length, take, drop, slice_range};
+ghost use Rattle.std.specs.Prelude.{◌≡◌, ◌≤◌, ◌<◌, ◌^◌, ℕ, IfOk, MatchOption, ⊤, Result, Ok, Err, ◌↔◌, length, take, drop, slice_index, slice_range};
 ghost use Rattle.pbf_wire.specs.Varint.{AppendsVarint, IsVarint, IsCut, IsLong, number_or_reason, varint_at, moved_by, shortest};
 
 use crate::fault::Reason;
@@ -99,15 +99,43 @@ pub(crate) fn short_varint(bytes: &[u8]) -> Option<(u64, usize)>
     None
 }
 
-/// The number that the bytes begin with, and how many bytes it takes, if they are at most five.
+/// Like [`short_varint`], for a number of two or three bytes, if there are at least four: these are read at once.
+#[inline(always)]
+fn two_or_three(bytes: &[u8]) -> Option<(u64, usize)>
+    requires { (0 < length bytes.now) × (128 ≤ slice_index bytes.now 0) }
+    ensures { MatchOption result ⊤ (λ found. (varint_at bytes.now ≡ Ok found) × (0 < found.1)
+        × (found.1 ≤ length bytes.now) × (found.0 < 2 ^ 21)) }
+{
+    let word = u64::from(u32::from_le_bytes(*bytes.first_chunk::<4>()?));
+    let low = word % 128 + word / 256 % 128 * 128;
+    if word / 256 % 256 < 128 {
+        return Some((low, 2));
+    }
+    if word / 65536 % 256 < 128 {
+        return Some((low + word / 65536 % 128 * 16384, 3));
+    }
+    None
+}
+
+/// Like [`short_varint`], for numbers of at most five bytes.
 #[inline(always)]
 fn usual_varint(bytes: &[u8]) -> Option<(u64, usize)>
     ensures { MatchOption result ⊤ (λ found. (varint_at bytes.now ≡ Ok found) × (0 < found.1)
         × (found.1 ≤ length bytes.now) × (found.0 < 2 ^ 35)) }
 {
-    match short_varint(bytes) {
+    let [first, ..] = bytes else {
+        return None;
+    };
+    if *first < 128 {
+        return Some((u64::from(*first), 1));
+    }
+    if let Some(found) = two_or_three(bytes) {
+        return Some(found);
+    }
+    // Of less than four bytes one may still be the last of a number.
+    match far_varint(bytes) {
         Some(found) => Some(found),
-        None => far_varint(bytes),
+        None => short_varint(bytes),
     }
 }
 

@@ -9,8 +9,8 @@ pub returns-clause-taken : goal.returns-clause-taken
 returns-clause-taken c = λ _.
     let old = c.args.self.now in
     let e = c.in-Some.ensures in
-    let total = c.in-Some-added.total in
-    let sum = c.in-Some-added.ensures.sum in
+    let total = c.in-Some-added_near.total in
+    let sum = c.in-Some-added_near.ensures in
     let fits : SFits w64 total = search rules in
     let limit_fits : SFits w64 old.limit = search rules in
     let within = subst (λ z. IsWithin z total) (to_z-of_z w64 old.limit limit_fits) sum.1 in
