@@ -6,6 +6,7 @@ use Rattle.osm_entity.specs.Views.{node_of}
 use Rattle.pbf_dense.specs.Cursors.{dense_left}
 use Rattle.pbf_dense.proofs.NumberLemmas.{dense_fits}
 use Rattle.osm_pack.proofs.ManyLemmas.{all_taken}
+use Rattle.pbfcut.specs.declared.pick.EntityPacker.{EntityPacker}
 use Rattle.pbfcut.specs.declared.pick.Picker.{Picker}
 use Rattle.pbfcut.specs.Pick.{picks_of}
 use Rattle.pbfcut.proofs.PackingLemmas.{each_left}
@@ -18,7 +19,7 @@ returns-then-most-lt-FEW-clause-packs g c = record {
   others = dense_left c.args.left.now.nodes;
   split = refl;
   rest = refl;
-  each = each_left g.D.Drain (picks_of c.args.self.now.picker) [] c.args.self.now _ c.args.packer.now tt (ap (λ (p : Picker). record c.args.self.now { picker = p }) c.picked_run-most.ensures.same) refl c.requires.ready.0 c.requires.ready.1;
+  each = each_left g.D.Drain (picks_of c.args.self.now.picker) [] c.args.self.now (record c.args.self.now { picker = c.picked_run-most.new.picker }) c.args.packer.now tt (ap (λ (p : Picker). record c.args.self.now { picker = p }) c.picked_run-most.ensures.same) refl c.requires.ready.0 c.requires.ready.1;
 }
 
 pub push_nodes-requires-clause-alike : goal.push_nodes-requires-clause-alike
@@ -35,7 +36,7 @@ returns-in_err-count-clause-packs g c =
       others = dense_left c.args.left.now.nodes;
       split = refl;
       rest = tt;
-      each = each_refused g.D.Drain c.args.self.now _ c.args.packer.now c.push_nodes.new.self _ c.requires.ready.1 push.kept push.header push.uses (c.picked_run-most.ensures.same, refl);
+      each = each_refused g.D.Drain c.args.self.now (record c.args.self.now { picker = c.picked_run-most.new.picker }) c.args.packer.now c.push_nodes.new.self _ c.requires.ready.1 push.kept push.header push.uses (c.picked_run-most.ensures.same, refl);
     })
 
 pub returns-clause-packs : goal.returns-clause-packs
@@ -46,12 +47,13 @@ returns-clause-packs g c =
     let ns : List NodeSpec = take count all in
     let some : 0 < c.args.left.now.alike = omega (arith, c.if-most-lt-FEW.false, c.picked_run-most.ensures.few) in
     let one = c.requires.even.kind some in
+    let now : EntityPacker = record c.args.self.now { picker = c.picked_run-most.new.picker; counts = record c.args.self.now.counts { nodes = c.saturating_add-self.result } } in
     let long = length-take-le count all (omega (arith, push.few, c.picked_run-most.ensures.few, c.requires.even.counted)) in
     record {
       gone = ns;
       others = drop count all;
       split = take-append-drop count all;
       rest = push.rest;
-      each = each_many g.D.Drain ns c.args.self.now _ c.args.packer.now c.push_nodes.new.self tt (fewer_taken _ count c.picked_run-most.result all push.few c.picked_run-most.ensures.picked) (all_taken _ count all (dense_fits c.args.left.now.nodes))
+      each = each_many g.D.Drain ns c.args.self.now now c.args.packer.now c.push_nodes.new.self tt (fewer_taken _ count c.picked_run-most.result all push.few c.picked_run-most.ensures.picked) (all_taken _ count all (dense_fits c.args.left.now.nodes))
           (scaled_taken count one.likeness all one.scaled one.same.1) push.pending push.kept push.header push.packing.1 (omega (arith, long, c.saturating_add-self.ensures)) (refl, refl) (c.picked_run-most.ensures.same, refl);
     }

@@ -39,16 +39,18 @@ returns-in_err-pack_node g c =
     let p = err_from_is_err_and c.from_residual.result c.from_residual.ensures.1 in
     let fits : SFits w64 c.id.result = search rules in
     let here = ap (λ (z : ℤ). picks_id c.nodes.self.picker z) (sym c.id.ensures ∙ sym (to_z-of_z w64 c.id.result fits)) ∙ (ap (λ (p : Picker). picks_id p (to_z w64 (of_z w64 c.id.result))) (sym c.test_if_picked.ensures.same) ∙ (sym c.picks_id.ensures.picked ∙ c.if-picks_id.true)) in
-    let same = ap (λ (p : Picker). record c.nodes.self { picker = p }) (c.picks_id.ensures.same ∙ c.test_if_picked.ensures.same) in
-    rw (p.1, p.2) (one_stops g.D.Drain c.args.self.now (dense_left c.args.dense.now) c.args.packer.now (dense_left c.nodes.left.nodes) (dense_left c.next_in.new.self.nodes) (node_of c.in-Some.view) c.nodes.self _ c.pack_node.new.self c.nodes.packer c.pack_node.new.packer _ (sym (ap dense_left c.test_if_picked.ensures.nodes) ∙ rw c.in-Some.is at c.next_in.ensures.next) here same c.nodes.invariant.on c.in_err-pack_node.ensures)
+    let then : EntityPacker = record c.nodes.self { picker = c.picks_id.new.self } in
+    let same : then ≡ c.nodes.self = ap (λ (p : Picker). record c.nodes.self { picker = p }) (c.picks_id.ensures.same ∙ c.test_if_picked.ensures.same) in
+    rw (p.1, p.2) (one_stops g.D.Drain c.args.self.now (dense_left c.args.dense.now) c.args.packer.now (dense_left c.nodes.left.nodes) (dense_left c.next_in.new.self.nodes) (node_of c.in-Some.view) c.nodes.self then c.pack_node.new.self c.nodes.packer c.pack_node.new.packer _ (sym (ap dense_left c.test_if_picked.ensures.nodes) ∙ rw c.in-Some.is at c.next_in.ensures.next) here same c.nodes.invariant.on c.in_err-pack_node.ensures)
 
 -- the next node is packed, and then others with it
 pub nodes-preserved-in-Continue-branch-2 : goal.nodes-preserved-in-Continue-branch-2
 nodes-preserved-in-Continue-branch-2 g c =
     let fits : SFits w64 c.id.result = search rules in
     let here = ap (λ (z : ℤ). picks_id c.nodes.self.picker z) (sym c.id.ensures ∙ sym (to_z-of_z w64 c.id.result fits)) ∙ (ap (λ (p : Picker). picks_id p (to_z w64 (of_z w64 c.id.result))) (sym c.test_if_picked.ensures.same) ∙ (sym c.picks_id.ensures.picked ∙ c.if-picks_id.true)) in
-    let same = ap (λ (p : Picker). record c.nodes.self { picker = p }) (c.picks_id.ensures.same ∙ c.test_if_picked.ensures.same) in
-    let one = one_packed g.D.Drain c.args.self.now (dense_left c.args.dense.now) c.args.packer.now (dense_left c.nodes.left.nodes) (dense_left c.next_in.new.self.nodes) (node_of c.in-Some.view) c.nodes.self _ c.pack_node.new.self c.nodes.packer c.pack_node.new.packer _ (sym (ap dense_left c.test_if_picked.ensures.nodes) ∙ rw c.in-Some.is at c.next_in.ensures.next) here same c.nodes.invariant.on c.in_ok-pack_node.ensures in
+    let then : EntityPacker = record c.nodes.self { picker = c.picks_id.new.self } in
+    let same : then ≡ c.nodes.self = ap (λ (p : Picker). record c.nodes.self { picker = p }) (c.picks_id.ensures.same ∙ c.test_if_picked.ensures.same) in
+    let one = one_packed g.D.Drain c.args.self.now (dense_left c.args.dense.now) c.args.packer.now (dense_left c.nodes.left.nodes) (dense_left c.next_in.new.self.nodes) (node_of c.in-Some.view) c.nodes.self then c.pack_node.new.self c.nodes.packer c.pack_node.new.packer _ (sym (ap dense_left c.test_if_picked.ensures.nodes) ∙ rw c.in-Some.is at c.next_in.ensures.next) here same c.nodes.invariant.on c.in_ok-pack_node.ensures in
     record {
       on = many_packed g.D.Drain c.args.self.now (dense_left c.args.dense.now) c.args.packer.now (dense_left c.next_in.new.self.nodes) (dense_left c.pack_many.new.left.nodes) c.pack_node.new.self c.pack_many.new.self c.pack_node.new.packer c.pack_many.new.packer _ one c.in_ok-pack_many.ensures.packs;
       even = c.in_ok-pack_many.ensures.even;
@@ -64,8 +66,9 @@ returns-in_err-pack_many g c =
     let p = err_from_is_err_and c.from_residual-in_err-pack_many.result c.from_residual-in_err-pack_many.ensures.1 in
     let fits : SFits w64 c.id.result = search rules in
     let here = ap (λ (z : ℤ). picks_id c.nodes.self.picker z) (sym c.id.ensures ∙ sym (to_z-of_z w64 c.id.result fits)) ∙ (ap (λ (p : Picker). picks_id p (to_z w64 (of_z w64 c.id.result))) (sym c.test_if_picked.ensures.same) ∙ (sym c.picks_id.ensures.picked ∙ c.if-picks_id.true)) in
-    let same = ap (λ (p : Picker). record c.nodes.self { picker = p }) (c.picks_id.ensures.same ∙ c.test_if_picked.ensures.same) in
-    let one = one_packed g.D.Drain c.args.self.now (dense_left c.args.dense.now) c.args.packer.now (dense_left c.nodes.left.nodes) (dense_left c.next_in.new.self.nodes) (node_of c.in-Some.view) c.nodes.self _ c.pack_node.new.self c.nodes.packer c.pack_node.new.packer _ (sym (ap dense_left c.test_if_picked.ensures.nodes) ∙ rw c.in-Some.is at c.next_in.ensures.next) here same c.nodes.invariant.on c.in_ok-pack_node.ensures in
+    let then : EntityPacker = record c.nodes.self { picker = c.picks_id.new.self } in
+    let same : then ≡ c.nodes.self = ap (λ (p : Picker). record c.nodes.self { picker = p }) (c.picks_id.ensures.same ∙ c.test_if_picked.ensures.same) in
+    let one = one_packed g.D.Drain c.args.self.now (dense_left c.args.dense.now) c.args.packer.now (dense_left c.nodes.left.nodes) (dense_left c.next_in.new.self.nodes) (node_of c.in-Some.view) c.nodes.self then c.pack_node.new.self c.nodes.packer c.pack_node.new.packer _ (sym (ap dense_left c.test_if_picked.ensures.nodes) ∙ rw c.in-Some.is at c.next_in.ensures.next) here same c.nodes.invariant.on c.in_ok-pack_node.ensures in
     rw (p.1, p.2) (many_stop g.D.Drain c.args.self.now (dense_left c.args.dense.now) c.args.packer.now (dense_left c.next_in.new.self.nodes) (dense_left c.pack_many.new.left.nodes) c.pack_node.new.self c.pack_many.new.self c.pack_node.new.packer c.pack_many.new.packer _ one c.in_err-pack_many.ensures.packs)
 
 pub returns-in_default-unpicked : goal.returns-in_default-unpicked
@@ -74,8 +77,9 @@ returns-in_default-unpicked g c =
     let fits : SFits w64 c.id.result = search rules in
     let here = ap (λ (z : ℤ). picks_id c.nodes.self.picker z) (sym c.id.ensures ∙ sym (to_z-of_z w64 c.id.result fits)) ∙ (ap (λ (p : Picker). picks_id p (to_z w64 (of_z w64 c.id.result))) (sym c.test_if_picked.ensures.same) ∙ (sym c.picks_id.ensures.picked ∙ c.if-picks_id.false)) in
     let later = subst (λ (p : Picker). filter (picks_of p) (map node ns) ≡ []) (c.picks_id.ensures.same ∙ c.test_if_picked.ensures.same) c.in_default-unpicked.ensures.none in
-    let same = ap (λ (p : Picker). record c.nodes.self { picker = p }) (c.unpicked.ensures.same ∙ (c.picks_id.ensures.same ∙ c.test_if_picked.ensures.same)) in
-    rest_passed g.D.Drain c.args.self.now (dense_left c.args.dense.now) c.args.packer.now (dense_left c.nodes.left.nodes) ns (node_of c.in-Some.view) c.nodes.self _ c.nodes.packer _ (sym (ap dense_left c.test_if_picked.ensures.nodes) ∙ rw c.in-Some.is at c.next_in.ensures.next) here later same c.nodes.invariant.on
+    let then : EntityPacker = record c.nodes.self { picker = c.unpicked.new.picker } in
+    let same : then ≡ c.nodes.self = ap (λ (p : Picker). record c.nodes.self { picker = p }) (c.unpicked.ensures.same ∙ (c.picks_id.ensures.same ∙ c.test_if_picked.ensures.same)) in
+    rest_passed g.D.Drain c.args.self.now (dense_left c.args.dense.now) c.args.packer.now (dense_left c.nodes.left.nodes) ns (node_of c.in-Some.view) c.nodes.self then c.nodes.packer _ (sym (ap dense_left c.test_if_picked.ensures.nodes) ∙ rw c.in-Some.is at c.next_in.ensures.next) here later same c.nodes.invariant.on
 
 pub nodes-preserved : goal.nodes-preserved
 nodes-preserved g c =
@@ -83,17 +87,18 @@ nodes-preserved g c =
     let fits : SFits w64 c.id.result = search rules in
     let here = ap (λ (z : ℤ). picks_id c.nodes.self.picker z) (sym c.id.ensures ∙ sym (to_z-of_z w64 c.id.result fits)) ∙ (ap (λ (p : Picker). picks_id p (to_z w64 (of_z w64 c.id.result))) (sym c.test_if_picked.ensures.same) ∙ (sym c.picks_id.ensures.picked ∙ c.if-picks_id.false)) in
     let later = subst (λ (p : Picker). NonePicked p c.in-Some-unpicked.ahead.count ns) (c.picks_id.ensures.same ∙ c.test_if_picked.ensures.same) c.in-Some-unpicked.ensures.none in
-    let same = ap (λ (p : Picker). record c.nodes.self { picker = p }) (c.unpicked.ensures.same ∙ (c.picks_id.ensures.same ∙ c.test_if_picked.ensures.same)) in
+    let then : EntityPacker = record c.nodes.self { picker = c.unpicked.new.picker } in
+    let same : then ≡ c.nodes.self = ap (λ (p : Picker). record c.nodes.self { picker = p }) (c.unpicked.ensures.same ∙ (c.picks_id.ensures.same ∙ c.test_if_picked.ensures.same)) in
     let passed = c.pass_to.ensures.passed in
     record {
-      on = some_passed g.D.Drain c.args.self.now (dense_left c.args.dense.now) c.args.packer.now (dense_left c.nodes.left.nodes) ns _ (node_of c.in-Some.view) c.in-Some-unpicked.ahead.count c.nodes.self _ c.nodes.packer (sym (ap dense_left c.test_if_picked.ensures.nodes) ∙ rw c.in-Some.is at c.next_in.ensures.next) passed here later same c.nodes.invariant.on;
+      on = some_passed g.D.Drain c.args.self.now (dense_left c.args.dense.now) c.args.packer.now (dense_left c.nodes.left.nodes) ns (dense_left c.pass_to.new.self.nodes) (node_of c.in-Some.view) c.in-Some-unpicked.ahead.count c.nodes.self then c.nodes.packer (sym (ap dense_left c.test_if_picked.ensures.nodes) ∙ rw c.in-Some.is at c.next_in.ensures.next) passed here later same c.nodes.invariant.on;
       even = even_after (node_of c.in-Some.view) c.next_in.new.self.alike c.pass_to.new.self.alike c.in-Some-unpicked.ahead.count ns (dense_left c.pass_to.new.self.nodes) passed c.pass_to.ensures.alike
           (even_next c.test_if_picked.new.self.alike c.next_in.new.self.alike (dense_left c.test_if_picked.new.self.nodes) ns (node_of c.in-Some.view) (rw c.in-Some.is at c.next_in.ensures.next) c.next_in.ensures.alike c.test_if_picked.ensures.even);
     }
 
 pub nodes-smaller : goal.nodes-smaller
 nodes-smaller g c =
-    passed_left (dense_left c.nodes.left.nodes) (dense_left c.next_in.new.self.nodes) _ (node_of c.in-Some.view) c.in-Some-unpicked.ahead.count (sym (ap dense_left c.test_if_picked.ensures.nodes) ∙ rw c.in-Some.is at c.next_in.ensures.next) c.pass_to.ensures.passed
+    passed_left (dense_left c.nodes.left.nodes) (dense_left c.next_in.new.self.nodes) (dense_left c.pass_to.new.self.nodes) (node_of c.in-Some.view) c.in-Some-unpicked.ahead.count (sym (ap dense_left c.test_if_picked.ensures.nodes) ∙ rw c.in-Some.is at c.next_in.ensures.next) c.pass_to.ensures.passed
 
 pub returns : goal.returns
 returns g c =
