@@ -259,17 +259,17 @@ fn picked_run(dense: &Dense<'_>, picker: &mut Picker<'_>, most: usize) -> usize
         return most;
     }
     let mut ids = dense.ids();
-    let mut count = 0;
-    'ids: while count < most {
+    let mut run = 0;
+    'ids: while run < most {
         let Some(id) = ids.next() else {
             break;
         };
         if !picker.picks_id(id) {
             break;
         }
-        count += 1;
+        run += 1;
     }
-    count
+    run
 }
 
 /// What a node counts for in a block, if it can be written, and otherwise `None`. The columns that it was read from have no number out of

@@ -11,9 +11,9 @@ use Rattle.pbfcut.proofs.pick.picked_run.Given as goal
 abbrev pub invariant-ids : goal.invariant-ids
 invariant-ids l = record {
   picker : l.picker ≡ l.fn.picker;
-  few : l.count ≤ l.most;
-  ids_are : BeginWithIds (sums_left l.ids) (drop l.count (dense_left l.dense));
-  picked : AllByRecursion (λ (n : NodeSpec). picks_id l.fn.picker n.id ≡ true) (take l.count (dense_left l.dense));
+  few : l.run ≤ l.most;
+  ids_are : BeginWithIds (sums_left l.ids) (drop l.run (dense_left l.dense));
+  picked : AllByRecursion (λ (n : NodeSpec). picks_id l.fn.picker n.id ≡ true) (take l.run (dense_left l.dense));
 }
 
 abbrev pub decreases-ids : goal.decreases-ids
