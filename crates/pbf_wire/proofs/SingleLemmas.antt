@@ -31,7 +31,7 @@ pub first_single : (bytes rest : List ℕ) → AreSingle bytes rest → 1 ≤ le
 first_single bytes [] h some small = absurd (omega arith)
 first_single bytes (b ∷ bs) h some small = more_single bytes (b ∷ bs) bs (b ∷ []) h refl (small, tt)
 
--- the front of the bytes that were tested, which are the first ones of the column
+-- the bytes that passed the test, of those that were tested: the first ones of the column
 module _ (within rest : List ℕ) (h : AreSingle within rest) where
   pub shorter : length rest ≤ length within
   shorter = omega (arith, ap length h.parts, length-append h.front rest)

@@ -199,7 +199,7 @@ joined_taken a b c count left after fewer enough h k =
     let all : count - left + (left - after) ≡ count - after = omega (arith, fewer, enough) in
     subst (AreSpelled a c) all (then_taken a b c (count - left) (left - after) h k)
 
--- the bytes that were passed are the front of those that there were
+-- the bytes that were passed are the first of those that there were
 pub front_passed : (a b : Left) (n : ℕ) → AreSpelled a b n → length b.bytes ≤ length a.bytes
 front_passed a b n h = omega (arith, ap length h.bytes, length-append (written_after a.last h.taken) b.bytes)
 

@@ -190,8 +190,8 @@ impl<'a> Column<'a> {
         self.packed.is_empty() && self.fields.0.is_done()
     }
 
-    /// How many numbers are still to come, if a quick test shows that they are few and small: at most 2^26, each below 2^35. None is
-    /// decoded.
+    /// How many numbers are still to come, if a quick test shows that they are few and small: at most 2^26, each below 2^35. `None` says
+    /// nothing. No number of a packed occurrence is decoded.
     #[inline(always)]
     pub fn count_if_small(&self) -> Option<usize>
         ensures counted { MatchOption result ⊤

@@ -1,4 +1,4 @@
-//! Sixteen numbers of one byte at once.
+//! Numbers of one byte, sixteen at once.
 
 ghost use Rattle.std.specs.Prelude.{◌≡◌, ◌<◌, ◌≤◌, ⊤, IsTrue, MatchOption, length, take};
 ghost use Rattle.std.specs.List.{AllByRecursion, sum};

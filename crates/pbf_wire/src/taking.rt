@@ -134,7 +134,7 @@ impl<'a> Sums<'a> {
         left
     }
 
-    /// Finds anew how many entries there is room for.
+    /// Counts again how many entries there is room for.
     #[inline(always)]
     fn renew_room(&mut self)
         ensures { left_of self.new ≡ left_of self.old }

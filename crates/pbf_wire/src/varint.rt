@@ -111,8 +111,8 @@ fn two_or_three(bytes: &[u8]) -> Option<(u64, usize)>
     if word / 256 % 256 < 128 {
         return Some((low, 2));
     }
-    if word / 65536 % 256 < 128 {
-        return Some((low + word / 65536 % 128 * 16384, 3));
+    if word / 256 / 256 % 256 < 128 {
+        return Some((low + word / 256 / 256 % 128 * 16384, 3));
     }
     None
 }
