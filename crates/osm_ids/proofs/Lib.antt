@@ -1,3 +1,4 @@
+pub mod BitLemmas
 pub mod Sets
 pub mod Gaps
 pub mod Rising
