@@ -32,19 +32,6 @@ last_among low (id ∷ ids) = or_true (int_eq (last_of id ids) low) (list_any (i
     or_true true b e = refl
     or_true false b e = e
 
-low_last : (low : ℤ) (ids : List ℤ) → Rises low ids → low ≤ℤ last_of low ids
-low_last low [] h = omega (arith, ints)
-low_last low (id ∷ ids) h = let next = low_last id ids h.1 in let first = h.0 in omega (arith, ints)
-
-all_last : (low : ℤ) (ids : List ℤ) (x : ℤ) → Rises low ids → list_any (int_eq x) (low ∷ ids) ≡ true → x ≤ℤ last_of low ids
-all_last low [] x h e = let same : x ≡ low = (Decides-int_eq x low).0 (sym (or_none (int_eq x low)) ∙ e) in omega (arith, ints)
-all_last low (id ∷ ids) x h e =
-    let later = λ (among : list_any (int_eq x) (id ∷ ids) ≡ true). all_last id ids x h.1 among in
-    elim (int_eq x low) as (λ b. int_eq x low ≡ b → (b || list_any (int_eq x) (id ∷ ids)) ≡ true → x ≤ℤ last_of id ids) [
-      | true ↦ λ is _. let same : x ≡ low = (Decides-int_eq x low).0 is in let up = low_last id ids h.1 in let first = h.0 in omega (arith, ints)
-      | false ↦ λ _ among. later among
-    ] refl e
-
 between : (a b : ℤ) → a ≤ℤ b → b ≤ℤ a → a ≡ b
 between a b h k = omega (arith, ints)
 
@@ -167,11 +154,6 @@ module _ (index : List PageStart) (bytes : List ℕ) (pages : List Page) (s : Is
       ap ids_of (ids_in_sealed index' bytes' pages' s' ∙ e) ∙ ids_of-push ids id ∙ ap (λ l. set.insert (ids_of l) id) (sym same)
 
 -- ---- each id takes a byte or a place of the index
-
-sized_page : (low : ℤ) (ids : List ℤ) → FitsSigned w64 low → AllFit ids → Rises low ids → length ids ≤ length (spelled_after low ids)
-sized_page low [] f fits h = omega arith
-sized_page low (id ∷ ids) f fits h =
-    omega (arith, sized_page id ids fits.0 fits.1 h.1, shortest_some (gap low id) (gap-lt low id f fits.0 h.0), length-append (shortest (gap low id)) (spelled_after id ids))
 
 sized_pages : (at : ℕ) (pages : List Page) → IsRising (ids_of_pages pages) → AllFit (ids_of_pages pages) → length (ids_of_pages pages) ≤ length (starts_from at pages) + length (bytes_of_pages pages)
 sized_pages at [] h fits = omega arith

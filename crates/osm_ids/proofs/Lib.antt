@@ -1,4 +1,6 @@
 pub mod BitLemmas
+pub mod BitPages
+pub mod Closed
 pub mod Sets
 pub mod Gaps
 pub mod Rising

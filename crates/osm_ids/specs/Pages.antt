@@ -1,7 +1,7 @@
 -- Rising ids in pages: what lies in the index and in the bytes.
-use Rattle.std.specs.Prelude.{◌≡◌, ℕ, zero, suc, ◌+◌, ◌-◌, ◌≤◌, Bool, cond, nat_lt, ◌==◌, List, [], ◌∷◌, ◌++◌, length, take, drop, ℤ, pos, ◌+ℤ◌, ◌-ℤ◌, ◌<ℤ◌, unsigned_abs, FitsSigned}
+use Rattle.std.specs.Prelude.{◌≡◌, ℕ, zero, suc, ◌+◌, ◌-◌, ◌≤◌, Bool, cond, nat_lt, ◌==◌, List, [], ◌∷◌, ◌++◌, length, take, drop, replicate, ℤ, pos, ◌+ℤ◌, ◌-ℤ◌, ◌<ℤ◌, unsigned_abs, FitsSigned}
 use Rattle.std.specs.Int.{w64}
-use Rattle.std.specs.List.{flat_map, fold, replicate}
+use Rattle.std.specs.List.{flat_map, fold}
 use Rattle.osm_ids.specs.declared.pages.PageStart.{PageStart}
 use Rattle.pbf_wire.specs.Columns.{packed}
 use Rattle.pbf_wire.specs.Packed.{numbers_of}
