@@ -7,7 +7,7 @@ use Rattle.std.proofs.lemmas.Grind.{flat_map-append}
 use Rattle.std.proofs.lemmas.List.Folds.{list_any-append}
 use Rattle.osm_ids.specs.declared.pages.PageStart.{PageStart}
 use Rattle.osm_ids.specs.Pages.{Page, page_ids, ids_of_pages, Rises, IsRising, HasFullPages, IsSealed, ids_in}
-use Rattle.osm_ids.proofs.Found.{page_at}
+use Rattle.osm_ids.proofs.Found.{page_at, filled_at}
 use Rattle.osm_ids.proofs.Laid.{ids_in_sealed}
 use Rattle.osm_ids.proofs.Rising.{cases_order, first_among, rising_back}
 
@@ -36,12 +36,6 @@ no_gap low (y ∷ ids) high back x h room above below =
         | inr same ↦ subst (λ z. list_any (int_eq x) (z ∷ ids) ≡ true) same (first_among x ids)
       ]
     ]
-
--- each page but the last has 128 ids
-filled_at : (before : List Page) (page later : Page) (rest : List Page) → HasFullPages (before ++ page ∷ later ∷ rest) → length page.others ≡ 127
-filled_at [] page later rest h = h.0
-filled_at (p ∷ []) page later rest h = h.1.0
-filled_at (p ∷ q ∷ before) page later rest h = filled_at (q ∷ before) page later rest h.1
 
 any_of_middle : (xs ys zs : List ℤ) (id : ℤ) → list_any (int_eq id) ys ≡ true → list_any (int_eq id) (xs ++ (ys ++ zs)) ≡ true
 any_of_middle xs ys zs id there =

@@ -26,21 +26,37 @@ pub(crate) fn is_set(bits: &[u8; 64], k: usize) -> bool
     (bits[k / 8] >> (k % 8)) & 1 == 1
 }
 
-/// Bits that are all set, or all not.
+/// Bits that are all set, or all not. Past the 512 none is.
 #[derive(Clone, Copy)]
 pub(crate) struct Run {
     pub(crate) is_set: bool,
-    pub(crate) from: usize,
+    pub(crate) from: u64,
     /// Past the last.
-    pub(crate) to: usize,
+    pub(crate) to: u64,
 }
 
 /// The bits round one that are as it is, as far as they lie in the same eight bytes.
-pub(crate) fn run_round(bits: &[u8; 64], k: usize) -> Run
+pub(crate) fn run_round(bits: &[u8; 64], k: u64) -> Run
+    ensures from { result.from ≤ k }
+    ensures here { has_bit bits.now k ≡ result.is_set }
+    ensures same { (j : ℕ) → result.from ≤ j → j < result.to
+        → has_bit bits.now j ≡ result.is_set }
+{
+    if k < BITS as u64 {
+        return run_in_word(bits, k as usize);
+    }
+    Run {
+        is_set: false,
+        from: BITS as u64,
+        to: u64::MAX,
+    }
+}
+
+/// The same of a bit that is one of the 512.
+fn run_in_word(bits: &[u8; 64], k: usize) -> Run
     requires { k < 512 }
     ensures from { result.from ≤ k }
     ensures to { k < result.to }
-    ensures within { result.to ≤ 512 }
     ensures same { (j : ℕ) → result.from ≤ j → j < result.to
         → has_bit bits.now j ≡ result.is_set }
 {
@@ -51,8 +67,8 @@ pub(crate) fn run_round(bits: &[u8; 64], k: usize) -> Run
     let start = k - bit;
     Run {
         is_set,
-        from: start + clear_from(other, bit),
-        to: start + clear_to(other, bit),
+        from: (start + clear_from(other, bit)) as u64,
+        to: (start + clear_to(other, bit)) as u64,
     }
 }
 

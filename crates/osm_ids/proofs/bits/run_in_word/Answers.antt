@@ -3,8 +3,8 @@ use Rattle.std.specs.Int.{bit_at}
 use Rattle.std.proofs.lemmas.Bool.{cases_lt}
 use Rattle.osm_ids.specs.Bits.{has_bit}
 use Rattle.osm_ids.proofs.BitLemmas.{IsTurned, tests_bit, turned_clear, like_turned}
-use Rattle.osm_ids.proofs.bits.run_round.Goals as goal
-use Rattle.osm_ids.proofs.bits.run_round.Goals.{then-is_set, else-is_set}
+use Rattle.osm_ids.proofs.bits.run_in_word.Goals as goal
+use Rattle.osm_ids.proofs.bits.run_in_word.Goals.{then-is_set, else-is_set}
 
 pub clear_to-requires-clause-clear : goal.clear_to-requires-clause-clear
 clear_to-requires-clause-clear c =
