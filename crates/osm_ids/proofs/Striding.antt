@@ -123,7 +123,7 @@ moved last by n f g is h =
     ∙ ap (λ z. to_z w64 (of_z w64 (last +ℤ z))) (to_z-of_z w64 by g ∙ is)
     ∙ to_z-of_z w64 (last +ℤ pos n) h
 
-fits_between : (low z high : ℤ) → SFits w64 low → SFits w64 high → low ≤ℤ z → z ≤ℤ high → SFits w64 z
+pub fits_between : (low z high : ℤ) → SFits w64 low → SFits w64 high → low ≤ℤ z → z ≤ℤ high → SFits w64 z
 fits_between low (pos n) high f g le ge = record { sfits = omega (arith, ints, g.sfits, ge) }
 fits_between low (negsuc n) high f g le ge = record { sfits = omega (arith, ints, f.sfits, le) }
 

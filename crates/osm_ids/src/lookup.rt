@@ -377,6 +377,7 @@ fn first_place<'a>(index: &[PageStart], page: &'a [u8], begun: usize) -> Place<'
     requires { IsBegun index.now begun }
     ensures begun { result.begun ≡ begun }
     ensures page { result.page.now ≡ page.now }
+    ensures within { result.cursor.at ≤ length page.now }
     ensures first { (start : PageStart) → start ≡ get_or index.now (begun - 1) start
         → result.cursor ≡ record { passed = start.first; last = start.first; at = 0 } }
 {
