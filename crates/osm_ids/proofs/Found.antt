@@ -12,13 +12,13 @@ use Rattle.std.proofs.Math.Seq.{drop-append_seam, take-append_seam}
 use Rattle.osm_ids.specs.declared.pages.PageStart.{PageStart}
 use Rattle.osm_ids.specs.declared.page.Cursor.{Cursor}
 use Rattle.osm_ids.specs.Cursors.{IsAt, IsPassedAt, HasForm, HoldsPage, IsAsBits, Stands}
-use Rattle.osm_ids.specs.Pages.{Page, page_ids, gap_bytes, bit_bytes, closed_bytes, is_dense, ids_of_pages, bytes_of_pages, starts_from, Rises, IsRising, AllFit, HasFullPages, IsSealed, ids_in}
+use Rattle.osm_ids.specs.Pages.{Page, page_ids, gap_bytes, bit_bytes, closed_bytes, is_dense, ids_of_pages, bytes_of_pages, starts_from, Rises, IsRising, AllFit, HasFullPages, IsSealed, bytes_of_closed, ids_in}
 use Rattle.osm_ids.proofs.Gaps.{spelled_after}
 use Rattle.osm_ids.proofs.Reading as reading
 use Rattle.osm_ids.proofs.Reading.{cursor, IsAhead}
 use Rattle.osm_ids.proofs.Closed.{IsFull, dense_by_length, closed_bits}
 use Rattle.osm_ids.proofs.BitPages.{bit_bytes_length}
-use Rattle.osm_ids.proofs.Laid.{bytes_of_closed, bytes-append, ids_in_sealed, fits_front, fits_back}
+use Rattle.osm_ids.proofs.Laid.{bytes-append, ids_in_sealed, fits_front, fits_back}
 use Rattle.osm_ids.proofs.Rising.{other_above, rises_front, rising_back, rising_tail, none_below, none_above, any_in_middle, cases_order}
 
 pub le_true : (a b : ℤ) → int_le a b ≡ true → a ≤ℤ b

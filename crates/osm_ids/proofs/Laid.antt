@@ -1,25 +1,18 @@
 -- How pages lie in an index and in bytes: how they grow, how they are found, and that they are read again.
 use Rattle.std.proofs.Common.{◌≡◌, ℕ, suc, ◌+◌, ◌-◌, ◌*◌, ◌<◌, ◌≤◌, List, [], ◌∷◌, ◌++◌, length, take, drop, ℤ, refl, sym, ap, ◌∙◌, arith, append_assoc, length-append}
 use Rattle.std.specs.Int.{div_ceil}
-use Rattle.std.specs.List.{flat_map}
 use Rattle.std.proofs.lemmas.Grind.{flat_map-append}
 use Rattle.std.proofs.lemmas.List.{append-nil, drop-drop}
 use Rattle.std.proofs.Math.Seq.{drop-append_seam, take-append_seam}
 use Rattle.osm_ids.specs.declared.pages.PageStart.{PageStart}
 use Rattle.pbf_wire.specs.Varint.{shortest}
 use Rattle.pbf_wire.specs.Packed.{numbers_of}
-use Rattle.osm_ids.specs.Pages.{gap, Page, page_ids, gap_bytes, closed_bytes, last_of, ids_of_pages, bytes_of_pages, starts_from, HasFullPages, Rises, IsRising, AllFit, raised, others_in, ids_in, IsSealed}
+use Rattle.osm_ids.specs.Pages.{gap, Page, page_ids, gap_bytes, closed_bytes, last_of, ids_of_pages, bytes_of_pages, starts_from, HasFullPages, Rises, IsRising, AllFit, raised, others_in, ids_in, IsSealed, IsOpen, bytes_of_closed}
 use Rattle.osm_ids.proofs.Rising.{rises_front, rising_tail}
 use Rattle.osm_ids.proofs.Gaps.{spelled_after, read_spelled}
 use Rattle.osm_ids.proofs.Closed.{IsFull, closed_read}
 
 -- ---- growing
-
--- the last page has room for more, and ends with last
-abbrev pub IsOpen : List Page → ℕ → ℤ → Type 0
-IsOpen [] room last = room ≡ 0
-IsOpen (page ∷ []) room last = (length page.others + room ≡ 127) × (last_of page.first page.others ≡ last)
-IsOpen (page ∷ next ∷ pages) room last = (length page.others ≡ 127) × IsOpen (next ∷ pages) room last
 
 abbrev pub lone : ℤ → Page
 lone id = record { first = id; others = [] }
@@ -32,10 +25,6 @@ abbrev pub with_id : List Page → ℤ → List Page
 with_id [] id = []
 with_id (page ∷ []) id = longer page id ∷ []
 with_id (page ∷ next ∷ pages) id = page ∷ with_id (next ∷ pages) id
-
--- the bytes of pages that another one follows
-abbrev pub bytes_of_closed : List Page → List ℕ
-bytes_of_closed pages = flat_map closed_bytes pages
 
 pub starts-push : (at : ℕ) (pages : List Page) (id : ℤ) → starts_from at (pages ++ lone id ∷ []) ≡ starts_from at pages ++ record { first = id; place = at + length (bytes_of_closed pages) } ∷ []
 starts-push at [] id = ap (λ k. record { first = id; place = k } ∷ []) (omega arith)

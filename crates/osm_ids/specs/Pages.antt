@@ -1,5 +1,5 @@
 -- Rising ids in pages: what lies in the index and in the bytes.
-use Rattle.std.specs.Prelude.{◌≡◌, ℕ, zero, suc, ◌+◌, ◌-◌, ◌≤◌, Bool, cond, nat_lt, ◌==◌, List, [], ◌∷◌, ◌++◌, length, take, drop, replicate, ℤ, pos, ◌+ℤ◌, ◌-ℤ◌, ◌<ℤ◌, unsigned_abs, FitsSigned}
+use Rattle.std.specs.Prelude.{◌≡◌, ℕ, zero, suc, ◌+◌, ◌-◌, ◌≤◌, Bool, true, cond, nat_lt, ◌==◌, List, [], ◌∷◌, ◌++◌, length, take, drop, replicate, ℤ, pos, ◌+ℤ◌, ◌-ℤ◌, ◌<ℤ◌, unsigned_abs, FitsSigned}
 use Rattle.std.specs.Int.{w64}
 use Rattle.std.specs.List.{flat_map, fold}
 use Rattle.osm_ids.specs.declared.pages.PageStart.{PageStart}
@@ -118,3 +118,27 @@ pub record IsSealed (index : List PageStart) (bytes : List ℕ) (pages : List Pa
   pub filled : HasFullPages pages
   pub rising : IsRising (ids_of_pages pages)
   pub fits : AllFit (ids_of_pages pages)
+
+-- ---- the last page
+
+-- the bytes are the gaps of a page whose ids all have a bit
+pub record HasBits (bytes : List ℕ) (page : Page) : Type 0 where
+  pub spelled : bytes ≡ gap_bytes page
+  pub rises : Rises page.first page.others
+  pub fits : AllFit (page_ids page)
+  pub dense : is_dense page ≡ true
+
+-- the last page has room for so many more, and ends with `last`
+abbrev pub IsOpen : List Page → ℕ → ℤ → Type 0
+IsOpen [] room last = room ≡ 0
+IsOpen (page ∷ []) room last = (length page.others + room ≡ 127) × (last_of page.first page.others ≡ last)
+IsOpen (page ∷ next ∷ pages) room last = (length page.others ≡ 127) × IsOpen (next ∷ pages) room last
+
+-- the bytes of pages that another one follows
+abbrev pub bytes_of_closed : List Page → List ℕ
+bytes_of_closed pages = flat_map closed_bytes pages
+
+-- the bytes are closed, and the index has one page more, which begins with the id
+pub record BeginsPage (pages : List Page) (id : ℤ) (index : List PageStart) (new_index : List PageStart) (new_bytes : List ℕ) : Type 0 where
+  pub starts : new_index ≡ index ++ record { first = id; place = length (bytes_of_closed pages) } ∷ []
+  pub closed : new_bytes ≡ bytes_of_closed pages

@@ -1,8 +1,11 @@
 //! A page's ids as bits.
 
-ghost use Rattle.std.specs.Prelude.{◌≡◌, ◌+◌, ◌-◌, ◌*◌, ◌<◌, ◌≤◌, ℕ, Bool, true, false, length, IfSome, IfNone, nat_eq};
+ghost use Rattle.std.specs.Prelude.{◌≡◌, ◌+◌, ◌-◌, ◌*◌, ◌<◌, ◌≤◌, ℕ, Bool, true, false, List, ◌++◌, length, take, drop, nat_eq};
 ghost use Rattle.std.specs.Int.{bit_at};
 ghost use Rattle.osm_ids.specs.Bits.{has_bit, with_bit};
+ghost use Rattle.osm_ids.specs.Pages.{Page, HasBits, bit_bytes};
+
+use pbf_wire::get_varint;
 
 /// How many bytes the bits take.
 pub(crate) const BIT_BYTES: usize = 64;
@@ -24,6 +27,39 @@ pub(crate) fn is_set(bits: &[u8; 64], k: usize) -> bool
     ensures { result ≡ has_bit bits.now k }
 {
     (bits[k / 8] >> (k % 8)) & 1 == 1
+}
+
+/// The bits of a page's ids, which the gaps between them give; an id too far above the first has none.
+pub(crate) fn bits_of(gaps: &[u8]) -> [u8; 64]
+    ensures { (page : Page) → HasBits gaps.now page → result ≡ bit_bytes page }
+{
+    let mut bits = [0; 64];
+    set_bit(&mut bits, 0);
+    let mut far = 0u64;
+    let mut at = 0;
+    'ids: while at < gaps.len() {
+        let Ok((gap, next)) = get_varint(gaps, at) else {
+            return bits;
+        };
+        far = far.saturating_add(gap);
+        if far < BITS as u64 {
+            set_bit(&mut bits, far as usize);
+        }
+        at = next;
+    }
+    bits
+}
+
+/// Puts bits in place of the gaps that begin at a place and end all bytes.
+pub(crate) fn put_bits(bytes: &mut Vec<u8>, at: usize)
+    requires { at + 64 ≤ length bytes.old.items }
+    ensures { (page : Page) → HasBits (drop at bytes.old.items) page
+        → bytes.new.items ≡ take at bytes.old.items ++ bit_bytes page }
+{
+    let bits = bits_of(&bytes[at..]);
+    let end = at + BIT_BYTES;
+    bytes[at..end].copy_from_slice(&bits);
+    bytes.truncate(end);
 }
 
 /// Bits that are all set, or all not. Past the 512 none is.
