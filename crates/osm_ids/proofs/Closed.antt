@@ -85,3 +85,10 @@ module _ (page : Page) (f : IsFull page) where
         | true ↦ λ _. refl
         | false ↦ λ e. absurd (omega (arith, e, gaps_long))
       ]
+
+  pub closed_long : 64 ≤ length (closed_bytes page)
+  closed_long =
+      elim (is_dense page) as (λ b. 64 ≤ length (cond b (bit_bytes page) (gap_bytes page))) [
+        | true ↦ omega (arith, bit_bytes_length page)
+        | false ↦ omega (arith, gaps_long)
+      ]

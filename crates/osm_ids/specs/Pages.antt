@@ -134,6 +134,12 @@ IsOpen [] room last = room ≡ 0
 IsOpen (page ∷ []) room last = (length page.others + room ≡ 127) × (last_of page.first page.others ≡ last)
 IsOpen (page ∷ next ∷ pages) room last = (length page.others ≡ 127) × IsOpen (next ∷ pages) room last
 
+-- all pages are full, and end with `last`
+pub record IsAllFull (index : List PageStart) (bytes : List ℕ) (last : ℤ) : Type 0 where
+  pub pages : List Page
+  pub sealed : IsSealed index bytes pages
+  pub filled : IsOpen pages 0 last
+
 -- the bytes of pages that another one follows
 abbrev pub bytes_of_closed : List Page → List ℕ
 bytes_of_closed pages = flat_map closed_bytes pages
