@@ -61,7 +61,7 @@ module _ (page : Page) (f : IsFull page) where
             let high = all_last first page.others id f.rises (or_right (int_eq id first) _ there) in
             omega (arith, ints, low, high, past, near)))
 
-    bits_read : ids_of_bits first (bit_bytes page) 1 511 ≡ page.others
+    pub bits_read : ids_of_bits first (bit_bytes page) 1 511 ≡ page.others
     bits_read =
         same_rising _ _
         (rising_tail first (ids_of_bits first (bit_bytes page) 1 511) (rises_of_bits 511 1 first first (bit_bytes page) (omega (arith, ints))))

@@ -115,7 +115,7 @@ abbrev pub bytes_here : Page → List Page → List ℕ
 bytes_here page [] = gap_bytes page
 bytes_here page (next ∷ pages) = closed_bytes page
 
-here_and_after : (page : Page) (after : List Page) → bytes_of_pages (page ∷ after) ≡ bytes_here page after ++ bytes_of_pages after
+pub here_and_after : (page : Page) (after : List Page) → bytes_of_pages (page ∷ after) ≡ bytes_here page after ++ bytes_of_pages after
 here_and_after page [] = sym (append-nil (gap_bytes page))
 here_and_after page (next ∷ after) = refl
 

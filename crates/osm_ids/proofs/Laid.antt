@@ -98,7 +98,7 @@ pub fits_back : (xs ys : List ℤ) → AllFit (xs ++ ys) → AllFit ys
 fits_back [] ys h = h
 fits_back (x ∷ xs) ys h = fits_back xs ys h.1
 
-rising_after : (low : ℤ) (xs ys : List ℤ) → Rises low (xs ++ ys) → IsRising ys
+pub rising_after : (low : ℤ) (xs ys : List ℤ) → Rises low (xs ++ ys) → IsRising ys
 rising_after low [] ys h = rising_tail low ys h
 rising_after low (x ∷ xs) ys h = rising_after x xs ys h.1
 

@@ -1,6 +1,6 @@
 //! A page's ids as bits.
 
-ghost use Rattle.std.specs.Prelude.{◌≡◌, ◌+◌, ◌-◌, ◌*◌, ◌<◌, ◌≤◌, ℕ, Bool, true, false, List, ◌++◌, length, take, drop, nat_eq};
+ghost use Rattle.std.specs.Prelude.{◌≡◌, ◌+◌, ◌-◌, ◌*◌, ◌<◌, ◌≤◌, ℕ, Bool, true, false, List, ◌++◌, length, take, drop, nat_eq, IfSome, IfNone};
 ghost use Rattle.std.specs.Int.{bit_at};
 ghost use Rattle.osm_ids.specs.Bits.{has_bit, with_bit};
 ghost use Rattle.osm_ids.specs.Pages.{Page, HasBits, bit_bytes};
@@ -13,8 +13,20 @@ pub(crate) const BIT_BYTES: usize = 64;
 /// How many bits there are.
 pub(crate) const BITS: usize = 512;
 
+/// The bits of a page, if it is held as such.
+pub(crate) fn as_bits(page: &[u8], is_closed: bool) -> Option<&[u8; 64]>
+    ensures some { IfSome result (λ bits. (is_closed ≡ true) × (bits.now ≡ page.now)) }
+    ensures none { IfNone result (is_closed ≡ true → length page.now ≡ 64 → ⊥) }
+{
+    if !is_closed || page.len() != BIT_BYTES {
+        return None;
+    }
+    let bits = page.first_chunk::<64>()?;
+    Some(bits)
+}
+
 /// Sets a bit.
-pub(crate) fn set_bit(bits: &mut [u8; 64], k: usize)
+fn set_bit(bits: &mut [u8; 64], k: usize)
     requires { k < 512 }
     ensures { bits.new ≡ with_bit bits.old k }
 {
@@ -22,7 +34,7 @@ pub(crate) fn set_bit(bits: &mut [u8; 64], k: usize)
 }
 
 /// Whether a bit is set.
-pub(crate) fn is_set(bits: &[u8; 64], k: usize) -> bool
+fn is_set(bits: &[u8; 64], k: usize) -> bool
     requires { k < 512 }
     ensures { result ≡ has_bit bits.now k }
 {
@@ -30,7 +42,7 @@ pub(crate) fn is_set(bits: &[u8; 64], k: usize) -> bool
 }
 
 /// The bits of a page's ids, which the gaps between them give; an id too far above the first has none.
-pub(crate) fn bits_of(gaps: &[u8]) -> [u8; 64]
+fn bits_of(gaps: &[u8]) -> [u8; 64]
     ensures { (page : Page) → HasBits gaps.now page → result ≡ bit_bytes page }
 {
     let mut bits = [0; 64];

@@ -11,7 +11,7 @@ ghost use Rattle.osm_ids.specs.Cursors.{IsAt, IsPassedAt, IsReadTo, IsPlace, IsB
 ghost use Rattle.osm_ids.specs.Looking.{LooksUp};
 ghost use Rattle.std.specs.Ordering.{int_cmp};
 
-use crate::bits::{BIT_BYTES, Run, run_round};
+use crate::bits::{Run, as_bits, run_round};
 use crate::page::{Cursor, read_up_to, short_step};
 use crate::pages::{PAGE, PageStart, SealedIds};
 use pbf_wire::{EMPTY_SPAN, Span};
@@ -402,20 +402,8 @@ fn page_before<'a>(index: &[PageStart], bytes: &'a [u8], begun: usize) -> &'a [u
     part(bytes, index[begun - 1].place, end)
 }
 
-/// The bits of a page, if it is held as such.
-fn as_bits(page: &[u8], is_closed: bool) -> Option<&[u8; 64]>
-    ensures some { IfSome result (λ bits. (is_closed ≡ true) × (bits.now ≡ page.now)) }
-    ensures none { IfNone result (is_closed ≡ true → length page.now ≡ 64 → ⊥) }
-{
-    if !is_closed || page.len() != BIT_BYTES {
-        return None;
-    }
-    let bits = page.first_chunk::<64>()?;
-    Some(bits)
-}
-
 /// The bytes from one place to another.
-fn part(bytes: &[u8], from: usize, to: usize) -> &[u8]
+pub(crate) fn part(bytes: &[u8], from: usize, to: usize) -> &[u8]
     requires ordered { from ≤ to }
     requires within { to ≤ length bytes.now }
     ensures { result.now ≡ take (to - from) (drop from bytes.now) }

@@ -1,7 +1,7 @@
 use Rattle.std.proofs.Common.{◌≡◌, ◌+ℤ◌, pos, Some, to_z, of_z, FitsSigned, sym, ap, subst, ◌∙◌, w64}
 use Rattle.std.proofs.lemmas.Int.{to_z-of_z}
 use Rattle.osm_ids.proofs.Walking.{read_gap, turn_gap}
-use Rattle.osm_ids.proofs.walk.id_after.Goals as goal
+use Rattle.osm_ids.proofs.walk.id_of_gap_at.Goals as goal
 
 pub returns-in_default-clause-some : goal.returns-in_default-clause-some
 returns-in_default-clause-some c = λ id rest up fits e.
