@@ -136,5 +136,203 @@ end_of start starts bytes end page (next ∷ pages) e within spelled (inl more) 
     more.3 ∙ ap (λ (s : PageStart). s.place) head
 end_of start starts bytes end page (next ∷ pages) e within spelled (inr last) = absurd (omega (arith, ap length (sym last.0 ∙ e)))
 
-in_page : ℤ → List ℤ → Page
-in_page first others = record { first = first; others = others }
+-- how the code holds it
+pub record IsHere (start : PageStart) (starts : List PageStart) (bytes : List ℕ) (end : ℕ) (here : InPage) : Type 0 where
+  pub first : here.first ≡ start.first
+  pub page : here.page.now ≡ take (end - start.place) (drop start.place bytes)
+  pub at : here.at ≡ 0
+  pub closed : (0 < length starts) → here.is_closed ≡ true
+  pub last : here.is_closed ≡ true → 0 < length starts
+
+-- as gaps
+here_gaps : (here : InPage) (page : Page) → here.at ≡ 0 → is_in_bits here ≡ false → here.page.now ≡ gap_bytes page → LeftIn here page.first page.others
+here_gaps here page at gaps e = record { form = inl (gaps, omega (arith, at), ap (λ k. drop k here.page.now) at ∙ e) }
+
+-- as a page that another one follows is held
+here_closed : (here : InPage) (page : Page) → here.first ≡ page.first → here.at ≡ 0 → here.is_closed ≡ true → IsFull page → here.page.now ≡ closed_bytes page → LeftIn here page.first page.others
+here_closed here page first at closed full e =
+    elim (is_dense page) as (λ b. is_dense page ≡ b → here.page.now ≡ cond b (bit_bytes page) (gap_bytes page) → LeftIn here page.first page.others) [
+      | true ↦ λ dense is. record {
+        form = inr (
+          bits_true here closed (ap length is ∙ bit_bytes_length page),
+          omega (arith, at),
+          sym (bits_read page full dense)
+              ∙ ap (λ z. ids_of_bits z (bit_bytes page) 1 511) (sym first)
+              ∙ ap (λ s. ids_of_bits here.first s 1 511) (sym is)
+              ∙ ap (λ k. ids_of_bits here.first here.page.now (k + 1) (511 - k)) (sym at),
+        );
+      }
+      | false ↦ λ _ is. here_gaps here page at (bits_false here (λ _ long. absurd (omega (arith, ap length is, long, gaps_long page full)))) is
+    ] refl e
+
+here_by : (here : InPage) (page : Page) (pages : List Page) (starts : List PageStart) (place : ℕ) → starts ≡ starts_from place pages → (0 < length starts → here.is_closed ≡ true) → (here.is_closed ≡ true → 0 < length starts) → here.first ≡ page.first → here.at ≡ 0 → HasFullPages (page ∷ pages) → IsRising (ids_of_pages (page ∷ pages)) → AllFit (ids_of_pages (page ∷ pages)) → here.page.now ≡ bytes_here page pages → LeftIn here page.first page.others
+here_by here page [] starts place e closed last first at filled rising fits is = here_gaps here page at (bits_false here (λ is_closed _. absurd (omega (arith, last is_closed, ap length e)))) is
+here_by here page (next ∷ pages) starts place e closed last first at filled rising fits is = here_closed here page first at (closed (omega (arith, ap length e))) (full_page page next pages filled rising fits) is
+
+filled_rest : (page : Page) (pages : List Page) → HasFullPages (page ∷ pages) → HasFullPages pages
+filled_rest page [] h = tt
+filled_rest page (next ∷ pages) h = h.1
+
+starts_same : (starts : List PageStart) (page : Page) (pages : List Page) (place end : ℕ) → starts ≡ starts_from (place + length (closed_bytes page)) pages → end ≡ place + length (bytes_here page pages) → starts ≡ starts_from end pages
+starts_same starts page [] place end e is = e
+starts_same starts page (next ∷ pages) place end e is = e ∙ ap (λ k. starts_from k (next ∷ pages)) (sym is)
+
+pub record Begun (start : PageStart) (starts : List PageStart) (bytes : List ℕ) (here : InPage) : Type 0 where
+  pub left : IsLeft start.first here starts bytes
+  pub ids : start.first ∷ (left_in here start.first ++ ids_in starts bytes) ≡ ids_in (start ∷ starts) bytes
+
+module _ (start : PageStart) (starts : List PageStart) (bytes : List ℕ) (end : ℕ) (ends : EndsFirst starts bytes end) where
+  bounds_of : (pages : List Page) → ArePages start.place (start ∷ starts) bytes pages → (start.place ≤ end) × (end ≤ length bytes)
+  bounds_of [] h = absurd (omega (arith, ap length h.index))
+  bounds_of (page ∷ pages) h =
+      let there = page_parts start starts page pages h.index in
+      let is = end_of start starts bytes end page pages there.1 h.within h.spelled ends in
+      let long = ap length (h.spelled ∙ here_and_after page pages) in
+      (omega (arith, is), omega (arith, is, long, length-drop start.place bytes, length-append (bytes_here page pages) (bytes_of_pages pages), h.within))
+
+  pub bounds : BeginsLeft start starts bytes → (start.place ≤ end) × (end ≤ length bytes)
+  bounds b = bounds_of b.pages b.later
+
+  begun_of : (here : InPage) → IsHere start starts bytes end here → (pages : List Page) → ArePages start.place (start ∷ starts) bytes pages → IsRising (ids_of_pages pages) → AllFit (ids_of_pages pages) → Begun start starts bytes here
+  begun_of here held [] h rising fits = absurd (omega (arith, ap length h.index))
+  begun_of here held (page ∷ pages) h rising fits =
+      let there = page_parts start starts page pages h.index in
+      let first = there.0 in
+      let is = end_of start starts bytes end page pages there.1 h.within h.spelled ends in
+      let size = length (bytes_here page pages) in
+      let parts : drop start.place bytes ≡ bytes_here page pages ++ bytes_of_pages pages = h.spelled ∙ here_and_after page pages in
+      let long : end - start.place ≡ size = omega (arith, is) in
+      let cut : here.page.now ≡ bytes_here page pages = held.page ∙ ap (λ k. take k (drop start.place bytes)) long ∙ ap (take size) parts ∙ take-append_seam (bytes_here page pages) (bytes_of_pages pages) in
+      let reading = here_by here page pages starts _ there.1 held.closed held.last (held.first ∙ first) held.at h.filled rising fits cut in
+      let left : IsLeft start.first here starts bytes = record {
+        others = page.others;
+        place = end;
+        pages = pages;
+        reading = subst (λ z. LeftIn here z page.others) (sym first) reading;
+        later = record {
+          within = (bounds_of (page ∷ pages) h).1;
+          index = starts_same starts page pages start.place end there.1 is;
+          spelled = ap (λ k. drop k bytes) is ∙ sym (drop-drop size start.place bytes) ∙ ap (drop size) parts ∙ drop-append_seam (bytes_here page pages) (bytes_of_pages pages);
+          filled = filled_rest page pages h.filled;
+        };
+        rises = subst (λ z. Rises z (page.others ++ ids_of_pages pages)) (sym first) rising;
+        fits = subst (λ z. AllFit (z ∷ (page.others ++ ids_of_pages pages))) (sym first) fits;
+      } in
+      record {
+        left = left;
+        ids = left_ids start.first here starts bytes left
+            ∙ ap (λ z. z ∷ (page.others ++ ids_of_pages pages)) first
+            ∙ sym (pages_read start.place (start ∷ starts) bytes (page ∷ pages) h rising fits);
+      }
+
+  pub begun : (here : InPage) → IsHere start starts bytes end here → BeginsLeft start starts bytes → Begun start starts bytes here
+  begun here held b = begun_of here held b.pages b.later b.rising b.fits
+
+pub left_rising : (next : ℤ) (here : InPage) (starts : List PageStart) (bytes : List ℕ) → IsLeft next here starts bytes → IsRising (next ∷ (left_in here next ++ ids_in starts bytes))
+left_rising next here starts bytes h = subst IsRising (sym (left_ids next here starts bytes h)) h.rises
+
+-- ---- one id further
+
+-- the state after another id of the page
+abbrev pub moved_to : InPage → ℕ → InPage
+moved_to here at = record { first = here.first; page = here.page; is_closed = here.is_closed; at = at }
+
+abbrev pub StopsIn : InPage → ℤ → Option (ℤ × ℕ) → Type 0
+StopsIn here last r = LeftIn here last [] → r ≡ None
+
+abbrev pub GoesOnIn : InPage → ℤ → Option (ℤ × ℕ) → Type 0
+GoesOnIn here last r = (id : ℤ) (rest : List ℤ) → last <ℤ id → FitsSigned w64 id → LeftIn here last (id ∷ rest) → IsSomeAnd r (λ next. (next.0 ≡ id) × LeftIn (moved_to here next.1) id rest)
+
+some_none : (p : ℤ × ℕ) → ◌≡◌ {A = Option (ℤ × ℕ)} (Some p) None → ⊥
+some_none p e = cc
+
+-- what is left after one more
+pub record Further (next : ℤ) (here : InPage) (starts : List PageStart) (bytes : List ℕ) (then : List ℤ) : Type 0 where
+  pub left : IsLeft next here starts bytes
+  pub ids : next ∷ (left_in here next ++ ids_in starts bytes) ≡ then
+
+module _ (last : ℤ) (here : InPage) (starts : List PageStart) (bytes : List ℕ) (r : Option (ℤ × ℕ)) (stops : StopsIn here last r) (goes : GoesOnIn here last r) where
+  went_to : (h : IsLeft last here starts bytes) (others : List ℤ) → h.others ≡ others → (id : ℤ) (at : ℕ) → r ≡ Some (id, at) → Further id (moved_to here at) starts bytes (drop 1 (last ∷ (left_in here last ++ ids_in starts bytes)))
+  went_to h [] e id at is = absurd (some_none _ (sym is ∙ stops (subst (LeftIn here last) e h.reading)))
+  went_to h (x ∷ others) e id at is =
+      let rest = ids_of_pages h.pages in
+      let rises = subst (λ (os : List ℤ). Rises last (os ++ rest)) e h.rises in
+      let fits = subst (λ (os : List ℤ). AllFit (last ∷ (os ++ rest))) e h.fits in
+      let there = subst (λ (o : Option (ℤ × ℕ)). IsSomeAnd o (λ next. (next.0 ≡ x) × LeftIn (moved_to here next.1) x others)) is (goes x others rises.0 fits.1.0 (subst (LeftIn here last) e h.reading)) in
+      let left : IsLeft id (moved_to here at) starts bytes = record {
+        others = others;
+        place = h.place;
+        pages = h.pages;
+        reading = subst (λ z. LeftIn (moved_to here at) z others) (sym there.0) there.1;
+        later = h.later;
+        rises = subst (λ z. Rises z (others ++ rest)) (sym there.0) rises.1;
+        fits = subst (λ z. AllFit (z ∷ (others ++ rest))) (sym there.0) fits.1;
+      } in
+      record {
+        left = left;
+        ids = left_ids id (moved_to here at) starts bytes left
+            ∙ ap (λ z. z ∷ (others ++ rest)) there.0
+            ∙ sym (ap (drop 1) (left_ids last here starts bytes h) ∙ ap (λ os. os ++ rest) e);
+      }
+
+  pub goes_to : IsLeft last here starts bytes → (id : ℤ) (at : ℕ) → r ≡ Some (id, at) → Further id (moved_to here at) starts bytes (drop 1 (last ∷ (left_in here last ++ ids_in starts bytes)))
+  goes_to h id at is = went_to h h.others refl id at is
+
+  ends_at : (h : IsLeft last here starts bytes) (others : List ℤ) → h.others ≡ others → r ≡ None → h.others ≡ []
+  ends_at h [] e is = e
+  ends_at h (x ∷ others) e is =
+      let rest = ids_of_pages h.pages in
+      let rises = subst (λ (os : List ℤ). Rises last (os ++ rest)) e h.rises in
+      let fits = subst (λ (os : List ℤ). AllFit (last ∷ (os ++ rest))) e h.fits in
+      absurd (subst (λ (o : Option (ℤ × ℕ)). IsSomeAnd o (λ next. (next.0 ≡ x) × LeftIn (moved_to here next.1) x others)) is (goes x others rises.0 fits.1.0 (subst (LeftIn here last) e h.reading)))
+
+  -- or the page ends
+  pub page_ends : (h : IsLeft last here starts bytes) → r ≡ None → h.others ≡ []
+  page_ends h is = ends_at h h.others refl is
+
+module _ (last : ℤ) (here : InPage) (starts : List PageStart) (bytes : List ℕ) (h : IsLeft last here starts bytes) (none : h.others ≡ []) where
+  then_is : drop 1 (last ∷ (left_in here last ++ ids_in starts bytes)) ≡ ids_of_pages h.pages
+  then_is = ap (drop 1) (left_ids last here starts bytes h) ∙ ap (λ os. os ++ ids_of_pages h.pages) none
+
+  rising_pages : IsRising (ids_of_pages h.pages)
+  rising_pages = rising_tail last (ids_of_pages h.pages) (rises_skip last h.others (ids_of_pages h.pages) h.rises)
+
+  fitting_pages : AllFit (ids_of_pages h.pages)
+  fitting_pages = fits_back (last ∷ h.others) (ids_of_pages h.pages) h.fits
+
+  none_after : (pages : List Page) → h.pages ≡ pages → starts ≡ [] → ids_of_pages h.pages ≡ []
+  none_after [] e empty = ap ids_of_pages e
+  none_after (page ∷ pages) e empty = absurd (omega (arith, ap length (sym empty ∙ h.later.index ∙ ap (starts_from h.place) e)))
+
+  pub nothing_left : starts ≡ [] → drop 1 (last ∷ (left_in here last ++ ids_in starts bytes)) ≡ []
+  nothing_left empty = then_is ∙ none_after h.pages refl empty
+
+  begins_at : (start : PageStart) (rest : List PageStart) → starts ≡ start ∷ rest → (pages : List Page) → h.pages ≡ pages → start.place ≡ h.place
+  begins_at start rest e [] f = absurd (omega (arith, ap length (sym e ∙ h.later.index ∙ ap (starts_from h.place) f)))
+  begins_at start rest e (page ∷ pages) f = let head : ◌≡◌ {A = PageStart} start (record { first = page.first; place = h.place }) = let g = sym e ∙ h.later.index ∙ ap (starts_from h.place) f in cc in ap (λ (s : PageStart). s.place) head
+
+  pub page_begins : (start : PageStart) (rest : List PageStart) → starts ≡ start ∷ rest → BeginsLeft start rest bytes × (ids_in (start ∷ rest) bytes ≡ drop 1 (last ∷ (left_in here last ++ ids_in starts bytes)))
+  page_begins start rest e =
+      let at = begins_at start rest e h.pages refl in
+      (record {
+        pages = h.pages;
+        later = subst (λ k. ArePages k (start ∷ rest) bytes h.pages) (sym at) (subst (λ (s : List PageStart). ArePages h.place s bytes h.pages) e h.later);
+        rising = rising_pages;
+        fits = fitting_pages;
+      }, ap (λ s. ids_in s bytes) (sym e) ∙ pages_read h.place starts bytes h.pages h.later rising_pages fitting_pages ∙ sym then_is)
+
+-- ---- the start
+
+pub walk_start : (index : List PageStart) (bytes : List ℕ) (start : PageStart) (starts : List PageStart) (pages : List Page) → IsSealed index bytes pages → index ≡ start ∷ starts → BeginsLeft start starts bytes
+walk_start index bytes start starts pages s e =
+    let at = first_place pages (sym e ∙ s.starts) in
+    record {
+      pages = pages;
+      later = subst (λ k. ArePages k (start ∷ starts) bytes pages) (sym at) (record { within = omega arith; index = sym e ∙ s.starts; spelled = s.spelled; filled = s.filled });
+      rising = s.rising;
+      fits = s.fits;
+    }
+  where
+    first_place : (ps : List Page) → start ∷ starts ≡ starts_from 0 ps → start.place ≡ 0
+    first_place [] f = absurd (omega (arith, ap length f))
+    first_place (page ∷ ps) f = let head : ◌≡◌ {A = PageStart} start (record { first = page.first; place = 0 }) = cc in ap (λ (p : PageStart). p.place) head
