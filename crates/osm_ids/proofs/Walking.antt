@@ -1,5 +1,5 @@
 -- Pages that are read one id after the other.
-use Rattle.std.proofs.Common.{◌≡◌, ◌⊎◌, inl, inr, ℕ, zero, suc, ◌+◌, ◌-◌, ◌<◌, ◌≤◌, Bool, true, false, cond, ◌&&◌, eqb, List, [], ◌∷◌, ◌++◌, length, take, drop, Option, Some, None, Result, Ok, ℤ, pos, ◌+ℤ◌, ◌<ℤ◌, refl, sym, ap, subst, ◌∙◌, arith, length-append, length-drop, append_assoc, FitsSigned, w64, eq-eqb, ne_eqb, true≢false}
+use Rattle.std.proofs.Common.{◌≡◌, ◌⊎◌, inl, inr, ℕ, zero, suc, ◌+◌, ◌-◌, ◌<◌, ◌≤◌, Bool, true, false, not, cond, ◌&&◌, eqb, List, [], ◌∷◌, ◌++◌, length, take, drop, get_or, Option, Some, None, Result, Ok, ℤ, pos, ◌+ℤ◌, ◌<ℤ◌, refl, sym, ap, subst, ◌∙◌, arith, length-append, length-drop, append_assoc, FitsSigned, w64, eq-eqb, ne_eqb, true≢false}
 use Rattle.std.specs.Prelude.{IsSomeAnd}
 use Rattle.std.proofs.lemmas.Bool.{cases_eq}
 use Rattle.std.proofs.lemmas.Int.{ints}
@@ -123,6 +123,10 @@ left_fits next here starts bytes h = h.fits.0
 abbrev pub EndsFirst : List PageStart → List ℕ → ℕ → Type 0
 EndsFirst starts bytes end = ((next : PageStart) × (rest : List PageStart) × (starts ≡ next ∷ rest) × (end ≡ next.place)) ⊎ ((starts ≡ []) × (end ≡ length bytes))
 
+pub ends_by : (starts : List PageStart) (bytes : List ℕ) (end : ℕ) → ((next : PageStart) → 0 < length starts → next ≡ get_or starts 0 next → end ≡ next.place) → (length starts ≡ 0 → end ≡ length bytes) → EndsFirst starts bytes end
+ends_by [] bytes end some none = inr (refl, none refl)
+ends_by (s ∷ starts) bytes end some none = inl (s, starts, refl, some s (omega arith) refl)
+
 page_parts : (start : PageStart) (starts : List PageStart) (page : Page) (pages : List Page) → start ∷ starts ≡ starts_from start.place (page ∷ pages) → (start.first ≡ page.first) × (starts ≡ starts_from (start.place + length (closed_bytes page)) pages)
 page_parts start starts page pages e =
     let head : ◌≡◌ {A = PageStart} start (record { first = page.first; place = start.place }) = cc in
@@ -228,6 +232,29 @@ module _ (start : PageStart) (starts : List PageStart) (bytes : List ℕ) (end :
   pub begun : (here : InPage) → IsHere start starts bytes end here → BeginsLeft start starts bytes → Begun start starts bytes here
   begun here held b = begun_of here held b.pages b.later b.rising b.fits
 
+not_empty : (n : ℕ) (b : Bool) → b ≡ eqb n 0 → 0 < n → not b ≡ true
+not_empty n b is some = ap not (is ∙ ne_eqb n 0 (λ e. omega (arith, e, some)))
+
+some_there : (n : ℕ) (b : Bool) → b ≡ eqb n 0 → not b ≡ true → 0 < n
+some_there n b is there =
+    elim (cases_eq n 0) [
+      | inl none ↦ absurd (true≢false (sym there ∙ ap not (is ∙ eq-eqb n 0 none)))
+      | inr some ↦ omega (arith, some)
+    ]
+
+-- the same as the code makes it, where it names the first id otherwise
+module _ (start : PageStart) (starts : List PageStart) (bytes : List ℕ) (end : ℕ) (here : InPage) (empty : Bool) (b : BeginsLeft start starts bytes) (first : here.first ≡ start.first) where
+  made : EndsFirst starts bytes end → here.page.now ≡ take (end - start.place) (drop start.place bytes) → here.at ≡ 0 → here.is_closed ≡ not empty → empty ≡ eqb (length starts) 0 → Begun start starts bytes here
+  made ends page at closed is =
+      begun start starts bytes end ends here
+      (record { first = first; page = page; at = at; closed = λ some. closed ∙ not_empty (length starts) empty is some; last = λ there. some_there (length starts) empty is (sym closed ∙ there) }) b
+
+  pub made_left : EndsFirst starts bytes end → here.page.now ≡ take (end - start.place) (drop start.place bytes) → here.at ≡ 0 → here.is_closed ≡ not empty → empty ≡ eqb (length starts) 0 → IsLeft here.first here starts bytes
+  made_left ends page at closed is = subst (λ z. IsLeft z here starts bytes) (sym first) (made ends page at closed is).left
+
+  pub made_ids : EndsFirst starts bytes end → here.page.now ≡ take (end - start.place) (drop start.place bytes) → here.at ≡ 0 → here.is_closed ≡ not empty → empty ≡ eqb (length starts) 0 → here.first ∷ (left_in here here.first ++ ids_in starts bytes) ≡ ids_in (start ∷ starts) bytes
+  made_ids ends page at closed is = ap (λ z. z ∷ (left_in here z ++ ids_in starts bytes)) first ∙ (made ends page at closed is).ids
+
 pub left_rising : (next : ℤ) (here : InPage) (starts : List PageStart) (bytes : List ℕ) → IsLeft next here starts bytes → IsRising (next ∷ (left_in here next ++ ids_in starts bytes))
 left_rising next here starts bytes h = subst IsRising (sym (left_ids next here starts bytes h)) h.rises
 
@@ -246,12 +273,37 @@ GoesOnIn here last r = (id : ℤ) (rest : List ℤ) → last <ℤ id → FitsSig
 some_none : (p : ℤ × ℕ) → ◌≡◌ {A = Option (ℤ × ℕ)} (Some p) None → ⊥
 some_none p e = cc
 
+-- a bit is read
+pub left_by_bit : (here : InPage) (id : ℤ) (rest : List ℤ) (r : Option (ℤ × ℕ)) → is_in_bits here ≡ true → IsSomeAnd r (λ next. (next.0 ≡ id) × (next.1 < 512) × (rest ≡ ids_of_bits here.first here.page.now (next.1 + 1) (511 - next.1))) → IsSomeAnd r (λ next. (next.0 ≡ id) × LeftIn (moved_to here next.1) id rest)
+left_by_bit here id rest None bits h = absurd h
+left_by_bit here id rest (Some next) bits h = (h.0, record { form = inr (bits, h.1, h.2) })
+
+-- or a gap
+pub left_by_gap : (here : InPage) (last id : ℤ) (rest : List ℤ) (r : Option (ℤ × ℕ)) → is_in_bits here ≡ false → LeftIn here last (id ∷ rest) → r ≡ Some (id, here.at + length (shortest (gap last id))) → IsSomeAnd r (λ next. (next.0 ≡ id) × LeftIn (moved_to here next.1) id rest)
+left_by_gap here last id rest r gaps h is =
+    let there = left_gaps here last (id ∷ rest) h gaps in
+    let size = length (shortest (gap last id)) in
+    subst (λ (o : Option (ℤ × ℕ)). IsSomeAnd o (λ next. (next.0 ≡ id) × LeftIn (moved_to here next.1) id rest)) (sym is)
+    (refl, record {
+      form = inl (
+        gaps,
+        omega (arith, there.0, ap length there.1, length-drop here.at here.page.now, length-append (shortest (gap last id)) (spelled_after id rest)),
+        sym (drop-drop size here.at here.page.now) ∙ ap (drop size) there.1 ∙ drop-append_seam (shortest (gap last id)) (spelled_after id rest),
+      );
+    })
+
 -- what is left after one more
 pub record Further (next : ℤ) (here : InPage) (starts : List PageStart) (bytes : List ℕ) (then : List ℤ) : Type 0 where
   pub left : IsLeft next here starts bytes
   pub ids : next ∷ (left_in here next ++ ids_in starts bytes) ≡ then
 
-module _ (last : ℤ) (here : InPage) (starts : List PageStart) (bytes : List ℕ) (r : Option (ℤ × ℕ)) (stops : StopsIn here last r) (goes : GoesOnIn here last r) where
+module _ (last seen : ℤ) (here : InPage) (starts : List PageStart) (bytes : List ℕ) (r : Option (ℤ × ℕ)) (same : seen ≡ last) (seen_stops : StopsIn here seen r) (seen_goes : GoesOnIn here seen r) where
+  stops : StopsIn here last r
+  stops = subst (λ z. StopsIn here z r) same seen_stops
+
+  goes : GoesOnIn here last r
+  goes = subst (λ z. GoesOnIn here z r) same seen_goes
+
   went_to : (h : IsLeft last here starts bytes) (others : List ℤ) → h.others ≡ others → (id : ℤ) (at : ℕ) → r ≡ Some (id, at) → Further id (moved_to here at) starts bytes (drop 1 (last ∷ (left_in here last ++ ids_in starts bytes)))
   went_to h [] e id at is = absurd (some_none _ (sym is ∙ stops (subst (LeftIn here last) e h.reading)))
   went_to h (x ∷ others) e id at is =
@@ -300,11 +352,11 @@ module _ (last : ℤ) (here : InPage) (starts : List PageStart) (bytes : List �
   fitting_pages : AllFit (ids_of_pages h.pages)
   fitting_pages = fits_back (last ∷ h.others) (ids_of_pages h.pages) h.fits
 
-  none_after : (pages : List Page) → h.pages ≡ pages → starts ≡ [] → ids_of_pages h.pages ≡ []
+  none_after : (pages : List Page) → h.pages ≡ pages → length starts ≡ 0 → ids_of_pages h.pages ≡ []
   none_after [] e empty = ap ids_of_pages e
-  none_after (page ∷ pages) e empty = absurd (omega (arith, ap length (sym empty ∙ h.later.index ∙ ap (starts_from h.place) e)))
+  none_after (page ∷ pages) e empty = absurd (omega (arith, empty, ap length (h.later.index ∙ ap (starts_from h.place) e)))
 
-  pub nothing_left : starts ≡ [] → drop 1 (last ∷ (left_in here last ++ ids_in starts bytes)) ≡ []
+  pub nothing_left : length starts ≡ 0 → drop 1 (last ∷ (left_in here last ++ ids_in starts bytes)) ≡ []
   nothing_left empty = then_is ∙ none_after h.pages refl empty
 
   begins_at : (start : PageStart) (rest : List PageStart) → starts ≡ start ∷ rest → (pages : List Page) → h.pages ≡ pages → start.place ≡ h.place

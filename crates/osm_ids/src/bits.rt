@@ -16,6 +16,7 @@ pub(crate) const BITS: usize = 512;
 /// The bits of a page, if it is held as such.
 pub(crate) fn as_bits(page: &[u8], is_closed: bool) -> Option<&[u8; 64]>
     ensures some { IfSome result (λ bits. (is_closed ≡ true) × (bits.now ≡ page.now)) }
+    ensures long { IfSome result (λ _. length page.now ≡ 64) }
     ensures none { IfNone result (is_closed ≡ true → length page.now ≡ 64 → ⊥) }
 {
     if !is_closed || page.len() != BIT_BYTES {

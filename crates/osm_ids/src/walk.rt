@@ -1,6 +1,6 @@
 //! The ids of pages, one after the other.
 
-ghost use Rattle.std.specs.Prelude.{◌≡◌, ◌+◌, ◌-◌, ◌<◌, ◌≤◌, ◌++◌, ◌∷◌, ◌<ℤ◌, drop, length, List, ℕ, ℤ, [], Some, None, FitsSigned, IsSomeAnd};
+ghost use Rattle.std.specs.Prelude.{◌≡◌, ◌+◌, ◌-◌, ◌<◌, ◌≤◌, ◌++◌, ◌∷◌, ◌<ℤ◌, drop, length, get_or, List, ℕ, ℤ, [], Some, None, FitsSigned, IsSomeAnd};
 ghost use Rattle.std.specs.Int.{w64};
 ghost use Rattle.std.specs.Iterator.{YieldsFirst};
 ghost use Rattle.std.specs.FinSet as set;
@@ -108,10 +108,7 @@ fn walk_from<'a>(start: PageStart, starts: &'a [PageStart], bytes: &'a [u8]) -> 
     ensures same { result ≡ ids_in (start ∷ starts.now) bytes.now }
     ensures rising { IsRising result }
 {
-    let end = match starts.first() {
-        Some(next) => next.place,
-        None => bytes.len(),
-    };
+    let end = end_before(starts, bytes);
     let here = InPage {
         first: start.first,
         page: part(bytes, start.place, end),
@@ -123,6 +120,19 @@ fn walk_from<'a>(start: PageStart, starts: &'a [PageStart], bytes: &'a [u8]) -> 
         here,
         starts,
         bytes,
+    }
+}
+
+/// Where the bytes of the page before these end.
+fn end_before(starts: &[PageStart], bytes: &[u8]) -> usize
+    ensures some { (next : PageStart) → 0 < length starts.now
+        → next ≡ get_or starts.now 0 next → result ≡ next.place }
+    ensures none { length starts.now ≡ 0 → result ≡ length bytes.now }
+{
+    if starts.is_empty() {
+        bytes.len()
+    } else {
+        starts[0].place
     }
 }
 
@@ -154,7 +164,9 @@ fn id_of_bit_after(first: i64, bits: &[u8; 64], bit: usize) -> Option<(i64, usiz
     if next == BITS {
         return None;
     }
-    let id = first.checked_add_unsigned(next as u64)?;
+    let Some(id) = first.checked_add_unsigned(next as u64) else {
+        return None;
+    };
     Some((id, next))
 }
 
