@@ -314,9 +314,9 @@ fn known_in_bits(index: &[PageStart], begun: usize, bits: &[u8; 64], id: i64) ->
     if let Some(known) = known_whole(index, begun) {
         return known;
     }
-    let first = index[begun - 1].first;
-    let run = run_round(bits, id.abs_diff(first));
-    known_run(first, index[begun].first, run)
+    let start = index[begun - 1];
+    let run = run_round(bits, id.abs_diff(start.first));
+    known_run(start.first, index[begun].first, run)
 }
 
 /// The ids whose bits are alike, as far as they come before the next page's first.
