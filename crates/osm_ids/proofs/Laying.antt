@@ -6,7 +6,7 @@ use Rattle.std.specs.Cmp.{int_cmp_total}
 use Rattle.std.specs.FinSet as set
 use Rattle.std.proofs.lemmas.Bool.Decides.{Decides-int_eq}
 use Rattle.std.proofs.lemmas.Int.{ints}
-use Rattle.std.proofs.lemmas.Bool.{lt-ltb, le-ltb, cases_lt}
+use Rattle.std.proofs.lemmas.Bool.{lt-ltb, le-ltb, cases_lt, or_right}
 use Rattle.std.proofs.lemmas.Grind.{flat_map-append}
 use Rattle.std.proofs.lemmas.List.{append-nil, get_or_default}
 use Rattle.std.proofs.Math.Seq.{drop-append_seam, take-append_seam}
@@ -31,11 +31,7 @@ EndsWith (id ∷ ids) last = last_of id ids ≡ last
 
 last_among : (low : ℤ) (ids : List ℤ) → list_any (int_eq (last_of low ids)) (low ∷ ids) ≡ true
 last_among low [] = rw (Decides-int_eq low low).1 refl
-last_among low (id ∷ ids) = or_true (int_eq (last_of id ids) low) (list_any (int_eq (last_of id ids)) (id ∷ ids)) (last_among id ids)
-  where
-    or_true : (a b : Bool) → b ≡ true → (a || b) ≡ true
-    or_true true b e = refl
-    or_true false b e = e
+last_among low (id ∷ ids) = or_right (int_eq (last_of id ids) low) (list_any (int_eq (last_of id ids)) (id ∷ ids)) (last_among id ids)
 
 between : (a b : ℤ) → a ≤ℤ b → b ≤ℤ a → a ≡ b
 between a b h k = omega (arith, ints)
