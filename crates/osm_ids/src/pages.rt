@@ -11,7 +11,7 @@ use pbf_wire::put_varint;
 use std::alloc::{AllocError, Global};
 use std::marker::Model;
 
-/// Where a page begins: its first id, and the place of its other ids' bytes.
+/// Where a page begins: its first id, and the place of its bytes.
 #[derive(Clone, Copy)]
 pub(crate) struct PageStart {
     pub(crate) first: i64,
@@ -19,8 +19,9 @@ pub(crate) struct PageStart {
 }
 
 /// A set of ids that no longer grows: the ids in rising order, in pages of 128, the last of at most as many. The index holds
-/// each page's first id; each other id is the shortest varint of its difference to the one before, all pages in one `Vec`.
-/// Contracts see it as a finite set of numbers.
+/// each page's first id. A page that another one follows is 512 bits, if its last id is less than 512 above its first: one for each
+/// id from the first on. In any other page each id but the first is the shortest varint of its difference to the one before. All
+/// pages lie in one `Vec`. Contracts see it as a finite set of numbers.
 #[derive(Drop)]
 pub struct SealedIds {
     pub(crate) index: Vec<PageStart>,
@@ -60,8 +61,8 @@ impl SealedIds {
         }
     }
 
-    /// Appends an id: it begins a page if the last page is full. `last` is the greatest of the others. An
-    /// `Err` leaves the ids as they were.
+    /// Appends an id: it begins a page if the last page is full, which is then held as bits if it can be. `last` is the greatest
+    /// of the others. An `Err` leaves the ids as they were.
     pub(crate) fn lay(&mut self, last: i64, id: i64) -> Result<(), AllocError>
         requires greatest { IsGreatest self.old last }
         requires above { IsAbove self.old id }
