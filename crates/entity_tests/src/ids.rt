@@ -77,13 +77,13 @@ fn ids_of_known_sizes(rt: HostRuntime) -> Result<(), AllocError> {
     Ok(())
 }
 
-/// Whether 1 to 129 lie in two pages of 127 bytes.
+/// Whether 1 to 129 lie in two pages of 64 bytes: the first is held as bits.
 fn up_to_129_lie_in_two_pages(alloc: Global) -> Result<bool, AllocError> {
     let mut ids = Vec::new(alloc);
     for id in 1..130i64 {
         ids.push(id)?;
     }
-    lies_in(alloc, &ids, 2, 127)
+    lies_in(alloc, &ids, 2, 64)
 }
 
 #[test]
@@ -305,10 +305,10 @@ fn each_second_late(alloc: Global) -> Result<Vec<i64>, AllocError> {
     Ok(ids)
 }
 
-/// Whether a set of these ids has them, in three pages of 297 bytes.
+/// Whether a set of these ids has them, in three pages of 171 bytes: two of 64, held as bits, and one of 43.
 fn lies_in_three_pages(alloc: Global, ids: &[i64]) -> Result<bool, AllocError> {
     let set = sealed(gathered(alloc, ids)?)?;
-    Ok(sizes(&set) == (300, 3, 297) && has_all(&set, ids))
+    Ok(sizes(&set) == (300, 3, 171) && has_all(&set, ids))
 }
 
 /// 300 ids lie in as many bytes whether every second one came out of order or none.

@@ -1,3 +1,8 @@
+pub mod BitLemmas
+pub mod BitPages
+pub mod Closed
+pub mod Marked
+pub mod Filling
 pub mod Sets
 pub mod Gaps
 pub mod Rising

@@ -5,7 +5,7 @@ use Rattle.std.specs.Ordering.{int_eq, int_cmp}
 use Rattle.std.specs.Cmp.{int_cmp_total}
 use Rattle.std.specs.BTreeSet.{insert_key}
 use Rattle.std.specs.FinSet as set
-use Rattle.std.proofs.lemmas.Bool.{false_from_ne_true}
+use Rattle.std.proofs.lemmas.Bool.{false_from_ne_true, or_right}
 use Rattle.std.proofs.lemmas.Bool.Decides.{Decides-int_eq}
 use Rattle.std.proofs.lemmas.Int.{ints}
 use Rattle.osm_ids.specs.Order.{IsAbove, IsGreatest, IsReached, AreLate}
@@ -53,10 +53,6 @@ above_apart ids id up = false_from_ne_true (set.contains ids id) (λ e. let belo
 or_false : (a b : Bool) → a ≡ false → b ≡ false → (a || b) ≡ false
 or_false a b e f = rw e f
 
-pub or_true : (a b : Bool) → b ≡ true → (a || b) ≡ true
-or_true true b e = refl
-or_true false b e = e
-
 -- an id below the greatest is not above all
 late_below : (ids : Ids) (late : List ℤ) (id x : ℤ) → AreLate ids late → IsAbove ids id → list_any (int_eq x) late ≡ true → x <ℤ id
 late_below ids late id x l up e = let reached = (l x e).1 in let below = up reached.0 reached.1 in let low = reached.2 in omega (arith, ints)
@@ -66,7 +62,7 @@ late_lay ids late id l up x e =
     let below = late_below ids late id x l up e in
     let reached = (l x e).1 in (
       set.contains-insert int_cmp_total ids id x ∙ or_false (int_eq x id) (set.contains ids x) (other x id (λ same. omega (arith, ints))) (l x e).0,
-      (reached.0, set.contains-insert int_cmp_total ids id reached.0 ∙ or_true (int_eq reached.0 id) (set.contains ids reached.0) reached.1, reached.2),
+      (reached.0, set.contains-insert int_cmp_total ids id reached.0 ∙ or_right (int_eq reached.0 id) (set.contains ids reached.0) reached.1, reached.2),
     )
 
 pub late_insert : (ids : Ids) (late : List ℤ) (id : ℤ) → AreLate ids late → set.contains ids id ≡ false → IsReached ids id → AreLate ids (insert_key int_cmp late id)

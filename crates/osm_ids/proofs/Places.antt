@@ -5,37 +5,38 @@ use Rattle.std.proofs.lemmas.List.{get_or_default}
 use Rattle.osm_ids.specs.declared.pages.PageStart.{PageStart}
 use Rattle.osm_ids.specs.declared.lookup.Known.{Known}
 use Rattle.osm_ids.specs.declared.lookup.Place.{Place}
-use Rattle.osm_ids.specs.Cursors.{IsPassedAt, IsPlace, Stands, AreKnown, IsKnown}
+use Rattle.osm_ids.specs.declared.page.Cursor.{Cursor}
+use Rattle.osm_ids.specs.Cursors.{IsPassedAt, HoldsBefore, IsAsBits, IsPlace, Stands, AreKnown, IsKnown}
 use Rattle.osm_ids.specs.Pages.{Page, IsSealed, ids_in}
 use Rattle.osm_ids.proofs.Sets.{Ids, ids_of, contains-ids_of}
 use Rattle.osm_ids.proofs.Reading.{cursor, IsAhead}
-use Rattle.osm_ids.proofs.Found.{ReadsFrom, reads_first, reads_still}
+use Rattle.osm_ids.proofs.Found.{stands, ReadsFrom, reads_first, reads_still}
 
 -- the place that is read on when an id is looked up
 pub record IsChosen (index : List PageStart) (bytes : List ℕ) (begun : ℕ) (place : Place) (id : ℤ) : Type 0 where
-  pub held : IsPlace index bytes place
+  pub within : place.cursor.at ≤ length place.page.now
   pub same : place.begun ≡ begun
   pub reads : ReadsFrom index bytes begun place.page.now place.cursor id
 
 -- a page's first id
-pub chosen_first : (index : List PageStart) (bytes : List ℕ) (begun : ℕ) (place : Place) (id : ℤ) → 0 < begun → begun ≤ length index → IsPassedAt index id begun → place.begun ≡ begun → IsPlace index bytes place → ((start : PageStart) → start ≡ get_or index (begun - 1) start → place.cursor ≡ cursor start.first start.first 0) → IsChosen index bytes begun place id
-chosen_first index bytes begun place id some le point same held first =
+pub chosen_first : (index : List PageStart) (bytes held : List ℕ) (begun : ℕ) (place : Place) (id : ℤ) → 0 < begun → begun ≤ length index → IsPassedAt index id begun → place.begun ≡ begun → place.page.now ≡ held → HoldsBefore index bytes begun held → (IsAsBits index begun held → ⊥) → ((start : PageStart) → start ≡ get_or index (begun - 1) start → place.cursor ≡ cursor start.first start.first 0) → IsChosen index bytes begun place id
+chosen_first index bytes held begun place id some le point same e there none first =
     let start : PageStart = get_or index (begun - 1) (record { first = pos 0; place = 0 }) in
-    let is : start ≡ get_or index (begun - 1) start = get_or_default index (begun - 1) _ start (omega arith) in
-    let stood = subst (λ n. Stands index bytes n place.page.now place.cursor) same (held.stands (omega (arith, same, some))) in
+    let is : start ≡ get_or index (begun - 1) start = get_or_default index (begun - 1) _ start (omega (arith, some, le)) in
     let begins = first start is in
+    let stood = stands index bytes begun start.first held (there start is) none in
     record {
-      held = held;
+      within = omega (arith, ap (λ (c : Cursor). c.at) begins);
       same = same;
-      reads = reads_first index bytes begun place.page.now place.cursor id start some le point is (subst (λ c. Stands index bytes begun place.page.now c) begins stood) begins;
+      reads = reads_first index bytes begun place.page.now place.cursor id start some le point is (subst (λ (p : List ℕ). Stands index bytes begun p (cursor start.first start.first 0)) (sym e) stood) begins;
     }
 
 -- or where the look-up is
-pub chosen_still : (index : List PageStart) (bytes : List ℕ) (begun : ℕ) (place : Place) (id seen : ℤ) → begun ≡ place.begun → seen ≡ id → 0 < begun → IsPlace index bytes place → IsAhead place.cursor.passed place.cursor.last seen → IsChosen index bytes begun place id
-chosen_still index bytes begun place id seen same e some held ahead = record {
-  held = held;
+pub chosen_still : (index : List PageStart) (bytes : List ℕ) (begun : ℕ) (place : Place) (id seen : ℤ) → begun ≡ place.begun → seen ≡ id → IsPlace index bytes place → place.cursor.at < length place.page.now → IsAhead place.cursor.passed place.cursor.last seen → IsChosen index bytes begun place id
+chosen_still index bytes begun place id seen same e held more ahead = record {
+  within = held.within;
   same = sym same;
-  reads = reads_still index bytes begun place.begun place.page.now place.page.now place.cursor place.cursor id seen same refl refl e some held.stands ahead;
+  reads = reads_still index bytes begun place.begun place.page.now place.page.now place.cursor place.cursor id seen same refl refl e (held.stands more) ahead;
 }
 
 -- what is known of a set is known of the ids that it stands for, by whatever names

@@ -5,6 +5,7 @@ use Rattle.std.specs.List.{list_any}
 use Rattle.std.specs.Ordering.{int_eq, int_cmp}
 use Rattle.std.specs.Cmp.{int_cmp_total}
 use Rattle.std.specs.FinSet as set
+use Rattle.std.proofs.lemmas.Bool.{or_right}
 use Rattle.std.proofs.lemmas.Bool.Decides.{Decides-int_eq}
 use Rattle.std.proofs.lemmas.Int.{ints, int_min_is}
 use Rattle.osm_ids.specs.declared.lookup.Known.{Known}
@@ -12,7 +13,7 @@ use Rattle.osm_ids.specs.Cursors.{IsKnown, IsKnownBelow}
 use Rattle.osm_ids.specs.Order.{IsAbove, IsGreatest, IsReached, AreLate}
 use Rattle.osm_ids.proofs.Sets.{Ids}
 use Rattle.osm_ids.proofs.Rising.{other}
-use Rattle.osm_ids.proofs.OrderLemmas.{with_late, contains-with_late, known_laid, or_true}
+use Rattle.osm_ids.proofs.OrderLemmas.{with_late, contains-with_late, known_laid}
 
 -- what is true of all sets says nothing of a number
 pub nothing_below : (ids : Ids) (known : Known) → ((s : Ids) → IsKnown s known) → IsKnownBelow ids known
@@ -29,7 +30,7 @@ known_insert ids id known up h x above below =
     let high = up reached.0 reached.1 in
     let low = reached.2 in (
       set.contains-insert int_cmp_total ids id x ∙ ap (λ b. b || set.contains ids x) (other x id (λ same. omega (arith, ints))) ∙ old.0,
-      (reached.0, set.contains-insert int_cmp_total ids id reached.0 ∙ or_true (int_eq reached.0 id) (set.contains ids reached.0) reached.1, reached.2),
+      (reached.0, set.contains-insert int_cmp_total ids id reached.0 ∙ or_right (int_eq reached.0 id) (set.contains ids reached.0) reached.1, reached.2),
     )
 
 -- of what a look-up learnt, the part below the greatest id

@@ -12,7 +12,7 @@ use Rattle.std.proofs.lemmas.Int.{ints}
 use Rattle.std.proofs.lemmas.Map.Keys.{sorted_head, sorted_tail}
 use Rattle.std.proofs.lemmas.List.Folds.{list_any-append}
 use Rattle.osm_ids.proofs.Sets.{Ids, ids_of, contains-ids_of, ids_of-insert_key}
-use Rattle.osm_ids.specs.Pages.{Rises, IsRising}
+use Rattle.osm_ids.specs.Pages.{Rises, IsRising, last_of}
 
 pub other : (a b : ℤ) → (a ≡ b → ⊥) → int_eq a b ≡ false
 other a b ne = false_from_ne_true (int_eq a b) (λ e. ne ((Decides-int_eq a b).0 e))
@@ -79,6 +79,23 @@ len-rising (x ∷ ids) h =
 pub or_none : (b : Bool) → (b || false) ≡ b
 or_none true = refl
 or_none false = refl
+
+-- ---- the last of rising ids
+
+pub low_last : (low : ℤ) (ids : List ℤ) → Rises low ids → low ≤ℤ last_of low ids
+low_last low [] h = omega (arith, ints)
+low_last low (id ∷ ids) h = let next = low_last id ids h.1 in let first = h.0 in omega (arith, ints)
+
+pub all_last : (low : ℤ) (ids : List ℤ) (x : ℤ) → Rises low ids → list_any (int_eq x) (low ∷ ids) ≡ true → x ≤ℤ last_of low ids
+all_last low [] x h e = let same : x ≡ low = (Decides-int_eq x low).0 (sym (or_none (int_eq x low)) ∙ e) in omega (arith, ints)
+all_last low (id ∷ ids) x h e =
+    let later = λ (among : list_any (int_eq x) (id ∷ ids) ≡ true). all_last id ids x h.1 among in
+    elim (int_eq x low) as (λ b. int_eq x low ≡ b → (b || list_any (int_eq x) (id ∷ ids)) ≡ true → x ≤ℤ last_of id ids) [
+      | true ↦ λ is _. let same : x ≡ low = (Decides-int_eq x low).0 is in let up = low_last id ids h.1 in let first = h.0 in omega (arith, ints)
+      | false ↦ λ _ among. later among
+    ] refl e
+
+-- ---- where an id can be
 
 -- one of the parts has it, if the others do not
 pub any_in_middle : (xs ys zs : List ℤ) (id : ℤ) → list_any (int_eq id) xs ≡ false → list_any (int_eq id) zs ≡ false → list_any (int_eq id) (xs ++ (ys ++ zs)) ≡ list_any (int_eq id) ys

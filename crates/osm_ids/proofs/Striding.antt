@@ -9,6 +9,7 @@ use Rattle.std.proofs.lemmas.Int.{ints, to_z-of_z}
 use Rattle.std.proofs.lemmas.List.{drop-drop, length-drop, length-map, map-id}
 use Rattle.std.proofs.Math.Seq.{take-nil}
 use Rattle.pbf_wire.specs.Varint.{shortest}
+use Rattle.pbf_wire.proofs.RisingRuns.{wide_sum}
 use Rattle.pbf_wire.proofs.Shortest.{one_byte}
 use Rattle.std.proofs.lemmas.Bool.{ltb-true, and_parts, cases_lt, lt-ltb, le-ltb}
 use Rattle.std.proofs.lemmas.Bool.Decides.{nat_tests}
@@ -40,13 +41,6 @@ sum_is xs = omega (arith, fold_is 0 xs)
 
 sum_cons : (x : ℕ) (xs : List ℕ) → sum (x ∷ xs) ≡ x + sum xs
 sum_cons x xs = sym (sum_is (x ∷ xs)) ∙ ap (λ n. x + n) (sum_is xs)
-
-pub wide_sum : (xs : List ℕ) → fold_l (λ s x. s + x) 0 (map (λ x. x) xs) ≡ sum xs
-wide_sum xs = omega (arith, fold-sum 0 (map (λ x. x) xs), ap sum_l (map-id xs), sum_is xs)
-
--- the top bits of the lanes
-pub mask_told : (xs : List ℕ) → length xs ≡ 16 → mask_l (map (top (hbits w8)) (zip2 (λ a b. cond (leb a b) (2 ^ bits w8 - 1) 0) (replicate 16 128) xs)) % 2 ^ 64 ≡ mask_l (map (λ b. leb 128 b) xs)
-mask_told xs long = ap (λ ms. mask_l ms % 2 ^ 64) (tops_compared w8 leb (replicate 16 128) xs ∙ zip2_splat_left leb 128 16 xs long) ∙ mask_l-mod (map (λ b. leb 128 b) xs) 64 (omega (arith, long, length-map xs (λ b. leb 128 b)))
 
 not_long : (b : ℕ) → not (leb 128 b) ≡ is_short b
 not_long b = grind (arith, nat_tests)
@@ -123,7 +117,7 @@ moved last by n f g is h =
     ∙ ap (λ z. to_z w64 (of_z w64 (last +ℤ z))) (to_z-of_z w64 by g ∙ is)
     ∙ to_z-of_z w64 (last +ℤ pos n) h
 
-fits_between : (low z high : ℤ) → SFits w64 low → SFits w64 high → low ≤ℤ z → z ≤ℤ high → SFits w64 z
+pub fits_between : (low z high : ℤ) → SFits w64 low → SFits w64 high → low ≤ℤ z → z ≤ℤ high → SFits w64 z
 fits_between low (pos n) high f g le ge = record { sfits = omega (arith, ints, g.sfits, ge) }
 fits_between low (negsuc n) high f g le ge = record { sfits = omega (arith, ints, f.sfits, le) }
 

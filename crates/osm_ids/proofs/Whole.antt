@@ -2,18 +2,15 @@
 use Rattle.std.proofs.Common.{◌≡◌, ℕ, suc, ◌-◌, nat_abs, ◌-ℤ◌, ◌<◌, true, false, List, [], ◌∷◌, ◌++◌, ◌||◌, length, get_or, ℤ, pos, ◌+ℤ◌, ◌<ℤ◌, ◌≤ℤ◌, inl, inr, refl, sym, ap, subst, ◌∙◌, arith, Bool}
 use Rattle.std.specs.List.{list_any}
 use Rattle.std.specs.Ordering.{int_eq}
+use Rattle.std.proofs.lemmas.Bool.{or_right}
 use Rattle.std.proofs.lemmas.Int.{ints}
 use Rattle.std.proofs.lemmas.Grind.{flat_map-append}
 use Rattle.std.proofs.lemmas.List.Folds.{list_any-append}
 use Rattle.osm_ids.specs.declared.pages.PageStart.{PageStart}
 use Rattle.osm_ids.specs.Pages.{Page, page_ids, ids_of_pages, Rises, IsRising, HasFullPages, IsSealed, ids_in}
-use Rattle.osm_ids.proofs.Found.{page_at}
+use Rattle.osm_ids.proofs.Found.{page_at, filled_at}
 use Rattle.osm_ids.proofs.Laid.{ids_in_sealed}
 use Rattle.osm_ids.proofs.Rising.{cases_order, first_among, rising_back}
-
-or_true : (b : Bool) → (b || true) ≡ true
-or_true true = refl
-or_true false = refl
 
 -- ids that rise are each one or more above the one before
 rises_far : (low : ℤ) (ids : List ℤ) (high : ℤ) (back : List ℤ) → Rises low (ids ++ high ∷ back) → (low +ℤ pos (suc (length ids))) ≤ℤ high
@@ -32,20 +29,14 @@ no_gap low (y ∷ ids) high back x h room above below =
     elim (cases_order x y) [
       | inl less ↦ absurd (omega (arith, ints, up, far, room, above, less))
       | inr more ↦ elim more [
-        | inl greater ↦ rw (no_gap y ids high back x h.1 (omega (arith, ints, up, room)) (omega (arith, ints, greater)) below) (or_true (int_eq x y))
+        | inl greater ↦ rw (no_gap y ids high back x h.1 (omega (arith, ints, up, room)) (omega (arith, ints, greater)) below) (or_right (int_eq x y) true refl)
         | inr same ↦ subst (λ z. list_any (int_eq x) (z ∷ ids) ≡ true) same (first_among x ids)
       ]
     ]
 
--- each page but the last has 128 ids
-filled_at : (before : List Page) (page later : Page) (rest : List Page) → HasFullPages (before ++ page ∷ later ∷ rest) → length page.others ≡ 127
-filled_at [] page later rest h = h.0
-filled_at (p ∷ []) page later rest h = h.1.0
-filled_at (p ∷ q ∷ before) page later rest h = filled_at (q ∷ before) page later rest h.1
-
 any_of_middle : (xs ys zs : List ℤ) (id : ℤ) → list_any (int_eq id) ys ≡ true → list_any (int_eq id) (xs ++ (ys ++ zs)) ≡ true
 any_of_middle xs ys zs id there =
-    list_any-append (int_eq id) xs (ys ++ zs) ∙ rw (list_any-append (int_eq id) ys zs, there) (or_true (list_any (int_eq id) xs))
+    list_any-append (int_eq id) xs (ys ++ zs) ∙ rw (list_any-append (int_eq id) ys zs, there) (or_right (list_any (int_eq id) xs) true refl)
 
 whole_at : (index : List PageStart) (bytes : List ℕ) (pages : List Page) (j : ℕ) (start next : PageStart) (id : ℤ) → IsSealed index bytes pages → suc j < length index → start ≡ get_or index j start → next ≡ get_or index (suc j) next → next.first ≤ℤ (start.first +ℤ pos 128) → start.first ≤ℤ id → id <ℤ next.first → list_any (int_eq id) (ids_in index bytes) ≡ true
 whole_at index bytes pages j start next id sealed lt is follows room low high =
@@ -66,7 +57,7 @@ whole_at index bytes pages j start next id sealed lt is follows room low high =
           let there : list_any (int_eq id) (page_ids page) ≡ true = elim (cases_order id page.first) [
             | inl below ↦ absurd (omega (arith, ints, below, low, first))
             | inr up ↦ elim up [
-              | inl above ↦ rw (no_gap page.first page.others later.first back id rises (omega (arith, ints, room, first, second, full)) above (omega (arith, ints, high, second))) (or_true (int_eq id page.first))
+              | inl above ↦ rw (no_gap page.first page.others later.first back id rises (omega (arith, ints, room, first, second, full)) above (omega (arith, ints, high, second))) (or_right (int_eq id page.first) true refl)
               | inr same ↦ subst (λ z. list_any (int_eq id) (z ∷ page.others) ≡ true) same (first_among id page.others)
             ]
           ] in

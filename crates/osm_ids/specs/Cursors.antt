@@ -1,5 +1,5 @@
 -- How far a page is read, and which ids can be looked up from there.
-use Rattle.std.specs.Prelude.{◌≡◌, ℕ, ◌⊎◌, ◌<◌, ◌≤◌, List, ◌∷◌, length, drop, get_or, ℤ, ◌<ℤ◌, ◌≤ℤ◌, int_le, nat_lt, Bool, true, false}
+use Rattle.std.specs.Prelude.{◌≡◌, ℕ, ◌⊎◌, ◌<◌, ◌≤◌, List, ◌∷◌, length, drop, get_or, ◌-◌, ℤ, ◌<ℤ◌, ◌≤ℤ◌, int_le, nat_lt, Bool, true, false}
 use Rattle.std.specs.List.{list_any}
 use Rattle.std.specs.List.Sorted.{IsPartitionPoint, IsPartitionedBy}
 use Rattle.std.specs.Ordering.{int_eq, int_cmp}
@@ -11,14 +11,14 @@ use Rattle.osm_ids.specs.declared.lookup.Place.{Place}
 use Rattle.osm_ids.specs.declared.page.Cursor.{Cursor}
 use Rattle.osm_ids.specs.declared.pages.PageStart.{PageStart}
 use Rattle.osm_ids.specs.Order.{IsReached}
-use Rattle.osm_ids.specs.Pages.{Page, page_bytes, Rises, AllFit, IsSealed, ids_in}
+use Rattle.osm_ids.specs.Pages.{Page, gap_bytes, closed_bytes, Rises, AllFit, IsSealed, ids_in}
 
 -- `passed` is among the ids, and of them each one above it, or at or above `last`, is `last` or one of those that the bytes from here on spell
 pub record IsAt (ids : List ℤ) (page : List ℕ) (cursor : Cursor) : Type 0 where
   pub rest : List ℤ
   pub rises : Rises cursor.last rest
   pub fits : AllFit (cursor.last ∷ rest)
-  pub left : drop cursor.at page ≡ page_bytes (record { first = cursor.last; others = rest })
+  pub left : drop cursor.at page ≡ gap_bytes (record { first = cursor.last; others = rest })
   pub behind : list_any (int_eq cursor.passed) ids ≡ true
   pub answer : (id : ℤ) → (cursor.passed <ℤ id) ⊎ (cursor.last ≤ℤ id) → list_any (int_eq id) (cursor.last ∷ rest) ≡ list_any (int_eq id) ids
 
@@ -44,6 +44,27 @@ IsPassedAt index id n = IsPartitionPoint (λ (s : PageStart). int_le s.first id 
 pub record CountsPassed (starts : List PageStart) (id : ℤ) (n : ℕ) : Type 0 where
   pub within : n ≤ length starts
   pub point : IsPartitionedBy (λ (s : PageStart). int_le s.first id) starts → IsPassedAt starts id n
+
+-- the bytes of the last of so many pages of an index: gaps, if it is the last of all
+abbrev pub HasForm : List PageStart → ℕ → Page → List ℕ → Type 0
+HasForm index begun page bytes = ((length index ≤ begun) × (bytes ≡ gap_bytes page)) ⊎ ((begun < length index) × (length page.others ≡ 127) × (bytes ≡ closed_bytes page))
+
+-- these bytes are that page: its ids belong there, and each id that does is looked up among them
+pub record HoldsPage (index : List PageStart) (bytes : List ℕ) (begun : ℕ) (first : ℤ) (held : List ℕ) : Type 0 where
+  pub others : List ℤ
+  pub rises : Rises first others
+  pub fits : AllFit (first ∷ others)
+  pub form : HasForm index begun (record { first = first; others = others }) held
+  pub inside : (id : ℤ) → list_any (int_eq id) (first ∷ others) ≡ true → IsPassedAt index id begun
+  pub answer : (id : ℤ) → IsPassedAt index id begun → list_any (int_eq id) (first ∷ others) ≡ list_any (int_eq id) (ids_in index bytes)
+
+-- of whatever start stands before a place of the index, this is its page
+abbrev pub HoldsBefore : List PageStart → List ℕ → ℕ → List ℕ → Type 0
+HoldsBefore index bytes begun held = (start : PageStart) → start ≡ get_or index (begun - 1) start → HoldsPage index bytes begun start.first held
+
+-- a page of that many bytes is held as bits, if another one follows
+abbrev pub IsAsBits : List PageStart → ℕ → List ℕ → Type 0
+IsAsBits index begun held = (begun < length index) × (length held ≡ 64)
 
 -- enough is read to know whether the page has the id
 abbrev pub IsReadTo : List ℕ → Cursor → ℤ → Type 0
@@ -72,12 +93,11 @@ IsKnownBelow ids known = (id : ℤ) → known.span.above <ℤ id → id <ℤ kno
 abbrev pub Lacks : set.FinSet int_cmp → Span → Type 0
 Lacks ids span = (id : ℤ) → is_in span id ≡ true → set.contains ids id ≡ false
 
--- a page can be read on from here, if any is begun, and the ids round the last one are known
+-- a page can be read on from here, if it isn't at its end, and the ids round the last one are known
 pub record IsPlace (index : List PageStart) (bytes : List ℕ) (place : Place) : Type 0 where
   pub within : place.cursor.at ≤ length place.page.now
-  pub stands : 0 < place.begun → Stands index bytes place.begun place.page.now place.cursor
+  pub stands : place.cursor.at < length place.page.now → Stands index bytes place.begun place.page.now place.cursor
   pub known : AreKnown index bytes place.known
-  pub some : place.cursor.at < length place.page.now → 0 < place.begun
 
 -- no page from this one on begins below a number
 abbrev pub BeginFrom : List PageStart → ℕ → ℤ → Type 0

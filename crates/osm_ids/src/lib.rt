@@ -3,6 +3,7 @@
 #![tactic(auto)]
 
 pub mod laws;
+mod bits;
 mod links;
 mod lookup;
 mod merge;

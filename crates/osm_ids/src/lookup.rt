@@ -1,15 +1,17 @@
 //! Look-ups of ids that lie close together.
 
-ghost use Rattle.std.specs.Prelude.{◌≡◌, ◌-◌, ◌<◌, ◌≤◌, ◌<ℤ◌, ◌≤ℤ◌, ◌⊎◌, IfSome, IsTrue, take, drop, length, get_or, int_le, List, ℕ, ℤ, true};
+ghost use Rattle.std.specs.Prelude.{◌≡◌, ◌-◌, ◌<◌, ◌≤◌, ◌<ℤ◌, ◌≤ℤ◌, ◌+ℤ◌, pos, FitsSigned, ◌⊎◌, IfSome, IfNone, IsTrue, take, drop, length, get_or, int_le, List, ℕ, ℤ, true};
+ghost use Rattle.std.specs.Int.{w64};
 ghost use Rattle.std.specs.List.{list_any};
 ghost use Rattle.std.specs.List.Sorted.{IsPartitionedBy};
 ghost use Rattle.std.specs.Ordering.{int_eq};
 ghost use Rattle.std.specs.FinSet as set;
 ghost use Rattle.osm_ids.specs.Pages.{Page, IsSealed, ids_in};
-ghost use Rattle.osm_ids.specs.Cursors.{IsAt, IsPassedAt, IsReadTo, IsPlace, IsBegun, BegunIn, CountsPassed, Stands, AreKnown, IsKnown, Lacks, BeginFrom};
+ghost use Rattle.osm_ids.specs.Cursors.{IsAt, IsPassedAt, IsReadTo, IsPlace, IsBegun, BegunIn, HoldsBefore, CountsPassed, Stands, AreKnown, IsKnown, Lacks, BeginFrom};
 ghost use Rattle.osm_ids.specs.Looking.{LooksUp};
 ghost use Rattle.std.specs.Ordering.{int_cmp};
 
+use crate::bits::{Run, as_bits, run_round};
 use crate::page::{Cursor, read_up_to, short_step};
 use crate::pages::{PAGE, PageStart, SealedIds};
 use pbf_wire::{EMPTY_SPAN, Span};
@@ -27,6 +29,13 @@ pub struct Known {
 const NOTHING: Known = Known {
     span: EMPTY_SPAN,
     there: false,
+};
+
+/// Where no page is read.
+const NOWHERE: Cursor = Cursor {
+    passed: 0,
+    last: 0,
+    at: 0,
 };
 
 impl Known {
@@ -106,11 +115,7 @@ impl SealedIds {
             known,
             begun: 0,
             page: &[],
-            cursor: Cursor {
-                passed: 0,
-                last: 0,
-                at: 0,
-            },
+            cursor: NOWHERE,
         };
         Lookup {
             index: &self.index,
@@ -169,15 +174,22 @@ impl<'a> Lookup<'a> {
             self.here.known = known_first(self.index);
             return false;
         }
-        let place = if begun == self.here.begun && is_ahead(self.here.cursor, id) {
+        let page = page_before(self.index, self.bytes, begun);
+        if let Some(bits) = as_bits(page, begun < self.index.len()) {
+            let known = known_in_bits(self.index, begun, bits, id);
+            self.here = Place {
+                known,
+                begun,
+                page: &[],
+                cursor: NOWHERE,
+            };
+            return known.there;
+        }
+        let place = if begun == self.here.begun && is_ahead(&self.here, id) {
             self.here
         } else {
-            first_place(self.index, self.bytes, begun)
+            first_place(self.index, page, begun)
         };
-        if let Some(known) = known_whole(self.index, begun) {
-            self.here = Place { known, ..place };
-            return true;
-        }
         let cursor = read_up_to(place.page, place.cursor, id);
         let known = known_near(self.index, begun, cursor, id);
         self.here = Place {
@@ -275,7 +287,7 @@ fn known_whole(index: &[PageStart], begun: usize) -> Option<Known>
         → IfSome result (λ known. AreKnown index.now bytes known) }
     ensures there { (bytes : List ℕ) (pages : List Page) (id : ℤ)
         → IsSealed index.now bytes pages → IsPassedAt index.now id begun
-        → IfSome result (λ _. list_any (int_eq id) (ids_in index.now bytes) ≡ true) }
+        → IfSome result (λ known. list_any (int_eq id) (ids_in index.now bytes) ≡ known.there) }
 {
     let next = index.get(begun)?;
     let first = index[begun - 1].first;
@@ -287,6 +299,45 @@ fn known_whole(index: &[PageStart], begun: usize) -> Option<Known>
         below: next.first,
     };
     Some(Known { span, there: true })
+}
+
+/// What the bits of a page say of the ids round one of those that belong there.
+fn known_in_bits(index: &[PageStart], begun: usize, bits: &[u8; 64], id: i64) -> Known
+    requires begins { (0 < begun) × (begun < length index.now) }
+    requires passed { IsPassedAt index.now id begun }
+    ensures known { (bytes : List ℕ) (pages : List Page) → IsSealed index.now bytes pages
+        → HoldsBefore index.now bytes begun bits.now → AreKnown index.now bytes result }
+    ensures there { (bytes : List ℕ) (pages : List Page) → IsSealed index.now bytes pages
+        → HoldsBefore index.now bytes begun bits.now
+        → list_any (int_eq id) (ids_in index.now bytes) ≡ result.there }
+{
+    if let Some(known) = known_whole(index, begun) {
+        return known;
+    }
+    let start = index[begun - 1];
+    let run = run_round(bits, id.abs_diff(start.first));
+    known_run(start.first, index[begun].first, run)
+}
+
+/// The ids whose bits are alike, as far as they come before the next page's first.
+fn known_run(first: i64, next: i64, run: Run) -> Known
+    requires { first <ℤ next }
+    ensures above { FitsSigned w64 (first +ℤ pos (run.from - 1))
+        → result.span.above ≡ first +ℤ pos (run.from - 1) }
+    ensures end { result.span.below ≤ℤ (first +ℤ pos run.to) }
+    ensures next { result.span.below ≤ℤ next }
+    ensures there { result.there ≡ run.is_set }
+{
+    let room = next.abs_diff(first);
+    let span = Span {
+        // Neither wraps: the first is below an id, and the other at most the next page's first.
+        above: first.wrapping_add_unsigned(run.from.saturating_sub(1)),
+        below: first.wrapping_add_unsigned(run.to.min(room)),
+    };
+    Known {
+        span,
+        there: run.is_set,
+    }
 }
 
 /// The first id of the page at a place of the index, and after the last page the greatest number.
@@ -301,10 +352,13 @@ fn first_from(index: &[PageStart], at: usize) -> i64
 }
 
 /// Whether the id can be looked up by reading on from here.
-fn is_ahead(cursor: Cursor, id: i64) -> bool
-    ensures { IsTrue result → (cursor.passed <ℤ id) ⊎ (cursor.last ≤ℤ id) }
+fn is_ahead(place: &Place<'_>, id: i64) -> bool
+    ensures more { IsTrue result → place.now.cursor.at < length place.now.page.now }
+    ensures ahead { IsTrue result
+        → (place.now.cursor.passed <ℤ id) ⊎ (place.now.cursor.last ≤ℤ id) }
 {
-    cursor.passed < id || cursor.last <= id
+    let cursor = place.cursor;
+    cursor.at < place.page.len() && (cursor.passed < id || cursor.last <= id)
 }
 
 /// Where a page begins to be read.
@@ -319,17 +373,18 @@ fn first_of(start: PageStart) -> Cursor
 }
 
 /// Where the page before a place of the index begins to be read.
-fn first_place<'a>(index: &[PageStart], bytes: &'a [u8], begun: usize) -> Place<'a>
-    requires { BegunIn index.now bytes.now begun }
+fn first_place<'a>(index: &[PageStart], page: &'a [u8], begun: usize) -> Place<'a>
+    requires { IsBegun index.now begun }
     ensures begun { result.begun ≡ begun }
-    ensures place { IsPlace index.now bytes.now result }
+    ensures page { result.page.now ≡ page.now }
+    ensures within { result.cursor.at ≤ length page.now }
     ensures first { (start : PageStart) → start ≡ get_or index.now (begun - 1) start
         → result.cursor ≡ record { passed = start.first; last = start.first; at = 0 } }
 {
     Place {
         known: NOTHING,
         begun,
-        page: page_before(index, bytes, begun),
+        page,
         cursor: first_of(index[begun - 1]),
     }
 }
@@ -337,9 +392,7 @@ fn first_place<'a>(index: &[PageStart], bytes: &'a [u8], begun: usize) -> Place<
 /// The bytes of the page before a place of the index.
 fn page_before<'a>(index: &[PageStart], bytes: &'a [u8], begun: usize) -> &'a [u8]
     requires { BegunIn index.now bytes.now begun }
-    ensures { (start : PageStart) → start ≡ get_or index.now (begun - 1) start
-        → Stands index.now bytes.now begun result.now
-        (record { passed = start.first; last = start.first; at = 0 }) }
+    ensures { HoldsBefore index.now bytes.now begun result.now }
 {
     let end = if begun < index.len() {
         index[begun].place
@@ -350,7 +403,7 @@ fn page_before<'a>(index: &[PageStart], bytes: &'a [u8], begun: usize) -> &'a [u
 }
 
 /// The bytes from one place to another.
-fn part(bytes: &[u8], from: usize, to: usize) -> &[u8]
+pub(crate) fn part(bytes: &[u8], from: usize, to: usize) -> &[u8]
     requires ordered { from ≤ to }
     requires within { to ≤ length bytes.now }
     ensures { result.now ≡ take (to - from) (drop from bytes.now) }

@@ -1,7 +1,8 @@
-use Rattle.std.proofs.Common.{sym, ap, inl, inr, arith, ◌-◌, ◌∙◌, take, drop}
+use Rattle.std.proofs.Common.{List, ℕ, sym, ap, subst, inl, inr, arith, ◌-◌, ◌∙◌, take, drop}
 use Rattle.std.proofs.lemmas.List.{get_or_default}
 use Rattle.osm_ids.specs.declared.pages.PageStart.{PageStart}
-use Rattle.osm_ids.proofs.Found.{EndsAt, looked_before, stands}
+use Rattle.osm_ids.specs.Cursors.{HoldsPage}
+use Rattle.osm_ids.proofs.Found.{EndsAt, looked_before}
 use Rattle.osm_ids.proofs.lookup.page_before.Goals as goal
 use Rattle.osm_ids.proofs.lookup.page_before.Goals.{then-begun-index, else-begun-index}
 
@@ -27,4 +28,5 @@ returns c = λ start is.
       | else-begun-index w ↦ inr (w.if-begun-index.false, w.end-is)
     ] in
     let there = looked_before index c.args.bytes.now _ begun start end c.requires.sealed.1 c.requires.begins.some c.requires.begins.within is ends in
-    stands index c.args.bytes.now begun start end c.part.result.now there (c.part.ensures ∙ ap (λ (s : PageStart). take (end - s.place) (drop s.place c.args.bytes.now)) (get_or_default index (begun - 1) _ start (omega (arith, c.requires.begins.some, c.requires.begins.within)) ∙ sym is))
+    let cut = c.part.ensures ∙ ap (λ (s : PageStart). take (end - s.place) (drop s.place c.args.bytes.now)) (get_or_default index (begun - 1) _ start (omega (arith, c.requires.begins.some, c.requires.begins.within)) ∙ sym is) in
+    subst (λ (p : List ℕ). HoldsPage index c.args.bytes.now begun start.first p) (sym cut) there.held

@@ -25,7 +25,7 @@ pub returns-in-Some : goal.returns-in-Some
 returns-in-Some c =
     let id = c.args.id in
     let place = c.self.invariant.1 in
-    let stood = place.stands (place.some c.in-Some.ensures.within.0) in
+    let stood = place.stands c.in-Some.ensures.within.0 in
     let same = to_z-of_z w64 id c.ranges.id in
     let there = subst (λ z. list_any (int_eq z) stood.ids ≡ true) same (c.in-Some.ensures.found stood.ids stood.reached) in
     record {
@@ -39,8 +39,7 @@ returns-in-Some c =
 pub invariant_of-self : goal.invariant_of-self
 invariant_of-self c =
     let place = c.self.invariant.1 in
-    let some = place.some c.in-Some.ensures.within.0 in
     let index = c.self.inside.index.now in
     let here = c.self.inside.here in
-    let stood = stands_on index c.self.inside.bytes.now here.begun here.page.now _ c.in-Some.cursor (place.stands some) c.in-Some.ensures.on in
-    (c.self.invariant.0, record { within = c.in-Some.ensures.within.1; stands = λ _. stood; known = place.known; some = λ _. some }, c.self.invariant.2)
+    let stood = stands_on index c.self.inside.bytes.now here.begun here.page.now _ c.in-Some.cursor (place.stands c.in-Some.ensures.within.0) c.in-Some.ensures.on in
+    (c.self.invariant.0, record { within = c.in-Some.ensures.within.1; stands = λ _. stood; known = place.known }, c.self.invariant.2)
