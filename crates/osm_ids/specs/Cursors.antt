@@ -93,6 +93,10 @@ IsKnownBelow ids known = (id : ℤ) → known.span.above <ℤ id → id <ℤ kno
 abbrev pub Lacks : set.FinSet int_cmp → Span → Type 0
 Lacks ids span = (id : ℤ) → is_in span id ≡ true → set.contains ids id ≡ false
 
+-- a set has all of these ids
+abbrev pub HasAll : set.FinSet int_cmp → Span → Type 0
+HasAll ids span = (id : ℤ) → is_in span id ≡ true → set.contains ids id ≡ true
+
 -- a page can be read on from here, if it isn't at its end, and the ids round the last one are known
 pub record IsPlace (index : List PageStart) (bytes : List ℕ) (place : Place) : Type 0 where
   pub within : place.cursor.at ≤ length place.page.now

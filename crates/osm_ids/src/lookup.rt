@@ -7,7 +7,7 @@ ghost use Rattle.std.specs.List.Sorted.{IsPartitionedBy};
 ghost use Rattle.std.specs.Ordering.{int_eq};
 ghost use Rattle.std.specs.FinSet as set;
 ghost use Rattle.osm_ids.specs.Pages.{Page, IsSealed, ids_in};
-ghost use Rattle.osm_ids.specs.Cursors.{IsAt, IsPassedAt, IsReadTo, IsPlace, IsBegun, BegunIn, HoldsBefore, CountsPassed, Stands, AreKnown, IsKnown, Lacks, BeginFrom};
+ghost use Rattle.osm_ids.specs.Cursors.{IsAt, IsPassedAt, IsReadTo, IsPlace, IsBegun, BegunIn, HoldsBefore, CountsPassed, Stands, AreKnown, IsKnown, Lacks, HasAll, BeginFrom};
 ghost use Rattle.osm_ids.specs.Looking.{LooksUp};
 ghost use Rattle.std.specs.Ordering.{int_cmp};
 
@@ -45,6 +45,14 @@ impl Known {
         ensures { (ids : set.FinSet int_cmp) → IsKnown ids self → Lacks ids result }
     {
         if self.there { EMPTY_SPAN } else { self.span }
+    }
+
+    /// The ids that the set has, as far as this says: none if it lacks them.
+    #[inline(always)]
+    fn present(self) -> Span
+        ensures { (ids : set.FinSet int_cmp) → IsKnown ids self → HasAll ids result }
+    {
+        if self.there { self.span } else { EMPTY_SPAN }
     }
 
     /// Nothing is known, of whatever set.
@@ -141,6 +149,14 @@ impl<'a> Lookup<'a> {
         ensures { Lacks self.now result }
     {
         self.known().absent()
+    }
+
+    /// Ids that the set has, all of them, as far as the last look-up showed: none if it showed nothing.
+    #[inline(always)]
+    pub fn present(&self) -> Span
+        ensures { HasAll self.now result }
+    {
+        self.known().present()
     }
 
     /// Whether the set has the id, in whatever order ids come; the set stays the same. An id that is known to be absent takes two
