@@ -1,12 +1,13 @@
 //! Look-ups of ids that lie close together.
 
-ghost use Rattle.std.specs.Prelude.{◌≡◌, ◌-◌, ◌<◌, ◌≤◌, ◌<ℤ◌, ◌≤ℤ◌, ◌+ℤ◌, pos, FitsSigned, ◌⊎◌, IfSome, IfNone, IsTrue, take, drop, length, get_or, int_le, List, ℕ, ℤ, true};
+ghost use Rattle.std.specs.Prelude.{◌≡◌, ◌-◌, ◌<◌, ◌≤◌, ◌<ℤ◌, ◌≤ℤ◌, ◌+ℤ◌, pos, FitsSigned, ◌⊎◌, IfSome, IfNone, IsTrue, take, drop, length, get_or, int_le, List, [], ℕ, ℤ, true};
 ghost use Rattle.std.specs.Int.{w64};
 ghost use Rattle.std.specs.List.{list_any};
 ghost use Rattle.std.specs.List.Sorted.{IsPartitionedBy};
 ghost use Rattle.std.specs.Ordering.{int_eq};
 ghost use Rattle.std.specs.FinSet as set;
-ghost use Rattle.osm_ids.specs.Pages.{Page, IsSealed, ids_in};
+ghost use Rattle.osm_ids.specs.Bits.{has_bit};
+ghost use Rattle.osm_ids.specs.Pages.{Page, IsSealed, gap, ids_in};
 ghost use Rattle.osm_ids.specs.Cursors.{IsAt, IsPassedAt, IsReadTo, IsPlace, IsBegun, BegunIn, HoldsBefore, CountsPassed, Stands, AreKnown, IsKnown, Lacks, BeginFrom};
 ghost use Rattle.osm_ids.specs.Looking.{LooksUp};
 ghost use Rattle.std.specs.Ordering.{int_cmp};
@@ -64,7 +65,22 @@ pub(crate) struct Place<'a> {
     pub(crate) begun: usize,
     pub(crate) page: &'a [u8],
     pub(crate) cursor: Cursor,
+    pub(crate) marks: Marks<'a>,
 }
+
+/// The bits of a page, where an id that is there is found without a call. None, if the page isn't held as bits.
+#[derive(Clone, Copy)]
+pub(crate) struct Marks<'a> {
+    /// The id of the first bit.
+    pub(crate) first: i64,
+    pub(crate) bits: &'a [u8],
+}
+
+/// No bits.
+const UNMARKED: Marks<'static> = Marks {
+    first: 0,
+    bits: &[],
+};
 
 /// Look-ups in a sealed set that remember where the last one ended, and the last one in another page: an id a little above either is
 /// found by reading on from there, one in the next page from its first id on, and only another one by a search of the index.
@@ -116,6 +132,7 @@ impl SealedIds {
             begun: 0,
             page: &[],
             cursor: NOWHERE,
+            marks: UNMARKED,
         };
         Lookup {
             index: &self.index,
@@ -156,6 +173,9 @@ impl<'a> Lookup<'a> {
             self.here.cursor = cursor;
             return true;
         }
+        if is_marked(&self.here.marks, id) {
+            return true;
+        }
         self.find(id)
     }
 
@@ -182,6 +202,10 @@ impl<'a> Lookup<'a> {
                 begun,
                 page: &[],
                 cursor: NOWHERE,
+                marks: Marks {
+                    first: self.index[begun - 1].first,
+                    bits: page,
+                },
             };
             return known.there;
         }
@@ -239,6 +263,22 @@ fn short_step_to(page: &[u8], from: Cursor, id: i64) -> Option<Cursor>
         return None;
     }
     Some(to)
+}
+
+/// Whether the id's bit is set.
+#[inline(always)]
+fn is_marked(marks: &Marks<'_>, id: i64) -> bool
+    ensures { IsTrue result → (marks.now.first ≤ℤ id)
+        × (has_bit marks.now.bits.now (gap marks.now.first id) ≡ true) }
+{
+    if id < marks.first {
+        return false;
+    }
+    let k = id.abs_diff(marks.first);
+    match marks.bits.get((k / 8) as usize) {
+        Some(byte) => (*byte >> (k % 8)) & 1 == 1,
+        None => false,
+    }
 }
 
 /// Whether the id is one of these.
@@ -378,6 +418,7 @@ fn first_place<'a>(index: &[PageStart], page: &'a [u8], begun: usize) -> Place<'
     ensures begun { result.begun ≡ begun }
     ensures page { result.page.now ≡ page.now }
     ensures within { result.cursor.at ≤ length page.now }
+    ensures unmarked { result.marks.bits.now ≡ [] }
     ensures first { (start : PageStart) → start ≡ get_or index.now (begun - 1) start
         → result.cursor ≡ record { passed = start.first; last = start.first; at = 0 } }
 {
@@ -386,6 +427,7 @@ fn first_place<'a>(index: &[PageStart], page: &'a [u8], begun: usize) -> Place<'
         begun,
         page,
         cursor: first_of(index[begun - 1]),
+        marks: UNMARKED,
     }
 }
 
