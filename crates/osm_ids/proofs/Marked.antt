@@ -1,5 +1,5 @@
 -- What the bits of a page say of ids.
-use Rattle.std.proofs.Common.{◌≡◌, ℕ, ◌-◌, ◌<◌, ◌≤◌, Bool, true, false, eqb, true≢false, ◌%◌, List, [], ◌∷◌, length, get_or, int_le, ℤ, pos, ◌+ℤ◌, ◌<ℤ◌, ◌≤ℤ◌, refl, sym, ap, subst, ◌∙◌, arith}
+use Rattle.std.proofs.Common.{◌≡◌, ℕ, ◌-◌, ◌<◌, ◌≤◌, Bool, true, false, eqb, true≢false, ◌%◌, List, [], ◌∷◌, get_or, int_le, ℤ, pos, ◌+ℤ◌, ◌<ℤ◌, ◌≤ℤ◌, sym, ap, ◌∙◌, arith}
 use Rattle.std.specs.List.{list_any}
 use Rattle.std.specs.Ordering.{int_eq}
 use Rattle.std.proofs.lemmas.Bool.{ltb-true}
@@ -9,7 +9,7 @@ use Rattle.osm_ids.specs.Bits.{has_bit}
 use Rattle.osm_ids.specs.declared.lookup.Known.{Known}
 use Rattle.osm_ids.specs.declared.pages.PageStart.{PageStart}
 use Rattle.osm_ids.specs.Cursors.{IsPassedAt, HoldsPage, IsAsBits, AreKnown}
-use Rattle.osm_ids.specs.Pages.{Page, gap, bit_bytes, IsSealed, ids_in}
+use Rattle.osm_ids.specs.Pages.{Page, gap, IsSealed, ids_in}
 use Rattle.std.proofs.lemmas.Nat.Bits.{bit_at-zero}
 use Rattle.osm_ids.proofs.BitPages.{has_id}
 use Rattle.osm_ids.proofs.Found.{true_le, lt_false, le_true, le_false, partitioned, passed_here, held_bits}

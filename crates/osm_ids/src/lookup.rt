@@ -68,7 +68,7 @@ pub(crate) struct Place<'a> {
     pub(crate) marks: Marks<'a>,
 }
 
-/// The bits of a page, where an id that is there is found without a call. None, if the page isn't held as bits.
+/// The bits of a page: an id that is there is found without a call. There are none if the page isn't held as bits.
 #[derive(Clone, Copy)]
 pub(crate) struct Marks<'a> {
     /// The id of the first bit.
@@ -161,7 +161,7 @@ impl<'a> Lookup<'a> {
     }
 
     /// Whether the set has the id, in whatever order ids come; the set stays the same. An id that is known to be absent takes two
-    /// comparisons, and the next one of a dense set no call.
+    /// comparisons, and the next one of a dense set, or one of the same page of bits, no call.
     #[inline(always)]
     pub fn has(&mut self, id: i64) -> bool
         ensures { LooksUp (set.contains self.old id) self.old self.new result }
@@ -179,8 +179,8 @@ impl<'a> Lookup<'a> {
         self.find(id)
     }
 
-    /// Whether the set has the id, looked up from the place whose page it is in, if it is one of the two. It stays at the id, and where
-    /// the set lacks it at the next one, so that a greater id is read from there on.
+    /// Whether the set has the id, looked up from the place whose page it is in, if it is one of the two. In a page of gaps it stays at
+    /// the id, and where the set lacks it at the next one, so that a greater id is read from there on.
     #[inline(never)]
     fn find(&mut self, id: i64) -> bool
         ensures { LooksUp (set.contains self.old id) self.old self.new result }

@@ -89,13 +89,16 @@ invariant_of-self-in-Some c =
     let start : PageStart = get_or index (begun - 1) (record { first = pos 0; place = 0 }) in
     let is : start ≡ get_or index (begun - 1) start = get_or_default index (begun - 1) _ start (omega (arith, le, c.if-begun-eq0.false)) in
     let fits : SFits w64 start.first = search rules in
-    let bits : IsAsBits index begun c.page_before-page.result.now = (ltb-true _ _ c.in-Some.ensures.some.0, c.in-Some.ensures.long) in
-    (c.self.invariant.0, record {
-      within = omega arith;
-      stands = λ h. absurd (omega arith);
-      known = c.known_in_bits-known.ensures.known bytes _ c.self.invariant.0.1 held;
-      marked = by_mark index bytes begun start.first _ c.page_before-page.result.now (c.page_before-page.ensures start is) bits (to_z-of_z w64 start.first fits);
-    }, others.1)
+    let bits : IsAsBits index begun c.page_before-page.result.now = (ltb-true _ _ c.in-Some.ensures.some.0, c.in-Some.ensures.long) in (
+      c.self.invariant.0,
+      record {
+        within = omega arith;
+        stands = λ h. absurd (omega arith);
+        known = c.known_in_bits-known.ensures.known bytes _ c.self.invariant.0.1 held;
+        marked = by_mark index bytes begun start.first _ c.page_before-page.result.now (c.page_before-page.ensures start is) bits (to_z-of_z w64 start.first fits);
+      },
+      others.1,
+    )
 
 pub returns : goal.returns
 returns c =
