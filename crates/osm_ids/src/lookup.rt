@@ -8,7 +8,7 @@ ghost use Rattle.std.specs.Ordering.{int_eq};
 ghost use Rattle.std.specs.FinSet as set;
 ghost use Rattle.osm_ids.specs.Bits.{has_bit};
 ghost use Rattle.osm_ids.specs.Pages.{Page, IsSealed, gap, ids_in};
-ghost use Rattle.osm_ids.specs.Cursors.{IsAt, IsPassedAt, IsReadTo, IsPlace, IsBegun, BegunIn, HoldsBefore, CountsPassed, Stands, AreKnown, IsKnown, Lacks, BeginFrom};
+ghost use Rattle.osm_ids.specs.Cursors.{IsAt, IsPassedAt, IsReadTo, IsPlace, IsBegun, BegunIn, HoldsBefore, IsAsBits, CountsPassed, Stands, AreKnown, IsKnown, Lacks, BeginFrom};
 ghost use Rattle.osm_ids.specs.Looking.{LooksUp};
 ghost use Rattle.std.specs.Ordering.{int_cmp};
 
@@ -197,16 +197,7 @@ impl<'a> Lookup<'a> {
         let page = page_before(self.index, self.bytes, begun);
         if let Some(bits) = as_bits(page, begun < self.index.len()) {
             let known = known_in_bits(self.index, begun, bits, id);
-            self.here = Place {
-                known,
-                begun,
-                page: &[],
-                cursor: NOWHERE,
-                marks: Marks {
-                    first: self.index[begun - 1].first,
-                    bits: page,
-                },
-            };
+            self.here = place_of_bits(self.index, page, begun, known);
             return known.there;
         }
         let place = if begun == self.here.begun && is_ahead(&self.here, id) {
@@ -428,6 +419,26 @@ fn first_place<'a>(index: &[PageStart], page: &'a [u8], begun: usize) -> Place<'
         page,
         cursor: first_of(index[begun - 1]),
         marks: UNMARKED,
+    }
+}
+
+/// Where the page before a place of the index is looked up again, if it is held as bits.
+fn place_of_bits<'a>(index: &[PageStart], page: &'a [u8], begun: usize, known: Known) -> Place<'a>
+    requires { IsBegun index.now begun }
+    ensures { (bytes : List ℕ) → HoldsBefore index.now bytes begun page.now
+        → IsAsBits index.now begun page.now → AreKnown index.now bytes known
+        → IsPlace index.now bytes result }
+{
+    let marks = Marks {
+        first: index[begun - 1].first,
+        bits: page,
+    };
+    Place {
+        known,
+        begun,
+        page: &[],
+        cursor: NOWHERE,
+        marks,
     }
 }
 

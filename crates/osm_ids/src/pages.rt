@@ -109,6 +109,7 @@ impl SealedIds {
 }
 
 /// Closes the last page, if there is one, and begins another. `last` is the last page's last id. An `Err` leaves all as it was.
+#[inline(never)]
 fn begin_page(
     index: &mut Vec<PageStart>,
     bytes: &mut Vec<u8>,

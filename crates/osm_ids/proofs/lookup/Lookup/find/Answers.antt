@@ -83,22 +83,11 @@ invariant_of-self-in-Some c =
     let others = c.turn_to-is_near.ensures.places c.self.inside.bytes.now c.self.invariant.1 c.self.invariant.2 in
     let index = c.self.inside.index.now in
     let bytes = c.self.inside.bytes.now in
-    let held = subst (λ (p : List ℕ). HoldsBefore index bytes c.starts_from-begun.result p) (sym c.in-Some.ensures.some.1) c.page_before-page.ensures in
     let begun = c.starts_from-begun.result in
-    let le = c.starts_from-begun.ensures.within in
-    let start : PageStart = get_or index (begun - 1) (record { first = pos 0; place = 0 }) in
-    let is : start ≡ get_or index (begun - 1) start = get_or_default index (begun - 1) _ start (omega (arith, le, c.if-begun-eq0.false)) in
-    let fits : SFits w64 start.first = search rules in
-    let bits : IsAsBits index begun c.page_before-page.result.now = (ltb-true _ _ c.in-Some.ensures.some.0, c.in-Some.ensures.long) in (
-      c.self.invariant.0,
-      record {
-        within = omega arith;
-        stands = λ h. absurd (omega arith);
-        known = c.known_in_bits-known.ensures.known bytes _ c.self.invariant.0.1 held;
-        marked = by_mark index bytes begun start.first _ c.page_before-page.result.now (c.page_before-page.ensures start is) bits (to_z-of_z w64 start.first fits);
-      },
-      others.1,
-    )
+    let page = c.page_before-page.result.now in
+    let held = subst (λ (p : List ℕ). HoldsBefore index bytes begun p) (sym c.in-Some.ensures.some.1) c.page_before-page.ensures in
+    let bits : IsAsBits index begun page = (ltb-true _ _ c.in-Some.ensures.some.0, c.in-Some.ensures.long) in
+    (c.self.invariant.0, c.place_of_bits-self-inside.ensures bytes c.page_before-page.ensures bits (c.known_in_bits-known.ensures.known bytes _ c.self.invariant.0.1 held), others.1)
 
 pub returns : goal.returns
 returns c =
