@@ -1,10 +1,10 @@
 -- Bits of words and of bytes.
-use Rattle.std.proofs.Common.{◌≡◌, ℕ, zero, suc, ◌+◌, ◌-◌, ◌*◌, ◌/◌, ◌%◌, ◌^◌, ◌<◌, ◌≤◌, Bool, true, false, not, eqb, min, max, List, [], ◌∷◌, length, get_or, refl, sym, ap, subst, ◌∙◌, arith, inl, inr, w64, ◌⊎◌, true≢false, eqb-true, eq-eqb, ne_eqb}
+use Rattle.std.proofs.Common.{◌≡◌, ℕ, zero, suc, ◌+◌, ◌-◌, ◌*◌, ◌/◌, ◌%◌, ◌^◌, ◌<◌, ◌≤◌, Bool, true, false, eqb, List, [], ◌∷◌, get_or, refl, sym, ap, subst, ◌∙◌, arith, inl, inr, w64, ◌⊎◌, true≢false, eqb-true, eq-eqb, ne_eqb}
 use Rattle.std.specs.Int.{bit_at, bit_not, from_le_bytes, trailing_zeros}
-use Rattle.std.specs.Int.Count.{count_trailing_zeros, trailing_of_zero}
+use Rattle.std.specs.Int.Count.{trailing_of_zero}
 use Rattle.std.proofs.lemmas.Bool.{cases_lt, cases_eq}
 use Rattle.std.proofs.lemmas.Nat.{shr-shr, one_shl, and_le_r, pow_pos}
-use Rattle.std.proofs.lemmas.Nat.Bits.{bit_at-zero, bit_at-lt, shr_and_one, bit_at_not, bit_at-trailing_zeros, bit_at_above, bit_at_and, bit_at_ones, bit_at_cat_low, bit_at_cat_high}
+use Rattle.std.proofs.lemmas.Nat.Bits.{bit_at-zero, bit_at-lt, shr_and_one, bit_at_not, bit_at-trailing_zeros, bit_at_and, bit_at_ones, bit_at_cat_low, bit_at_cat_high}
 use Rattle.std.proofs.lemmas.List.{get_or_past}
 use Rattle.std.specs.Prelude.{bit_and}
 use lib.Pow.{pow_mono}

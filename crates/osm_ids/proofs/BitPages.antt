@@ -1,5 +1,5 @@
 -- Pages as bits, written and read again.
-use Rattle.std.proofs.Common.{◌≡◌, ℕ, zero, suc, ◌+◌, ◌-◌, ◌*◌, ◌/◌, ◌%◌, ◌^◌, ◌<◌, ◌≤◌, ◌⊎◌, inl, inr, Bool, true, false, cond, ◌||◌, eqb, List, [], ◌∷◌, length, get_or, set, replicate, ℤ, pos, ◌+ℤ◌, ◌-ℤ◌, ◌<ℤ◌, ◌≤ℤ◌, refl, sym, ap, subst, ◌∙◌, arith, eq-eqb, ne_eqb, length-set, true≢false, w64}
+use Rattle.std.proofs.Common.{◌≡◌, ℕ, zero, suc, ◌+◌, ◌/◌, ◌%◌, ◌^◌, ◌<◌, inl, inr, Bool, true, false, cond, ◌||◌, eqb, List, [], ◌∷◌, length, get_or, replicate, ℤ, pos, ◌+ℤ◌, ◌<ℤ◌, ◌≤ℤ◌, refl, sym, ap, ◌∙◌, arith, eq-eqb, ne_eqb, length-set}
 use Rattle.std.specs.List.{list_any, fold}
 use Rattle.std.specs.Ordering.{int_eq}
 use Rattle.std.specs.Int.{bit_at}
@@ -11,7 +11,7 @@ use Rattle.std.proofs.lemmas.List.{length-replicate, get_or-replicate, get_or_pa
 use Rattle.std.proofs.lemmas.Nat.Bits.{bit_at-zero, bit_at-lt, bit_at_or, bit_at-pow_same, bit_at-pow_other}
 use Rattle.osm_ids.specs.Bits.{has_bit, with_bit, ids_of_bits}
 use Rattle.osm_ids.specs.Pages.{Page, page_ids, gap, bit_bytes, last_of, Rises}
-use Rattle.osm_ids.proofs.Rising.{other, other_above, other_below, none_above, cases_order, or_none, low_last}
+use Rattle.osm_ids.proofs.Rising.{other, other_below, none_above, cases_order, or_none, low_last}
 
 -- ---- one bit more
 

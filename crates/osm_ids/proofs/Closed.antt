@@ -1,14 +1,14 @@
 -- Pages that another one follows, read again.
-use Rattle.std.proofs.Common.{◌≡◌, ℕ, ◌+◌, ◌<◌, ◌≤◌, inl, inr, Bool, true, false, cond, ◌||◌, eqb, List, [], ◌∷◌, ◌++◌, length, ℤ, pos, ◌+ℤ◌, ◌<ℤ◌, ◌≤ℤ◌, refl, sym, ap, subst, ◌∙◌, arith, eq-eqb, ne_eqb, length-append, true≢false, FitsSigned, w64}
+use Rattle.std.proofs.Common.{◌≡◌, ◌<◌, ◌≤◌, inl, inr, true, false, cond, ◌||◌, List, [], ◌∷◌, length, ℤ, pos, ◌+ℤ◌, ◌≤ℤ◌, refl, sym, ap, ◌∙◌, arith, eq-eqb, ne_eqb, length-append, FitsSigned, w64}
 use Rattle.std.specs.List.{list_any}
 use Rattle.std.specs.Ordering.{int_eq}
-use Rattle.std.proofs.lemmas.Bool.{false_from_ne_true, or_right, ltb-true, lt-ltb}
+use Rattle.std.proofs.lemmas.Bool.{false_from_ne_true, or_right, ltb-true}
 use Rattle.std.proofs.lemmas.Int.{ints}
 use Rattle.pbf_wire.specs.Varint.{shortest}
-use Rattle.osm_ids.specs.Bits.{has_bit, ids_of_bits}
+use Rattle.osm_ids.specs.Bits.{ids_of_bits}
 use Rattle.osm_ids.specs.Pages.{Page, page_ids, gap, gap_bytes, bit_bytes, closed_bytes, is_dense, last_of, others_in, Rises, AllFit}
 use Rattle.osm_ids.proofs.Gaps.{spelled_after, gap-lt, shortest_some, read_spelled}
-use Rattle.osm_ids.proofs.Rising.{other_above, other_below, none_above, same_rising, rising_tail, cases_order, low_last, all_last}
+use Rattle.osm_ids.proofs.Rising.{other_below, none_above, same_rising, rising_tail, cases_order, low_last, all_last}
 use Rattle.osm_ids.proofs.BitPages.{has_id, bit_bytes_length, rises_of_bits, none_of_bits, any_of_bits}
 
 -- each id takes a byte
@@ -53,6 +53,7 @@ module _ (page : Page) (f : IsFull page) where
       where
         rising : Rises first (ids_of_bits first (bit_bytes page) 1 511)
         rising = rises_of_bits 511 1 first first (bit_bytes page) (omega (arith, ints))
+
         far : (id : ℤ) → (first +ℤ pos 512) ≤ℤ id → list_any (int_eq id) (ids_of_bits first (bit_bytes page) 1 511) ≡ list_any (int_eq id) page.others
         far id past =
             none_of_bits 511 1 id first (bit_bytes page) (omega (arith, ints, past))

@@ -1,5 +1,5 @@
 -- The gaps of a page, read into bits.
-use Rattle.std.proofs.Common.{◌≡◌, ℕ, suc, ◌+◌, ◌^◌, ◌<◌, ◌≤◌, List, [], ◌∷◌, ◌++◌, length, drop, replicate, Result, Ok, ℤ, ◌<ℤ◌, ◌≤ℤ◌, refl, sym, ap, subst, ◌∙◌, arith, length-drop, FitsSigned, w64}
+use Rattle.std.proofs.Common.{◌≡◌, ℕ, ◌+◌, ◌<◌, ◌≤◌, List, [], ◌∷◌, length, drop, replicate, Result, Ok, ℤ, ◌≤ℤ◌, sym, ap, ◌∙◌, arith, length-drop}
 use Rattle.std.proofs.lemmas.Bool.{ltb-true}
 use Rattle.std.proofs.lemmas.Int.{ints}
 use Rattle.std.proofs.lemmas.List.{drop-drop}
@@ -7,7 +7,7 @@ use Rattle.std.proofs.Math.Seq.{drop-append_seam}
 use Rattle.pbf_wire.specs.declared.fault.Reason.{Reason}
 use Rattle.pbf_wire.specs.Varint.{shortest, varint_at, moved_by}
 use Rattle.osm_ids.specs.Bits.{with_bit}
-use Rattle.osm_ids.specs.Pages.{Page, page_ids, gap, bit_bytes, last_of, HasBits, Rises, AllFit}
+use Rattle.osm_ids.specs.Pages.{Page, gap, bit_bytes, last_of, HasBits, Rises, AllFit}
 use Rattle.osm_ids.proofs.Gaps.{spelled_after, gap-lt, read_at}
 use Rattle.osm_ids.proofs.Rising.{low_last}
 use Rattle.osm_ids.proofs.Reading.{pair_parts, spelled_none}

@@ -13,7 +13,6 @@ use Rattle.osm_ids.specs.declared.pages.PageStart.{PageStart}
 use Rattle.osm_ids.specs.declared.page.Cursor.{Cursor}
 use Rattle.osm_ids.specs.Cursors.{IsAt, IsPassedAt, HasForm, HoldsPage, IsAsBits, Stands}
 use Rattle.osm_ids.specs.Pages.{Page, page_ids, gap_bytes, bit_bytes, closed_bytes, is_dense, ids_of_pages, bytes_of_pages, starts_from, Rises, IsRising, AllFit, HasFullPages, IsSealed, bytes_of_closed, ids_in}
-use Rattle.osm_ids.proofs.Gaps.{spelled_after}
 use Rattle.osm_ids.proofs.Reading as reading
 use Rattle.osm_ids.proofs.Reading.{cursor, IsAhead}
 use Rattle.osm_ids.proofs.Closed.{IsFull, dense_by_length, closed_bits}

@@ -1,5 +1,5 @@
 -- One more id, above all others, after them.
-use Rattle.std.proofs.Common.{◌≡◌, ℕ, suc, ◌+◌, ◌-◌, ◌*◌, ◌%◌, cond, take, drop, get_or, inl, inr, ◌<◌, ◌≤◌, Bool, true, false, ◌||◌, List, [], ◌∷◌, ◌++◌, length, ℤ, ◌<ℤ◌, ◌≤ℤ◌, refl, sym, ap, subst, ◌∙◌, arith, length-append, FitsSigned, w64}
+use Rattle.std.proofs.Common.{◌≡◌, ℕ, suc, ◌+◌, ◌-◌, ◌*◌, ◌%◌, cond, take, drop, get_or, inl, inr, ◌<◌, ◌≤◌, true, false, List, [], ◌∷◌, ◌++◌, length, ℤ, ◌<ℤ◌, ◌≤ℤ◌, refl, sym, ap, subst, ◌∙◌, arith, length-append, FitsSigned, w64}
 use Rattle.std.specs.List.{list_any}
 use Rattle.std.specs.Ordering.{int_eq}
 use Rattle.std.specs.Cmp.{int_cmp_total}
@@ -15,7 +15,6 @@ use Rattle.pbf_wire.specs.Varint.{shortest}
 use Rattle.osm_ids.specs.Pages.{gap, Page, page_ids, gap_bytes, bit_bytes, closed_bytes, is_dense, last_of, ids_of_pages, bytes_of_pages, bytes_of_closed, starts_from, HasFullPages, Rises, IsRising, AllFit, ids_in, IsSealed, IsOpen, HasBits, BeginsPage}
 use Rattle.osm_ids.specs.Order.{IsAbove, IsGreatest}
 use Rattle.osm_ids.proofs.Sets.{ids_of, contains-ids_of}
-use Rattle.osm_ids.proofs.Gaps.{spelled_after, gap-lt, shortest_some}
 use Rattle.osm_ids.proofs.Rising.{rises_front, rising_tail, rising_back, all_last}
 use Rattle.osm_ids.proofs.BitPages.{bit_bytes_length}
 use Rattle.osm_ids.proofs.Closed.{IsFull, sized_page, gaps_long, closed_bits, closed_long}

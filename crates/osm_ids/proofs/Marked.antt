@@ -1,5 +1,5 @@
 -- What the bits of a page say of ids.
-use Rattle.std.proofs.Common.{◌≡◌, ℕ, ◌-◌, ◌<◌, ◌≤◌, Bool, true, List, length, get_or, int_le, ℤ, pos, ◌+ℤ◌, ◌<ℤ◌, ◌≤ℤ◌, refl, sym, ap, subst, ◌∙◌, arith}
+use Rattle.std.proofs.Common.{◌≡◌, ℕ, ◌-◌, ◌<◌, ◌≤◌, Bool, true, false, eqb, true≢false, ◌%◌, List, [], ◌∷◌, get_or, int_le, ℤ, pos, ◌+ℤ◌, ◌<ℤ◌, ◌≤ℤ◌, sym, ap, ◌∙◌, arith}
 use Rattle.std.specs.List.{list_any}
 use Rattle.std.specs.Ordering.{int_eq}
 use Rattle.std.proofs.lemmas.Bool.{ltb-true}
@@ -9,9 +9,27 @@ use Rattle.osm_ids.specs.Bits.{has_bit}
 use Rattle.osm_ids.specs.declared.lookup.Known.{Known}
 use Rattle.osm_ids.specs.declared.pages.PageStart.{PageStart}
 use Rattle.osm_ids.specs.Cursors.{IsPassedAt, HoldsPage, IsAsBits, AreKnown}
-use Rattle.osm_ids.specs.Pages.{Page, gap, bit_bytes, IsSealed, ids_in}
+use Rattle.osm_ids.specs.Pages.{Page, gap, IsSealed, ids_in}
+use Rattle.std.proofs.lemmas.Nat.Bits.{bit_at-zero}
 use Rattle.osm_ids.proofs.BitPages.{has_id}
 use Rattle.osm_ids.proofs.Found.{true_le, lt_false, le_true, le_false, partitioned, passed_here, held_bits}
+
+-- without bits none is set
+pub unmarked : (index : List PageStart) (bytes : List ℕ) (first : ℤ) (bits : List ℕ) → bits ≡ [] → (id : ℤ) → first ≤ℤ id → has_bit bits (gap first id) ≡ true → list_any (int_eq id) (ids_in index bytes) ≡ true
+unmarked index bytes first bits none id low is_set =
+    let clear : has_bit bits (gap first id) ≡ false = ap (λ b. has_bit b (gap first id)) none ∙ ap (λ d. eqb d 1) (bit_at-zero (gap first id % 8)) in
+    absurd (true≢false (sym is_set ∙ clear))
+
+-- an id whose bit is set is in the page, and so in the set
+pub by_mark : (index : List PageStart) (bytes : List ℕ) (begun : ℕ) (first seen : ℤ) (held : List ℕ) → HoldsPage index bytes begun first held → IsAsBits index begun held → seen ≡ first → (id : ℤ) → seen ≤ℤ id → has_bit held (gap seen id) ≡ true → list_any (int_eq id) (ids_in index bytes) ≡ true
+by_mark index bytes begun first seen held h bits same id low is_set =
+    let form = held_bits index bytes begun first held h bits in
+    let among : list_any (int_eq id) (first ∷ h.others) ≡ true =
+    sym (has_id (record { first = first; others = h.others }) id h.rises (ltb-true _ 512 form.1) (omega (arith, ints, low, same)))
+    ∙ ap (λ b. has_bit b (gap first id)) (sym form.0)
+    ∙ ap (λ z. has_bit held (gap z id)) (sym same)
+    ∙ is_set in
+    sym (h.answer id (h.inside id among)) ∙ among
 
 module _ (index : List PageStart) (bytes : List ℕ) (pages : List Page) (sealed : IsSealed index bytes pages) (begun : ℕ) (start next : PageStart) (some : 0 < begun) (is : start ≡ get_or index (begun - 1) start) (follows : next ≡ get_or index begun next) (held : List ℕ) (h : HoldsPage index bytes begun start.first held) (bits : IsAsBits index begun held) where
   -- an id that belongs in the page is in the set if its bit is set

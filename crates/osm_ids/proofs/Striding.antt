@@ -1,12 +1,12 @@
 -- Many short differences, read at once.
-use Rattle.std.proofs.Common.{◌≡◌, ℕ, Bool, suc, inl, take, ltb, ◌+◌, ◌^◌, ◌<◌, ◌≤◌, true, false, cond, leb, List, [], ◌∷◌, ◌++◌, length, map, drop, ℤ, pos, negsuc, nat_abs, ◌≤ℤ◌, ◌+ℤ◌, ◌-ℤ◌, ◌<ℤ◌, inr, refl, sym, ap, subst, ◌∙◌, arith, not, w8, w64, to_z, of_z, replicate, ◌-◌, ◌%◌}
+use Rattle.std.proofs.Common.{◌≡◌, ℕ, Bool, suc, inl, take, ltb, ◌+◌, ◌^◌, ◌<◌, ◌≤◌, true, false, cond, leb, List, [], ◌∷◌, ◌++◌, length, map, drop, ℤ, pos, negsuc, nat_abs, ◌≤ℤ◌, ◌+ℤ◌, ◌-ℤ◌, ◌<ℤ◌, inr, refl, sym, ap, subst, ◌∙◌, arith, not, w8, w64, to_z, of_z, replicate, ◌-◌}
 use Rattle.std.specs.List.{fold, list_all, prefix_len, range_with_len, sum}
 use Rattle.std.specs.Simd.Lanes.{mask_l, sum_l, fold_l, zip2, top, sel_l}
-use Rattle.std.proofs.lemmas.Simd.{fold-sum, mask_l-mod, tops_compared, zip2_splat, zip2_splat_left, leading_from_mask_l, trailing_mask_l}
+use Rattle.std.proofs.lemmas.Simd.{tops_compared, zip2_splat, leading_from_mask_l, trailing_mask_l}
 use lib.Count.{count_trailing_zeros}
 use mir.Val.{bits, hbits, SFits}
 use Rattle.std.proofs.lemmas.Int.{ints, to_z-of_z}
-use Rattle.std.proofs.lemmas.List.{drop-drop, length-drop, length-map, map-id}
+use Rattle.std.proofs.lemmas.List.{drop-drop, length-drop}
 use Rattle.std.proofs.Math.Seq.{take-nil}
 use Rattle.pbf_wire.specs.Varint.{shortest}
 use Rattle.pbf_wire.proofs.RisingRuns.{wide_sum}

@@ -1,9 +1,8 @@
 -- Pages that are read one id after the other.
-use Rattle.std.proofs.Common.{◌≡◌, ◌⊎◌, inl, inr, ℕ, zero, suc, ◌+◌, ◌-◌, ◌<◌, ◌≤◌, Bool, true, false, not, cond, ◌&&◌, eqb, List, [], ◌∷◌, ◌++◌, length, take, drop, get_or, Option, Some, None, Result, Ok, ℤ, pos, ◌+ℤ◌, ◌<ℤ◌, refl, sym, ap, subst, ◌∙◌, arith, length-append, length-drop, append_assoc, FitsSigned, w64, eq-eqb, ne_eqb, true≢false}
+use Rattle.std.proofs.Common.{◌≡◌, ◌⊎◌, inl, inr, ℕ, zero, suc, ◌+◌, ◌-◌, ◌<◌, ◌≤◌, Bool, true, false, not, cond, ◌&&◌, eqb, List, [], ◌∷◌, ◌++◌, length, take, drop, get_or, Option, Some, None, Result, Ok, ℤ, pos, ◌+ℤ◌, ◌<ℤ◌, refl, sym, ap, subst, ◌∙◌, arith, length-append, length-drop, FitsSigned, w64, eq-eqb, ne_eqb, true≢false}
 use Rattle.std.specs.Prelude.{IsSomeAnd}
 use Rattle.std.proofs.lemmas.Bool.{cases_eq}
-use Rattle.std.proofs.lemmas.Int.{ints}
-use Rattle.std.proofs.lemmas.List.{drop-drop, append-nil}
+use Rattle.std.proofs.lemmas.List.{drop-drop}
 use Rattle.std.proofs.Math.Seq.{drop-append_seam, take-append_seam}
 use Rattle.pbf_wire.specs.declared.fault.Reason.{Reason}
 use Rattle.pbf_wire.specs.Varint.{shortest, varint_at, moved_by}
@@ -15,11 +14,11 @@ use Rattle.osm_ids.specs.Pages.{gap, Page, gap_bytes, bit_bytes, closed_bytes, i
 use Rattle.osm_ids.specs.Walks.{is_in_bits, left_in, LeftIn, ArePages, IsLeft, BeginsLeft}
 use Rattle.osm_ids.proofs.Gaps.{spelled_after, gap_up, gap-lt, read_at, read_spelled}
 use Rattle.osm_ids.proofs.Rising.{rises_front, rising_tail}
-use Rattle.osm_ids.proofs.Reading.{pair_parts, spelled_none}
+use Rattle.osm_ids.proofs.Reading.{pair_parts}
 use Rattle.osm_ids.proofs.BitPages.{bit_bytes_length}
 use Rattle.osm_ids.proofs.Closed.{IsFull, gaps_long, bits_read}
 use Rattle.osm_ids.proofs.Found.{rises_skip, bytes_here, here_and_after}
-use Rattle.osm_ids.proofs.Laid.{full_page, fits_front, fits_back, ids_in-starts, rising_after}
+use Rattle.osm_ids.proofs.Laid.{full_page, fits_front, fits_back, ids_in-starts}
 
 -- ---- one number
 
@@ -283,14 +282,16 @@ pub left_by_gap : (here : InPage) (last id : ℤ) (rest : List ℤ) (r : Option 
 left_by_gap here last id rest r gaps h is =
     let there = left_gaps here last (id ∷ rest) h gaps in
     let size = length (shortest (gap last id)) in
-    subst (λ (o : Option (ℤ × ℕ)). IsSomeAnd o (λ next. (next.0 ≡ id) × LeftIn (moved_to here next.1) id rest)) (sym is)
-    (refl, record {
-      form = inl (
-        gaps,
-        omega (arith, there.0, ap length there.1, length-drop here.at here.page.now, length-append (shortest (gap last id)) (spelled_after id rest)),
-        sym (drop-drop size here.at here.page.now) ∙ ap (drop size) there.1 ∙ drop-append_seam (shortest (gap last id)) (spelled_after id rest),
-      );
-    })
+    subst (λ (o : Option (ℤ × ℕ)). IsSomeAnd o (λ next. (next.0 ≡ id) × LeftIn (moved_to here next.1) id rest)) (sym is) (
+      refl,
+      record {
+        form = inl (
+          gaps,
+          omega (arith, there.0, ap length there.1, length-drop here.at here.page.now, length-append (shortest (gap last id)) (spelled_after id rest)),
+          sym (drop-drop size here.at here.page.now) ∙ ap (drop size) there.1 ∙ drop-append_seam (shortest (gap last id)) (spelled_after id rest),
+        );
+      },
+    )
 
 -- what is left after one more
 pub record Further (next : ℤ) (here : InPage) (starts : List PageStart) (bytes : List ℕ) (then : List ℤ) : Type 0 where
@@ -365,13 +366,15 @@ module _ (last : ℤ) (here : InPage) (starts : List PageStart) (bytes : List �
 
   pub page_begins : (start : PageStart) (rest : List PageStart) → starts ≡ start ∷ rest → BeginsLeft start rest bytes × (ids_in (start ∷ rest) bytes ≡ drop 1 (last ∷ (left_in here last ++ ids_in starts bytes)))
   page_begins start rest e =
-      let at = begins_at start rest e h.pages refl in
-      (record {
-        pages = h.pages;
-        later = subst (λ k. ArePages k (start ∷ rest) bytes h.pages) (sym at) (subst (λ (s : List PageStart). ArePages h.place s bytes h.pages) e h.later);
-        rising = rising_pages;
-        fits = fitting_pages;
-      }, ap (λ s. ids_in s bytes) (sym e) ∙ pages_read h.place starts bytes h.pages h.later rising_pages fitting_pages ∙ sym then_is)
+      let at = begins_at start rest e h.pages refl in (
+        record {
+          pages = h.pages;
+          later = subst (λ k. ArePages k (start ∷ rest) bytes h.pages) (sym at) (subst (λ (s : List PageStart). ArePages h.place s bytes h.pages) e h.later);
+          rising = rising_pages;
+          fits = fitting_pages;
+        },
+        ap (λ s. ids_in s bytes) (sym e) ∙ pages_read h.place starts bytes h.pages h.later rising_pages fitting_pages ∙ sym then_is,
+      )
 
 -- ---- the start
 

@@ -1,5 +1,5 @@
 -- Pages of which the set has each id from the first to the next page's first.
-use Rattle.std.proofs.Common.{◌≡◌, ℕ, suc, ◌-◌, nat_abs, ◌-ℤ◌, ◌<◌, true, false, List, [], ◌∷◌, ◌++◌, ◌||◌, length, get_or, ℤ, pos, ◌+ℤ◌, ◌<ℤ◌, ◌≤ℤ◌, inl, inr, refl, sym, ap, subst, ◌∙◌, arith, Bool}
+use Rattle.std.proofs.Common.{◌≡◌, ℕ, suc, ◌-◌, nat_abs, ◌-ℤ◌, ◌<◌, true, List, [], ◌∷◌, ◌++◌, length, get_or, ℤ, pos, ◌+ℤ◌, ◌<ℤ◌, ◌≤ℤ◌, inl, inr, refl, sym, ap, subst, ◌∙◌, arith}
 use Rattle.std.specs.List.{list_any}
 use Rattle.std.specs.Ordering.{int_eq}
 use Rattle.std.proofs.lemmas.Bool.{or_right}

@@ -8,10 +8,12 @@ use Rattle.pbf_wire.specs.declared.span.Span.{Span}
 use Rattle.pbf_wire.specs.Spans.{is_in}
 use Rattle.osm_ids.specs.declared.lookup.Known.{Known}
 use Rattle.osm_ids.specs.declared.lookup.Place.{Place}
+use Rattle.osm_ids.specs.declared.lookup.Marks.{Marks}
 use Rattle.osm_ids.specs.declared.page.Cursor.{Cursor}
 use Rattle.osm_ids.specs.declared.pages.PageStart.{PageStart}
 use Rattle.osm_ids.specs.Order.{IsReached}
-use Rattle.osm_ids.specs.Pages.{Page, gap_bytes, closed_bytes, Rises, AllFit, IsSealed, ids_in}
+use Rattle.osm_ids.specs.Bits.{has_bit}
+use Rattle.osm_ids.specs.Pages.{Page, gap, gap_bytes, closed_bytes, Rises, AllFit, IsSealed, ids_in}
 
 -- `passed` is among the ids, and of them each one above it, or at or above `last`, is `last` or one of those that the bytes from here on spell
 pub record IsAt (ids : List ℤ) (page : List ℕ) (cursor : Cursor) : Type 0 where
@@ -93,15 +95,22 @@ IsKnownBelow ids known = (id : ℤ) → known.span.above <ℤ id → id <ℤ kno
 abbrev pub Lacks : set.FinSet int_cmp → Span → Type 0
 Lacks ids span = (id : ℤ) → is_in span id ≡ true → set.contains ids id ≡ false
 
+<<<<<<< HEAD
 -- a set has all of these ids
 abbrev pub HasAll : set.FinSet int_cmp → Span → Type 0
 HasAll ids span = (id : ℤ) → is_in span id ≡ true → set.contains ids id ≡ true
+=======
+-- an id whose bit is set is in the set that an index and bytes stand for
+abbrev pub AreMarked : List PageStart → List ℕ → Marks → Type 0
+AreMarked index bytes marks = (id : ℤ) → marks.first ≤ℤ id → has_bit marks.bits.now (gap marks.first id) ≡ true → list_any (int_eq id) (ids_in index bytes) ≡ true
+>>>>>>> 8c9e2c35309c50f4deec88965bf81dea4245ff6b
 
 -- a page can be read on from here, if it isn't at its end, and the ids round the last one are known
 pub record IsPlace (index : List PageStart) (bytes : List ℕ) (place : Place) : Type 0 where
   pub within : place.cursor.at ≤ length place.page.now
   pub stands : place.cursor.at < length place.page.now → Stands index bytes place.begun place.page.now place.cursor
   pub known : AreKnown index bytes place.known
+  pub marked : AreMarked index bytes place.marks
 
 -- no page from this one on begins below a number
 abbrev pub BeginFrom : List PageStart → ℕ → ℤ → Type 0

@@ -2,8 +2,8 @@
 //! ids name.
 #![tactic(auto)]
 
-pub mod laws;
 mod bits;
+pub mod laws;
 mod links;
 mod lookup;
 mod merge;

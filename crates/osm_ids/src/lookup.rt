@@ -1,13 +1,19 @@
 //! Look-ups of ids that lie close together.
 
-ghost use Rattle.std.specs.Prelude.{◌≡◌, ◌-◌, ◌<◌, ◌≤◌, ◌<ℤ◌, ◌≤ℤ◌, ◌+ℤ◌, pos, FitsSigned, ◌⊎◌, IfSome, IfNone, IsTrue, take, drop, length, get_or, int_le, List, ℕ, ℤ, true};
+ghost use Rattle.std.specs.Prelude.{◌≡◌, ◌-◌, ◌<◌, ◌≤◌, ◌<ℤ◌, ◌≤ℤ◌, ◌+ℤ◌, pos, FitsSigned, ◌⊎◌, IfSome, IfNone, IsTrue, take, drop, length, get_or, int_le, List, [], ℕ, ℤ, true};
 ghost use Rattle.std.specs.Int.{w64};
 ghost use Rattle.std.specs.List.{list_any};
 ghost use Rattle.std.specs.List.Sorted.{IsPartitionedBy};
 ghost use Rattle.std.specs.Ordering.{int_eq};
 ghost use Rattle.std.specs.FinSet as set;
+<<<<<<< HEAD
 ghost use Rattle.osm_ids.specs.Pages.{Page, IsSealed, ids_in};
 ghost use Rattle.osm_ids.specs.Cursors.{IsAt, IsPassedAt, IsReadTo, IsPlace, IsBegun, BegunIn, HoldsBefore, CountsPassed, Stands, AreKnown, IsKnown, Lacks, HasAll, BeginFrom};
+=======
+ghost use Rattle.osm_ids.specs.Bits.{has_bit};
+ghost use Rattle.osm_ids.specs.Pages.{Page, IsSealed, gap, ids_in};
+ghost use Rattle.osm_ids.specs.Cursors.{IsAt, IsPassedAt, IsReadTo, IsPlace, IsBegun, BegunIn, HoldsBefore, IsAsBits, CountsPassed, Stands, AreKnown, IsKnown, Lacks, BeginFrom};
+>>>>>>> 8c9e2c35309c50f4deec88965bf81dea4245ff6b
 ghost use Rattle.osm_ids.specs.Looking.{LooksUp};
 ghost use Rattle.std.specs.Ordering.{int_cmp};
 
@@ -72,7 +78,22 @@ pub(crate) struct Place<'a> {
     pub(crate) begun: usize,
     pub(crate) page: &'a [u8],
     pub(crate) cursor: Cursor,
+    pub(crate) marks: Marks<'a>,
 }
+
+/// The bits of a page: an id that is there is found without a call. There are none if the page isn't held as bits.
+#[derive(Clone, Copy)]
+pub(crate) struct Marks<'a> {
+    /// The id of the first bit.
+    pub(crate) first: i64,
+    pub(crate) bits: &'a [u8],
+}
+
+/// No bits.
+const UNMARKED: Marks<'static> = Marks {
+    first: 0,
+    bits: &[],
+};
 
 /// Look-ups in a sealed set that remember where the last one ended, and the last one in another page: an id a little above either is
 /// found by reading on from there, one in the next page from its first id on, and only another one by a search of the index.
@@ -124,6 +145,7 @@ impl SealedIds {
             begun: 0,
             page: &[],
             cursor: NOWHERE,
+            marks: UNMARKED,
         };
         Lookup {
             index: &self.index,
@@ -160,7 +182,7 @@ impl<'a> Lookup<'a> {
     }
 
     /// Whether the set has the id, in whatever order ids come; the set stays the same. An id that is known to be absent takes two
-    /// comparisons, and the next one of a dense set no call.
+    /// comparisons, and the next one of a dense set, or one of the same page of bits, no call.
     #[inline(always)]
     pub fn has(&mut self, id: i64) -> bool
         ensures { LooksUp (set.contains self.old id) self.old self.new result }
@@ -172,11 +194,14 @@ impl<'a> Lookup<'a> {
             self.here.cursor = cursor;
             return true;
         }
+        if is_marked(&self.here.marks, id) {
+            return true;
+        }
         self.find(id)
     }
 
-    /// Whether the set has the id, looked up from the place whose page it is in, if it is one of the two. It stays at the id, and where
-    /// the set lacks it at the next one, so that a greater id is read from there on.
+    /// Whether the set has the id, looked up from the place whose page it is in, if it is one of the two. In a page of gaps it stays at
+    /// the id, and where the set lacks it at the next one, so that a greater id is read from there on.
     #[inline(never)]
     fn find(&mut self, id: i64) -> bool
         ensures { LooksUp (set.contains self.old id) self.old self.new result }
@@ -193,12 +218,7 @@ impl<'a> Lookup<'a> {
         let page = page_before(self.index, self.bytes, begun);
         if let Some(bits) = as_bits(page, begun < self.index.len()) {
             let known = known_in_bits(self.index, begun, bits, id);
-            self.here = Place {
-                known,
-                begun,
-                page: &[],
-                cursor: NOWHERE,
-            };
+            self.here = place_of_bits(self.index, page, begun, known);
             return known.there;
         }
         let place = if begun == self.here.begun && is_ahead(&self.here, id) {
@@ -255,6 +275,22 @@ fn short_step_to(page: &[u8], from: Cursor, id: i64) -> Option<Cursor>
         return None;
     }
     Some(to)
+}
+
+/// Whether the id's bit is set.
+#[inline(always)]
+fn is_marked(marks: &Marks<'_>, id: i64) -> bool
+    ensures { IsTrue result → (marks.now.first ≤ℤ id)
+        × (has_bit marks.now.bits.now (gap marks.now.first id) ≡ true) }
+{
+    if id < marks.first {
+        return false;
+    }
+    let k = id.abs_diff(marks.first);
+    match marks.bits.get((k / 8) as usize) {
+        Some(byte) => (*byte >> (k % 8)) & 1 == 1,
+        None => false,
+    }
 }
 
 /// Whether the id is one of these.
@@ -394,6 +430,7 @@ fn first_place<'a>(index: &[PageStart], page: &'a [u8], begun: usize) -> Place<'
     ensures begun { result.begun ≡ begun }
     ensures page { result.page.now ≡ page.now }
     ensures within { result.cursor.at ≤ length page.now }
+    ensures unmarked { result.marks.bits.now ≡ [] }
     ensures first { (start : PageStart) → start ≡ get_or index.now (begun - 1) start
         → result.cursor ≡ record { passed = start.first; last = start.first; at = 0 } }
 {
@@ -402,6 +439,27 @@ fn first_place<'a>(index: &[PageStart], page: &'a [u8], begun: usize) -> Place<'
         begun,
         page,
         cursor: first_of(index[begun - 1]),
+        marks: UNMARKED,
+    }
+}
+
+/// Where the page before a place of the index is looked up again, if it is held as bits.
+fn place_of_bits<'a>(index: &[PageStart], page: &'a [u8], begun: usize, known: Known) -> Place<'a>
+    requires { IsBegun index.now begun }
+    ensures { (bytes : List ℕ) → HoldsBefore index.now bytes begun page.now
+        → IsAsBits index.now begun page.now → AreKnown index.now bytes known
+        → IsPlace index.now bytes result }
+{
+    let marks = Marks {
+        first: index[begun - 1].first,
+        bits: page,
+    };
+    Place {
+        known,
+        begun,
+        page: &[],
+        cursor: NOWHERE,
+        marks,
     }
 }
 

@@ -109,7 +109,13 @@ impl SealedIds {
 }
 
 /// Closes the last page, if there is one, and begins another. `last` is the last page's last id. An `Err` leaves all as it was.
-fn begin_page(index: &mut Vec<PageStart>, bytes: &mut Vec<u8>, last: i64, id: i64) -> Result<(), AllocError>
+#[inline(never)]
+fn begin_page(
+    index: &mut Vec<PageStart>,
+    bytes: &mut Vec<u8>,
+    last: i64,
+    id: i64,
+) -> Result<(), AllocError>
     requires { IsAllFull index.old.items bytes.old.items last }
     ensures ok { OnOk result ((pages : List Page) → IsSealed index.old.items bytes.old.items pages
         → IsOpen pages 0 last

@@ -142,8 +142,12 @@ fn id_after(here: &InPage<'_>, last: i64) -> Option<(i64, usize)>
     ensures none { LeftIn here.now last [] → result ≡ None }
     ensures some { (id : ℤ) (rest : List ℤ) → last <ℤ id → FitsSigned w64 id
         → LeftIn here.now last (id ∷ rest)
-        → IsSomeAnd result (λ next. (next.0 ≡ id) × LeftIn (record { first = here.now.first;
-          page = here.now.page; is_closed = here.now.is_closed; at = next.1 }) id rest) }
+        → IsSomeAnd result (λ next. (next.0 ≡ id) × LeftIn (record {
+          first = here.now.first;
+          page = here.now.page;
+          is_closed = here.now.is_closed;
+          at = next.1;
+        }) id rest) }
 {
     if let Some(bits) = as_bits(here.page, here.is_closed) {
         return id_of_bit_after(here.first, bits, here.at);

@@ -4,7 +4,7 @@ ghost use Rattle.std.specs.Prelude.{◌≡◌};
 ghost use Rattle.std.specs.FinSet as set;
 ghost use Rattle.osm_entity.specs.Sources.{lent_member, refs_left};
 ghost use Rattle.osm_entity.specs.Views.{way_of, relation_of};
-ghost use Rattle.osm_ids.specs.Cursors.{Lacks};
+ghost use Rattle.osm_ids.specs.Cursors.{Lacks, HasAll};
 ghost use Rattle.osm_ids.specs.Looking.{LooksUp};
 ghost use Rattle.osm_ways.specs.Selection.{is_selecting, is_kept_way};
 ghost use Rattle.osm_ways.specs.Seen.{seen_way, seen_refs, seen_member, seen_relation};
@@ -71,6 +71,14 @@ impl<'a> Chooser<'a> {
         ensures { Lacks self.now.ways.node_ids result }
     {
         self.box_ids.absent().common(self.refs.absent())
+    }
+
+    /// Ids of which all nodes are kept, as far as the last look-up of the ids in the box showed: none if it showed nothing.
+    #[inline(always)]
+    pub fn present(&self) -> Span
+        ensures { HasAll self.now.ways.node_ids result }
+    {
+        self.box_ids.present()
     }
 
     /// Whether the way is kept: one of its refs is a node in the box. Of two ways of one id each is judged by itself.

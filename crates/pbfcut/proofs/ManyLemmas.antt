@@ -2,8 +2,11 @@
 use Rattle.std.proofs.Common.{◌≡◌, ℕ, zero, suc, ◌+◌, ◌-◌, ◌<◌, ◌≤◌, Bool, true, false, ℤ, List, [], ◌∷◌, ◌++◌, length, map, take, drop, cond, Result, Ok, Err, subst, refl, sym, ap, ◌∙◌, arith, append_assoc, add-one, append-nil}
 use Rattle.std.specs.Option.{is_some}
 use Rattle.std.specs.List.{AllByRecursion, filter, sum_by}
-use Rattle.std.proofs.lemmas.List.{length-drop, map-append, length-take-le}
+use Rattle.std.proofs.Math.Seq.{take-add}
+use Rattle.std.proofs.lemmas.List.{drop-drop, length-drop}
 use Rattle.std.proofs.lemmas.List.Sums.{sum_by-cons, sum_by-append}
+use Rattle.pbf_wire.specs.declared.span.Span.{Span}
+use Rattle.pbf_wire.specs.Spans.{is_in, AreAlike}
 use Rattle.osm_entity.specs.declared.member.MemberKind.TheVariants as kind
 use Rattle.osm_entity.specs.declared.scale.Scale.{Scale}
 use Rattle.osm_entity.specs.Scale.{ScaleFits}
@@ -35,7 +38,7 @@ use Rattle.pbfcut.specs.declared.pick.Picker.{Picker}
 use Rattle.pbfcut.specs.declared.pick.EntityPacker.{EntityPacker}
 use Rattle.pbfcut.specs.Pick.{picks_of, picks_id, HasPacked, PacksEach}
 use Rattle.pbfcut.specs.Many.{AreOneKind, AreEven, AreEvenAfter}
-use Rattle.pbfcut.proofs.NodeLemmas.{first_id, picked_by_id}
+use Rattle.pbfcut.proofs.NodeLemmas.{first_id, no_first, no_node, picked_by_id}
 use Rattle.pbfcut.proofs.PickingLemmas.{begins_none, pack_stop}
 
 -- ---- how many are alike
@@ -145,6 +148,10 @@ each_picked_id p zero ns every = tt
 each_picked_id p (suc k) [] every = tt
 each_picked_id p (suc k) (n ∷ ns) every = (every n.id, each_picked_id p k ns every)
 
+all_joined : {X : Type 0} (P : X → Type 0) (xs ys : List X) → AllByRecursion P xs → AllByRecursion P ys → AllByRecursion P (xs ++ ys)
+all_joined P [] ys h k = k
+all_joined P (x ∷ xs) ys h k = (h.0, all_joined P xs ys h.1 k)
+
 -- one more is picked, if its id is
 abbrev pub ArePicked : Picker → List NodeSpec → Type 0
 ArePicked p ns = AllByRecursion (λ (n : NodeSpec). picks_id p n.id ≡ true) ns
@@ -157,6 +164,28 @@ picked_on p id ids (suc k) (x ∷ xs) is begin all = let rest = picked_on p id i
 
 pub picked_more : (p : Picker) (id : ℤ) (ids : List ℤ) (k : ℕ) (ns : List NodeSpec) → picks_id p id ≡ true → BeginWithIds (id ∷ ids) (drop k ns) → ArePicked p (take k ns) → ArePicked p (take (k + 1) ns) × BeginWithIds ids (drop (k + 1) ns)
 picked_more p id ids k ns is begin all = rw add-one (picked_on p id ids k ns is begin all)
+
+-- and so are those after it whose ids a span has, as it has none that isn't
+abbrev pub AllInside : Picker → Span → Type 0
+AllInside p span = (id : ℤ) → is_in span id ≡ true → picks_id p id ≡ true
+
+picked_inside : (p : Picker) (ns : List NodeSpec) (ids : List ℤ) (m : ℕ) (span : Span) → AllInside p span → BeginWithIds ids ns → AreAlike span true (take m ids) → ArePicked p (take m ns) × BeginWithIds (drop m ids) (drop m ns)
+picked_inside p [] ids zero span all begin inside = (tt, begin)
+picked_inside p [] ids (suc m) span all begin inside = (tt, (drop (suc m) ids, refl))
+picked_inside p (x ∷ xs) ids zero span all begin inside = (tt, begin)
+picked_inside p (x ∷ xs) [] (suc m) span all begin inside = absurd (no_first x xs (no_node [] (x ∷ xs) refl begin))
+picked_inside p (x ∷ xs) (id ∷ ids) (suc m) span all begin inside =
+    let at = first_id id ids x xs begin in
+    let rest = picked_inside p xs ids m span all at.1 inside.1 in
+    ((ap (picks_id p) (sym at.0) ∙ all id inside.0, rest.0), rest.1)
+
+pub picked_span : (p : Picker) (k m : ℕ) (ids : List ℤ) (ns : List NodeSpec) (span : Span) → AllInside p span → AreAlike span true (take m ids) → BeginWithIds ids (drop k ns) → ArePicked p (take k ns) → ArePicked p (take (k + m) ns) × BeginWithIds (drop m ids) (drop (k + m) ns)
+picked_span p k m ids ns span all inside begin picked =
+    let others = picked_inside p (drop k ns) ids m span all begin inside in
+    (
+      subst (λ (l : List NodeSpec). ArePicked p l) (sym (take-add k m ns)) (all_joined _ (take k ns) (take m (drop k ns)) picked others.0),
+      subst (λ (l : List NodeSpec). BeginWithIds (drop m ids) l) (drop-drop m k ns) others.1,
+    )
 
 pub fewer_taken : {X : Type 0} (P : X → Type 0) (k m : ℕ) (xs : List X) → k ≤ m → AllByRecursion P (take m xs) → AllByRecursion P (take k xs)
 fewer_taken P zero m xs fewer all = tt
@@ -173,10 +202,6 @@ light_each es (n ∷ ns) numbers scaled light =
       record { id = numbers.0.id; lat = numbers.0.lat; lon = numbers.0.lon; meta = numbers.0.meta; scale = scaled.0; light = omega (arith, light, sum) },
       light_each es ns numbers.1 scaled.1 (omega (arith, light, sum)),
     )
-
-all_joined : {X : Type 0} (P : X → Type 0) (xs ys : List X) → AllByRecursion P xs → AllByRecursion P ys → AllByRecursion P (xs ++ ys)
-all_joined P [] ys h k = k
-all_joined P (x ∷ xs) ys h k = (h.0, all_joined P xs ys h.1 k)
 
 pub scaled_taken : (k : ℕ) (likeness : Likeness) (ns : List NodeSpec) → ScaleFits likeness.scale → AllByRecursion (λ n. likeness_of (node n) ≡ likeness) ns → AllByRecursion (λ (n : NodeSpec). ScaleFits n.scale) (take k ns)
 scaled_taken zero likeness ns fits same = tt

@@ -34,7 +34,7 @@ picked_by_id p n = some_by_id p.by_ids p.chooser n
 pub first_id : (id : ℤ) (ids : List ℤ) (n : NodeSpec) (ns : List NodeSpec) → BeginWithIds (id ∷ ids) (n ∷ ns) → (id ≡ n.id) × BeginWithIds ids ns
 first_id id ids n ns (more, is) = (cc, (more, cc))
 
-no_node : (ids : List ℤ) (ns : List NodeSpec) → ids ≡ [] → BeginWithIds ids ns → ns ≡ []
+pub no_node : (ids : List ℤ) (ns : List NodeSpec) → ids ≡ [] → BeginWithIds ids ns → ns ≡ []
 no_node ids [] ended begin = refl
 no_node ids (n ∷ ns) ended (more, is) = absurd cc
 
@@ -57,7 +57,7 @@ taken_left left ns gone others rest n is split same =
     let parts = sym (length-append gone others) ∙ ap length split in
     omega (arith, parts, ap length same, ap length is)
 
-no_first : (n : NodeSpec) (ns : List NodeSpec) → n ∷ ns ≡ [] → ⊥
+pub no_first : (n : NodeSpec) (ns : List NodeSpec) → n ∷ ns ≡ [] → ⊥
 no_first n ns e = absurd cc
 
 not_picked : (b : Bool) (e : EntitySpec) (rest : List EntitySpec) → cond b (e ∷ rest) rest ≡ [] → (b ≡ false) × (rest ≡ [])

@@ -135,6 +135,18 @@ impl<'a> Picker<'a> {
             Some(chooser) => chooser.absent(),
         }
     }
+
+    /// Ids of which all nodes are written, as far as the last look-up showed: none if it showed nothing.
+    #[inline(always)]
+    #[tactic(auto, unfolding(crate::specs::Pick::picks_id))]
+    fn present(&self) -> Span
+        ensures { (id : ℤ) → is_in result id ≡ true → picks_id self.now id ≡ true }
+    {
+        match &self.chooser {
+            None => EMPTY_SPAN,
+            Some(chooser) => chooser.present(),
+        }
+    }
 }
 
 /// So few nodes are packed one by one: it costs something to begin with many.
@@ -268,6 +280,10 @@ fn picked_run(dense: &Dense<'_>, picker: &mut Picker<'_>, most: usize) -> usize
             break;
         }
         run += 1;
+        let span = picker.present();
+        if span.has(id) {
+            run += ids.pass_inside(span, most - run);
+        }
     }
     run
 }

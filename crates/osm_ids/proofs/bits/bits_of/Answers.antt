@@ -1,4 +1,4 @@
-use Rattle.std.proofs.Common.{◌≡◌, ℕ, List, ◌+◌, sym, ap, subst, ◌∙◌, arith, rules}
+use Rattle.std.proofs.Common.{◌≡◌, ℕ, List, ◌+◌, sym, ap, subst, ◌∙◌, arith}
 use Rattle.osm_ids.specs.Bits.{with_bit}
 use Rattle.osm_ids.proofs.Filling.{Filling, filling_start, filling_more, filling_end, filling_reads}
 use Rattle.osm_ids.proofs.bits.bits_of.Goals as goal

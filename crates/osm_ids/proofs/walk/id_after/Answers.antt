@@ -1,9 +1,8 @@
-use Rattle.std.proofs.Common.{◌≡◌, ◌+◌, ◌-◌, ◌<◌, ◌<ℤ◌, ◌++◌, List, ℕ, ℤ, [], ◌∷◌, Option, Some, true, false, length, to_z, of_z, sym, ap, subst, ◌∙◌, rules, w64}
+use Rattle.std.proofs.Common.{◌≡◌, ◌+◌, ◌-◌, ◌<◌, ◌<ℤ◌, ◌++◌, List, ℕ, [], ◌∷◌, Some, length, sym, ap, subst, ◌∙◌, rules, w64}
 use Rattle.std.specs.Prelude.{IsSomeAnd}
 use mir.Val.{SFits}
 use Rattle.std.proofs.lemmas.Int.{to_z-of_z}
 use Rattle.osm_ids.specs.Bits.{ids_of_bits}
-use Rattle.osm_ids.specs.Walks.{is_in_bits}
 use Rattle.pbf_wire.specs.Varint.{shortest}
 use Rattle.osm_ids.specs.Pages.{gap}
 use Rattle.osm_ids.proofs.Gaps.{spelled_after}

@@ -1,5 +1,4 @@
-use Rattle.std.proofs.Common.{◌≡◌, ◌<◌, ◌+ℤ◌, pos, to_z, of_z, FitsSigned, sym, ap, subst, ◌∙◌, arith, rules, w64}
-use mir.Val.{SFits}
+use Rattle.std.proofs.Common.{◌≡◌, ◌<◌, ◌+ℤ◌, pos, to_z, of_z, FitsSigned, sym, ap, subst, ◌∙◌, arith, w64}
 use Rattle.std.proofs.lemmas.Int.{to_z-of_z}
 use Rattle.osm_ids.proofs.Walking.{no_bit, one_bit, none_some, same_head}
 use Rattle.osm_ids.proofs.walk.id_of_bit_after.Goals as goal

@@ -12,14 +12,3 @@ use Rattle.pbfcut.proofs.pick.picked_run.Goals as goal
 
 pub returns-then-picks_all-clause-picked : goal.returns-then-picks_all-clause-picked
 returns-then-picks_all-clause-picked c = each_picked_id c.args.picker.now c.args.most (dense_left c.args.dense.now) (c.picks_all.ensures c.if-picks_all.true)
-
-pub ids-preserved : goal.ids-preserved
-ids-preserved c =
-    let so_far = c.ids.invariant in
-    let picker = c.args.picker.now in
-    let id = c.in-Some.id in
-    let fits : SFits w64 id = search rules in
-    let is = ap (λ (z : ℤ). picks_id picker z) (sym (to_z-of_z w64 id fits)) ∙ (ap (λ (p : Picker). picks_id p (to_z w64 (of_z w64 id))) (sym so_far.picker) ∙ (sym c.picks_id.ensures.picked ∙ c.if-not-picks_id.false)) in
-    let begin = subst (λ (l : List ℤ). BeginWithIds l (drop c.ids.run (dense_left c.args.dense.now))) c.in-Some.ensures.steps so_far.ids_are in
-    let more = picked_more picker id (sums_left c.next.new.self) c.ids.run (dense_left c.args.dense.now) is begin so_far.picked in
-    record { picker = c.picks_id.ensures.same ∙ so_far.picker; few = omega (arith, so_far.few, c.ids-test); ids_are = more.1; picked = more.0 }

@@ -1,4 +1,4 @@
-use Rattle.std.proofs.Common.{List, ℕ, sym, ap, subst, ◌∙◌, ◌<◌, ◌≤◌, ◌<ℤ◌, length, arith, rules, refl, of_z, w64}
+use Rattle.std.proofs.Common.{List, ℕ, ◌≡◌, ◌-◌, pos, get_or, sym, ap, subst, ◌∙◌, ◌<◌, ◌≤◌, ◌<ℤ◌, length, arith, rules, refl, of_z, w64}
 use mir.Val.{SFits}
 use Rattle.std.specs.FinSet as set
 use Rattle.std.specs.Ordering.{int_eq}
@@ -7,7 +7,10 @@ use Rattle.std.proofs.Math.Facts.{Fits-of_z}
 use Rattle.osm_ids.specs.declared.lookup.Place.{Place}
 use Rattle.osm_ids.specs.Pages.{ids_in}
 use Rattle.std.specs.List.{list_any}
-use Rattle.std.proofs.lemmas.Bool.{lt-ltb}
+use Rattle.std.proofs.lemmas.Bool.{lt-ltb, ltb-true}
+use Rattle.std.proofs.lemmas.List.{get_or_default}
+use Rattle.osm_ids.specs.declared.pages.PageStart.{PageStart}
+use Rattle.osm_ids.proofs.Marked.{by_mark}
 use Rattle.osm_ids.specs.Cursors.{IsPassedAt, HoldsBefore, IsAsBits, Stands}
 use Rattle.osm_ids.proofs.Sets.{contains-ids_of}
 use Rattle.osm_ids.proofs.Reading.{same_bits}
@@ -53,7 +56,7 @@ pub invariant_of-self-then-begun-eq0 : goal.invariant_of-self-then-begun-eq0
 invariant_of-self-then-begun-eq0 c =
     let held = c.turn_to-is_near.ensures.places c.self.inside.bytes.now c.self.invariant.1 c.self.invariant.2 in
     let place = held.0 in
-    (c.self.invariant.0, record { within = place.within; stands = place.stands; known = c.known_first-self-inside.ensures c.self.inside.bytes.now _ c.self.invariant.0.1 }, held.1)
+    (c.self.invariant.0, record { within = place.within; stands = place.stands; known = c.known_first-self-inside.ensures c.self.inside.bytes.now _ c.self.invariant.0.1; marked = place.marked }, held.1)
 
 pub known_in_bits-known-requires-clause-passed : goal.known_in_bits-known-requires-clause-passed
 known_in_bits-known-requires-clause-passed c =
@@ -80,8 +83,11 @@ invariant_of-self-in-Some c =
     let others = c.turn_to-is_near.ensures.places c.self.inside.bytes.now c.self.invariant.1 c.self.invariant.2 in
     let index = c.self.inside.index.now in
     let bytes = c.self.inside.bytes.now in
-    let held = subst (λ (p : List ℕ). HoldsBefore index bytes c.starts_from-begun.result p) (sym c.in-Some.ensures.some.1) c.page_before-page.ensures in
-    (c.self.invariant.0, record { within = omega arith; stands = λ h. absurd (omega arith); known = c.known_in_bits-known.ensures.known bytes _ c.self.invariant.0.1 held }, others.1)
+    let begun = c.starts_from-begun.result in
+    let page = c.page_before-page.result.now in
+    let held = subst (λ (p : List ℕ). HoldsBefore index bytes begun p) (sym c.in-Some.ensures.some.1) c.page_before-page.ensures in
+    let bits : IsAsBits index begun page = (ltb-true _ _ c.in-Some.ensures.some.0, c.in-Some.ensures.long) in
+    (c.self.invariant.0, c.place_of_bits-self-inside.ensures bytes c.page_before-page.ensures bits (c.known_in_bits-known.ensures.known bytes _ c.self.invariant.0.1 held), others.1)
 
 pub returns : goal.returns
 returns c =
@@ -101,7 +107,7 @@ returns c =
       | then-begun-self+then-is_ahead w ↦
           subst (λ p. IsChosen index bytes begun p id) (sym w.place-is) (chosen_still index bytes begun c.turn_to-is_near.new.here id _ w.if-begun-self.true same held.0 (w.if-is_ahead.ensures.more refl) (w.if-is_ahead.ensures.ahead refl))
       | else-begun-self w ↦
-          subst (λ p. IsChosen index bytes begun p id) (sym w.place-is) (chosen_first index bytes c.page_before-page.result.now begun w.first_place-place.result id some le point w.first_place-place.ensures.begun w.first_place-place.ensures.page c.page_before-page.ensures none w.first_place-place.ensures.first)
+          subst (λ p. IsChosen index bytes begun p id) (sym w.place-is) (chosen_first index bytes c.page_before-page.result.now begun w.first_place-place.result id some le point w.first_place-place.ensures.begun w.first_place-place.ensures.page w.first_place-place.ensures.unmarked c.page_before-page.ensures none w.first_place-place.ensures.first)
     ] in
     let fits : SFits w64 last = search rules in
     record {
@@ -130,13 +136,13 @@ invariant_of-self-2 c =
       | then-begun-self+then-is_ahead w ↦
           subst (λ p. IsChosen index bytes begun p id) (sym w.place-is) (chosen_still index bytes begun c.turn_to-is_near.new.here id _ w.if-begun-self.true same held.0 (w.if-is_ahead.ensures.more refl) (w.if-is_ahead.ensures.ahead refl))
       | else-begun-self w ↦
-          subst (λ p. IsChosen index bytes begun p id) (sym w.place-is) (chosen_first index bytes c.page_before-page.result.now begun w.first_place-place.result id some le point w.first_place-place.ensures.begun w.first_place-place.ensures.page c.page_before-page.ensures none w.first_place-place.ensures.first)
+          subst (λ p. IsChosen index bytes begun p id) (sym w.place-is) (chosen_first index bytes c.page_before-page.result.now begun w.first_place-place.result id some le point w.first_place-place.ensures.begun w.first_place-place.ensures.page w.first_place-place.ensures.unmarked c.page_before-page.ensures none w.first_place-place.ensures.first)
     ] in
     let cursor = c.read_up_to-cursor.result in
     let on = c.read_up_to-cursor.ensures.on in
     let stood = stands_on index bytes begun place.page.now place.cursor cursor chosen.reads.stood on in
     let known = c.known_near-known.ensures bytes place.page.now _ c.self.invariant.0.1 stood (c.read_up_to-cursor.ensures.all chosen.reads.stood.ids chosen.reads.stood.reached) in
-    (c.self.invariant.0, record { within = c.read_up_to-cursor.ensures.within; stands = λ _. stands_on index bytes place.begun place.page.now place.cursor cursor (subst (λ n. Stands index bytes n place.page.now place.cursor) (sym chosen.same) chosen.reads.stood) on; known = known }, held.1)
+    (c.self.invariant.0, record { within = c.read_up_to-cursor.ensures.within; stands = λ _. stands_on index bytes place.begun place.page.now place.cursor cursor (subst (λ n. Stands index bytes n place.page.now place.cursor) (sym chosen.same) chosen.reads.stood) on; known = known; marked = chosen.marked }, held.1)
 
 pub read_up_to-cursor-requires : goal.read_up_to-cursor-requires
 read_up_to-cursor-requires c =

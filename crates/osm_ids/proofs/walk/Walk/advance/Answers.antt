@@ -1,7 +1,7 @@
 use Rattle.std.proofs.Common.{◌∷◌, ◌++◌, Option, ℤ, drop, sym, ap, subst, ◌∙◌, w64}
 use Rattle.std.proofs.lemmas.Int.{to_z-of_z}
 use Rattle.osm_ids.specs.Pages.{ids_in}
-use Rattle.osm_ids.specs.Walks.{ids_left, left_in, IsLeft, AreLeft, LeftIn, IsIn}
+use Rattle.osm_ids.specs.Walks.{ids_left, left_in, IsLeft, AreLeft, IsIn}
 use Rattle.osm_ids.proofs.Walking.{moved_to, left_fits, goes_to, page_ends, nothing_left, page_begins}
 use Rattle.osm_ids.proofs.walk.Walk.advance.Goals as goal
 
