@@ -95,15 +95,13 @@ IsKnownBelow ids known = (id : ℤ) → known.span.above <ℤ id → id <ℤ kno
 abbrev pub Lacks : set.FinSet int_cmp → Span → Type 0
 Lacks ids span = (id : ℤ) → is_in span id ≡ true → set.contains ids id ≡ false
 
-<<<<<<< HEAD
 -- a set has all of these ids
 abbrev pub HasAll : set.FinSet int_cmp → Span → Type 0
 HasAll ids span = (id : ℤ) → is_in span id ≡ true → set.contains ids id ≡ true
-=======
+
 -- an id whose bit is set is in the set that an index and bytes stand for
 abbrev pub AreMarked : List PageStart → List ℕ → Marks → Type 0
 AreMarked index bytes marks = (id : ℤ) → marks.first ≤ℤ id → has_bit marks.bits.now (gap marks.first id) ≡ true → list_any (int_eq id) (ids_in index bytes) ≡ true
->>>>>>> 8c9e2c35309c50f4deec88965bf81dea4245ff6b
 
 -- a page can be read on from here, if it isn't at its end, and the ids round the last one are known
 pub record IsPlace (index : List PageStart) (bytes : List ℕ) (place : Place) : Type 0 where

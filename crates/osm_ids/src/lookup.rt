@@ -6,14 +6,9 @@ ghost use Rattle.std.specs.List.{list_any};
 ghost use Rattle.std.specs.List.Sorted.{IsPartitionedBy};
 ghost use Rattle.std.specs.Ordering.{int_eq};
 ghost use Rattle.std.specs.FinSet as set;
-<<<<<<< HEAD
-ghost use Rattle.osm_ids.specs.Pages.{Page, IsSealed, ids_in};
-ghost use Rattle.osm_ids.specs.Cursors.{IsAt, IsPassedAt, IsReadTo, IsPlace, IsBegun, BegunIn, HoldsBefore, CountsPassed, Stands, AreKnown, IsKnown, Lacks, HasAll, BeginFrom};
-=======
 ghost use Rattle.osm_ids.specs.Bits.{has_bit};
 ghost use Rattle.osm_ids.specs.Pages.{Page, IsSealed, gap, ids_in};
-ghost use Rattle.osm_ids.specs.Cursors.{IsAt, IsPassedAt, IsReadTo, IsPlace, IsBegun, BegunIn, HoldsBefore, IsAsBits, CountsPassed, Stands, AreKnown, IsKnown, Lacks, BeginFrom};
->>>>>>> 8c9e2c35309c50f4deec88965bf81dea4245ff6b
+ghost use Rattle.osm_ids.specs.Cursors.{IsAt, IsPassedAt, IsReadTo, IsPlace, IsBegun, BegunIn, HoldsBefore, IsAsBits, CountsPassed, Stands, AreKnown, IsKnown, Lacks, HasAll, BeginFrom};
 ghost use Rattle.osm_ids.specs.Looking.{LooksUp};
 ghost use Rattle.std.specs.Ordering.{int_cmp};
 
