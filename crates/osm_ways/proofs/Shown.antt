@@ -44,6 +44,9 @@ or_in_union s t id r q e is f = f ∙ sym (set.contains-union int_cmp_total s t 
 pub in_neither : (s t : Ids) (id : ℤ) → set.contains s id ≡ false → set.contains t id ≡ false → set.contains (set.union s t) id ≡ false
 in_neither s t id e f = sym (or_in_union s t id false false (sym e) refl (sym f))
 
+pub in_first : (s t : Ids) (id : ℤ) → set.contains s id ≡ true → set.contains (set.union s t) id ≡ true
+in_first s t id e = set.contains-union int_cmp_total s t id ∙ ap (λ b. b || set.contains t id) e
+
 -- ---- the phase of ways
 
 pub shown_start : (in_box sealed refs ways : Ids) → sealed ≡ in_box → refs ≡ set.empty → ways ≡ set.empty → sets_of sealed refs ways ≡ start_ways in_box

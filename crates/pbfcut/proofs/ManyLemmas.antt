@@ -181,8 +181,7 @@ picked_inside p (x ∷ xs) (id ∷ ids) (suc m) span all begin inside =
 
 pub picked_span : (p : Picker) (k m : ℕ) (ids : List ℤ) (ns : List NodeSpec) (span : Span) → AllInside p span → AreAlike span true (take m ids) → BeginWithIds ids (drop k ns) → ArePicked p (take k ns) → ArePicked p (take (k + m) ns) × BeginWithIds (drop m ids) (drop (k + m) ns)
 picked_span p k m ids ns span all inside begin picked =
-    let others = picked_inside p (drop k ns) ids m span all begin inside in
-    (
+    let others = picked_inside p (drop k ns) ids m span all begin inside in (
       subst (λ (l : List NodeSpec). ArePicked p l) (sym (take-add k m ns)) (all_joined _ (take k ns) (take m (drop k ns)) picked others.0),
       subst (λ (l : List NodeSpec). BeginWithIds (drop m ids) l) (drop-drop m k ns) others.1,
     )
