@@ -176,7 +176,8 @@ impl<'a> Dense<'a> {
     pub fn scale(&self) -> Scale
         ensures { result ≡ self.now.scale }
     {
-        self.scale
+        let Dense { scale, .. } = *self;
+        scale
     }
 
     /// The places of the nodes that are still to come, in order, each with its id. Tags and metadata aren't read.

@@ -142,10 +142,10 @@ impl<'a> Picker<'a> {
     fn present(&self) -> Span
         ensures { (id : ℤ) → is_in result id ≡ true → picks_id self.now id ≡ true }
     {
-        match &self.chooser {
-            None => EMPTY_SPAN,
-            Some(chooser) => chooser.present(),
-        }
+        let Some(chooser) = &self.chooser else {
+            return EMPTY_SPAN;
+        };
+        chooser.present()
     }
 }
 
