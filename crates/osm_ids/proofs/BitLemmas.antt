@@ -109,9 +109,9 @@ bit_of_word bs i j all lt =
     ∙ ap (λ k. bit_at (get_or bs k 0) (j % 8)) byte
     ∙ ap (bit_at (get_or bs ((64 * i + j) / 8) 0)) bit
 
--- ---- the bits that are unlike one
+-- ---- the bits that differ from one
 
--- a word with its bits turned where one bit is set
+-- a word with its bits turned, if one bit is set
 abbrev pub IsTurned : ℕ → Bool → ℕ → Type 0
 IsTurned word b other = ((b ≡ true) × (other ≡ bit_not w64 word)) ⊎ ((b ≡ false) × (other ≡ word))
 

@@ -60,7 +60,7 @@ pub record HoldsPage (index : List PageStart) (bytes : List ℕ) (begun : ℕ) (
   pub inside : (id : ℤ) → list_any (int_eq id) (first ∷ others) ≡ true → IsPassedAt index id begun
   pub answer : (id : ℤ) → IsPassedAt index id begun → list_any (int_eq id) (first ∷ others) ≡ list_any (int_eq id) (ids_in index bytes)
 
--- of whatever start stands before a place of the index, this is its page
+-- whatever start comes before a place of the index, this is its page
 abbrev pub HoldsBefore : List PageStart → List ℕ → ℕ → List ℕ → Type 0
 HoldsBefore index bytes begun held = (start : PageStart) → start ≡ get_or index (begun - 1) start → HoldsPage index bytes begun start.first held
 

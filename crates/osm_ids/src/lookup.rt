@@ -32,7 +32,7 @@ const NOTHING: Known = Known {
     there: false,
 };
 
-/// Where no page is read.
+/// The cursor of a place from which no page is read.
 const NOWHERE: Cursor = Cursor {
     passed: 0,
     last: 0,

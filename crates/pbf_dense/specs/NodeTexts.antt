@@ -50,7 +50,7 @@ pub record TextColumns : Type 0 where
 abbrev pub columns_with : List ℕ → List ℤ → Bool → TextColumns
 columns_with runs users tagged = record { runs = runs; users = users; tagged = tagged }
 
--- these nodes' texts are used, and their numbers stand after the others, whatever texts are used later
+-- these nodes' texts are used, and their numbers come after the others, whatever texts are used later
 pub record TakesTexts (ns : List NodeTexts) (old_texts new_texts : List (List ℕ)) (old new : TextColumns) : Type 0 where
   pub texts : new_texts ≡ texts_after old_texts (texts_used ns)
   pub runs : (used : List (List ℕ)) → new.runs ≡ old.runs ++ runs_for (texts_after new_texts used) ns

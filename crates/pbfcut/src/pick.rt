@@ -466,7 +466,7 @@ impl<'a> EntityPacker<'a> {
     }
 
     /// Packs those nodes of a dense message that are picked. After one that is not, all up to the next that is are skipped together, and
-    /// not made; if there is none, nothing more is read. After one that is, those that follow are taken over together where that can be done.
+    /// not made; if there is none, nothing more is read. After one that is, those that follow are taken over together, if they can be.
     fn pack_nodes<D: Drain, S: BuildHasher>(
         &mut self,
         dense: &Dense<'_>,
