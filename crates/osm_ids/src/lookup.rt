@@ -76,7 +76,7 @@ pub(crate) struct Place<'a> {
     pub(crate) marks: Marks<'a>,
 }
 
-/// The bits of a page: an id that is there is found without a call. There are none if the page isn't held as bits.
+/// The bits of a page: an id that is there is found by its bit. There are none if the page isn't held as bits.
 #[derive(Clone, Copy)]
 pub(crate) struct Marks<'a> {
     /// The id of the first bit.
@@ -177,7 +177,7 @@ impl<'a> Lookup<'a> {
     }
 
     /// Whether the set has the id, in whatever order ids come; the set stays the same. An id that is known to be absent takes two
-    /// comparisons, and the next one of a dense set, or one of the same page of bits, no call.
+    /// comparisons, and the next one of a page that is held as gaps no call.
     #[inline(always)]
     pub fn has(&mut self, id: i64) -> bool
         ensures { LooksUp (set.contains self.old id) self.old self.new result }
@@ -189,9 +189,6 @@ impl<'a> Lookup<'a> {
             self.here.cursor = cursor;
             return true;
         }
-        if is_marked(&self.here.marks, id) {
-            return true;
-        }
         self.find(id)
     }
 
@@ -201,6 +198,9 @@ impl<'a> Lookup<'a> {
     fn find(&mut self, id: i64) -> bool
         ensures { LooksUp (set.contains self.old id) self.old self.new result }
     {
+        if is_marked(&self.here.marks, id) {
+            return true;
+        }
         let is_near = turn_to(self.index, &mut self.here, &mut self.other, id);
         if is_within(self.here.known, id) {
             return self.here.known.there;
@@ -273,7 +273,6 @@ fn short_step_to(page: &[u8], from: Cursor, id: i64) -> Option<Cursor>
 }
 
 /// Whether the id's bit is set.
-#[inline(always)]
 fn is_marked(marks: &Marks<'_>, id: i64) -> bool
     ensures { IsTrue result → (marks.now.first ≤ℤ id)
         × (has_bit marks.now.bits.now (gap marks.now.first id) ≡ true) }

@@ -1,4 +1,4 @@
-use Rattle.std.proofs.Common.{List, ℕ, ◌≡◌, ◌-◌, pos, get_or, sym, ap, subst, ◌∙◌, ◌<◌, ◌≤◌, ◌<ℤ◌, length, arith, rules, refl, of_z, w64}
+use Rattle.std.proofs.Common.{List, ℕ, sym, ap, subst, ◌∙◌, ◌<◌, ◌≤◌, ◌<ℤ◌, length, arith, rules, refl, of_z, w64}
 use mir.Val.{SFits}
 use Rattle.std.specs.FinSet as set
 use Rattle.std.specs.Ordering.{int_eq}
@@ -8,9 +8,6 @@ use Rattle.osm_ids.specs.declared.lookup.Place.{Place}
 use Rattle.osm_ids.specs.Pages.{ids_in}
 use Rattle.std.specs.List.{list_any}
 use Rattle.std.proofs.lemmas.Bool.{lt-ltb, ltb-true}
-use Rattle.std.proofs.lemmas.List.{get_or_default}
-use Rattle.osm_ids.specs.declared.pages.PageStart.{PageStart}
-use Rattle.osm_ids.proofs.Marked.{by_mark}
 use Rattle.osm_ids.specs.Cursors.{IsPassedAt, HoldsBefore, IsAsBits, Stands}
 use Rattle.osm_ids.proofs.Sets.{contains-ids_of}
 use Rattle.osm_ids.proofs.Reading.{same_bits}
@@ -18,6 +15,21 @@ use Rattle.osm_ids.proofs.Found.{none_at_all, passed, found_in_set, stands_on}
 use Rattle.osm_ids.proofs.Places.{IsChosen, chosen_first, chosen_still}
 use Rattle.osm_ids.proofs.lookup.Lookup.find.Goals as goal
 use Rattle.osm_ids.proofs.lookup.Lookup.find.Goals.{then-begun-self+then-is_ahead, else-begun-self}
+
+pub returns-then-is_marked : goal.returns-then-is_marked
+returns-then-is_marked c =
+    let id = c.args.id in
+    let index = c.self.inside.index.now in
+    let bytes = c.self.inside.bytes.now in
+    let there = c.if-is_marked.ensures refl in
+    let same = to_z-of_z w64 id c.ranges.id in
+    record {
+      found = sym (c.self.invariant.1.marked _ there.0 there.1)
+          ∙ ap (λ z. list_any (int_eq z) (ids_in index bytes)) same
+          ∙ sym (contains-ids_of (ids_in index bytes) id)
+          ∙ ap (λ s. set.contains s id) c.self.view_is;
+      same = search rules;
+    }
 
 pub returns-then-is_within : goal.returns-then-is_within
 returns-then-is_within c =

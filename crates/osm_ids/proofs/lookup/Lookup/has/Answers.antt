@@ -36,21 +36,6 @@ returns-in-Some c =
       same = search rules;
     }
 
-pub returns-then-is_marked : goal.returns-then-is_marked
-returns-then-is_marked c =
-    let id = c.args.id in
-    let index = c.self.inside.index.now in
-    let bytes = c.self.inside.bytes.now in
-    let there = c.if-is_marked.ensures refl in
-    let same = to_z-of_z w64 id c.ranges.id in
-    record {
-      found = sym (c.self.invariant.1.marked _ there.0 there.1)
-          ∙ ap (λ z. list_any (int_eq z) (ids_in index bytes)) same
-          ∙ sym (contains-ids_of (ids_in index bytes) id)
-          ∙ ap (λ s. set.contains s id) c.self.view_is;
-      same = search rules;
-    }
-
 pub invariant_of-self : goal.invariant_of-self
 invariant_of-self c =
     let place = c.self.invariant.1 in
