@@ -417,7 +417,7 @@ fn values_skipped_or_steady(rt: HostRuntime) {
     );
 }
 
-/// Only at the start of a column whose limit is 2^62, and if each number takes at most five bytes.
+/// Only of a column whose limit is 2^62, and if each number takes at most five bytes.
 #[test]
 fn values_counted_without_decoding(rt: HostRuntime) {
     let ids = Column::new(&TWO_OCCURRENCES, 44, 1);
